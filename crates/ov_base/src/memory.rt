@@ -1,0 +1,19 @@
+//! Want of memory.
+use std::alloc::{AllocError, AllocFailed};
+
+/// Memory was refused. It may come from any call that allocates, and the value that was being changed is
+/// then as it was, unless the call says otherwise.
+#[derive(Clone, Copy, Debug, PartialEq, Eq)]
+pub struct Memory;
+
+impl From<AllocError> for Memory {
+    fn from(_: AllocError) -> Self {
+        Memory
+    }
+}
+
+impl<T: Drop> From<AllocFailed<T>> for Memory {
+    fn from(_: AllocFailed<T>) -> Self {
+        Memory
+    }
+}

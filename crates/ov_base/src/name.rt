@@ -1,0 +1,132 @@
+//! Names of users and files.
+ghost use Rattle.std.specs.Prelude.{◌≡◌, ◌≤◌, ◌↔◌, ℕ, List, take, IsSome, IfSome};
+ghost use Rattle.std.specs.List.{list_all};
+ghost use Rattle.ov_base.specs.Names.{is_letter_or_digit, is_name_byte, is_name, IsName};
+
+use std::marker::Model;
+
+const MAX_LEN: usize = 64;
+
+/// A name: 1 to 64 bytes of `a-z`, `0-9`, `.`, `_` and `-`, of which the first is a letter or a digit.
+///
+/// It is kept in place, so making, copying and reading one takes no memory.
+#[derive(Drop)]
+pub struct Name {
+    bytes: [u8; 64],
+    len: usize,
+}
+
+impl Model for Name {
+    ghost Value = { List ℕ };
+
+    ghost view = { λ n. take n.len n.bytes };
+
+    ghost invariant = { λ n. (n.len ≤ 64) × IsName (take n.len n.bytes) };
+}
+
+fn is_letter_or_digit(byte: u8) -> bool
+    ensures { result ≡ is_letter_or_digit byte }
+{
+    byte.is_ascii_lowercase() || byte.is_ascii_digit()
+}
+
+fn is_name_byte(byte: u8) -> bool
+    ensures { result ≡ is_name_byte byte }
+{
+    is_letter_or_digit(byte) || byte == b'.' || byte == b'_' || byte == b'-'
+}
+
+fn are_name_bytes(bytes: &[u8]) -> bool
+    ensures { result ≡ list_all is_name_byte bytes.now }
+{
+    bytes.iter().all(|byte| is_name_byte(*byte))
+}
+
+fn is_name(text: &[u8]) -> bool
+    ensures { result ≡ is_name text.now }
+{
+    match text {
+        [] => false,
+        [first, rest @ ..] => {
+            is_letter_or_digit(*first) && rest.len() < MAX_LEN && are_name_bytes(rest)
+        }
+    }
+}
+
+impl Name {
+    /// The name of these bytes.
+    pub fn read(text: &[u8]) -> Option<Name>
+        ensures form { IsSome result ↔ IsName text.now }
+        ensures bytes { IfSome result (λ name. name ≡ text.now) }
+    {
+        if !is_name(text) {
+            return None;
+        }
+        let len = text.len();
+        let mut bytes = [0; MAX_LEN];
+        bytes[..len].copy_from_slice(text);
+        Some(Name { bytes, len })
+    }
+
+    /// Its bytes.
+    pub fn as_bytes(&self) -> &[u8]
+        ensures bytes { result.now ≡ self.now }
+        ensures form { IsName self.now }
+    {
+        &self.bytes[..self.len]
+    }
+
+    /// An equal name.
+    pub fn copy(&self) -> Name
+        ensures { result ≡ self.now }
+    {
+        Name {
+            bytes: self.bytes,
+            len: self.len,
+        }
+    }
+}
+
+#[cfg(test)]
+mod tests {
+    use super::*;
+
+    #[test]
+    fn names_and_others(rt: HostRuntime) {
+        let longest = [b'a'; 64];
+        let longer = [b'a'; 65];
+        let names = [
+            b"a".as_slice(),
+            b"7",
+            b"alice",
+            b"f1",
+            b"a.b_c-d",
+            b"0-",
+            &longest,
+        ];
+        for text in names {
+            let name = Name::read(text).expect(&rt, "a name");
+            assert_eq!(rt; name.as_bytes(), text);
+            assert_eq!(rt; name.copy().as_bytes(), text);
+        }
+        let others = [
+            b"".as_slice(),
+            b"Bob",
+            b"aB",
+            b".a",
+            b"_a",
+            b"-a",
+            b"a b",
+            b"a\n",
+            b"a/b",
+            b"a\xc3\xa9",
+            b"a`",
+            b"a{",
+            b"a:",
+            &longer,
+        ];
+        for text in others {
+            assert!(rt; Name::read(text).is_none());
+        }
+    }
+}

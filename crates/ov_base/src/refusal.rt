@@ -1,0 +1,112 @@
+//! Why a command is refused.
+ghost use Rattle.std.specs.Prelude.{◌≡◌, ◌≤◌, ◌↔◌, IsSome, IfSome};
+ghost use Rattle.ov_base.specs.Refusals.{refusal_number, refusal_word};
+
+/// Why the access-matrix machine refuses a command. Where several apply, the one with the lowest number is
+/// answered, and nothing changes.
+#[derive(Clone, Copy, Debug, PartialEq, Eq)]
+pub enum Refusal {
+    /// The user that was to be enrolled, or the file that was to be created, is there.
+    Taken,
+    /// A named user isn't enrolled.
+    NoUser,
+    /// The named file isn't there.
+    NoFile,
+    /// The reader isn't in the file's list.
+    NoPath,
+    /// The user that was to be granted the file is in its list.
+    Listed,
+    /// The user whose access was to be revoked isn't in the file's list.
+    NotListed,
+    /// There are as many users as a store holds.
+    UsersFull,
+    /// There are as many files as a store holds.
+    FilesFull,
+    /// The files together would have more bytes than a store holds.
+    BytesFull,
+    /// A layer would have more nodes than a store holds.
+    NodesFull,
+    /// The epoch stands at its last value.
+    Spent,
+}
+
+impl Refusal {
+    /// Its number, from 1 to 11.
+    pub fn number(&self) -> u8
+        ensures { result ≡ refusal_number self.now }
+    {
+        *self as u8 + 1
+    }
+
+    /// The refusal of this number.
+    pub fn from_number(number: u8) -> Option<Refusal>
+        ensures range { IsSome result ↔ ((1 ≤ number) × (number ≤ 11)) }
+        ensures number { IfSome result (λ refusal. refusal_number refusal ≡ number) }
+    {
+        match number {
+            1 => Some(Refusal::Taken),
+            2 => Some(Refusal::NoUser),
+            3 => Some(Refusal::NoFile),
+            4 => Some(Refusal::NoPath),
+            5 => Some(Refusal::Listed),
+            6 => Some(Refusal::NotListed),
+            7 => Some(Refusal::UsersFull),
+            8 => Some(Refusal::FilesFull),
+            9 => Some(Refusal::BytesFull),
+            10 => Some(Refusal::NodesFull),
+            11 => Some(Refusal::Spent),
+            _ => None,
+        }
+    }
+
+    /// Its word in a reply line.
+    pub fn word(&self) -> &str
+        ensures { result.now ≡ refusal_word self.now }
+    {
+        match self {
+            Refusal::Taken => "Taken",
+            Refusal::NoUser => "NoUser",
+            Refusal::NoFile => "NoFile",
+            Refusal::NoPath => "NoPath",
+            Refusal::Listed => "Listed",
+            Refusal::NotListed => "NotListed",
+            Refusal::UsersFull => "UsersFull",
+            Refusal::FilesFull => "FilesFull",
+            Refusal::BytesFull => "BytesFull",
+            Refusal::NodesFull => "NodesFull",
+            Refusal::Spent => "Spent",
+        }
+    }
+}
+
+#[cfg(test)]
+mod tests {
+    use super::*;
+
+    #[test]
+    fn numbers_and_words(rt: HostRuntime) {
+        let words = [
+            "Taken",
+            "NoUser",
+            "NoFile",
+            "NoPath",
+            "Listed",
+            "NotListed",
+            "UsersFull",
+            "FilesFull",
+            "BytesFull",
+            "NodesFull",
+            "Spent",
+        ];
+        let mut number = 0u8;
+        for word in words {
+            number = number.saturating_add(1);
+            let refusal = Refusal::from_number(number).expect(&rt, "a refusal");
+            assert_eq!(rt; refusal.number(), number);
+            assert_eq!(rt; refusal.word(), word);
+        }
+        for number in [0, 12, 255] {
+            assert!(rt; Refusal::from_number(number).is_none());
+        }
+    }
+}
