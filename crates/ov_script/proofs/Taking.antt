@@ -1,0 +1,48 @@
+-- What several takes together take.
+use Rattle.std.proofs.Common.{◌≡◌, inr, ℕ, ◌+◌, ◌≤◌, List, [], ◌∷◌, ◌++◌, length, take, sym, ◌∙◌, ap, subst, append_assoc, append-nil, length-append, arith, Option, Some, None}
+use Rattle.std.proofs.Math.Seq.{take-append_seam}
+use Rattle.std.specs.Io.KnownBytes.{prepend_known, Consumes, Keeps}
+use Rattle.std.proofs.KnownBytes.{Consumes-trans, Consumes-nil, Consumes-kept}
+use Rattle.ov_script.specs.Feed.{Fed, Takes, text_of}
+use Rattle.ov_script.specs.Finding.{IsUnsettled, TakesWhatItNeeds}
+use Rattle.ov_script.specs.LineFeeds.{NoLf}
+
+-- one take after another
+pub Takes-trans : {S : Type 0} (left : S → Option (List ℕ)) (a b c : Fed S) (xs ys : List ℕ) → Takes left a b xs → Takes left b c ys → Takes left a c (xs ++ ys)
+Takes-trans left a b c xs ys p q = record {
+  pending = q.pending ∙ ap (λ l. l ++ ys) p.pending ∙ append_assoc a.pending xs ys;
+  source = Consumes-trans (left a.source) (left b.source) (left c.source) xs ys p.source q.source;
+}
+
+-- a take that gives nothing
+pub Takes-none : {S : Type 0} (left : S → Option (List ℕ)) (a b : Fed S) → b.pending ≡ a.pending → Keeps (left a.source) (left b.source) → Takes left a b []
+Takes-none left a b same kept = record {
+  pending = same ∙ sym (append-nil a.pending);
+  source = Consumes-kept (left a.source) (left a.source) (left b.source) [] (Consumes-nil (left a.source)) kept;
+}
+
+-- one more take, where what was pending left it open what stands there
+pub needs_more : {S : Type 0} (room : ℕ) (left : S → Option (List ℕ)) (a b c : Fed S) (xs ys : List ℕ)
+    → Takes left a b xs → IsUnsettled room b.pending → Takes left b c ys → TakesWhatItNeeds left room a.pending a.source c.source
+needs_more room left a b c xs ys p unsettled q =
+    inr (xs, ys, (Takes-trans left a b c xs ys p q).source, subst (IsUnsettled room) p.pending unsettled)
+
+-- what had no LF is a front of what is pending after a take
+pub seen_behind : (old new more : List ℕ) → new ≡ old ++ more → NoLf old → (length old ≤ length new) × NoLf (take (length old) new)
+seen_behind old new more e none =
+    let size : length new ≡ length old + length more = ap length e ∙ length-append old more in
+    (omega arith, subst NoLf (sym (ap (take (length old)) e ∙ take-append_seam old more)) none)
+
+kept_at : (before after' : Option (List ℕ)) (old new more : List ℕ) → new ≡ old ++ more → Consumes before after' more → Keeps (prepend_known old before) (prepend_known new after')
+kept_at None after' old new more e p = tt
+kept_at (Some xs) None old new more e p = absurd p
+kept_at (Some xs) (Some ys) old new more e p = ap (λ l. l ++ ys) e ∙ append_assoc old more ys ∙ ap (λ l. old ++ l) (sym p)
+
+-- what is taken is still to be read
+pub text_kept : {S : Type 0} (left : S → Option (List ℕ)) (a b : Fed S) (more : List ℕ) → Takes left a b more → Keeps (text_of left a) (text_of left b)
+text_kept left a b more t = kept_at (left a.source) (left b.source) a.pending b.pending more t.pending t.source
+
+-- nothing was taken
+pub none_taken : (old new more : List ℕ) → new ≡ old ++ more → length more ≡ 0 → new ≡ old
+none_taken old new [] e none = e ∙ append-nil old
+none_taken old new (b ∷ more) e none = absurd (omega arith)

@@ -1,0 +1,121 @@
+//! A source with the bytes that were taken from it and not yet used.
+ghost use Rattle.std.specs.Prelude.{◌≡◌, ℕ, List, ◌+◌, ◌-◌, ◌≤◌, ◌<◌, [], ◌++◌, length, take, drop, vec_len, MatchResult, IfOk};
+ghost use Rattle.std.specs.Io.KnownBytes.{Consumes, Keeps, IsAtEnd};
+ghost use Rattle.ov_io.specs.Causes.{HasCause};
+ghost use Rattle.ov_script.specs.Feed.{Fed};
+
+use ov_base::Memory;
+use ov_io::{Fault, Source};
+use std::alloc::Global;
+use std::marker::Model;
+
+// More than the longest line of an item.
+const CAPACITY: usize = 32_768;
+
+/// A source with the bytes that were taken from it and not yet used.
+#[derive(Drop)]
+pub struct Feed<S> {
+    source: S,
+    buffer: Vec<u8>,
+    start: usize,
+    end: usize,
+}
+
+impl<S> Model for Feed<S> {
+    ghost Value = { Fed S };
+
+    ghost view = { λ f. record { source = f.source; pending = drop f.start (take f.end f.buffer.items) } };
+
+    ghost invariant = { λ f. (f.start ≤ f.end) × (f.end ≤ vec_len f.buffer) × (vec_len f.buffer ≡ 32768) };
+}
+
+// Moves what stands from `start` to `end` to the front, and says where it ends there.
+fn move_to_front(buffer: &mut Vec<u8>, start: usize, end: usize) -> usize
+    requires order { start ≤ end }
+    requires within { end ≤ vec_len buffer.old }
+    ensures end { result ≡ end - start }
+    ensures len { vec_len buffer.new ≡ vec_len buffer.old }
+    ensures kept { take result buffer.new.items ≡ drop start (take end buffer.old.items) }
+{
+    if start > 0 {
+        buffer.copy_within(start..end, 0);
+    }
+    end - start
+}
+
+// Takes bytes from the source to the place behind the first `end` bytes, which stay.
+fn take_behind<S: Source>(source: &mut S, buffer: &mut Vec<u8>, end: usize) -> Result<usize, Fault>
+    requires { end < vec_len buffer.old }
+    ensures len { vec_len buffer.new ≡ vec_len buffer.old }
+    ensures kept { take end buffer.new.items ≡ take end buffer.old.items }
+    ensures within { IfOk result (λ n. end + n ≤ vec_len buffer.old) }
+    ensures taken { MatchResult result
+        (λ n. Consumes (S.left source.old) (S.left source.new) (take n (drop end buffer.new.items)) × (n ≡ 0 → IsAtEnd (S.left source.new)))
+        (λ _. Keeps (S.left source.old) (S.left source.new)) }
+    ensures same { S.borrow source.new ≡ S.borrow source.old }
+    ensures cause { HasCause (S.faults source.old) (S.faults source.new) result }
+{
+    let (_, room) = buffer.split_at_mut(end);
+    source.take(room)
+}
+
+impl<S: Source + Drop> Feed<S> {
+    /// Nothing was taken yet.
+    pub fn new(alloc: Global, source: S) -> Result<Feed<S>, Memory>
+        ensures { IfOk result (λ feed. feed ≡ record { source = source; pending = [] }) }
+    {
+        Ok(Feed {
+            source,
+            buffer: vec![in alloc; 0; CAPACITY]?,
+            start: 0,
+            end: 0,
+        })
+    }
+
+    /// The bytes that were taken and not yet used.
+    pub fn pending(&self) -> &[u8]
+        ensures { result.now ≡ self.now.pending }
+    {
+        let (taken, _) = self.buffer.split_at(self.end);
+        let (_, pending) = taken.split_at(self.start);
+        pending
+    }
+
+    /// Takes more bytes, and says how many: none at the end of the input.
+    pub fn fill(&mut self) -> Result<usize, Fault>
+        requires { length self.old.pending < 32768 }
+        ensures taken { MatchResult result
+            (λ n. (more : List ℕ) × (self.new.pending ≡ self.old.pending ++ more) × (length more ≡ n)
+            × Consumes (S.left self.old.source) (S.left self.new.source) more × (n ≡ 0 → IsAtEnd (S.left self.new.source)))
+            (λ _. (self.new.pending ≡ self.old.pending) × Keeps (S.left self.old.source) (S.left self.new.source)) }
+        ensures same { S.borrow self.new.source ≡ S.borrow self.old.source }
+        ensures cause { HasCause (S.faults self.old.source) (S.faults self.new.source) result }
+    {
+        self.end = move_to_front(&mut self.buffer, self.start, self.end);
+        self.start = 0;
+        let count = take_behind(&mut self.source, &mut self.buffer, self.end)?;
+        self.end += count;
+        Ok(count)
+    }
+
+    /// Uses the first `count` of the pending bytes.
+    pub fn advance(&mut self, count: usize)
+        requires { count ≤ length self.old.pending }
+        ensures { self.new ≡ record { source = self.old.source; pending = drop count self.old.pending } }
+    {
+        self.start += count;
+    }
+
+    /// Gives the source back.
+    pub fn into_source(self) -> S
+        ensures { result ≡ self.source }
+    {
+        let Feed {
+            source,
+            buffer: _,
+            start: _,
+            end: _,
+        } = self;
+        source
+    }
+}
