@@ -47,3 +47,7 @@ BeginsWith line room text [] line' room' rest = (line' ≡ line) × (room' ≡ r
 BeginsWith line room text (command ∷ commands) line' room' rest =
     (item more : List ℕ) × (text ≡ item ++ more) × (length item ≤ room) × IsItem item command
     × BeginsWith (line + lf_count item) (room - length item) more commands line' room' rest
+
+-- the text begins with these commands
+abbrev pub BeginsScript : List ℕ → List Command → Type 0
+BeginsScript text commands = (line room : ℕ) × (rest : List ℕ) × BeginsWith 1 limit text commands line room rest

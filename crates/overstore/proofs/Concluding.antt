@@ -1,0 +1,157 @@
+-- What the last line and the status say of the whole script.
+use Rattle.std.proofs.Common.{◌≡◌, ◌⊎◌, inl, inr, ℕ, ◌+◌, List, [], ◌∷◌, ◌++◌, length, take, drop, refl, sym, ◌∙◌, ap, subst, arith, append_assoc, take-append-drop, Option, Some, None}
+use Rattle.std.specs.Prelude.{IfSome, codes}
+use Rattle.std.proofs.Math.Seq.{take-append-add, take-append_seam}
+use Rattle.std.specs.Io.KnownBytes.{Appends, Keeps, prepend_known}
+use Rattle.std.proofs.KnownBytes.{Appends-trans, Appends-kept, Appends-nil}
+use Rattle.ov_script.specs.declared.command.Command.{Command}
+use Rattle.ov_script.specs.declared.reply.Reply.TheVariants.{End as EndReply}
+use Rattle.ov_script.specs.Lines.{reply_line}
+use Rattle.ov_script.specs.Reading.{IsScript, BeginsScript, limit, Ending, AtEnd, BadAt, TooLong}
+use Rattle.ov_script.proofs.Readings.{one_reading, Reads-begins}
+use Rattle.ov_model.specs.History.{History, empty, epoch_of}
+use Rattle.ov_model.specs.Lines.{lines}
+use Rattle.ov_model.specs.Step.{after_all}
+use Rattle.overstore.specs.Machine.{StandsFor}
+use Rattle.overstore.specs.Answering.{Stops, AnsweredAll, AnsweredFirst, AnsweredPart, EndsIn, Finishes, Concluded, whole, part}
+use Rattle.overstore.specs.Printing.{Outcome, Answered, ReadFault, OutOfMemory, status_of, last_line, memory_line, read_line, IsPrinted, Prints, PrintsFront, IsFault}
+use Rattle.overstore.specs.declared.answer.Stop.{Stop}
+use Rattle.overstore.specs.declared.answer.Stop.TheVariants.{End, BadLine, Long, Read, Write, Memory}
+
+-- the lines so far and then the last one
+then_last : (text first last : List ℕ) (outcome : Outcome) (code : ℕ) (old mid new : Option (List ℕ)) (status : ℕ)
+    → IsPrinted text outcome (first ++ last) → code ≡ status_of outcome → Appends old mid first → EndsIn last code mid new status → Concluded text old new status
+then_last text first last outcome code old mid new status is e p (inl q) =
+    whole outcome (q.0 ∙ e) (first ++ last, is, Appends-trans old mid new first last p q.1)
+then_last text first last outcome code old mid new status is e p (inr q) =
+    let front : take (length first + q.1.0) (first ++ last) ≡ first ++ take q.1.0 last = take-append-add first last q.1.0 in
+    part q.0 (outcome, first ++ last, is, (length first + q.1.0, subst (Appends old new) (sym front) (Appends-trans old mid new first (take q.1.0 last) p q.1.1)))
+
+-- the commands of a reading are its first
+first_of : (text : List ℕ) (commands : List Command) (ending : Ending) → IsScript text commands ending → BeginsScript text commands
+first_of text commands ending reads = Reads-begins 1 limit text commands ending reads
+
+ends_or_memory : (text last : List ℕ) (ending : Ending) (old mid new : Option (List ℕ)) (names : List (List ℕ)) (status : ℕ) (a : AnsweredAll text ending old mid names)
+    → last ≡ last_line (after_all empty a.0) ending → EndsIn last (status_of (Answered ending)) mid new status ⊎ EndsIn memory_line 7 mid new status
+    → Concluded text old new status
+ends_or_memory text last ending old mid new names status a e (inl q) =
+    then_last text (lines empty a.0) last (Answered ending) (status_of (Answered ending)) old mid new status (a.0, a.1, ap (λ l. lines empty a.0 ++ l) e) refl a.2 q
+ends_or_memory text last ending old mid new names status a e (inr q) =
+    then_last text (lines empty a.0) memory_line OutOfMemory 7 old mid new status (a.0, first_of text a.0 ending a.1, refl) refl a.2 q
+
+-- a front of the lines is a front of what a read fault prints
+part_of : (text : List ℕ) (old mid new : Option (List ℕ)) (status : ℕ) → AnsweredPart text old mid → status ≡ 6 → Keeps mid new → Concluded text old new status
+part_of text old mid new status (commands, begins, (n, p)) six kept =
+    let all = lines empty commands in
+    let split : all ++ read_line ≡ take n all ++ (drop n all ++ read_line) =
+    ap (λ l. l ++ read_line) (sym (take-append-drop n all)) ∙ append_assoc (take n all) (drop n all) read_line in
+    let front : take (length (take n all)) (all ++ read_line) ≡ take n all =
+    ap (take (length (take n all))) split ∙ take-append_seam (take n all) (drop n all ++ read_line) in
+    part six (ReadFault, all ++ read_line, (commands, begins, refl), (length (take n all), subst (Appends old new) (sym front) (Appends-kept old mid new (take n all) p kept)))
+
+concluded_at : (text : List ℕ) (stop : Stop) (old mid new : Option (List ℕ)) (names : List (List ℕ)) (n status : ℕ)
+    → Stops text stop old mid names → Finishes stop n mid new status → n ≡ length names → Concluded text old new status
+concluded_at text End old mid new names n status a f count =
+    let same : n ≡ epoch_of (after_all empty a.0) = count ∙ sym a.3.epoch in
+    ends_or_memory text (reply_line (EndReply n)) AtEnd old mid new names status a (ap (λ m. reply_line (EndReply m)) same) f
+concluded_at text (BadLine m) old mid new names n status a f count = ends_or_memory text (last_line empty (BadAt m)) (BadAt m) old mid new names status a refl f
+concluded_at text Long old mid new names n status a f count = ends_or_memory text (last_line empty TooLong) TooLong old mid new names status a refl (inl f)
+concluded_at text Read old mid new names n status a f count =
+    then_last text (lines empty a.0) read_line ReadFault 5 old mid new status (a.0, a.1, refl) refl a.2 f
+concluded_at text Memory old mid new names n status a f count =
+    then_last text (lines empty a.0) memory_line OutOfMemory 7 old mid new status (a.0, a.1, refl) refl a.2 f
+concluded_at text Write old mid new names n status a f count = part_of text old mid new status a f.0 f.1
+
+-- where nothing of the script was taken before
+pub concluded : (input : Option (List ℕ)) (stop : Stop) (old mid new : Option (List ℕ)) (names : List (List ℕ)) (n status : ℕ)
+    → IfSome (prepend_known [] input) (λ text. Stops text stop old mid names) → Finishes stop n mid new status → n ≡ length names
+    → IfSome input (λ text. Concluded text old new status)
+concluded None stop old mid new names n status s f count = tt
+concluded (Some text) stop old mid new names n status s f count = concluded_at text stop old mid new names n status s f count
+
+-- memory was refused at once
+pub refused_at_once : (input old new : Option (List ℕ)) (status : ℕ) → EndsIn memory_line 7 old new status → IfSome input (λ text. Concluded text old new status)
+refused_at_once None old new status e = tt
+refused_at_once (Some text) old new status e =
+    then_last text [] memory_line OutOfMemory 7 old old new status ([], (1, limit, text, (refl, refl, refl)), refl) refl (Appends-nil old) e
+
+-- ---- by status
+
+-- what holds of each script that is told
+pub told : (input : Option (List ℕ)) (P Q : List ℕ → Type 0) → IfSome input P → ((text : List ℕ) → P text → Q text) → IfSome input Q
+told None P Q p f = tt
+told (Some text) P Q p f = f text p
+
+pub is_done : (text : List ℕ) (old new : Option (List ℕ)) (status : ℕ) → status ≡ 0 → Concluded text old new status → Prints text (Answered AtEnd) old new
+is_done text old new status e (whole (Answered AtEnd) s p) = p
+is_done text old new status e (whole (Answered (BadAt n)) s p) = absurd (omega arith)
+is_done text old new status e (whole (Answered TooLong) s p) = absurd (omega arith)
+is_done text old new status e (whole ReadFault s p) = absurd (omega arith)
+is_done text old new status e (whole OutOfMemory s p) = absurd (omega arith)
+is_done text old new status e (part s p) = absurd (omega arith)
+
+pub is_bad : (text : List ℕ) (old new : Option (List ℕ)) (status : ℕ) → status ≡ 3 → Concluded text old new status → (n : ℕ) × Prints text (Answered (BadAt n)) old new
+is_bad text old new status e (whole (Answered AtEnd) s p) = absurd (omega arith)
+is_bad text old new status e (whole (Answered (BadAt n)) s p) = (n, p)
+is_bad text old new status e (whole (Answered TooLong) s p) = absurd (omega arith)
+is_bad text old new status e (whole ReadFault s p) = absurd (omega arith)
+is_bad text old new status e (whole OutOfMemory s p) = absurd (omega arith)
+is_bad text old new status e (part s p) = absurd (omega arith)
+
+pub is_long : (text : List ℕ) (old new : Option (List ℕ)) (status : ℕ) → status ≡ 11 → Concluded text old new status → Prints text (Answered TooLong) old new
+is_long text old new status e (whole (Answered AtEnd) s p) = absurd (omega arith)
+is_long text old new status e (whole (Answered (BadAt n)) s p) = absurd (omega arith)
+is_long text old new status e (whole (Answered TooLong) s p) = p
+is_long text old new status e (whole ReadFault s p) = absurd (omega arith)
+is_long text old new status e (whole OutOfMemory s p) = absurd (omega arith)
+is_long text old new status e (part s p) = absurd (omega arith)
+
+pub is_read : (text : List ℕ) (old new : Option (List ℕ)) (status : ℕ) → status ≡ 5 → Concluded text old new status → Prints text ReadFault old new
+is_read text old new status e (whole (Answered AtEnd) s p) = absurd (omega arith)
+is_read text old new status e (whole (Answered (BadAt n)) s p) = absurd (omega arith)
+is_read text old new status e (whole (Answered TooLong) s p) = absurd (omega arith)
+is_read text old new status e (whole ReadFault s p) = p
+is_read text old new status e (whole OutOfMemory s p) = absurd (omega arith)
+is_read text old new status e (part s p) = absurd (omega arith)
+
+pub is_memory : (text : List ℕ) (old new : Option (List ℕ)) (status : ℕ) → status ≡ 7 → Concluded text old new status → Prints text OutOfMemory old new
+is_memory text old new status e (whole (Answered AtEnd) s p) = absurd (omega arith)
+is_memory text old new status e (whole (Answered (BadAt n)) s p) = absurd (omega arith)
+is_memory text old new status e (whole (Answered TooLong) s p) = absurd (omega arith)
+is_memory text old new status e (whole ReadFault s p) = absurd (omega arith)
+is_memory text old new status e (whole OutOfMemory s p) = p
+is_memory text old new status e (part s p) = absurd (omega arith)
+
+not_six : (outcome : Outcome) → status_of outcome ≡ 6 → ⊥
+not_six (Answered AtEnd) e = absurd (omega arith)
+not_six (Answered (BadAt n)) e = absurd (omega arith)
+not_six (Answered TooLong) e = absurd (omega arith)
+not_six ReadFault e = absurd (omega arith)
+not_six OutOfMemory e = absurd (omega arith)
+
+pub is_write : (text : List ℕ) (old new : Option (List ℕ)) (status : ℕ) → status ≡ 6 → Concluded text old new status → PrintsFront text old new
+is_write text old new status e (whole outcome s p) = absurd (not_six outcome (sym s ∙ e))
+is_write text old new status e (part s p) = p
+
+-- ---- the script decides
+
+pub exact : (text : List ℕ) (old new : Option (List ℕ)) (status : ℕ) → Concluded text old new status → (commands : List Command) (ending : Ending) → IsScript text commands ending
+    → (status ≡ status_of (Answered ending)) ⊎ IsFault status
+exact text old new status (whole (Answered other) s p) commands ending reads =
+    let same : other ≡ ending = (one_reading 1 limit text p.1.0 commands other ending p.1.1 reads).1 in
+    inl (s ∙ ap (λ e. status_of (Answered e)) same)
+exact text old new status (whole ReadFault s p) commands ending reads = inr (inl s)
+exact text old new status (whole OutOfMemory s p) commands ending reads = inr (inr (inr s))
+exact text old new status (part s p) commands ending reads = inr (inr (inl s))
+
+-- where nothing fails, only memory is left
+complete : (status wanted : ℕ) → (status ≡ wanted) ⊎ IsFault status → (status ≡ 5 → ⊥) → (status ≡ 6 → ⊥) → (status ≡ wanted) ⊎ (status ≡ 7)
+complete status wanted (inl same) no_read no_write = inl same
+complete status wanted (inr (inl five)) no_read no_write = absurd (no_read five)
+complete status wanted (inr (inr (inl six))) no_read no_write = absurd (no_write six)
+complete status wanted (inr (inr (inr seven))) no_read no_write = inr seven
+
+pub complete_at : (text : List ℕ) (old new : Option (List ℕ)) (status : ℕ) → (status ≡ 5 → ⊥) → (status ≡ 6 → ⊥) → Concluded text old new status
+    → (commands : List Command) (ending : Ending) → IsScript text commands ending → (status ≡ status_of (Answered ending)) ⊎ (status ≡ 7)
+complete_at text old new status no_read no_write said commands ending reads =
+    complete status (status_of (Answered ending)) (exact text old new status said commands ending reads) no_read no_write

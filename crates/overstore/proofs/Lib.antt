@@ -1,0 +1,4 @@
+mod Answering
+mod Concluding
+mod Enrolling
+mod TwoWords

@@ -1,0 +1,5 @@
+pub mod Answering
+pub mod Machine
+pub mod Printing
+pub mod Status
+pub mod Words

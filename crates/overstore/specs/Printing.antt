@@ -1,0 +1,64 @@
+-- What a run prints, and with which status it ends.
+use Rattle.std.specs.Prelude.{◌≡◌, ◌⊎◌, ℕ, List, [], ◌∷◌, ◌++◌, codes, take, Option}
+use Rattle.std.specs.Fmt.{decimal}
+use Rattle.std.specs.Io.KnownBytes.{Appends}
+use Rattle.ov_script.specs.declared.command.Command.{Command}
+use Rattle.ov_script.specs.declared.reply.Reply.TheVariants.{End}
+use Rattle.ov_script.specs.Lines.{reply_line}
+use Rattle.ov_script.specs.Reading.{IsScript, BeginsScript, Ending, AtEnd, BadAt, TooLong}
+use Rattle.ov_model.specs.History.{History, empty, epoch_of}
+use Rattle.ov_model.specs.Lines.{lines}
+use Rattle.ov_model.specs.Step.{after_all}
+
+-- How a run over a script ends: the script was read to its ending and answered, a read failed, or memory was
+-- refused.
+pub data Outcome : Type 0 where
+  Answered : (ending : Ending) → Outcome
+  ReadFault : Outcome
+  OutOfMemory : Outcome
+
+abbrev pub status_of : Outcome → ℕ
+status_of (Answered AtEnd) = 0
+status_of (Answered (BadAt n)) = 3
+status_of (Answered TooLong) = 11
+status_of ReadFault = 5
+status_of OutOfMemory = 7
+
+abbrev pub usage_line : List ℕ
+usage_line = codes "error usage" ++ 10 ∷ []
+
+abbrev pub read_line : List ℕ
+read_line = codes "error read" ++ 10 ∷ []
+
+abbrev pub memory_line : List ℕ
+memory_line = codes "error memory" ++ 10 ∷ []
+
+-- the last line at this history, by how the reading of the script ended
+abbrev pub last_line : History → Ending → List ℕ
+last_line h AtEnd = reply_line (End (epoch_of h))
+last_line h (BadAt n) = codes "error line " ++ decimal n ++ 10 ∷ []
+last_line h TooLong = codes "error long" ++ 10 ∷ []
+
+-- What a run over this script that ends so prints: the machine's lines to its commands, or to the first of them,
+-- and then the last line.
+abbrev pub IsPrinted : List ℕ → Outcome → List ℕ → Type 0
+IsPrinted text (Answered ending) printed =
+    (commands : List Command) × IsScript text commands ending × (printed ≡ lines empty commands ++ last_line (after_all empty commands) ending)
+IsPrinted text ReadFault printed = (commands : List Command) × BeginsScript text commands × (printed ≡ lines empty commands ++ read_line)
+IsPrinted text OutOfMemory printed = (commands : List Command) × BeginsScript text commands × (printed ≡ lines empty commands ++ memory_line)
+
+-- all of it was put
+abbrev pub Prints : List ℕ → Outcome → Option (List ℕ) → Option (List ℕ) → Type 0
+Prints text outcome old new = (printed : List ℕ) × IsPrinted text outcome printed × Appends old new printed
+
+-- a front of what some run over this script prints was put
+abbrev pub PrintsFront : List ℕ → Option (List ℕ) → Option (List ℕ) → Type 0
+PrintsFront text old new = (outcome : Outcome) × (printed : List ℕ) × IsPrinted text outcome printed × ((n : ℕ) × Appends old new (take n printed))
+
+-- a read or a write failed, or memory was refused
+abbrev pub IsFault : ℕ → Type 0
+IsFault status = (status ≡ 5) ⊎ ((status ≡ 6) ⊎ (status ≡ 7))
+
+-- there are no others
+abbrev pub IsStatus : ℕ → Type 0
+IsStatus status = (status ≡ 0) ⊎ ((status ≡ 2) ⊎ ((status ≡ 3) ⊎ ((status ≡ 11) ⊎ IsFault status)))

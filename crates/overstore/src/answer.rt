@@ -1,0 +1,103 @@
+//! A script, answered command by command.
+ghost use Rattle.std.specs.Prelude.{◌≡◌, ◌≤◌, [], IfSome, None, Some, OnErr};
+ghost use Rattle.ov_io.specs.Causes.{Rose};
+ghost use Rattle.ov_model.specs.History.{History};
+ghost use Rattle.ov_script.specs.Lines.{reply_line};
+ghost use Rattle.ov_script.specs.Place.{text_left};
+ghost use Rattle.ov_script.specs.Reading.{limit};
+ghost use Rattle.overstore.specs.Machine.{StandsFor};
+ghost use Rattle.overstore.specs.Answering.{PutsOr, Answers, Stops};
+
+use crate::machine::Machine;
+use ov_io::{Sink, Source};
+use ov_script::{Command, Next, Reply, Script, ScriptFault, line};
+use std::alloc::Global;
+
+/// Why the answering stopped.
+#[derive(Clone, Copy, Debug, PartialEq, Eq)]
+pub enum Stop {
+    /// The script ended.
+    End,
+    /// A bad item stands at this line.
+    BadLine(u64),
+    /// The script is too long.
+    Long,
+    /// A read failed.
+    Read,
+    /// A write failed.
+    Write,
+    /// Memory was refused.
+    Memory,
+}
+
+// Puts a reply line, for which `buffer` is used, or says what stopped it.
+fn put_reply<O: Sink>(reply: &Reply, buffer: &mut Vec<u8>, out: &mut O) -> Option<Stop>
+    ensures put { PutsOr result (O.written out.old) (O.written out.new) (reply_line reply.now) }
+    ensures same { O.borrow out.new ≡ O.borrow out.old }
+    ensures later { O.faults out.old ≤ O.faults out.new }
+    ensures write { result ≡ Some Stop.Write → Rose (O.faults out.old) (O.faults out.new) }
+    ensures never_read { result ≡ Some Stop.Read → ⊥ }
+{
+    buffer.clear();
+    match line(reply, buffer) {
+        Ok(()) => match out.put(buffer) {
+            Ok(()) => None,
+            Err(_) => Some(Stop::Write),
+        },
+        Err(_) => Some(Stop::Memory),
+    }
+}
+
+// Answers one command.
+fn answer<O: Sink>(
+    command: Command,
+    machine: &mut Machine,
+    buffer: &mut Vec<u8>,
+    out: &mut O,
+) -> Option<Stop>
+    ensures answer { (h : History) → StandsFor machine.old h →
+        Answers h command result (O.written out.old) (O.written out.new) machine.new }
+    ensures same { O.borrow out.new ≡ O.borrow out.old }
+    ensures later { O.faults out.old ≤ O.faults out.new }
+    ensures write { result ≡ Some Stop.Write → Rose (O.faults out.old) (O.faults out.new) }
+    ensures never_read { result ≡ Some Stop.Read → ⊥ }
+{
+    match machine.step(command) {
+        Ok(reply) => put_reply(&reply, buffer, out),
+        Err(_) => Some(Stop::Memory),
+    }
+}
+
+/// Answers a script from its first line.
+pub fn answer_all<S: Source + Drop, O: Sink>(
+    alloc: Global,
+    script: &mut Script<S>,
+    machine: &mut Machine,
+    out: &mut O,
+) -> Stop
+    requires line { script.old.line ≡ 1 }
+    requires room { script.old.room ≡ limit }
+    requires fresh { script.old.ended ≡ None }
+    requires nobody { machine.old ≡ [] }
+    ensures stop { IfSome (text_left S.left script.old) (λ text.
+        Stops text result (O.written out.old) (O.written out.new) machine.new) }
+    ensures same { S.borrow script.new.source ≡ S.borrow script.old.source }
+    ensures read { result ≡ Stop.Read → Rose (S.faults script.old.source) (S.faults script.new.source) }
+    ensures later { O.faults out.old ≤ O.faults out.new }
+    ensures write { result ≡ Stop.Write → Rose (O.faults out.old) (O.faults out.new) }
+{
+    let mut buffer = Vec::new(alloc);
+    'items: loop {
+        match script.next() {
+            Ok(Next::Command(command)) => match answer(command, machine, &mut buffer, out) {
+                None => {}
+                Some(stop) => return stop,
+            },
+            Ok(Next::End) => return Stop::End,
+            Ok(Next::BadLine { line }) => return Stop::BadLine(line),
+            Ok(Next::Long) => return Stop::Long,
+            Err(ScriptFault::Read) => return Stop::Read,
+            Err(ScriptFault::Memory) => return Stop::Memory,
+        }
+    }
+}

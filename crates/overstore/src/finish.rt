@@ -1,0 +1,78 @@
+//! The last line of a run, and its status.
+ghost use Rattle.std.specs.Prelude.{◌≡◌, ◌≢◌, ◌⊎◌, ◌≤◌};
+ghost use Rattle.ov_io.specs.Causes.{Rose};
+ghost use Rattle.ov_model.specs.History.{empty};
+ghost use Rattle.ov_script.specs.Lines.{reply_line};
+ghost use Rattle.ov_script.specs.Reading.{BadAt};
+ghost use Rattle.ov_script.specs.declared.reply.Reply.TheVariants.{End as EndReply};
+ghost use Rattle.overstore.specs.Answering.{EndsIn, Finishes};
+ghost use Rattle.overstore.specs.Printing.{last_line, memory_line};
+ghost use Rattle.overstore.specs.Status.{status_code};
+
+use crate::answer::Stop;
+use crate::status::Status;
+use ov_io::Sink;
+use ov_script::{Reply, line};
+use std::alloc::Global;
+
+/// Puts the last line, and gives its status where that succeeds.
+pub fn put_last<O: Sink>(out: &mut O, bytes: &[u8], status: Status) -> u8
+    ensures ends { EndsIn bytes.now (status_code status) (O.written out.old) (O.written out.new) result }
+    ensures later { O.faults out.old ≤ O.faults out.new }
+    ensures write { status ≢ Status.WriteFault → result ≡ 6 → Rose (O.faults out.old) (O.faults out.new) }
+{
+    match out.put(bytes) {
+        Ok(()) => status.code(),
+        Err(_) => Status::WriteFault.code(),
+    }
+}
+
+// Puts the line that says that memory was refused.
+fn put_memory<O: Sink>(out: &mut O) -> u8
+    ensures ends { EndsIn memory_line 7 (O.written out.old) (O.written out.new) result }
+    ensures later { O.faults out.old ≤ O.faults out.new }
+    ensures write { result ≡ 6 → Rose (O.faults out.old) (O.faults out.new) }
+{
+    put_last(out, b"error memory\n", Status::OutOfMemory)
+}
+
+fn put_end<O: Sink>(alloc: Global, out: &mut O, epoch: u32) -> u8
+    ensures ends { EndsIn (reply_line (EndReply epoch)) 0 (O.written out.old) (O.written out.new) result
+        ⊎ EndsIn memory_line 7 (O.written out.old) (O.written out.new) result }
+    ensures later { O.faults out.old ≤ O.faults out.new }
+    ensures write { result ≡ 6 → Rose (O.faults out.old) (O.faults out.new) }
+{
+    let mut bytes = Vec::new(alloc);
+    match line(&Reply::End(epoch), &mut bytes) {
+        Ok(()) => put_last(out, &bytes, Status::Done),
+        Err(_) => put_memory(out),
+    }
+}
+
+fn put_bad_line<O: Sink>(alloc: Global, out: &mut O, number: u64) -> u8
+    ensures ends { EndsIn (last_line empty (BadAt number)) 3 (O.written out.old) (O.written out.new) result
+        ⊎ EndsIn memory_line 7 (O.written out.old) (O.written out.new) result }
+    ensures later { O.faults out.old ≤ O.faults out.new }
+    ensures write { result ≡ 6 → Rose (O.faults out.old) (O.faults out.new) }
+{
+    match format!(in alloc; "error line {number}\n") {
+        Ok(text) => put_last(out, text.as_bytes(), Status::BadLine),
+        Err(_) => put_memory(out),
+    }
+}
+
+/// Puts the last line, by why the answering stopped, and gives the status.
+pub fn finish<O: Sink>(alloc: Global, stop: Stop, epoch: u32, out: &mut O) -> u8
+    ensures finish { Finishes stop epoch (O.written out.old) (O.written out.new) result }
+    ensures later { O.faults out.old ≤ O.faults out.new }
+    ensures write { result ≡ 6 → (stop ≡ Stop.Write) ⊎ Rose (O.faults out.old) (O.faults out.new) }
+{
+    match stop {
+        Stop::End => put_end(alloc, out, epoch),
+        Stop::BadLine(number) => put_bad_line(alloc, out, number),
+        Stop::Long => put_last(out, b"error long\n", Status::Long),
+        Stop::Read => put_last(out, b"error read\n", Status::ReadFault),
+        Stop::Write => Status::WriteFault.code(),
+        Stop::Memory => put_memory(out),
+    }
+}

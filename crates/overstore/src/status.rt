@@ -1,0 +1,78 @@
+//! The exit statuses.
+ghost use Rattle.std.specs.Prelude.{◌≡◌, IfSome};
+ghost use Rattle.overstore.specs.Status.{status_code};
+
+/// How a run ended.
+#[derive(Clone, Copy, Debug, PartialEq, Eq)]
+pub enum Status {
+    /// The whole script was answered.
+    Done,
+    /// The words of the command line aren't known.
+    Usage,
+    /// The script has a bad item.
+    BadLine,
+    /// A read failed.
+    ReadFault,
+    /// A write failed.
+    WriteFault,
+    /// Memory was refused.
+    OutOfMemory,
+    /// The script is too long.
+    Long,
+}
+
+impl Status {
+    /// The number with which the program ends.
+    pub fn code(self) -> u8
+        ensures { result ≡ status_code self }
+    {
+        match self {
+            Status::Done => 0,
+            Status::Usage => 2,
+            Status::BadLine => 3,
+            Status::ReadFault => 5,
+            Status::WriteFault => 6,
+            Status::OutOfMemory => 7,
+            Status::Long => 11,
+        }
+    }
+
+    /// The status of this number.
+    pub fn from_code(code: u8) -> Option<Status>
+        ensures { IfSome result (λ status. status_code status ≡ code) }
+    {
+        match code {
+            0 => Some(Status::Done),
+            2 => Some(Status::Usage),
+            3 => Some(Status::BadLine),
+            5 => Some(Status::ReadFault),
+            6 => Some(Status::WriteFault),
+            7 => Some(Status::OutOfMemory),
+            11 => Some(Status::Long),
+            _ => None,
+        }
+    }
+
+    /// What is wrong and what to do, for standard error.
+    pub fn advice(self) -> Option<&'static str> {
+        match self {
+            Status::Done => None,
+            Status::Usage => Some(
+                "the words aren't known; use `overstore run full`, or `overstore --help`",
+            ),
+            Status::BadLine => Some(
+                "the script has a bad line, which standard output names; the lines before it were answered; correct it and run again",
+            ),
+            Status::ReadFault => Some(
+                "reading the script failed; the lines read before were answered; check standard input and run again",
+            ),
+            Status::WriteFault => Some(
+                "writing the replies failed; check where standard output goes and run again",
+            ),
+            Status::OutOfMemory => Some("the system refused memory; free some and run again"),
+            Status::Long => Some(
+                "the script is longer than 268435456 bytes; the items within them were answered; run the rest as a script of its own",
+            ),
+        }
+    }
+}
