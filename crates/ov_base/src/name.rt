@@ -1,8 +1,15 @@
 //! Names of users and files.
 ghost use Rattle.std.specs.Prelude.{◌≡◌, ◌≤◌, ◌↔◌, ℕ, List, take, IsSome, IfSome};
+ghost use Rattle.std.specs.Cmp.{partial_equiv_from_equiv};
+ghost use Rattle.std.specs.Cmp.Lexicographic.{nat_list_eq_equiv};
+ghost use Rattle.std.specs.Hash as fed;
 ghost use Rattle.std.specs.List.{list_all};
+ghost use Rattle.std.specs.Str.{bytes_eq};
+ghost use Rattle.std.proofs.Common.{ap};
+ghost use Rattle.std.proofs.lemmas.Slice.Eq.{bytes_eq-Decides};
 ghost use Rattle.ov_base.specs.Names.{is_letter_or_digit, is_name_byte, is_name, IsName};
 
+use std::hash::{Hash, Hasher};
 use std::marker::Model;
 
 const MAX_LEN: usize = 64;
@@ -87,6 +94,31 @@ impl Name {
     }
 }
 
+// Two names are equal where their bytes are.
+impl PartialEq for Name {
+    ghost eq = { bytes_eq };
+
+    ghost laws = { partial_equiv_from_equiv nat_list_eq_equiv };
+
+    fn eq(&self, other: &Name) -> bool {
+        self.as_bytes() == other.as_bytes()
+    }
+}
+
+impl Eq for Name {
+    ghost laws = { nat_list_eq_equiv };
+}
+
+impl Hash for Name {
+    ghost hash_input = { fed.slice fed.u8 };
+
+    ghost respects_eq = { λ a b same. ap (fed.slice fed.u8) ((bytes_eq-Decides a b).0 same) };
+
+    fn hash<H: Hasher>(&self, state: &mut H) {
+        self.as_bytes().hash(state);
+    }
+}
+
 #[cfg(test)]
 mod tests {
     use super::*;
@@ -108,6 +140,7 @@ mod tests {
             let name = Name::read(text).expect(&rt, "a name");
             assert_eq!(rt; name.as_bytes(), text);
             assert_eq!(rt; name.copy().as_bytes(), text);
+            assert!(rt; name == name.copy());
         }
         let others = [
             b"".as_slice(),

@@ -1,10 +1,11 @@
 //! The access-matrix machine, over the users that are enrolled.
 ghost use Rattle.std.specs.Prelude.{◌≡◌, ◌≤◌, ℕ, List, [], length, IfOk, OnErr, Some};
 ghost use Rattle.ov_model.specs.History.{History, Matrix};
-ghost use Rattle.ov_model.specs.Step.{is_user, reply_to, after};
+ghost use Rattle.ov_model.specs.Step.{reply_to, after};
 ghost use Rattle.overstore.specs.Machine.{StandsFor};
 ghost use Rattle.ov_script.specs.declared.command.Command.TheVariants.{Enrol};
 
+use indexmap::IndexSet;
 use ov_base::{Memory, Name, Refusal};
 use ov_script::{Command, Reply};
 use std::alloc::Global;
@@ -15,23 +16,15 @@ const MAX_USERS: usize = 256;
 /// The names of the users, in the order in which they were enrolled.
 #[derive(Drop)]
 pub struct Machine {
-    users: Vec<Name>,
+    users: IndexSet<Name>,
 }
 
 impl Model for Machine {
     ghost Value = { List (List ℕ) };
 
-    ghost view = { λ m. m.users.items };
+    ghost view = { λ m. m.users.keys };
 
-    ghost invariant = { λ m. length m.users.items ≤ 256 };
-}
-
-fn is_user(users: &[Name], user: &Name) -> bool
-    ensures { result ≡ is_user (record { users = users.now }) user.now }
-{
-    users
-        .iter()
-        .any(|other| user.as_bytes() == other.as_bytes())
+    ghost invariant = { λ m. length m.users.keys ≤ 256 };
 }
 
 impl Machine {
@@ -40,7 +33,7 @@ impl Machine {
         ensures { result ≡ [] }
     {
         Machine {
-            users: Vec::new(alloc),
+            users: IndexSet::new(alloc),
         }
     }
 
@@ -67,13 +60,13 @@ impl Machine {
             (reply ≡ reply_to h (Enrol user)) × StandsFor self.new (after h (Enrol user))) }
         ensures err { OnErr result (self.new ≡ self.old) }
     {
-        if is_user(&self.users, &user) {
+        if self.users.contains(&user) {
             return Ok(Reply::Refused(Refusal::Taken));
         }
         if self.users.len() >= MAX_USERS {
             return Ok(Reply::Refused(Refusal::UsersFull));
         }
-        self.users.push(user)?;
+        self.users.insert(user)?;
         Ok(Reply::Accepted(self.users.len() as u32))
     }
 }

@@ -1,4 +1,16 @@
-//! The store's program: a script comes in, its reply lines go out.
+//! The program `overstore`: a script comes in on standard input, and its reply lines go out.
+//!
+//! `overstore run full` answers a script of commands, line by line, from a store that begins empty. The contract
+//! of [`run`] says what it prints for every script; `main` makes the real source and sink, calls it, and ends with
+//! the status that it gives.
+//!
+//! | module | what it does |
+//! |---|---|
+//! | `run` | the top call, and its contract |
+//! | `answer` | the loop over the script's commands |
+//! | `finish` | the last line |
+//! | `machine` | the access-matrix machine, as code |
+//! | `status` | the exit statuses |
 #![tactic(auto)]
 
 mod answer;
@@ -6,6 +18,8 @@ mod finish;
 mod machine;
 mod run;
 mod status;
+#[cfg(test)]
+mod tests;
 
 use ov_io::{StdSink, StdSource};
 use run::run;
@@ -13,6 +27,21 @@ use status::Status;
 use std::process::ExitCode;
 use std::{env, io};
 
+const HELP: &str = "\
+Usage: overstore run full < SCRIPT
+
+Answers the script on standard input, one reply line for each command.
+
+  enrol USER    adds a user: `ok EPOCH`, or `refused NUMBER REASON`
+
+The last line is `end epoch EPOCH`, or `error ..` where the script could not be
+answered to its end. Exit status: 0 answered, 2 words not known, 3 bad line,
+5 read failed, 6 write failed, 7 out of memory, 11 script too long.
+";
+
+const VERSION: &str = "overstore 0.1.0\n";
+
+// The words behind the program's name. Where one is no UTF-8 there are none, which is no known command line.
 fn words_of(rt: &HostRuntime) -> io::Result<Vec<String>> {
     let mut words = Vec::new(rt.alloc());
     for word in env::args(rt)?.skip(1) {
@@ -21,12 +50,48 @@ fn words_of(rt: &HostRuntime) -> io::Result<Vec<String>> {
     Ok(words)
 }
 
+// What the words ask to be told, if they do.
+fn told_by(words: &[String]) -> Option<&'static str> {
+    match words {
+        [word] => match word.as_str() {
+            "--help" => Some(HELP),
+            "--version" => Some(VERSION),
+            _ => None,
+        },
+        _ => None,
+    }
+}
+
+// Says on standard error what is wrong and what to do. Where that fails too, the status has to do.
+fn explain(rt: &HostRuntime, code: u8) {
+    let advice = match Status::from_code(code) {
+        Some(status) => status.advice(),
+        None => None,
+    };
+    match advice {
+        Some(advice) => {
+            let _ = eprintln!(rt; "overstore: error: {advice}");
+        }
+        None => {}
+    }
+}
+
 fn main(rt: HostRuntime) -> ExitCode {
     let words = match words_of(&rt) {
         Ok(words) => words,
         Err(_) => Vec::new(rt.alloc()),
     };
-    let mut input = StdSource::new(rt.stdin());
-    let mut out = StdSink::new(rt.stdout());
-    ExitCode::from(run(rt.alloc(), &words, &mut input, &mut out))
+    let code = match told_by(&words) {
+        Some(text) => match rt.print(text) {
+            Ok(()) => Status::Done.code(),
+            Err(_) => Status::WriteFault.code(),
+        },
+        None => {
+            let mut input = StdSource::new(rt.stdin());
+            let mut out = StdSink::new(rt.stdout());
+            run(rt.alloc(), &words, &mut input, &mut out)
+        }
+    };
+    explain(&rt, code);
+    ExitCode::from(code)
 }

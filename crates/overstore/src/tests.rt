@@ -1,0 +1,1 @@
+//! The program's rows: scripts with what they print and how they end.
