@@ -1,5 +1,5 @@
 -- Labels, and their spelling in five bytes.
-use Rattle.std.specs.Prelude.{ℕ, List, ◌∷◌}
+use Rattle.std.specs.Prelude.{ℕ, ◌≡◌, ◌<◌, ◌^◌, List, ◌∷◌}
 use Rattle.std.specs.Int.{to_be_bytes, w32}
 use Rattle.ov_tokens.specs.declared.label.Kind.{Kind}
 use Rattle.ov_tokens.specs.declared.label.Kind.TheVariants.{Derive, Access, Surface}
@@ -22,3 +22,8 @@ label_of kind number = record { kind = kind; number = number }
 -- a label's five bytes: the tag of its kind and its number
 abbrev pub label_bytes : Label → List ℕ
 label_bytes label = tagged (tag_of label.kind) label.number
+
+-- two labels with one spelling are one label
+abbrev pub LabelsAreSpelledApart : Type 0
+LabelsAreSpelledApart =
+    (a b : Label) → a.number < 2 ^ 32 → b.number < 2 ^ 32 → label_bytes a ≡ label_bytes b → a ≡ b

@@ -1,5 +1,8 @@
 //! Labels of keys.
 
+ghost use Rattle.std.specs.Prelude.{◌≡◌};
+ghost use Rattle.ov_tokens.specs.Labels.{label_bytes, LabelsAreSpelledApart, tag_of};
+
 use crate::message::tagged;
 
 /// What a label's key is for.
@@ -14,9 +17,6 @@ pub enum Kind {
 }
 
 impl Kind {
-    ghost use Rattle.std.specs.Prelude.{◌≡◌};
-    ghost use Rattle.ov_tokens.specs.Labels.{tag_of};
-
     /// The tag byte of the kind's labels.
     fn tag(&self) -> u8
         ensures { result ≡ tag_of self.now }
@@ -37,9 +37,6 @@ pub struct Label {
 }
 
 impl Label {
-    ghost use Rattle.std.specs.Prelude.{◌≡◌};
-    ghost use Rattle.ov_tokens.specs.Labels.{label_bytes};
-
     /// Its five bytes: the tag of its kind, and its number with the high byte first.
     pub fn bytes(&self) -> [u8; 5]
         ensures { result ≡ label_bytes self.now }
@@ -47,3 +44,8 @@ impl Label {
         tagged(self.kind.tag(), self.number)
     }
 }
+
+/// The law of labels: two that are spelled alike are one label.
+pub fn labels_are_spelled_apart()
+    ensures { LabelsAreSpelledApart }
+{}

@@ -2,7 +2,8 @@
 //!
 //! A store has two masters, a base master and a surface master, and each label has one key under them
 //! (`key_of_label` in `specs/Keys`). A [`Label`] is a [`Kind`] and a number: `B n` is the derivation key
-//! of base node n, `A n` its access key, `S n` the key of surface node n. A [`Layer`] says which labels a
+//! of base node n, `A n` its access key, `S n` the key of surface node n; no two labels have the same five
+//! bytes ([`labels_are_spelled_apart`]). A [`Layer`] says which labels a
 //! layer's nodes have and how their keys come from its master; it has two, [`Base`] and [`Surface`].
 //!
 //! A [`Token`] leads from a key to a label: it is the label's key XORed with the keyed hash of the label
@@ -35,7 +36,7 @@ mod tokens;
 pub use chain::{Chain, Step};
 pub use edge::Edge;
 pub use keys::{access_key, check_value, tag_key, update_key};
-pub use label::{Kind, Label};
+pub use label::{Kind, Label, labels_are_spelled_apart};
 pub use layer::{Base, Layer, Surface};
 pub use numbers::Numbers;
 pub use steps::Steps;
