@@ -1,6 +1,6 @@
 //! Tokens: how a key leads to the key of a label.
 
-ghost use Rattle.std.specs.Prelude.{◌≡◌};
+ghost use Rattle.std.specs.Prelude.{◌≡◌, ℕ, List, length};
 ghost use Rattle.ov_tokens.specs.Keys.{derived_key, token_of, TokensLeadBack};
 ghost use Rattle.ov_tokens.specs.Xor.{xored};
 
@@ -36,7 +36,11 @@ pub fn make(from: &Key, to: Label, to_key: &Key) -> Token
 
 /// The key of the label `to`, by the token that leads to it from the key `from`.
 pub fn derive(from: &Key, to: Label, token: &Token) -> Key
-    ensures { result.bytes ≡ derived_key from.now.bytes to token.now.bytes }
+    ensures key { result.bytes ≡ derived_key from.now.bytes to token.now.bytes }
+    ensures leads_back { (key : List ℕ)
+        → length key ≡ 32
+        → token.now.bytes ≡ token_of from.now.bytes to key
+        → result.bytes ≡ key }
 {
     Key {
         bytes: xor(&token.bytes, &mac(&from.bytes, &to.bytes(), b"")),
