@@ -1,1 +1,241 @@
-//! The program's rows: scripts with what they print and how they end.
+//! What the program prints and how it ends, over scripts, pieces and faults.
+ghost use Rattle.std.specs.Prelude.{◌<◌, None};
+
+use crate::run::run;
+use ov_base::Octets;
+use ov_io::{Fault, MemSink, MemSource, Sink, Source};
+use std::alloc::{AllocError, Global};
+use std::test::Fail;
+
+fn words(alloc: Global, mode: &str) -> Result<Vec<String>, AllocError> {
+    Ok(vec![in alloc;
+        String::from_str(alloc, "run")?,
+        String::from_str(alloc, mode)?,
+    ]?)
+}
+
+// Runs a script that comes in pieces, over a source and a sink that fail at these calls.
+fn ran(
+    alloc: Global,
+    script: &[u8],
+    piece: usize,
+    source_fails: &[u8],
+    out: &mut MemSink,
+) -> Result<u8, Fail>
+    requires { 0 < piece }
+{
+    let mut input = MemSource::new(
+        Octets::copy(alloc, script)?,
+        piece,
+        Octets::copy(alloc, source_fails)?,
+    );
+    Ok(run(alloc, &words(alloc, "full")?, &mut input, out))
+}
+
+fn sink(alloc: Global, fails: &[u8]) -> Result<MemSink, Fail> {
+    Ok(MemSink::new(alloc, Octets::copy(alloc, fails)?))
+}
+
+#[test]
+fn scripts_and_their_lines(rt: HostRuntime) -> Result<(), Fail> {
+    let alloc = rt.alloc();
+    let rows = [
+        (b"".as_slice(), 0u8, b"end epoch 0\n".as_slice()),
+        (b"enrol alice\n", 0, b"ok 1\nend epoch 1\n"),
+        (
+            b"enrol a\nenrol a\n",
+            0,
+            b"ok 1\nrefused 1 Taken\nend epoch 1\n",
+        ),
+        (b"read a f\n", 3, b"error line 1\n"),
+        (b"enrol alice\nenrol Bob\n", 3, b"ok 1\nerror line 2\n"),
+        (b"enrol a", 3, b"error line 1\n"),
+        (b"enrol  a\n", 3, b"error line 1\n"),
+        (b"enrol a\r\n", 3, b"error line 1\n"),
+        (b"enrol a \n", 3, b"error line 1\n"),
+        (b"enrol\n", 3, b"error line 1\n"),
+        (b"enrol -a\n", 3, b"error line 1\n"),
+        (b"\n", 3, b"error line 1\n"),
+        (b"enrol a\n\n", 3, b"ok 1\nerror line 2\n"),
+        (
+            b"enrol aaaaaaaaaaaaaaaaaaaaaaaaaaaaaaaaaaaaaaaaaaaaaaaaaaaaaaaaaaaaaaaa\n",
+            0,
+            b"ok 1\nend epoch 1\n",
+        ),
+        (
+            b"enrol aaaaaaaaaaaaaaaaaaaaaaaaaaaaaaaaaaaaaaaaaaaaaaaaaaaaaaaaaaaaaaaaa\n",
+            3,
+            b"error line 1\n",
+        ),
+    ];
+    for (script, status, lines) in rows {
+        let mut out = sink(alloc, b"")?;
+        assert_eq!(rt; ran(alloc, script, 4096, b"", &mut out)?, status);
+        assert_eq!(rt; out.written(), lines);
+    }
+    Ok(())
+}
+
+#[test]
+fn other_words(rt: HostRuntime) -> Result<(), Fail> {
+    let alloc = rt.alloc();
+    let one = vec![in alloc; String::from_str(alloc, "run")?]?;
+    let mut three = words(alloc, "full")?;
+    three.push(String::from_str(alloc, "full")?)?;
+    for words in [words(alloc, "delta")?, words(alloc, "Full")?, one, three] {
+        let mut input = MemSource::new(
+            Octets::copy(alloc, b"enrol a\n")?,
+            8,
+            Octets::copy(alloc, b"")?,
+        );
+        let mut out = sink(alloc, b"")?;
+        assert_eq!(rt; run(alloc, &words, &mut input, &mut out), 2);
+        assert_eq!(rt; out.written(), b"error usage\n".as_slice());
+    }
+    Ok(())
+}
+
+// A script of all kinds of line, and what it is answered with.
+const MIXED: &[u8] =
+    b"enrol alice\nenrol bob\nenrol alice\nenrol 0.a_b-c\nenrol aaaaaaaaaaaaaaaaaaaaaaaaaaaaaaaaaaaaaaaaaaaaaaaaaaaaaaaaaaaaaaaa\nenrol Eve\n";
+
+const MIXED_LINES: &[u8] = b"ok 1\nok 2\nrefused 1 Taken\nok 3\nok 4\nerror line 6\n";
+
+#[test]
+fn every_size_of_piece(rt: HostRuntime) -> Result<(), Fail> {
+    let alloc = rt.alloc();
+    for piece in 1..41usize {
+        let mut out = sink(alloc, b"")?;
+        assert_eq!(rt;
+            ran(alloc, MIXED, piece, b"", &mut out)?,
+            3,
+            "in pieces of {piece}"
+        );
+        assert_eq!(rt; out.written(), MIXED_LINES, "in pieces of {piece}");
+    }
+    Ok(())
+}
+
+#[test]
+fn users_are_full(rt: HostRuntime) -> Result<(), Fail> {
+    let alloc = rt.alloc();
+    let mut script = Vec::new(alloc);
+    let mut lines = Vec::new(alloc);
+    for user in 0..256u32 {
+        script.extend_from_slice(format!(in alloc; "enrol u{user}\n")?.as_bytes())?;
+        let epoch = user.saturating_add(1);
+        lines.extend_from_slice(format!(in alloc; "ok {epoch}\n")?.as_bytes())?;
+    }
+    script.extend_from_slice(b"enrol z\nenrol u0\n")?;
+    lines.extend_from_slice(b"refused 7 UsersFull\nrefused 1 Taken\nend epoch 256\n")?;
+    let mut out = sink(alloc, b"")?;
+    assert_eq!(rt; ran(alloc, &script, 1000, b"", &mut out)?, 0);
+    assert_eq!(rt; out.written(), lines.as_slice());
+    Ok(())
+}
+
+#[test]
+fn a_read_fails(rt: HostRuntime) -> Result<(), Fail> {
+    let alloc = rt.alloc();
+    // In pieces of 8 the script comes with two calls, and the third finds its end.
+    let rows = [
+        (0u8, b"error read\n".as_slice()),
+        (1, b"ok 1\nerror read\n"),
+        (2, b"ok 1\nok 2\nerror read\n"),
+    ];
+    for (call, lines) in rows {
+        let mut out = sink(alloc, b"")?;
+        assert_eq!(rt; ran(alloc, b"enrol a\nenrol b\n", 8, &[call], &mut out)?, 5);
+        assert_eq!(rt; out.written(), lines);
+    }
+    Ok(())
+}
+
+#[test]
+fn a_write_fails(rt: HostRuntime) -> Result<(), Fail> {
+    let alloc = rt.alloc();
+    let rows = [
+        (0u8, b"".as_slice()),
+        (1, b"ok 1\n"),
+        (2, b"ok 1\nrefused 1 Taken\n"),
+    ];
+    for (call, lines) in rows {
+        let mut out = sink(alloc, &[call])?;
+        assert_eq!(rt; ran(alloc, b"enrol a\nenrol a\n", 8, b"", &mut out)?, 6);
+        assert_eq!(rt; out.written(), lines);
+    }
+    let mut out = sink(alloc, &[0])?;
+    let mut input = MemSource::new(Octets::copy(alloc, b"")?, 8, Octets::copy(alloc, b"")?);
+    assert_eq!(rt; run(alloc, &words(alloc, "half")?, &mut input, &mut out), 6);
+    Ok(())
+}
+
+// Makes one line over and over, up to so many bytes, and holds none of them.
+#[derive(Drop)]
+struct Repeats {
+    line: [u8; 64],
+    left: u64,
+}
+
+impl Source for Repeats {
+    ghost left = { λ _. None };
+
+    ghost faults = { λ _. 0 };
+
+    ghost borrow = { λ _. 0 };
+
+    fn take(&mut self, buf: &mut [u8]) -> Result<usize, Fault> {
+        let (_, rest) = self.line.split_at((64 - self.left % 64) as usize % 64);
+        let count = rest.len().min(buf.len()).min(self.left as usize);
+        buf[..count].copy_from_slice(&rest[..count]);
+        self.left -= count as u64;
+        Ok(count)
+    }
+}
+
+// Keeps what was put last.
+#[derive(Drop)]
+struct Last {
+    bytes: Vec<u8>,
+    faults: u64,
+}
+
+impl Sink for Last {
+    ghost written = { λ _. None };
+
+    ghost faults = { λ s. s.faults };
+
+    ghost borrow = { λ _. 0 };
+
+    fn put(&mut self, bytes: &[u8]) -> Result<(), Fault> {
+        self.bytes.clear();
+        if self.bytes.extend_from_slice(bytes).is_err() {
+            self.faults = self.faults.saturating_add(1);
+            return Err(Fault);
+        }
+        Ok(())
+    }
+}
+
+#[test]
+fn the_limit_of_a_script(rt: HostRuntime) -> Result<(), Fail> {
+    let alloc = rt.alloc();
+    let line = *b"enrol aaaaaaaaaaaaaaaaaaaaaaaaaaaaaaaaaaaaaaaaaaaaaaaaaaaaaaaaa\n";
+    let rows = [
+        (268_435_456u64, 0u8, b"end epoch 1\n".as_slice()),
+        (268_435_456 + 64, 11, b"error long\n"),
+    ];
+    for (left, status, last) in rows {
+        let mut input = Repeats { line, left };
+        let mut out = Last {
+            bytes: Vec::new(alloc),
+            faults: 0,
+        };
+        assert_eq!(rt;
+            run(alloc, &words(alloc, "full")?, &mut input, &mut out),
+            status
+        );
+        assert_eq!(rt; out.bytes.as_slice(), last);
+    }
+    Ok(())
+}
