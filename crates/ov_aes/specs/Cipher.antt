@@ -1,7 +1,7 @@
 -- The cipher's transformations and rounds (FIPS 197, section 5.1), for AES-256: 14 rounds.
-use Rattle.std.specs.Prelude.{ℕ, zero, suc, ◌+◌, ◌*◌, ◌/◌, ◌%◌, ◌^◌, List, slice_index}
+use Rattle.std.specs.Prelude.{ℕ, zero, suc, ◌+◌, ◌*◌, ◌/◌, ◌%◌, ◌^◌, List, [], ◌∷◌, slice_index}
 use Rattle.ov_aes.specs.Field.{add, inverse, times}
-use Rattle.ov_aes.specs.State.{byte_in, state_of, word_in, word_of}
+use Rattle.ov_aes.specs.State.{byte_in, column_in, state_of, word_in}
 
 -- bit i of b, with i counted modulo 8
 abbrev pub bit_of : ℕ → ℕ → ℕ
@@ -29,20 +29,23 @@ sub_bytes s = state_of (λ r c. sbox (byte_in s r c))
 abbrev pub shift_rows : List ℕ → List ℕ
 shift_rows s = state_of (λ r c. byte_in s r ((c + r) % 4))
 
--- 5.1.3: row r of the product of a column with the matrix whose row 0 is 02 03 01 01, and each
--- further row the one above it moved by one place to the right
-abbrev pub mixed : List ℕ → ℕ → ℕ
-mixed a r =
-    add (add (times 2 (slice_index a (r % 4))) (times 3 (slice_index a ((r + 1) % 4))))
-    (add (slice_index a ((r + 2) % 4)) (slice_index a ((r + 3) % 4)))
-
--- the column c of a state
-abbrev pub column : List ℕ → ℕ → List ℕ
-column s c = word_of (λ r. byte_in s r c)
+-- 5.1.3: a column times the fixed matrix, whose rows are 02 03 01 01, 01 02 03 01, 01 01 02 03 and
+-- 03 01 01 02
+abbrev pub mix_column : List ℕ → List ℕ
+mix_column a =
+    let a0 = slice_index a 0 in
+    let a1 = slice_index a 1 in
+    let a2 = slice_index a 2 in
+    let a3 = slice_index a 3 in
+    add (add (add (times 2 a0) (times 3 a1)) a2) a3
+    ∷ add (add (add a0 (times 2 a1)) (times 3 a2)) a3
+    ∷ add (add (add a0 a1) (times 2 a2)) (times 3 a3)
+    ∷ add (add (add (times 3 a0) a1) a2) (times 2 a3)
+    ∷ []
 
 -- 5.1.3: MIXCOLUMNS
 abbrev pub mix_columns : List ℕ → List ℕ
-mix_columns s = state_of (λ r c. mixed (column s c) r)
+mix_columns s = state_of (λ r c. slice_index (mix_column (column_in s c)) r)
 
 -- 5.1.4: ADDROUNDKEY, with the four words of the key schedule w that belong to the round
 abbrev pub add_round_key : List ℕ → List (List ℕ) → ℕ → List ℕ

@@ -1,8 +1,8 @@
 -- The key expansion (FIPS 197, section 5.2), for a key of 32 bytes: Nk = 8, and 60 words.
 use Rattle.std.specs.Prelude.{ℕ, zero, suc, ◌+◌, ◌-◌, ◌*◌, ◌/◌, ◌%◌, ◌==◌, if◌then◌else◌, List, [], ◌∷◌, ◌++◌, slice_index, take}
 use Rattle.std.specs.List.{concat}
-use Rattle.ov_aes.specs.Field.{add, power_of_x}
-use Rattle.ov_aes.specs.State.{word_in, word_of}
+use Rattle.ov_aes.specs.Field.{power_of_x}
+use Rattle.ov_aes.specs.State.{add_words, word_in, word_of}
 use Rattle.ov_aes.specs.Cipher.{sbox}
 
 -- 5.2: ROTWORD
@@ -12,10 +12,6 @@ rot_word a = word_of (λ i. slice_index a ((i + 1) % 4))
 -- 5.2: SUBWORD
 abbrev pub sub_word : List ℕ → List ℕ
 sub_word a = word_of (λ i. sbox (slice_index a i))
-
--- the sum of two words
-abbrev pub add_words : List ℕ → List ℕ → List ℕ
-add_words a b = word_of (λ i. add (slice_index a i) (slice_index b i))
 
 -- 5.2: the round constant Rcon[j]
 abbrev pub rcon : ℕ → List ℕ

@@ -1,5 +1,6 @@
 -- The state and words (FIPS 197, sections 3.4 and 3.5).
 use Rattle.std.specs.Prelude.{ℕ, ◌+◌, ◌*◌, List, [], ◌∷◌, slice_index, slice_index_or}
+use Rattle.ov_aes.specs.Field.{add}
 
 -- 3.4: the state whose byte in row r and column c is f r c, as a block: that byte is at r + 4 c
 abbrev pub state_of : (ℕ → ℕ → ℕ) → List ℕ
@@ -21,3 +22,11 @@ word_of f = f 0 ∷ f 1 ∷ f 2 ∷ f 3 ∷ []
 -- 3.5: word i of an array of words
 abbrev pub word_in : List (List ℕ) → ℕ → List ℕ
 word_in w i = slice_index_or w i []
+
+-- 3.5: column c of the state s, as a word
+abbrev pub column_in : List ℕ → ℕ → List ℕ
+column_in s c = word_of (λ r. byte_in s r c)
+
+-- the sum of two words, byte by byte
+abbrev pub add_words : List ℕ → List ℕ → List ℕ
+add_words a b = word_of (λ i. add (slice_index a i) (slice_index b i))

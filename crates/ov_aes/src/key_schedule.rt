@@ -2,8 +2,8 @@
 
 ghost use Rattle.std.specs.Prelude.{ℕ, ◌≡◌, ◌<◌, ◌≤◌, ◌+◌, ◌*◌, slice_index, List, [], ◌∷◌};
 ghost use Rattle.ov_aes.specs.Field.{power_of_x};
-ghost use Rattle.ov_aes.specs.KeyExpansion.{add_words, key_expansion, rot_word, sub_word, temp_word};
-ghost use Rattle.ov_aes.specs.State.{word_of};
+ghost use Rattle.ov_aes.specs.KeyExpansion.{key_expansion, rot_word, sub_word, temp_word};
+ghost use Rattle.ov_aes.specs.State.{add_words, word_of};
 
 use crate::sbox::sub_byte;
 

@@ -9,8 +9,8 @@
 #![tactic(auto)]
 
 mod cipher;
+mod columns;
 mod key_schedule;
-mod mix;
 mod rounds;
 mod sbox;
 #[cfg(test)]

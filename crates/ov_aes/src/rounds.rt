@@ -3,7 +3,7 @@
 ghost use Rattle.std.specs.Prelude.{◌≡◌, ◌<◌, ◌+◌, ◌*◌};
 ghost use Rattle.ov_aes.specs.Cipher.{add_round_key, cipher, full_round, shift_rows, sub_bytes};
 
-use crate::mix::mix_column;
+use crate::columns::mixed_column;
 use crate::sbox::sub_byte;
 
 fn add_round_key(s: [u8; 16], w: &[[u8; 4]; 60], round: usize) -> [u8; 16]
@@ -38,31 +38,11 @@ fn full_round(s: [u8; 16], w: &[[u8; 4]; 60], round: usize) -> [u8; 16]
     requires { round < 15 }
     ensures { result ≡ full_round s w.now round }
 {
-    let [a, b, c, d] = mix_column([
-        sub_byte(s[0]),
-        sub_byte(s[5]),
-        sub_byte(s[10]),
-        sub_byte(s[15]),
-    ]);
-    let [e, f, g, h] = mix_column([
-        sub_byte(s[4]),
-        sub_byte(s[9]),
-        sub_byte(s[14]),
-        sub_byte(s[3]),
-    ]);
-    let [i, j, k, l] = mix_column([
-        sub_byte(s[8]),
-        sub_byte(s[13]),
-        sub_byte(s[2]),
-        sub_byte(s[7]),
-    ]);
-    let [m, n, o, p] = mix_column([
-        sub_byte(s[12]),
-        sub_byte(s[1]),
-        sub_byte(s[6]),
-        sub_byte(s[11]),
-    ]);
-    add_round_key([a, b, c, d, e, f, g, h, i, j, k, l, m, n, o, p], w, round)
+    let [a, b, c, d] = mixed_column(s[0], s[5], s[10], s[15], w[4 * round]);
+    let [e, f, g, h] = mixed_column(s[4], s[9], s[14], s[3], w[4 * round + 1]);
+    let [i, j, k, l] = mixed_column(s[8], s[13], s[2], s[7], w[4 * round + 2]);
+    let [m, n, o, p] = mixed_column(s[12], s[1], s[6], s[11], w[4 * round + 3]);
+    [a, b, c, d, e, f, g, h, i, j, k, l, m, n, o, p]
 }
 
 fn sub_and_shift(s: [u8; 16]) -> [u8; 16]
