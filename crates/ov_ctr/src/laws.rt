@@ -1,0 +1,18 @@
+//! The laws of the pad, for the proofs of callers. The functions do nothing.
+
+ghost use Rattle.ov_ctr.specs.Laws.{KeepsLength, TakesParts, UndoesItself};
+
+/// The pad keeps the number of bytes.
+pub fn keeps_length()
+    ensures { KeepsLength }
+{}
+
+/// The pad taken twice gives the bytes back.
+pub fn undoes_itself()
+    ensures { UndoesItself }
+{}
+
+/// The pad of a whole is that of its parts, each from its own place on.
+pub fn takes_parts()
+    ensures { TakesParts }
+{}
