@@ -3,7 +3,7 @@ use Rattle.std.specs.Prelude.{ℕ, zero, suc, ◌+◌, ◌*◌, ◌/◌, ◌%◌
 use Rattle.ov_aes.specs.Field.{add, inverse, times}
 use Rattle.ov_aes.specs.State.{byte_in, column_in, state_of, word_in}
 
--- bit i of b, with i counted modulo 8
+-- 5.1.1: bit i of b, with i counted modulo 8
 abbrev pub bit_of : ℕ → ℕ → ℕ
 bit_of b i = b / 2 ^ (i % 8) % 2
 
@@ -12,7 +12,7 @@ abbrev pub affine_bit : ℕ → ℕ → ℕ
 affine_bit b i =
     (bit_of b i + bit_of b (i + 4) + bit_of b (i + 5) + bit_of b (i + 6) + bit_of b (i + 7) + bit_of 0x63 i) % 2
 
--- the byte made of the lowest n bits of the affine map of b
+-- 5.1.1: the byte made of the lowest n bits of the affine map of b
 abbrev pub affine_lowest : ℕ → ℕ → ℕ
 affine_lowest zero b = 0
 affine_lowest (suc n) b = affine_lowest n b + affine_bit b n * 2 ^ n

@@ -10,7 +10,7 @@ add b c = bit_xor b c
 abbrev pub xtimes : ℕ → ℕ
 xtimes b = (if b / 128 == 0 then b * 2 else add (b * 2 - 256) 0x1b)
 
--- the sum of b x^i over those of the lowest n coefficients of c that are 1
+-- 4.2: the sum of b x^i over those of the lowest n coefficients of c that are 1
 abbrev pub times_lowest : ℕ → ℕ → ℕ → ℕ
 times_lowest zero b c = 0
 times_lowest (suc n) b c = add (c % 2 * b) (times_lowest n (xtimes b) (c / 2))
@@ -24,7 +24,7 @@ abbrev pub power_of_x : ℕ → ℕ
 power_of_x zero = 1
 power_of_x (suc n) = xtimes (power_of_x n)
 
--- the element below n whose product with b is 1, or 0 where there is none
+-- 4.4: the element below n whose product with b is 1, or 0 where there is none
 abbrev pub inverse_below : ℕ → ℕ → ℕ
 inverse_below zero b = 0
 inverse_below (suc n) b = (if times b n == 1 then n else inverse_below n b)

@@ -23,12 +23,12 @@ temp_word i previous =
     (if i % 8 == 0 then add_words (sub_word (rot_word previous)) (rcon (i / 8))
     else (if i % 8 == 4 then sub_word previous else previous))
 
--- the first n words of the key
+-- 5.2: the first n words of the key
 abbrev pub key_words : List ℕ → ℕ → List (List ℕ)
 key_words key zero = []
 key_words key (suc n) = key_words key n ++ word_of (λ j. slice_index key (4 * n + j)) ∷ []
 
--- w[n + 8], from the words before it
+-- 5.2: w[n + 8], from the words before it
 abbrev pub next_word : List (List ℕ) → ℕ → List ℕ
 next_word w n = add_words (word_in w n) (temp_word (n + 8) (word_in w (n + 7)))
 
@@ -41,6 +41,6 @@ words_to key (suc n) = words_to key n ++ next_word (words_to key n) n ∷ []
 unfoldable pub key_expansion : List ℕ → List (List ℕ)
 key_expansion key = words_to key 52
 
--- the key that a key schedule begins with
+-- 5.2: the key that a key schedule begins with, as its first eight words
 abbrev pub key_of : List (List ℕ) → List ℕ
 key_of w = concat (take 8 w)

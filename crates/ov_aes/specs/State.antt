@@ -27,6 +27,6 @@ word_in w i = slice_index_or w i []
 abbrev pub column_in : List ℕ → ℕ → List ℕ
 column_in s c = word_of (λ r. byte_in s r c)
 
--- the sum of two words, byte by byte
+-- 5.2: the sum of two words, byte by byte
 abbrev pub add_words : List ℕ → List ℕ → List ℕ
 add_words a b = word_of (λ i. add (slice_index a i) (slice_index b i))

@@ -4,14 +4,14 @@ ghost use Rattle.std.specs.Prelude.{◌≡◌, ℕ, List};
 ghost use Rattle.ov_aes.specs.Aes.{aes256};
 ghost use Rattle.ov_aes.specs.KeyExpansion.{key_expansion, key_of};
 
-use crate::key_schedule::expand_key;
+use crate::key_schedule::{KeySchedule, expand_key};
 use crate::rounds::encrypt;
 use std::marker::Model;
 
 /// AES-256 under one key of 32 bytes (FIPS 197). A contract sees it as the key.
 #[derive(Drop)]
 pub struct Aes256 {
-    words: [[u8; 4]; 60],
+    words: KeySchedule,
 }
 
 impl Model for Aes256 {

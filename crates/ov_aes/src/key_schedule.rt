@@ -7,6 +7,9 @@ ghost use Rattle.ov_aes.specs.State.{add_words, word_of};
 
 use crate::sbox::sub_byte;
 
+/// The words of a key schedule: four for the start, and four for each of the 14 rounds.
+pub type KeySchedule = [[u8; 4]; 60];
+
 fn rot_word(a: [u8; 4]) -> [u8; 4]
     ensures { result ≡ rot_word a }
 {
@@ -64,7 +67,7 @@ fn key_word(key: &[u8; 32], n: usize) -> [u8; 4]
 }
 
 /// The 60 words of the key schedule (FIPS 197, 5.2).
-pub fn expand_key(key: &[u8; 32]) -> [[u8; 4]; 60]
+pub fn expand_key(key: &[u8; 32]) -> KeySchedule
     ensures { result ≡ key_expansion key.now }
 {
     let mut words = [[0u8; 4]; 60];

@@ -1,13 +1,16 @@
 //! The rounds of the cipher.
 
-ghost use Rattle.std.specs.Prelude.{◌≡◌, ◌<◌, ◌+◌, ◌*◌};
+ghost use Rattle.std.specs.Prelude.{◌≡◌, ◌≤◌};
 ghost use Rattle.ov_aes.specs.Cipher.{add_round_key, cipher, full_round, shift_rows, sub_bytes};
 
 use crate::columns::mixed_column;
+use crate::key_schedule::KeySchedule;
 use crate::sbox::sub_byte;
 
-fn add_round_key(s: [u8; 16], w: &[[u8; 4]; 60], round: usize) -> [u8; 16]
-    requires { round < 15 }
+const ROUNDS: usize = 14;
+
+fn add_round_key(s: [u8; 16], w: &KeySchedule, round: usize) -> [u8; 16]
+    requires { round ≤ ROUNDS }
     ensures { result ≡ add_round_key s w.now round }
 {
     let a = w[4 * round];
@@ -34,8 +37,8 @@ fn add_round_key(s: [u8; 16], w: &[[u8; 4]; 60], round: usize) -> [u8; 16]
     ]
 }
 
-fn full_round(s: [u8; 16], w: &[[u8; 4]; 60], round: usize) -> [u8; 16]
-    requires { round < 15 }
+fn full_round(s: [u8; 16], w: &KeySchedule, round: usize) -> [u8; 16]
+    requires { round ≤ ROUNDS }
     ensures { result ≡ full_round s w.now round }
 {
     let [a, b, c, d] = mixed_column(s[0], s[5], s[10], s[15], w[4 * round]);
@@ -69,13 +72,13 @@ fn sub_and_shift(s: [u8; 16]) -> [u8; 16]
 }
 
 /// The cipher of a block under a key schedule (FIPS 197, 5.1).
-pub fn encrypt(w: &[[u8; 4]; 60], input: &[u8; 16]) -> [u8; 16]
+pub fn encrypt(w: &KeySchedule, input: &[u8; 16]) -> [u8; 16]
     ensures { result ≡ cipher w.now input.now }
 {
     let mut s = add_round_key(*input, w, 0);
-    for n in 0..13usize {
-        let next = full_round(s, w, n + 1);
+    for round in 1..ROUNDS {
+        let next = full_round(s, w, round);
         s = next;
     }
-    add_round_key(sub_and_shift(s), w, 14)
+    add_round_key(sub_and_shift(s), w, ROUNDS)
 }

@@ -6,8 +6,6 @@ ghost use Rattle.ov_ctr.specs.Ctr.{counter_block, xor_pad};
 
 use ov_aes::Aes256;
 
-const BLOCK: usize = 16;
-
 fn counter_block(tag: u8, file: u32, number: u64) -> [u8; 16]
     ensures { result ≡ counter_block tag file number }
 {
@@ -44,7 +42,7 @@ pub fn apply_at(key: &[u8; 32], tag: u8, file: u32, start: u64, buf: &mut [u8])
     while done < buf.len() {
         let place = start + done as u64;
         let skip = (place % 16) as usize;
-        let count = (BLOCK - skip).min(buf.len() - done);
+        let count = (16 - skip).min(buf.len() - done);
         let counter = counter_block(tag, file, place / 16);
         apply_block(&aes, &counter, skip, &mut buf[done..done + count]);
         done += count;
