@@ -1,8 +1,8 @@
 //! The key schedule.
 
-ghost use Rattle.std.specs.Prelude.{ℕ, ◌≡◌, ◌<◌, ◌≤◌, ◌+◌, ◌*◌, slice_index, List, [], ◌∷◌};
+ghost use Rattle.std.specs.Prelude.{ℕ, ◌≡◌, ◌<◌, ◌≤◌, ◌+◌, ◌*◌, slice_index, take, List, [], ◌∷◌};
 ghost use Rattle.ov_aes.specs.Field.{power_of_x};
-ghost use Rattle.ov_aes.specs.KeyExpansion.{key_expansion, rot_word, sub_word, temp_word};
+ghost use Rattle.ov_aes.specs.KeyExpansion.{key_expansion, key_words, rot_word, sub_word, temp_word};
 ghost use Rattle.ov_aes.specs.State.{add_words, word_of};
 
 use crate::sbox::sub_byte;
@@ -66,16 +66,24 @@ fn key_word(key: &[u8; 32], n: usize) -> [u8; 4]
     [key[4 * n], key[4 * n + 1], key[4 * n + 2], key[4 * n + 3]]
 }
 
-/// The 60 words of the key schedule (FIPS 197, 5.2).
-pub fn expand_key(key: &[u8; 32]) -> KeySchedule
-    ensures { result ≡ key_expansion key.now }
+// The key's eight words, and 52 words of zeros.
+fn unexpanded(key: &[u8; 32]) -> KeySchedule
+    ensures { take 8 result ≡ key_words key.now 8 }
 {
     let mut words = [[0u8; 4]; 60];
     for n in 0..8usize {
         words[n] = key_word(key, n);
     }
-    for i in 0..52usize {
-        words[i + 8] = add_words(words[i], temp_word(i + 8, words[i + 7]));
+    words
+}
+
+/// The 60 words of the key schedule (FIPS 197, 5.2).
+pub fn expand_key(key: &[u8; 32]) -> KeySchedule
+    ensures { result ≡ key_expansion key.now }
+{
+    let mut words = unexpanded(key);
+    for i in 8..60usize {
+        words[i] = add_words(words[i - 8], temp_word(i, words[i - 1]));
     }
     words
 }
