@@ -1,8 +1,10 @@
 //! Values from another implementation, and calls that the vectors leave out.
 
+mod callers;
 mod vectors;
 
 use crate::apply_at;
+use callers::{apply_in_two, apply_twice};
 use vectors::PADS;
 
 const LONGEST: usize = 48;
@@ -56,17 +58,13 @@ fn a_whole_is_its_parts(rt: HostRuntime) {
     let mut whole = text();
     apply_at(&key, 1, 2, 0, &mut whole[..17]);
     let mut parts = text();
-    apply_at(&key, 1, 2, 0, &mut parts[..15]);
-    apply_at(&key, 1, 2, 15, &mut parts[15..17]);
+    apply_in_two(&key, 1, 2, 15, &mut parts[..17]);
     assert_eq!(rt; whole, parts);
 }
 
 #[test]
 fn the_pad_undoes_itself(rt: HostRuntime) {
-    let key = [9u8; 32];
     let mut bytes = text();
-    apply_at(&key, 1, 2, 3, &mut bytes);
-    assert_ne!(rt; bytes, text());
-    apply_at(&key, 1, 2, 3, &mut bytes);
+    apply_twice(&[9u8; 32], 1, 2, &mut bytes);
     assert_eq!(rt; bytes, text());
 }
