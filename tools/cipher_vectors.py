@@ -1,10 +1,11 @@
 #!/usr/bin/env python3
 """Writes the test vectors of the crates `ov_aes` and `ov_ctr`, computed by another implementation.
 
-The expected bytes come from Python's package `cryptography`, which calls OpenSSL: AES-256 in ECB mode
-for single blocks, and in CTR mode, whose counter is one big-endian number of 16 bytes, for pads. The
-first block is the example of FIPS 197, C.3, the next four are those of SP 800-38A, F.1.5, and the other
-inputs are SHA-256 digests of their own numbers, so each run writes the same files.
+The expected bytes come from Python's package `cryptography`, which calls OpenSSL: AES-256 in ECB
+mode for single blocks, and in CTR mode, whose counter is one big-endian number of 16 bytes, for
+pads. The first block is the example of FIPS 197, C.3, and the next four are those of SP 800-38A,
+F.1.5. Two more are of zeros and of ones, and the other inputs are SHA-256 digests of their own
+numbers, so each run writes the same files.
 
 Run it from the top of the repository, and then lay the files out:
 
@@ -76,7 +77,8 @@ def block(key, text):
 def pad(key, tag, file, start, length):
     first = bytes([tag, 0, 0, 0]) + file.to_bytes(4, "big") + (start // 16).to_bytes(8, "big")
     skip = start % 16
-    return Cipher(algorithms.AES(key), modes.CTR(first)).encryptor().update(bytes(skip + length))[skip:]
+    whole = Cipher(algorithms.AES(key), modes.CTR(first)).encryptor().update(bytes(skip + length))
+    return whole[skip:]
 
 
 def text(length):
@@ -85,7 +87,8 @@ def text(length):
 
 def write(path, header, struct, name, lines):
     with open(path, "w") as file:
-        file.write(f"//! {header}\n//! Written by `tools/cipher_vectors.py`, which says how.\n\n{struct}\n")
+        file.write(f"//! {header}\n//! Written by `tools/cipher_vectors.py`, which says how.\n\n")
+        file.write(f"{struct}\n")
         file.write(f"pub static {name}: [Vector; {len(lines)}] = [\n" + "".join(lines) + "];\n")
 
 

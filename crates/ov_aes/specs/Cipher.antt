@@ -10,7 +10,8 @@ bit_of b i = b / 2 ^ (i % 8) % 2
 -- 5.1.1: bit i of the affine map of b, with the constant c = 01100011
 abbrev pub affine_bit : ℕ → ℕ → ℕ
 affine_bit b i =
-    (bit_of b i + bit_of b (i + 4) + bit_of b (i + 5) + bit_of b (i + 6) + bit_of b (i + 7) + bit_of 0x63 i) % 2
+    (bit_of b i + bit_of b (i + 4) + bit_of b (i + 5) + bit_of b (i + 6) + bit_of b (i + 7)
+    + bit_of 0x63 i) % 2
 
 -- 5.1.1: the byte made of the lowest n bits of the affine map of b
 abbrev pub affine_lowest : ℕ → ℕ → ℕ
@@ -49,7 +50,8 @@ mix_columns s = state_of (λ r c. slice_index (mix_column (column_in s c)) r)
 
 -- 5.1.4: ADDROUNDKEY, with the four words of the key schedule w that belong to the round
 abbrev pub add_round_key : List ℕ → List (List ℕ) → ℕ → List ℕ
-add_round_key s w round = state_of (λ r c. add (byte_in s r c) (slice_index (word_in w (4 * round + c)) r))
+add_round_key s w round =
+    state_of (λ r c. add (byte_in s r c) (slice_index (word_in w (4 * round + c)) r))
 
 -- 5.1: one of the rounds 1 to 13
 unfoldable pub full_round : List ℕ → List (List ℕ) → ℕ → List ℕ

@@ -1,8 +1,8 @@
 //! A column of a round: SubBytes and MixColumns of it by one look-up a byte.
 //!
 //! The product of the fixed matrix with a column is the sum of four terms, one for each of the
-//! column's bytes. A term is four bytes in one `u32`, that of row 0 the lowest; those of the further
-//! rows are the term of row 0 turned, since each column of the matrix is the one before it turned.
+//! column's bytes. A term is four bytes in one `u32`, that of row 0 the lowest. The terms of the
+//! further rows are that of row 0 turned, as each column of the matrix is the one before it turned.
 
 ghost use Rattle.std.specs.Prelude.{◌≡◌, ◌∷◌, []};
 ghost use Rattle.std.specs.Int.{w32, to_le_bytes};
@@ -69,8 +69,8 @@ fn term_of_row_3(b: u8) -> u32
     TERMS[b as usize].rotate_left(24)
 }
 
-/// A column with the bytes `a` to `d` in the rows 0 to 3, after SubBytes, MixColumns and the addition
-/// of a word of the round key (FIPS 197, 5.1.1, 5.1.3 and 5.1.4).
+/// A column with the bytes `a` to `d` in the rows 0 to 3, after SubBytes, MixColumns and the
+/// addition of a word of the round key (FIPS 197, 5.1.1, 5.1.3 and 5.1.4).
 pub fn mixed_column(a: u8, b: u8, c: u8, d: u8, key: [u8; 4]) -> [u8; 4]
     ensures { result ≡ add_words (mix_column (sbox a ∷ sbox b ∷ sbox c ∷ sbox d ∷ [])) key }
 {

@@ -1,6 +1,6 @@
 //! The key schedule.
 
-ghost use Rattle.std.specs.Prelude.{ℕ, ◌≡◌, ◌<◌, ◌≤◌, ◌+◌, ◌*◌, slice_index, take, List, [], ◌∷◌};
+ghost use Rattle.std.specs.Prelude.{◌≡◌, ◌<◌, ◌≤◌, ◌+◌, ◌*◌, slice_index, take};
 ghost use Rattle.ov_aes.specs.Field.{power_of_x};
 ghost use Rattle.ov_aes.specs.KeyExpansion.{key_expansion, key_words, rot_word, sub_word, temp_word};
 ghost use Rattle.ov_aes.specs.State.{add_words, word_of};

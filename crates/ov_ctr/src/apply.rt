@@ -1,6 +1,6 @@
 //! The pad over a buffer, a block at a time.
 
-ghost use Rattle.std.specs.Prelude.{ℕ, ◌≡◌, ◌<◌, ◌≤◌, ◌+◌, ◌^◌, length, slice_index, bit_xor};
+ghost use Rattle.std.specs.Prelude.{ℕ, ◌≡◌, ◌<◌, ◌≤◌, ◌+◌, length, slice_index, bit_xor};
 ghost use Rattle.ov_aes.specs.Aes.{aes256};
 ghost use Rattle.ov_ctr.specs.Ctr.{counter_block, xor_pad};
 
@@ -29,8 +29,8 @@ fn apply_block(aes: &Aes256, counter: &[u8; 16], skip: usize, piece: &mut [u8])
 /// Adds the pad to the bytes of `buf`, by XOR; the same call takes it away again.
 ///
 /// The first byte of `buf` is at the place `start` of the file, in bytes from 0. The pad of a file
-/// (SP 800-38A, 6.5) is the cipher of its counter blocks, 16 bytes each: `tag`, three zero bytes, the
-/// number `file` and the block's number from 0, both with the highest byte first.
+/// (SP 800-38A, 6.5) is the cipher of its counter blocks, 16 bytes each: `tag`, three zero bytes,
+/// the number `file` in 4 bytes and the block's number from 0 in 8, the highest byte first.
 ///
 /// The key is expanded once a call, and each block of the pad that the bytes meet is computed once.
 pub fn apply_at(key: &[u8; 32], tag: u8, file: u32, start: u64, buf: &mut [u8])

@@ -1,5 +1,6 @@
-//! The laws of the pad, for the proofs of callers. The functions do nothing: a caller's proof reads the
-//! clause of the one that it calls, as in `tests/callers.rt`, or cites the lemma of `proofs/Pad.antt`.
+//! The laws of the pad, for the proofs of callers. The functions do nothing: a caller's proof reads
+//! the clause of the one that it calls, as in `tests/callers.rt`, or cites a lemma of
+//! `proofs/Pad.antt`.
 
 ghost use Rattle.ov_ctr.specs.Laws.{KeepsLength, TakesParts, UndoesItself};
 
