@@ -1,0 +1,4 @@
+pub mod Tables
+pub mod Words
+pub mod Schedule
+pub mod Examples

@@ -1,0 +1,5 @@
+pub mod Field
+pub mod State
+pub mod Cipher
+pub mod KeyExpansion
+pub mod Aes

@@ -1,0 +1,19 @@
+//! The block cipher AES-256 (FIPS 197), one block at a time, forwards only.
+//!
+//! Contract: for every key and every block, [`Aes256::block`] returns the standard's cipher of the
+//! block under the key. A contract sees an [`Aes256`] as its key.
+//!
+//! What this isn't: there is no claim of secrecy, of a mode of operation, or of constant time. The
+//! S-box is a table that secret bytes are looked up in, so the time of a call leaks through the
+//! processor's caches, and keys aren't wiped from memory.
+#![tactic(auto)]
+
+mod cipher;
+mod columns;
+mod key_schedule;
+mod rounds;
+mod sbox;
+#[cfg(test)]
+mod tests;
+
+pub use cipher::Aes256;

@@ -1,0 +1,18 @@
+//! Counter mode over AES-256 (SP 800-38A, 6.5): the pad of a file, over any part of it.
+//!
+//! Contract: [`apply_at`] replaces each byte by itself XOR the pad's byte at its place, where the
+//! pad is the cipher of the counter blocks of the file, and the first byte is at the place `start`.
+//!
+//! What this isn't: there is no claim of secrecy or of constant time, and nothing here finds a
+//! changed byte. A pad covers one text only: two texts under one key, tag and file number give away
+//! their difference. The cipher looks secret bytes up in tables, which leaks through the
+//! processor's caches.
+#![tactic(auto)]
+
+mod apply;
+mod laws;
+#[cfg(test)]
+mod tests;
+
+pub use apply::apply_at;
+pub use laws::{keeps_length, takes_parts, undoes_itself};
