@@ -13,6 +13,8 @@
 
 mod memory;
 mod outside;
+#[cfg(test)]
+mod tests;
 mod traits;
 
 pub use memory::{MemSink, MemSource};
