@@ -13,9 +13,10 @@ fn a_source_in_pieces(rt: HostRuntime) -> Result<(), Fail> {
     let mut source = MemSource::new(bytes, 2, Octets::copy(alloc, &[1])?);
     let mut buf = [0u8; 4];
     assert_eq!(rt; source.take(&mut buf), Ok(2));
+    assert_eq!(rt; buf, *b"he\0\0");
     assert!(rt; source.take(&mut buf).is_err());
     assert_eq!(rt; source.take(&mut buf), Ok(2));
-    assert_eq!(rt; buf.as_slice(), b"llhe".as_slice());
+    assert_eq!(rt; buf, *b"ll\0\0");
     Ok(())
 }
 
