@@ -2,7 +2,7 @@
 ghost use Rattle.std.specs.Prelude.{◌≡◌, ◌≤◌, ◌<◌, ◌↔◌, [], length, take, drop, Some, IsTrue, IsErr, IfOk, OnErr, Contains, min, ◌+◌, ◌-◌, ◌^◌};
 ghost use Rattle.std.specs.Io.{ReadsAtMost};
 ghost use Rattle.std.specs.Io.KnownBytes.{ReadConsumes};
-ghost use Rattle.ov_io.specs.Causes.{HasCause, Puts};
+ghost use Rattle.ov_io.specs.Causes.{HasCause, Counts, Puts};
 ghost use Rattle.ov_io.specs.Memory.{Reads, Writes, IsCall};
 
 use crate::{Fault, Sink, Source};
@@ -81,6 +81,7 @@ impl Source for MemSource {
     fn take(&mut self, buf: &mut [u8]) -> Result<usize, Fault>
         ensures bound { ReadsAtMost result buf.new }
         ensures bytes { ReadConsumes (Some self.old.left) (Some self.new.left) result buf.new }
+        ensures counted { Counts self.old.faults self.new.faults result }
         ensures cause { HasCause self.old.faults self.new.faults result }
         ensures call { IsCall self.old self.new }
         ensures fails { IsErr result ↔ Contains self.old.fails self.old.calls }
@@ -150,6 +151,7 @@ impl Sink for MemSink {
 
     fn put(&mut self, bytes: &[u8]) -> Result<(), Fault>
         ensures bytes { Puts (Some self.old.written) (Some self.new.written) result bytes.now }
+        ensures counted { Counts self.old.faults self.new.faults result }
         ensures cause { HasCause self.old.faults self.new.faults result }
         ensures call { (self.new.fails ≡ self.old.fails) × (self.new.calls ≡ min (self.old.calls + 1) (2 ^ 64 - 1)) }
         ensures fails { Contains self.old.fails self.old.calls → IsErr result }

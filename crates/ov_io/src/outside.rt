@@ -1,7 +1,9 @@
 //! Sources and sinks over std's readers and writers. Over the system's own, what these really give and take is
 //! trusted.
 ghost use Rattle.std.specs.Prelude.{◌≡◌, ◌≤◌, length, take};
-ghost use Rattle.std.specs.Io.KnownBytes.{Appends};
+ghost use Rattle.std.specs.Io.{ReadsAtMost};
+ghost use Rattle.std.specs.Io.KnownBytes.{Appends, ReadConsumes};
+ghost use Rattle.ov_io.specs.Causes.{HasCause, Counts, Puts};
 
 use crate::{Fault, Sink, Source};
 use std::io::{Read, Write};
@@ -29,7 +31,12 @@ impl<R: Read> Source for StdSource<R> {
 
     ghost borrow = { λ _. 0 };
 
-    fn take(&mut self, buf: &mut [u8]) -> Result<usize, Fault> {
+    fn take(&mut self, buf: &mut [u8]) -> Result<usize, Fault>
+        ensures bound { ReadsAtMost result buf.new }
+        ensures bytes { ReadConsumes (R.remaining self.old.reader) (R.remaining self.new.reader) result buf.new }
+        ensures cause { HasCause self.old.faults self.new.faults result }
+        ensures counted { Counts self.old.faults self.new.faults result }
+    {
         match self.reader.read(buf) {
             Ok(count) => Ok(count),
             Err(_) => {
@@ -75,7 +82,11 @@ impl<W: Write> Sink for StdSink<W> {
 
     ghost borrow = { λ _. 0 };
 
-    fn put(&mut self, bytes: &[u8]) -> Result<(), Fault> {
+    fn put(&mut self, bytes: &[u8]) -> Result<(), Fault>
+        ensures bytes { Puts (W.contents self.old.writer) (W.contents self.new.writer) result bytes.now }
+        ensures cause { HasCause self.old.faults self.new.faults result }
+        ensures counted { Counts self.old.faults self.new.faults result }
+    {
         let mut rest = bytes;
         'parts: while !rest.is_empty() {
             let count = write_some(&mut self.writer, rest);

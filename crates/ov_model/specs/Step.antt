@@ -1,5 +1,5 @@
 -- One step of the access-matrix machine.
-use Rattle.std.specs.Prelude.{ℕ, ◌+◌, Bool, true, false, nat_le, List, [], ◌∷◌, length, Option, Some, None}
+use Rattle.std.specs.Prelude.{◌≡◌, ℕ, ◌+◌, Bool, true, false, nat_le, List, [], ◌∷◌, length, Option, Some, None}
 use Rattle.std.specs.List.{list_any}
 use Rattle.std.specs.Str.{bytes_eq}
 use Rattle.ov_base.specs.declared.refusal.Refusal.{Refusal}
@@ -50,3 +50,12 @@ after h command = (step h command).1
 abbrev pub after_all : History → List Command → History
 after_all h [] = h
 after_all h (command ∷ commands) = after_all (after h command) commands
+
+-- no update of these is refused at its place
+abbrev pub AllAccepted : History → List Update → Type 0
+AllAccepted h [] = Unit {0}
+AllAccepted h (u ∷ updates) = (refusal_of h u ≡ None) × AllAccepted (with_update h u) updates
+
+-- a history in which no update is refused at its place
+abbrev pub IsLegal : History → Type 0
+IsLegal h = AllAccepted (record h { updates = [] }) h.updates

@@ -19,7 +19,7 @@ use Rattle.ov_script.proofs.Readings.{front_kept}
 CanBegin-front : (xs ys : List ℕ) → CanBegin (xs ++ ys) → CanBegin xs
 CanBegin-front xs ys (more, b) = (ys ++ more, subst BeginsWithItem (append_assoc xs ys more) b)
 
-begins_can : (text : List ℕ) → BeginsWithItem text → CanBegin text
+pub begins_can : (text : List ℕ) → BeginsWithItem text → CanBegin text
 begins_can text b = ([], subst BeginsWithItem (sym (append-nil text)) b)
 
 nothing_can : (text : List ℕ) → length text ≡ 0 → CanBegin text

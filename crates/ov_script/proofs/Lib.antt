@@ -1,8 +1,10 @@
 mod Beginning
 mod Bytes
+mod Deciding
 mod Fronts
 pub mod Grammar
 mod LineFeeds
 pub mod Readings
 mod Sayings
+mod ShortScripts
 mod Taking

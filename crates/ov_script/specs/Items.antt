@@ -4,6 +4,10 @@ use Rattle.ov_base.specs.Names.{IsName}
 use Rattle.ov_script.specs.declared.command.Command.{Command}
 use Rattle.ov_script.specs.declared.command.Command.TheVariants.{Enrol}
 
+-- no item has a line of more bytes than this, its LF included
+abbrev pub longest_line : ℕ
+longest_line = 20000
+
 -- These bytes are one item, which says this command: words separated by one space, and LF at the end.
 abbrev pub IsItem : List ℕ → Command → Type 0
 IsItem bytes (Enrol user) = IsName user × (bytes ≡ codes "enrol " ++ user ++ 10 ∷ [])

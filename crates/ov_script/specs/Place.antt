@@ -1,6 +1,7 @@
 -- Where the reading of a script stands.
-use Rattle.std.specs.Prelude.{ℕ, List, Option, None, Some, Result, Ok, Err}
+use Rattle.std.specs.Prelude.{ℕ, List, [], Option, None, Some, Result, Ok, Err}
 use Rattle.std.specs.Io.KnownBytes.{prepend_known}
+use Rattle.ov_script.specs.Reading.{limit}
 use Rattle.ov_script.specs.declared.next.Next.{Next}
 use Rattle.ov_script.specs.declared.next.Next.TheVariants.{Command, End, BadLine, Long}
 use Rattle.ov_script.specs.declared.next.ScriptFault.{ScriptFault}
@@ -15,6 +16,10 @@ pub record Place (S : Type 0) : Type 0 where
   pub line : ℕ
   pub room : ℕ
   pub ended : Option (Result Next ScriptFault)
+
+-- the start of a script, of which nothing was taken yet
+abbrev pub start : {S : Type 0} → S → Place S
+start source = record { source = source; pending = []; line = 1; room = limit; ended = None }
 
 -- what is still to be read, where the source tells it
 abbrev pub text_left : {S : Type 0} → (S → Option (List ℕ)) → Place S → Option (List ℕ)

@@ -1,8 +1,9 @@
 -- What one call of `next` says of the text.
-use Rattle.std.specs.Prelude.{◌≡◌, ℕ, ◌+◌, ◌-◌, ◌≤◌, List, [], length, Option, Some, ⊤}
+use Rattle.std.specs.Prelude.{◌≡◌, ℕ, ◌+◌, ◌-◌, ◌≤◌, List, [], length, Option, Some, IfSome, ⊤}
 use Rattle.std.specs.Io.KnownBytes.{Consumes}
 use Rattle.ov_script.specs.Items.{IsItem}
 use Rattle.ov_script.specs.LineFeeds.{lf_count}
+use Rattle.ov_script.specs.Place.{Place, text_left}
 use Rattle.ov_script.specs.Reading.{IsBad, IsTooLong}
 use Rattle.ov_script.specs.declared.next.Next.{Next}
 use Rattle.ov_script.specs.declared.next.Next.TheVariants.{Command, End, BadLine, Long}
@@ -23,3 +24,8 @@ IfCommand (Command command) P = P
 IfCommand End P = ⊤
 IfCommand (BadLine n) P = ⊤
 IfCommand Long P = ⊤
+
+-- what `next` says of what was still to be read, where the source tells it
+abbrev pub SaysOf : {S : Type 0} → (S → Option (List ℕ)) → Place S → Next → Place S → Type 0
+SaysOf left old next new =
+    IfSome (text_left left old) (λ text. Says old.line old.room text next new.line new.room (text_left left new))

@@ -2,7 +2,7 @@
 ghost use Rattle.std.specs.Prelude.{codes, ℕ, List, ◌≡◌, ◌++◌, [], ◌∷◌, ◌<◌, length, IfSome, IfNone, IsTrue};
 ghost use Rattle.std.specs.Bool.{IsFalse};
 ghost use Rattle.ov_script.specs.LineFeeds.{NoLf};
-ghost use Rattle.ov_script.specs.Items.{IsItem, CanBegin};
+ghost use Rattle.ov_script.specs.Items.{IsItem, CanBegin, longest_line};
 ghost use Rattle.ov_script.specs.declared.command.Command.{Command};
 
 use ov_base::Name;
@@ -52,7 +52,7 @@ pub fn may_begin(bytes: &[u8]) -> bool
     requires { NoLf bytes.now }
     ensures can { IsTrue result → CanBegin bytes.now }
     ensures never { IsFalse result → CanBegin bytes.now → ⊥ }
-    ensures short { IsTrue result → length bytes.now < 20000 }
+    ensures short { IsTrue result → length bytes.now < longest_line }
 {
     match user_of(bytes) {
         Some(user) => user.is_empty() || Name::read(user).is_some(),

@@ -9,7 +9,7 @@ use ov_io::{Fault, Source};
 use std::alloc::Global;
 use std::marker::Model;
 
-// More than the longest line of an item.
+// More than the longest line of an item, so that there is always room for the rest of a line.
 const CAPACITY: usize = 32_768;
 
 /// A source with the bytes that were taken from it and not yet used.

@@ -4,6 +4,7 @@ ghost use Rattle.std.specs.Io.KnownBytes.{IsAtEnd};
 ghost use Rattle.ov_io.specs.Causes.{HasCause};
 ghost use Rattle.ov_script.specs.Feed.{Takes};
 ghost use Rattle.ov_script.specs.Finding.{Finds, IsUnsettled, TakesWhatItNeeds};
+ghost use Rattle.ov_script.specs.Items.{longest_line};
 ghost use Rattle.ov_script.specs.LineFeeds.{NoLf};
 
 use crate::command::{Command, command_of, may_begin};
@@ -79,7 +80,7 @@ fn settled(bytes: &[u8], seen: usize, room: usize) -> Option<Found>
     ensures found { IfSome result (λ found. (left : Option (List ℕ)) → Finds room bytes.now left found) }
     ensures none { IfNone result (IsUnsettled room bytes.now) }
     ensures no_lf { IfNone result (NoLf bytes.now) }
-    ensures short { IfNone result (length bytes.now < 20000) }
+    ensures short { IfNone result (length bytes.now < longest_line) }
 {
     match first_lf(bytes, seen) {
         Some(end) => {
@@ -99,6 +100,13 @@ fn settled(bytes: &[u8], seen: usize, room: usize) -> Option<Found>
             }
         }
     }
+}
+
+// What stands at the front where the text ends inside an item, or at once.
+fn at_end(count: usize) -> Found
+    ensures { (room : ℕ) (bytes : List ℕ) (left : Option (List ℕ)) → length bytes ≡ count → IsUnsettled room bytes → IsAtEnd left → Finds room bytes left result }
+{
+    if count == 0 { Found::End } else { Found::Bad }
 }
 
 /// Takes bytes until it is known what stands at the front of the text, of which `room` bytes may be read.
@@ -124,11 +132,4 @@ pub fn find<S: Source + Drop>(feed: &mut Feed<S>, room: usize) -> Result<Found, 
             }
         }
     }
-}
-
-// What stands at the front where the text ends inside an item, or at once.
-fn at_end(count: usize) -> Found
-    ensures { (room : ℕ) (bytes : List ℕ) (left : Option (List ℕ)) → length bytes ≡ count → IsUnsettled room bytes → IsAtEnd left → Finds room bytes left result }
-{
-    if count == 0 { Found::End } else { Found::Bad }
 }

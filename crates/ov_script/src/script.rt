@@ -3,8 +3,8 @@ ghost use Rattle.std.specs.Prelude.{◌≡◌, ◌⊎◌, ◌+◌, ◌<◌, ◌�
 ghost use Rattle.std.specs.Option.{option_map};
 ghost use Rattle.ov_io.specs.Causes.{Rose};
 ghost use Rattle.ov_script.specs.Finding.{TakesWhatItNeeds};
-ghost use Rattle.ov_script.specs.Saying.{Says, IfCommand};
-ghost use Rattle.ov_script.specs.Place.{Place, text_left, answer_of, ends_with};
+ghost use Rattle.ov_script.specs.Saying.{SaysOf, IfCommand};
+ghost use Rattle.ov_script.specs.Place.{Place, start, answer_of, ends_with};
 
 use crate::feed::Feed;
 use crate::find::{Found, find};
@@ -42,7 +42,7 @@ impl<S> Model for Script<S> {
 impl<S: Source + Drop> Script<S> {
     /// A script that begins with what this source has left.
     pub fn new(alloc: Global, source: S) -> Result<Script<S>, Memory>
-        ensures { IfOk result (λ script. script ≡ record { source = source; pending = []; line = 1; room = 268435456; ended = None }) }
+        ensures { IfOk result (λ script. script ≡ start source) }
     {
         Ok(Script {
             feed: Feed::new(alloc, source)?,
@@ -67,8 +67,7 @@ impl<S: Source + Drop> Script<S> {
 
     /// The next item, or how the reading ended. From then on each call answers the same and reads nothing.
     pub fn next(&mut self) -> Result<Next, ScriptFault>
-        ensures says { self.old.ended ≡ None → IfOk result (λ next. IfSome (text_left S.left self.old)
-            (λ text. Says self.old.line self.old.room text next self.new.line self.new.room (text_left S.left self.new))) }
+        ensures says { self.old.ended ≡ None → IfOk result (λ next. SaysOf S.left self.old next self.new) }
         ensures needed { TakesWhatItNeeds S.left self.old.room self.old.pending self.old.source self.new.source }
         ensures ended { self.old.ended ≡ None → self.new.ended ≡ ends_with result }
         ensures again { IfSome self.old.ended (λ answer. (result ≡ answer) × (self.new ≡ self.old)) }
@@ -89,8 +88,7 @@ impl<S: Source + Drop> Script<S> {
 
     // The next item, where the reading has not ended.
     fn item(&mut self) -> Result<Next, ScriptFault>
-        ensures says { IfOk result (λ next. IfSome (text_left S.left self.old)
-            (λ text. Says self.old.line self.old.room text next self.new.line self.new.room (text_left S.left self.new))) }
+        ensures says { IfOk result (λ next. SaysOf S.left self.old next self.new) }
         ensures needed { TakesWhatItNeeds S.left self.old.room self.old.pending self.old.source self.new.source }
         ensures progress { IfOk result (λ next. IfCommand next (self.new.room < self.old.room)) }
         ensures same { S.borrow self.new.source ≡ S.borrow self.old.source }

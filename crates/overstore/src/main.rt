@@ -24,8 +24,9 @@ mod tests;
 use ov_io::{StdSink, StdSource};
 use run::run;
 use status::Status;
+use std::env;
+use std::io::{self, ErrorKind};
 use std::process::ExitCode;
-use std::{env, io};
 
 const HELP: &str = "\
 Usage: overstore run full < SCRIPT
@@ -41,7 +42,7 @@ answered to its end. Exit status: 0 answered, 2 words not known, 3 bad line,
 
 const VERSION: &str = "overstore 0.1.0\n";
 
-// The words behind the program's name. Where one is no UTF-8 there are none, which is no known command line.
+// The words behind the program's name.
 fn words_of(rt: &HostRuntime) -> io::Result<Vec<String>> {
     let mut words = Vec::new(rt.alloc());
     for word in env::args(rt)?.skip(1) {
@@ -76,12 +77,9 @@ fn explain(rt: &HostRuntime, code: u8) {
     }
 }
 
-fn main(rt: HostRuntime) -> ExitCode {
-    let words = match words_of(&rt) {
-        Ok(words) => words,
-        Err(_) => Vec::new(rt.alloc()),
-    };
-    let code = match told_by(&words) {
+// Answers `--help` and `--version`, and calls `run` with all other words.
+fn answer_words(rt: &HostRuntime, words: &[String]) -> u8 {
+    match told_by(words) {
         Some(text) => match rt.print(text) {
             Ok(()) => Status::Done.code(),
             Err(_) => Status::WriteFault.code(),
@@ -89,8 +87,17 @@ fn main(rt: HostRuntime) -> ExitCode {
         None => {
             let mut input = StdSource::new(rt.stdin());
             let mut out = StdSink::new(rt.stdout());
-            run(rt.alloc(), &words, &mut input, &mut out)
+            run(rt.alloc(), words, &mut input, &mut out)
         }
+    }
+}
+
+fn main(rt: HostRuntime) -> ExitCode {
+    let code = match words_of(&rt) {
+        Ok(words) => answer_words(&rt, &words),
+        Err(error) if error.kind() == ErrorKind::OutOfMemory => Status::OutOfMemory.code(),
+        // A word that is no UTF-8 is no known word.
+        Err(_) => answer_words(&rt, &[]),
     };
     explain(&rt, code);
     ExitCode::from(code)

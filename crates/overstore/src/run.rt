@@ -47,8 +47,8 @@ fn answer_script<I: Source, O: Sink>(alloc: Global, input: &mut I, out: &mut O) 
 
 /// Answers the script of `input` on `out`, and gives the exit status.
 ///
-/// Each reply line is put by itself, before the next command is read. The clauses on what is printed and on the
-/// script hold where the source or the sink tells its bytes; those on the counts of faults hold always.
+/// The clauses on what is printed and on the script hold where the source and the sink tell their bytes; those on
+/// the counts of faults hold always. Each reply line is put by itself, before the next command is read.
 pub fn run<I: Source, O: Sink>(alloc: Global, words: &[String], input: &mut I, out: &mut O) -> u8
     // The lines of the access-matrix machine to the whole script and the end line, and nothing else.
     ensures done { result ≡ 0 → IfSome (I.left input.old) (λ text. Prints text (Answered AtEnd) (O.written out.old) (O.written out.new)) }
@@ -63,6 +63,8 @@ pub fn run<I: Source, O: Sink>(alloc: Global, words: &[String], input: &mut I, o
     // Other words are refused before the script is read.
     ensures usage { result ≡ 2 → (IsRunFull words.now → ⊥) × Appends (O.written out.old) (O.written out.new) usage_line }
     ensures other_words { (IsRunFull words.now → ⊥) → EndsIn usage_line 2 (O.written out.old) (O.written out.new) result }
+
+    ensures unread { (IsRunFull words.now → ⊥) → input.new ≡ input.old }
 
     // A failed read or write is answered only where the count of faults rose.
     ensures read_cause { result ≡ 5 → Rose (I.faults input.old) (I.faults input.new) }

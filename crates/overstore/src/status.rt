@@ -1,5 +1,6 @@
 //! The exit statuses.
-ghost use Rattle.std.specs.Prelude.{◌≡◌, IfSome};
+ghost use Rattle.std.specs.Prelude.{◌≡◌, IfSome, Some};
+ghost use Rattle.overstore.specs.declared.status.Status.{Status};
 ghost use Rattle.overstore.specs.Status.{status_code};
 
 /// How a run ended.
@@ -39,7 +40,8 @@ impl Status {
 
     /// The status of this number.
     pub fn from_code(code: u8) -> Option<Status>
-        ensures { IfSome result (λ status. status_code status ≡ code) }
+        ensures found { (status : Status) → code ≡ status_code status → result ≡ Some status }
+        ensures only { IfSome result (λ status. status_code status ≡ code) }
     {
         match code {
             0 => Some(Status::Done),
