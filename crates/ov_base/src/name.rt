@@ -14,7 +14,8 @@ use std::marker::Model;
 
 const MAX_LEN: usize = 64;
 
-/// A name: 1 to 64 bytes of `a-z`, `0-9`, `.`, `_` and `-`, of which the first is a letter or a digit.
+/// A name: 1 to 64 bytes of `a-z`, `0-9`, `.`, `_` and `-`, of which the first is a letter or a
+/// digit.
 ///
 /// It is kept in place, so making, copying and reading one takes no memory.
 #[derive(Drop)]

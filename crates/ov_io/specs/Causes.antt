@@ -2,8 +2,9 @@
 use Rattle.std.specs.Prelude.{◌≡◌, ℕ, ◌+◌, ◌-◌, ◌^◌, ◌≤◌, List, take, Option, Result, OnErr, MatchResult, min}
 use Rattle.std.specs.Io.KnownBytes.{Appends}
 
--- A count rose. One that stands at its last value can't, and is then said to have risen. A sum of counts rises
--- where one of them does, and one that stands at this value or above is said to have risen too.
+-- A count rose. One that stands at its last value can't, and is then said to have risen. A sum of
+-- counts rises where one of them does, and one that stands at this value or above is said to have
+-- risen too.
 abbrev pub Rose : ℕ → ℕ → Type 0
 Rose before now = min (before + 1) (2 ^ 64 - 1) ≤ now
 
@@ -18,4 +19,5 @@ Counts before now result = MatchResult result (λ _. now ≡ before) (λ _. now 
 
 -- at Ok all the bytes were appended, at Err a front of them
 abbrev pub Puts : {E : Type 0} → Option (List ℕ) → Option (List ℕ) → Result Unit E → List ℕ → Type 0
-Puts old new result bytes = MatchResult result (λ _. Appends old new bytes) (λ _. (n : ℕ) × Appends old new (take n bytes))
+Puts old new result bytes =
+    MatchResult result (λ _. Appends old new bytes) (λ _. (n : ℕ) × Appends old new (take n bytes))

@@ -1,8 +1,8 @@
 -- A source and a sink in memory.
 use Rattle.std.specs.Prelude.{◌≡◌, ℕ, ◌+◌, ◌-◌, ◌^◌, List, min}
 
--- what is left of a source's bytes, how many of them a call gives at most, the numbers of the calls that
--- fail, how many calls there were, and how many of them failed
+-- what is left of a source's bytes, how many of them a call gives at most, the numbers of the calls
+-- that fail, how many calls there were, and how many of them failed
 pub record Reads : Type 0 where
   pub left : List ℕ
   pub piece : ℕ
@@ -10,7 +10,8 @@ pub record Reads : Type 0 where
   pub calls : ℕ
   pub faults : ℕ
 
--- what was put to a sink, the numbers of the calls that fail, how many calls there were, and how many failed
+-- what was put to a sink, the numbers of the calls that fail, how many calls there were, and how
+-- many failed
 pub record Writes : Type 0 where
   pub written : List ℕ
   pub fails : List ℕ

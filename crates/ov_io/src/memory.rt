@@ -54,8 +54,8 @@ fn give(from: &[u8], to: &mut [u8], most: usize) -> usize
 }
 
 impl MemSource {
-    /// A source of these bytes, which gives at most `piece` of them in a call and fails exactly the calls
-    /// whose numbers, from 0 and below 256, are in `fails`.
+    /// A source of these bytes, which gives at most `piece` of them in a call and fails exactly the
+    /// calls whose numbers, from 0 and below 256, are in `fails`.
     pub fn new(bytes: Octets, piece: usize, fails: Octets) -> MemSource
         requires { 0 < piece }
         ensures { result ≡ record { left = bytes; piece = piece; fails = fails; calls = 0; faults = 0 } }
@@ -85,7 +85,8 @@ impl Source for MemSource {
         ensures cause { HasCause self.old.faults self.new.faults result }
         ensures call { IsCall self.old self.new }
         ensures fails { IsErr result ↔ Contains self.old.fails self.old.calls }
-        ensures count { IfOk result (λ n. n ≡ min (min (length self.old.left) (length buf.old)) self.old.piece) }
+        ensures count { IfOk result (λ n.
+            n ≡ min (min (length self.old.left) (length buf.old)) self.old.piece) }
     {
         let call = self.calls;
         self.calls = call.saturating_add(1);
@@ -121,8 +122,8 @@ impl Model for MemSink {
 }
 
 impl MemSink {
-    /// A sink that was given nothing yet. It fails the calls whose numbers, from 0 and below 256, are in
-    /// `fails`, and besides where memory refuses a growth, which counts as a fault.
+    /// A sink that was given nothing yet. It fails the calls whose numbers, from 0 and below 256,
+    /// are in `fails`, and besides where memory refuses a growth, which counts as a fault.
     pub fn new(alloc: Global, fails: Octets) -> MemSink
         ensures { result ≡ record { written = []; fails = fails; calls = 0; faults = 0 } }
     {
@@ -153,7 +154,8 @@ impl Sink for MemSink {
         ensures bytes { Puts (Some self.old.written) (Some self.new.written) result bytes.now }
         ensures counted { Counts self.old.faults self.new.faults result }
         ensures cause { HasCause self.old.faults self.new.faults result }
-        ensures call { (self.new.fails ≡ self.old.fails) × (self.new.calls ≡ min (self.old.calls + 1) (2 ^ 64 - 1)) }
+        ensures call { (self.new.fails ≡ self.old.fails)
+            × (self.new.calls ≡ min (self.old.calls + 1) (2 ^ 64 - 1)) }
         ensures fails { Contains self.old.fails self.old.calls → IsErr result }
         ensures kept { OnErr result (self.new.written ≡ self.old.written) }
     {

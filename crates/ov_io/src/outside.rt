@@ -1,5 +1,5 @@
-//! Sources and sinks over std's readers and writers. Over the system's own, what these really give and take is
-//! trusted.
+//! Sources and sinks over std's readers and writers. Over the system's own, what these really give
+//! and take is trusted.
 ghost use Rattle.std.specs.Prelude.{◌≡◌, ◌≤◌, length, take};
 ghost use Rattle.std.specs.Io.{ReadsAtMost};
 ghost use Rattle.std.specs.Io.KnownBytes.{Appends, ReadConsumes};
@@ -47,8 +47,8 @@ impl<R: Read> Source for StdSource<R> {
     }
 }
 
-/// Any writer of std. An error of the writer, an interruption included, and a write that takes nothing are
-/// faults.
+/// Any writer of std. An error of the writer, an interruption included, and a write that takes
+/// nothing are faults.
 #[derive(Drop)]
 pub struct StdSink<W: Write> {
     writer: W,

@@ -16,11 +16,12 @@ pub trait Source {
     /// How often it has failed; the count stands still at 18,446,744,073,709,551,615.
     ghost faults: { Self → ℕ };
 
-    /// Which loan it is, for a source that is itself behind a `&mut`, and 0 for any other. Each call keeps it.
+    /// Which loan it is, for a source that is itself behind a `&mut`, and 0 for any other. Each
+    /// call keeps it.
     ghost borrow: { Self → ℕ };
 
-    /// Takes the next bytes into the front of `buf`, and answers how many: none only at the end of the input
-    /// or where `buf` is empty. After a fault nothing was taken.
+    /// Takes the next bytes into the front of `buf`, and answers how many: none only at the end of
+    /// the input or where `buf` is empty. After a fault nothing was taken.
     fn take(&mut self, buf: &mut [u8]) -> Result<usize, Fault>
         ensures bound { ReadsAtMost result buf.new }
         ensures bytes { ReadConsumes (left self.old) (left self.new) result buf.new }
@@ -36,7 +37,8 @@ pub trait Sink {
     /// How often it has failed; the count stands still at 18,446,744,073,709,551,615.
     ghost faults: { Self → ℕ };
 
-    /// Which loan it is, for a sink that is itself behind a `&mut`, and 0 for any other. Each call keeps it.
+    /// Which loan it is, for a sink that is itself behind a `&mut`, and 0 for any other. Each call
+    /// keeps it.
     ghost borrow: { Self → ℕ };
 
     /// Appends all the bytes. After a fault some front of them was appended.

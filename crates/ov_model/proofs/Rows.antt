@@ -1,8 +1,7 @@
 -- The definitions, computed on short scripts.
-use Rattle.std.proofs.Common.{◌≡◌, ℕ, List, [], ◌∷◌, ◌++◌, refl}
+use Rattle.std.proofs.Common.{◌≡◌, [], ◌∷◌, ◌++◌, refl}
 use Rattle.std.specs.Prelude.{codes}
 use Rattle.std.specs.Fmt.{digits}
-use Rattle.ov_script.specs.declared.command.Command.{Command}
 use Rattle.ov_script.specs.declared.command.Command.TheVariants.{Enrol}
 use Rattle.ov_model.specs.History.{empty, epoch_of}
 use Rattle.ov_model.specs.Lines.{lines}

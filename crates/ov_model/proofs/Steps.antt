@@ -1,12 +1,11 @@
 -- Laws of one step.
-use Rattle.std.proofs.Common.{◌≡◌, ℕ, ◌+◌, List, [], ◌∷◌, ◌++◌, length, refl, sym, ◌∙◌, ap, length-append, arith, Option, Some, None}
+use Rattle.std.proofs.Common.{◌≡◌, ℕ, ◌+◌, List, [], ◌∷◌, ◌++◌, length, refl, sym, ◌∙◌, length-append, arith, Option, Some, None}
 use Rattle.ov_base.specs.declared.refusal.Refusal.{Refusal}
 use Rattle.ov_script.specs.declared.command.Command.{Command}
 use Rattle.ov_script.specs.declared.command.Command.TheVariants.{Enrol}
-use Rattle.ov_script.specs.declared.reply.Reply.{Reply}
 use Rattle.ov_script.specs.declared.reply.Reply.TheVariants.{Accepted, Refused}
 use Rattle.ov_model.specs.History.{Update, Enrolled, History, Matrix, changed, changed_all, epoch_of, with_update}
-use Rattle.ov_model.specs.Step.{update_step, refusal_of, step, reply_to, after}
+use Rattle.ov_model.specs.Step.{update_step, refusal_of, reply_to, after}
 
 -- the matrix after one more update
 pub changed_all-more : (m : Matrix) (updates : List Update) (u : Update) → changed_all m (updates ++ u ∷ []) ≡ changed (changed_all m updates) u

@@ -31,7 +31,8 @@ tests_of m (Enrolled user) = (Taken, is_user m user) ∷ (UsersFull, nat_le 256 
 abbrev pub refusal_of : History → Update → Option Refusal
 refusal_of h u = first_of_tests (tests_of (matrix_of h) u)
 
--- An update that is refused leaves the history; one that isn't is appended, and the reply is the new epoch.
+-- An update that is refused leaves the history; one that isn't is appended, and the reply is the
+-- new epoch.
 abbrev pub update_step : History → Update → Option Refusal → Reply × History
 update_step h u None = (Accepted (epoch_of h + 1), with_update h u)
 update_step h u (Some why) = (Refused why, h)

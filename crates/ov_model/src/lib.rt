@@ -1,9 +1,9 @@
 //! The access-matrix machine: what the store promises, with no store in sight.
 //!
-//! This crate has definitions and laws, and no code. `specs/History` says what a history of updates is and the
-//! matrix that it makes; `specs/Step` gives, for a history and a command, the reply and the history after it;
-//! `specs/Lines` puts the reply lines of a list of commands one behind the other. The contract of the program's
-//! `run` is stated in these words.
+//! This crate has definitions and laws, and no code. `specs/History` says what a history of updates
+//! is and the matrix that it makes; `specs/Step` gives, for a history and a command, the reply and
+//! the history after it; `specs/Lines` puts the reply lines of a list of commands one behind the
+//! other. The contract of the program's `run` is stated in these words.
 //!
 //! A law stands as a public function with an empty body, whose contract is the law.
 #![tactic(auto)]
@@ -17,7 +17,8 @@ ghost use Rattle.ov_model.specs.Step.{reply_to, after};
 
 /// A command that is refused changes nothing.
 pub fn a_refusal_changes_nothing()
-    ensures { (h : History) (command : Command) (why : Refusal) → reply_to h command ≡ Refused why → after h command ≡ h }
+    ensures { (h : History) (command : Command) (why : Refusal)
+        → reply_to h command ≡ Refused why → after h command ≡ h }
 {}
 
 /// An update that is accepted raises the epoch by one, and the reply is the new epoch.

@@ -6,7 +6,8 @@ pub record Fed (S : Type 0) : Type 0 where
   pub source : S
   pub pending : List ℕ
 
--- what is still to be read: the pending bytes, and then what the source has left, where it tells that
+-- what is still to be read: the pending bytes, and then what the source has left, where it tells
+-- that
 abbrev pub text_of : {S : Type 0} → (S → Option (List ℕ)) → Fed S → Option (List ℕ)
 text_of left feed = prepend_known feed.pending (left feed.source)
 

@@ -8,7 +8,8 @@ use Rattle.ov_script.specs.declared.command.Command.TheVariants.{Enrol}
 abbrev pub longest_line : ℕ
 longest_line = 20000
 
--- These bytes are one item, which says this command: words separated by one space, and LF at the end.
+-- These bytes are one item, which says this command: words separated by one space, and LF at the
+-- end.
 abbrev pub IsItem : List ℕ → Command → Type 0
 IsItem bytes (Enrol user) = IsName user × (bytes ≡ codes "enrol " ++ user ++ 10 ∷ [])
 

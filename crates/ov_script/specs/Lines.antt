@@ -8,5 +8,6 @@ use Rattle.ov_script.specs.declared.reply.Reply.TheVariants.{Accepted, Refused, 
 -- the line of a reply, with its LF
 abbrev pub reply_line : Reply → List ℕ
 reply_line (Accepted epoch) = codes "ok " ++ decimal epoch ++ 10 ∷ []
-reply_line (Refused why) = codes "refused " ++ decimal (refusal_number why) ++ 32 ∷ [] ++ refusal_word why ++ 10 ∷ []
+reply_line (Refused why) =
+    codes "refused " ++ decimal (refusal_number why) ++ 32 ∷ [] ++ refusal_word why ++ 10 ∷ []
 reply_line (End epoch) = codes "end epoch " ++ decimal epoch ++ 10 ∷ []

@@ -8,8 +8,9 @@ use Rattle.ov_script.specs.declared.next.ScriptFault.{ScriptFault}
 use Rattle.ov_script.specs.declared.next.Ended.{Ended}
 use Rattle.ov_script.specs.declared.next.Ended.TheVariants.{End as Ended-End, BadLine as Ended-BadLine, Long as Ended-Long, Fault as Ended-Fault}
 
--- The source, the bytes that were taken from it and not yet used, the line on which the next item's first byte
--- stands, how many bytes of the script may still be read, and how the reading ended, if it has.
+-- The source, the bytes that were taken from it and not yet used, the line on which the next item's
+-- first byte stands, how many bytes of the script may still be read, and how the reading ended, if
+-- it has.
 pub record Place (S : Type 0) : Type 0 where
   pub source : S
   pub pending : List ℕ

@@ -8,15 +8,15 @@ use Rattle.ov_script.specs.LineFeeds.{lf_count}
 abbrev pub limit : ℕ
 limit = 268435456
 
--- How the reading of a script ends: at the end of the input, at a bad item, which stands at this line, or at
--- the limit.
+-- How the reading of a script ends: at the end of the input, at a bad item, which stands at this
+-- line, or at the limit.
 pub data Ending : Type 0 where
   AtEnd : Ending
   BadAt : (line : ℕ) → Ending
   TooLong : Ending
 
--- What stands here is a bad item, where so many bytes more may be read: the input ends inside it, or what may be
--- read of it can't begin an item.
+-- What stands here is a bad item, where so many bytes more may be read: the input ends inside it,
+-- or what may be read of it can't begin an item.
 pub data IsBad (room : ℕ) (text : List ℕ) : Type 0 where
   cut : 0 < length text → length text ≤ room → (BeginsWithItem text → ⊥) → IsBad room text
   wrong : room < length text → (CanBegin (take room text) → ⊥) → IsBad room text
@@ -25,10 +25,11 @@ pub data IsBad (room : ℕ) (text : List ℕ) : Type 0 where
 pub record IsTooLong (room : ℕ) (text : List ℕ) : Type 0 where
   pub past : room < length text
   pub can : CanBegin (take room text)
-  pub none_fits : (item rest : List ℕ) (command : Command) → text ≡ item ++ rest → IsItem item command → room < length item
+  pub none_fits : (item rest : List ℕ) (command : Command)
+      → text ≡ item ++ rest → IsItem item command → room < length item
 
--- The text, which begins on this line and of which so many bytes may be read, is these commands, and the reading
--- ends so.
+-- The text, which begins on this line and of which so many bytes may be read, is these commands,
+-- and the reading ends so.
 abbrev pub Reads : ℕ → ℕ → List ℕ → List Command → Ending → Type 0
 Reads line room text [] AtEnd = text ≡ []
 Reads line room text [] (BadAt n) = (n ≡ line) × IsBad room text
@@ -50,4 +51,5 @@ BeginsWith line room text (command ∷ commands) line' room' rest =
 
 -- the text begins with these commands
 abbrev pub BeginsScript : List ℕ → List Command → Type 0
-BeginsScript text commands = (line room : ℕ) × (rest : List ℕ) × BeginsWith 1 limit text commands line room rest
+BeginsScript text commands =
+    (line room : ℕ) × (rest : List ℕ) × BeginsWith 1 limit text commands line room rest

@@ -8,8 +8,8 @@ use Rattle.ov_script.specs.Reading.{IsBad, IsTooLong}
 use Rattle.ov_script.specs.declared.next.Next.{Next}
 use Rattle.ov_script.specs.declared.next.Next.TheVariants.{Command, End, BadLine, Long}
 
--- The text, which begins on this line and of which so many bytes may be read, begins with what `next` says; the
--- line, the room and the rest are then these.
+-- The text, which begins on this line and of which so many bytes may be read, begins with what
+-- `next` says; the line, the room and the rest are then these.
 abbrev pub Says : ℕ → ℕ → List ℕ → Next → ℕ → ℕ → Option (List ℕ) → Type 0
 Says line room text (Command command) line' room' rest =
     (item : List ℕ) × IsItem item command × Consumes (Some text) rest item × (length item ≤ room)
@@ -28,4 +28,5 @@ IfCommand Long P = ⊤
 -- what `next` says of what was still to be read, where the source tells it
 abbrev pub SaysOf : {S : Type 0} → (S → Option (List ℕ)) → Place S → Next → Place S → Type 0
 SaysOf left old next new =
-    IfSome (text_left left old) (λ text. Says old.line old.room text next new.line new.room (text_left left new))
+    IfSome (text_left left old)
+    (λ text. Says old.line old.room text next new.line new.room (text_left left new))

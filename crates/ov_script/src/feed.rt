@@ -50,7 +50,8 @@ fn take_behind<S: Source>(source: &mut S, buffer: &mut Vec<u8>, end: usize) -> R
     ensures kept { take end buffer.new.items ≡ take end buffer.old.items }
     ensures within { IfOk result (λ n. end + n ≤ vec_len buffer.old) }
     ensures taken { MatchResult result
-        (λ n. Consumes (S.left source.old) (S.left source.new) (take n (drop end buffer.new.items)) × (n ≡ 0 → IsAtEnd (S.left source.new)))
+        (λ n. Consumes (S.left source.old) (S.left source.new) (take n (drop end buffer.new.items))
+        × (n ≡ 0 → IsAtEnd (S.left source.new)))
         (λ _. Keeps (S.left source.old) (S.left source.new)) }
     ensures same { S.borrow source.new ≡ S.borrow source.old }
     ensures cause { HasCause (S.faults source.old) (S.faults source.new) result }
@@ -86,8 +87,10 @@ impl<S: Source + Drop> Feed<S> {
         requires { length self.old.pending < 32768 }
         ensures taken { MatchResult result
             (λ n. (more : List ℕ) × (self.new.pending ≡ self.old.pending ++ more) × (length more ≡ n)
-            × Consumes (S.left self.old.source) (S.left self.new.source) more × (n ≡ 0 → IsAtEnd (S.left self.new.source)))
-            (λ _. (self.new.pending ≡ self.old.pending) × Keeps (S.left self.old.source) (S.left self.new.source)) }
+            × Consumes (S.left self.old.source) (S.left self.new.source) more
+            × (n ≡ 0 → IsAtEnd (S.left self.new.source)))
+            (λ _. (self.new.pending ≡ self.old.pending)
+            × Keeps (S.left self.old.source) (S.left self.new.source)) }
         ensures same { S.borrow self.new.source ≡ S.borrow self.old.source }
         ensures cause { HasCause (S.faults self.old.source) (S.faults self.new.source) result }
     {

@@ -34,7 +34,8 @@ pub enum Found {
 fn first_lf(bytes: &[u8], seen: usize) -> Option<usize>
     requires within { seen ≤ length bytes.now }
     requires seen { NoLf (take seen bytes.now) }
-    ensures found { IfSome result (λ n. (line rest : List ℕ) × NoLf line × (length line ≡ n) × (bytes.now ≡ line ++ 10 ∷ rest)) }
+    ensures found { IfSome result (λ n. (line rest : List ℕ)
+        × NoLf line × (length line ≡ n) × (bytes.now ≡ line ++ 10 ∷ rest)) }
     ensures none { IfNone result (NoLf bytes.now) }
 {
     let (_, fresh) = bytes.split_at(seen);
@@ -104,12 +105,15 @@ fn settled(bytes: &[u8], seen: usize, room: usize) -> Option<Found>
 
 // What stands at the front where the text ends inside an item, or at once.
 fn at_end(count: usize) -> Found
-    ensures { (room : ℕ) (bytes : List ℕ) (left : Option (List ℕ)) → length bytes ≡ count → IsUnsettled room bytes → IsAtEnd left → Finds room bytes left result }
+    ensures { (room : ℕ) (bytes : List ℕ) (left : Option (List ℕ))
+        → length bytes ≡ count → IsUnsettled room bytes → IsAtEnd left
+        → Finds room bytes left result }
 {
     if count == 0 { Found::End } else { Found::Bad }
 }
 
-/// Takes bytes until it is known what stands at the front of the text, of which `room` bytes may be read.
+/// Takes bytes until it is known what stands at the front of the text, of which `room` bytes may be
+/// read.
 pub fn find<S: Source + Drop>(feed: &mut Feed<S>, room: usize) -> Result<Found, Fault>
     ensures found { IfOk result (Finds room feed.new.pending (S.left feed.new.source)) }
     ensures taken { (more : List ℕ) × Takes S.left feed.old feed.new more }

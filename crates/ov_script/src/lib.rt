@@ -1,20 +1,20 @@
 //! Scripts, read item by item from any source, and the lines with which they are answered.
 //!
-//! [`Script::next`] gives the command of the next item, or how the reading ended: at the end of the input, at a
-//! bad item and its line, at the limit of 268,435,456 bytes, or at a fault of the source. From then on it answers
-//! the same and takes nothing. Its contract says so against the grammar in `specs/`, which knows nothing of pieces
-//! or buffers:
+//! [`Script::next`] gives the command of the next item, or how the reading ended: at the end of the
+//! input, at a bad item and its line, at the limit of 268,435,456 bytes, or at a fault of the
+//! source. From then on it answers the same and takes nothing. Its contract says so against the
+//! grammar in `specs/`, which knows nothing of pieces or buffers:
 //!
 //! * `Items` says what an item is, and when bytes that follow could still make one;
-//! * `Reading` says what the commands of a text are and how its reading ends; that each text has a reading, and
-//!   only one, are the laws [`every_text_has_a_reading`] and [`one_reading`];
-//! * `Saying` says what one call of `next` tells of the text, and `Finding` what it may take from the source: bytes
-//!   are taken only while it isn't settled what stands next;
+//! * `Reading` says what the commands of a text are and how its reading ends; that each text has a
+//!   reading, and only one, are the laws [`every_text_has_a_reading`] and [`one_reading`];
+//! * `Saying` says what one call of `next` tells of the text, and `Finding` what it may take from
+//!   the source: bytes are taken only while it isn't settled what stands next;
 //! * `Lines` gives the reply lines, which [`line`] appends.
 //!
-//! Inside, a `Feed` is the source with the bytes that were taken and not yet used; `find` takes bytes until it knows
-//! what stands at the front (`Found`); `Script` uses an item up and counts lines and room (`Next`); and `Ended`
-//! keeps what is answered from then on.
+//! Inside, a `Feed` is the source with the bytes that were taken and not yet used; `find` takes
+//! bytes until it knows what stands at the front (`Found`); `Script` uses an item up and counts
+//! lines and room (`Next`); and `Ended` keeps what is answered from then on.
 #![tactic(auto)]
 
 ghost use Rattle.std.specs.Prelude.{◌≡◌, ℕ, List};

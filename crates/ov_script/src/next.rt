@@ -17,7 +17,8 @@ pub enum Next {
         /// The line on which its first byte stands: 1 plus the number of LF before it.
         line: u64,
     },
-    /// The script is too long: of its first 268,435,456 bytes no item is bad, and the input goes on.
+    /// The script is too long: of its first 268,435,456 bytes no item is bad, and the input goes
+    /// on.
     Long,
 }
 

@@ -65,7 +65,8 @@ impl<S: Source + Drop> Script<S> {
         feed.into_source()
     }
 
-    /// The next item, or how the reading ended. From then on each call answers the same and reads nothing.
+    /// The next item, or how the reading ended. From then on each call answers the same and reads
+    /// nothing.
     pub fn next(&mut self) -> Result<Next, ScriptFault>
         ensures says { self.old.ended ≡ None → IfOk result (λ next. SaysOf S.left self.old next self.new) }
         ensures needed { TakesWhatItNeeds S.left self.old.room self.old.pending self.old.source self.new.source }
@@ -74,7 +75,8 @@ impl<S: Source + Drop> Script<S> {
         ensures progress { IfOk result (λ next. IfCommand next (self.new.room < self.old.room)) }
         ensures same { S.borrow self.new.source ≡ S.borrow self.old.source }
         ensures later { S.faults self.old.source ≤ S.faults self.new.source }
-        ensures read { self.old.ended ≡ None → IsErrOf result ScriptFault.Read → Rose (S.faults self.old.source) (S.faults self.new.source) }
+        ensures read { self.old.ended ≡ None → IsErrOf result ScriptFault.Read
+            → Rose (S.faults self.old.source) (S.faults self.new.source) }
     {
         match self.ended {
             Some(ended) => ended.answer(),
@@ -93,7 +95,8 @@ impl<S: Source + Drop> Script<S> {
         ensures progress { IfOk result (λ next. IfCommand next (self.new.room < self.old.room)) }
         ensures same { S.borrow self.new.source ≡ S.borrow self.old.source }
         ensures later { S.faults self.old.source ≤ S.faults self.new.source }
-        ensures read { IsErrOf result ScriptFault.Read → Rose (S.faults self.old.source) (S.faults self.new.source) }
+        ensures read { IsErrOf result ScriptFault.Read
+            → Rose (S.faults self.old.source) (S.faults self.new.source) }
     {
         match find(&mut self.feed, self.room) {
             Ok(Found::Item { command, size }) => {

@@ -1,5 +1,5 @@
 -- One more command answered, and how the answering stops.
-use Rattle.std.proofs.Common.{◌≡◌, ℕ, ◌+◌, ◌-◌, ◌≤◌, List, [], ◌∷◌, ◌++◌, length, take, refl, sym, ◌∙◌, ap, subst, append-nil, Option, Some, None}
+use Rattle.std.proofs.Common.{◌≡◌, ℕ, ◌+◌, ◌-◌, ◌≤◌, List, [], ◌∷◌, ◌++◌, length, take, refl, sym, ◌∙◌, ap, subst, Option, Some, None}
 use Rattle.std.specs.Prelude.{IfSome}
 use Rattle.std.proofs.Math.Seq.{take-append-add}
 use Rattle.std.specs.Io.KnownBytes.{Appends}
@@ -14,7 +14,7 @@ use Rattle.ov_script.specs.Saying.{Says}
 use Rattle.ov_script.proofs.Readings.{BeginsWith-more, BeginsWith-ends}
 use Rattle.ov_model.specs.History.{History, empty}
 use Rattle.ov_model.specs.Lines.{lines}
-use Rattle.ov_model.specs.Step.{reply_to, after, after_all}
+use Rattle.ov_model.specs.Step.{reply_to, after_all}
 use Rattle.ov_model.proofs.Runs.{after_all-more, lines-more}
 use Rattle.overstore.specs.Machine.{StandsFor}
 use Rattle.overstore.specs.Answering.{Answers, AnsweredAll, SoFar, Stops}

@@ -1,6 +1,6 @@
 -- What the last line and the status say of the whole script.
-use Rattle.std.proofs.Common.{◌≡◌, ◌⊎◌, inl, inr, ℕ, ◌+◌, List, [], ◌∷◌, ◌++◌, length, take, drop, refl, sym, ◌∙◌, ap, subst, arith, append_assoc, take-append-drop, Option, Some, None}
-use Rattle.std.specs.Prelude.{IfSome, codes}
+use Rattle.std.proofs.Common.{◌≡◌, ◌⊎◌, inl, inr, ℕ, ◌+◌, List, [], ◌++◌, length, take, drop, refl, sym, ◌∙◌, ap, subst, arith, append_assoc, take-append-drop, Option, Some, None}
+use Rattle.std.specs.Prelude.{IfSome}
 use Rattle.std.proofs.Math.Seq.{take-append-add, take-append_seam}
 use Rattle.std.specs.Io.KnownBytes.{Appends, Keeps, prepend_known}
 use Rattle.std.proofs.KnownBytes.{Appends-trans, Appends-kept, Appends-nil}
@@ -9,11 +9,10 @@ use Rattle.ov_script.specs.declared.reply.Reply.TheVariants.{End as EndReply}
 use Rattle.ov_script.specs.Lines.{reply_line}
 use Rattle.ov_script.specs.Reading.{IsScript, BeginsScript, limit, Ending, AtEnd, BadAt, TooLong}
 use Rattle.ov_script.proofs.Readings.{one_reading, Reads-begins}
-use Rattle.ov_model.specs.History.{History, empty, epoch_of}
+use Rattle.ov_model.specs.History.{empty, epoch_of}
 use Rattle.ov_model.specs.Lines.{lines}
 use Rattle.ov_model.specs.Step.{after_all}
-use Rattle.overstore.specs.Machine.{StandsFor}
-use Rattle.overstore.specs.Answering.{Stops, AnsweredAll, AnsweredFirst, AnsweredPart, EndsIn, Finishes, Concluded, whole, part}
+use Rattle.overstore.specs.Answering.{Stops, AnsweredAll, AnsweredPart, EndsIn, Finishes, Concluded, whole, part}
 use Rattle.overstore.specs.Printing.{Outcome, Answered, ReadFault, OutOfMemory, status_of, last_line, memory_line, read_line, IsPrinted, Prints, PrintsFront, IsFault}
 use Rattle.overstore.specs.declared.answer.Stop.{Stop}
 use Rattle.overstore.specs.declared.answer.Stop.TheVariants.{End, BadLine, Long, Read, Write, Memory}

@@ -1,12 +1,12 @@
 -- An enrolment that is refused, and one that is accepted.
-use Rattle.std.proofs.Common.{◌≡◌, ℕ, ◌+◌, ◌<◌, ◌≤◌, Bool, true, false, List, [], ◌∷◌, ◌++◌, length, refl, sym, ◌∙◌, ap, subst, length-append, arith, Option, Some, None}
+use Rattle.std.proofs.Common.{◌≡◌, ℕ, ◌+◌, ◌<◌, Bool, false, List, [], ◌∷◌, ◌++◌, length, sym, ◌∙◌, ap, subst, length-append, arith, Option, None}
 use Rattle.std.specs.Prelude.{nat_le}
 use Rattle.std.proofs.lemmas.Bool.Decides.{nat_tests}
 use Rattle.ov_base.specs.declared.refusal.Refusal.{Refusal}
 use Rattle.ov_base.specs.declared.refusal.Refusal.TheVariants.{Taken, UsersFull}
 use Rattle.ov_script.specs.declared.command.Command.TheVariants.{Enrol}
 use Rattle.ov_script.specs.declared.reply.Reply.{Reply}
-use Rattle.ov_script.specs.declared.reply.Reply.TheVariants.{Accepted, Refused}
+use Rattle.ov_script.specs.declared.reply.Reply.TheVariants.{Accepted}
 use Rattle.ov_model.specs.History.{History, Enrolled, Matrix, matrix_of, epoch_of, no_one}
 use Rattle.ov_model.specs.Step.{is_user, first_of_tests, refusal_of, update_step, reply_to, after}
 use Rattle.ov_model.proofs.Steps.{changed_all-more, epoch-more}

@@ -1,5 +1,5 @@
 -- What answering a script does, command by command.
-use Rattle.std.specs.Prelude.{◌≡◌, ◌⊎◌, ℕ, List, ◌++◌, take, Option, Some, None}
+use Rattle.std.specs.Prelude.{◌≡◌, ◌⊎◌, ℕ, List, take, Option, Some, None}
 use Rattle.std.specs.Io.KnownBytes.{Appends, Keeps}
 use Rattle.ov_script.specs.declared.command.Command.{Command}
 use Rattle.ov_script.specs.declared.reply.Reply.TheVariants.{End as EndReply}
@@ -25,21 +25,27 @@ PutsOr (Some Read) old new bytes = ⊥
 
 -- the reply line to the command was put, and these users are there after it; or it was not, and why
 abbrev pub Answers : History → Command → Option Stop → Option (List ℕ) → Option (List ℕ) → List (List ℕ) → Type 0
-Answers h command None old new names = Appends old new (reply_line (reply_to h command)) × StandsFor names (after h command)
-Answers h command (Some stop) old new names = PutsOr (Some stop) old new (reply_line (reply_to h command))
+Answers h command None old new names =
+    Appends old new (reply_line (reply_to h command)) × StandsFor names (after h command)
+Answers h command (Some stop) old new names =
+    PutsOr (Some stop) old new (reply_line (reply_to h command))
 
 -- these commands were read to this ending, and all their lines were put
 abbrev pub AnsweredAll : List ℕ → Ending → Option (List ℕ) → Option (List ℕ) → List (List ℕ) → Type 0
 AnsweredAll text ending old new names =
-    (commands : List Command) × IsScript text commands ending × Appends old new (lines empty commands) × StandsFor names (after_all empty commands)
+    (commands : List Command) × IsScript text commands ending × Appends old new (lines empty commands)
+    × StandsFor names (after_all empty commands)
 
 -- the lines of the first commands were put
 abbrev pub AnsweredFirst : List ℕ → Option (List ℕ) → Option (List ℕ) → Type 0
-AnsweredFirst text old new = (commands : List Command) × BeginsScript text commands × Appends old new (lines empty commands)
+AnsweredFirst text old new =
+    (commands : List Command) × BeginsScript text commands × Appends old new (lines empty commands)
 
 -- a front of the lines of the first commands was put
 abbrev pub AnsweredPart : List ℕ → Option (List ℕ) → Option (List ℕ) → Type 0
-AnsweredPart text old new = (commands : List Command) × BeginsScript text commands × ((n : ℕ) × Appends old new (take n (lines empty commands)))
+AnsweredPart text old new =
+    (commands : List Command) × BeginsScript text commands
+    × ((n : ℕ) × Appends old new (take n (lines empty commands)))
 
 -- what was put where the answering stopped so
 abbrev pub Stops : List ℕ → Stop → Option (List ℕ) → Option (List ℕ) → List (List ℕ) → Type 0
@@ -54,22 +60,29 @@ Stops text Write old new names = AnsweredPart text old new
 abbrev pub SoFar : List ℕ → Option (List ℕ) → ℕ → ℕ → Option (List ℕ) → Option (List ℕ) → List (List ℕ) → Type 0
 SoFar text None line room old now names = ⊥
 SoFar text (Some rest) line room old now names =
-    (commands : List Command) × BeginsWith 1 limit text commands line room rest × Appends old now (lines empty commands) × StandsFor names (after_all empty commands)
+    (commands : List Command) × BeginsWith 1 limit text commands line room rest
+    × Appends old now (lines empty commands) × StandsFor names (after_all empty commands)
 
 -- this line was put, and the status is this; or a front of it, and the status is 6
 abbrev pub EndsIn : List ℕ → ℕ → Option (List ℕ) → Option (List ℕ) → ℕ → Type 0
-EndsIn last code old new status = ((status ≡ code) × Appends old new last) ⊎ ((status ≡ 6) × ((n : ℕ) × Appends old new (take n last)))
+EndsIn last code old new status =
+    ((status ≡ code) × Appends old new last)
+    ⊎ ((status ≡ 6) × ((n : ℕ) × Appends old new (take n last)))
 
 -- the last line that is put at this epoch, or the one that says that memory was refused for it
 abbrev pub Finishes : Stop → ℕ → Option (List ℕ) → Option (List ℕ) → ℕ → Type 0
-Finishes End epoch old new status = EndsIn (reply_line (EndReply epoch)) 0 old new status ⊎ EndsIn memory_line 7 old new status
-Finishes (BadLine n) epoch old new status = EndsIn (last_line empty (BadAt n)) 3 old new status ⊎ EndsIn memory_line 7 old new status
+Finishes End epoch old new status =
+    EndsIn (reply_line (EndReply epoch)) 0 old new status ⊎ EndsIn memory_line 7 old new status
+Finishes (BadLine n) epoch old new status =
+    EndsIn (last_line empty (BadAt n)) 3 old new status ⊎ EndsIn memory_line 7 old new status
 Finishes Long epoch old new status = EndsIn (last_line empty TooLong) 11 old new status
 Finishes Read epoch old new status = EndsIn read_line 5 old new status
 Finishes Memory epoch old new status = EndsIn memory_line 7 old new status
 Finishes Write epoch old new status = (status ≡ 6) × Keeps old new
 
--- What some outcome prints was put whole, and the status is the outcome's; or a front of it, and the status is 6.
+-- What some outcome prints was put whole, and the status is the outcome's; or a front of it, and
+-- the status is 6.
 pub data Concluded (text : List ℕ) (old new : Option (List ℕ)) (status : ℕ) : Type 0 where
-  whole : (outcome : Outcome) → status ≡ status_of outcome → Prints text outcome old new → Concluded text old new status
+  whole : (outcome : Outcome) → status ≡ status_of outcome → Prints text outcome old new
+      → Concluded text old new status
   part : status ≡ 6 → PrintsFront text old new → Concluded text old new status

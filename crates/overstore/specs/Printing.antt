@@ -10,8 +10,8 @@ use Rattle.ov_model.specs.History.{History, empty, epoch_of}
 use Rattle.ov_model.specs.Lines.{lines}
 use Rattle.ov_model.specs.Step.{after_all}
 
--- How a run over a script ends: the script was read to its ending and answered, a read failed, or memory was
--- refused.
+-- How a run over a script ends: the script was read to its ending and answered, a read failed, or
+-- memory was refused.
 pub data Outcome : Type 0 where
   Answered : (ending : Ending) → Outcome
   ReadFault : Outcome
@@ -39,21 +39,39 @@ last_line h AtEnd = reply_line (End (epoch_of h))
 last_line h (BadAt n) = codes "error line " ++ decimal n ++ 10 ∷ []
 last_line h TooLong = codes "error long" ++ 10 ∷ []
 
--- What a run over this script that ends so prints: the machine's lines to its commands, or to the first of them,
--- and then the last line.
+-- What a run over this script that ends so prints: the machine's lines to its commands, or to the
+-- first of them, and then the last line.
 abbrev pub IsPrinted : List ℕ → Outcome → List ℕ → Type 0
 IsPrinted text (Answered ending) printed =
-    (commands : List Command) × IsScript text commands ending × (printed ≡ lines empty commands ++ last_line (after_all empty commands) ending)
-IsPrinted text ReadFault printed = (commands : List Command) × BeginsScript text commands × (printed ≡ lines empty commands ++ read_line)
-IsPrinted text OutOfMemory printed = (commands : List Command) × BeginsScript text commands × (printed ≡ lines empty commands ++ memory_line)
+    (commands : List Command) × IsScript text commands ending
+    × (printed ≡ lines empty commands ++ last_line (after_all empty commands) ending)
+IsPrinted text ReadFault printed =
+    (commands : List Command) × BeginsScript text commands
+    × (printed ≡ lines empty commands ++ read_line)
+IsPrinted text OutOfMemory printed =
+    (commands : List Command) × BeginsScript text commands
+    × (printed ≡ lines empty commands ++ memory_line)
 
 -- all of it was put
 abbrev pub Prints : List ℕ → Outcome → Option (List ℕ) → Option (List ℕ) → Type 0
-Prints text outcome old new = (printed : List ℕ) × IsPrinted text outcome printed × Appends old new printed
+Prints text outcome old new =
+    (printed : List ℕ) × IsPrinted text outcome printed × Appends old new printed
 
 -- a front of what some run over this script prints was put
 abbrev pub PrintsFront : List ℕ → Option (List ℕ) → Option (List ℕ) → Type 0
-PrintsFront text old new = (outcome : Outcome) × (printed : List ℕ) × IsPrinted text outcome printed × ((n : ℕ) × Appends old new (take n printed))
+PrintsFront text old new =
+    (outcome : Outcome) × (printed : List ℕ) × IsPrinted text outcome printed
+    × ((n : ℕ) × Appends old new (take n printed))
+
+-- The status is that of the script's ending, whichever that is, or one of these.
+abbrev pub StatusIsOf : List ℕ → ℕ → (ℕ → Type 0) → Type 0
+StatusIsOf text status Other =
+    (commands : List Command) (ending : Ending)
+    → IsScript text commands ending → (status ≡ status_of (Answered ending)) ⊎ Other status
+
+-- memory was refused
+abbrev pub IsMemory : ℕ → Type 0
+IsMemory status = status ≡ 7
 
 -- a read or a write failed, or memory was refused
 abbrev pub IsFault : ℕ → Type 0

@@ -1,8 +1,8 @@
 //! The program `overstore`: a script comes in on standard input, and its reply lines go out.
 //!
-//! `overstore run full` answers a script of commands, line by line, from a store that begins empty. The contract
-//! of [`run`] says what it prints for every script; `main` makes the real source and sink, calls it, and ends with
-//! the status that it gives.
+//! `overstore run full` answers a script of commands, line by line, from a store that begins empty.
+//! The contract of [`run`] says what it prints for every script; `main` makes the real source and
+//! sink, calls it, and ends with the status that it gives.
 //!
 //! | module | what it does |
 //! |---|---|

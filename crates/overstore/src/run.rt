@@ -1,11 +1,11 @@
 //! The top call.
-ghost use Rattle.std.specs.Prelude.{◌≡◌, ◌≢◌, ◌⊎◌, ℕ, List, IfSome, IsTrue, ◌↔◌};
+ghost use Rattle.std.specs.Prelude.{◌≡◌, ◌≢◌, ◌↔◌, ℕ, IfSome, IsTrue};
 ghost use Rattle.std.specs.Io.KnownBytes.{Appends};
 ghost use Rattle.ov_io.specs.Causes.{Rose};
-ghost use Rattle.ov_script.specs.declared.command.Command.{Command};
-ghost use Rattle.ov_script.specs.Reading.{IsScript, Ending, AtEnd, BadAt, TooLong};
-ghost use Rattle.overstore.specs.Printing.{Answered, ReadFault, OutOfMemory, Prints, PrintsFront, status_of, usage_line, IsFault, IsStatus};
+ghost use Rattle.ov_script.specs.Reading.{AtEnd, BadAt, TooLong};
 ghost use Rattle.overstore.specs.Answering.{Concluded, EndsIn};
+ghost use Rattle.overstore.specs.Printing.{Answered, ReadFault, OutOfMemory, Prints, PrintsFront};
+ghost use Rattle.overstore.specs.Printing.{usage_line, StatusIsOf, IsFault, IsMemory, IsStatus};
 ghost use Rattle.overstore.specs.Words.{IsRunFull};
 
 use crate::answer::answer_all;
@@ -28,7 +28,8 @@ fn is_run_full(words: &[String]) -> bool
 
 // Answers the script, once the words are known.
 fn answer_script<I: Source, O: Sink>(alloc: Global, input: &mut I, out: &mut O) -> u8
-    ensures concluded { IfSome (I.left input.old) (λ text. Concluded text (O.written out.old) (O.written out.new) result) }
+    ensures concluded { IfSome (I.left input.old) (λ text.
+        Concluded text (O.written out.old) (O.written out.new) result) }
     ensures read_cause { result ≡ 5 → Rose (I.faults input.old) (I.faults input.new) }
     ensures write_cause { result ≡ 6 → Rose (O.faults out.old) (O.faults out.new) }
     ensures status { IsStatus result }
@@ -47,35 +48,45 @@ fn answer_script<I: Source, O: Sink>(alloc: Global, input: &mut I, out: &mut O) 
 
 /// Answers the script of `input` on `out`, and gives the exit status.
 ///
-/// The clauses on what is printed and on the script hold where the source and the sink tell their bytes; those on
-/// the counts of faults hold always. Each reply line is put by itself, before the next command is read.
+/// The clauses on what is printed and on the script hold where the source and the sink tell their
+/// bytes; those on the counts of faults hold always. Each reply line is put by itself, before the
+/// next command is read.
 pub fn run<I: Source, O: Sink>(alloc: Global, words: &[String], input: &mut I, out: &mut O) -> u8
-    // The lines of the access-matrix machine to the whole script and the end line, and nothing else.
-    ensures done { result ≡ 0 → IfSome (I.left input.old) (λ text. Prints text (Answered AtEnd) (O.written out.old) (O.written out.new)) }
+    // The access-matrix machine's lines to the whole script and the end line, and nothing else.
+    ensures done { result ≡ 0 → IfSome (I.left input.old) (λ text.
+        Prints text (Answered AtEnd) (O.written out.old) (O.written out.new)) }
     // The same lines to the commands before, and then the error line.
-    ensures bad_line { result ≡ 3 → IfSome (I.left input.old) (λ text. (n : ℕ) × Prints text (Answered (BadAt n)) (O.written out.old) (O.written out.new)) }
-    ensures long { result ≡ 11 → IfSome (I.left input.old) (λ text. Prints text (Answered TooLong) (O.written out.old) (O.written out.new)) }
-    ensures read { result ≡ 5 → IfSome (I.left input.old) (λ text. Prints text ReadFault (O.written out.old) (O.written out.new)) }
-    ensures memory { result ≡ 7 → IsRunFull words.now → IfSome (I.left input.old) (λ text. Prints text OutOfMemory (O.written out.old) (O.written out.new)) }
+    ensures bad_line { result ≡ 3 → IfSome (I.left input.old) (λ text.
+        (n : ℕ) × Prints text (Answered (BadAt n)) (O.written out.old) (O.written out.new)) }
+    ensures long { result ≡ 11 → IfSome (I.left input.old) (λ text.
+        Prints text (Answered TooLong) (O.written out.old) (O.written out.new)) }
+    // The lines to the first commands, and then the error line.
+    ensures read { result ≡ 5 → IfSome (I.left input.old) (λ text.
+        Prints text ReadFault (O.written out.old) (O.written out.new)) }
+    ensures memory { result ≡ 7 → IsRunFull words.now → IfSome (I.left input.old) (λ text.
+        Prints text OutOfMemory (O.written out.old) (O.written out.new)) }
     // A front of what some run over this script prints.
-    ensures write { result ≡ 6 → IsRunFull words.now → IfSome (I.left input.old) (λ text. PrintsFront text (O.written out.old) (O.written out.new)) }
+    ensures write { result ≡ 6 → IsRunFull words.now → IfSome (I.left input.old) (λ text.
+        PrintsFront text (O.written out.old) (O.written out.new)) }
 
-    // Other words are refused before the script is read.
-    ensures usage { result ≡ 2 → (IsRunFull words.now → ⊥) × Appends (O.written out.old) (O.written out.new) usage_line }
-    ensures other_words { (IsRunFull words.now → ⊥) → EndsIn usage_line 2 (O.written out.old) (O.written out.new) result }
-
+    // Other words are refused, and the script is left as it is.
+    ensures usage { result ≡ 2
+        → (IsRunFull words.now → ⊥) × Appends (O.written out.old) (O.written out.new) usage_line }
+    ensures other_words { (IsRunFull words.now → ⊥)
+        → EndsIn usage_line 2 (O.written out.old) (O.written out.new) result }
     ensures unread { (IsRunFull words.now → ⊥) → input.new ≡ input.old }
 
     // A failed read or write is answered only where the count of faults rose.
     ensures read_cause { result ≡ 5 → Rose (I.faults input.old) (I.faults input.new) }
     ensures write_cause { result ≡ 6 → Rose (O.faults out.old) (O.faults out.new) }
     // The script alone decides between the other statuses.
-    ensures exact { IsRunFull words.now → IfSome (I.left input.old) (λ text. (commands : List Command) (ending : Ending) →
-        IsScript text commands ending → (result ≡ status_of (Answered ending)) ⊎ IsFault result) }
+    ensures exact { IsRunFull words.now
+        → IfSome (I.left input.old) (λ text. StatusIsOf text result IsFault) }
     // Where no count rose, it is answered, unless memory was refused.
-    ensures complete { IsRunFull words.now → (Rose (I.faults input.old) (I.faults input.new) → ⊥) → (Rose (O.faults out.old) (O.faults out.new) → ⊥) →
-        IfSome (I.left input.old) (λ text. (commands : List Command) (ending : Ending) →
-        IsScript text commands ending → (result ≡ status_of (Answered ending)) ⊎ (result ≡ 7)) }
+    ensures complete { IsRunFull words.now
+        → (Rose (I.faults input.old) (I.faults input.new) → ⊥)
+        → (Rose (O.faults out.old) (O.faults out.new) → ⊥)
+        → IfSome (I.left input.old) (λ text. StatusIsOf text result IsMemory) }
     ensures status { IsStatus result }
 {
     if !is_run_full(words) {

@@ -59,21 +59,19 @@ impl Status {
     pub fn advice(self) -> Option<&'static str> {
         match self {
             Status::Done => None,
-            Status::Usage => Some(
-                "the words aren't known; use `overstore run full`, or `overstore --help`",
-            ),
+            Status::Usage => Some("unknown words; use `overstore run full` or `overstore --help`"),
             Status::BadLine => Some(
-                "the script has a bad line, which standard output names; the lines before it were answered; correct it and run again",
+                "standard output names a bad line; those before it stand; correct it and run again",
             ),
-            Status::ReadFault => Some(
-                "reading the script failed; the lines read before were answered; check standard input and run again",
-            ),
-            Status::WriteFault => Some(
-                "writing the replies failed; check where standard output goes and run again",
-            ),
+            Status::ReadFault => {
+                Some("reading the script failed; check standard input and run again")
+            }
+            Status::WriteFault => {
+                Some("writing the replies failed; check standard output and run again")
+            }
             Status::OutOfMemory => Some("the system refused memory; free some and run again"),
             Status::Long => Some(
-                "the script is longer than 268435456 bytes; the items within them were answered; run the rest as a script of its own",
+                "the script is past 268435456 bytes; run what follows as a script of its own",
             ),
         }
     }

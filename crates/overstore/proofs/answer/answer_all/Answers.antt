@@ -1,7 +1,7 @@
 use Rattle.std.proofs.Common.{arith}
 use Rattle.std.proofs.lemmas.Grind.{common_steps}
 use Rattle.ov_script.specs.Reading.{AtEnd, BadAt, TooLong}
-use Rattle.overstore.proofs.Answering.{nothing_yet, answered, answered_more, answer_stops, answered_first}
+use Rattle.overstore.proofs.Answering.{answered, answered_more, answer_stops}
 use Rattle.overstore.proofs.answer.answer_all.Goals as goal
 
 pub returns-in-Some-clause-stop : goal.returns-in-Some-clause-stop

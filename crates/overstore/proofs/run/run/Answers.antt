@@ -1,5 +1,3 @@
-use Rattle.std.proofs.Common.{arith}
-use Rattle.std.proofs.lemmas.Grind.{common_steps}
 use Rattle.overstore.proofs.Concluding.{told, is_done, is_bad, is_long, is_read, is_memory, is_write, exact, complete_at}
 use Rattle.overstore.proofs.run.run.Goals as goal
 
