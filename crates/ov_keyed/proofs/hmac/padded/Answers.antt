@@ -1,5 +1,5 @@
 -- The byte at the index is the next one that the loop XORs.
-use Rattle.std.proofs.Common.{◌<◌, length, get_or, arith, bit_xor}
+use Rattle.std.proofs.Common.{◌<◌, length, arith, bit_xor}
 use Rattle.std.proofs.lemmas.Grind.{common_steps}
 use Rattle.std.proofs.lemmas.List.Edits.{map_over_more}
 use Rattle.ov_keyed.proofs.hmac.padded.Goals as goal
