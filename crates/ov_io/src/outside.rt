@@ -1,0 +1,91 @@
+//! Sources and sinks over std's readers and writers. Over the system's own, what these really give and take is
+//! trusted.
+ghost use Rattle.std.specs.Prelude.{◌≡◌, ◌≤◌, length, take};
+ghost use Rattle.std.specs.Io.KnownBytes.{Appends};
+
+use crate::{Fault, Sink, Source};
+use std::io::{Read, Write};
+
+/// Any reader of std. An error of the reader, an interruption included, is a fault.
+#[derive(Drop)]
+pub struct StdSource<R: Read> {
+    reader: R,
+    faults: u64,
+}
+
+impl<R: Read> StdSource<R> {
+    /// A source over this reader, which has not failed yet.
+    pub fn new(reader: R) -> StdSource<R>
+        ensures { result ≡ record { reader = reader; faults = 0 } }
+    {
+        StdSource { reader, faults: 0 }
+    }
+}
+
+impl<R: Read> Source for StdSource<R> {
+    ghost left = { λ s. R.remaining s.reader };
+
+    ghost faults = { λ s. s.faults };
+
+    ghost borrow = { λ _. 0 };
+
+    fn take(&mut self, buf: &mut [u8]) -> Result<usize, Fault> {
+        match self.reader.read(buf) {
+            Ok(count) => Ok(count),
+            Err(_) => {
+                self.faults = self.faults.saturating_add(1);
+                Err(Fault)
+            }
+        }
+    }
+}
+
+/// Any writer of std. An error of the writer, an interruption included, and a write that takes nothing are
+/// faults.
+#[derive(Drop)]
+pub struct StdSink<W: Write> {
+    writer: W,
+    faults: u64,
+}
+
+impl<W: Write> StdSink<W> {
+    /// A sink over this writer, which has not failed yet.
+    pub fn new(writer: W) -> StdSink<W>
+        ensures { result ≡ record { writer = writer; faults = 0 } }
+    {
+        StdSink { writer, faults: 0 }
+    }
+}
+
+// Writes some of the bytes, and says how many: none where the writer fails.
+fn write_some<W: Write>(writer: &mut W, bytes: &[u8]) -> usize
+    ensures bound { result ≤ length bytes.now }
+    ensures bytes { Appends (W.contents writer.old) (W.contents writer.new) (take result bytes.now) }
+{
+    match writer.write(bytes) {
+        Ok(count) => count,
+        Err(_) => 0,
+    }
+}
+
+impl<W: Write> Sink for StdSink<W> {
+    ghost written = { λ s. W.contents s.writer };
+
+    ghost faults = { λ s. s.faults };
+
+    ghost borrow = { λ _. 0 };
+
+    fn put(&mut self, bytes: &[u8]) -> Result<(), Fault> {
+        let mut rest = bytes;
+        'parts: while !rest.is_empty() {
+            let count = write_some(&mut self.writer, rest);
+            if count == 0 {
+                self.faults = self.faults.saturating_add(1);
+                return Err(Fault);
+            }
+            let (_, more) = rest.split_at(count);
+            rest = more;
+        }
+        Ok(())
+    }
+}

@@ -1,0 +1,87 @@
+//! The two layers of keys.
+
+use crate::{Kind, Label};
+use ov_base::Key;
+use ov_keyed::mac;
+
+/// A layer of keys: the labels of its nodes, and how their keys come from the layer's master.
+///
+/// Generic code knows of a layer `L` that the label of node n is `label_of L.label_kind n`, that its key is
+/// `node_key L.label_kind master n`, and that `L::TAG` is the tag byte of its labels.
+pub trait Layer {
+    ghost use Rattle.std.specs.Prelude.{◌≡◌, ℕ};
+    ghost use Rattle.ov_tokens.specs.Keys.{node_key};
+    ghost use Rattle.ov_tokens.specs.Labels.{label_of, tag_of};
+    ghost use Rattle.ov_tokens.specs.declared.label.Kind.{Kind};
+
+    /// The kind of its labels.
+    ghost label_kind: { Kind };
+
+    /// The tag byte of its labels, as a number.
+    ghost TAG: { ℕ };
+
+    /// The tag byte of its labels.
+    const TAG: u8;
+
+    /// The label of a node.
+    fn label(number: u32) -> Label
+        ensures { result ≡ label_of label_kind number };
+
+    /// The key of a node's label, from the layer's master.
+    fn key_of(master: &Key, number: u32) -> Key
+        ensures { result.bytes ≡ node_key label_kind master.now.bytes number }
+    {
+        Key {
+            bytes: mac(&master.bytes, &Self::label(number).bytes(), b""),
+        }
+    }
+
+    /// The tag byte is that of the kind.
+    ghost tag_is: { TAG ≡ tag_of label_kind };
+}
+
+/// The base layer: node n has the label `B n`.
+pub struct Base;
+
+/// The surface layer: node n has the label `S n`.
+pub struct Surface;
+
+impl Layer for Base {
+    ghost use Rattle.std.specs.Prelude.{refl};
+    ghost use Rattle.ov_tokens.specs.declared.label.Kind.TheVariants.{Derive};
+
+    ghost label_kind = { Derive };
+
+    ghost TAG = { 0x42 };
+
+    ghost tag_is = { refl };
+
+    const TAG: u8 = b'B';
+
+    fn label(number: u32) -> Label {
+        Label {
+            kind: Kind::Derive,
+            number,
+        }
+    }
+}
+
+impl Layer for Surface {
+    ghost use Rattle.std.specs.Prelude.{refl};
+    ghost use Rattle.ov_tokens.specs.declared.label.Kind.TheVariants.{Surface as SurfaceLabels};
+
+    ghost label_kind = { SurfaceLabels };
+
+    ghost TAG = { 0x53 };
+
+    ghost tag_is = { refl };
+
+    const TAG: u8 = b'S';
+
+    fn label(number: u32) -> Label {
+        Label {
+            kind: Kind::Surface,
+            number,
+        }
+    }
+}

@@ -1,0 +1,43 @@
+//! Labels of keys, and the tokens that lead from key to key.
+//!
+//! A store has two masters, a base master and a surface master, and each label has one key under them
+//! (`key_of_label` in `specs/Keys`). A [`Label`] is a [`Kind`] and a number: `B n` is the derivation key
+//! of base node n, `A n` its access key, `S n` the key of surface node n. A [`Layer`] says which labels a
+//! layer's nodes have and how their keys come from its master; it has two, [`Base`] and [`Surface`].
+//!
+//! A [`Token`] leads from a key to a label: it is the label's key XORed with the keyed hash of the label
+//! under the first key ([`make`]). So whoever holds the first key has the second by [`derive`], and no
+//! other secret is needed. [`tokens_lead_back`] is the law that this gives the very key.
+//!
+//! [`access_key`], [`tag_key`], [`update_key`] and [`check_value`] are the other values that are derived
+//! from a key, each with a tag byte of its own where it is a keyed hash.
+//!
+//! [`Edge`], [`Step`], [`Chain`] and the lists [`Tokens`], [`Numbers`] and [`Steps`] are what graphs of
+//! keys are made of, and stand here so that a record or a message can hold them without a graph.
+//!
+//! Nothing is claimed of secrecy: not that a key can't be found without the token, nor that two labels
+//! have different keys. That rests on the keyed hash, and no proof speaks of it.
+#![tactic(auto)]
+
+mod chain;
+mod edge;
+mod keys;
+mod label;
+mod layer;
+mod message;
+mod numbers;
+mod steps;
+#[cfg(test)]
+mod tests;
+mod token;
+mod tokens;
+
+pub use chain::{Chain, Step};
+pub use edge::Edge;
+pub use keys::{access_key, check_value, tag_key, update_key};
+pub use label::{Kind, Label};
+pub use layer::{Base, Layer, Surface};
+pub use numbers::Numbers;
+pub use steps::Steps;
+pub use token::{Token, derive, make, tokens_lead_back};
+pub use tokens::Tokens;
