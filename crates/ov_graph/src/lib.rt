@@ -5,6 +5,8 @@ mod cover;
 mod covering;
 mod graph;
 mod list;
+#[cfg(test)]
+mod tests;
 
 pub use cover::{Cover, GraphRefusal};
 pub use graph::{Graph, leads_by_membership};
