@@ -49,7 +49,7 @@ fn candidates<const W: usize>(
     requires { length sets.now + length before.now ≤ 4096 }
     ensures { let all = sets.now ++ before.now in
         IfOk result (λ found.
-            found.items ≡ entries all set.now (candidates_from set.now 0 all)) }
+        found.items ≡ entries all set.now (candidates_from set.now 0 all)) }
 {
     let size = set.count();
     let mut found = Vec::new(alloc);

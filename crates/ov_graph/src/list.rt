@@ -37,10 +37,12 @@ impl<L, const W: usize> Model for ListGraph<L, W> {
     ghost Value = { Contents };
 
     ghost view = { λ g. record {
-        sets = g.sets.items;
-        edges = rows g.edges.items g.spans.items;
-        spare_sets = min (vec_capacity g.sets - vec_len g.sets) (vec_capacity g.spans - vec_len g.spans);
-        spare_edges = vec_capacity g.edges - vec_len g.edges } };
+      sets = g.sets.items;
+      edges = rows g.edges.items g.spans.items;
+      spare_sets =
+          min (vec_capacity g.sets - vec_len g.sets) (vec_capacity g.spans - vec_len g.spans);
+      spare_edges = vec_capacity g.edges - vec_len g.edges;
+    } };
 
     ghost invariant = { λ g. IsListGraph g.sets.items g.edges.items g.spans.items };
 }
