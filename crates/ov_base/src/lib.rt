@@ -1,14 +1,17 @@
-//! The words that every other crate of the store speaks: names, bytes, refusals, keys and want of
-//! memory.
+//! The words that every other crate of the store speaks: names, bytes, sets of users, refusals,
+//! keys and want of memory.
 //!
 //! A [`Name`] is a user's or a file's name and holds only bytes that may stand in one; [`Octets`]
-//! is a list of bytes on the heap; a [`Refusal`] says by number and word why the access-matrix
-//! machine refuses a command; a [`Key`] is 32 bytes that no text shows; [`Memory`] is the one
-//! answer that may come from any call that allocates.
+//! is a list of bytes on the heap; a [`UserSet`] is a set of users, of any width; a [`Refusal`]
+//! says by number and word why the access-matrix machine refuses a command; a [`Key`] is 32 bytes
+//! that no text shows; [`Memory`] is the one answer that may come from any call that allocates.
 //!
 //! Contracts see a name and octets as the list of their bytes, so a clause compares them with `≡`
-//! and knows nothing of how they are kept. The definitions stand in `specs/`: `Names` says which
-//! bytes are a name, `Refusals` gives each refusal its number and its word.
+//! and knows nothing of how they are kept. They see a set of users as the number whose bits are its
+//! members, behind the words of `specs/Sets`, and with no width: two sets with the same members are
+//! equal. Its laws stand in `proofs/`: `SetLaws` on members, `SetSizes` on sizes and `SetBytes` on
+//! the written form. `specs/Names` says which bytes are a name, `specs/Refusals` gives each refusal
+//! its number and its word.
 #![tactic(auto)]
 
 mod key;
@@ -16,9 +19,11 @@ mod memory;
 mod name;
 mod octets;
 mod refusal;
+mod user_set;
 
 pub use key::Key;
 pub use memory::Memory;
 pub use name::Name;
 pub use octets::Octets;
 pub use refusal::Refusal;
+pub use user_set::{UserSet, Users};

@@ -1,0 +1,179 @@
+//! Sets of users.
+ghost use Rattle.std.specs.Prelude.{◌≡◌, ◌<◌, ◌≤◌, ◌*◌, ◌==◌, ◌↔◌, ℕ, length, IsSome, IfSome};
+ghost use Rattle.std.proofs.Common.{rules};
+ghost use Rattle.std.specs.Cmp.Rules.{comparing};
+ghost use Rattle.ov_base.specs.Sets.{empty, has, with, without, within, union, size, IsBelow, bytes_of, set_of_bytes};
+ghost use Rattle.ov_base.specs.Words.{set_of_words};
+
+mod words;
+
+use std::marker::Model;
+
+/// A set of users, who are numbers below `64 * W`, for a W from 1 to 1,024.
+///
+/// A contract sees a set as its members and knows nothing of W, so sets of two widths with the same members
+/// are one set. A set is kept in place: no call takes memory.
+#[derive(Drop)]
+pub struct UserSet<const W: usize> {
+    words: [u64; W],
+}
+
+/// Sets of at most 256 users.
+pub type Users = UserSet<4>;
+
+impl<const W: usize> Model for UserSet<W> {
+    ghost Value = { ℕ };
+
+    ghost view = { λ s. set_of_words s.words };
+
+    ghost invariant = { λ s. (1 ≤ length s.words) × (length s.words ≤ 1024) };
+}
+
+impl<const W: usize> UserSet<W> {
+    /// The set without members.
+    pub fn empty() -> Self
+        requires { (1 ≤ W) × (W ≤ 1024) }
+        ensures { result ≡ empty }
+    {
+        UserSet { words: [0; W] }
+    }
+
+    /// An equal set.
+    pub fn copy(&self) -> Self
+        ensures { result ≡ self.now }
+    {
+        UserSet { words: self.words }
+    }
+
+    /// Whether the user is in the set; no user of `64 * W` or more is.
+    pub fn contains(&self, user: u32) -> bool
+        ensures member { result ≡ has self.now user }
+        ensures limit { IsBelow (64 * W) self.now }
+    {
+        words::has(&self.words, user)
+    }
+
+    /// The set with this user besides.
+    pub fn with(&self, user: u32) -> Self
+        requires { user < 64 * W }
+        ensures { result ≡ with self.now user }
+    {
+        UserSet {
+            words: words::with(&self.words, user),
+        }
+    }
+
+    /// The set without this user.
+    pub fn without(&self, user: u32) -> Self
+        requires { user < 64 * W }
+        ensures { result ≡ without self.now user }
+    {
+        UserSet {
+            words: words::without(&self.words, user),
+        }
+    }
+
+    /// The users of this set and of the other.
+    pub fn union(&self, other: &Self) -> Self
+        ensures { result ≡ union self.now other.now }
+    {
+        let mut words = self.words;
+        words::unite(&mut words, &other.words);
+        UserSet { words }
+    }
+
+    /// Whether each user of this set is in the other.
+    pub fn within(&self, other: &Self) -> bool
+        ensures { result ≡ within self.now other.now }
+    {
+        words::are_within(&self.words, &other.words)
+    }
+
+    /// How many users are in the set.
+    pub fn count(&self) -> u32
+        ensures size { result ≡ size self.now }
+        ensures limit { result ≤ 64 * W }
+        ensures width { (1 ≤ W) × (W ≤ 1024) }
+    {
+        words::count(&self.words)
+    }
+
+    /// Writes the set as `8 * W` bytes: user n is bit `n % 8`, counted from the least, of byte `n / 8`.
+    pub fn write(&self, out: &mut [u8])
+        requires { length out.old ≡ 8 * W }
+        ensures bytes { out.new ≡ bytes_of (8 * W) self.now }
+        ensures whole { set_of_bytes out.new ≡ self.now }
+    {
+        words::write(&self.words, out);
+    }
+
+    /// The set that is written so.
+    pub fn read(bytes: &[u8]) -> Option<Self>
+        requires { (1 ≤ W) × (W ≤ 1024) }
+        ensures found { IsSome result ↔ (length bytes.now ≡ 8 * W) }
+        ensures set { IfSome result (λ set. set ≡ set_of_bytes bytes.now) }
+        ensures bytes { IfSome result (λ set. bytes_of (8 * W) set ≡ bytes.now) }
+    {
+        if bytes.len() != 8 * W {
+            return None;
+        }
+        let mut words = [0; W];
+        words::read(bytes, &mut words);
+        Some(UserSet { words })
+    }
+}
+
+impl<const W: usize> PartialEq for UserSet<W> {
+    ghost eq = { ◌==◌ };
+
+    ghost laws = { Prim.search (comparing, rules) };
+
+    fn eq(&self, other: &Self) -> bool {
+        words::are_same(&self.words, &other.words)
+    }
+}
+
+#[cfg(test)]
+mod tests {
+    use super::*;
+    use std::process::Abort;
+
+    /// The first and the last user of a width, and the bytes of the two.
+    fn ends_of_a_width<const W: usize>(rt: &impl Abort, bytes: &mut [u8])
+        requires width { (1 ≤ W) × (W ≤ 1024) }
+        requires bytes { length bytes.old ≡ 8 * W }
+    {
+        let last = (64 * W - 1) as u32;
+        let first_only = UserSet::<W>::empty().with(0);
+        let both = first_only.with(last);
+        assert!(rt; both.contains(0) && both.contains(last));
+        assert!(rt; !both.contains(1) && !both.contains(last + 1) && !both.contains(u32::MAX));
+        assert!(rt; first_only.within(&both) && !both.within(&first_only));
+        assert!(rt; both.without(last) == first_only);
+        assert!(rt; both.copy() == first_only.union(&both) && both != first_only);
+        assert_eq!(rt; both.count(), 2);
+        both.write(bytes);
+        assert_eq!(rt; bytes[0], 1);
+        assert_eq!(rt; bytes[8 * W - 1], 0x80);
+        assert!(rt; UserSet::<W>::read(bytes) == Some(both));
+        assert!(rt; UserSet::<W>::read(&bytes[1..]).is_none());
+    }
+
+    #[test]
+    fn ends_of_each_width(rt: HostRuntime) {
+        ends_of_a_width::<1>(&rt, &mut [0; 8]);
+        ends_of_a_width::<4>(&rt, &mut [0; 32]);
+        ends_of_a_width::<16>(&rt, &mut [0; 128]);
+    }
+
+    #[test]
+    fn users_as_bits_of_bytes(rt: HostRuntime) {
+        let set = UserSet::<4>::empty().with(9).with(17).with(63).with(64);
+        let mut bytes = [0; 32];
+        set.write(&mut bytes);
+        assert_eq!(rt;
+            &bytes[..9],
+            [0, 0b10, 0b10, 0, 0, 0, 0, 0x80, 1].as_slice()
+        );
+    }
+}

@@ -1,0 +1,14 @@
+-- What is kept of candidates while they are put in order.
+use Rattle.std.specs.Prelude.{ℕ, ◌-◌, List, map, slice_index}
+use Rattle.ov_base.specs.Sets.{size}
+use Rattle.ov_graph.specs.declared.covering.Candidate.{Candidate}
+
+-- a node with the number of users of the set that its own lacks
+abbrev pub entry : List ℕ → ℕ → ℕ → Candidate
+entry sets set node = record { node = node; lacks = size set - size (slice_index sets node) }
+
+abbrev pub entries : List ℕ → ℕ → List ℕ → List Candidate
+entries sets set nodes = map (entry sets set) nodes
+
+abbrev pub nodes_of : List Candidate → List ℕ
+nodes_of candidates = map (λ (c : Candidate). c.node) candidates

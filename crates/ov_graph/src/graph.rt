@@ -1,0 +1,101 @@
+//! What every graph of keys does.
+ghost use Rattle.std.specs.Prelude.{◌≡◌, ◌↔◌, ◌<◌, ◌≤◌, ◌+◌, ◌++◌, [], ◌∷◌, ℕ, length, slice_index};
+ghost use Rattle.std.specs.Prelude.{Err, IfOk, OnOk, IsTrue};
+ghost use Rattle.ov_base.specs.Sets.{size};
+ghost use Rattle.ov_graph.specs.Contents.{Contents, edges_to, joined, node_of, plan_of};
+ghost use Rattle.ov_graph.specs.Contents.{HasNode, HasRoom, IsGraph};
+ghost use Rattle.ov_graph.specs.Reach.{IsEdge, IsRooted, LeadsByMembership};
+
+use crate::{Cover, GraphRefusal};
+use ov_base::{Memory, UserSet};
+use ov_tokens::{Edge, Layer, Tokens};
+use std::alloc::Global;
+
+/// A graph of the keys of a layer: nodes, numbered from 0, each with a set of users of its own, and the
+/// edges that lead into each node.
+pub trait Graph<L: Layer, const W: usize>: Drop {
+    /// Its sets, its edges, and for how many more of both there is room.
+    ghost contents: { Self → Contents };
+
+    /// A graph without nodes.
+    fn new(alloc: Global) -> Result<Self, Memory>
+        ensures sets { IfOk result (λ graph. (contents graph).sets ≡ []) }
+        ensures edges { IfOk result (λ graph. (contents graph).edges ≡ []) };
+
+    /// How many nodes it has.
+    fn count(&self) -> u32
+        ensures nodes { result ≡ length (contents self.now).sets }
+        ensures few { result ≤ 4096 };
+
+    /// The node that has this set.
+    fn find(&self, set: &UserSet<W>) -> Option<u32>
+        ensures { result ≡ node_of (contents self.now).sets set.now };
+
+    /// The set of a node.
+    fn set_of(&self, node: u32) -> UserSet<W>
+        requires { HasNode (contents self.now) node }
+        ensures { result ≡ slice_index (contents self.now).sets node };
+
+    /// The edges into a node, in the order of its cover.
+    fn in_tokens(&self, node: u32) -> &[Edge]
+        requires { HasNode (contents self.now) node }
+        ensures { result.now ≡ edges_to (contents self.now) node };
+
+    /// What a set gets that comes after the sets of the nodes and then those of `before`.
+    fn plan(
+        &self,
+        alloc: Global,
+        before: &[UserSet<W>],
+        set: &UserSet<W>,
+    ) -> Result<Cover, GraphRefusal>
+        requires { length (contents self.now).sets + length before.now ≤ 4096 }
+        ensures cover { let sets = (contents self.now).sets ++ before.now in
+            IfOk result (λ cover. cover ≡ plan_of sets set.now) }
+        ensures full { let sets = (contents self.now).sets ++ before.now in
+            (result ≡ Err GraphRefusal.NodesFull)
+            ↔ ((length sets ≡ 4096) × IsTrue (plan_of sets set.now).fresh) }
+        ensures few { IfOk result (λ cover. length cover.from ≤ size set.now) }
+        ensures none { size set.now ≤ 1 → IfOk result (λ cover. cover.from ≡ []) };
+
+    /// Makes room for so many more sets and so many more edges.
+    fn reserve(&mut self, sets: u32, edges: u32) -> Result<(), Memory>
+        ensures sets { (contents self.new).sets ≡ (contents self.old).sets }
+        ensures edges { (contents self.new).edges ≡ (contents self.old).edges }
+        ensures room { OnOk result (HasRoom (contents self.new) sets edges) };
+
+    /// Adds a set as it was planned, with a token for each edge of its cover. It takes no memory.
+    fn add(&mut self, set: &UserSet<W>, cover: Cover, tokens: Tokens)
+        requires nodes { length (contents self.old).sets < 4096 }
+        requires roots { IsRooted (contents self.old).sets set.now }
+        requires cover { cover ≡ plan_of (contents self.old).sets set.now }
+        requires fresh { IsTrue cover.fresh }
+        requires tokens { length tokens ≡ length cover.from }
+        requires room { HasRoom (contents self.old) 1 (length tokens) }
+        ensures sets { (contents self.new).sets ≡ (contents self.old).sets ++ set.now ∷ [] }
+        ensures edges { let edges = joined cover.from tokens in
+            (contents self.new).edges ≡ (contents self.old).edges ++ edges ∷ [] }
+        ensures room { (sets edges : ℕ)
+            → HasRoom (contents self.old) (sets + 1) (edges + length tokens)
+            → HasRoom (contents self.new) sets edges };
+
+    /// Does nothing. Its contract is what holds of every graph, for code that knows the trait alone.
+    fn known(&self)
+        ensures graph { IsGraph (contents self.now).sets (contents self.now).edges }
+        ensures few { length (contents self.now).sets ≤ 4096 };
+}
+
+/// Does nothing. Its contract is the theorem of the graph: the node of a user alone leads over the edges to
+/// exactly the nodes whose sets have the user. Edges go from lower numbers to higher; at most as many come
+/// into a node as its set has users, and none into the node of the empty set or of a user alone.
+pub fn leads_by_membership<L: Layer, G: Graph<L, W>, const W: usize>(graph: &G)
+    ensures reach { LeadsByMembership (G.contents graph.now).sets }
+    ensures upward { (from to : ℕ) → IsEdge (G.contents graph.now).sets from to → from < to }
+    ensures few { let graph = G.contents graph.now in
+        (node : ℕ) → HasNode graph node
+        → length (edges_to graph node) ≤ size (slice_index graph.sets node) }
+    ensures none { let graph = G.contents graph.now in
+        (node : ℕ) → HasNode graph node
+        → size (slice_index graph.sets node) ≤ 1 → edges_to graph node ≡ [] }
+{
+    graph.known();
+}
