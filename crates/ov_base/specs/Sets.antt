@@ -1,5 +1,6 @@
--- Sets of users. A set is the number whose bit n is one exactly where user n is in it. So every number is a set,
--- two sets with the same members are equal, and nothing here knows how many users there can be.
+-- Sets of users. A set is the number whose bit n is one exactly where user n is in it. So every
+-- number is a set, two sets with the same members are equal, and nothing here knows how many users
+-- there can be.
 use Rattle.std.specs.Prelude.{ℕ, zero, suc, ◌+◌, ◌*◌, ◌/◌, ◌%◌, ◌<◌, ◌^◌, ◌==◌, Bool, IsTrue, List, [], ◌∷◌, bit_and, bit_or, bit_xor, count_ones}
 use Rattle.std.specs.Int.{bit_at}
 

@@ -1,7 +1,6 @@
 //! Sets of users.
 ghost use Rattle.std.specs.Prelude.{◌≡◌, ◌<◌, ◌≤◌, ◌*◌, ◌==◌, ◌↔◌, ℕ, length, IsSome, IfSome};
-ghost use Rattle.std.proofs.Common.{rules};
-ghost use Rattle.std.specs.Cmp.Rules.{comparing};
+ghost use Rattle.std.specs.Cmp.{nat_eq_equiv, partial_equiv_from_equiv};
 ghost use Rattle.ov_base.specs.Sets.{empty, has, with, without, within, union, size, IsBelow, bytes_of, set_of_bytes};
 ghost use Rattle.ov_base.specs.Words.{set_of_words};
 
@@ -11,8 +10,8 @@ use std::marker::Model;
 
 /// A set of users, who are numbers below `64 * W`, for a W from 1 to 1,024.
 ///
-/// A contract sees a set as its members and knows nothing of W, so sets of two widths with the same members
-/// are one set. A set is kept in place: no call takes memory.
+/// A contract sees a set as its members and knows nothing of W, so sets of two widths with the same
+/// members are one set. A set is kept in place: no call takes memory.
 #[derive(Drop)]
 pub struct UserSet<const W: usize> {
     words: [u64; W],
@@ -98,7 +97,8 @@ impl<const W: usize> UserSet<W> {
         words::count(&self.words)
     }
 
-    /// Writes the set as `8 * W` bytes: user n is bit `n % 8`, counted from the least, of byte `n / 8`.
+    /// Writes the set as `8 * W` bytes: user n is bit `n % 8`, counted from the least, of byte `n /
+    /// 8`.
     pub fn write(&self, out: &mut [u8])
         requires { length out.old ≡ 8 * W }
         ensures bytes { out.new ≡ bytes_of (8 * W) self.now }
@@ -126,7 +126,7 @@ impl<const W: usize> UserSet<W> {
 impl<const W: usize> PartialEq for UserSet<W> {
     ghost eq = { ◌==◌ };
 
-    ghost laws = { Prim.search (comparing, rules) };
+    ghost laws = { partial_equiv_from_equiv nat_eq_equiv };
 
     fn eq(&self, other: &Self) -> bool {
         words::are_same(&self.words, &other.words)

@@ -19,8 +19,8 @@ IsFirst sets root distance (first ∷ others) edge =
     (IsDistance sets root first.from distance × (edge ≡ first))
     ⊎ (¬ IsDistance sets root first.from distance × IsFirst sets root distance others edge)
 
--- The steps to a node that lies so many edges from the root. Going back from its end, each step is the first of the
--- edges into its node whose start lies one edge nearer to the root.
+-- The steps to a node that lies so many edges from the root. Going back from its end, each step is
+-- the first of the edges into its node whose start lies one edge nearer to the root.
 abbrev pub IsChosen : Kind → Contents → ℕ → ℕ → ℕ → List Step → Type 0
 IsChosen kind graph root node zero steps = (root ≡ node) × (steps ≡ [])
 IsChosen kind graph root node (suc distance) steps =

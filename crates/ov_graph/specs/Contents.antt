@@ -46,7 +46,8 @@ planned None sets set = record { node = length sets; fresh = true; from = cover_
 abbrev pub plan_of : List ℕ → ℕ → Cover
 plan_of sets set = planned (node_of sets set) sets set
 
--- what holds of each graph: its sets are grown, and the edges into each node come from the cover of its set
+-- what holds of each graph: its sets are grown, and the edges into each node come from the cover of
+-- its set
 pub record IsGraph (sets : List ℕ) (edges : List (List Edge)) : Type 0 where
   pub grown : IsGrown sets
   pub rows : length edges ≡ length sets

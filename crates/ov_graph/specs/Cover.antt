@@ -1,4 +1,5 @@
--- The cover of a set by the sets before it. A list of sets gives each node's set at the node's number.
+-- The cover of a set by the sets before it. A list of sets gives each node's set at the node's
+-- number.
 use Rattle.std.specs.Prelude.{ℕ, zero, suc, ◌+◌, ◌==◌, ◌&&◌, not, Bool, true, false, List, [], ◌∷◌, ◌++◌, slice_index, filter}
 use Rattle.ov_base.specs.Sets.{empty, size, union, within}
 
@@ -20,12 +21,14 @@ candidates_from set node (earlier ∷ sets) = put_if (is_candidate set earlier) 
 abbrev pub has_size : List ℕ → ℕ → ℕ → Bool
 has_size sets users node = size (slice_index sets node) == users
 
--- those of the nodes whose sets have fewer than so many users: larger sets first, then in the order of the list
+-- those of the nodes whose sets have fewer than so many users: larger sets first, then in the order
+-- of the list
 abbrev pub larger_first : List ℕ → ℕ → List ℕ → List ℕ
 larger_first sets zero nodes = []
 larger_first sets (suc users) nodes = filter (has_size sets users) nodes ++ larger_first sets users nodes
 
--- the nodes whose sets, each at its turn, have a user that neither `covered` nor a kept node's set has
+-- the nodes whose sets, each at its turn, have a user that neither `covered` nor a kept node's set
+-- has
 abbrev pub kept : List ℕ → ℕ → List ℕ → List ℕ
 kept sets covered [] = []
 kept sets covered (node ∷ nodes) =

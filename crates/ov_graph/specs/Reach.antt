@@ -16,7 +16,8 @@ abbrev pub Walk : List ℕ → ℕ → ℕ → ℕ → Type 0
 Walk sets from to zero = from ≡ to
 Walk sets from to (suc edges) = (near : ℕ) × Walk sets from near edges × IsEdge sets near to
 
--- the edges lead from the one node to the other, or they are one: the least relation that is closed under edges
+-- the edges lead from the one node to the other, or they are one: the least relation that is closed
+-- under edges
 abbrev pub Leads : List ℕ → ℕ → ℕ → Type 0
 Leads sets from to = (edges : ℕ) × Walk sets from to edges
 

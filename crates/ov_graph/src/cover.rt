@@ -7,8 +7,8 @@ use ov_tokens::Numbers;
 
 /// What a set gets that comes after the sets of a graph.
 ///
-/// A fresh set gets the next node, and an edge from each node of `from`, in this order. A set that is there
-/// already has its node, and `from` is empty.
+/// A fresh set gets the next node, and an edge from each node of `from`, in this order. A set that
+/// is there already has its node, and `from` is empty.
 #[derive(Drop)]
 pub struct Cover {
     pub node: u32,

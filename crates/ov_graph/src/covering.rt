@@ -12,7 +12,8 @@ use ov_base::{Memory, UserSet};
 use ov_tokens::Numbers;
 use std::alloc::{AllocError, Global};
 
-/// A node whose set is a nonempty strict subset of the set that is covered, and how many users it lacks.
+/// A node whose set is a nonempty strict subset of the set that is covered, and how many users it
+/// lacks.
 #[derive(Clone, Copy)]
 pub struct Candidate {
     node: u32,

@@ -11,8 +11,8 @@ use ov_base::{Memory, UserSet};
 use ov_tokens::{Edge, Layer, Tokens};
 use std::alloc::Global;
 
-/// A graph of the keys of a layer: nodes, numbered from 0, each with a set of users of its own, and the
-/// edges that lead into each node.
+/// A graph of the keys of a layer: nodes, numbered from 0, each with a set of users of its own, and
+/// the edges that lead into each node.
 pub trait Graph<L: Layer, const W: usize>: Drop {
     /// Its sets, its edges, and for how many more of both there is room.
     ghost contents: { Self → Contents };
@@ -78,15 +78,17 @@ pub trait Graph<L: Layer, const W: usize>: Drop {
             → HasRoom (contents self.old) (sets + 1) (edges + length tokens)
             → HasRoom (contents self.new) sets edges };
 
-    /// Does nothing. Its contract is what holds of every graph, for code that knows the trait alone.
+    /// Does nothing. Its contract is what holds of every graph, for code that knows the trait
+    /// alone.
     fn known(&self)
         ensures graph { IsGraph (contents self.now).sets (contents self.now).edges }
         ensures few { length (contents self.now).sets ≤ 4096 };
 }
 
-/// Does nothing. Its contract is the theorem of the graph: the node of a user alone leads over the edges to
-/// exactly the nodes whose sets have the user. Edges go from lower numbers to higher; at most as many come
-/// into a node as its set has users, and none into the node of the empty set or of a user alone.
+/// Does nothing. Its contract is the theorem of the graph: the node of a user alone leads over the
+/// edges to exactly the nodes whose sets have the user. Edges go from lower numbers to higher; at
+/// most as many come into a node as its set has users, and none into the node of the empty set or
+/// of a user alone.
 pub fn leads_by_membership<L: Layer, G: Graph<L, W>, const W: usize>(graph: &G)
     ensures reach { LeadsByMembership (G.contents graph.now).sets }
     ensures upward { (from to : ℕ) → IsEdge (G.contents graph.now).sets from to → from < to }

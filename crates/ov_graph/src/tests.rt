@@ -69,7 +69,8 @@ fn put<L: Layer, G: Graph<L, W>, const W: usize>(
     Ok(())
 }
 
-/// The starts of the edges to all four of users a to d, who have {a, b} and {b, c} besides their own sets.
+/// The starts of the edges to all four of users a to d, who have {a, b} and {b, c} besides their
+/// own sets.
 fn four_users<L: Layer, G: Graph<L, W>, const W: usize>(
     rt: &impl Abort,
     alloc: Global,
