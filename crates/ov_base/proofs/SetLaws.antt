@@ -1,9 +1,10 @@
 -- Which users are in a set, and that a set is its members.
-use Rattle.std.proofs.Common.{◌≡◌, ℕ, zero, suc, ◌+◌, ◌%◌, ◌^◌, ◌<◌, Bool, true, false, not, refl, sym, ◌∙◌, ap, arith, ◌&&◌, ◌||◌, ◌==◌, ◌⊎◌, inl, inr, true≢false, min, eq-eqb}
+use Rattle.std.proofs.Common.{◌≡◌, ℕ, zero, suc, ◌+◌, ◌%◌, ◌^◌, ◌<◌, Bool, true, false, not, refl, sym, ◌∙◌, ap, arith, ◌&&◌, ◌||◌, ◌==◌, ◌⊎◌, inl, inr, true≢false, min, eq-eqb, ◌/◌, ◌*◌, ◌≤◌}
 use Rattle.std.specs.Prelude.{bit_and, max}
 use Rattle.std.specs.Int.{bit_at}
 use Rattle.std.proofs.lemmas.Bool.{cases_eq, cases_lt, eqb-true, ne_eqb}
-use Rattle.std.proofs.lemmas.Nat.Bits.{bit_at_or, bit_at_and, bit_at_xor, bit_at-lt, bit_at-zero, bit_at-pow_same, bit_at-pow_other, bit_at_above, same_from_bits}
+use Rattle.std.proofs.lemmas.Nat.{mod_below, pow_pos, shr_split}
+use Rattle.std.proofs.lemmas.Nat.Bits.{bit_at_cat_low, bit_at_or, bit_at_and, bit_at_xor, bit_at-lt, bit_at-zero, bit_at-pow_same, bit_at-pow_other, bit_at_above, same_from_bits}
 use Rattle.ov_base.specs.Sets.{empty, single, has, Has, union, within, Within, with, without, IsBelow}
 
 -- a member's bit is one
@@ -212,6 +213,21 @@ small-IsBelow limit s h n one = elim (cases_lt n limit) [
   | inl below ↦ below
   | inr above ↦ absurd (omega (arith, bit_at_above s limit n h above, Has-bit s n one))
 ]
+
+-- and the other way round
+pub IsBelow-small : (limit s : ℕ) → IsBelow limit s → s < 2 ^ limit
+IsBelow-small limit s below =
+    let low : s % 2 ^ limit < 2 ^ limit = mod_below s (2 ^ limit) (pow_pos limit) in
+    let whole : (s / 2 ^ limit) * 2 ^ limit + s % 2 ^ limit ≡ s = shr_split s limit in
+    rw (same_from_bits s (s % 2 ^ limit) (λ n. elim (cases_lt n limit) [
+      | inl less ↦ ap (λ x. bit_at x n) (sym whole) ∙ bit_at_cat_low (s / 2 ^ limit) limit (s % 2 ^ limit) n less
+      | inr more ↦ none_above n more ∙ sym (bit_at_above (s % 2 ^ limit) limit n low more)
+    ])) low where
+      none_above : (n : ℕ) → limit ≤ n → bit_at s n ≡ 0
+      none_above n more = elim (cases_eq (bit_at s n) 1) [
+        | inl one ↦ absurd (omega (arith, below n (bit-Has s n one)))
+        | inr other ↦ omega (arith, bit_at-lt s n)
+      ]
 
 pub IsBelow-Within : (limit a b : ℕ) → Within a b → IsBelow limit b → IsBelow limit a
 IsBelow-Within limit a b p q n h = q n (p n h)

@@ -1,11 +1,12 @@
 -- How many users are in a set.
-use Rattle.std.proofs.Common.{ℕ, suc, zero, ◌≡◌, ◌≢◌, ◌<◌, ◌≤◌, ◌+◌, ◌*◌, ◌/◌, ◌%◌, ◌^◌, sym, ◌∙◌, ap, arith, inl, inr}
-use Rattle.std.proofs.lemmas.Bool.{cases_eq}
-use Rattle.std.proofs.lemmas.Nat.{ones_cat, ones_le_self, zero_from_ones, pow_pos}
-use Rattle.std.proofs.lemmas.Nat.Bits.{bit_at-suc, bit_at_lowest}
+use Rattle.std.proofs.Common.{ℕ, suc, zero, ◌≡◌, ◌≢◌, ◌<◌, ◌≤◌, ◌+◌, ◌*◌, ◌/◌, ◌%◌, ◌^◌, sym, ◌∙◌, ap, arith, inl, inr, Bool, true, false, not, ◌&&◌, ◌||◌, ◌==◌, refl, true≢false, min, eq-eqb}
+use Rattle.std.specs.Prelude.{bit_and, max}
+use Rattle.std.proofs.lemmas.Bool.{cases_eq, ne_eqb}
+use Rattle.std.proofs.lemmas.Nat.{ones_cat, ones_le_self, zero_from_ones, pow_pos, or_shr, and_shr}
+use Rattle.std.proofs.lemmas.Nat.Bits.{bit_at-suc, bit_at_lowest, bit_at_or, bit_at_and}
 use Rattle.std.specs.Int.{bit_at}
-use Rattle.ov_base.specs.Sets.{empty, single, Has, Within, size}
-use Rattle.ov_base.proofs.SetLaws.{Has-bit, bit-Has, single_within}
+use Rattle.ov_base.specs.Sets.{empty, single, has, Has, Within, union, size, with, without}
+use Rattle.ov_base.proofs.SetLaws.{Has-bit, bit-Has, Has-single, each_within, single_within, empty-Has, empty_within, has-both, has-with, has-without, same_members, union_same, union_within_left}
 
 size_bit : (r : ℕ) → r < 2 → size r ≡ r
 size_bit r h = elim (cases_eq r 0) [
@@ -92,3 +93,92 @@ size_one s n h e = sym (same_size (single n) s (single_within n s h) (size-singl
 -- a set with a user has one at least
 pub size_some : (s n : ℕ) → Has s n → 1 ≤ size s
 size_some s n h = omega (arith, size-single n, size-Within (single n) s (single_within n s h))
+
+-- ---- tests
+
+and_parts : (x y : Bool) → (x && y) ≡ true → (x ≡ true) × (y ≡ true)
+and_parts true y e = (refl, e)
+and_parts false y e = absurd (true≢false (sym e))
+
+and_true : (x : Bool) → (x && true) ≡ x
+and_true true = refl
+and_true false = refl
+
+and_false : (x : Bool) → (x && false) ≡ false
+and_false true = refl
+and_false false = refl
+
+and_true_or : (x : Bool) → ((x && true) || false) ≡ x
+and_true_or true = refl
+and_true_or false = refl
+
+and_false_or : (x : Bool) → ((x && false) || true) ≡ true
+and_false_or true = refl
+and_false_or false = refl
+
+-- ---- sizes of unions
+
+low_union : (a b : ℕ) → union a b % 2 + bit_and a b % 2 ≡ a % 2 + b % 2
+low_union a b =
+    let or_bit : union a b % 2 ≡ max (a % 2) (b % 2) =
+    sym (bit_at_lowest (union a b)) ∙ bit_at_or a b 0 ∙ ap (λ x. max x (bit_at b 0)) (bit_at_lowest a) ∙ ap (λ y. max (a % 2) y) (bit_at_lowest b) in
+    let and_bit : bit_and a b % 2 ≡ min (a % 2) (b % 2) =
+    sym (bit_at_lowest (bit_and a b)) ∙ bit_at_and a b 0 ∙ ap (λ x. min x (bit_at b 0)) (bit_at_lowest a) ∙ ap (λ y. min (a % 2) y) (bit_at_lowest b) in
+    omega arith
+
+union_up_to : (w a b : ℕ) → a ≤ w → b ≤ w → size (union a b) + size (bit_and a b) ≡ size a + size b
+union_up_to zero a b h k =
+    let no_a : a ≡ empty = omega arith in
+    let no_b : b ≡ empty = omega arith in
+    rw (no_a, no_b, union_same empty, none_both) refl where
+      none_both : bit_and empty empty ≡ empty
+      none_both = each_within _ _ (λ n h. absurd (empty-Has n ((and_parts (has empty n) (has empty n) (sym (has-both empty empty n) ∙ h)).0))) (empty_within _)
+union_up_to (suc w) a b h k =
+    let or_half : union a b / 2 ≡ union (a / 2) (b / 2) = or_shr a b 1 in
+    let and_half : bit_and a b / 2 ≡ bit_and (a / 2) (b / 2) = and_shr a b 1 in
+    let rest = union_up_to w (a / 2) (b / 2) (omega arith) (omega arith) in
+    omega (arith, halves (union a b), halves (bit_and a b), halves a, halves b, low_union a b, ap size or_half, ap size and_half)
+
+-- a union has the users of both sets, those of both counted once
+pub size-union : (a b : ℕ) → size (union a b) + size (bit_and a b) ≡ size a + size b
+size-union a b = union_up_to (a + b) a b (omega arith) (omega arith)
+
+pub size-union-le : (a b : ℕ) → size (union a b) ≤ size a + size b
+size-union-le a b = omega (arith, size-union a b)
+
+-- ---- one user more or less
+
+pub size-with : (s n : ℕ) → has s n ≡ false → size (with s n) ≡ size s + 1
+size-with s n new =
+    let apart : bit_and s (single n) ≡ empty = each_within _ _ (none_shared s n new) (empty_within _) in
+    omega (arith, size-union s (single n), size-single n, ap size apart, size-empty) where
+      none_shared : (s n : ℕ) → has s n ≡ false → Within (bit_and s (single n)) empty
+      none_shared s n new m h =
+          let parts = and_parts (has s m) (has (single n) m) (sym (has-both s (single n) m) ∙ h) in
+          absurd (true≢false (sym parts.0 ∙ ap (has s) (Has-single n m parts.1) ∙ new))
+
+pub with_member : (s n : ℕ) → Has s n → with s n ≡ s
+with_member s n h = union_within_left (single n) s (single_within n s h)
+
+pub without_other : (s n : ℕ) → has s n ≡ false → without s n ≡ s
+without_other s n absent = same_members _ _ (λ m. has-without s n m ∙ keeps m) where
+  keeps : (m : ℕ) → (has s m && not (m == n)) ≡ has s m
+  keeps m = elim (cases_eq m n) [
+    | inl same ↦ rw (same, absent) refl
+    | inr other ↦ rw (ne_eqb m n other) (and_true (has s m))
+  ]
+
+-- a user who is put back
+pub with-without : (s n : ℕ) → Has s n → with (without s n) n ≡ s
+with-without s n h = same_members _ _ (λ m. has-with (without s n) n m ∙ ap (λ b. b || m == n) (has-without s n m) ∙ back m) where
+  back : (m : ℕ) → ((has s m && not (m == n)) || m == n) ≡ has s m
+  back m = elim (cases_eq m n) [
+    | inl same ↦ rw (same, h, eq-eqb n n refl) refl
+    | inr other ↦ rw (ne_eqb m n other) (and_true_or (has s m))
+  ]
+
+pub without-has : (s n : ℕ) → has (without s n) n ≡ false
+without-has s n = has-without s n n ∙ rw (eq-eqb n n refl) (and_false (has s n))
+
+pub size-without : (s n : ℕ) → Has s n → size (without s n) + 1 ≡ size s
+size-without s n h = sym (size-with (without s n) n (without-has s n)) ∙ ap size (with-without s n h)

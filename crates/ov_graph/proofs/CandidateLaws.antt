@@ -1,12 +1,12 @@
 -- The candidates of a cover.
-use Rattle.std.proofs.Common.{ℕ, zero, suc, ◌≡◌, ◌≢◌, ◌<◌, ◌≤◌, ◌+◌, ◌-◌, Bool, true, false, not, ◌&&◌, ◌==◌, List, [], ◌∷◌, ◌++◌, length, get_or, refl, sym, ◌∙◌, ap, subst, arith, ◌⊎◌, inl, inr, eq-eqb, eqb-true, true≢false}
+use Rattle.std.proofs.Common.{ℕ, zero, suc, ◌≡◌, ◌≢◌, ◌<◌, ◌+◌, Bool, true, false, not, ◌&&◌, ◌==◌, List, [], ◌∷◌, length, refl, sym, ◌∙◌, ap, arith, inl, inr, eq-eqb, true≢false}
 use Rattle.std.specs.Prelude.{Contains, filter, slice_index}
 use Rattle.std.proofs.lemmas.Bool.{cases_eq, ne_eqb}
 use Rattle.std.proofs.lemmas.List.Elements.{Contains-append_left, Contains-append_right, Contains-append_cases}
 use Rattle.ov_base.specs.Sets.{empty, size, Within, within}
 use Rattle.ov_base.proofs.SetLaws.{within-Within, Within-within}
 use Rattle.ov_base.proofs.SetSizes.{size-empty, size-strict, size_none}
-use Rattle.ov_graph.specs.Cover.{put_if, is_candidate, candidates_from, has_size, larger_first}
+use Rattle.ov_graph.specs.Cover.{is_candidate, candidates_from, has_size, larger_first}
 use Rattle.ov_graph.proofs.ListLaws.{Contains-none, Contains-put_if, put_if-first, put_if-later, Contains-filter, filter-Contains}
 
 -- what a candidate is
@@ -43,7 +43,8 @@ empty_is_none set earlier h = rw (eq-eqb _ _ (size_none earlier h)) refl
 pub outside_is_none : (set earlier : ℕ) → within earlier set ≡ false → is_candidate set earlier ≡ false
 outside_is_none set earlier h = elim (earlier == empty) as (λ b. (not b && within earlier set && not (earlier == set)) ≡ false) [ true ↦ refl | false ↦ rw h refl ]
 
-pub inside_is : (set earlier : ℕ) → size earlier ≢ 0 → within earlier set ≡ true → is_candidate set earlier ≡ not (earlier == set)
+pub inside_is : (set earlier : ℕ) → size earlier ≢ 0 → within earlier set ≡ true
+    → is_candidate set earlier ≡ not (earlier == set)
 inside_is set earlier some h = rw (ne_eqb earlier empty (λ none. some (ap size none ∙ size-empty)), h) refl
 
 -- it has fewer users
@@ -52,7 +53,8 @@ candidate-size set earlier h = let c = candidate-is set earlier h in size-strict
 
 -- ---- where the candidates are
 
-pub from_candidates : (set node : ℕ) (sets : List ℕ) (x : ℕ) → Contains (candidates_from set node sets) x
+pub from_candidates : (set node : ℕ) (sets : List ℕ) (x : ℕ)
+    → Contains (candidates_from set node sets) x
     → (k : ℕ) × (k < length sets) × (x ≡ node + k) × (is_candidate set (slice_index sets k) ≡ true)
 from_candidates set node [] x h = absurd (Contains-none x h)
 from_candidates set node (earlier ∷ sets) x h = elim (Contains-put_if (is_candidate set earlier) node (candidates_from set (node + 1) sets) x h) [
@@ -60,7 +62,8 @@ from_candidates set node (earlier ∷ sets) x h = elim (Contains-put_if (is_cand
   | inr later ↦ let r = from_candidates set (node + 1) sets x later in (suc r.0, omega (arith, r.1), omega (arith, r.2), r.3)
 ]
 
-pub to_candidates : (set node : ℕ) (sets : List ℕ) (k x : ℕ) → k < length sets → x ≡ node + k → is_candidate set (slice_index sets k) ≡ true
+pub to_candidates : (set node : ℕ) (sets : List ℕ) (k x : ℕ) → k < length sets → x ≡ node + k
+    → is_candidate set (slice_index sets k) ≡ true
     → Contains (candidates_from set node sets) x
 to_candidates set node [] k x h e is = absurd (omega arith)
 to_candidates set node (earlier ∷ sets) zero x h e is =
@@ -71,14 +74,16 @@ to_candidates set node (earlier ∷ sets) (suc k) x h e is =
 
 -- ---- larger ones first
 
-pub from_larger : (sets : List ℕ) (users : ℕ) (nodes : List ℕ) (x : ℕ) → Contains (larger_first sets users nodes) x → Contains nodes x
+pub from_larger : (sets : List ℕ) (users : ℕ) (nodes : List ℕ) (x : ℕ)
+    → Contains (larger_first sets users nodes) x → Contains nodes x
 from_larger sets zero nodes x h = absurd (Contains-none x h)
 from_larger sets (suc users) nodes x h = elim (Contains-append_cases (filter (has_size sets users) nodes) (larger_first sets users nodes) x h) [
   | inl here ↦ Contains-filter (has_size sets users) nodes x here
   | inr later ↦ from_larger sets users nodes x later
 ]
 
-pub to_larger : (sets : List ℕ) (users : ℕ) (nodes : List ℕ) (x : ℕ) → Contains nodes x → size (slice_index sets x) < users → Contains (larger_first sets users nodes) x
+pub to_larger : (sets : List ℕ) (users : ℕ) (nodes : List ℕ) (x : ℕ) → Contains nodes x
+    → size (slice_index sets x) < users → Contains (larger_first sets users nodes) x
 to_larger sets zero nodes x h less = absurd (omega arith)
 to_larger sets (suc users) nodes x h less = elim (cases_eq (size (slice_index sets x)) users) [
   | inl same ↦ Contains-append_left _ _ x (filter-Contains (has_size sets users) nodes x h (eq-eqb _ _ same))

@@ -1,16 +1,17 @@
 -- The cover of a set.
-use Rattle.std.proofs.Common.{ℕ, zero, suc, ◌≡◌, ◌≢◌, ◌<◌, ◌≤◌, ◌+◌, ◌-◌, Bool, true, false, not, ◌&&◌, ◌==◌, List, [], ◌∷◌, ◌++◌, length, get_or, refl, sym, ◌∙◌, ap, subst, arith, ◌⊎◌, inl, inr, true≢false}
+use Rattle.std.proofs.Common.{ℕ, ◌≡◌, ◌≢◌, ◌<◌, ◌≤◌, ◌+◌, true, false, not, List, [], ◌∷◌, length, refl, sym, ◌∙◌, subst, arith, ◌⊎◌, inl, inr, true≢false}
 use Rattle.std.specs.Prelude.{Contains, slice_index}
 use Rattle.ov_base.specs.Sets.{empty, size, Has, union, Within, within}
 use Rattle.ov_base.proofs.SetLaws.{within-Within, Within-within, empty-Has, empty_within, union-Has, union_left, union_right, union_within}
-use Rattle.ov_base.proofs.SetSizes.{size-empty, size-Within, size-strict, size_none}
-use Rattle.ov_graph.specs.Cover.{put_if, is_candidate, candidates_from, larger_first, kept, cover_of}
-use Rattle.ov_graph.proofs.ListLaws.{Contains-none, Contains-first, Contains-later, Contains-cases, Contains-put_if, put_if-first, put_if-later, nothing_in}
+use Rattle.ov_base.proofs.SetSizes.{size-Within, size-strict, size_none}
+use Rattle.ov_graph.specs.Cover.{put_if, candidates_from, larger_first, kept, cover_of}
+use Rattle.ov_graph.proofs.ListLaws.{Contains-none, Contains-first, Contains-later, Contains-cases, Contains-put_if, put_if-later, nothing_in}
 use Rattle.ov_graph.proofs.CandidateLaws.{IsCandidate, candidate-is, is-candidate, candidate-size, from_candidates, to_candidates, from_larger, to_larger}
 
 module _ (sets : List ℕ) where
   -- a kept node is one of those that might be
-  pub from_kept : (covered : ℕ) (nodes : List ℕ) (x : ℕ) → Contains (kept sets covered nodes) x → Contains nodes x
+  pub from_kept : (covered : ℕ) (nodes : List ℕ) (x : ℕ) → Contains (kept sets covered nodes) x
+      → Contains nodes x
   from_kept covered [] x h = h
   from_kept covered (node ∷ nodes) x h = elim (Contains-put_if (not (within (slice_index sets node) covered)) node _ x h) [
     | inl (new, here) ↦ (0, omega arith, here)
@@ -18,7 +19,9 @@ module _ (sets : List ℕ) where
   ]
 
   -- each user of the nodes was covered, or is a user of a kept one
-  pub kept-has : (covered : ℕ) (nodes : List ℕ) (n u : ℕ) → Contains nodes n → Has (slice_index sets n) u → Has covered u ⊎ ((c : ℕ) × Contains (kept sets covered nodes) c × Has (slice_index sets c) u)
+  pub kept-has : (covered : ℕ) (nodes : List ℕ) (n u : ℕ) → Contains nodes n
+      → Has (slice_index sets n) u
+      → Has covered u ⊎ ((c : ℕ) × Contains (kept sets covered nodes) c × Has (slice_index sets c) u)
   kept-has covered [] n u h one = absurd (Contains-none n h)
   kept-has covered (node ∷ nodes) n u h one = elim (Contains-cases node nodes n h) [
     | inl here ↦
@@ -41,7 +44,9 @@ module _ (sets : List ℕ) where
   ]
 
   -- each kept node adds a user
-  pub kept-few : (covered whole : ℕ) (nodes : List ℕ) → Within covered whole → ((n : ℕ) → Contains nodes n → Within (slice_index sets n) whole) → length (kept sets covered nodes) + size covered ≤ size whole
+  pub kept-few : (covered whole : ℕ) (nodes : List ℕ) → Within covered whole
+      → ((n : ℕ) → Contains nodes n → Within (slice_index sets n) whole)
+      → length (kept sets covered nodes) + size covered ≤ size whole
   kept-few covered whole [] inside each = omega (arith, size-Within covered whole inside)
   kept-few covered whole (node ∷ nodes) inside each =
       let more : ℕ = union covered (slice_index sets node) in
@@ -55,14 +60,16 @@ module _ (sets : List ℕ) where
       ] refl
 
 -- a start is an earlier node whose set is a nonempty strict subset
-pub cover-Contains : (sets : List ℕ) (set c : ℕ) → Contains (cover_of sets set) c → (c < length sets) × IsCandidate set (slice_index sets c)
+pub cover-Contains : (sets : List ℕ) (set c : ℕ) → Contains (cover_of sets set) c
+    → (c < length sets) × IsCandidate set (slice_index sets c)
 cover-Contains sets set c h =
     let r = from_candidates set 0 sets c (from_larger sets (size set) _ c (from_kept sets empty _ c h)) in
     let here : c ≡ r.0 = omega (arith, r.2) in
     (omega (arith, r.1), rw here (candidate-is set (slice_index sets r.0) r.3))
 
 -- each user of such a subset is a user of a start's set
-pub cover-has : (sets : List ℕ) (set n u : ℕ) → n < length sets → IsCandidate set (slice_index sets n) → Has (slice_index sets n) u → (c : ℕ) × Contains (cover_of sets set) c × Has (slice_index sets c) u
+pub cover-has : (sets : List ℕ) (set n u : ℕ) → n < length sets → IsCandidate set (slice_index sets n)
+    → Has (slice_index sets n) u → (c : ℕ) × Contains (cover_of sets set) c × Has (slice_index sets c) u
 cover-has sets set n u inside is one =
     let test = is-candidate set (slice_index sets n) is in
     let there = to_larger sets (size set) _ n (to_candidates set 0 sets n n inside (omega arith) test) (candidate-size set (slice_index sets n) test) in
@@ -72,9 +79,9 @@ cover-has sets set n u inside is one =
 pub cover-few : (sets : List ℕ) (set : ℕ) → length (cover_of sets set) ≤ size set
 cover-few sets set =
     let bound = kept-few sets empty set (larger_first sets (size set) (candidates_from set 0 sets)) (empty_within set) (λ n h.
-      let r = from_candidates set 0 sets n (from_larger sets (size set) _ n h) in
-      let here : n ≡ r.0 = omega (arith, r.2) in
-      rw here (candidate-is set (slice_index sets r.0) r.3).inside) in
+    let r = from_candidates set 0 sets n (from_larger sets (size set) _ n h) in
+    let here : n ≡ r.0 = omega (arith, r.2) in
+    rw here (candidate-is set (slice_index sets r.0) r.3).inside) in
     omega arith
 
 -- and none to the empty set and to a user's alone

@@ -1,6 +1,6 @@
 -- A graph with one set more.
-use Rattle.std.proofs.Common.{ℕ, suc, zero, ◌+◌, ◌≤◌, ◌<◌, ◌≡◌, ◌≢◌, true, false, ◌==◌, List, [], ◌∷◌, ◌++◌, length, take, map, get_or, refl, sym, ◌∙◌, ap, arith, subst, inl, inr, true≢false, length-append}
-use Rattle.std.specs.Prelude.{IsTrue, Option, Some, None}
+use Rattle.std.proofs.Common.{ℕ, suc, zero, ◌+◌, ◌≤◌, ◌<◌, ◌≡◌, ◌≢◌, List, [], ◌∷◌, ◌++◌, length, take, get_or, refl, sym, ◌∙◌, ap, arith, subst, inl, inr, true≢false, length-append}
+use Rattle.std.specs.Prelude.{IsTrue, Some, None}
 use Rattle.std.proofs.lemmas.Bool.{cases_eq}
 use Rattle.std.proofs.lemmas.List.{length-map, take-append-le, take_all, get_or_append_left}
 use Rattle.ov_base.specs.Sets.{size}
@@ -10,11 +10,11 @@ use Rattle.ov_graph.specs.declared.cover.Cover.{Cover}
 use Rattle.ov_graph.specs.Cover.{cover_of}
 use Rattle.ov_graph.specs.Reach.{IsGrown, IsRooted}
 use Rattle.ov_graph.specs.Contents.{joined, starts_of, node_of, planned, plan_of, IsGraph}
-use Rattle.ov_graph.proofs.ListLaws.{node_none}
 use Rattle.ov_graph.proofs.CoverLaws.{cover-few, cover-none}
 
 -- the item at the end of a list
-pub last_item : {X : Type 0} (xs : List X) (y : X) (n : ℕ) (d : X) → n ≡ length xs → get_or (xs ++ y ∷ []) n d ≡ y
+pub last_item : {X : Type 0} (xs : List X) (y : X) (n : ℕ) (d : X) → n ≡ length xs
+    → get_or (xs ++ y ∷ []) n d ≡ y
 last_item [] y n d h = rw h refl
 last_item (x ∷ xs) y n d h = rw h (last_item xs y (length xs) d refl)
 
@@ -23,17 +23,21 @@ take_front xs ys = take-append-le (length xs) xs ys (omega arith) ∙ take_all (
 
 -- ---- edges of starts and tokens
 
-pub joined-length : (starts : List ℕ) (tokens : List Token) → length tokens ≡ length starts → length (joined starts tokens) ≡ length starts
+pub joined-length : (starts : List ℕ) (tokens : List Token) → length tokens ≡ length starts
+    → length (joined starts tokens) ≡ length starts
 joined-length [] tokens h = refl
 joined-length (s ∷ starts) [] h = absurd (omega arith)
 joined-length (s ∷ starts) (t ∷ tokens) h = ap suc (joined-length starts tokens (omega arith))
 
-pub starts_of-joined : (starts : List ℕ) (tokens : List Token) → length tokens ≡ length starts → starts_of (joined starts tokens) ≡ starts
+pub starts_of-joined : (starts : List ℕ) (tokens : List Token) → length tokens ≡ length starts
+    → starts_of (joined starts tokens) ≡ starts
 starts_of-joined [] tokens h = refl
 starts_of-joined (s ∷ starts) [] h = absurd (omega arith)
 starts_of-joined (s ∷ starts) (t ∷ tokens) h = ap (λ r. s ∷ r) (starts_of-joined starts tokens (omega arith))
 
-pub joined-more : (starts : List ℕ) (tokens : List Token) (n : ℕ) (d : Token) → n < length starts → n < length tokens → joined (take (n + 1) starts) (take (n + 1) tokens) ≡ joined (take n starts) (take n tokens) ++ record { from = get_or starts n 0; token = get_or tokens n d } ∷ []
+pub joined-more : (starts : List ℕ) (tokens : List Token) (n : ℕ) (d : Token) → n < length starts
+    → n < length tokens
+    → joined (take (n + 1) starts) (take (n + 1) tokens) ≡ joined (take n starts) (take n tokens) ++ record { from = get_or starts n 0; token = get_or tokens n d } ∷ []
 joined-more [] tokens n d h k = absurd (omega arith)
 joined-more (s ∷ starts) [] n d h k = absurd (omega arith)
 joined-more (s ∷ starts) (t ∷ tokens) zero d h k = refl
@@ -44,7 +48,8 @@ joined-more (s ∷ starts) (t ∷ tokens) (suc n) d h k =
 -- ---- what a plan says
 
 -- a fresh set is no node's, and its starts are its cover
-pub fresh_plan : (sets : List ℕ) (set : ℕ) (cover : Cover) → cover ≡ plan_of sets set → IsTrue cover.fresh → (node_of sets set ≡ None) × (cover.from ≡ cover_of sets set)
+pub fresh_plan : (sets : List ℕ) (set : ℕ) (cover : Cover) → cover ≡ plan_of sets set
+    → IsTrue cover.fresh → (node_of sets set ≡ None) × (cover.from ≡ cover_of sets set)
 fresh_plan sets set cover is fresh =
     let by_node = elim (node_of sets set) as (λ o. IsTrue (planned o sets set).fresh → (o ≡ None) × ((planned o sets set).from ≡ cover_of sets set)) [
       | Some node ↦ λ h. absurd (true≢false (sym h))
@@ -63,11 +68,13 @@ plan-none sets set small = elim (node_of sets set) as (λ o. (planned o sets set
 -- ---- the edges into a node
 
 module _ (sets : List ℕ) (edges : List (List Edge)) (graph : IsGraph sets edges) where
-  pub edges-few : (node : ℕ) → node < length sets → length (get_or edges node []) ≤ size (get_or sets node 0)
+  pub edges-few : (node : ℕ) → node < length sets
+      → length (get_or edges node []) ≤ size (get_or sets node 0)
   edges-few node h =
       omega (arith, length-map (get_or edges node []) (λ (e : Edge). e.from), ap length (graph.covers node h), cover-few (take node sets) (get_or sets node 0))
 
-  pub edges-none : (node : ℕ) → node < length sets → size (get_or sets node 0) ≤ 1 → get_or edges node [] ≡ []
+  pub edges-none : (node : ℕ) → node < length sets → size (get_or sets node 0) ≤ 1
+      → get_or edges node [] ≡ []
   edges-none node h small = no_edges (get_or edges node []) (graph.covers node h ∙ cover-none (take node sets) (get_or sets node 0) small) where
     no_edges : (es : List Edge) → starts_of es ≡ [] → es ≡ []
     no_edges [] e = refl
@@ -114,7 +121,9 @@ module _ (sets : List ℕ) (set : ℕ) (new : (j : ℕ) → j < length sets → 
     ];
   }
 
-  pub graph_more : (edges : List (List Edge)) (starts : List ℕ) (tokens : List Token) → IsGraph sets edges → IsRooted sets set → starts ≡ cover_of sets set → length tokens ≡ length starts → IsGraph (sets ++ set ∷ []) (edges ++ joined starts tokens ∷ [])
+  pub graph_more : (edges : List (List Edge)) (starts : List ℕ) (tokens : List Token)
+      → IsGraph sets edges → IsRooted sets set → starts ≡ cover_of sets set
+      → length tokens ≡ length starts → IsGraph (sets ++ set ∷ []) (edges ++ joined starts tokens ∷ [])
   graph_more edges starts tokens graph roots is many = record {
     grown = grown_more graph.grown roots;
     rows = omega (arith, length-append edges (joined starts tokens ∷ []), graph.rows, long);

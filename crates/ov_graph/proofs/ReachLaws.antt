@@ -1,10 +1,10 @@
 -- Where the edges lead.
-use Rattle.std.proofs.Common.{ℕ, suc, zero, ◌≡◌, ◌≢◌, ◌<◌, ◌≤◌, List, length, take, sym, ◌∙◌, arith, subst, inl, inr, ◌↔◌}
+use Rattle.std.proofs.Common.{ℕ, suc, zero, ◌≡◌, ◌≢◌, ◌<◌, ◌≤◌, List, length, take, sym, ◌∙◌, arith, subst, inl, inr}
 use Rattle.std.specs.Prelude.{slice_index, Contains}
 use Rattle.std.proofs.lemmas.Bool.{cases_eq, cases_lt}
 use Rattle.std.proofs.lemmas.List.{length-take, get_or-take}
-use Rattle.ov_base.specs.Sets.{empty, Has, single, size}
-use Rattle.ov_base.proofs.SetLaws.{Has-single, single-Has, empty-Has, single_within}
+use Rattle.ov_base.specs.Sets.{Has, single, size}
+use Rattle.ov_base.proofs.SetLaws.{single-Has, empty-Has, single_within}
 use Rattle.ov_base.proofs.SetSizes.{size_one, size_some}
 use Rattle.ov_graph.specs.Reach.{starts, IsEdge, Walk, Leads, IsGrown, LeadsByMembership}
 use Rattle.ov_graph.proofs.ListLaws.{Contains-place}
@@ -15,7 +15,8 @@ set_before : (sets : List ℕ) (n c : ℕ) → c < n → slice_index (take n set
 set_before sets n c h = get_or-take n sets c 0 h
 
 -- an edge comes from an earlier node, whose set is a nonempty strict subset
-pub starts-Contains : (sets : List ℕ) (n c : ℕ) → Contains (starts sets n) c → (c < n) × IsCandidate (slice_index sets n) (slice_index sets c)
+pub starts-Contains : (sets : List ℕ) (n c : ℕ) → Contains (starts sets n) c
+    → (c < n) × IsCandidate (slice_index sets n) (slice_index sets c)
 starts-Contains sets n c h =
     let r = cover-Contains (take n sets) (slice_index sets n) c h in
     let earlier : c < n = omega (arith, r.0, length-take n sets) in
@@ -25,7 +26,8 @@ pub IsEdge-upward : (sets : List ℕ) (from to : ℕ) → IsEdge sets from to �
 IsEdge-upward sets from to edge = (starts-Contains sets to from edge.1).0
 
 -- each user of a set of two or more comes over an edge
-pub starts-has : (sets : List ℕ) (n u : ℕ) → IsGrown sets → n < length sets → Has (slice_index sets n) u → slice_index sets n ≢ single u → (c : ℕ) × IsEdge sets c n × Has (slice_index sets c) u
+pub starts-has : (sets : List ℕ) (n u : ℕ) → IsGrown sets → n < length sets → Has (slice_index sets n) u
+    → slice_index sets n ≢ single u → (c : ℕ) × IsEdge sets c n × Has (slice_index sets c) u
 starts-has sets n u grown inside one several =
     let set : ℕ = slice_index sets n in
     let two : 2 ≤ size set = elim (cases_lt (size set) 2) [
@@ -44,13 +46,16 @@ starts-has sets n u grown inside one several =
     (found.0, (inside, found.1), subst (λ s. Has s u) (set_before sets n found.0 earlier) found.2)
 
 -- who is in the set of the start of a walk is in the set of its end
-pub Walk-Has : (sets : List ℕ) (from to edges u : ℕ) → Walk sets from to edges → Has (slice_index sets from) u → Has (slice_index sets to) u
+pub Walk-Has : (sets : List ℕ) (from to edges u : ℕ) → Walk sets from to edges
+    → Has (slice_index sets from) u → Has (slice_index sets to) u
 Walk-Has sets from to zero u w one = subst (λ n. Has (slice_index sets n) u) w one
 Walk-Has sets from to (suc edges) u w one =
     (starts-Contains sets to w.0 w.2.1).1.inside u (Walk-Has sets from w.0 edges u w.1 one)
 
 -- and from the node of a user alone there is one to each set that has the user
-Has-Leads : (bound : ℕ) (sets : List ℕ) (root n u : ℕ) → n < bound → IsGrown sets → root < length sets → slice_index sets root ≡ single u → n < length sets → Has (slice_index sets n) u → Leads sets root n
+Has-Leads : (bound : ℕ) (sets : List ℕ) (root n u : ℕ) → n < bound → IsGrown sets → root < length sets
+    → slice_index sets root ≡ single u → n < length sets → Has (slice_index sets n) u
+    → Leads sets root n
 Has-Leads zero sets root n u less grown there alone inside one = absurd (omega arith)
 Has-Leads (suc bound) sets root n u less grown there alone inside one = elim (cases_eq root n) [
   | inl same ↦ (0, same)
@@ -63,11 +68,13 @@ Has-Leads (suc bound) sets root n u less grown there alone inside one = elim (ca
 
 -- the theorem of the graph
 pub leads_by_membership : (sets : List ℕ) → IsGrown sets → LeadsByMembership sets
-leads_by_membership sets grown root n u there inside alone =
-    (λ w. Walk-Has sets root n w.0 u w.1 (subst (λ s. Has s u) (sym alone) (single-Has u)),
-    λ one. Has-Leads (suc n) sets root n u (omega arith) grown there alone inside one)
+leads_by_membership sets grown root n u there inside alone = (
+  λ w. Walk-Has sets root n w.0 u w.1 (subst (λ s. Has s u) (sym alone) (single-Has u)),
+  λ one. Has-Leads (suc n) sets root n u (omega arith) grown there alone inside one,
+)
 
 -- a relation that holds of a node and itself, and is closed under edges, holds wherever the edges lead
-pub Leads-least : (sets : List ℕ) (P : ℕ → Type 0) (from to : ℕ) → P from → ((near next : ℕ) → P near → IsEdge sets near next → P next) → Leads sets from to → P to
+pub Leads-least : (sets : List ℕ) (P : ℕ → Type 0) (from to : ℕ) → P from
+    → ((near next : ℕ) → P near → IsEdge sets near next → P next) → Leads sets from to → P to
 Leads-least sets P from to here further (zero, w) = subst P w here
 Leads-least sets P from to here further (suc edges, (near, w, edge)) = further near to (Leads-least sets P from near here further (edges, w)) edge

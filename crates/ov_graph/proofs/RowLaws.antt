@@ -1,5 +1,5 @@
 -- Edges in spans of one list.
-use Rattle.std.proofs.Common.{ℕ, suc, zero, ◌+◌, ◌≤◌, ◌<◌, ◌≡◌, ◌≢◌, List, [], ◌∷◌, ◌++◌, length, take, drop, get_or, refl, sym, ◌∙◌, ap, arith, length-append, length-drop}
+use Rattle.std.proofs.Common.{ℕ, suc, zero, ◌+◌, ◌≤◌, ◌<◌, ◌≡◌, List, [], ◌∷◌, ◌++◌, length, drop, get_or, refl, ◌∙◌, ap, arith, length-append, length-drop}
 use Rattle.std.specs.Prelude.{IsTrue}
 use Rattle.std.proofs.lemmas.List.{take-append-le, take_all, drop-append-le}
 use Rattle.std.proofs.Math.Seq.{drop-append_seam}
@@ -17,29 +17,34 @@ pub rows-length : (edges : List Edge) (spans : List Span) → length (rows edges
 rows-length edges [] = refl
 rows-length edges (s ∷ spans) = ap suc (rows-length edges spans)
 
-pub rows-at : (edges : List Edge) (spans : List Span) (n : ℕ) (d : Span) → n < length spans → get_or (rows edges spans) n [] ≡ row edges (get_or spans n d)
+pub rows-at : (edges : List Edge) (spans : List Span) (n : ℕ) (d : Span) → n < length spans
+    → get_or (rows edges spans) n [] ≡ row edges (get_or spans n d)
 rows-at edges [] n d h = absurd (omega arith)
 rows-at edges (s ∷ spans) zero d h = refl
 rows-at edges (s ∷ spans) (suc n) d h = rows-at edges spans n d (omega arith)
 
-pub inside-at : (long : ℕ) (spans : List Span) (n : ℕ) (d : Span) → AreInside long spans → n < length spans → (get_or spans n d).first + (get_or spans n d).many ≤ long
+pub inside-at : (long : ℕ) (spans : List Span) (n : ℕ) (d : Span) → AreInside long spans
+    → n < length spans → (get_or spans n d).first + (get_or spans n d).many ≤ long
 inside-at long [] n d all h = absurd (omega arith)
 inside-at long (s ∷ spans) zero d all h = all.0
 inside-at long (s ∷ spans) (suc n) d all h = inside-at long spans n d all.1 (omega arith)
 
 -- ---- more edges at the end
 
-row-grow : (edges more : List Edge) (s : Span) → s.first + s.many ≤ length edges → row (edges ++ more) s ≡ row edges s
+row-grow : (edges more : List Edge) (s : Span) → s.first + s.many ≤ length edges
+    → row (edges ++ more) s ≡ row edges s
 row-grow edges more s h =
     let inside : s.first ≤ length edges = omega arith in
     let enough : s.many ≤ length (drop s.first edges) = omega (arith, length-drop s.first edges) in
     rw (drop-append-le s.first edges more inside, take-append-le s.many (drop s.first edges) more enough) refl
 
-rows-grow : (edges more : List Edge) (spans : List Span) → AreInside (length edges) spans → rows (edges ++ more) spans ≡ rows edges spans
+rows-grow : (edges more : List Edge) (spans : List Span) → AreInside (length edges) spans
+    → rows (edges ++ more) spans ≡ rows edges spans
 rows-grow edges more [] all = refl
 rows-grow edges more (s ∷ spans) all = rw (row-grow edges more s all.0, rows-grow edges more spans all.1) refl
 
-rows-push : (edges : List Edge) (spans : List Span) (s : Span) → rows edges (spans ++ s ∷ []) ≡ rows edges spans ++ row edges s ∷ []
+rows-push : (edges : List Edge) (spans : List Span) (s : Span)
+    → rows edges (spans ++ s ∷ []) ≡ rows edges spans ++ row edges s ∷ []
 rows-push edges [] s = refl
 rows-push edges (t ∷ spans) s = ap (λ r. row edges t ∷ r) (rows-push edges spans s)
 
@@ -47,11 +52,13 @@ inside-grow : (m n : ℕ) (spans : List Span) → m ≤ n → AreInside m spans 
 inside-grow m n [] h all = all
 inside-grow m n (s ∷ spans) h all = (omega (arith, all.0), inside-grow m n spans h all.1)
 
-inside-push : (long : ℕ) (spans : List Span) (s : Span) → AreInside long spans → s.first + s.many ≤ long → AreInside long (spans ++ s ∷ [])
+inside-push : (long : ℕ) (spans : List Span) (s : Span) → AreInside long spans → s.first + s.many ≤ long
+    → AreInside long (spans ++ s ∷ [])
 inside-push long [] s all h = (h, tt)
 inside-push long (t ∷ spans) s all h = (all.0, inside-push long spans s all.1 h)
 
-row-new : (edges more : List Edge) (s : Span) → s.first ≡ length edges → s.many ≡ length more → row (edges ++ more) s ≡ more
+row-new : (edges more : List Edge) (s : Span) → s.first ≡ length edges → s.many ≡ length more
+    → row (edges ++ more) s ≡ more
 row-new edges more s f m = rw (f, m, drop-append_seam edges more, take_all (length more) more (omega arith)) refl
 
 -- ---- what `add` leaves
@@ -68,13 +75,15 @@ pub record IsAdded (sets : List ℕ) (edges : List Edge) (spans : List Span) (se
   pub few : length sets < 4096
 
 module _ (sets : List ℕ) (edges : List Edge) (spans : List Span) (set : ℕ) (cover : Cover) (tokens : List Token) (span : Span) where
-  rows_added : IsAdded sets edges spans set cover tokens span → rows (edges ++ joined cover.from tokens) (spans ++ span ∷ []) ≡ rows edges spans ++ joined cover.from tokens ∷ []
+  rows_added : IsAdded sets edges spans set cover tokens span
+      → rows (edges ++ joined cover.from tokens) (spans ++ span ∷ []) ≡ rows edges spans ++ joined cover.from tokens ∷ []
   rows_added h =
       let long : length (joined cover.from tokens) ≡ length cover.from = joined-length cover.from tokens h.tokened in
       rows-push (edges ++ joined cover.from tokens) spans span
       ∙ rw (rows-grow edges (joined cover.from tokens) spans h.graph.inside, row-new edges (joined cover.from tokens) span h.first (omega (arith, h.many, h.tokened))) refl
 
-  graph_added : IsAdded sets edges spans set cover tokens span → IsListGraph (sets ++ set ∷ []) (edges ++ joined cover.from tokens) (spans ++ span ∷ [])
+  graph_added : IsAdded sets edges spans set cover tokens span
+      → IsListGraph (sets ++ set ∷ []) (edges ++ joined cover.from tokens) (spans ++ span ∷ [])
   graph_added h =
       let long : length (joined cover.from tokens) ≡ length cover.from = joined-length cover.from tokens h.tokened in
       let all = length-append edges (joined cover.from tokens) in
@@ -86,6 +95,8 @@ module _ (sets : List ℕ) (edges : List Edge) (spans : List Span) (set : ℕ) (
       }
 
   -- the same, where the lists are given by equations
-  pub added : (sets2 : List ℕ) (edges2 : List Edge) (spans2 : List Span) → sets2 ≡ sets ++ set ∷ [] → edges2 ≡ edges ++ joined cover.from tokens → spans2 ≡ spans ++ span ∷ [] → IsAdded sets edges spans set cover tokens span
+  pub added : (sets2 : List ℕ) (edges2 : List Edge) (spans2 : List Span) → sets2 ≡ sets ++ set ∷ []
+      → edges2 ≡ edges ++ joined cover.from tokens → spans2 ≡ spans ++ span ∷ []
+      → IsAdded sets edges spans set cover tokens span
       → IsListGraph sets2 edges2 spans2 × (rows edges2 spans2 ≡ rows edges spans ++ joined cover.from tokens ∷ [])
   added sets2 edges2 spans2 a b c h = rw (a, b, c) (graph_added h, rows_added h)

@@ -1,5 +1,5 @@
 -- What a graph contains, however it is kept.
-use Rattle.std.specs.Prelude.{ℕ, ◌≡◌, ◌<◌, ◌==◌, true, false, List, [], ◌∷◌, length, map, slice_index_or, Option, Some, None, position}
+use Rattle.std.specs.Prelude.{ℕ, ◌≡◌, ◌<◌, ◌≤◌, ◌==◌, true, false, List, [], ◌∷◌, length, map, slice_index_or, Option, Some, None, position}
 use Rattle.ov_tokens.specs.declared.token.Token.{Token}
 use Rattle.ov_tokens.specs.declared.edge.Edge.{Edge}
 use Rattle.ov_graph.specs.declared.cover.Cover.{Cover}
@@ -12,6 +12,13 @@ pub record Contents : Type 0 where
   pub edges : List (List Edge)
   pub spare_sets : ℕ
   pub spare_edges : ℕ
+
+abbrev pub HasNode : Contents → ℕ → Type 0
+HasNode graph node = node < length graph.sets
+
+-- there is room for so many more sets and so many more edges
+abbrev pub HasRoom : Contents → ℕ → ℕ → Type 0
+HasRoom graph sets edges = (sets ≤ graph.spare_sets) × (edges ≤ graph.spare_edges)
 
 -- the edges into a node, in order
 abbrev pub edges_to : Contents → ℕ → List Edge

@@ -1,5 +1,6 @@
 //! The cover of a set by earlier sets: those of a graph, and then those of a second list.
-ghost use Rattle.std.specs.Prelude.{◌≡◌, ◌<◌, ◌≤◌, ◌+◌, ◌++◌, ℕ, length, slice_index, IfOk, IfSome, OnOk, All};
+ghost use Rattle.std.specs.Prelude.{◌≡◌, ◌<◌, ◌≤◌, ◌+◌, ◌++◌, ℕ, length, slice_index};
+ghost use Rattle.std.specs.Prelude.{All, IfOk, IfSome, OnOk};
 ghost use Rattle.std.specs.Ordering.{nat_cmp};
 ghost use Rattle.std.specs.List.Sorted.{IsNonDecreasingBy, IsPermutation, IsStableByKey};
 ghost use Rattle.ov_graph.specs.Cover.{is_candidate, candidates_from, cover_of, kept};
@@ -47,7 +48,8 @@ fn candidates<const W: usize>(
 ) -> Result<Vec<Candidate>, Memory>
     requires { length sets.now + length before.now ≤ 4096 }
     ensures { let all = sets.now ++ before.now in
-        IfOk result (λ found. found.items ≡ entries all set.now (candidates_from set.now 0 all)) }
+        IfOk result (λ found.
+        found.items ≡ entries all set.now (candidates_from set.now 0 all)) }
 {
     let size = set.count();
     let mut found = Vec::new(alloc);
@@ -66,7 +68,8 @@ fn candidates<const W: usize>(
 fn sort(candidates: &mut Vec<Candidate>) -> Result<(), AllocError>
     ensures same { OnOk result (IsPermutation candidates.old.items candidates.new.items) }
     ensures sorted { OnOk result (IsNonDecreasingBy (λ c. c.lacks) candidates.new.items) }
-    ensures stable { OnOk result (IsStableByKey (λ c. c.lacks) nat_cmp candidates.old.items candidates.new.items) }
+    ensures stable { OnOk result
+        (IsStableByKey (λ c. c.lacks) nat_cmp candidates.old.items candidates.new.items) }
 {
     candidates.sort_by_key(|candidate| candidate.lacks)?;
     Ok(())
@@ -80,7 +83,8 @@ fn keep<const W: usize>(
 ) -> Result<Numbers, Memory>
     requires width { (1 ≤ W) × (W ≤ 1024) }
     requires nodes { All (λ c. c.node < length sets.now + length before.now) candidates.now }
-    ensures { IfOk result (λ from. from ≡ kept (sets.now ++ before.now) empty (nodes_of candidates.now)) }
+    ensures { let all = sets.now ++ before.now in
+        IfOk result (λ from. from ≡ kept all empty (nodes_of candidates.now)) }
 {
     let mut covered = UserSet::empty();
     let mut from = Numbers::new(alloc);

@@ -1,4 +1,22 @@
-//! A graph of keys: sets of users, each at a node, and the tokens that lead from the smaller sets to the larger.
+//! A graph of keys: sets of users at numbered nodes, and edges with tokens that lead from smaller sets to
+//! larger ones.
+//!
+//! Each node has a set of users of its own and, in its layer, a key. The token of an edge turns the key of
+//! the node where the edge starts into the key of the node where it ends. A user holds the key of the node
+//! of that user alone, and over the edges reaches exactly the nodes whose sets have the user. That is the
+//! theorem of this crate, [`leads_by_membership`]; it is proved over the trait [`Graph`] alone, so it holds
+//! of every graph, in either layer and at every width.
+//!
+//! A set that is added gets edges from its cover. The earlier nodes whose sets are nonempty strict subsets
+//! of it are gone through, larger sets first and then lower numbers first; a node is kept where its set has
+//! a user whom no kept one has. To add a set, [`Graph::plan`] gives its [`Cover`], the caller makes a token
+//! for each edge, [`Graph::reserve`] makes room, and [`Graph::add`], which takes no memory, can't fail.
+//!
+//! [`ListGraph`] looks at every node to find a set.
+//!
+//! The definitions speak of lists of sets and know neither a width nor how a graph is kept: `specs/Cover` of
+//! covers, `specs/Reach` of edges, where they lead and which sets a graph may have, `specs/Chain` of the
+//! chosen shortest chain from one node to another, and `specs/Contents` of what contracts see of a graph.
 #![tactic(auto)]
 
 mod cover;

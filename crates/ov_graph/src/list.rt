@@ -1,5 +1,6 @@
 //! The plain graph: its sets in a list, and its edges in another, with a span for each node.
-ghost use Rattle.std.specs.Prelude.{◌≡◌, ◌<◌, ◌≤◌, ◌+◌, ◌++◌, ◌∷◌, [], length, vec_len, vec_capacity};
+ghost use Rattle.std.specs.Prelude.{◌≡◌, ◌<◌, ◌≤◌, ◌+◌, ◌++◌, ◌∷◌, [], length};
+ghost use Rattle.std.specs.Prelude.{vec_len, vec_capacity};
 ghost use Rattle.ov_graph.specs.Contents.{joined};
 ghost use Rattle.ov_graph.specs.Rows.{row};
 
@@ -35,7 +36,13 @@ impl<L, const W: usize> Model for ListGraph<L, W> {
 
     ghost Value = { Contents };
 
-    ghost view = { λ g. record { sets = g.sets.items; edges = rows g.edges.items g.spans.items; spare_sets = min (vec_capacity g.sets - vec_len g.sets) (vec_capacity g.spans - vec_len g.spans); spare_edges = vec_capacity g.edges - vec_len g.edges } };
+    ghost view = { λ g. record {
+      sets = g.sets.items;
+      edges = rows g.edges.items g.spans.items;
+      spare_sets =
+          min (vec_capacity g.sets - vec_len g.sets) (vec_capacity g.spans - vec_len g.spans);
+      spare_edges = vec_capacity g.edges - vec_len g.edges;
+    } };
 
     ghost invariant = { λ g. IsListGraph g.sets.items g.edges.items g.spans.items };
 }

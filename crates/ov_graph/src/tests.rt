@@ -43,7 +43,9 @@ fn some_tokens(alloc: Global, count: usize) -> Result<Tokens, Fail>
 {
     let mut tokens = Tokens::new(alloc);
     for n in 0..count {
-        tokens.push(Token { bytes: [(n % 256) as u8; 32] })?;
+        tokens.push(Token {
+            bytes: [(n % 256) as u8; 32],
+        })?;
     }
     Ok(tokens)
 }

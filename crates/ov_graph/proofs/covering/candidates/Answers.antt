@@ -1,5 +1,4 @@
 use Rattle.std.proofs.Common.{◌<◌, ◌++◌, ◌∙◌, ℕ, List, length, arith, ap, sym, length-append}
-use Rattle.ov_base.specs.Sets.{size}
 use Rattle.ov_graph.proofs.CandidateLaws.{candidate-size}
 use Rattle.ov_graph.proofs.CoverSteps.{found_step, passed_step}
 use Rattle.ov_graph.proofs.covering.candidates.Goals as goal
@@ -16,10 +15,10 @@ loop-node-preserved g c =
     elim c.if-is_candidate.branch [
       | then-is_candidate+in_ok-push w ↦
           found_step all c.args.set.now c.loop-node.node c.set_at-earlier.result.now c.loop-node.found.items c.if-is_candidate.found.items inside c.set_at-earlier.ensures _
-            (sym c.is_candidate.ensures ∙ w.if-is_candidate.true) (omega arith) (ap (λ v. v.items) w.found-is ∙ w.in_ok-push.ensures.items)
+          (sym c.is_candidate.ensures ∙ w.if-is_candidate.true) (omega arith) (ap (λ v. v.items) w.found-is ∙ w.in_ok-push.ensures.items)
           ∙ c.loop-node.invariant
       | else-is_candidate w ↦
           passed_step all c.args.set.now c.loop-node.node c.set_at-earlier.result.now c.loop-node.found.items c.if-is_candidate.found.items inside c.set_at-earlier.ensures
-            (sym c.is_candidate.ensures ∙ w.if-is_candidate.false) (ap (λ v. v.items) w.found-is)
+          (sym c.is_candidate.ensures ∙ w.if-is_candidate.false) (ap (λ v. v.items) w.found-is)
           ∙ c.loop-node.invariant
     ]

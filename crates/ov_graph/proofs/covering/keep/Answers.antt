@@ -1,4 +1,4 @@
-use Rattle.std.proofs.Common.{◌<◌, ◌++◌, ◌∙◌, ℕ, List, get_or, refl, arith, ap, sym}
+use Rattle.std.proofs.Common.{◌++◌, ◌∙◌, ℕ, List, get_or, refl, sym}
 use Rattle.ov_graph.specs.declared.covering.Candidate.{Candidate}
 use Rattle.ov_graph.proofs.CoverSteps.{kept_step, skipped_step}
 use Rattle.ov_graph.proofs.covering.keep.Goals as goal
@@ -14,10 +14,10 @@ loop-candidate-preserved g c =
     elim c.if-not-within.branch [
       | then-not-within+in_ok-push w ↦
           kept_step all cs i none here c.set_at-earlier.result.now c.loop-candidate.covered c.if-not-within.covered c.loop-candidate.from c.if-not-within.from c.loop-candidate-test.true refl c.set_at-earlier.ensures
-            (sym c.within.ensures ∙ w.if-not-within.true) (w.from-is ∙ w.in_ok-push.ensures.ok) (w.covered-is ∙ w.union-covered.ensures)
+          (sym c.within.ensures ∙ w.if-not-within.true) (w.from-is ∙ w.in_ok-push.ensures.ok) (w.covered-is ∙ w.union-covered.ensures)
           ∙ c.loop-candidate.invariant
       | else-not-within w ↦
           skipped_step all cs i none here c.set_at-earlier.result.now c.loop-candidate.covered c.if-not-within.covered c.loop-candidate.from c.if-not-within.from c.loop-candidate-test.true refl c.set_at-earlier.ensures
-            (sym c.within.ensures ∙ w.if-not-within.false) w.from-is w.covered-is
+          (sym c.within.ensures ∙ w.if-not-within.false) w.from-is w.covered-is
           ∙ c.loop-candidate.invariant
     ]

@@ -1,4 +1,4 @@
-use Rattle.std.proofs.Common.{◌≡◌, ◌≢◌, ◌<◌, ◌++◌, ℕ, get_or}
+use Rattle.std.proofs.Common.{◌≢◌, ◌<◌, ◌++◌, ℕ, get_or}
 use Rattle.ov_graph.proofs.covering.node_of.Given as goal
 
 abbrev pub invariant-loop-node : goal.invariant-loop-node

@@ -1,7 +1,6 @@
 use Rattle.std.proofs.Common.{ap, sym, ◌∙◌}
 use Rattle.ov_base.specs.Sets.{empty, single, with}
 use Rattle.ov_base.proofs.SetLaws.{union_comm, union-empty}
-use Rattle.ov_graph.specs.Contents.{node_of}
 use Rattle.ov_graph.proofs.ListLaws.{node_some, place-Contains}
 use Rattle.ov_graph.proofs.tests.expect_root.Goals as goal
 

@@ -4,7 +4,7 @@ use Rattle.ov_graph.specs.declared.list.Span.{Span}
 use Rattle.ov_graph.specs.Reach.{IsRooted}
 use Rattle.ov_graph.specs.Contents.{joined, plan_of}
 use Rattle.ov_graph.specs.Rows.{rows, IsListGraph}
-use Rattle.ov_graph.proofs.RowLaws.{IsAdded, added}
+use Rattle.ov_graph.proofs.RowLaws.{added}
 use Rattle.ov_graph.proofs.list.ListGraphGraph.add.Given.{Over}
 use Rattle.ov_graph.proofs.list.ListGraphGraph.add.Goals as goal
 
@@ -19,19 +19,19 @@ all_added g c =
     let span : Span = record { first = c.len-first.result; many = length c.as_slice-many.result.now } in
     let same = sym (ap (λ k. k.sets) c.self.view_is) in
     added sets edges spans c.args.set.now c.args.cover c.args.tokens span _ _ _
-      (c.push_within-2.ensures.items ∙ ap (λ s. sets ++ s ∷ []) c.copy.ensures)
-      (c.append.ensures.items ∙ ap (λ f. edges ++ joined f c.as_slice-2.result.now) c.as_slice.ensures ∙ ap (λ t. edges ++ joined c.args.cover.from t) c.as_slice-2.ensures)
-      c.push_within.ensures.items
-      record {
-        graph = c.self.invariant;
-        first = omega arith;
-        many = ap length c.as_slice-many.ensures;
-        plan = subst (λ s. c.args.cover ≡ plan_of s c.args.set.now) same c.requires.cover;
-        fresh = c.requires.fresh;
-        roots = subst (λ s. IsRooted s c.args.set.now) same c.requires.roots;
-        tokened = c.requires.tokens;
-        few = subst (λ (s : List ℕ). length s < 4096) same c.requires.nodes;
-      }
+    (c.push_within-2.ensures.items ∙ ap (λ s. sets ++ s ∷ []) c.copy.ensures)
+    (c.append.ensures.items ∙ ap (λ f. edges ++ joined f c.as_slice-2.result.now) c.as_slice.ensures ∙ ap (λ t. edges ++ joined c.args.cover.from t) c.as_slice-2.ensures)
+    c.push_within.ensures.items
+    record {
+      graph = c.self.invariant;
+      first = omega arith;
+      many = ap length c.as_slice-many.ensures;
+      plan = subst (λ s. c.args.cover ≡ plan_of s c.args.set.now) same c.requires.cover;
+      fresh = c.requires.fresh;
+      roots = subst (λ s. IsRooted s c.args.set.now) same c.requires.roots;
+      tokened = c.requires.tokens;
+      few = subst (λ (s : List ℕ). length s < 4096) same c.requires.nodes;
+    }
 
 pub invariant_of-self : goal.invariant_of-self
 invariant_of-self g c = (all_added g c).0
