@@ -1,9 +1,11 @@
 //! How far nodes lie from a root.
 
 ghost use Rattle.std.specs.Prelude.{◌≡◌, ◌<◌, ◌≤◌, ◌+◌, ℕ, None, length, All, IfSome, Contains};
+ghost use Rattle.ov_graph.specs.Contents.{HasNode};
 ghost use Rattle.ov_graph.specs.Reach.{starts};
 ghost use Rattle.ov_chain.specs.Marks.{IsClosed};
-ghost use Rattle.ov_chain.specs.Distances.{distance_at, smaller, one_more, least_start, is_near, first_near, IsFound, MarkedAreFound};
+ghost use Rattle.ov_chain.specs.Distances.{distance_at, smaller, one_more, least_start, is_near, first_near};
+ghost use Rattle.ov_chain.specs.Distances.{IsFound, MarkedAreFound};
 
 use ov_graph::Graph;
 use ov_tokens::{Edge, Layer};
@@ -63,9 +65,10 @@ fn distance_of<L: Layer, G: Graph<L, W>, const W: usize>(
     root: u32,
     node: u32,
 ) -> Option<u32>
-    requires there { node < length (G.contents graph.now).sets }
+    requires there { HasNode (G.contents graph.now) node }
     requires inside { node < length distances.now }
-    requires starts { (from : ℕ) → Contains (starts (G.contents graph.now).sets node) from → IsFound (G.contents graph.now).sets root from (distance_at distances.now from) }
+    requires starts { let sets = (G.contents graph.now).sets in
+        (from : ℕ) → Contains (starts sets node) from → IsFound sets root from (distance_at distances.now from) }
     ensures { IsFound (G.contents graph.now).sets root node result }
 {
     graph.known();

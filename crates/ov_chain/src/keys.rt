@@ -1,7 +1,6 @@
 //! The key at the end of a chain.
 
 ghost use Rattle.std.specs.Prelude.{◌≡◌, ℕ, List};
-ghost use Rattle.ov_tokens.specs.declared.label.Label.{Label};
 ghost use Rattle.ov_tokens.specs.declared.label.Kind.{Kind};
 ghost use Rattle.ov_tokens.specs.Keys.{key_of_label};
 ghost use Rattle.ov_tokens.specs.Labels.{label_of};
@@ -14,10 +13,10 @@ use ov_tokens::{Chain, derive};
 /// and the root's where it has no step. It takes no memory.
 pub fn walk(root_key: &Key, chain: &Chain) -> Key
     ensures walked { result.bytes ≡ walked root_key.now.bytes chain.now.steps }
-    ensures keys { (base surface : List ℕ) (kind : Kind)
-        → root_key.now.bytes ≡ key_of_label base surface (label_of kind chain.now.root)
-        → AreTrue base surface (label_of kind chain.now.root) chain.now.steps
-        → result.bytes ≡ key_of_label base surface (last_label (label_of kind chain.now.root) chain.now.steps) }
+    ensures keys { (base surface : List ℕ) (kind : Kind) → let from = label_of kind chain.now.root in
+        root_key.now.bytes ≡ key_of_label base surface from
+        → AreTrue base surface from chain.now.steps
+        → result.bytes ≡ key_of_label base surface (last_label from chain.now.steps) }
 {
     let mut key = *root_key;
     for step in chain.steps.as_slice() {

@@ -20,6 +20,8 @@ mod distances;
 mod keys;
 mod marks;
 mod search;
+#[cfg(test)]
+mod tests;
 
 pub use keys::walk;
 pub use search::shortest;

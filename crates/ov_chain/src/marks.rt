@@ -1,6 +1,7 @@
 //! Marks on the nodes that lead to a node.
 
 ghost use Rattle.std.specs.Prelude.{◌≡◌, ◌<◌, ◌≤◌, ◌+◌, length, All};
+ghost use Rattle.ov_graph.specs.Contents.{HasNode};
 ghost use Rattle.ov_chain.specs.Marks.{IsMarked, IsClosed, starts_marked};
 
 use ov_graph::Graph;
@@ -22,7 +23,7 @@ pub fn mark_ancestors<L: Layer, G: Graph<L, W>, const W: usize>(
     node: u32,
     marks: &mut [bool],
 )
-    requires there { node < length (G.contents graph.now).sets }
+    requires there { HasNode (G.contents graph.now) node }
     requires marks { length marks.old ≡ node + 1 }
     ensures node { IsMarked marks.new node }
     ensures closed { IsClosed (G.contents graph.now).sets marks.new }

@@ -1,9 +1,10 @@
 //! The shortest chain from one node of a graph to another.
 
-ghost use Rattle.std.specs.Prelude.{◌≡◌, ◌↔◌, ◌<◌, ◌≤◌, ◌+◌, ℕ, List, length, slice_index, IfOk, IfSome, IsSome};
+ghost use Rattle.std.specs.Prelude.{◌≡◌, ◌↔◌, ◌≤◌, ◌+◌, ℕ, List, length, slice_index, IfOk, IfSome, IsSome};
 ghost use Rattle.ov_base.specs.Sets.{Has, single};
 ghost use Rattle.ov_tokens.specs.Keys.{node_key};
 ghost use Rattle.ov_graph.specs.Chain.{IsDistance, IsChosen, IsChain};
+ghost use Rattle.ov_graph.specs.Contents.{HasNode};
 ghost use Rattle.ov_graph.specs.Reach.{Walk, Leads};
 ghost use Rattle.ov_chain.specs.Distances.{AreFound};
 ghost use Rattle.ov_chain.specs.Path.{IsPath};
@@ -16,16 +17,17 @@ use ov_graph::Graph;
 use ov_tokens::{Chain, Layer, Step, Steps};
 use std::alloc::Global;
 
-/// The distances from the root of the nodes that lead to `node`, by number up to `node`. It takes its memory before
-/// it begins.
+/// The distances from the root of the nodes that lead to `node`, by number. It takes its memory before it
+/// begins.
 fn distances_to<L: Layer, G: Graph<L, W>, const W: usize>(
     alloc: Global,
     graph: &G,
     root: u32,
     node: u32,
 ) -> Result<Vec<Option<u32>>, Memory>
-    requires { node < length (G.contents graph.now).sets }
-    ensures found { IfOk result (λ distances. AreFound (G.contents graph.now).sets root node distances.items) }
+    requires { HasNode (G.contents graph.now) node }
+    ensures found { IfOk result (λ distances.
+        AreFound (G.contents graph.now).sets root node distances.items) }
     ensures length { IfOk result (λ distances. length distances.items ≡ node + 1) }
 {
     graph.known();
@@ -46,11 +48,12 @@ fn steps_back<L: Layer, G: Graph<L, W>, const W: usize>(
     node: u32,
     far: u32,
 ) -> Result<Steps, Memory>
-    requires there { node < length (G.contents graph.now).sets }
+    requires there { HasNode (G.contents graph.now) node }
     requires room { length distances.now ≡ node + 1 }
     requires found { AreFound (G.contents graph.now).sets root node distances.now }
     requires far { IsDistance (G.contents graph.now).sets root node far }
-    ensures { IfOk result (λ steps. IsChosen L.label_kind (G.contents graph.now) root node far steps) }
+    ensures { IfOk result (λ steps.
+        IsChosen L.label_kind (G.contents graph.now) root node far steps) }
 {
     graph.known();
     let mut steps = Vec::with_capacity(alloc, far as usize)?;
@@ -80,15 +83,17 @@ pub fn shortest<L: Layer, G: Graph<L, W>, const W: usize>(
     root: u32,
     node: u32,
 ) -> Result<Option<Chain>, Memory>
-    requires root { root < length (G.contents graph.now).sets }
-    requires node { node < length (G.contents graph.now).sets }
+    requires root { HasNode (G.contents graph.now) root }
+    requires node { HasNode (G.contents graph.now) node }
 
     // Which chain it is.
     ensures root { IfOk result (λ answer. IfSome answer (λ chain. chain.root ≡ root)) }
-    ensures chain { IfOk result (λ answer. IfSome answer (λ chain. IsChain L.label_kind (G.contents graph.now) root node chain.steps)) }
+    ensures chain { IfOk result (λ answer. IfSome answer (λ chain.
+        IsChain L.label_kind (G.contents graph.now) root node chain.steps)) }
 
     // What follows for any chain that is chosen so.
-    ensures path { IfOk result (λ answer. IfSome answer (λ chain. IsPath L.label_kind (G.contents graph.now) root node chain.steps)) }
+    ensures path { IfOk result (λ answer. IfSome answer (λ chain.
+        IsPath L.label_kind (G.contents graph.now) root node chain.steps)) }
     ensures shortest { IfOk result (λ answer. IfSome answer (λ chain.
         (edges : ℕ) → Walk (G.contents graph.now).sets root node edges → length chain.steps ≤ edges)) }
     ensures keys { IfOk result (λ answer. IfSome answer (λ chain.
