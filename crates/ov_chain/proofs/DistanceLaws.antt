@@ -1,10 +1,10 @@
 -- The distances of nodes from a root.
-use Rattle.std.proofs.Common.{ℕ, zero, suc, ◌+◌, ◌≡◌, ◌≢◌, ◌<◌, ◌≤◌, true, false, cond, min, List, [], ◌∷◌, length, get_or, Option, Some, None, refl, sym, ◌∙◌, ap, arith, subst, ◌⊎◌, inl, inr, eq-eqb, true≢false}
+use Rattle.std.proofs.Common.{ℕ, zero, suc, ◌+◌, ◌≡◌, ◌≢◌, ◌<◌, ◌≤◌, true, false, cond, min, List, [], ◌∷◌, length, Option, Some, None, refl, sym, ◌∙◌, ap, arith, subst, ◌⊎◌, inl, inr, eq-eqb, true≢false}
 use Rattle.std.specs.Prelude.{Contains}
 use Rattle.std.proofs.lemmas.Bool.{cases_lt, eqb-true}
 use Rattle.ov_tokens.specs.declared.edge.Edge.{Edge}
 use Rattle.ov_graph.specs.Contents.{starts_of}
-use Rattle.ov_graph.specs.Reach.{starts, Walk, Leads}
+use Rattle.ov_graph.specs.Reach.{starts, Walk}
 use Rattle.ov_graph.specs.Chain.{IsDistance, IsFirst}
 use Rattle.ov_graph.proofs.ListLaws.{Contains-first, Contains-later, Contains-cases, Contains-none}
 use Rattle.ov_graph.proofs.ReachLaws.{starts-Contains}

@@ -1,5 +1,5 @@
 -- The edges into a node of a graph.
-use Rattle.std.proofs.Common.{ℕ, zero, suc, ◌≡◌, ◌<◌, ◌≤◌, List, [], ◌∷◌, length, get_or, Some, None, refl, ◌∙◌, ap, arith, subst}
+use Rattle.std.proofs.Common.{ℕ, zero, suc, ◌≡◌, ◌<◌, ◌≤◌, List, [], ◌∷◌, length, get_or, Some, None, ◌∙◌, ap, arith, subst}
 use Rattle.std.specs.Prelude.{Option, IfSome, Contains}
 use Rattle.ov_tokens.specs.declared.edge.Edge.{Edge}
 use Rattle.ov_graph.specs.Contents.{Contents, edges_to, starts_of, IsGraph}

@@ -1,12 +1,12 @@
 -- The way back from the end of a chain to its root.
-use Rattle.std.proofs.Common.{ℕ, zero, suc, ◌+◌, ◌≡◌, ◌<◌, ◌≤◌, List, [], ◌∷◌, ◌++◌, length, reverse, Some, None, Bool, get_or, refl, sym, ◌∙◌, ap, arith, subst, append_assoc}
+use Rattle.std.proofs.Common.{ℕ, zero, suc, ◌≡◌, ◌<◌, ◌≤◌, List, [], ◌∷◌, ◌++◌, length, reverse, Some, None, Bool, get_or, refl, sym, ◌∙◌, ap, arith, subst, append_assoc}
 use Rattle.std.proofs.lemmas.List.{append-nil, reverse-append, get_or_read}
 use Rattle.std.specs.Prelude.{Option, Contains}
 use Rattle.ov_tokens.specs.declared.label.Kind.{Kind}
 use Rattle.ov_tokens.specs.declared.edge.Edge.{Edge}
 use Rattle.ov_tokens.specs.declared.chain.Step.{Step}
 use Rattle.ov_tokens.specs.Labels.{label_of}
-use Rattle.ov_graph.specs.Contents.{Contents, edges_to, starts_of, IsGraph}
+use Rattle.ov_graph.specs.Contents.{Contents, edges_to, starts_of}
 use Rattle.ov_graph.specs.Reach.{starts, IsEdge, Walk, Leads}
 use Rattle.ov_graph.specs.Chain.{IsDistance, IsFirst, IsChosen}
 use Rattle.ov_graph.proofs.ReachLaws.{IsEdge-upward}

@@ -1,7 +1,7 @@
 -- Distances from a root, kept in a list by node.
 use Rattle.std.specs.Prelude.{ℕ, ◌+◌, ◌≤◌, ◌==◌, Bool, false, cond, min, List, [], ◌∷◌, slice_index_or, Option, Some, None}
 use Rattle.ov_tokens.specs.declared.edge.Edge.{Edge}
-use Rattle.ov_graph.specs.Reach.{Walk, Leads}
+use Rattle.ov_graph.specs.Reach.{Leads}
 use Rattle.ov_graph.specs.Chain.{IsDistance}
 use Rattle.ov_chain.specs.Marks.{IsMarked}
 

@@ -1,4 +1,4 @@
-use Rattle.std.proofs.Common.{◌≡◌, ◌≤◌, length, arith, refl, Some, None}
+use Rattle.std.proofs.Common.{arith, refl, Some, None}
 use Rattle.ov_graph.proofs.ReachLaws.{leads_by_membership}
 use Rattle.ov_chain.proofs.PathLaws.{chosen_path, chosen_length}
 use Rattle.ov_chain.proofs.WalkLaws.{walked-path}

@@ -1,4 +1,4 @@
-use Rattle.std.proofs.Common.{suc, ◌-◌, ◌≡◌, ◌<◌, ◌++◌, ◌∷◌, ◌∙◌, [], length, List, reverse, arith, ap, sym, subst}
+use Rattle.std.proofs.Common.{suc, ◌-◌, ◌≡◌, ◌<◌, ◌++◌, ◌∷◌, ◌∙◌, [], length, List, arith, ap, sym, subst}
 use Rattle.ov_tokens.specs.declared.chain.Step.{Step}
 use Rattle.ov_graph.specs.Chain.{IsDistance, IsChosen}
 use Rattle.ov_chain.proofs.DistanceLaws.{first_there}
