@@ -17,6 +17,7 @@ import random
 USERS = 10
 NODES = 60
 SEED = 20
+WIDTH = 99
 
 
 def draw_sets() -> list[frozenset[int]]:
@@ -68,10 +69,10 @@ def before(starts: list[list[int]], root: int) -> list[int | None]:
     return row
 
 
-def lines(items: list[str], indent: str, width: int = 96) -> list[str]:
+def filled(items: list[str], indent: str) -> list[str]:
     out, line = [], indent
     for item in items:
-        if len(line) + len(item) + 2 > width:
+        if len(line) + len(item) + 1 > WIDTH:
             out.append(line.rstrip())
             line = indent
         line += item + ", "
@@ -93,7 +94,7 @@ def main() -> None:
     print()
     print("/// The set of each node: bit n is user n.")
     print("pub static SETS: [u32; NODES] = [")
-    print("\n".join(lines([str(number) for number in bits], "    ")))
+    print("\n".join(filled([str(number) for number in bits], "    ")))
     print("];")
     print()
     print("/// For each user's root, and each node: the node from which the chain takes its last step, or None where")
@@ -101,7 +102,8 @@ def main() -> None:
     print("pub static BEFORE: [[Option<u32>; NODES]; USERS] = [")
     for root in range(USERS):
         print("    [")
-        print("\n".join(lines(["None" if near is None else f"Some({near})" for near in before(starts, root)], "        ")))
+        for near in before(starts, root):
+            print("        None," if near is None else f"        Some({near}),")
         print("    ],")
     print("];")
 

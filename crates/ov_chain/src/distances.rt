@@ -4,7 +4,7 @@ ghost use Rattle.std.specs.Prelude.{◌≡◌, ◌<◌, ◌≤◌, ◌+◌, ℕ,
 ghost use Rattle.ov_graph.specs.Contents.{HasNode};
 ghost use Rattle.ov_graph.specs.Reach.{starts};
 ghost use Rattle.ov_chain.specs.Marks.{IsClosed};
-ghost use Rattle.ov_chain.specs.Distances.{distance_at, smaller, one_more, least_start, is_near, first_near};
+ghost use Rattle.ov_chain.specs.Distances.{distance_at, smaller, one_more, least_start, first_near};
 ghost use Rattle.ov_chain.specs.Distances.{IsFound, MarkedAreFound};
 
 use ov_graph::Graph;
@@ -30,19 +30,7 @@ fn beyond(edges: &[Edge], distances: &[Option<u32>]) -> Option<u32>
     for edge in edges {
         least = least_of(least, distances[edge.from as usize]);
     }
-    match least {
-        None => None,
-        Some(distance) => Some(distance + 1),
-    }
-}
-
-fn lies_at(found: Option<u32>, distance: u32) -> bool
-    ensures { result ≡ is_near found distance }
-{
-    match found {
-        None => false,
-        Some(d) => d == distance,
-    }
+    least.map(|distance| distance + 1)
 }
 
 /// The first of the edges whose start lies at this distance.
@@ -51,7 +39,7 @@ pub fn first_at(edges: &[Edge], distances: &[Option<u32>], distance: u32) -> Opt
     ensures { result ≡ first_near distances.now distance edges.now }
 {
     for edge in edges {
-        if lies_at(distances[edge.from as usize], distance) {
+        if distances[edge.from as usize] == Some(distance) {
             return Some(*edge);
         }
     }
