@@ -27,7 +27,8 @@ smaller_is (Some a) (Some b) k h = elim (cases_lt a b) [
 ]
 
 -- the least is no larger than what was found before
-least_keeps : (ds : List (Option ℕ)) (b : ℕ) (es : List Edge) → (k : ℕ) × (least_start ds (Some b) es ≡ Some k) × (k ≤ b)
+least_keeps : (ds : List (Option ℕ)) (b : ℕ) (es : List Edge)
+    → (k : ℕ) × (least_start ds (Some b) es ≡ Some k) × (k ≤ b)
 least_keeps ds b [] = (b, refl, omega arith)
 least_keeps ds b (e ∷ es) =
     let s = smaller_le b (distance_at ds e.from) in
@@ -35,7 +36,8 @@ least_keeps ds b (e ∷ es) =
     (r.0, ap (λ o. least_start ds o es) s.1 ∙ r.1, omega (arith, r.2, s.2))
 
 -- nor than the distance of a start
-least_bound : (ds : List (Option ℕ)) (best : Option ℕ) (es : List Edge) (c j : ℕ) → Contains (starts_of es) c → distance_at ds c ≡ Some j → (k : ℕ) × (least_start ds best es ≡ Some k) × (k ≤ j)
+least_bound : (ds : List (Option ℕ)) (best : Option ℕ) (es : List Edge) (c j : ℕ) → Contains (starts_of es) c
+    → distance_at ds c ≡ Some j → (k : ℕ) × (least_start ds best es ≡ Some k) × (k ≤ j)
 least_bound ds best [] c j h found = absurd (Contains-none c h)
 least_bound ds best (e ∷ es) c j h found = elim (Contains-cases e.from (starts_of es) c h) [
   | inl same ↦
@@ -46,14 +48,16 @@ least_bound ds best (e ∷ es) c j h found = elim (Contains-cases e.from (starts
 ]
 
 -- and it is one of these
-least_from : (ds : List (Option ℕ)) (best : Option ℕ) (es : List Edge) (k : ℕ) → least_start ds best es ≡ Some k → (best ≡ Some k) ⊎ ((c : ℕ) × Contains (starts_of es) c × (distance_at ds c ≡ Some k))
+least_from : (ds : List (Option ℕ)) (best : Option ℕ) (es : List Edge) (k : ℕ) → least_start ds best es ≡ Some k
+    → (best ≡ Some k) ⊎ ((c : ℕ) × Contains (starts_of es) c × (distance_at ds c ≡ Some k))
 least_from ds best [] k h = inl h
 least_from ds best (e ∷ es) k h = elim (least_from ds (smaller best (distance_at ds e.from)) es k h) [
   | inl before ↦ elim (smaller_is best (distance_at ds e.from) k before) [ inl old ↦ inl old | inr new ↦ inr (e.from, Contains-first e.from (starts_of es), new) ]
   | inr later ↦ inr (later.0, Contains-later e.from (starts_of es) later.0 later.1, later.2)
 ]
 
-found_some : (sets : List ℕ) (root c m : ℕ) (o : Option ℕ) → IsFound sets root c o → Walk sets root c m → (j : ℕ) × (o ≡ Some j) × (j ≤ m)
+found_some : (sets : List ℕ) (root c m : ℕ) (o : Option ℕ) → IsFound sets root c o → Walk sets root c m
+    → (j : ℕ) × (o ≡ Some j) × (j ≤ m)
 found_some sets root c m None f w = absurd (f (m, w))
 found_some sets root c m (Some j) f w = (j, refl, f.0.least m w)
 
@@ -62,9 +66,12 @@ abbrev pub StartsAreFound : List ℕ → ℕ → List (Option ℕ) → List Edge
 StartsAreFound sets root ds es = (from : ℕ) → Contains (starts_of es) from → IsFound sets root from (distance_at ds from)
 
 -- one edge more than the least distance of a start is the node's distance
-pub distance_beyond : (sets : List ℕ) (root n : ℕ) (ds : List (Option ℕ)) (es : List Edge) → root ≢ n → n < length sets → starts_of es ≡ starts sets n → StartsAreFound sets root ds es → IsFound sets root n (one_more (least_start ds None es))
+pub distance_beyond : (sets : List ℕ) (root n : ℕ) (ds : List (Option ℕ)) (es : List Edge) → root ≢ n
+    → n < length sets → starts_of es ≡ starts sets n → StartsAreFound sets root ds es
+    → IsFound sets root n (one_more (least_start ds None es))
 distance_beyond sets root n ds es other inside edges right = go (least_start ds None es) refl where
-  least : (c m : ℕ) → Contains (starts sets n) c → Walk sets root c m → (k : ℕ) × (least_start ds None es ≡ Some k) × (k ≤ m)
+  least : (c m : ℕ) → Contains (starts sets n) c → Walk sets root c m
+      → (k : ℕ) × (least_start ds None es ≡ Some k) × (k ≤ m)
   least c m there w =
       let is : Contains (starts_of es) c = subst (λ (cs : List ℕ). Contains cs c) (sym edges) there in
       let f = found_some sets root c m (distance_at ds c) (right c is) w in
@@ -107,11 +114,13 @@ distance_root sets root = (record { walk = refl; least = λ m w. omega arith }, 
 same_distance : (sets : List ℕ) (root c j k : ℕ) → IsDistance sets root c j → IsDistance sets root c k → j ≡ k
 same_distance sets root c j k p q = omega (arith, p.least k q.walk, q.least j p.walk)
 
-near_true : (sets : List ℕ) (root c k : ℕ) (o : Option ℕ) → IsFound sets root c o → is_near o k ≡ true → IsDistance sets root c k
+near_true : (sets : List ℕ) (root c k : ℕ) (o : Option ℕ) → IsFound sets root c o → is_near o k ≡ true
+    → IsDistance sets root c k
 near_true sets root c k None f h = absurd (cc)
 near_true sets root c k (Some j) f h = subst (λ i. IsDistance sets root c i) (eqb-true j k h) f.0
 
-near_false : (sets : List ℕ) (root c k : ℕ) (o : Option ℕ) → IsFound sets root c o → is_near o k ≡ false → IsDistance sets root c k → ⊥
+near_false : (sets : List ℕ) (root c k : ℕ) (o : Option ℕ) → IsFound sets root c o → is_near o k ≡ false
+    → IsDistance sets root c k → ⊥
 near_false sets root c k None f h d = f (k, d.walk)
 near_false sets root c k (Some j) f h d = true≢false (sym (eq-eqb j k (same_distance sets root c j k f.0 d)) ∙ h)
 
@@ -121,7 +130,8 @@ pub record IsFirstStart (sets : List ℕ) (root k : ℕ) (es : List Edge) (edge 
   pub near : IsDistance sets root edge.from k
 
 -- the edge that `first_near` finds is the first
-pub first_is : (sets : List ℕ) (root k : ℕ) (ds : List (Option ℕ)) (es : List Edge) (edge : Edge) → StartsAreFound sets root ds es → first_near ds k es ≡ Some edge → IsFirstStart sets root k es edge
+pub first_is : (sets : List ℕ) (root k : ℕ) (ds : List (Option ℕ)) (es : List Edge) (edge : Edge)
+    → StartsAreFound sets root ds es → first_near ds k es ≡ Some edge → IsFirstStart sets root k es edge
 first_is sets root k ds [] edge right h = absurd (cc)
 first_is sets root k ds (e ∷ es) edge right h =
     let f : IsFound sets root e.from (distance_at ds e.from) = right e.from (Contains-first e.from (starts_of es)) in
@@ -139,7 +149,9 @@ first_is sets root k ds (e ∷ es) edge right h =
           record { first = inr (near_false sets root e.from k (distance_at ds e.from) f t, r.first); there = Contains-later e.from (starts_of es) edge.from r.there; near = r.near }
     ] refl h
 
-first_none : (sets : List ℕ) (root k : ℕ) (ds : List (Option ℕ)) (es : List Edge) → StartsAreFound sets root ds es → first_near ds k es ≡ None → (c : ℕ) → Contains (starts_of es) c → IsDistance sets root c k → ⊥
+first_none : (sets : List ℕ) (root k : ℕ) (ds : List (Option ℕ)) (es : List Edge)
+    → StartsAreFound sets root ds es → first_near ds k es ≡ None → (c : ℕ) → Contains (starts_of es) c
+    → IsDistance sets root c k → ⊥
 first_none sets root k ds [] right h c i d = Contains-none c i
 first_none sets root k ds (e ∷ es) right h c i d =
     let f : IsFound sets root e.from (distance_at ds e.from) = right e.from (Contains-first e.from (starts_of es)) in
@@ -152,7 +164,9 @@ first_none sets root k ds (e ∷ es) right h c i d =
     ] refl h
 
 -- a node that lies away from the root has an edge from one that lies one nearer
-pub first_there : (sets : List ℕ) (root n k : ℕ) (ds : List (Option ℕ)) (es : List Edge) → starts_of es ≡ starts sets n → StartsAreFound sets root ds es → IsDistance sets root n (suc k) → first_near ds k es ≡ None → ⊥
+pub first_there : (sets : List ℕ) (root n k : ℕ) (ds : List (Option ℕ)) (es : List Edge)
+    → starts_of es ≡ starts sets n → StartsAreFound sets root ds es → IsDistance sets root n (suc k)
+    → first_near ds k es ≡ None → ⊥
 first_there sets root n k ds es edges right d none =
     let w = d.walk in
     let nearer : IsDistance sets root w.0 k = record { walk = w.1; least = λ m v. let longer : Walk sets root n (suc m) = (w.0, v, w.2) in omega (arith, d.least (suc m) longer) } in

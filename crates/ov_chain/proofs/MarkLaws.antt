@@ -18,7 +18,8 @@ set-keeps (x ∷ marks) zero (suc n) h = h
 set-keeps (x ∷ marks) (suc m) zero h = h
 set-keeps (x ∷ marks) (suc m) (suc n) h = set-keeps marks m n h
 
-pub marked-keeps : (edges : List Edge) (marks : List Bool) (n : ℕ) → IsMarked marks n → IsMarked (starts_marked edges marks) n
+pub marked-keeps : (edges : List Edge) (marks : List Bool) (n : ℕ) → IsMarked marks n
+    → IsMarked (starts_marked edges marks) n
 marked-keeps [] marks n h = h
 marked-keeps (e ∷ edges) marks n h = marked-keeps edges (slice_set marks e.from true) n (set-keeps marks e.from n h)
 
@@ -27,7 +28,8 @@ marked-length [] marks = refl
 marked-length (e ∷ edges) marks = marked-length edges (slice_set marks e.from true) ∙ length-set marks e.from true
 
 -- each start is marked
-pub marked-marks : (edges : List Edge) (marks : List Bool) (from : ℕ) → Contains (starts_of edges) from → from < length marks → IsMarked (starts_marked edges marks) from
+pub marked-marks : (edges : List Edge) (marks : List Bool) (from : ℕ) → Contains (starts_of edges) from
+    → from < length marks → IsMarked (starts_marked edges marks) from
 marked-marks [] marks from h inside = absurd (Contains-none from h)
 marked-marks (e ∷ edges) marks from h inside = elim (Contains-cases e.from (starts_of edges) from h) [
   | inl same ↦
@@ -37,7 +39,9 @@ marked-marks (e ∷ edges) marks from h inside = elim (Contains-cases e.from (st
 ]
 
 -- a node above the starts is marked only if it was before
-pub marked-others : (edges : List Edge) (marks : List Bool) (bound n : ℕ) → ((from : ℕ) → Contains (starts_of edges) from → from < bound) → bound ≤ n → IsMarked (starts_marked edges marks) n → IsMarked marks n
+pub marked-others : (edges : List Edge) (marks : List Bool) (bound n : ℕ)
+    → ((from : ℕ) → Contains (starts_of edges) from → from < bound) → bound ≤ n
+    → IsMarked (starts_marked edges marks) n → IsMarked marks n
 marked-others [] marks bound n low up h = h
 marked-others (e ∷ edges) marks bound n low up h =
     let below : e.from < bound = low e.from (Contains-first e.from (starts_of edges)) in
@@ -49,12 +53,15 @@ marked-others (e ∷ edges) marks bound n low up h =
 abbrev pub IsClosedFrom : List ℕ → ℕ → List Bool → Type 0
 IsClosedFrom sets first marks = (node from : ℕ) → first ≤ node → IsMarked marks node → Contains (starts sets node) from → IsMarked marks from
 
-pub closed_past : (sets : List ℕ) (first : ℕ) (marks : List Bool) → length marks ≤ first → IsClosedFrom sets first marks
+pub closed_past : (sets : List ℕ) (first : ℕ) (marks : List Bool) → length marks ≤ first
+    → IsClosedFrom sets first marks
 closed_past sets first marks past node from up h c =
     let none : get_or marks node false ≡ false = get_or_past marks node false (omega arith) in
     absurd (true≢false (sym h ∙ none))
 
-pub closed_more : (sets : List ℕ) (n : ℕ) (edges : List Edge) (marks : List Bool) → starts_of edges ≡ starts sets n → n < length marks → IsClosedFrom sets (n + 1) marks → IsClosedFrom sets n (starts_marked edges marks)
+pub closed_more : (sets : List ℕ) (n : ℕ) (edges : List Edge) (marks : List Bool)
+    → starts_of edges ≡ starts sets n → n < length marks → IsClosedFrom sets (n + 1) marks
+    → IsClosedFrom sets n (starts_marked edges marks)
 closed_more sets n edges marks covers inside closed node from up h c = elim (cases_eq node n) [
   | inl same ↦
       let there : Contains (starts sets n) from = subst (λ k. Contains (starts sets k) from) same c in
@@ -65,13 +72,15 @@ closed_more sets n edges marks covers inside closed node from up h c = elim (cas
       marked-keeps edges marks from (closed node from (omega arith) before c)
 ]
 
-pub closed_same : (sets : List ℕ) (n : ℕ) (marks : List Bool) → get_or marks n false ≡ false → IsClosedFrom sets (n + 1) marks → IsClosedFrom sets n marks
+pub closed_same : (sets : List ℕ) (n : ℕ) (marks : List Bool) → get_or marks n false ≡ false
+    → IsClosedFrom sets (n + 1) marks → IsClosedFrom sets n marks
 closed_same sets n marks none closed node from up h c = elim (cases_eq node n) [
   | inl same ↦ absurd (true≢false (sym h ∙ ap (λ k. get_or marks k false) same ∙ none))
   | inr other ↦ closed node from (omega arith) h c
 ]
 
 -- whatever leads to a marked node is marked
-pub Walk-marked : (sets : List ℕ) (marks : List Bool) (from to edges : ℕ) → IsClosed sets marks → IsMarked marks to → Walk sets from to edges → IsMarked marks from
+pub Walk-marked : (sets : List ℕ) (marks : List Bool) (from to edges : ℕ) → IsClosed sets marks
+    → IsMarked marks to → Walk sets from to edges → IsMarked marks from
 Walk-marked sets marks from to zero closed h w = subst (IsMarked marks) (sym w) h
 Walk-marked sets marks from to (suc edges) closed h w = Walk-marked sets marks from w.0 edges closed (closed to w.0 h w.2.1) w.1

@@ -22,7 +22,8 @@ walked-true base surface from (step ∷ steps) true_ones =
     ap (λ k. walked k steps) next ∙ walked-true base surface step.to steps true_ones.1
 
 -- a path of a sealed graph leads from a node's key to that of its end
-pub walked-path : (kind : Kind) (master : List ℕ) (graph : Contents) (from to : ℕ) (steps : List Step) → IsSealed kind master graph → IsPath kind graph from to steps
+pub walked-path : (kind : Kind) (master : List ℕ) (graph : Contents) (from to : ℕ) (steps : List Step)
+    → IsSealed kind master graph → IsPath kind graph from to steps
     → walked (node_key kind master from) steps ≡ node_key kind master to
 walked-path kind master graph from to [] whole path = ap (node_key kind master) path
 walked-path kind master graph from to (step ∷ steps) whole (near, first, path) =
