@@ -1,0 +1,6 @@
+pub mod MarkLaws
+pub mod DistanceLaws
+pub mod PathLaws
+pub mod WalkLaws
+pub mod EdgeLaws
+pub mod WayBack

@@ -1,0 +1,4 @@
+pub mod Path
+pub mod Walk
+pub mod Marks
+pub mod Distances

@@ -1,0 +1,33 @@
+-- Where a chain of tokens leads.
+use Rattle.std.specs.Prelude.{ℕ, ◌≡◌, List, [], ◌∷◌, Contains}
+use Rattle.ov_tokens.specs.declared.label.Kind.{Kind}
+use Rattle.ov_tokens.specs.declared.label.Label.{Label}
+use Rattle.ov_tokens.specs.declared.edge.Edge.{Edge}
+use Rattle.ov_tokens.specs.declared.chain.Step.{Step}
+use Rattle.ov_tokens.specs.Keys.{derived_key, key_of_label, node_key, token_of}
+use Rattle.ov_tokens.specs.Labels.{label_of}
+use Rattle.ov_graph.specs.Contents.{Contents, edges_to}
+
+-- the key at the end of the steps: each step derives the next key from the one before it
+abbrev pub walked : List ℕ → List Step → List ℕ
+walked key [] = key
+walked key (step ∷ steps) = walked (derived_key key step.to step.token.bytes) steps
+
+-- the label of the last step, or the one that the steps start from
+abbrev pub last_label : Label → List Step → Label
+last_label from [] = from
+last_label from (step ∷ steps) = last_label step.to steps
+
+-- under the two masters each token is the one from the key of the label before it to the key of its own label
+abbrev pub AreTrue : List ℕ → List ℕ → Label → List Step → Type 0
+AreTrue base surface from [] = Unit {0}
+AreTrue base surface from (step ∷ steps) =
+    (step.token.bytes ≡ token_of (key_of_label base surface from) step.to (key_of_label base surface step.to))
+    × AreTrue base surface step.to steps
+
+-- the token of each edge is the one from the key of the edge's start to the key of its end, under the master of the
+-- graph's layer
+abbrev pub IsSealed : Kind → List ℕ → Contents → Type 0
+IsSealed kind master graph =
+    (node : ℕ) (edge : Edge) → Contains (edges_to graph node) edge
+    → edge.token.bytes ≡ token_of (node_key kind master edge.from) (label_of kind node) (node_key kind master node)
