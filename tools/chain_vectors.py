@@ -2,7 +2,7 @@
 """Writes the graph and the chains that ov_chain's tests compare with.
 
 The graph has the sets of ten users alone, and then sets that a fixed seed draws. Its edges and its chains come from
-the definitions alone, by code that this repository has no part in. Run it at the top of the repository:
+the definitions alone, by code that shares nothing with the crates. Run it at the top of the repository:
 
     python3 tools/chain_vectors.py > crates/ov_chain/src/tests/vectors.rt
 
@@ -15,7 +15,8 @@ nearer to the root.
 import random
 
 USERS = 10
-NODES = 60
+NODES = 300
+NOWHERE = 4096
 SEED = 20
 WIDTH = 99
 
@@ -97,13 +98,16 @@ def main() -> None:
     print("\n".join(filled([str(number) for number in bits], "    ")))
     print("];")
     print()
-    print("/// For each user's root, and each node: the node from which the chain takes its last step, or None where")
-    print("/// it has no step or there is none.")
-    print("pub static BEFORE: [[Option<u32>; NODES]; USERS] = [")
+    print("/// No node.")
+    print(f"pub const NOWHERE: u32 = {NOWHERE};")
+    print()
+    print("/// For each user's root, and each node: the node from which the chain takes its last step, or NOWHERE")
+    print("/// where it has no step or there is none.")
+    print("pub static BEFORE: [[u32; NODES]; USERS] = [")
     for root in range(USERS):
+        row = [str(NOWHERE if near is None else near) for near in before(starts, root)]
         print("    [")
-        for near in before(starts, root):
-            print("        None," if near is None else f"        Some({near}),")
+        print("\n".join(filled(row, "        ")))
         print("    ],")
     print("];")
 

@@ -25,9 +25,13 @@ AreTrue base surface from (step ∷ steps) =
     (step.token.bytes ≡ token_of (key_of_label base surface from) step.to (key_of_label base surface step.to))
     × AreTrue base surface step.to steps
 
--- the token of each edge is the one from the key of the edge's start to the key of its end, under the master of the
--- graph's layer
-abbrev pub IsSealed : Kind → List ℕ → Contents → Type 0
-IsSealed kind master graph =
-    (node : ℕ) (edge : Edge) → Contains (edges_to graph node) edge
+-- the tokens of these edges, which lead to the node, are those from the keys of their starts to the
+-- node's key, under the master of the layer
+abbrev pub AreSealed : Kind → List ℕ → ℕ → List Edge → Type 0
+AreSealed kind master node edges =
+    (edge : Edge) → Contains edges edge
     → edge.token.bytes ≡ token_of (node_key kind master edge.from) (label_of kind node) (node_key kind master node)
+
+-- so are the tokens of all edges of the graph
+abbrev pub IsSealed : Kind → List ℕ → Contents → Type 0
+IsSealed kind master graph = (node : ℕ) → AreSealed kind master node (edges_to graph node)

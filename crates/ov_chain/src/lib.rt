@@ -18,10 +18,12 @@
 
 mod distances;
 mod keys;
+mod laws;
 mod marks;
 mod search;
 #[cfg(test)]
 mod tests;
 
 pub use keys::walk;
+pub use laws::graphs_are_sealed;
 pub use search::shortest;

@@ -12,7 +12,7 @@ use ov_tokens::{Base, Chain, Layer, Surface, Tokens, make};
 use std::alloc::Global;
 use std::process::Abort;
 use std::test::Fail;
-use vectors::{BEFORE, NODES, SETS, USERS};
+use vectors::{BEFORE, NODES, NOWHERE, SETS, USERS};
 
 const MASTER: Key = Key { bytes: [7; 32] };
 
@@ -156,7 +156,7 @@ fn set_of_bits(bits: u32) -> UserSet<1> {
 fn way_to(
     rt: &impl Abort,
     alloc: Global,
-    before: &[Option<u32>],
+    before: &[u32],
     root: u32,
     node: u32,
 ) -> Result<Vec<u32>, Fail> {
@@ -167,11 +167,9 @@ fn way_to(
             break;
         }
         way.push(here)?;
-        here = before
-            .get(here as usize)
-            .copied()
-            .flatten()
-            .expect(rt, "a way to the root");
+        let near = before.get(here as usize).copied().unwrap_or(NOWHERE);
+        assert!(rt; near != NOWHERE, "a way to the root");
+        here = near;
     }
     way.reverse();
     Ok(way)
@@ -183,12 +181,12 @@ fn expect_row(
     alloc: Global,
     graph: &ListGraph<Base, 1>,
     root: u32,
-    before: &[Option<u32>],
+    before: &[u32],
 ) -> Result<(), Fail> {
     assert_eq!(rt; before.len(), NODES);
     for node in 0..NODES {
         let number = node as u32;
-        if before[node].is_some() || number == root {
+        if before[node] != NOWHERE || number == root {
             let way = way_to(rt, alloc, before, root, number)?;
             expect_chain(rt, alloc, graph, root, number, &way)?;
         } else {

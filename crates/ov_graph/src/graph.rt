@@ -54,14 +54,19 @@ pub trait Graph<L: Layer, const W: usize>: Drop {
         ensures full { let sets = (contents self.now).sets ++ before.now in
             (result ≡ Err GraphRefusal.NodesFull)
             ↔ ((length sets ≡ 4096) × IsTrue (plan_of sets set.now).fresh) }
+        ensures number { IfOk result (λ cover. cover.node < 4096) }
         ensures few { IfOk result (λ cover. length cover.from ≤ size set.now) }
         ensures none { size set.now ≤ 1 → IfOk result (λ cover. cover.from ≡ []) };
 
-    /// Makes room for so many more sets and so many more edges.
+    /// Makes room for so many more sets and so many more edges. No room is lost by it; where memory is refused,
+    /// some may have been gained.
     fn reserve(&mut self, sets: u32, edges: u32) -> Result<(), Memory>
         ensures sets { (contents self.new).sets ≡ (contents self.old).sets }
         ensures edges { (contents self.new).edges ≡ (contents self.old).edges }
-        ensures room { OnOk result (HasRoom (contents self.new) sets edges) };
+        ensures room { OnOk result (HasRoom (contents self.new) sets edges) }
+        ensures kept { (sets edges : ℕ)
+            → HasRoom (contents self.old) sets edges
+            → HasRoom (contents self.new) sets edges };
 
     /// Adds a set as it was planned, with a token for each edge of its cover. It takes no memory.
     fn add(&mut self, set: &UserSet<W>, cover: Cover, tokens: Tokens)

@@ -9,8 +9,8 @@ use ov_keyed::mac;
 /// Generic code knows of a layer `L` that the label of node n is `label_of L.label_kind n`, that its key is
 /// `node_key L.label_kind master n`, and that `L::TAG` is the tag byte of its labels.
 pub trait Layer {
-    ghost use Rattle.std.specs.Prelude.{◌≡◌, ℕ};
-    ghost use Rattle.ov_tokens.specs.Keys.{node_key};
+    ghost use Rattle.std.specs.Prelude.{◌≡◌, ℕ, List};
+    ghost use Rattle.ov_tokens.specs.Keys.{node_key, key_of_kind};
     ghost use Rattle.ov_tokens.specs.Labels.{label_of, tag_of};
     ghost use Rattle.ov_tokens.specs.declared.label.Kind.{Kind};
 
@@ -38,6 +38,10 @@ pub trait Layer {
 
     /// The tag byte is that of the kind.
     ghost tag_is: { TAG ≡ tag_of label_kind };
+
+    /// The key of a node is that of its label.
+    ghost key_is: { (master : List ℕ) (number : ℕ)
+        → node_key label_kind master number ≡ key_of_kind master master label_kind number };
 }
 
 /// The base layer: node n has the label `B n`.
@@ -55,6 +59,8 @@ impl Layer for Base {
     ghost TAG = { 0x42 };
 
     ghost tag_is = { refl };
+
+    ghost key_is = { λ _ _. refl };
 
     const TAG: u8 = b'B';
 
@@ -75,6 +81,8 @@ impl Layer for Surface {
     ghost TAG = { 0x53 };
 
     ghost tag_is = { refl };
+
+    ghost key_is = { λ _ _. refl };
 
     const TAG: u8 = b'S';
 

@@ -1,11 +1,17 @@
 use Rattle.std.proofs.Common.{ℕ, ◌≡◌, ◌∙◌, ◌++◌, List, Bool, Option, length, take, drop, arith, sym, subst}
 use Rattle.std.proofs.lemmas.Grind.{common_steps}
 use Rattle.ov_chain.specs.Distances.{AreFound, MarkedAreFound}
+use Rattle.ov_chain.specs.Marks.{IsClosed}
 use Rattle.ov_chain.proofs.WayBack.{are_found}
 use Rattle.ov_chain.proofs.search.distances_to.Goals as goal
 
 written : {X : Type 0} (items new : List X) (many : ℕ) → length new ≡ many → take many (new ++ drop (length new) items) ≡ new
 written items new many long = grind (arith, common_steps)
+
+pub measure-requires-clause-closed : goal.measure-requires-clause-closed
+measure-requires-clause-closed g c =
+    let same : c.deref.result.now ≡ c.mark_ancestors.new.marks = grind (arith, common_steps) in
+    subst (IsClosed _) (sym same) c.mark_ancestors.ensures.closed
 
 pub returns-clause-found : goal.returns-clause-found
 returns-clause-found g c =
