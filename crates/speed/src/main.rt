@@ -1,0 +1,60 @@
+//! What `docs/PERFORMANCE.md` times: `speed pad`, `speed tag`, `speed graph` and `speed chain`.
+//!
+//! Each does one piece of work and prints one line that shows that it was done. It is timed from outside.
+#![tactic(auto)]
+
+mod graph;
+
+use ov_ctr::apply_at;
+use ov_keyed::mac;
+use std::alloc::{AllocError, Global};
+use std::env;
+use std::test::Fail;
+
+const SIZE: usize = 67_108_864;
+
+fn zeros(alloc: Global) -> Result<Vec<u8>, AllocError> {
+    let mut bytes = Vec::with_capacity(alloc, SIZE)?;
+    for _ in 0..SIZE {
+        bytes.push(0)?;
+    }
+    Ok(bytes)
+}
+
+// The pad of a file over 64 MiB, four times: then it is all zeros again.
+fn pad(alloc: Global) -> Result<usize, Fail> {
+    let mut bytes = zeros(alloc)?;
+    if bytes.len() <= SIZE {
+        for _ in 0..4u8 {
+            apply_at(&[7; 32], b'B', 2, 0, bytes.as_mut_slice());
+        }
+    }
+    Ok(bytes.iter().filter(|byte| **byte == 0).count())
+}
+
+// The tag of 64 MiB, four times: its first byte.
+fn tag(alloc: Global) -> Result<usize, Fail> {
+    let bytes = zeros(alloc)?;
+    let mut first = 0u8;
+    if bytes.len() <= SIZE {
+        for _ in 0..4u8 {
+            first = mac(&[first; 32], &bytes, b"")[0];
+        }
+    }
+    Ok(usize::from(first))
+}
+
+fn main(rt: HostRuntime) -> Result<(), Fail> {
+    let alloc = rt.alloc();
+    for word in env::args(&rt)?.skip(1) {
+        let answer = match word.as_str() {
+            "pad" => pad(alloc)?,
+            "tag" => tag(alloc)?,
+            "graph" => graph::chains(&rt, alloc, 0)?,
+            "chain" => graph::chains(&rt, alloc, 10_000)?,
+            _ => 0,
+        };
+        println!(rt; "{word} {answer}")?;
+    }
+    Ok(())
+}
