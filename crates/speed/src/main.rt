@@ -50,8 +50,8 @@ fn main(rt: HostRuntime) -> Result<(), Fail> {
         let answer = match word.as_str() {
             "pad" => pad(alloc)?,
             "tag" => tag(alloc)?,
-            "graph" => graph::chains(&rt, alloc, 0)?,
-            "chain" => graph::chains(&rt, alloc, 10_000)?,
+            "graph" => graph::chains(alloc, 0)?,
+            "chain" => graph::chains(alloc, 10_000)?,
             _ => 0,
         };
         println!(rt; "{word} {answer}")?;

@@ -1,7 +1,7 @@
 use Rattle.std.proofs.Common.{◌<◌, ◌*◌, ℕ}
 use Rattle.std.specs.Prelude.{Contains}
 use Rattle.ov_base.specs.Sets.{single, Has, IsBelow}
-use Rattle.speed.proofs.graph.expect_roots.Given as goal
+use Rattle.speed.proofs.graph.has_roots.Given as goal
 
 abbrev pub invariant-loop-user : goal.invariant-loop-user
 invariant-loop-user g l = record {
