@@ -1,6 +1,6 @@
 //! The shortest chain from one node of a graph to another.
 
-ghost use Rattle.std.specs.Prelude.{◌≡◌, ◌↔◌, ◌≤◌, ◌+◌, ℕ, List, length, slice_index, IfOk, IfSome, IsSome};
+ghost use Rattle.std.specs.Prelude.{[], ◌≡◌, ◌↔◌, ◌≤◌, ◌+◌, ℕ, List, length, slice_index, IfOk, IfSome, IsSome};
 ghost use Rattle.ov_base.specs.Sets.{Has, single};
 ghost use Rattle.ov_tokens.specs.Keys.{node_key};
 ghost use Rattle.ov_graph.specs.Chain.{IsDistance, IsChosen, IsChain};
@@ -39,15 +39,16 @@ fn distances_to<L: Layer, G: Graph<L, W>, const W: usize>(
     Ok(distances)
 }
 
-/// The steps to a node that lies so far from the root, found from their end.
+/// The steps to a node that lies so far from the root, found from their end; `steps` has room for them.
 fn steps_back<L: Layer, G: Graph<L, W>, const W: usize>(
-    alloc: Global,
+    mut steps: Vec<Step>,
     graph: &G,
     distances: &[Option<u32>],
     root: u32,
     node: u32,
     far: u32,
 ) -> Result<Steps, Memory>
+    requires empty { steps.items ≡ [] }
     requires there { HasNode (G.contents graph.now) node }
     requires room { length distances.now ≡ node + 1 }
     requires found { AreFound (G.contents graph.now).sets root node distances.now }
@@ -56,7 +57,6 @@ fn steps_back<L: Layer, G: Graph<L, W>, const W: usize>(
         IsChosen L.label_kind (G.contents graph.now) root node far steps) }
 {
     graph.known();
-    let mut steps = Vec::with_capacity(alloc, far as usize)?;
     let mut here = node;
     for left in (0..far).rev() {
         let Some(edge) = first_at(graph.in_tokens(here), distances, left) else {
@@ -76,7 +76,8 @@ fn steps_back<L: Layer, G: Graph<L, W>, const W: usize>(
 /// back from `node`, each time over the first edge into a node whose start lies one edge nearer to `root`. None
 /// exactly where the edges don't lead from `root` to `node`.
 ///
-/// It takes the memory of the search before it searches, and that of the steps before it goes back over them.
+/// It takes all its memory before it begins: a chain to `node` has at most so many steps as its number, since each
+/// edge leads from a lower number to a higher.
 pub fn shortest<L: Layer, G: Graph<L, W>, const W: usize>(
     alloc: Global,
     graph: &G,
@@ -107,11 +108,12 @@ pub fn shortest<L: Layer, G: Graph<L, W>, const W: usize>(
         → IsSome answer ↔ Has (slice_index (G.contents graph.now).sets node) user) }
 {
     graph.known();
+    let room = Vec::with_capacity(alloc, node as usize)?;
     let distances = distances_to::<L, G, W>(alloc, graph, root, node)?;
     match distances[node as usize] {
         None => Ok(None),
         Some(far) => {
-            let steps = steps_back::<L, G, W>(alloc, graph, &distances, root, node, far)?;
+            let steps = steps_back::<L, G, W>(room, graph, &distances, root, node, far)?;
             Ok(Some(Chain { root, steps }))
         }
     }
