@@ -1,0 +1,4 @@
+pub mod Holders
+pub mod BaseContents
+pub mod Seals
+pub use Rattle.ov_graph.specs.Contents

@@ -1,0 +1,1 @@
+//! A base layer of a few users.

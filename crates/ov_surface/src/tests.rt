@@ -1,0 +1,1 @@
+//! Coats and tags that another program gives.
