@@ -1,5 +1,5 @@
 -- Who holds a base node: the users of its set, and those who were given access besides.
-use Rattle.std.specs.Prelude.{◌≡◌, ℕ, ◌==◌, ◌<◌, ◌⊎◌, Bool, true, false, List, [], ◌∷◌, ◌++◌, length, map, slice_index, Contains}
+use Rattle.std.specs.Prelude.{◌≡◌, ℕ, ◌==◌, ◌<◌, ◌⊎◌, Bool, true, false, List, [], ◌∷◌, length, map, take, slice_get, slice_index, Contains, Some}
 use Rattle.ov_base.specs.Sets.{with, Has}
 use Rattle.ov_base_layer.specs.declared.grant.Grant.{Grant}
 
@@ -40,6 +40,6 @@ IsHolder sets accesses node user =
 pub record AreFirst (limit : ℕ) (sets : List ℕ) (accesses : List Access) : Type 0 where
   pub users : (access : Access) → Contains accesses access → access.user < limit
   pub nodes : (access : Access) → Contains accesses access → access.node < length sets
-  pub first : (before after : List Access) (access : Access)
-      → accesses ≡ before ++ access ∷ after
-      → ¬ Has (holders_in sets before access.node) access.user
+  pub first : (n : ℕ) (access : Access)
+      → slice_get accesses n ≡ Some access
+      → ¬ Has (holders_in sets (take n accesses) access.node) access.user

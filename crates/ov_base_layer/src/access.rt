@@ -8,7 +8,7 @@ use ov_base::UserSet;
 /// The set with every user to whom one of these access tokens to the node was published.
 pub fn with_accesses<const W: usize>(set: UserSet<W>, grants: &[Grant], node: u32) -> UserSet<W>
     requires { (access : Access) → Contains (accesses_of grants.now) access → access.user < 64 * W }
-    ensures { result ≡ with_accesses (accesses_of grants.now) node set }
+    ensures { result ≡ with_accesses (accesses_of grants.now) node set.entry }
 {
     let mut holders = set;
     for grant in grants {

@@ -23,7 +23,7 @@ pub struct BaseLayer<G: Graph<Base, W>, const W: usize> {
 }
 
 impl<G: Graph<Base, W>, const W: usize> Model for BaseLayer<G, W> {
-    ghost use Rattle.std.specs.Prelude.{◌-◌, ◌*◌, vec_len, vec_capacity};
+    ghost use Rattle.std.specs.Prelude.{◌-◌, ◌*◌, ◌≤◌, vec_len, vec_capacity};
     ghost use Rattle.ov_base_layer.specs.BaseContents.{BaseContents};
     ghost use Rattle.ov_base_layer.specs.Holders.{accesses_of, AreFirst};
 
@@ -35,13 +35,14 @@ impl<G: Graph<Base, W>, const W: usize> Model for BaseLayer<G, W> {
       spare_grants = vec_capacity b.grants - vec_len b.grants;
     } };
 
-    ghost invariant = { λ b.
-        AreFirst (64 * W) (G.contents b.graph).sets (accesses_of b.grants.items) };
+    ghost invariant = { λ b. ((1 ≤ W) × (W ≤ 1024))
+        × AreFirst (64 * W) (G.contents b.graph).sets (accesses_of b.grants.items) };
 }
 
 impl<G: Graph<Base, W>, const W: usize> BaseLayer<G, W> {
     /// A layer without nodes and without access tokens.
     pub fn new(alloc: Global) -> Result<Self, Memory>
+        requires { (1 ≤ W) × (W ≤ 1024) }
         ensures sets { IfOk result (λ layer. layer.graph.sets ≡ []) }
         ensures edges { IfOk result (λ layer. layer.graph.edges ≡ []) }
         ensures grants { IfOk result (λ layer. layer.grants ≡ []) }
@@ -121,6 +122,7 @@ impl<G: Graph<Base, W>, const W: usize> BaseLayer<G, W> {
         ensures few { IfOk result (λ cover. length cover.from ≤ size list.now) }
         ensures none { size list.now ≤ 1 → IfOk result (λ cover. cover.from ≡ []) }
     {
+        self.graph.known();
         self.graph.plan(alloc, &[], list)
     }
 
@@ -130,6 +132,7 @@ impl<G: Graph<Base, W>, const W: usize> BaseLayer<G, W> {
         requires { HasNode self.now.graph node }
         ensures { result ≡ not (has (holders_of self.now node) user) }
     {
+        self.known();
         !self.holders(node).contains(user)
     }
 
@@ -161,6 +164,7 @@ impl<G: Graph<Base, W>, const W: usize> BaseLayer<G, W> {
     /// of its graph, and that each access token is to a node that is there and was published to a
     /// user below `64 * W` who wasn't a holder by the tokens before it.
     pub fn known(&self)
+        ensures width { (1 ≤ W) × (W ≤ 1024) }
         ensures graph { IsGraph self.now.graph.sets self.now.graph.edges }
         ensures few { length self.now.graph.sets ≤ 4096 }
         ensures grants { AreFirst (64 * W) self.now.graph.sets (accesses_of self.now.grants) }
