@@ -8,7 +8,7 @@ use Rattle.std.proofs.lemmas.Option.{get_or_from_slice_get, slice_get_within}
 use Rattle.std.proofs.Math.ListN.{get_or-append}
 use Rattle.std.proofs.Math.Seq.{drop-cons, take-append_seam}
 use Rattle.ov_base.specs.Sets.{Has, single, with}
-use Rattle.ov_base.proofs.SetLaws.{Has-single, union-Has, with-Has, within_with}
+use Rattle.ov_base.proofs.SetLaws.{each_within, Has-single, union-Has, with-Has, with_within, within_with}
 use Rattle.ov_graph.proofs.ListLaws.{Contains-cases, Contains-first, Contains-later, Contains-none}
 use Rattle.ov_base_layer.specs.declared.grant.Grant.{Grant}
 use Rattle.ov_base_layer.specs.Holders.{Access, access_of, accesses_of, holders_in, with_accesses, with_if, AreFirst, IsHolder}
@@ -122,6 +122,24 @@ holders_are sets accesses node user = (
     | inr given ↦ held_since accesses node (slice_index sets node) user given
   ],
 )
+
+-- a user who is in the set is there already
+with_held : (set user : ℕ) → Has set user → with set user ≡ set
+with_held set user held =
+    each_within (with set user) set (with_within set user set (λ n there. there) held) (within_with set user)
+
+still_if : (b : Bool) (set user : ℕ) → (b ≡ true → Has set user) → with_if b set user ≡ set
+still_if true set user held = with_held set user (held refl)
+still_if false set user held = refl
+
+-- access for who holds the node changes nothing
+pub again_held : (sets : List ℕ) (accesses : List Access) (access : Access) (node : ℕ)
+    → Has (holders_in sets accesses access.node) access.user
+    → holders_in sets (accesses ++ access ∷ []) node ≡ holders_in sets accesses node
+again_held sets accesses access node held =
+    with_accesses-append accesses access node (slice_index sets node)
+    ∙ still_if (access.node == node) (holders_in sets accesses node) access.user
+    (λ test. subst (λ n. Has (holders_in sets accesses n) access.user) (eqb-true _ _ test) held)
 
 -- ---- accesses that were first
 

@@ -22,11 +22,13 @@
 
 mod access;
 mod grant;
+mod laws;
 mod layer;
 mod seal;
 #[cfg(test)]
 mod tests;
 
 pub use grant::Grant;
+pub use laws::{holders_grow, seals_lead};
 pub use layer::BaseLayer;
 pub use seal::{seal_access, seal_cover, seal_edges};

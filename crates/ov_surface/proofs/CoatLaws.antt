@@ -35,7 +35,7 @@ base_coat-coated access (Some key) file start bytes =
 
 pub both_come_off : (access : List ℕ) (surface : Option (List ℕ)) (file start : ℕ) (plain : List ℕ)
     → base_coat access file start
-        (coated surface file start (coated surface file start (base_coat access file start plain)))
+    (coated surface file start (coated surface file start (base_coat access file start plain)))
     ≡ plain
 both_come_off access surface file start plain =
     ap (base_coat access file start) (coated-coated surface file start (base_coat access file start plain))
