@@ -44,36 +44,25 @@ fn tokens_of_another_program(rt: HostRuntime) -> Result<(), Fail> {
 }
 
 /// Makes sure that the user has a node alone.
-fn expect_root<G: Graph<Base, W>, const W: usize>(
-    rt: &impl Abort,
-    layer: &BaseLayer<G, W>,
-    user: u32,
-)
+fn expect_root<G: Graph<Base, W>, const W: usize>(rt: &impl Abort, graph: &G, user: u32)
     requires width { (1 ≤ W) × (W ≤ 1024) }
     requires user { user < 64 * W }
-    ensures { Contains layer.now.graph.sets (single user) }
+    ensures { Contains (G.contents graph.now).sets (single user) }
 {
     let alone = UserSet::empty().with(user);
-    let _node = layer
-        .graph()
-        .find(&alone)
-        .expect(rt, "a node of the user alone");
+    let _node = graph.find(&alone).expect(rt, "a node of the user alone");
 }
 
 /// Makes sure that each user of a set of two or more has a node alone.
-fn expect_roots<G: Graph<Base, W>, const W: usize>(
-    rt: &impl Abort,
-    layer: &BaseLayer<G, W>,
-    set: &UserSet<W>,
-)
-    ensures { IsRooted layer.now.graph.sets set.now }
+fn expect_roots<G: Graph<Base, W>, const W: usize>(rt: &impl Abort, graph: &G, set: &UserSet<W>)
+    ensures { IsRooted (G.contents graph.now).sets set.now }
 {
     if set.count() < 2 {
         return;
     }
     for user in 0..64 * W as u32 {
         if set.contains(user) {
-            expect_root(rt, layer, user);
+            expect_root(rt, graph, user);
         }
     }
 }
@@ -89,7 +78,7 @@ fn put<G: Graph<Base, W>, const W: usize>(
     assert!(rt; layer.graph().count() < 4096);
     let cover = layer.plan_create(alloc, set)?;
     assert!(rt; cover.fresh);
-    expect_roots(rt, layer, set);
+    expect_roots(rt, layer.graph(), set);
     let edges = cover.from.as_slice().len();
     assert!(rt; edges <= set.count() as usize);
     let tokens = seal_cover(alloc, master, &cover)?;
@@ -104,6 +93,7 @@ fn give<G: Graph<Base, W>, const W: usize>(
     layer: &mut BaseLayer<G, W>,
     grant: Grant,
 ) -> Result<(), Fail> {
+    layer.known();
     assert!(rt; grant.node < layer.graph().count() && grant.user < 64 * W as u32);
     assert!(rt; layer.plan_grant(grant.user, grant.node));
     layer.reserve_access()?;
@@ -115,11 +105,11 @@ fn give<G: Graph<Base, W>, const W: usize>(
 fn three_users<G: Graph<Base, W>, const W: usize>(
     rt: &impl Abort,
     alloc: Global,
+    mut layer: BaseLayer<G, W>,
 ) -> Result<(), Fail>
     requires { (1 ≤ W) × (W ≤ 1024) }
 {
     let master = master_from(0);
-    let mut layer: BaseLayer<G, W> = BaseLayer::new(alloc)?;
     let pair = UserSet::empty().with(0).with(1);
     for user in 0..3 {
         put(rt, alloc, &mut layer, &master, &UserSet::empty().with(user))?;
@@ -147,8 +137,8 @@ fn three_users<G: Graph<Base, W>, const W: usize>(
 
 #[test]
 fn three_users_at_each_width(rt: HostRuntime) -> Result<(), Fail> {
-    three_users::<ListGraph<Base, 1>, 1>(&rt, rt.alloc())?;
-    three_users::<ListGraph<Base, 4>, 4>(&rt, rt.alloc())?;
+    three_users::<ListGraph<Base, 1>, 1>(&rt, rt.alloc(), BaseLayer::new(rt.alloc())?)?;
+    three_users::<ListGraph<Base, 4>, 4>(&rt, rt.alloc(), BaseLayer::new(rt.alloc())?)?;
     Ok(())
 }
 
