@@ -1,0 +1,19 @@
+//! The key file, which holds the two masters of a store.
+//!
+//! A key file is two lines of 64 hexadecimal digits in either case: the base master and the surface
+//! master. The last LF may be missing, and the two masters differ. [`read_masters`] reads one from
+//! any source, and takes at most one byte more than the longest has.
+//!
+//! `specs/KeyFile` says which bytes are a key file of which masters; that they have one pair of
+//! masters at most is the law [`one_pair_of_masters`].
+#![tactic(auto)]
+
+mod laws;
+mod masters;
+mod reading;
+#[cfg(test)]
+mod tests;
+
+pub use laws::one_pair_of_masters;
+pub use masters::Masters;
+pub use reading::read_masters;
