@@ -1,29 +1,41 @@
 -- Histories of updates, and the access matrix that they make.
 use Rattle.std.specs.Prelude.{ℕ, ◌+◌, List, [], ◌∷◌, ◌++◌, length}
+use Rattle.ov_base.specs.declared.mode.Mode.{Mode}
 
--- an update that was accepted; a name is a list of bytes
+-- An update that was accepted. A name is a list of bytes, and an access list is a set of users, who
+-- are their numbers.
 pub data Update : Type 0 where
   Enrolled : (user : List ℕ) → Update
+  Created : (file : List ℕ) → (list : ℕ) → (bytes : List ℕ) → Update
 
--- the epoch at which the store began, and the updates in order
+-- the mode, the epoch at which the store began, and the updates in order
 pub record History : Type 0 where
+  pub mode : Mode
   pub first : ℕ
   pub updates : List Update
 
--- the users by number: their names in the order in which they were enrolled
+-- a file as its owner sees it: its name, its bytes, and the set of the users who may read it
+pub record File : Type 0 where
+  pub name : List ℕ
+  pub bytes : List ℕ
+  pub list : ℕ
+
+-- the names of the users and the files, each by number
 pub record Matrix : Type 0 where
   pub users : List (List ℕ)
+  pub files : List File
 
 -- what an update makes of the matrix
 abbrev pub changed : Matrix → Update → Matrix
 changed m (Enrolled user) = record m { users = m.users ++ user ∷ [] }
+changed m (Created file list bytes) = record m { files = m.files ++ record { name = file; bytes = bytes; list = list } ∷ [] }
 
 abbrev pub changed_all : Matrix → List Update → Matrix
 changed_all m [] = m
 changed_all m (u ∷ updates) = changed_all (changed m u) updates
 
 abbrev pub no_one : Matrix
-no_one = record { users = [] }
+no_one = record { users = []; files = [] }
 
 -- the matrix that the updates make in order from nothing
 abbrev pub matrix_of : History → Matrix
@@ -37,6 +49,10 @@ epoch_of h = h.first + length h.updates
 abbrev pub with_update : History → Update → History
 with_update h u = record h { updates = h.updates ++ u ∷ [] }
 
--- a store that begins empty
-abbrev pub empty : History
-empty = record { first = 0; updates = [] }
+-- a store of this mode that begins empty
+abbrev pub empty : Mode → History
+empty mode = record { mode = mode; first = 0; updates = [] }
+
+-- the history before its first update
+abbrev pub start_of : History → History
+start_of h = record h { updates = [] }

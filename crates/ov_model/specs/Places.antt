@@ -1,0 +1,13 @@
+-- Places in lists, which are the numbers of users, files and nodes.
+use Rattle.std.specs.Prelude.{ℕ, zero, suc, Bool, true, false, List, [], ◌∷◌}
+use Rattle.std.specs.Str.{bytes_eq}
+
+-- the place here, or one further on
+abbrev pub here_or_after : Bool → ℕ → ℕ
+here_or_after true place = 0
+here_or_after false place = suc place
+
+-- The place of a name among these. Of a name that isn't there it is one past the last.
+abbrev pub place_of : List ℕ → List (List ℕ) → ℕ
+place_of name [] = 0
+place_of name (first ∷ names) = here_or_after (bytes_eq name first) (place_of name names)
