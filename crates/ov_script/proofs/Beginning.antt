@@ -1,102 +1,142 @@
--- What a line says, and what may still become one.
-use Rattle.std.proofs.Common.{◌≡◌, ◌⊎◌, inl, inr, ℕ, ◌+◌, ◌<◌, true, List, [], ◌∷◌, ◌++◌, length, refl, sym, ◌∙◌, ap, subst, append_assoc, length-append, append-nil, arith, ◌&&◌}
-use Rattle.std.specs.Prelude.{codes, nat_lt}
-use Rattle.std.specs.List.{list_all}
-use Rattle.std.proofs.lemmas.Bool.{and_parts, and_from}
-use Rattle.std.proofs.lemmas.Bool.Decides.{nat_tests}
-use Rattle.std.proofs.lemmas.List.{append_cancel_left, append_cancel_right}
-use Rattle.ov_base.specs.Names.{is_letter_or_digit, is_name_byte, IsName}
+-- What can begin an item, and what begins with one.
+use Rattle.std.proofs.Common.{◌≡◌, ◌≢◌, ℕ, zero, suc, ◌+◌, ◌-◌, ◌<◌, ◌≤◌, true, false, List, [], ◌∷◌, ◌++◌, length, replicate, refl, sym, ◌∙◌, ap, subst, append_assoc, append-nil, length-append, arith}
+use Rattle.std.specs.Prelude.{codes}
+use Rattle.std.specs.Fmt.{decimal}
+use Rattle.std.proofs.lemmas.List.{length-replicate, append_cancel_left}
 use Rattle.ov_script.specs.declared.command.Command.{Command}
-use Rattle.ov_script.specs.declared.command.Command.TheVariants.{Enrol}
+use Rattle.ov_script.specs.declared.command.Command.TheVariants.{Enrol, Create, Read}
+use Rattle.ov_script.specs.declared.first_line.FirstLine.{FirstLine}
+use Rattle.ov_script.specs.declared.first_line.FirstLine.TheVariants.{Whole, WithBody}
+use Rattle.ov_script.specs.declared.front.Word.TheVariants.{Enrol as Word-Enrol, Create as Word-Create, Read as Word-Read}
+use Rattle.ov_script.specs.declared.front.Front.TheVariants.{Start}
+use Rattle.ov_script.specs.ItemLines.{SaysLine, Completes}
+use Rattle.ov_script.specs.Items.{IsItem, BeginsWithItem, CanBegin, spaced}
 use Rattle.ov_script.specs.LineFeeds.{NoLf}
-use Rattle.ov_script.specs.Items.{IsItem, BeginsWithItem, CanBegin}
-use Rattle.ov_script.proofs.Grammar.{name_parts}
+use Rattle.ov_script.specs.LineFronts.{run, is_alive}
+use Rattle.ov_script.proofs.ByteTexts.{front_before, same_length}
+use Rattle.ov_script.proofs.Continuations.{Fits, alive_fits, dead_fits}
+use Rattle.ov_script.proofs.Grammar.{says_no_lf, says_short, item_parts, item_from, item_past, behind_line, not_at_line}
+use Rattle.ov_script.proofs.NameFronts.{rest_of_name, name_of_rest}
 
--- a line that does not begin so is no item
-pub not_enrol : (line : List ℕ) → ((user : List ℕ) → line ≡ codes "enrol " ++ user → ⊥) → (command : Command) → IsItem (line ++ 10 ∷ []) command → ⊥
-not_enrol line none (Enrol user) is = none user (append_cancel_right line (codes "enrol " ++ user) (10 ∷ []) (is.1 ∙ sym (append_assoc (codes "enrol ") user (10 ∷ []))))
+-- ---- lines are what fits from their start
 
--- nor is one whose user is no name
-pub not_named : (line user : List ℕ) → line ≡ codes "enrol " ++ user → (IsName user → ⊥) → (command : Command) → IsItem (line ++ 10 ∷ []) command → ⊥
-not_named line user e bad (Enrol named) is =
-    let same : line ≡ codes "enrol " ++ named = append_cancel_right line (codes "enrol " ++ named) (10 ∷ []) (is.1 ∙ sym (append_assoc (codes "enrol ") named (10 ∷ []))) in
-    let users : user ≡ named = append_cancel_left (codes "enrol ") user named (sym e ∙ same) in
-    bad (subst IsName (sym users) is.0)
+pub said_fits : (line : List ℕ) (said : FirstLine) → SaysLine line said → Fits Start line
+said_fits line (Whole (Enrol user)) (named, e) = (Word-Enrol, user, e, (user, [], sym (append-nil user), rest_of_name user named, refl))
+said_fits line (Whole (Create file reader body)) p = absurd p
+said_fits line (Whole (Read user file)) (u, f, e) =
+    (Word-Read, user ++ 32 ∷ file, e, (user, 32 ∷ file, refl, rest_of_name user u, (file, refl, (file, [], sym (append-nil file), rest_of_name file f, refl))))
+said_fits line (WithBody file reader size) (f, r, low, e) =
+    (Word-Create, file ++ 32 ∷ (reader ++ 32 ∷ decimal size), e,
+    (file, 32 ∷ (reader ++ 32 ∷ decimal size), refl, rest_of_name file f,
+    (reader ++ 32 ∷ decimal size, refl, (reader, 32 ∷ decimal size, refl, rest_of_name reader r, (decimal size, refl, (size, low, refl))))))
 
--- a front with no LF of a line is a front of what stands before its LF
-pub front_of_line : (xs ys x y : List ℕ) → NoLf xs → xs ++ x ≡ ys ++ 10 ∷ y → (z : List ℕ) × (ys ≡ xs ++ z)
-front_of_line [] ys x y p e = (ys, refl)
-front_of_line (a ∷ xs) [] x y p e = absurd (p.0 (cc))
-front_of_line (a ∷ xs) (b ∷ ys) x y p e =
-    let tail : xs ++ x ≡ ys ++ 10 ∷ y = cc in
-    let rest : (z : List ℕ) × (ys ≡ xs ++ z) = front_of_line xs ys x y p.1 tail in
-    let same : ys ≡ xs ++ rest.0 = rest.1 in
-    (rest.0, cc)
+pub fits_said : (line : List ℕ) → Fits Start line → (said : FirstLine) × SaysLine line said
+fits_said line (Word-Enrol, rest, e, (user, end, f, u, none)) =
+    let same : rest ≡ user = f ∙ ap (λ l. user ++ l) none ∙ append-nil user in
+    (Whole (Enrol user), (name_of_rest user u, e ∙ ap (λ l. codes "enrol " ++ l) same))
+fits_said line (Word-Read, rest, e, (user, tail, f, u, (more, g, (file, end, h, n, none)))) =
+    let same : more ≡ file = h ∙ ap (λ l. file ++ l) none ∙ append-nil file in
+    (Whole (Read user file), (name_of_rest user u, name_of_rest file n,
+    e ∙ ap (λ l. codes "read " ++ l) (f ∙ ap (λ l. user ++ l) (g ∙ ap (λ l. 32 ∷ l) same))))
+fits_said line (Word-Create, rest, e, (file, tail, f, n, (more, g, (reader, end, h, r, (digits, i, (size, low, j)))))) =
+    (WithBody file reader size, (name_of_rest file n, name_of_rest reader r, low,
+    e ∙ ap (λ l. codes "create " ++ l) (f ∙ ap (λ l. file ++ l) (g ∙ ap (λ l. 32 ∷ l) (h ∙ ap (λ l. reader ++ l) (i ∙ ap (λ l. 32 ∷ l) j))))))
 
-all_front : (xs ys : List ℕ) → list_all is_name_byte (xs ++ ys) ≡ true → list_all is_name_byte xs ≡ true
-all_front [] ys p = refl
-all_front (x ∷ xs) ys p =
-    let both = and_parts (is_name_byte x) (list_all is_name_byte (xs ++ ys)) p in
-    and_from (is_name_byte x) (list_all is_name_byte xs) both.0 (all_front xs ys both.1)
+-- ---- what completes a line
 
--- each front of a name but the empty one is a name
-pub name_front : (xs ys : List ℕ) → 0 < length xs → IsName (xs ++ ys) → IsName xs
-name_front [] ys some p = absurd (omega arith)
-name_front (x ∷ xs) ys some p =
-    let q = name_parts x (xs ++ ys) p in
-    let size : length (xs ++ ys) ≡ length xs + length ys = length-append xs ys in
-    let short : length (xs ++ ys) < 64 = q.short in
-    let less : nat_lt (length xs) 64 ≡ true = grind (arith, nat_tests) in
-    and_from (is_letter_or_digit x && nat_lt (length xs) 64) (list_all is_name_byte xs) (and_from (is_letter_or_digit x) (nat_lt (length xs) 64) q.begins less) (all_front xs ys q.goes_on)
+-- the body, or nothing, of a line behind which stands nothing yet
+some_tail : (said : FirstLine) (line : List ℕ) → SaysLine line said → (tail : List ℕ) × (command : Command) × Completes said tail command
+some_tail (Whole command) line p = ([], command, (refl, refl))
+some_tail (WithBody file reader size) line p = (replicate size 0 ++ 10 ∷ [], Create file reader (replicate size 0), (replicate size 0, length-replicate size 0, refl, refl))
 
--- behind `enrol ` stand the bytes of a name, or nothing yet
-pub can_begin_named : (line user : List ℕ) → line ≡ codes "enrol " ++ user → IsName user → CanBegin line
-can_begin_named line user e named = (10 ∷ [], (line ++ 10 ∷ [], [], Enrol user, sym (append-nil (line ++ 10 ∷ [])), (named, ap (λ l. l ++ 10 ∷ []) e ∙ append_assoc (codes "enrol ") user (10 ∷ []))))
+pub can_by_item : (text more item rest : List ℕ) (command : Command) → text ++ more ≡ item ++ rest → IsItem item command → CanBegin text
+can_by_item text more item rest command e is = (more, (item, rest, command, e, is))
 
-pub can_begin_bare : (line : List ℕ) → line ≡ codes "enrol " → CanBegin line
-can_begin_bare line e = (97 ∷ 10 ∷ [], (line ++ 97 ∷ 10 ∷ [], [], Enrol (97 ∷ []), sym (append-nil (line ++ 97 ∷ 10 ∷ [])), (refl, ap (λ l. l ++ 97 ∷ 10 ∷ []) e)))
+-- what begins a line can begin an item
+pub can_by_line : (front text : List ℕ) (said : FirstLine) → SaysLine (front ++ text) said → CanBegin front
+can_by_line front text said p =
+    let t = some_tail said (front ++ text) p in
+    can_by_item front (text ++ 10 ∷ t.0) ((front ++ text) ++ 10 ∷ t.0) [] t.1
+    (sym (append_assoc front text (10 ∷ t.0)) ∙ sym (append-nil ((front ++ text) ++ 10 ∷ t.0))) (item_from (front ++ text) t.0 said t.1 p t.2)
 
-pub named_if_can : (line user : List ℕ) → line ≡ codes "enrol " ++ user → NoLf user → 0 < length user → CanBegin line → IsName user
-named_if_can line user e no_lf some (more, (item, rest, Enrol named, joined, is)) =
-    let whole : codes "enrol " ++ (user ++ more) ≡ codes "enrol " ++ (named ++ 10 ∷ rest) =
-    sym (append_assoc (codes "enrol ") user more) ∙ ap (λ l. l ++ more) (sym e) ∙ joined ∙ ap (λ i. i ++ rest) is.1
-    ∙ append_assoc (codes "enrol ") (named ++ 10 ∷ []) rest ∙ ap (λ t. codes "enrol " ++ t) (append_assoc named (10 ∷ []) rest) in
-    let tail : user ++ more ≡ named ++ 10 ∷ rest = append_cancel_left (codes "enrol ") (user ++ more) (named ++ 10 ∷ rest) whole in
-    let front = front_of_line user named more rest no_lf tail in
-    name_front user front.0 some (subst IsName front.1 is.0)
+pub CanBegin-front : (xs ys : List ℕ) → CanBegin (xs ++ ys) → CanBegin xs
+CanBegin-front xs ys (more, b) = (ys ++ more, subst BeginsWithItem (append_assoc xs ys more) b)
 
--- a front of `enrol ` may become one
-pub can_begin_front : (line z : List ℕ) → codes "enrol " ≡ line ++ z → CanBegin line
-can_begin_front line z e =
-    let bare = can_begin_bare (codes "enrol ") refl in
-    (z ++ bare.0, subst BeginsWithItem (ap (λ l. l ++ bare.0) e ∙ append_assoc line z bare.0) bare.1)
+pub begins_can : (text : List ℕ) → BeginsWithItem text → CanBegin text
+begins_can text b = ([], subst BeginsWithItem (sym (append-nil text)) b)
 
--- of two texts that begin one text, one begins the other
-pub begins_other : (xs ys x y : List ℕ) → xs ++ x ≡ ys ++ y → ((z : List ℕ) × (ys ≡ xs ++ z)) ⊎ ((z : List ℕ) × (xs ≡ ys ++ z))
-begins_other [] ys x y e = inl (ys, refl)
-begins_other (a ∷ xs) [] x y e = inr (a ∷ xs, refl)
-begins_other (a ∷ xs) (b ∷ ys) x y e =
-    let tail : xs ++ x ≡ ys ++ y = cc in
-    let same : a ≡ b = cc in
-    elim (begins_other xs ys x y tail) as (λ _. ((z : List ℕ) × (b ∷ ys ≡ (a ∷ xs) ++ z)) ⊎ ((z : List ℕ) × (a ∷ xs ≡ (b ∷ ys) ++ z)))
-    [ inl f ↦ let h : ys ≡ xs ++ f.0 = f.1 in inl (f.0, cc) | inr f ↦ let h : xs ≡ ys ++ f.0 = f.1 in inr (f.0, cc) ]
+-- ---- fronts of lines
 
--- nothing else may
-pub never_front : (line : List ℕ) → ((z : List ℕ) → codes "enrol " ≡ line ++ z → ⊥) → ((user : List ℕ) → line ≡ codes "enrol " ++ user → ⊥) → CanBegin line → ⊥
-never_front line none_front none (more, (item, rest, Enrol named, joined, is)) =
-    let whole : line ++ more ≡ codes "enrol " ++ ((named ++ 10 ∷ []) ++ rest) = joined ∙ ap (λ i. i ++ rest) is.1 ∙ append_assoc (codes "enrol ") (named ++ 10 ∷ []) rest in
-    elim (begins_other line (codes "enrol ") more ((named ++ 10 ∷ []) ++ rest) whole) as (λ _. ⊥)
-    [ inl f ↦ none_front f.0 f.1 | inr f ↦ none f.0 f.1 ]
+-- what may go on can begin an item
+pub alive_can : (front : List ℕ) → is_alive (run Start front) ≡ true → CanBegin front
+alive_can front alive =
+    let more = alive_fits front alive in
+    let line = fits_said (front ++ more.0) more.1 in
+    can_by_line front more.0 line.0 line.1
 
-pub no_lf_user : (line user : List ℕ) → line ≡ codes "enrol " ++ user → NoLf line → NoLf user
-no_lf_user line user e p = (subst NoLf e p).1.1.1.1.1.1
-
-pub can_begin_empty : (line user : List ℕ) → line ≡ codes "enrol " ++ user → length user ≡ 0 → CanBegin line
-can_begin_empty line [] e none = can_begin_bare line e
-can_begin_empty line (b ∷ user) e none = absurd (omega arith)
-
--- a front of `enrol ` is short
-pub front_short : (line z : List ℕ) → codes "enrol " ≡ line ++ z → length line < 20000
-front_short line z e =
-    let size : 6 ≡ length line + length z = ap length e ∙ length-append line z in
+-- and is shorter than the longest line
+pub alive_short : (front : List ℕ) → is_alive (run Start front) ≡ true → length front < 20000
+alive_short front alive =
+    let more = alive_fits front alive in
+    let line = fits_said (front ++ more.0) more.1 in
+    let short : length (front ++ more.0) < 20000 = says_short (front ++ more.0) line.0 line.1 in
+    let size : length (front ++ more.0) ≡ length front + length more.0 = length-append front more.0 in
     omega arith
+
+-- what may not go on can't
+pub dead_cannot : (front : List ℕ) → NoLf front → is_alive (run Start front) ≡ false → CanBegin front → ⊥
+dead_cannot front no_lf dead (more, (item, rest, command, e, is)) =
+    let p = item_parts item command is in
+    let joined : front ++ more ≡ p.line ++ 10 ∷ (p.tail ++ rest) = e ∙ ap (λ i. i ++ rest) p.whole ∙ append_assoc p.line (10 ∷ p.tail) rest in
+    let z = front_before 10 front p.line more (p.tail ++ rest) no_lf joined in
+    dead_fits front z.0 dead (subst (Fits Start) z.1 (said_fits p.line p.said p.says))
+
+-- no item begins with bytes that have no LF
+pub none_without_lf : (bytes : List ℕ) → NoLf bytes → BeginsWithItem bytes → ⊥
+none_without_lf bytes no_lf (item, rest, command, e, is) =
+    let past : length bytes < length item = item_past bytes [] item rest command no_lf (append-nil bytes ∙ e) is in
+    let size : length bytes ≡ length item + length rest = ap length e ∙ length-append item rest in
+    absurd (omega arith)
+
+-- ---- behind a line
+
+-- a front of a body can go on
+pub can_by_body : (line text file reader : List ℕ) (size : ℕ) → SaysLine line (WithBody file reader size) → length text ≤ size → CanBegin (line ++ 10 ∷ text)
+can_by_body line text file reader size p within =
+    let pad : List ℕ = replicate (size - length text) 0 in
+    let count : length (text ++ pad) ≡ size =
+    (let n : length (text ++ pad) ≡ length text + length pad = length-append text pad in let m : length pad ≡ size - length text = length-replicate (size - length text) 0 in omega arith) in
+    let item : IsItem (line ++ 10 ∷ ((text ++ pad) ++ 10 ∷ [])) (Create file reader (text ++ pad)) =
+    item_from line ((text ++ pad) ++ 10 ∷ []) (WithBody file reader size) (Create file reader (text ++ pad)) p (text ++ pad, count, refl, refl) in
+    let joined : (line ++ 10 ∷ text) ++ (pad ++ 10 ∷ []) ≡ (line ++ 10 ∷ ((text ++ pad) ++ 10 ∷ [])) ++ [] =
+    append_assoc line (10 ∷ text) (pad ++ 10 ∷ []) ∙ ap (λ t. line ++ 10 ∷ t) (sym (append_assoc text pad (10 ∷ []))) ∙ sym (append-nil (line ++ 10 ∷ ((text ++ pad) ++ 10 ∷ []))) in
+    can_by_item (line ++ 10 ∷ text) (pad ++ 10 ∷ []) (line ++ 10 ∷ ((text ++ pad) ++ 10 ∷ [])) [] (Create file reader (text ++ pad)) joined item
+
+-- an item that begins behind the line of a body has its bytes and LF
+pub body_behind : (line text file reader item rest : List ℕ) (size : ℕ) (command : Command) → SaysLine line (WithBody file reader size) → line ++ 10 ∷ text ≡ item ++ rest → IsItem item command
+    → (body : List ℕ) × (length body ≡ size) × (text ≡ body ++ 10 ∷ rest) × (length item ≡ length line + 1 + size + 1)
+body_behind line text file reader item rest size command p e is =
+    let b = behind_line line text item rest (WithBody file reader size) command p e is in
+    let body = b.completes.0 in
+    let tail : b.tail ≡ b.completes.0 ++ 10 ∷ [] = b.completes.2 in
+    let count : length b.completes.0 ≡ size = b.completes.1 in
+    let whole : length item ≡ length line + suc (length b.tail) = ap length b.item ∙ length-append line (10 ∷ b.tail) in
+    let tail_size : length b.tail ≡ length b.completes.0 + 1 = ap length tail ∙ length-append b.completes.0 (10 ∷ []) in
+    (b.completes.0, count, b.behind ∙ ap (λ t. t ++ rest) tail ∙ append_assoc b.completes.0 (10 ∷ []) rest, omega arith)
+
+-- fewer bytes than the body and its LF hold no item
+pub none_in_body : (line text file reader : List ℕ) (size : ℕ) → SaysLine line (WithBody file reader size) → length text ≤ size → BeginsWithItem (line ++ 10 ∷ text) → ⊥
+none_in_body line text file reader size p within (item, rest, command, e, is) =
+    let b = body_behind line text file reader item rest size command p e is in
+    let count : length b.0 ≡ size = b.1 in
+    let whole : length text ≡ length b.0 + suc (length rest) = ap length b.2 ∙ length-append b.0 (10 ∷ rest) in
+    absurd (omega arith)
+
+-- another byte in the place of the LF can't be gone on with
+pub wrong_behind_body : (line body more file reader : List ℕ) (size b : ℕ) → SaysLine line (WithBody file reader size) → length body ≡ size → b ≢ 10
+    → BeginsWithItem (line ++ 10 ∷ (body ++ b ∷ more)) → ⊥
+wrong_behind_body line body more file reader size b p count differs (item, rest, command, e, is) =
+    let f = body_behind line (body ++ b ∷ more) file reader item rest size command p e is in
+    let tails : b ∷ more ≡ 10 ∷ rest = (same_length body f.0 (b ∷ more) (10 ∷ rest) (count ∙ sym f.1) f.2).1 in
+    let lf : b ≡ 10 = cc in
+    differs lf

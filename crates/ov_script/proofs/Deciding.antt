@@ -1,43 +1,21 @@
 -- Every text has a reading: what stands at its front can be decided.
-use Rattle.std.proofs.Common.{◌≡◌, inl, inr, ℕ, zero, suc, ◌+◌, ◌-◌, ◌<◌, ◌≤◌, Bool, true, false, List, [], ◌∷◌, ◌++◌, length, take, refl, sym, ◌∙◌, ap, subst, append_assoc, length-append, arith}
-use Rattle.std.specs.Prelude.{codes}
+use Rattle.std.proofs.Common.{◌≡◌, ◌≢◌, inl, inr, ℕ, zero, suc, ◌+◌, ◌-◌, ◌<◌, ◌≤◌, Bool, true, false, List, [], ◌∷◌, ◌++◌, length, take, drop, refl, sym, ◌∙◌, ap, subst, append_assoc, length-append, arith, take-append-drop}
 use Rattle.std.proofs.lemmas.Bool.{cases_lt}
-use Rattle.ov_base.specs.Names.{is_name, IsName}
+use Rattle.std.proofs.lemmas.List.{length-take-le, length-drop}
 use Rattle.ov_script.specs.declared.command.Command.{Command}
-use Rattle.ov_script.specs.declared.command.Command.TheVariants.{Enrol}
+use Rattle.ov_script.specs.declared.command.Command.TheVariants.{Create}
+use Rattle.ov_script.specs.declared.first_line.FirstLine.{FirstLine}
+use Rattle.ov_script.specs.declared.first_line.FirstLine.TheVariants.{Whole, WithBody}
+use Rattle.ov_script.specs.declared.front.Front.TheVariants.{Start}
+use Rattle.ov_script.specs.ItemLines.{SaysLine}
 use Rattle.ov_script.specs.Items.{IsItem, BeginsWithItem, CanBegin}
 use Rattle.ov_script.specs.LineFeeds.{NoLf, lf_count}
+use Rattle.ov_script.specs.LineFronts.{run, is_alive}
 use Rattle.ov_script.specs.Reading.{Reads, cut, wrong, Ending, AtEnd, BadAt, TooLong}
-use Rattle.ov_script.proofs.Beginning.{not_enrol, not_named, can_begin_named, can_begin_empty, named_if_can, can_begin_front, never_front, no_lf_user}
-use Rattle.ov_script.proofs.Fronts.{none_without_lf, begins_can}
-use Rattle.ov_script.proofs.Grammar.{not_at_line, item_is_line}
-use Rattle.ov_script.proofs.Readings.{item_once}
-
--- it holds, or it doesn't
-pub data Decided (P : Type 0) : Type 0 where
-  yes : P → Decided P
-  no' : (P → ⊥) → Decided P
-
-same_number : (a b : ℕ) → Decided (a ≡ b)
-same_number zero zero = yes refl
-same_number zero (suc b) = no' (λ e. absurd (omega arith))
-same_number (suc a) zero = no' (λ e. absurd (omega arith))
-same_number (suc a) (suc b) =
-    elim (same_number a b) as (λ _. Decided (suc a ≡ suc b)) [ yes e ↦ yes (ap suc e) | no' n ↦ no' (λ e. n (omega arith)) ]
-
--- whether a text begins with these bytes
-begins_so : (front text : List ℕ) → Decided ((rest : List ℕ) × (text ≡ front ++ rest))
-begins_so [] text = yes (text, refl)
-begins_so (a ∷ front) [] = no' (λ (rest, e). let f : [] ≡ a ∷ (front ++ rest) = e in cc)
-begins_so (a ∷ front) (b ∷ text) =
-    elim (same_number a b) as (λ _. Decided ((rest : List ℕ) × (b ∷ text ≡ (a ∷ front) ++ rest))) [
-      | yes e ↦
-          elim (begins_so front text) as (λ _. Decided ((rest : List ℕ) × (b ∷ text ≡ (a ∷ front) ++ rest))) [
-            | yes f ↦ let tail : text ≡ front ++ f.0 = f.1 in yes (f.0, cc)
-            | no' n ↦ no' (λ (rest, g). let whole : b ∷ text ≡ a ∷ (front ++ rest) = g in n (rest, cc))
-          ]
-      | no' n ↦ no' (λ (rest, g). let whole : b ∷ text ≡ a ∷ (front ++ rest) = g in n (cc))
-    ]
+use Rattle.ov_script.proofs.Beginning.{fits_said, said_fits, alive_can, dead_cannot, none_without_lf, begins_can, can_by_body, none_in_body, wrong_behind_body}
+use Rattle.ov_script.proofs.Continuations.{line_or_not}
+use Rattle.ov_script.proofs.Decided.{Decided, yes, no', same_number}
+use Rattle.ov_script.proofs.Grammar.{not_at_line, item_some, item_once, item_from}
 
 -- the line before the first LF, or no LF at all
 pub data Split (text : List ℕ) : Type 0 where
@@ -56,63 +34,97 @@ split_first (b ∷ text) =
           ]
     ]
 
-is_a_name : (user : List ℕ) (b : Bool) → is_name user ≡ b → Decided (IsName user)
-is_a_name user true e = yes e
-is_a_name user false e = no' (λ named. let wrong : true ≡ false = sym named ∙ e in cc)
-
--- the command that a line says
-line_says : (line : List ℕ) → Decided ((command : Command) × IsItem (line ++ 10 ∷ []) command)
+-- what a line says
+line_says : (line : List ℕ) → Decided ((said : FirstLine) × SaysLine line said)
 line_says line =
-    elim (begins_so (codes "enrol ") line) as (λ _. Decided ((command : Command) × IsItem (line ++ 10 ∷ []) command)) [
-      | yes u ↦
-          elim (is_a_name u.0 (is_name u.0) refl) as (λ _. Decided ((command : Command) × IsItem (line ++ 10 ∷ []) command)) [
-            | yes named ↦ yes (Enrol u.0, (named, ap (λ l. l ++ 10 ∷ []) u.1 ∙ append_assoc (codes "enrol ") u.0 (10 ∷ [])))
-            | no' n ↦ no' (λ (command, is). not_named line u.0 u.1 n command is)
+    elim (line_or_not line) as (λ _. Decided ((said : FirstLine) × SaysLine line said)) [
+      | yes p ↦ yes (fits_said line p)
+      | no' none ↦ no' (λ (said, p). none (said_fits line said p))
+    ]
+
+-- ---- behind the line of a body
+
+-- a text is a body and more, or shorter
+pub data Cut (size : ℕ) (text : List ℕ) : Type 0 where
+  short : length text ≤ size → Cut size text
+  longer : (body rest : List ℕ) (b : ℕ) → length body ≡ size → text ≡ body ++ b ∷ rest → Cut size text
+
+cut_at : (size : ℕ) (text : List ℕ) → Cut size text
+cut_at size text = elim (cases_lt size (length text)) as (λ _. Cut size text) [ inl past ↦ further (drop size text) refl past | inr within ↦ short within ] where
+  further : (rest : List ℕ) → rest ≡ drop size text → size < length text → Cut size text
+  further [] e past =
+      let none : length (drop size text) ≡ 0 = sym (ap length e) in
+      let size' : length (drop size text) ≡ length text - size = length-drop size text in
+      absurd (omega arith)
+  further (b ∷ rest) e past = longer (take size text) rest b (length-take-le size text (omega arith)) (sym (take-append-drop size text) ∙ ap (λ t. take size text ++ t) (sym e))
+
+-- whether an item stands there, or could
+pub record AtBody (line text : List ℕ) : Type 0 where
+  pub item : Decided (BeginsWithItem (line ++ 10 ∷ text))
+  pub can : Decided (CanBegin (line ++ 10 ∷ text))
+
+whole_body : (line body rest file reader : List ℕ) (size : ℕ) → SaysLine line (WithBody file reader size) → length body ≡ size → BeginsWithItem (line ++ 10 ∷ (body ++ 10 ∷ rest))
+whole_body line body rest file reader size p count = (
+  line ++ 10 ∷ (body ++ 10 ∷ []),
+  rest,
+  Create file reader body,
+  ap (λ t. line ++ 10 ∷ t) (sym (append_assoc body (10 ∷ []) rest)) ∙ sym (append_assoc line (10 ∷ (body ++ 10 ∷ [])) rest),
+  item_from line (body ++ 10 ∷ []) (WithBody file reader size) (Create file reader body) p (body, count, refl, refl),
+)
+
+at_body : (line text file reader : List ℕ) (size : ℕ) → SaysLine line (WithBody file reader size) → AtBody line text
+at_body line text file reader size p =
+    elim (cut_at size text) as (λ _. AtBody line text) [
+      | short within ↦ record { item = no' (none_in_body line text file reader size p within); can = yes (can_by_body line text file reader size p within) }
+      | longer body rest b count e ↦
+          elim (same_number b 10) as (λ _. AtBody line text) [
+            | yes lf ↦
+                let whole : text ≡ body ++ 10 ∷ rest = e ∙ ap (λ c. body ++ c ∷ rest) lf in
+                let begins = subst (λ t. BeginsWithItem (line ++ 10 ∷ t)) (sym whole) (whole_body line body rest file reader size p count) in
+                record { item = yes begins; can = yes (begins_can (line ++ 10 ∷ text) begins) }
+            | no' differs ↦ record {
+              item = no' (λ i. wrong_behind_body line body rest file reader size b p count differs (subst (λ t. BeginsWithItem (line ++ 10 ∷ t)) e i));
+              can = no' (λ (more, i). wrong_behind_body line body (rest ++ more) file reader size b p count differs
+                  (subst BeginsWithItem (append_assoc line (10 ∷ text) more ∙ ap (λ t. line ++ 10 ∷ (t ++ more)) e ∙ ap (λ t. line ++ 10 ∷ t) (append_assoc body (b ∷ rest) more)) i));
+            }
           ]
-      | no' n ↦ no' (λ (command, is). not_enrol line (λ user e. n (user, e)) command is)
+    ]
+
+at_said : (line text : List ℕ) (said : FirstLine) → SaysLine line said → AtBody line text
+at_said line text (WithBody file reader size) p = at_body line text file reader size p
+at_said line text (Whole command) p =
+    let begins : BeginsWithItem (line ++ 10 ∷ text) = (line ++ 10 ∷ [], text, command, sym (append_assoc line (10 ∷ []) text), item_from line [] (Whole command) command p (refl, refl)) in
+    record { item = yes begins; can = yes (begins_can (line ++ 10 ∷ text) begins) }
+
+at_line : (line text : List ℕ) → NoLf line → AtBody line text
+at_line line text lacks =
+    elim (line_says line) as (λ _. AtBody line text) [
+      | yes s ↦ at_said line text s.0 s.1
+      | no' none ↦ record {
+        item = no' (not_at_line line text lacks (λ said p. none (said, p)));
+        can = no' (λ (more, i). not_at_line line (text ++ more) lacks (λ said p. none (said, p)) (subst BeginsWithItem (append_assoc line (10 ∷ text) more) i));
+      }
     ]
 
 -- whether an item stands at the front of a text
 pub item_or_none : (text : List ℕ) → Decided (BeginsWithItem text)
 item_or_none text =
     elim (split_first text) as (λ _. Decided (BeginsWithItem text)) [
-      | at_lf line rest p e ↦
-          elim (line_says line) as (λ _. Decided (BeginsWithItem text)) [
-            | yes c ↦ yes (line ++ 10 ∷ [], rest, c.0, e ∙ sym (append_assoc line (10 ∷ []) rest), c.1)
-            | no' n ↦ no' (λ b. not_at_line line rest p (λ command is. n (command, is)) (subst BeginsWithItem e b))
-          ]
+      | at_lf line rest p e ↦ subst (λ t. Decided (BeginsWithItem t)) (sym e) (at_line line rest p).item
       | no_lf p ↦ no' (none_without_lf text p)
     ]
 
 -- whether bytes without LF can begin an item
-begins_or_not : (text : List ℕ) → NoLf text → Decided (CanBegin text)
-begins_or_not text p =
-    elim (begins_so (codes "enrol ") text) as (λ _. Decided (CanBegin text)) [
-      | yes u ↦ after_word text u.0 u.1 p
-      | no' n ↦
-          elim (begins_so text (codes "enrol ")) as (λ _. Decided (CanBegin text)) [
-            | yes f ↦ yes (can_begin_front text f.0 f.1)
-            | no' m ↦ no' (never_front text (λ z e. m (z, e)) (λ user e. n (user, e)))
-          ]
-    ] where
-      after_word : (text user : List ℕ) → text ≡ codes "enrol " ++ user → NoLf text → Decided (CanBegin text)
-      after_word text [] e p = yes (can_begin_empty text [] e refl)
-      after_word text (b ∷ user) e p =
-          elim (is_a_name (b ∷ user) (is_name (b ∷ user)) refl) as (λ _. Decided (CanBegin text)) [
-            | yes named ↦ yes (can_begin_named text (b ∷ user) e named)
-            | no' n ↦ no' (λ can. n (named_if_can text (b ∷ user) e (no_lf_user text (b ∷ user) e p) (omega arith) can))
-          ]
+begins_or_not : (text : List ℕ) (alive : Bool) → is_alive (run Start text) ≡ alive → NoLf text → Decided (CanBegin text)
+begins_or_not text true e p = yes (alive_can text e)
+begins_or_not text false e p = no' (dead_cannot text p e)
 
 -- whether a text can begin an item
 pub can_or_not : (text : List ℕ) → Decided (CanBegin text)
 can_or_not text =
     elim (split_first text) as (λ _. Decided (CanBegin text)) [
-      | at_lf line rest p e ↦
-          elim (line_says line) as (λ _. Decided (CanBegin text)) [
-            | yes c ↦ yes (begins_can text (line ++ 10 ∷ [], rest, c.0, e ∙ sym (append_assoc line (10 ∷ []) rest), c.1))
-            | no' n ↦ no' (λ (more, b). not_at_line line (rest ++ more) p (λ command is. n (command, is)) (subst BeginsWithItem (ap (λ t. t ++ more) e ∙ append_assoc line (10 ∷ rest) more) b))
-          ]
-      | no_lf p ↦ begins_or_not text p
+      | at_lf line rest p e ↦ subst (λ t. Decided (CanBegin t)) (sym e) (at_line line rest p).can
+      | no_lf p ↦ begins_or_not text (is_alive (run Start text)) refl p
     ]
 
 -- where no item that fits stands here, the reading ends
@@ -136,13 +148,6 @@ ends_here line room text none some =
         ),
       )
     ]
-
--- an item has a byte
-item_some : (item : List ℕ) (command : Command) → IsItem item command → 0 < length item
-item_some item command is =
-    let l = item_is_line item command is in
-    let size : length item ≡ length l.line + 1 = ap length l.whole ∙ length-append l.line (10 ∷ []) in
-    omega arith
 
 abbrev Reading : ℕ → ℕ → List ℕ → Type 0
 Reading line room text = (commands : List Command) × (ending : Ending) × Reads line room text commands ending

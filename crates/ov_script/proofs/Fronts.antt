@@ -1,29 +1,31 @@
 -- What stands at the front of a text.
-use Rattle.std.proofs.Common.{◌≡◌, ℕ, zero, suc, ◌+◌, ◌<◌, ◌≤◌, List, [], ◌∷◌, ◌++◌, length, take, drop, refl, sym, ◌∙◌, ap, subst, append_assoc, length-append, append-nil, arith, Option, Some, None, inl, inr, take-append-drop}
-use Rattle.std.specs.Prelude.{codes}
+use Rattle.std.proofs.Common.{◌≡◌, ◌≢◌, ℕ, zero, suc, ◌+◌, ◌-◌, ◌<◌, ◌≤◌, Bool, true, false, List, [], ◌∷◌, ◌++◌, length, take, drop, refl, sym, ◌∙◌, ap, subst, append_assoc, length-append, append-nil, arith, Option, Some, None, inl, inr, take-append-drop}
+use Rattle.std.specs.Prelude.{codes, MatchBool}
 use Rattle.std.proofs.lemmas.List.{take_at, length-take-le}
 use Rattle.std.proofs.lemmas.Bool.{cases_lt}
 use Rattle.std.specs.Io.KnownBytes.{IsAtEnd}
 use Rattle.ov_script.specs.declared.command.Command.{Command}
-use Rattle.ov_script.specs.declared.command.Command.TheVariants.{Enrol}
-use Rattle.ov_script.specs.declared.find.Found.TheVariants.{Item, Bad, Long}
-use Rattle.ov_script.specs.Finding.{Finds, IsUnsettled}
+use Rattle.ov_script.specs.declared.find.Found.TheVariants.{Line, Bad, Long}
+use Rattle.ov_script.specs.declared.find.Seen.{Seen}
+use Rattle.ov_script.specs.declared.find.Seen.TheVariants.{Settled, Open}
+use Rattle.ov_script.specs.declared.first_line.FirstLine.{FirstLine}
+use Rattle.ov_script.specs.declared.front.Front.{Front}
+use Rattle.ov_script.specs.declared.front.Front.TheVariants.{Start}
+use Rattle.ov_script.specs.Finding.{Finds, IsSettled, IsUnsettled, IsOpen}
+use Rattle.ov_script.specs.ItemLines.{SaysLine}
 use Rattle.ov_script.specs.Items.{IsItem, BeginsWithItem, CanBegin}
 use Rattle.ov_script.specs.LineFeeds.{NoLf}
+use Rattle.ov_script.specs.LineFronts.{run, is_alive}
 use Rattle.ov_script.specs.Reading.{IsBad, cut, wrong, IsTooLong}
-use Rattle.ov_script.proofs.Grammar.{not_at_line, item_past, lf_count-line}
+use Rattle.ov_script.proofs.Beginning.{alive_can, alive_short, dead_cannot, none_without_lf, CanBegin-front, begins_can}
+use Rattle.ov_script.proofs.Continuations.{run-append}
+use Rattle.ov_script.proofs.Grammar.{not_at_line, item_past}
 use Rattle.ov_script.proofs.Readings.{front_kept}
 
 -- ---- what can't begin an item
 
-CanBegin-front : (xs ys : List ℕ) → CanBegin (xs ++ ys) → CanBegin xs
-CanBegin-front xs ys (more, b) = (ys ++ more, subst BeginsWithItem (append_assoc xs ys more) b)
-
-pub begins_can : (text : List ℕ) → BeginsWithItem text → CanBegin text
-begins_can text b = ([], subst BeginsWithItem (sym (append-nil text)) b)
-
 nothing_can : (text : List ℕ) → length text ≡ 0 → CanBegin text
-nothing_can [] e = (codes "enrol a" ++ 10 ∷ [], (codes "enrol a" ++ 10 ∷ [], [], Enrol (97 ∷ []), refl, (refl, refl)))
+nothing_can [] e = alive_can [] refl
 nothing_can (b ∷ text) e = absurd (omega arith)
 
 -- a text whose front can't begin an item is bad, where there is room for that front
@@ -40,41 +42,48 @@ pub finds_bad : (room : ℕ) (bytes : List ℕ) (left : Option (List ℕ)) → l
 finds_bad room bytes None within never = tt
 finds_bad room bytes (Some rest) within never = bad_front room bytes rest within never
 
--- no item begins with bytes that have no LF
-pub none_without_lf : (bytes : List ℕ) → NoLf bytes → BeginsWithItem bytes → ⊥
-none_without_lf bytes no_lf (item, rest, command, e, is) =
-    let past : length bytes < length item = item_past bytes [] item rest command no_lf (append-nil bytes ∙ e) is in
-    let size : length bytes ≡ length item + length rest = ap length e ∙ length-append item rest in
-    absurd (omega arith)
+-- ---- a line that may go on, or not
 
--- ---- a line
+pub open_front : (room : ℕ) (bytes : List ℕ) → length bytes ≤ room → NoLf bytes → is_alive (run Start bytes) ≡ true → IsOpen room bytes
+open_front room bytes within no_lf alive =
+    record { no_lf = no_lf; short = alive_short bytes alive; unsettled = record { within = within; can = alive_can bytes alive; none = none_without_lf bytes no_lf } }
 
--- its LF is one of the bytes
-line_size : (line : List ℕ) → length (line ++ 10 ∷ []) ≡ length line + 1
-line_size line = length-append line (10 ∷ [])
+pub dead_front : (room : ℕ) (bytes : List ℕ) (left : Option (List ℕ)) → length bytes ≤ room → NoLf bytes → is_alive (run Start bytes) ≡ false → Finds room bytes left Bad
+dead_front room bytes left within no_lf dead = finds_bad room bytes left within (dead_cannot bytes no_lf dead)
 
-pub finds_item : (room end : ℕ) (bytes line rest : List ℕ) (command : Command) (left : Option (List ℕ))
-    → NoLf line → length line ≡ end → bytes ≡ line ++ 10 ∷ rest → end < room → IsItem (take end bytes ++ 10 ∷ []) command → Finds room bytes left (Item command (end + 1))
-finds_item room end bytes line rest command left no_lf count whole within is =
-    let front : take end bytes ≡ line = ap (take end) whole ∙ take_at line (10 ∷ rest) end count in (
-      line ++ 10 ∷ [],
-      rest,
-      subst (λ t. IsItem (t ++ 10 ∷ []) command) front is,
-      line_size line ∙ ap (λ n. n + 1) count,
-      omega arith,
-      lf_count-line line no_lf,
-      whole ∙ sym (append_assoc line (10 ∷ []) rest),
-    )
+-- the fresh bytes are run behind those that were seen
+run_fresh : (bytes fresh : List ℕ) (front : Front) (seen : ℕ) → front ≡ run Start (take seen bytes) → fresh ≡ drop seen bytes → run front fresh ≡ run Start bytes
+run_fresh bytes fresh front seen e f =
+    ap (λ s. run s fresh) e ∙ ap (λ l. run (run Start (take seen bytes)) l) f ∙ sym (run-append Start (take seen bytes) (drop seen bytes)) ∙ ap (run Start) (take-append-drop seen bytes)
 
-pub finds_no_item : (room end : ℕ) (bytes line rest : List ℕ) (left : Option (List ℕ))
-    → NoLf line → length line ≡ end → bytes ≡ line ++ 10 ∷ rest → end < room → ((command : Command) → IsItem (take end bytes ++ 10 ∷ []) command → ⊥) → Finds room bytes left Bad
-finds_no_item room end bytes line rest None no_lf count whole within none = tt
-finds_no_item room end bytes line rest (Some more) no_lf count whole within none =
+settled_by : (room : ℕ) (bytes : List ℕ) (front : Front) (seen : Seen) (alive : Bool) → length bytes ≤ room → NoLf bytes → front ≡ run Start bytes → is_alive front ≡ alive
+    → MatchBool alive (seen ≡ Open front) (seen ≡ Settled Bad) → IsSettled room bytes seen
+settled_by room bytes front seen true within no_lf e a is = subst (IsSettled room bytes) (sym is) (e, open_front room bytes within no_lf (ap is_alive (sym e) ∙ a))
+settled_by room bytes front seen false within no_lf e a is = subst (IsSettled room bytes) (sym is) (λ left. dead_front room bytes left within no_lf (ap is_alive (sym e) ∙ a))
+
+-- what is known of the bytes
+pub settled_front : (room : ℕ) (bytes fresh : List ℕ) (front : Front) (count : ℕ) (seen : Seen) → length bytes ≤ room → NoLf bytes → front ≡ run Start (take count bytes) → fresh ≡ drop count bytes
+    → MatchBool (is_alive (run front fresh)) (seen ≡ Open (run front fresh)) (seen ≡ Settled Bad) → IsSettled room bytes seen
+settled_front room bytes fresh front count seen within no_lf e f is =
+    settled_by room bytes (run front fresh) seen (is_alive (run front fresh)) within no_lf (run_fresh bytes fresh front count e f) refl is
+
+-- ---- a whole line
+
+pub finds_line : (room end : ℕ) (bytes line rest : List ℕ) (said : FirstLine) (left : Option (List ℕ))
+    → NoLf line → length line ≡ end → bytes ≡ line ++ 10 ∷ rest → end < room → SaysLine (take end bytes) said → Finds room bytes left (Line said (end + 1))
+finds_line room end bytes line rest said left no_lf count whole within says =
     let front : take end bytes ≡ line = ap (take end) whole ∙ take_at line (10 ∷ rest) end count in
-    let size : length (line ++ 10 ∷ []) ≡ length line + 1 = line_size line in
+    (line, rest, no_lf, subst (λ t. SaysLine t said) front says, ap (λ n. n + 1) count, omega arith, whole)
+
+pub finds_no_line : (room end : ℕ) (bytes line rest : List ℕ) (left : Option (List ℕ))
+    → NoLf line → length line ≡ end → bytes ≡ line ++ 10 ∷ rest → end < room → ((said : FirstLine) → SaysLine (take end bytes) said → ⊥) → Finds room bytes left Bad
+finds_no_line room end bytes line rest None no_lf count whole within none = tt
+finds_no_line room end bytes line rest (Some more) no_lf count whole within none =
+    let front : take end bytes ≡ line = ap (take end) whole ∙ take_at line (10 ∷ rest) end count in
+    let size : length (line ++ 10 ∷ []) ≡ length line + 1 = length-append line (10 ∷ []) in
     let joined : (line ++ 10 ∷ []) ++ (rest ++ more) ≡ bytes ++ more = sym (append_assoc (line ++ 10 ∷ []) rest more) ∙ ap (λ b. b ++ more) (append_assoc line (10 ∷ []) rest ∙ sym whole) in
     let never : CanBegin (line ++ 10 ∷ []) → ⊥ =
-    λ (after', b). not_at_line line after' no_lf (λ command is. none command (subst (λ t. IsItem (t ++ 10 ∷ []) command) (sym front) is)) (subst BeginsWithItem (append_assoc line (10 ∷ []) after') b) in
+    λ (after', b). not_at_line line after' no_lf (λ said says. none said (subst (λ t. SaysLine t said) (sym front) says)) (subst BeginsWithItem (append_assoc line (10 ∷ []) after') b) in
     subst (IsBad room) joined (bad_front room (line ++ 10 ∷ []) (rest ++ more) (omega arith) never)
 
 -- ---- more than may be read
@@ -98,19 +107,19 @@ take_more room bytes more past =
     let size : length (take room bytes) ≡ room = length-take-le room bytes (omega arith) in
     ap (take room) whole ∙ take_at (take room bytes) (drop room bytes ++ more) room size
 
-pub finds_long : (room : ℕ) (bytes : List ℕ) (left : Option (List ℕ)) → room < length bytes → NoLf (take room bytes) → CanBegin (take room bytes) → Finds room bytes left Long
-finds_long room bytes None past no_lf can = tt
-finds_long room bytes (Some more) past no_lf can =
+pub finds_long : (room : ℕ) (bytes : List ℕ) (left : Option (List ℕ)) → room < length bytes → NoLf (take room bytes) → is_alive (run Start (take room bytes)) ≡ true → Finds room bytes left Long
+finds_long room bytes None past no_lf alive = tt
+finds_long room bytes (Some more) past no_lf alive =
     let same : take room (bytes ++ more) ≡ take room bytes = take_more room bytes more past in
     let size : length (bytes ++ more) ≡ length bytes + length more = length-append bytes more in
-    too_long room (bytes ++ more) (omega arith) (subst NoLf (sym same) no_lf) (subst CanBegin (sym same) can)
+    too_long room (bytes ++ more) (omega arith) (subst NoLf (sym same) no_lf) (subst CanBegin (sym same) (alive_can (take room bytes) alive))
 
-pub finds_never : (room : ℕ) (bytes : List ℕ) (left : Option (List ℕ)) → room < length bytes → (CanBegin (take room bytes) → ⊥) → Finds room bytes left Bad
-finds_never room bytes None past never = tt
-finds_never room bytes (Some more) past never =
+pub finds_never : (room : ℕ) (bytes : List ℕ) (left : Option (List ℕ)) → room < length bytes → NoLf (take room bytes) → is_alive (run Start (take room bytes)) ≡ false → Finds room bytes left Bad
+finds_never room bytes None past no_lf dead = tt
+finds_never room bytes (Some more) past no_lf dead =
     let same : take room (bytes ++ more) ≡ take room bytes = take_more room bytes more past in
     let size : length (bytes ++ more) ≡ length bytes + length more = length-append bytes more in
-    wrong (omega arith) (λ can. never (subst CanBegin same can))
+    wrong (omega arith) (λ can. dead_cannot (take room bytes) no_lf dead (subst CanBegin same can))
 
 -- ---- the end
 
@@ -120,17 +129,3 @@ finds_cut room count bytes (Some rest) some size u end =
     let whole : bytes ≡ bytes ++ rest = sym (ap (λ r. bytes ++ r) end ∙ append-nil bytes) in
     let within : length bytes ≤ room = u.within in
     subst (IsBad room) whole (cut (omega arith) within u.none)
-
--- ---- LF among the first bytes
-
-pub NoLf-take : (n : ℕ) (xs : List ℕ) → NoLf xs → NoLf (take n xs)
-NoLf-take zero xs p = tt
-NoLf-take (suc n) [] p = tt
-NoLf-take (suc n) (x ∷ xs) p = (p.0, NoLf-take n xs p.1)
-
-pub no_lf_before : (room : ℕ) (bytes line rest : List ℕ) → NoLf line → bytes ≡ line ++ rest → room ≤ length line → NoLf (take room bytes)
-no_lf_before room bytes line rest no_lf whole within =
-    let split : bytes ≡ take room line ++ (drop room line ++ rest) =
-    whole ∙ ap (λ l. l ++ rest) (sym (take-append-drop room line)) ∙ append_assoc (take room line) (drop room line) rest in
-    let size : length (take room line) ≡ room = length-take-le room line within in
-    subst NoLf (sym (ap (take room) split ∙ take_at (take room line) (drop room line ++ rest) room size)) (NoLf-take room line no_lf)

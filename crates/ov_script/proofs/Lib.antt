@@ -1,10 +1,20 @@
 mod Beginning
+mod Bodies
+pub mod ByteTexts
 mod Bytes
+mod Continuations
+mod Decided
 mod Deciding
+mod FirstLines
 mod Fronts
 pub mod Grammar
-mod LineFeeds
+mod NameFronts
 pub mod Readings
 mod Sayings
-mod ShortScripts
+mod Searches
+mod SizeFronts
+mod Sizes
 mod Taking
+mod Using
+mod WholeItems
+mod Words

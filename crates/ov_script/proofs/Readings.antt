@@ -1,14 +1,11 @@
 -- Laws of whole readings: one more command, the end, and that a text has one reading.
 use Rattle.std.proofs.Common.{◌≡◌, ℕ, ◌+◌, ◌-◌, ◌<◌, ◌≤◌, List, [], ◌∷◌, ◌++◌, length, take, refl, sym, ◌∙◌, ap, subst, append_assoc, append-nil, length-append, arith}
-use Rattle.std.specs.Prelude.{codes}
 use Rattle.std.proofs.Math.Seq.{take-append-add}
-use Rattle.std.proofs.lemmas.List.{append_cancel_left, append_cancel_right}
 use Rattle.ov_script.specs.declared.command.Command.{Command}
-use Rattle.ov_script.specs.declared.command.Command.TheVariants.{Enrol}
 use Rattle.ov_script.specs.Items.{IsItem, CanBegin}
 use Rattle.ov_script.specs.Reading.{IsBad, cut, wrong, IsTooLong, Reads, BeginsWith, Ending, AtEnd, BadAt, TooLong}
 use Rattle.ov_script.specs.LineFeeds.{lf_count}
-use Rattle.ov_script.proofs.Grammar.{item_is_line, first_lf}
+use Rattle.ov_script.proofs.Grammar.{item_once, item_some}
 
 -- one more command
 pub BeginsWith-more : (line room : ℕ) (text : List ℕ) (commands : List Command) (line' room' : ℕ) (rest : List ℕ) (item more : List ℕ) (command : Command)
@@ -28,19 +25,6 @@ BeginsWith-ends line room text [] line' room' rest TooLong (l, r, t) end = subst
 BeginsWith-ends line room text (first ∷ commands) line' room' rest ending f end =
     (f.0, f.1, f.2, f.3, f.4, BeginsWith-ends (line + lf_count f.0) (room - length f.0) f.1 commands line' room' rest ending f.5 end)
 
--- two items that begin one text are one
-pub item_once : (a b x y : List ℕ) (c d : Command) → a ++ x ≡ b ++ y → IsItem a c → IsItem b d → (a ≡ b) × (x ≡ y) × (c ≡ d)
-item_once a b x y (Enrol u) (Enrol v) e p q =
-    let l = item_is_line a (Enrol u) p in
-    let m = item_is_line b (Enrol v) q in
-    let joined : l.line ++ 10 ∷ x ≡ m.line ++ 10 ∷ y =
-    sym (ap (λ i. i ++ x) l.whole ∙ append_assoc l.line (10 ∷ []) x) ∙ e ∙ ap (λ i. i ++ y) m.whole ∙ append_assoc m.line (10 ∷ []) y in
-    let lines : l.line ≡ m.line = first_lf l.line m.line x y l.no_lf m.no_lf joined in
-    let same : a ≡ b = l.whole ∙ ap (λ i. i ++ 10 ∷ []) lines ∙ sym m.whole in
-    let rest : x ≡ y = append_cancel_left b x y (ap (λ i. i ++ x) (sym same) ∙ e) in
-    let names : u ≡ v = append_cancel_right u v (10 ∷ []) (append_cancel_left (codes "enrol ") (u ++ 10 ∷ []) (v ++ 10 ∷ []) (sym p.1 ∙ same ∙ q.1)) in
-    (same, rest, ap Enrol names)
-
 -- a front that there is room for stays
 pub front_kept : (xs ys : List ℕ) (room : ℕ) → length xs ≤ room → (z : List ℕ) × (take room (xs ++ ys) ≡ xs ++ z)
 front_kept xs ys room h =
@@ -58,8 +42,7 @@ not_bad room text item more command e fits is (wrong past never) =
 pub goes_on : (line room : ℕ) (text item more : List ℕ) (command : Command) (ending : Ending)
     → text ≡ item ++ more → length item ≤ room → IsItem item command → Reads line room text [] ending → ⊥
 goes_on line room text item more command AtEnd e fits is end =
-    let l = item_is_line item command is in
-    let size : length item ≡ length l.line + 1 = ap length l.whole ∙ length-append l.line (10 ∷ []) in
+    let some : 0 < length item = item_some item command is in
     let none : length text ≡ 0 = ap length end in
     let whole : length text ≡ length item + length more = ap length e ∙ length-append item more in
     absurd (omega arith)

@@ -33,6 +33,11 @@ seen_behind old new more e none =
     let size : length new ≡ length old + length more = ap length e ∙ length-append old more in
     (omega arith, subst NoLf (sym (ap (take (length old)) e ∙ take-append_seam old more)) none)
 
+pub seen_again : (bytes old new more : List ℕ) → bytes ≡ old → new ≡ old ++ more → bytes ≡ take (length bytes) new
+seen_again bytes old new more b e =
+    let joined : new ≡ bytes ++ more = e ∙ ap (λ l. l ++ more) (sym b) in
+    sym (ap (take (length bytes)) joined ∙ take-append_seam bytes more)
+
 kept_at : (before after' : Option (List ℕ)) (old new more : List ℕ) → new ≡ old ++ more → Consumes before after' more → Keeps (prepend_known old before) (prepend_known new after')
 kept_at None after' old new more e p = tt
 kept_at (Some xs) None old new more e p = absurd p

@@ -11,6 +11,13 @@ pub record Fed (S : Type 0) : Type 0 where
 abbrev pub text_of : {S : Type 0} → (S → Option (List ℕ)) → Fed S → Option (List ℕ)
 text_of left feed = prepend_known feed.pending (left feed.source)
 
+-- These bytes were used: the first of what was pending and of what was taken from the source behind
+-- it.
+pub record Uses {S : Type 0} (left : S → Option (List ℕ)) (old new : Fed S) (used : List ℕ) : Type 0 where
+  pub more : List ℕ
+  pub source : Consumes (left old.source) (left new.source) more
+  pub pending : old.pending ++ more ≡ used ++ new.pending
+
 -- so many bytes were taken from the source and stand behind those that were pending
 pub record Takes {S : Type 0} (left : S → Option (List ℕ)) (old new : Fed S) (more : List ℕ) : Type 0 where
   pub pending : new.pending ≡ old.pending ++ more

@@ -1,17 +1,36 @@
 -- The grammar of script items.
-use Rattle.std.specs.Prelude.{◌≡◌, ℕ, List, [], ◌∷◌, ◌++◌, codes}
+use Rattle.std.specs.Prelude.{◌≡◌, ◌≤◌, ℕ, List, [], ◌∷◌, ◌++◌, length, codes}
+use Rattle.std.specs.Fmt.{decimal}
 use Rattle.ov_base.specs.Names.{IsName}
 use Rattle.ov_script.specs.declared.command.Command.{Command}
-use Rattle.ov_script.specs.declared.command.Command.TheVariants.{Enrol}
+use Rattle.ov_script.specs.declared.command.Command.TheVariants.{Enrol, Create, Read}
 
 -- no item has a line of more bytes than this, its LF included
 abbrev pub longest_line : ℕ
 longest_line = 20000
 
--- These bytes are one item, which says this command: words separated by one space, and LF at the
--- end.
+-- no file has more bytes than this
+abbrev pub longest_body : ℕ
+longest_body = 1048576
+
+-- the words, with one space between two of them
+abbrev pub spaced : List (List ℕ) → List ℕ
+spaced [] = []
+spaced (word ∷ []) = word
+spaced (word ∷ next ∷ words) = word ++ 32 ∷ spaced (next ∷ words)
+
+-- the line of these words
+abbrev pub line_of : List (List ℕ) → List ℕ
+line_of words = spaced words ++ 10 ∷ []
+
+-- These bytes are one item, which says this command: a line, and behind that of a `create` so many
+-- bytes as its last word says, and one LF.
 abbrev pub IsItem : List ℕ → Command → Type 0
-IsItem bytes (Enrol user) = IsName user × (bytes ≡ codes "enrol " ++ user ++ 10 ∷ [])
+IsItem bytes (Enrol user) = IsName user × (bytes ≡ line_of (codes "enrol" ∷ user ∷ []))
+IsItem bytes (Create file reader body) =
+    IsName file × IsName reader × (length body ≤ longest_body)
+    × (bytes ≡ line_of (codes "create" ∷ file ∷ reader ∷ decimal (length body) ∷ []) ++ body ++ 10 ∷ [])
+IsItem bytes (Read user file) = IsName user × IsName file × (bytes ≡ line_of (codes "read" ∷ user ∷ file ∷ []))
 
 -- some front of the text is an item
 abbrev pub BeginsWithItem : List ℕ → Type 0

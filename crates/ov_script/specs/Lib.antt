@@ -1,7 +1,9 @@
 pub mod Feed
 pub mod Finding
+pub mod ItemLines
 pub mod Items
 pub mod LineFeeds
+pub mod LineFronts
 pub mod Lines
 pub mod Place
 pub mod Reading

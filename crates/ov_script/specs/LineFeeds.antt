@@ -6,7 +6,11 @@ abbrev pub lf_count : List ℕ → ℕ
 lf_count [] = 0
 lf_count (b ∷ bytes) = (if b == 10 then 1 else 0) + lf_count bytes
 
+-- no byte is this one
+abbrev pub Lacks : ℕ → List ℕ → Type 0
+Lacks byte [] = Unit {0}
+Lacks byte (b ∷ bytes) = (b ≢ byte) × Lacks byte bytes
+
 -- no byte is LF
 abbrev pub NoLf : List ℕ → Type 0
-NoLf [] = Unit {0}
-NoLf (b ∷ bytes) = (b ≢ 10) × NoLf bytes
+NoLf bytes = Lacks 10 bytes

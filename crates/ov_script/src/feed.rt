@@ -73,6 +73,11 @@ impl<S: Source + Drop> Feed<S> {
         })
     }
 
+    /// The allocator that it was made with.
+    pub fn alloc(&self) -> Global {
+        *self.buffer.allocator()
+    }
+
     /// The bytes that were taken and not yet used.
     pub fn pending(&self) -> &[u8]
         ensures { result.now ≡ self.now.pending }

@@ -1,25 +1,28 @@
-//! What stands at the front of a text, found over pieces of any size.
-ghost use Rattle.std.specs.Prelude.{◌≡◌, ◌⊎◌, ℕ, List, Option, [], ◌∷◌, ◌++◌, ◌+◌, ◌<◌, ◌≤◌, length, take, IfOk, IfSome, IfNone, OnErr};
+//! What line stands at the front of a text, found over pieces of any size.
+ghost use Rattle.std.specs.Prelude.{◌≡◌, ◌⊎◌, ℕ, List, Option, [], ◌∷◌, ◌++◌, ◌+◌, ◌<◌, ◌≤◌, length, take, IfOk, IfSome, IfNone, OnErr, MatchBool};
 ghost use Rattle.std.specs.Io.KnownBytes.{IsAtEnd};
 ghost use Rattle.ov_base.specs.Causes.{HasCause};
+ghost use Rattle.ov_script.specs.declared.front.Front.TheVariants.{Start};
 ghost use Rattle.ov_script.specs.Feed.{Takes};
-ghost use Rattle.ov_script.specs.Finding.{Finds, IsUnsettled, TakesWhatItNeeds};
+ghost use Rattle.ov_script.specs.Finding.{Finds, IsSettled, IsUnsettled, TakesWhatItNeeds};
 ghost use Rattle.ov_script.specs.Items.{longest_line};
 ghost use Rattle.ov_script.specs.LineFeeds.{NoLf};
+ghost use Rattle.ov_script.specs.LineFronts.{run, is_alive};
 
-use crate::command::{Command, command_of, may_begin};
 use crate::feed::Feed;
+use crate::front::Front;
+use crate::first_line::{FirstLine, read_line};
 use memchr::memchr;
 use ov_io::{Fault, Source};
 
 /// What stands at the front of a text.
 #[derive(Drop)]
 pub enum Found {
-    /// An item.
-    Item {
-        /// Its command.
-        command: Command,
-        /// How many bytes it has.
+    /// The first line of an item.
+    Line {
+        /// What it says.
+        said: FirstLine,
+        /// How many bytes it has, its LF included.
         size: usize,
     },
     /// Nothing: the text has ended.
@@ -28,6 +31,15 @@ pub enum Found {
     Bad,
     /// More than may be read, which is no bad item.
     Long,
+}
+
+/// What is known of the bytes that came.
+#[derive(Drop)]
+pub enum Seen {
+    /// What stands at the front, whatever follows.
+    Settled(Found),
+    /// Their line may go on.
+    Open(Front),
 }
 
 // Where the first LF stands, of which none is among the first `seen` bytes.
@@ -51,9 +63,9 @@ fn line_at(bytes: &[u8], end: usize) -> Found
     ensures { (room : ℕ) (left : Option (List ℕ)) → end < room → Finds room bytes.now left result }
 {
     let (line, _) = bytes.split_at(end);
-    match command_of(line) {
-        Some(command) => Found::Item {
-            command,
+    match read_line(line) {
+        Some(said) => Found::Line {
+            said,
             size: end + 1,
         },
         None => Found::Bad,
@@ -67,37 +79,48 @@ fn front_of(bytes: &[u8], room: usize) -> Found
     ensures { (left : Option (List ℕ)) → Finds room bytes.now left result }
 {
     let (front, _) = bytes.split_at(room);
-    if may_begin(front) {
+    if Front::Start.run(front).is_alive() {
         Found::Long
     } else {
         Found::Bad
     }
 }
 
-// What stands at the front of these bytes, where that is known whatever follows them.
-fn settled(bytes: &[u8], seen: usize, room: usize) -> Option<Found>
+// Whether the line may go on, of which `front` is read and the rest is fresh.
+fn open_or_bad(front: Front, fresh: &[u8]) -> Seen
+    ensures { MatchBool (is_alive (run front fresh.now))
+        (result ≡ Seen.Open (run front fresh.now))
+        (result ≡ Seen.Settled Found.Bad) }
+{
+    let front = front.run(fresh);
+    if front.is_alive() {
+        Seen::Open(front)
+    } else {
+        Seen::Settled(Found::Bad)
+    }
+}
+
+// What is known of these bytes, of which the first `seen` were read and have no LF.
+fn settled(bytes: &[u8], seen: usize, front: Front, room: usize) -> Seen
     requires within { seen ≤ length bytes.now }
     requires seen { NoLf (take seen bytes.now) }
-    ensures found { IfSome result (λ found. (left : Option (List ℕ)) → Finds room bytes.now left found) }
-    ensures none { IfNone result (IsUnsettled room bytes.now) }
-    ensures no_lf { IfNone result (NoLf bytes.now) }
-    ensures short { IfNone result (length bytes.now < longest_line) }
+    requires front { front ≡ run Start (take seen bytes.now) }
+    ensures { IsSettled room bytes.now result }
 {
     match first_lf(bytes, seen) {
         Some(end) => {
             if end < room {
-                Some(line_at(bytes, end))
+                Seen::Settled(line_at(bytes, end))
             } else {
-                Some(front_of(bytes, room))
+                Seen::Settled(front_of(bytes, room))
             }
         }
         None => {
             if bytes.len() > room {
-                Some(front_of(bytes, room))
-            } else if may_begin(bytes) {
-                None
+                Seen::Settled(front_of(bytes, room))
             } else {
-                Some(Found::Bad)
+                let (_, fresh) = bytes.split_at(seen);
+                open_or_bad(front, fresh)
             }
         }
     }
@@ -122,11 +145,13 @@ pub fn find<S: Source + Drop>(feed: &mut Feed<S>, room: usize) -> Result<Found, 
     ensures cause { HasCause (S.faults feed.old.source) (S.faults feed.new.source) result }
 {
     let mut seen = 0;
+    let mut front = Front::Start;
     'pieces: loop {
         let bytes = feed.pending();
-        match settled(bytes, seen, room) {
-            Some(found) => return Ok(found),
-            None => {
+        match settled(bytes, seen, front, room) {
+            Seen::Settled(found) => return Ok(found),
+            Seen::Open(open) => {
+                front = open;
                 seen = bytes.len();
                 match feed.fill() {
                     Ok(0) => return Ok(at_end(seen)),

@@ -21,9 +21,13 @@ ghost use Rattle.std.specs.Prelude.{◌≡◌, ℕ, List};
 ghost use Rattle.ov_script.specs.declared.command.Command.{Command};
 ghost use Rattle.ov_script.specs.Reading.{Reads, Ending};
 
+mod body;
 mod command;
 mod feed;
 mod find;
+mod first_line;
+mod front;
+mod item;
 mod next;
 mod reply;
 mod script;

@@ -1,18 +1,51 @@
 //! Replies and their lines.
-ghost use Rattle.std.specs.Prelude.{◌≡◌, ◌++◌, OnOk, OnErr};
+ghost use Rattle.std.specs.Prelude.{◌≡◌, [], ◌∷◌, ◌++◌, codes, OnOk, OnErr, IfOk};
+ghost use Rattle.std.specs.Fmt.{decimal};
 ghost use Rattle.ov_script.specs.Lines.{reply_line};
 
-use ov_base::{Memory, Refusal};
+use ov_base::{Memory, Name, Octets, Refusal};
+use std::alloc::Global;
 
 /// What a command, or the end of a script, is answered with.
-#[derive(Clone, Copy, Debug, PartialEq, Eq)]
+#[derive(Drop)]
 pub enum Reply {
     /// An update was accepted; the new epoch.
     Accepted(u32),
+    /// The bytes of a file, for the user who asked.
+    Bytes {
+        user: Name,
+        file: Name,
+        bytes: Octets,
+    },
     /// The command was refused, and nothing changed.
     Refused(Refusal),
     /// The script ended, at this epoch.
     End(u32),
+}
+
+// Appends the two texts and an LF, or nothing.
+fn append_all(out: &mut Vec<u8>, head: &[u8], bytes: &[u8]) -> Result<(), Memory>
+    ensures ok { OnOk result (out.new.items ≡ out.old.items ++ head.now ++ bytes.now ++ 10 ∷ []) }
+    ensures err { OnErr result (out.new.items ≡ out.old.items) }
+{
+    out.reserve(head.len() + bytes.len() + 1)?;
+    out.extend_from_slice(head)?;
+    out.extend_from_slice(bytes)?;
+    Ok(out.push(b'\n')?)
+}
+
+// The first line of a reply with bytes.
+fn data_line(user: &Name, file: &Name, size: usize, alloc: Global) -> Result<Vec<u8>, Memory>
+    ensures { IfOk result (λ head. head.items
+        ≡ codes "data " ++ user.now ++ 32 ∷ file.now ++ 32 ∷ decimal size ++ 10 ∷ []) }
+{
+    let size = format!(in alloc; " {size}\n")?;
+    let mut head = b"data ".to_vec(alloc)?;
+    head.extend_from_slice(user.as_bytes())?;
+    head.push(b' ')?;
+    head.extend_from_slice(file.as_bytes())?;
+    head.extend_from_slice(size.as_bytes())?;
+    Ok(head)
 }
 
 /// Appends the line of a reply, with its LF.
@@ -21,8 +54,13 @@ pub fn line(reply: &Reply, out: &mut Vec<u8>) -> Result<(), Memory>
     ensures err { OnErr result (out.new.items ≡ out.old.items) }
 {
     let alloc = *out.allocator();
-    let text = match *reply {
+    let text = match reply {
         Reply::Accepted(epoch) => format!(in alloc; "ok {epoch}\n")?,
+        Reply::Bytes { user, file, bytes } => {
+            let bytes = bytes.as_slice();
+            let head = data_line(user, file, bytes.len(), alloc)?;
+            return append_all(out, &head, bytes);
+        }
         Reply::Refused(why) => {
             let number = why.number();
             let word = why.word();

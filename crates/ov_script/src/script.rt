@@ -7,7 +7,7 @@ ghost use Rattle.ov_script.specs.Saying.{SaysOf, IfCommand};
 ghost use Rattle.ov_script.specs.Place.{Place, start, answer_of, ends_with};
 
 use crate::feed::Feed;
-use crate::find::{Found, find};
+use crate::item::{Item, item_of};
 use crate::next::{Ended, Next, ScriptFault};
 use ov_base::Memory;
 use ov_io::Source;
@@ -98,17 +98,20 @@ impl<S: Source + Drop> Script<S> {
         ensures read { IsErrOf result ScriptFault.Read
             → Rose (S.faults self.old.source) (S.faults self.new.source) }
     {
-        match find(&mut self.feed, self.room) {
-            Ok(Found::Item { command, size }) => {
-                self.feed.advance(size);
-                self.line += 1;
+        match item_of(&mut self.feed, self.room) {
+            Ok(Item::Whole {
+                command,
+                size,
+                lines,
+            }) => {
+                self.line += lines as u64;
                 self.room -= size;
                 Ok(Next::Command(command))
             }
-            Ok(Found::End) => Ok(Next::End),
-            Ok(Found::Bad) => Ok(Next::BadLine { line: self.line }),
-            Ok(Found::Long) => Ok(Next::Long),
-            Err(_) => Err(ScriptFault::Read),
+            Ok(Item::End) => Ok(Next::End),
+            Ok(Item::Bad) => Ok(Next::BadLine { line: self.line }),
+            Ok(Item::Long) => Ok(Next::Long),
+            Err(fault) => Err(fault),
         }
     }
 }

@@ -1,0 +1,167 @@
+-- What stands behind the line of an item makes the item whole, or not.
+use Rattle.std.proofs.Common.{◌≡◌, ◌≢◌, inl, inr, ℕ, zero, suc, ◌+◌, ◌-◌, ◌<◌, ◌≤◌, List, [], ◌∷◌, ◌++◌, length, take, drop, refl, sym, ◌∙◌, ap, subst, append_assoc, append-nil, length-append, arith, Option, Some, None, Result, Ok, Err, IfOk, min}
+use Rattle.std.specs.Prelude.{IfSome}
+use Rattle.std.specs.Io.KnownBytes.{Consumes}
+use Rattle.std.proofs.KnownBytes.{Consumes-trans}
+use Rattle.std.proofs.Math.Seq.{drop-append_seam, take-append-add}
+use Rattle.std.proofs.lemmas.List.{length-take-le}
+use Rattle.ov_script.specs.declared.command.Command.{Command}
+use Rattle.ov_script.specs.declared.command.Command.TheVariants.{Create}
+use Rattle.ov_script.specs.declared.find.Found.TheVariants.{Line}
+use Rattle.ov_script.specs.declared.first_line.FirstLine.{FirstLine}
+use Rattle.ov_script.specs.declared.first_line.FirstLine.TheVariants.{Whole, WithBody}
+use Rattle.ov_script.specs.declared.item.Item.{Item}
+use Rattle.ov_script.specs.declared.item.Item.TheVariants.{Whole as Item-Whole, End, Bad, Long}
+use Rattle.ov_script.specs.declared.next.ScriptFault.{ScriptFault}
+use Rattle.ov_script.specs.Feed.{Fed, Uses, Takes, text_of}
+use Rattle.ov_script.specs.Finding.{Finds, Creates, Tells, IsSized, IsBadBody, cut, no_lf, IsUnsettled, TakesWhatItNeeds, TakesBelow}
+use Rattle.ov_script.specs.ItemLines.{SaysLine}
+use Rattle.ov_script.specs.Items.{IsItem, BeginsWithItem, CanBegin}
+use Rattle.ov_script.specs.LineFeeds.{NoLf, lf_count}
+use Rattle.ov_script.specs.Reading.{IsBad, cut as bad_cut, IsTooLong}
+use Rattle.ov_script.proofs.Beginning.{can_by_body, none_in_body, body_behind, wrong_behind_body}
+use Rattle.ov_script.proofs.ByteTexts.{lf_count-append, lf_count-line, lf_count-within}
+use Rattle.ov_script.proofs.Fronts.{bad_front}
+use Rattle.ov_script.proofs.Grammar.{item_from}
+use Rattle.ov_script.proofs.Using.{text_used, fact_behind, uses_trans}
+
+-- ---- texts behind the line of a body
+
+module _ (line file reader : List ℕ) (size room : ℕ) (says : SaysLine line (WithBody file reader size)) (fits : length line + 1 ≤ room) where
+  joined : (text : List ℕ) → (line ++ 10 ∷ []) ++ text ≡ line ++ 10 ∷ text
+  joined text = append_assoc line (10 ∷ []) text
+
+  whole_length : (text : List ℕ) → length (line ++ 10 ∷ text) ≡ length line + 1 + length text
+  whole_length text = let n : length (line ++ 10 ∷ text) ≡ length line + suc (length text) = length-append line (10 ∷ text) in omega arith
+
+  never_behind : (body : List ℕ) (b : ℕ) → length body ≡ size → b ≢ 10 → CanBegin (line ++ 10 ∷ (body ++ b ∷ [])) → ⊥
+  never_behind body b count differs (more, i) =
+      wrong_behind_body line body more file reader size b says count differs
+      (subst BeginsWithItem (append_assoc line (10 ∷ (body ++ b ∷ [])) more ∙ ap (λ t. line ++ 10 ∷ t) (append_assoc body (b ∷ []) more)) i)
+
+  bad_body : (text : List ℕ) → IsBadBody (room - (length line + 1)) size text → IsBad room (line ++ 10 ∷ text)
+  bad_body text (cut within short) =
+      let whole : length (line ++ 10 ∷ text) ≡ length line + 1 + length text = whole_length text in
+      bad_cut (omega arith) (omega arith) (none_in_body line text file reader size says short)
+  bad_body text (no_lf body rest b count small differs e) =
+      let split : (line ++ 10 ∷ (body ++ b ∷ [])) ++ rest ≡ line ++ 10 ∷ text =
+      append_assoc line (10 ∷ (body ++ b ∷ [])) rest ∙ ap (λ t. line ++ 10 ∷ t) (append_assoc body (b ∷ []) rest ∙ sym e) in
+      let whole : length (line ++ 10 ∷ (body ++ b ∷ [])) ≡ length line + 1 + length (body ++ b ∷ []) = whole_length (body ++ b ∷ []) in
+      let more : length (body ++ b ∷ []) ≡ length body + 1 = length-append body (b ∷ []) in
+      subst (IsBad room) split (bad_front room (line ++ 10 ∷ (body ++ b ∷ [])) rest (omega arith) (never_behind body b count differs))
+
+  long_body : (text : List ℕ) → room - (length line + 1) < length text → room - (length line + 1) ≤ size → IsTooLong room (line ++ 10 ∷ text)
+  long_body text past few =
+      let whole : length (line ++ 10 ∷ text) ≡ length line + 1 + length text = whole_length text in
+      let first : length (line ++ 10 ∷ []) ≡ length line + 1 = length-append line (10 ∷ []) in
+      let parts : room ≡ length (line ++ 10 ∷ []) + (room - (length line + 1)) = omega arith in
+      let front : take room (line ++ 10 ∷ text) ≡ line ++ 10 ∷ take (room - (length line + 1)) text =
+      ap (take room) (sym (joined text)) ∙ ap (λ n. take n ((line ++ 10 ∷ []) ++ text)) parts ∙ take-append-add (line ++ 10 ∷ []) text (room - (length line + 1)) ∙ joined (take (room - (length line + 1)) text) in
+      let count : length (take (room - (length line + 1)) text) ≡ room - (length line + 1) = length-take-le (room - (length line + 1)) text (omega arith) in
+      record {
+        past = omega arith;
+        can = subst CanBegin (sym front) (can_by_body line (take (room - (length line + 1)) text) file reader size says (omega arith));
+        none_fits = λ item rest command e is.
+            let b = body_behind line text file reader item rest size command says e is in
+            let n : length item ≡ length line + 1 + size + 1 = b.3 in
+            omega arith;
+      }
+
+  unsettled_body : (text : List ℕ) → length text < min (room - (length line + 1)) size + 1 → IsUnsettled room (line ++ 10 ∷ text)
+  unsettled_body text small =
+      let whole : length (line ++ 10 ∷ text) ≡ length line + 1 + length text = whole_length text in
+      record { within = omega arith; can = can_by_body line text file reader size says (omega arith); none = none_in_body line text file reader size says (omega arith) }
+
+-- ---- the line was found and used
+
+drop_line : (bytes line rest : List ℕ) (size : ℕ) → length line + 1 ≡ size → bytes ≡ line ++ 10 ∷ rest → drop size bytes ≡ rest
+drop_line bytes line rest size count e =
+    let n : length (line ++ 10 ∷ []) ≡ size = length-append line (10 ∷ []) ∙ count in
+    ap (drop size) (e ∙ sym (append_assoc line (10 ∷ []) rest)) ∙ ap (λ n. drop n ((line ++ 10 ∷ []) ++ rest)) (sym n) ∙ drop-append_seam (line ++ 10 ∷ []) rest
+
+module _ {S : Type 0} (left : S → Option (List ℕ)) (room size : ℕ) (a b m : Fed S) (more : List ℕ) (said : FirstLine) (taken : Takes left a b more)
+    (found : Finds room b.pending (left b.source) (Line said size)) (used : m ≡ record { source = b.source; pending = drop size b.pending }) where
+  source : m.source ≡ b.source
+  source = ap (λ (f : Fed S). f.source) used
+
+  uses_line : Uses left a m (found.0 ++ 10 ∷ [])
+  uses_line =
+      let rest : m.pending ≡ found.1 = ap (λ (f : Fed S). f.pending) used ∙ drop_line b.pending found.0 found.1 size found.4 found.6 in
+      record {
+        more = more;
+        source = subst (λ s. Consumes (left a.source) (left s) more) (sym source) taken.source;
+        pending = sym taken.pending ∙ found.6 ∙ sym (append_assoc found.0 (10 ∷ []) found.1) ∙ ap (λ r. (found.0 ++ 10 ∷ []) ++ r) (sym rest);
+      }
+
+  pub needed_line : TakesWhatItNeeds left room a.pending a.source b.source → TakesWhatItNeeds left room a.pending a.source m.source
+  needed_line n = subst (λ s. TakesWhatItNeeds left room a.pending a.source s) (sym source) n
+
+  -- a whole item
+  pub tells_line : (command : Command) → said ≡ Whole command → Tells left room a m (Item-Whole command size 1)
+  tells_line command is =
+      let says = subst (SaysLine found.0) is found.3 in
+      let count : length (found.0 ++ 10 ∷ []) ≡ size = length-append found.0 (10 ∷ []) ∙ found.4 in
+      (found.0 ++ 10 ∷ [], item_from found.0 [] (Whole command) command says (refl, refl), count, found.5, lf_count-line found.0 [] found.2, uses_line)
+
+  -- an item with a body
+  module _ (file reader : List ℕ) (body : ℕ) (is : said ≡ WithBody file reader body) (c : Fed S) where
+    says_body : SaysLine found.0 (WithBody file reader body)
+    says_body = subst (SaysLine found.0) is found.3
+
+    tells_item : (item : Item) → Creates left room (file, reader) size body m c item → Tells left room a c item
+    tells_item (Item-Whole command count lines) (bytes, e, n, total, within, lfs, uses) =
+        let size_is : length found.0 + 1 ≡ size = found.4 in
+        let tail : length (bytes ++ 10 ∷ []) ≡ length bytes + 1 = length-append bytes (10 ∷ []) in
+        let whole : length (found.0 ++ 10 ∷ (bytes ++ 10 ∷ [])) ≡ length found.0 + suc (length (bytes ++ 10 ∷ [])) = length-append found.0 (10 ∷ (bytes ++ 10 ∷ [])) in
+        let lf_tail : lf_count (bytes ++ 10 ∷ []) ≡ lf_count bytes + 1 = lf_count-append bytes (10 ∷ []) in
+        let lf_all : lf_count (found.0 ++ 10 ∷ (bytes ++ 10 ∷ [])) ≡ 1 + lf_count (bytes ++ 10 ∷ []) = lf_count-line found.0 (bytes ++ 10 ∷ []) found.2 in
+        let lf_is : lines ≡ lf_count bytes + 2 = lfs in
+        (
+          found.0 ++ 10 ∷ (bytes ++ 10 ∷ []),
+          item_from found.0 (bytes ++ 10 ∷ []) (WithBody file reader body) command says_body (bytes, n, refl, e),
+          omega arith,
+          within,
+          omega arith,
+          subst (Uses left a c) (append_assoc found.0 (10 ∷ []) (bytes ++ 10 ∷ [])) (uses_trans left a m c (found.0 ++ 10 ∷ []) (bytes ++ 10 ∷ []) uses_line uses),
+        )
+    tells_item End p = absurd p
+    tells_item Bad p = fact_behind (IsBad room) (IsBadBody (room - size) body) (text_of left a) (text_of left m) (found.0 ++ 10 ∷ [])
+        (λ text bad. subst (IsBad room) (sym (append_assoc found.0 (10 ∷ []) text))
+        (bad_body found.0 file reader body room says_body (subst (λ n. n ≤ room) (sym found.4) found.5) text (subst (λ n. IsBadBody (room - n) body text) (sym found.4) bad)))
+        (text_used left a m (found.0 ++ 10 ∷ []) uses_line) p
+    tells_item Long p = fact_behind (IsTooLong room) (λ text. (room - size < length text) × (room - size ≤ body)) (text_of left a) (text_of left m) (found.0 ++ 10 ∷ [])
+        (λ text long. subst (IsTooLong room) (sym (append_assoc found.0 (10 ∷ []) text))
+        (long_body found.0 file reader body room says_body (subst (λ n. n ≤ room) (sym found.4) found.5) text
+        (subst (λ n. room - n < length text) (sym found.4) long.0) (subst (λ n. room - n ≤ body) (sym found.4) long.1)))
+        (text_used left a m (found.0 ++ 10 ∷ []) uses_line) p
+
+    pub tells_created : (result : Result Item ScriptFault) → IfOk result (Creates left room (file, reader) size body m c) → IfOk result (Tells left room a c)
+    tells_created (Ok item) p = tells_item item p
+    tells_created (Err fault) p = tt
+
+    sized_item : (item : Item) → Creates left room (file, reader) size body m c item → IsSized item
+    sized_item (Item-Whole command count lines) (bytes, e, n, total, within, lfs, uses) =
+        let size_is : length found.0 + 1 ≡ size = found.4 in
+        let few : lf_count bytes ≤ length bytes = lf_count-within bytes in
+        (omega arith, omega arith)
+    sized_item End p = tt
+    sized_item Bad p = tt
+    sized_item Long p = tt
+
+    pub sized_created : (result : Result Item ScriptFault) → IfOk result (Creates left room (file, reader) size body m c) → IfOk result IsSized
+    sized_created (Ok item) p = sized_item item p
+    sized_created (Err fault) p = tt
+
+    pub needed_created : TakesWhatItNeeds left room a.pending a.source b.source → TakesBelow left (min (room - size) body + 1) m.pending m.source c.source → TakesWhatItNeeds left room a.pending a.source c.source
+    needed_created before (inl e) = subst (λ s. TakesWhatItNeeds left room a.pending a.source s) (sym e) (needed_line before)
+    needed_created before (inr (seen, last, t, small)) =
+        let u = uses_line in
+        let whole : a.pending ++ (u.more ++ seen) ≡ found.0 ++ 10 ∷ (m.pending ++ seen) =
+        sym (append_assoc a.pending u.more seen) ∙ ap (λ l. l ++ seen) u.pending ∙ append_assoc (found.0 ++ 10 ∷ []) m.pending seen ∙ append_assoc found.0 (10 ∷ []) (m.pending ++ seen) in
+        inr (
+          u.more ++ seen,
+          last,
+          subst (λ l. Consumes (left a.source) (left c.source) l) (sym (append_assoc u.more seen last)) (Consumes-trans (left a.source) (left m.source) (left c.source) u.more (seen ++ last) u.source t),
+          subst (IsUnsettled room) (sym whole) (unsettled_body found.0 file reader body room says_body (subst (λ n. n ≤ room) (sym found.4) found.5) (m.pending ++ seen)
+          (subst (λ n. length (m.pending ++ seen) < min (room - n) body + 1) (sym found.4) small)),
+        )

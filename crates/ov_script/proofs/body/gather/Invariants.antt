@@ -1,0 +1,16 @@
+use Rattle.std.proofs.Common.{◌≡◌, ◌≤◌, ◌+◌, ◌-◌, length, vec_len}
+use Rattle.ov_script.specs.Feed.{Uses}
+use Rattle.ov_script.specs.Finding.{TakesBelow}
+use Rattle.ov_script.proofs.body.gather.Given as goal
+
+abbrev pub invariant-pieces : goal.invariant-pieces
+invariant-pieces g l = record {
+  within : vec_len l.bytes ≤ l.fn.count;
+  used : Uses g.S.Source.left l.fn.feed l.feed l.bytes.items;
+  needed : TakesBelow g.S.Source.left l.fn.count l.fn.feed.pending l.fn.feed.source l.feed.source;
+  same : g.S.Source.borrow l.feed.source ≡ g.S.Source.borrow l.fn.feed.source;
+  later : g.S.Source.faults l.fn.feed.source ≤ g.S.Source.faults l.feed.source;
+}
+
+abbrev pub decreases-pieces : goal.decreases-pieces
+decreases-pieces g l = l.fn.count - (vec_len l.bytes + length l.feed.pending)
