@@ -1,5 +1,5 @@
 -- Places in lists, which are the numbers of users, files and nodes.
-use Rattle.std.specs.Prelude.{ℕ, zero, suc, Bool, true, false, List, [], ◌∷◌}
+use Rattle.std.specs.Prelude.{◌≡◌, ℕ, suc, ◌<◌, Bool, true, false, List, [], ◌∷◌, length, Option, Some, None}
 use Rattle.std.specs.Str.{bytes_eq}
 
 -- the place here, or one further on
@@ -11,3 +11,8 @@ here_or_after false place = suc place
 abbrev pub place_of : List ℕ → List (List ℕ) → ℕ
 place_of name [] = 0
 place_of name (first ∷ names) = here_or_after (bytes_eq name first) (place_of name names)
+
+-- what a look-up of a name among these answers: its place, or None where it isn't there
+abbrev pub IsNumber : List (List ℕ) → List ℕ → Option ℕ → Type 0
+IsNumber names name None = place_of name names ≡ length names
+IsNumber names name (Some number) = (number ≡ place_of name names) × (number < length names)
