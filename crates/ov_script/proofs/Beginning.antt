@@ -25,22 +25,41 @@ said_fits line (Whole (Enrol user)) (named, e) = (Word-Enrol, user, e, (user, []
 said_fits line (Whole (Create file reader body)) p = absurd p
 said_fits line (Whole (Read user file)) (u, f, e) =
     (Word-Read, user ++ 32 ∷ file, e, (user, 32 ∷ file, refl, rest_of_name user u, (file, refl, (file, [], sym (append-nil file), rest_of_name file f, refl))))
-said_fits line (WithBody file reader size) (f, r, low, e) =
-    (Word-Create, file ++ 32 ∷ (reader ++ 32 ∷ decimal size), e,
-    (file, 32 ∷ (reader ++ 32 ∷ decimal size), refl, rest_of_name file f,
-    (reader ++ 32 ∷ decimal size, refl, (reader, 32 ∷ decimal size, refl, rest_of_name reader r, (decimal size, refl, (size, low, refl))))))
+said_fits line (WithBody file reader size) (f, r, low, e) = (
+  Word-Create,
+  file ++ 32 ∷ (reader ++ 32 ∷ decimal size),
+  e,
+  (
+    file,
+    32 ∷ (reader ++ 32 ∷ decimal size),
+    refl,
+    rest_of_name file f,
+    (reader ++ 32 ∷ decimal size, refl, (reader, 32 ∷ decimal size, refl, rest_of_name reader r, (decimal size, refl, (size, low, refl)))),
+  ),
+)
 
 pub fits_said : (line : List ℕ) → Fits Start line → (said : FirstLine) × SaysLine line said
 fits_said line (Word-Enrol, rest, e, (user, end, f, u, none)) =
     let same : rest ≡ user = f ∙ ap (λ l. user ++ l) none ∙ append-nil user in
     (Whole (Enrol user), (name_of_rest user u, e ∙ ap (λ l. codes "enrol " ++ l) same))
 fits_said line (Word-Read, rest, e, (user, tail, f, u, (more, g, (file, end, h, n, none)))) =
-    let same : more ≡ file = h ∙ ap (λ l. file ++ l) none ∙ append-nil file in
-    (Whole (Read user file), (name_of_rest user u, name_of_rest file n,
-    e ∙ ap (λ l. codes "read " ++ l) (f ∙ ap (λ l. user ++ l) (g ∙ ap (λ l. 32 ∷ l) same))))
-fits_said line (Word-Create, rest, e, (file, tail, f, n, (more, g, (reader, end, h, r, (digits, i, (size, low, j)))))) =
-    (WithBody file reader size, (name_of_rest file n, name_of_rest reader r, low,
-    e ∙ ap (λ l. codes "create " ++ l) (f ∙ ap (λ l. file ++ l) (g ∙ ap (λ l. 32 ∷ l) (h ∙ ap (λ l. reader ++ l) (i ∙ ap (λ l. 32 ∷ l) j))))))
+    let same : more ≡ file = h ∙ ap (λ l. file ++ l) none ∙ append-nil file in (
+      Whole (Read user file),
+      (
+        name_of_rest user u,
+        name_of_rest file n,
+        e ∙ ap (λ l. codes "read " ++ l) (f ∙ ap (λ l. user ++ l) (g ∙ ap (λ l. 32 ∷ l) same)),
+      ),
+    )
+fits_said line (Word-Create, rest, e, (file, tail, f, n, (more, g, (reader, end, h, r, (digits, i, (size, low, j)))))) = (
+  WithBody file reader size,
+  (
+    name_of_rest file n,
+    name_of_rest reader r,
+    low,
+    e ∙ ap (λ l. codes "create " ++ l) (f ∙ ap (λ l. file ++ l) (g ∙ ap (λ l. 32 ∷ l) (h ∙ ap (λ l. reader ++ l) (i ∙ ap (λ l. 32 ∷ l) j)))),
+  ),
+)
 
 -- ---- what completes a line
 

@@ -14,6 +14,7 @@ module _ {S : Type 0} (left : S → Option (List ℕ)) (room size : ℕ) (a b : 
         always : (x : Option (List ℕ)) → IfSome x (λ t. Unit {0})
         always None = tt
         always (Some x) = tt
+
         longer : (rest : List ℕ) → 0 < length rest → (room < length (body ++ rest)) × (room ≤ size)
         longer rest some = (let n : length (body ++ rest) ≡ length body + length rest = length-append body rest in omega arith, full)
 

@@ -12,6 +12,7 @@ mod NameFronts
 pub mod Readings
 mod Sayings
 mod Searches
+mod ShortScripts
 mod SizeFronts
 mod Sizes
 mod Taking

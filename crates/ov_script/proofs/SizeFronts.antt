@@ -19,6 +19,7 @@ last_of (x ∷ xs) ys [] c e =
       nothing : (ys : List ℕ) → length ys ≡ 0 → ys ≡ []
       nothing [] n = refl
       nothing (y ∷ ys) n = absurd (omega arith)
+
       alone : {x c : ℕ} (xs : List ℕ) → x ≡ c → length xs ≡ 0 → x ∷ xs ≡ c ∷ []
       alone [] e n = ap (λ y. y ∷ []) e
       alone (y ∷ xs) e n = absurd (omega arith)
@@ -47,8 +48,10 @@ fronts_more : (n : ℕ) (digits : List ℕ) → 10 ≤ n → FrontsAreNumbers (n
 fronts_more n digits high p small = (whole, fronts) where
   before : (digits ≡ decimal (n / 10)) × ((xs ys : List ℕ) → 0 < length xs → xs ++ ys ≡ digits → (m : ℕ) × (m ≤ n / 10) × (xs ≡ decimal m))
   before = p (omega arith)
+
   whole : digits ++ ((48 + n % 10) ∷ []) ≡ decimal n
   whole = ap (λ d. d ++ ((48 + n % 10) ∷ [])) before.0 ∙ sym (decimal_step n high small)
+
   fronts : (xs ys : List ℕ) → 0 < length xs → xs ++ ys ≡ digits ++ ((48 + n % 10) ∷ []) → (m : ℕ) × (m ≤ n) × (xs ≡ decimal m)
   fronts xs ys some e =
       elim (last_of xs ys digits (48 + n % 10) e) as (λ _. (m : ℕ) × (m ≤ n) × (xs ≡ decimal m)) [

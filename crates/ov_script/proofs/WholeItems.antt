@@ -115,8 +115,7 @@ module _ {S : Type 0} (left : S → Option (List ℕ)) (room size : ℕ) (a b m 
         let whole : length (found.0 ++ 10 ∷ (bytes ++ 10 ∷ [])) ≡ length found.0 + suc (length (bytes ++ 10 ∷ [])) = length-append found.0 (10 ∷ (bytes ++ 10 ∷ [])) in
         let lf_tail : lf_count (bytes ++ 10 ∷ []) ≡ lf_count bytes + 1 = lf_count-append bytes (10 ∷ []) in
         let lf_all : lf_count (found.0 ++ 10 ∷ (bytes ++ 10 ∷ [])) ≡ 1 + lf_count (bytes ++ 10 ∷ []) = lf_count-line found.0 (bytes ++ 10 ∷ []) found.2 in
-        let lf_is : lines ≡ lf_count bytes + 2 = lfs in
-        (
+        let lf_is : lines ≡ lf_count bytes + 2 = lfs in (
           found.0 ++ 10 ∷ (bytes ++ 10 ∷ []),
           item_from found.0 (bytes ++ 10 ∷ []) (WithBody file reader body) command says_body (bytes, n, refl, e),
           omega arith,
@@ -163,5 +162,5 @@ module _ {S : Type 0} (left : S → Option (List ℕ)) (room size : ℕ) (a b m 
           last,
           subst (λ l. Consumes (left a.source) (left c.source) l) (sym (append_assoc u.more seen last)) (Consumes-trans (left a.source) (left m.source) (left c.source) u.more (seen ++ last) u.source t),
           subst (IsUnsettled room) (sym whole) (unsettled_body found.0 file reader body room says_body (subst (λ n. n ≤ room) (sym found.4) found.5) (m.pending ++ seen)
-          (subst (λ n. length (m.pending ++ seen) < min (room - n) body + 1) (sym found.4) small)),
+              (subst (λ n. length (m.pending ++ seen) < min (room - n) body + 1) (sym found.4) small)),
         )

@@ -46,7 +46,11 @@ fn make_room(bytes: &mut Vec<u8>, piece: usize, count: usize) -> Result<(), Memo
 }
 
 // Moves the pending bytes to the end of the vector, which gets at most `count` bytes.
-fn move_pending<S: Source + Drop>(feed: &mut Feed<S>, bytes: &mut Vec<u8>, count: usize) -> Result<(), Memory>
+fn move_pending<S: Source + Drop>(
+    feed: &mut Feed<S>,
+    bytes: &mut Vec<u8>,
+    count: usize,
+) -> Result<(), Memory>
     requires { vec_len bytes.old ≤ count }
     ensures moved { OnOk result ((piece : List ℕ) × (bytes.new.items ≡ bytes.old.items ++ piece)
         × (feed.old.pending ≡ piece ++ feed.new.pending)
@@ -63,7 +67,10 @@ fn move_pending<S: Source + Drop>(feed: &mut Feed<S>, bytes: &mut Vec<u8>, count
 }
 
 // Gathers so many bytes, or none where the text ends before.
-fn gather<S: Source + Drop>(feed: &mut Feed<S>, count: usize) -> Result<Option<Vec<u8>>, ScriptFault>
+fn gather<S: Source + Drop>(
+    feed: &mut Feed<S>,
+    count: usize,
+) -> Result<Option<Vec<u8>>, ScriptFault>
     ensures bytes { IfOk result (λ found. IfSome found (λ bytes.
         (vec_len bytes ≡ count) × Uses S.left feed.old feed.new bytes.items)) }
     ensures none { IfOk result (λ found. IfNone found
@@ -119,7 +126,11 @@ fn count_of(room: usize, size: usize) -> usize
 }
 
 /// Takes a body of `size` bytes and its LF, where `room` bytes may be read.
-pub fn body_of<S: Source + Drop>(feed: &mut Feed<S>, room: usize, size: usize) -> Result<Body, ScriptFault>
+pub fn body_of<S: Source + Drop>(
+    feed: &mut Feed<S>,
+    room: usize,
+    size: usize,
+) -> Result<Body, ScriptFault>
     ensures found { IfOk result (Gathers S.left room size feed.old feed.new) }
     ensures needed { TakesBelow S.left (min room size + 1) feed.old.pending feed.old.source feed.new.source }
     ensures same { S.borrow feed.new.source ≡ S.borrow feed.old.source }

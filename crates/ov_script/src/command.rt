@@ -5,7 +5,9 @@ use ov_base::{Name, Octets};
 #[derive(Drop)]
 pub enum Command {
     /// `enrol USER`: the user is added.
-    Enrol { user: Name },
+    Enrol {
+        user: Name,
+    },
     /// `create FILE READER LENGTH`, LENGTH bytes: the file is made, for one reader.
     Create {
         file: Name,
@@ -13,5 +15,8 @@ pub enum Command {
         bytes: Octets,
     },
     /// `read USER FILE`: the user asks for the file's bytes.
-    Read { user: Name, file: Name },
+    Read {
+        user: Name,
+        file: Name,
+    },
 }

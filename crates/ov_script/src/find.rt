@@ -10,8 +10,8 @@ ghost use Rattle.ov_script.specs.LineFeeds.{NoLf};
 ghost use Rattle.ov_script.specs.LineFronts.{run, is_alive};
 
 use crate::feed::Feed;
-use crate::front::Front;
 use crate::first_line::{FirstLine, read_line};
+use crate::front::Front;
 use memchr::memchr;
 use ov_io::{Fault, Source};
 

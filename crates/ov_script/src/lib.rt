@@ -31,6 +31,8 @@ mod item;
 mod next;
 mod reply;
 mod script;
+#[cfg(test)]
+mod tests;
 
 pub use command::Command;
 pub use next::{Next, ScriptFault};

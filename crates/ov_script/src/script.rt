@@ -99,11 +99,13 @@ impl<S: Source + Drop> Script<S> {
             → Rose (S.faults self.old.source) (S.faults self.new.source) }
     {
         match item_of(&mut self.feed, self.room) {
-            Ok(Item::Whole {
-                command,
-                size,
-                lines,
-            }) => {
+            Ok(
+                Item::Whole {
+                    command,
+                    size,
+                    lines,
+                },
+            ) => {
                 self.line += lines as u64;
                 self.room -= size;
                 Ok(Next::Command(command))

@@ -1,0 +1,98 @@
+-- The grammar of scripts, met by short texts.
+use Rattle.std.proofs.Common.{◌≡◌, ℕ, ◌+◌, ◌-◌, ◌<◌, ◌≤◌, List, [], ◌∷◌, ◌++◌, length, refl, sym, ◌∙◌, ap, append-nil, length-append, arith}
+use Rattle.std.specs.Prelude.{codes}
+use Rattle.std.specs.Fmt.{decimal, digits}
+use Rattle.ov_script.specs.declared.command.Command.TheVariants.{Enrol, Create, Read}
+use Rattle.ov_script.specs.Items.{BeginsWithItem, CanBegin, line_of}
+use Rattle.ov_script.specs.Reading.{limit, IsBad, cut, Reads, IsScript, AtEnd, BadAt, TooLong}
+use Rattle.ov_script.proofs.Beginning.{alive_can, dead_cannot}
+use Rattle.ov_script.proofs.ByteTexts.{lacks_by_test}
+use Rattle.ov_script.proofs.Fronts.{bad_front}
+use Rattle.ov_script.proofs.Grammar.{item_past}
+
+-- the empty text
+empty_text : IsScript [] [] AtEnd
+empty_text = refl
+
+-- one user
+one_user : IsScript (codes "enrol a" ++ 10 ∷ []) (Enrol (codes "a") ∷ []) AtEnd
+one_user = (codes "enrol a" ++ 10 ∷ [], [], refl, omega arith, (refl, refl), refl)
+
+-- a file of five bytes, two of which are LF, and who reads it
+abbrev body : List ℕ
+body = 104 ∷ 10 ∷ 108 ∷ 108 ∷ 10 ∷ []
+
+abbrev file_item : List ℕ
+file_item = codes "create f1 alice 5" ++ 10 ∷ body ++ 10 ∷ []
+
+abbrev read_item : List ℕ
+read_item = codes "read alice f1" ++ 10 ∷ []
+
+five : decimal 5 ≡ 53 ∷ []
+unfolding digits
+five = refl
+
+a_file : IsScript (file_item ++ read_item) (Create (codes "f1") (codes "alice") body ∷ Read (codes "alice") (codes "f1") ∷ []) AtEnd
+a_file = (
+  file_item,
+  read_item,
+  refl,
+  omega arith,
+  (refl, refl, omega arith, ap (λ d. line_of (codes "create" ∷ codes "f1" ∷ codes "alice" ∷ d ∷ []) ++ body ++ 10 ∷ []) (sym five)),
+  (read_item, [], refl, omega arith, (refl, refl, refl), refl),
+)
+
+-- a bad line behind it stands on line 5
+bad_line : (room : ℕ) → 4 ≤ room → IsBad room (codes "quit" ++ 10 ∷ [])
+bad_line room h = bad_front room (codes "quit") (10 ∷ []) h (dead_cannot (codes "quit") (lacks_by_test 10 (codes "quit") refl) refl)
+
+behind_a_file : IsScript (file_item ++ codes "quit" ++ 10 ∷ []) (Create (codes "f1") (codes "alice") body ∷ []) (BadAt 5)
+behind_a_file = (
+  file_item,
+  codes "quit" ++ 10 ∷ [],
+  refl,
+  omega arith,
+  (refl, refl, omega arith, ap (λ d. line_of (codes "create" ∷ codes "f1" ∷ codes "alice" ∷ d ∷ []) ++ body ++ 10 ∷ []) (sym five)),
+  (refl, bad_line (limit - 24) (omega arith)),
+)
+
+-- a user who is no name, on the second line
+alice_and_bob : IsScript (codes "enrol alice" ++ 10 ∷ codes "enrol Bob" ++ 10 ∷ []) (Enrol (codes "alice") ∷ []) (BadAt 2)
+alice_and_bob = (
+  codes "enrol alice" ++ 10 ∷ [],
+  codes "enrol Bob" ++ 10 ∷ [],
+  refl,
+  omega arith,
+  (refl, refl),
+  (refl, bad_front (limit - 12) (codes "enrol B") (codes "ob" ++ 10 ∷ []) (omega arith) (dead_cannot (codes "enrol B") (lacks_by_test 10 (codes "enrol B") refl) refl)),
+)
+
+-- ---- fronts of a size
+
+size_may_go_on : CanBegin (codes "create f a 104857")
+size_may_go_on = alive_can (codes "create f a 104857") refl
+
+leading_zero : CanBegin (codes "create f a 00") → ⊥
+leading_zero = dead_cannot (codes "create f a 00") (lacks_by_test 10 (codes "create f a 00") refl) refl
+
+one_byte_too_many : CanBegin (codes "create f a 1048577") → ⊥
+one_byte_too_many = dead_cannot (codes "create f a 1048577") (lacks_by_test 10 (codes "create f a 1048577") refl) refl
+
+-- ---- the end inside an item, and the limit
+
+no_item_without_lf : BeginsWithItem (codes "enrol a") → ⊥
+no_item_without_lf (item, rest, command, e, is) =
+    let past : 7 < length item = item_past (codes "enrol a") [] item rest command (lacks_by_test 10 (codes "enrol a") refl) (append-nil (codes "enrol a") ∙ e) is in
+    let whole : 7 ≡ length item + length rest = ap length e ∙ length-append item rest in
+    absurd (omega arith)
+
+cut_line : IsScript (codes "enrol a") [] (BadAt 1)
+cut_line = (refl, cut (omega arith) (omega arith) no_item_without_lf)
+
+-- where seven bytes may be read, a line of eight is too long, and no bad item
+eight_past_seven : Reads 1 7 (codes "enrol a" ++ 10 ∷ []) [] TooLong
+eight_past_seven = record {
+  past = omega arith;
+  can = alive_can (codes "enrol a") refl;
+  none_fits = λ item rest command e is. item_past (codes "enrol a") (10 ∷ []) item rest command (lacks_by_test 10 (codes "enrol a") refl) e is;
+}
