@@ -9,11 +9,12 @@ use Rattle.ov_script.specs.declared.reply.Reply.TheVariants.{End as EndReply}
 use Rattle.ov_script.specs.Lines.{reply_line}
 use Rattle.ov_script.specs.Reading.{IsScript, BeginsScript, limit, Ending, AtEnd, BadAt, TooLong}
 use Rattle.ov_script.proofs.Readings.{one_reading, Reads-begins}
-use Rattle.ov_model.specs.History.{empty, epoch_of}
+use Rattle.ov_model.specs.History.{epoch_of}
 use Rattle.ov_model.specs.Lines.{lines}
 use Rattle.ov_model.specs.Step.{after_all}
 use Rattle.overstore.specs.Answering.{Stops, AnsweredAll, AnsweredPart, EndsIn, Finishes, Concluded, whole, part}
-use Rattle.overstore.specs.Printing.{Outcome, Answered, ReadFault, OutOfMemory, status_of, last_line, memory_line, read_line, IsPrinted, Prints, PrintsFront, IsFault}
+use Rattle.overstore.specs.Machine.{Kept}
+use Rattle.overstore.specs.Printing.{new_store, keys_line, BadKeys, Outcome, Answered, ReadFault, OutOfMemory, status_of, last_line, memory_line, read_line, IsPrinted, Prints, PrintsFront, IsFault}
 use Rattle.overstore.specs.declared.answer.Stop.{Stop}
 use Rattle.overstore.specs.declared.answer.Stop.TheVariants.{End, BadLine, Long, Read, Write, Memory}
 
@@ -30,49 +31,62 @@ then_last text first last outcome code old mid new status is e p (inr q) =
 first_of : (text : List ℕ) (commands : List Command) (ending : Ending) → IsScript text commands ending → BeginsScript text commands
 first_of text commands ending reads = Reads-begins 1 limit text commands ending reads
 
-ends_or_memory : (text last : List ℕ) (ending : Ending) (old mid new : Option (List ℕ)) (names : List (List ℕ)) (status : ℕ) (a : AnsweredAll text ending old mid names)
-    → last ≡ last_line (after_all empty a.0) ending → EndsIn last (status_of (Answered ending)) mid new status ⊎ EndsIn memory_line 7 mid new status
+ends_or_memory : (text last : List ℕ) (ending : Ending) (old mid new : Option (List ℕ)) (kept : Kept) (status : ℕ) (a : AnsweredAll text ending old mid kept)
+    → last ≡ last_line (after_all new_store a.0) ending → EndsIn last (status_of (Answered ending)) mid new status ⊎ EndsIn memory_line 7 mid new status
     → Concluded text old new status
-ends_or_memory text last ending old mid new names status a e (inl q) =
-    then_last text (lines empty a.0) last (Answered ending) (status_of (Answered ending)) old mid new status (a.0, a.1, ap (λ l. lines empty a.0 ++ l) e) refl a.2 q
-ends_or_memory text last ending old mid new names status a e (inr q) =
-    then_last text (lines empty a.0) memory_line OutOfMemory 7 old mid new status (a.0, first_of text a.0 ending a.1, refl) refl a.2 q
+ends_or_memory text last ending old mid new kept status a e (inl q) =
+    then_last text (lines new_store a.0) last (Answered ending) (status_of (Answered ending)) old mid new status (a.0, a.1, ap (λ l. lines new_store a.0 ++ l) e) refl a.2 q
+ends_or_memory text last ending old mid new kept status a e (inr q) =
+    then_last text (lines new_store a.0) memory_line OutOfMemory 7 old mid new status (a.0, first_of text a.0 ending a.1, refl) refl a.2 q
 
 -- a front of the lines is a front of what a read fault prints
 part_of : (text : List ℕ) (old mid new : Option (List ℕ)) (status : ℕ) → AnsweredPart text old mid → status ≡ 6 → Keeps mid new → Concluded text old new status
 part_of text old mid new status (commands, begins, (n, p)) six kept =
-    let all = lines empty commands in
+    let all = lines new_store commands in
     let split : all ++ read_line ≡ take n all ++ (drop n all ++ read_line) =
     ap (λ l. l ++ read_line) (sym (take-append-drop n all)) ∙ append_assoc (take n all) (drop n all) read_line in
     let front : take (length (take n all)) (all ++ read_line) ≡ take n all =
     ap (take (length (take n all))) split ∙ take-append_seam (take n all) (drop n all ++ read_line) in
     part six (ReadFault, all ++ read_line, (commands, begins, refl), (length (take n all), subst (Appends old new) (sym front) (Appends-kept old mid new (take n all) p kept)))
 
-concluded_at : (text : List ℕ) (stop : Stop) (old mid new : Option (List ℕ)) (names : List (List ℕ)) (n status : ℕ)
-    → Stops text stop old mid names → Finishes stop n mid new status → n ≡ length names → Concluded text old new status
-concluded_at text End old mid new names n status a f count =
-    let same : n ≡ epoch_of (after_all empty a.0) = count ∙ sym a.3.epoch in
-    ends_or_memory text (reply_line (EndReply n)) AtEnd old mid new names status a (ap (λ m. reply_line (EndReply m)) same) f
-concluded_at text (BadLine m) old mid new names n status a f count = ends_or_memory text (last_line empty (BadAt m)) (BadAt m) old mid new names status a refl f
-concluded_at text Long old mid new names n status a f count = ends_or_memory text (last_line empty TooLong) TooLong old mid new names status a refl (inl f)
-concluded_at text Read old mid new names n status a f count =
-    then_last text (lines empty a.0) read_line ReadFault 5 old mid new status (a.0, a.1, refl) refl a.2 f
-concluded_at text Memory old mid new names n status a f count =
-    then_last text (lines empty a.0) memory_line OutOfMemory 7 old mid new status (a.0, a.1, refl) refl a.2 f
-concluded_at text Write old mid new names n status a f count = part_of text old mid new status a f.0 f.1
+concluded_at : (text : List ℕ) (stop : Stop) (old mid new : Option (List ℕ)) (kept : Kept) (n status : ℕ)
+    → Stops text stop old mid kept → Finishes stop n mid new status → n ≡ length kept.users + length kept.files → Concluded text old new status
+concluded_at text End old mid new kept n status a f count =
+    let same : n ≡ epoch_of (after_all new_store a.0) = count ∙ sym a.3.epoch in
+    ends_or_memory text (reply_line (EndReply n)) AtEnd old mid new kept status a (ap (λ m. reply_line (EndReply m)) same) f
+concluded_at text (BadLine m) old mid new kept n status a f count = ends_or_memory text (last_line new_store (BadAt m)) (BadAt m) old mid new kept status a refl f
+concluded_at text Long old mid new kept n status a f count = ends_or_memory text (last_line new_store TooLong) TooLong old mid new kept status a refl (inl f)
+concluded_at text Read old mid new kept n status a f count =
+    then_last text (lines new_store a.0) read_line ReadFault 5 old mid new status (a.0, a.1, refl) refl a.2 f
+concluded_at text Memory old mid new kept n status a f count =
+    then_last text (lines new_store a.0) memory_line OutOfMemory 7 old mid new status (a.0, a.1, refl) refl a.2 f
+concluded_at text Write old mid new kept n status a f count = part_of text old mid new status a f.0 f.1
 
 -- where nothing of the script was taken before
-pub concluded : (input : Option (List ℕ)) (stop : Stop) (old mid new : Option (List ℕ)) (names : List (List ℕ)) (n status : ℕ)
-    → IfSome (prepend_known [] input) (λ text. Stops text stop old mid names) → Finishes stop n mid new status → n ≡ length names
+pub concluded : (input : Option (List ℕ)) (stop : Stop) (old mid new : Option (List ℕ)) (kept : Kept) (n status : ℕ)
+    → IfSome (prepend_known [] input) (λ text. Stops text stop old mid kept) → Finishes stop n mid new status → n ≡ length kept.users + length kept.files
     → IfSome input (λ text. Concluded text old new status)
-concluded None stop old mid new names n status s f count = tt
-concluded (Some text) stop old mid new names n status s f count = concluded_at text stop old mid new names n status s f count
+concluded None stop old mid new kept n status s f count = tt
+concluded (Some text) stop old mid new kept n status s f count = concluded_at text stop old mid new kept n status s f count
 
 -- memory was refused at once
 pub refused_at_once : (input old new : Option (List ℕ)) (status : ℕ) → EndsIn memory_line 7 old new status → IfSome input (λ text. Concluded text old new status)
 refused_at_once None old new status e = tt
 refused_at_once (Some text) old new status e =
     then_last text [] memory_line OutOfMemory 7 old old new status ([], (1, limit, text, (refl, refl, refl)), refl) refl (Appends-nil old) e
+
+-- the key file is none, or its read failed
+pub before_the_script : (input old new : Option (List ℕ)) (status code : ℕ) (line : List ℕ) (outcome : Outcome) → ((text : List ℕ) → IsPrinted text outcome line)
+    → code ≡ status_of outcome → EndsIn line code old new status → IfSome input (λ text. Concluded text old new status)
+before_the_script None old new status code line outcome printed same e = tt
+before_the_script (Some text) old new status code line outcome printed same e =
+    then_last text [] line outcome code old old new status (printed text) same (Appends-nil old) e
+
+pub keys_printed : (text : List ℕ) → IsPrinted text BadKeys keys_line
+keys_printed text = refl
+
+pub read_printed : (text : List ℕ) → IsPrinted text ReadFault read_line
+read_printed text = ([], (1, limit, text, (refl, refl, refl)), refl)
 
 -- ---- by status
 
@@ -87,6 +101,7 @@ is_done text old new status e (whole (Answered (BadAt n)) s p) = absurd (omega a
 is_done text old new status e (whole (Answered TooLong) s p) = absurd (omega arith)
 is_done text old new status e (whole ReadFault s p) = absurd (omega arith)
 is_done text old new status e (whole OutOfMemory s p) = absurd (omega arith)
+is_done text old new status e (whole BadKeys s p) = absurd (omega arith)
 is_done text old new status e (part s p) = absurd (omega arith)
 
 pub is_bad : (text : List ℕ) (old new : Option (List ℕ)) (status : ℕ) → status ≡ 3 → Concluded text old new status → (n : ℕ) × Prints text (Answered (BadAt n)) old new
@@ -95,6 +110,7 @@ is_bad text old new status e (whole (Answered (BadAt n)) s p) = (n, p)
 is_bad text old new status e (whole (Answered TooLong) s p) = absurd (omega arith)
 is_bad text old new status e (whole ReadFault s p) = absurd (omega arith)
 is_bad text old new status e (whole OutOfMemory s p) = absurd (omega arith)
+is_bad text old new status e (whole BadKeys s p) = absurd (omega arith)
 is_bad text old new status e (part s p) = absurd (omega arith)
 
 pub is_long : (text : List ℕ) (old new : Option (List ℕ)) (status : ℕ) → status ≡ 11 → Concluded text old new status → Prints text (Answered TooLong) old new
@@ -103,6 +119,7 @@ is_long text old new status e (whole (Answered (BadAt n)) s p) = absurd (omega a
 is_long text old new status e (whole (Answered TooLong) s p) = p
 is_long text old new status e (whole ReadFault s p) = absurd (omega arith)
 is_long text old new status e (whole OutOfMemory s p) = absurd (omega arith)
+is_long text old new status e (whole BadKeys s p) = absurd (omega arith)
 is_long text old new status e (part s p) = absurd (omega arith)
 
 pub is_read : (text : List ℕ) (old new : Option (List ℕ)) (status : ℕ) → status ≡ 5 → Concluded text old new status → Prints text ReadFault old new
@@ -111,6 +128,7 @@ is_read text old new status e (whole (Answered (BadAt n)) s p) = absurd (omega a
 is_read text old new status e (whole (Answered TooLong) s p) = absurd (omega arith)
 is_read text old new status e (whole ReadFault s p) = p
 is_read text old new status e (whole OutOfMemory s p) = absurd (omega arith)
+is_read text old new status e (whole BadKeys s p) = absurd (omega arith)
 is_read text old new status e (part s p) = absurd (omega arith)
 
 pub is_memory : (text : List ℕ) (old new : Option (List ℕ)) (status : ℕ) → status ≡ 7 → Concluded text old new status → Prints text OutOfMemory old new
@@ -119,6 +137,7 @@ is_memory text old new status e (whole (Answered (BadAt n)) s p) = absurd (omega
 is_memory text old new status e (whole (Answered TooLong) s p) = absurd (omega arith)
 is_memory text old new status e (whole ReadFault s p) = absurd (omega arith)
 is_memory text old new status e (whole OutOfMemory s p) = p
+is_memory text old new status e (whole BadKeys s p) = absurd (omega arith)
 is_memory text old new status e (part s p) = absurd (omega arith)
 
 not_six : (outcome : Outcome) → status_of outcome ≡ 6 → ⊥
@@ -127,6 +146,7 @@ not_six (Answered (BadAt n)) e = absurd (omega arith)
 not_six (Answered TooLong) e = absurd (omega arith)
 not_six ReadFault e = absurd (omega arith)
 not_six OutOfMemory e = absurd (omega arith)
+not_six BadKeys e = absurd (omega arith)
 
 pub is_write : (text : List ℕ) (old new : Option (List ℕ)) (status : ℕ) → status ≡ 6 → Concluded text old new status → PrintsFront text old new
 is_write text old new status e (whole outcome s p) = absurd (not_six outcome (sym s ∙ e))
@@ -134,14 +154,15 @@ is_write text old new status e (part s p) = p
 
 -- ---- the script decides
 
-pub exact : (text : List ℕ) (old new : Option (List ℕ)) (status : ℕ) → Concluded text old new status → (commands : List Command) (ending : Ending) → IsScript text commands ending
+pub exact : (text : List ℕ) (old new : Option (List ℕ)) (status : ℕ) → (status ≡ 10 → ⊥) → Concluded text old new status → (commands : List Command) (ending : Ending) → IsScript text commands ending
     → (status ≡ status_of (Answered ending)) ⊎ IsFault status
-exact text old new status (whole (Answered other) s p) commands ending reads =
+exact text old new status keys (whole (Answered other) s p) commands ending reads =
     let same : other ≡ ending = (one_reading 1 limit text p.1.0 commands other ending p.1.1 reads).1 in
     inl (s ∙ ap (λ e. status_of (Answered e)) same)
-exact text old new status (whole ReadFault s p) commands ending reads = inr (inl s)
-exact text old new status (whole OutOfMemory s p) commands ending reads = inr (inr (inr s))
-exact text old new status (part s p) commands ending reads = inr (inr (inl s))
+exact text old new status keys (whole BadKeys s p) commands ending reads = absurd (keys s)
+exact text old new status keys (whole ReadFault s p) commands ending reads = inr (inl s)
+exact text old new status keys (whole OutOfMemory s p) commands ending reads = inr (inr (inr s))
+exact text old new status keys (part s p) commands ending reads = inr (inr (inl s))
 
 -- where nothing fails, only memory is left
 complete : (status wanted : ℕ) → (status ≡ wanted) ⊎ IsFault status → (status ≡ 5 → ⊥) → (status ≡ 6 → ⊥) → (status ≡ wanted) ⊎ (status ≡ 7)
@@ -150,7 +171,11 @@ complete status wanted (inr (inl five)) no_read no_write = absurd (no_read five)
 complete status wanted (inr (inr (inl six))) no_read no_write = absurd (no_write six)
 complete status wanted (inr (inr (inr seven))) no_read no_write = inr seven
 
-pub complete_at : (text : List ℕ) (old new : Option (List ℕ)) (status : ℕ) → (status ≡ 5 → ⊥) → (status ≡ 6 → ⊥) → Concluded text old new status
+pub complete_at : (text : List ℕ) (old new : Option (List ℕ)) (status : ℕ) → (status ≡ 10 → ⊥) → (status ≡ 5 → ⊥) → (status ≡ 6 → ⊥) → Concluded text old new status
     → (commands : List Command) (ending : Ending) → IsScript text commands ending → (status ≡ status_of (Answered ending)) ⊎ (status ≡ 7)
-complete_at text old new status no_read no_write said commands ending reads =
-    complete status (status_of (Answered ending)) (exact text old new status said commands ending reads) no_read no_write
+complete_at text old new status keys no_read no_write said commands ending reads =
+    complete status (status_of (Answered ending)) (exact text old new status keys said commands ending reads) no_read no_write
+
+pub neither : (A B : Type 0) → (A → ⊥) → (B → ⊥) → A ⊎ B → ⊥
+neither A B a b (inl x) = a x
+neither A B a b (inr y) = b y

@@ -109,7 +109,7 @@ module _ (h : History) (file reader bytes : List ℕ) where
       let f : File = record { name = file; bytes = bytes; list = single (user_number (matrix_of h) reader) } in
       let more : AreKept old.base 0 ((matrix_of h).files ++ f ∷ []) (old.files ++ (file, filed) ∷ []) =
       kept_more old.base 0 (matrix_of h).files old.files f (file, filed) s.files
-          (record { name = refl; list = list; sealed = subst (λ m. IsSealedAs old.base m bytes filed) (omega arith) sealed }) in (
+      (record { name = refl; list = list; sealed = subst (λ m. IsSealedAs old.base m bytes filed) (omega arith) sealed }) in (
         ap Accepted number ∙ sym (ap (λ r. (update_step h creation r).0) why),
         subst (λ r. StandsFor new (update_step h creation r).1) (sym why) (record {
           users = ap (λ (m : Matrix). m.users) matrix ∙ s.users ∙ sym users;

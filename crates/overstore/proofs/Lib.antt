@@ -1,4 +1,9 @@
 mod Answering
 mod Concluding
+mod Creating
 mod Enrolling
+mod Giving
+mod Keeping
+mod Refusing
+mod Sealing
 mod TwoWords

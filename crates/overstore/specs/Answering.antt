@@ -5,11 +5,11 @@ use Rattle.ov_script.specs.declared.command.Command.{Command}
 use Rattle.ov_script.specs.declared.reply.Reply.TheVariants.{End as EndReply}
 use Rattle.ov_script.specs.Lines.{reply_line}
 use Rattle.ov_script.specs.Reading.{IsScript, BeginsScript, BeginsWith, limit, Ending, AtEnd, BadAt, TooLong}
-use Rattle.ov_model.specs.History.{History, empty}
+use Rattle.ov_model.specs.History.{History}
 use Rattle.ov_model.specs.Lines.{lines}
 use Rattle.ov_model.specs.Step.{reply_to, after, after_all}
-use Rattle.overstore.specs.Machine.{StandsFor}
-use Rattle.overstore.specs.Printing.{last_line, read_line, memory_line, Outcome, status_of, Prints, PrintsFront}
+use Rattle.overstore.specs.Machine.{Kept, StandsFor}
+use Rattle.overstore.specs.Printing.{new_store, last_line, read_line, memory_line, Outcome, status_of, Prints, PrintsFront}
 use Rattle.overstore.specs.declared.answer.Stop.{Stop}
 use Rattle.overstore.specs.declared.answer.Stop.TheVariants.{End, BadLine, Long, Read, Write, Memory}
 
@@ -23,45 +23,45 @@ PutsOr (Some (BadLine n)) old new bytes = ⊥
 PutsOr (Some Long) old new bytes = ⊥
 PutsOr (Some Read) old new bytes = ⊥
 
--- the reply line to the command was put, and these users are there after it; or it was not, and why
-abbrev pub Answers : History → Command → Option Stop → Option (List ℕ) → Option (List ℕ) → List (List ℕ) → Type 0
-Answers h command None old new names =
-    Appends old new (reply_line (reply_to h command)) × StandsFor names (after h command)
-Answers h command (Some stop) old new names =
+-- the reply line to the command was put, and what is kept stands for the history after it; or it was not, and why
+abbrev pub Answers : History → Command → Option Stop → Option (List ℕ) → Option (List ℕ) → Kept → Type 0
+Answers h command None old new kept =
+    Appends old new (reply_line (reply_to h command)) × StandsFor kept (after h command)
+Answers h command (Some stop) old new kept =
     PutsOr (Some stop) old new (reply_line (reply_to h command))
 
 -- these commands were read to this ending, and all their lines were put
-abbrev pub AnsweredAll : List ℕ → Ending → Option (List ℕ) → Option (List ℕ) → List (List ℕ) → Type 0
-AnsweredAll text ending old new names =
-    (commands : List Command) × IsScript text commands ending × Appends old new (lines empty commands)
-    × StandsFor names (after_all empty commands)
+abbrev pub AnsweredAll : List ℕ → Ending → Option (List ℕ) → Option (List ℕ) → Kept → Type 0
+AnsweredAll text ending old new kept =
+    (commands : List Command) × IsScript text commands ending × Appends old new (lines new_store commands)
+    × StandsFor kept (after_all new_store commands)
 
 -- the lines of the first commands were put
 abbrev pub AnsweredFirst : List ℕ → Option (List ℕ) → Option (List ℕ) → Type 0
 AnsweredFirst text old new =
-    (commands : List Command) × BeginsScript text commands × Appends old new (lines empty commands)
+    (commands : List Command) × BeginsScript text commands × Appends old new (lines new_store commands)
 
 -- a front of the lines of the first commands was put
 abbrev pub AnsweredPart : List ℕ → Option (List ℕ) → Option (List ℕ) → Type 0
 AnsweredPart text old new =
     (commands : List Command) × BeginsScript text commands
-    × ((n : ℕ) × Appends old new (take n (lines empty commands)))
+    × ((n : ℕ) × Appends old new (take n (lines new_store commands)))
 
 -- what was put where the answering stopped so
-abbrev pub Stops : List ℕ → Stop → Option (List ℕ) → Option (List ℕ) → List (List ℕ) → Type 0
-Stops text End old new names = AnsweredAll text AtEnd old new names
-Stops text (BadLine n) old new names = AnsweredAll text (BadAt n) old new names
-Stops text Long old new names = AnsweredAll text TooLong old new names
-Stops text Read old new names = AnsweredFirst text old new
-Stops text Memory old new names = AnsweredFirst text old new
-Stops text Write old new names = AnsweredPart text old new
+abbrev pub Stops : List ℕ → Stop → Option (List ℕ) → Option (List ℕ) → Kept → Type 0
+Stops text End old new kept = AnsweredAll text AtEnd old new kept
+Stops text (BadLine n) old new kept = AnsweredAll text (BadAt n) old new kept
+Stops text Long old new kept = AnsweredAll text TooLong old new kept
+Stops text Read old new kept = AnsweredFirst text old new
+Stops text Memory old new kept = AnsweredFirst text old new
+Stops text Write old new kept = AnsweredPart text old new
 
 -- So far these commands were read and answered; this line, room and rest are left.
-abbrev pub SoFar : List ℕ → Option (List ℕ) → ℕ → ℕ → Option (List ℕ) → Option (List ℕ) → List (List ℕ) → Type 0
-SoFar text None line room old now names = ⊥
-SoFar text (Some rest) line room old now names =
+abbrev pub SoFar : List ℕ → Option (List ℕ) → ℕ → ℕ → Option (List ℕ) → Option (List ℕ) → Kept → Type 0
+SoFar text None line room old now kept = ⊥
+SoFar text (Some rest) line room old now kept =
     (commands : List Command) × BeginsWith 1 limit text commands line room rest
-    × Appends old now (lines empty commands) × StandsFor names (after_all empty commands)
+    × Appends old now (lines new_store commands) × StandsFor kept (after_all new_store commands)
 
 -- this line was put, and the status is this; or a front of it, and the status is 6
 abbrev pub EndsIn : List ℕ → ℕ → Option (List ℕ) → Option (List ℕ) → ℕ → Type 0
@@ -74,8 +74,8 @@ abbrev pub Finishes : Stop → ℕ → Option (List ℕ) → Option (List ℕ) �
 Finishes End epoch old new status =
     EndsIn (reply_line (EndReply epoch)) 0 old new status ⊎ EndsIn memory_line 7 old new status
 Finishes (BadLine n) epoch old new status =
-    EndsIn (last_line empty (BadAt n)) 3 old new status ⊎ EndsIn memory_line 7 old new status
-Finishes Long epoch old new status = EndsIn (last_line empty TooLong) 11 old new status
+    EndsIn (last_line new_store (BadAt n)) 3 old new status ⊎ EndsIn memory_line 7 old new status
+Finishes Long epoch old new status = EndsIn (last_line new_store TooLong) 11 old new status
 Finishes Read epoch old new status = EndsIn read_line 5 old new status
 Finishes Memory epoch old new status = EndsIn memory_line 7 old new status
 Finishes Write epoch old new status = (status ≡ 6) × Keeps old new

@@ -1,4 +1,5 @@
 pub mod Answering
+pub mod Files
 pub mod Machine
 pub mod Printing
 pub mod Status

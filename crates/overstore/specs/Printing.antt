@@ -6,18 +6,25 @@ use Rattle.ov_script.specs.declared.command.Command.{Command}
 use Rattle.ov_script.specs.declared.reply.Reply.TheVariants.{End}
 use Rattle.ov_script.specs.Lines.{reply_line}
 use Rattle.ov_script.specs.Reading.{IsScript, BeginsScript, Ending, AtEnd, BadAt, TooLong}
+use Rattle.ov_base.specs.declared.mode.Mode.TheVariants.{Full}
 use Rattle.ov_model.specs.History.{History, empty, epoch_of}
 use Rattle.ov_model.specs.Lines.{lines}
 use Rattle.ov_model.specs.Step.{after_all}
 
--- How a run over a script ends: the script was read to its ending and answered, a read failed, or
--- memory was refused.
+-- the history of a store that begins with the run
+abbrev pub new_store : History
+new_store = empty Full
+
+-- How a run ends: its key file is none, or the script was read to its ending and answered, a read
+-- failed, or memory was refused.
 pub data Outcome : Type 0 where
+  BadKeys : Outcome
   Answered : (ending : Ending) → Outcome
   ReadFault : Outcome
   OutOfMemory : Outcome
 
 abbrev pub status_of : Outcome → ℕ
+status_of BadKeys = 10
 status_of (Answered AtEnd) = 0
 status_of (Answered (BadAt n)) = 3
 status_of (Answered TooLong) = 11
@@ -26,6 +33,9 @@ status_of OutOfMemory = 7
 
 abbrev pub usage_line : List ℕ
 usage_line = codes "error usage" ++ 10 ∷ []
+
+abbrev pub keys_line : List ℕ
+keys_line = codes "error keys" ++ 10 ∷ []
 
 abbrev pub read_line : List ℕ
 read_line = codes "error read" ++ 10 ∷ []
@@ -40,17 +50,18 @@ last_line h (BadAt n) = codes "error line " ++ decimal n ++ 10 ∷ []
 last_line h TooLong = codes "error long" ++ 10 ∷ []
 
 -- What a run over this script that ends so prints: the machine's lines to its commands, or to the
--- first of them, and then the last line.
+-- first of them, and then the last line; or the line on the key file alone.
 abbrev pub IsPrinted : List ℕ → Outcome → List ℕ → Type 0
+IsPrinted text BadKeys printed = printed ≡ keys_line
 IsPrinted text (Answered ending) printed =
     (commands : List Command) × IsScript text commands ending
-    × (printed ≡ lines empty commands ++ last_line (after_all empty commands) ending)
+    × (printed ≡ lines new_store commands ++ last_line (after_all new_store commands) ending)
 IsPrinted text ReadFault printed =
     (commands : List Command) × BeginsScript text commands
-    × (printed ≡ lines empty commands ++ read_line)
+    × (printed ≡ lines new_store commands ++ read_line)
 IsPrinted text OutOfMemory printed =
     (commands : List Command) × BeginsScript text commands
-    × (printed ≡ lines empty commands ++ memory_line)
+    × (printed ≡ lines new_store commands ++ memory_line)
 
 -- all of it was put
 abbrev pub Prints : List ℕ → Outcome → Option (List ℕ) → Option (List ℕ) → Type 0
@@ -79,4 +90,8 @@ IsFault status = (status ≡ 5) ⊎ ((status ≡ 6) ⊎ (status ≡ 7))
 
 -- there are no others
 abbrev pub IsStatus : ℕ → Type 0
-IsStatus status = (status ≡ 0) ⊎ ((status ≡ 2) ⊎ ((status ≡ 3) ⊎ ((status ≡ 11) ⊎ IsFault status)))
+IsStatus status = (status ≡ 0) ⊎ ((status ≡ 2) ⊎ ((status ≡ 3) ⊎ ((status ≡ 10) ⊎ ((status ≡ 11) ⊎ IsFault status))))
+
+-- the script was answered, to its end or to what ended it
+abbrev pub IsAnswered : ℕ → Type 0
+IsAnswered status = (status ≡ 0) ⊎ ((status ≡ 3) ⊎ (status ≡ 11))

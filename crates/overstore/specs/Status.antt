@@ -1,7 +1,7 @@
 -- The exit statuses.
 use Rattle.std.specs.Prelude.{ℕ}
 use Rattle.overstore.specs.declared.status.Status.{Status}
-use Rattle.overstore.specs.declared.status.Status.TheVariants.{Done, Usage, BadLine, ReadFault, WriteFault, OutOfMemory, Long}
+use Rattle.overstore.specs.declared.status.Status.TheVariants.{Done, Usage, BadLine, ReadFault, WriteFault, OutOfMemory, BadKeys, Long}
 
 abbrev pub status_code : Status → ℕ
 status_code Done = 0
@@ -10,4 +10,5 @@ status_code BadLine = 3
 status_code ReadFault = 5
 status_code WriteFault = 6
 status_code OutOfMemory = 7
+status_code BadKeys = 10
 status_code Long = 11

@@ -1,11 +1,11 @@
 //! A script, answered command by command.
-ghost use Rattle.std.specs.Prelude.{◌≡◌, ◌≤◌, [], IfSome, None, Some, OnErr};
+ghost use Rattle.std.specs.Prelude.{◌≡◌, ◌≤◌, IfSome, None, Some};
 ghost use Rattle.ov_base.specs.Causes.{Rose};
 ghost use Rattle.ov_model.specs.History.{History};
 ghost use Rattle.ov_script.specs.Lines.{reply_line};
 ghost use Rattle.ov_script.specs.Place.{text_left};
 ghost use Rattle.ov_script.specs.Reading.{limit};
-ghost use Rattle.overstore.specs.Machine.{StandsFor};
+ghost use Rattle.overstore.specs.Machine.{nothing, StandsFor};
 ghost use Rattle.overstore.specs.Answering.{PutsOr, Answers, Stops};
 
 use crate::machine::Machine;
@@ -55,6 +55,7 @@ fn answer<O: Sink>(
     buffer: &mut Vec<u8>,
     out: &mut O,
 ) -> Option<Stop>
+    requires { (h : History) × StandsFor machine.old h }
     ensures answer { (h : History) → StandsFor machine.old h →
         Answers h command result (O.written out.old) (O.written out.new) machine.new }
     ensures same { O.borrow out.new ≡ O.borrow out.old }
@@ -62,7 +63,8 @@ fn answer<O: Sink>(
     ensures write { result ≡ Some Stop.Write → Rose (O.faults out.old) (O.faults out.new) }
     ensures never_read { result ≡ Some Stop.Read → ⊥ }
 {
-    match machine.step(command) {
+    let alloc = *buffer.allocator();
+    match machine.step(alloc, command) {
         Ok(reply) => put_reply(&reply, buffer, out),
         Err(_) => Some(Stop::Memory),
     }
@@ -78,7 +80,7 @@ pub fn answer_all<S: Source + Drop, O: Sink>(
     requires line { script.old.line ≡ 1 }
     requires room { script.old.room ≡ limit }
     requires fresh { script.old.ended ≡ None }
-    requires nobody { machine.old ≡ [] }
+    requires nothing { machine.old ≡ nothing machine.old.base }
     ensures stop { IfSome (text_left S.left script.old) (λ text.
         Stops text result (O.written out.old) (O.written out.new) machine.new) }
     ensures same { S.borrow script.new.source ≡ S.borrow script.old.source }

@@ -11,6 +11,7 @@ use ov_base::{Memory, Name, Octets, Refusal};
 use ov_script::Reply;
 
 const MAX_FILES: usize = 16_384;
+
 const MAX_BYTES: u64 = 67_108_864;
 
 impl Machine {

@@ -14,14 +14,17 @@
 #![tactic(auto)]
 
 mod answer;
+mod creation;
+mod filed;
 mod finish;
 mod machine;
+mod reading;
 mod run;
 mod status;
 #[cfg(test)]
 mod tests;
 
-use ov_io::{StdSink, StdSource};
+use ov_io::{FileSource, StdSink, StdSource};
 use run::run;
 use status::Status;
 use std::env;
@@ -33,14 +36,24 @@ Usage: overstore run full < SCRIPT
 
 Answers the script on standard input, one reply line for each command.
 
-  enrol USER    adds a user: `ok EPOCH`, or `refused NUMBER REASON`
+  enrol USER                  adds a user: `ok EPOCH`
+  create FILE USER LENGTH     adds a file for one user, with so many bytes and an
+                              LF behind the line: `ok EPOCH`
+  read USER FILE              gives a file: `data USER FILE LENGTH`, and its bytes
+
+Where a command isn't accepted the reply is `refused NUMBER REASON`. The masters
+are read from `keys.hex` in this folder: two lines of 64 hexadecimal digits.
 
 The last line is `end epoch EPOCH`, or `error ..` where the script could not be
 answered to its end. Exit status: 0 answered, 2 words not known, 3 bad line,
-5 read failed, 6 write failed, 7 out of memory, 11 script too long.
+5 read failed, 6 write failed, 7 out of memory, 10 no key file, 11 script too
+long.
 ";
 
-const VERSION: &str = "overstore 0.1.0\n";
+const VERSION: &str = "overstore 0.2.0\n";
+
+// The file of the two masters, in the folder where the program runs.
+const KEY_FILE: &str = "keys.hex";
 
 // The words behind the program's name.
 fn words_of(rt: &HostRuntime) -> io::Result<Vec<String>> {
@@ -85,9 +98,12 @@ fn answer_words(rt: &HostRuntime, words: &[String]) -> u8 {
             Err(_) => Status::WriteFault.code(),
         },
         None => {
+            let Ok(mut keys) = FileSource::new(*rt, KEY_FILE) else {
+                return Status::OutOfMemory.code();
+            };
             let mut input = StdSource::new(rt.stdin());
             let mut out = StdSink::new(rt.stdout());
-            run(rt.alloc(), words, &mut input, &mut out)
+            run(rt.alloc(), words, &mut keys, &mut input, &mut out)
         }
     }
 }

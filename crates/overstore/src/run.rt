@@ -1,19 +1,22 @@
 //! The top call.
-ghost use Rattle.std.specs.Prelude.{◌≡◌, ◌≢◌, ◌↔◌, ℕ, IfSome, IsTrue};
+ghost use Rattle.std.specs.Prelude.{◌≡◌, ◌≢◌, ◌↔◌, ◌⊎◌, ℕ, IfSome, IsTrue};
 ghost use Rattle.std.specs.Io.KnownBytes.{Appends};
 ghost use Rattle.ov_base.specs.Causes.{Rose};
+ghost use Rattle.ov_keyfile.specs.KeyFile.{HasMasters};
 ghost use Rattle.ov_script.specs.Reading.{AtEnd, BadAt, TooLong};
 ghost use Rattle.overstore.specs.Answering.{Concluded, EndsIn};
 ghost use Rattle.overstore.specs.Printing.{Answered, ReadFault, OutOfMemory, Prints, PrintsFront};
-ghost use Rattle.overstore.specs.Printing.{usage_line, StatusIsOf, IsFault, IsMemory, IsStatus};
+ghost use Rattle.overstore.specs.Printing.{keys_line, read_line, usage_line, IsAnswered, StatusIsOf};
+ghost use Rattle.overstore.specs.Printing.{IsFault, IsMemory, IsStatus};
 ghost use Rattle.overstore.specs.Words.{IsRunFull};
 
 use crate::answer::answer_all;
 use crate::finish::{finish, put_last};
 use crate::machine::Machine;
 use crate::status::Status;
-use ov_base::Memory;
+use ov_base::{Key, Memory};
 use ov_io::{Sink, Source};
+use ov_keyfile::read_masters;
 use ov_script::Script;
 use std::alloc::Global;
 
@@ -26,32 +29,70 @@ fn is_run_full(words: &[String]) -> bool
     }
 }
 
-// Answers the script, once the words are known.
-fn answer_script<I: Source, O: Sink>(alloc: Global, input: &mut I, out: &mut O) -> u8
+// Answers the script, once the words and the base master are known.
+fn answer_script<I: Source, O: Sink>(alloc: Global, base: Key, input: &mut I, out: &mut O) -> u8
     ensures concluded { IfSome (I.left input.old) (λ text.
         Concluded text (O.written out.old) (O.written out.new) result) }
     ensures read_cause { result ≡ 5 → Rose (I.faults input.old) (I.faults input.new) }
     ensures write_cause { result ≡ 6 → Rose (O.faults out.old) (O.faults out.new) }
     ensures status { IsStatus result }
     ensures not_usage { result ≢ 2 }
+    ensures not_keys { result ≢ 10 }
 {
     let mut script = match Script::new(alloc, input) {
         Ok(script) => script,
         Err(Memory) => return put_last(out, b"error memory\n", Status::OutOfMemory),
     };
-    let mut machine = Machine::new(alloc);
+    let mut machine = Machine::new(alloc, base);
     let stop = answer_all(alloc, &mut script, &mut machine, out);
     // The loan ends here, and what is known of the source goes back to `input`.
     let _ = script.into_source();
     finish(alloc, stop, machine.epoch(), out)
 }
 
-/// Answers the script of `input` on `out`, and gives the exit status.
+// Reads the key file and answers the script, once the words are known.
+fn answer_with_keys<K: Source, I: Source, O: Sink>(
+    alloc: Global,
+    keys: &mut K,
+    input: &mut I,
+    out: &mut O,
+) -> u8
+    ensures concluded { IfSome (I.left input.old) (λ text.
+        Concluded text (O.written out.old) (O.written out.new) result) }
+    ensures keys { IsAnswered result → IfSome (K.left keys.old) HasMasters }
+    ensures bad_keys { result ≡ 10 → IfSome (K.left keys.old) (λ file. HasMasters file → ⊥) }
+    ensures keys_line { result ≡ 10 → Appends (O.written out.old) (O.written out.new) keys_line }
+    ensures unread { IfSome (K.left keys.old) (λ file.
+        (HasMasters file → ⊥) → input.new ≡ input.old) }
+    ensures other_keys { IfSome (K.left keys.old) (λ file. (HasMasters file → ⊥)
+        → EndsIn keys_line 10 (O.written out.old) (O.written out.new) result
+        ⊎ EndsIn read_line 5 (O.written out.old) (O.written out.new) result) }
+    ensures read_cause { result ≡ 5 → Rose (K.faults keys.old) (K.faults keys.new)
+        ⊎ Rose (I.faults input.old) (I.faults input.new) }
+    ensures write_cause { result ≡ 6 → Rose (O.faults out.old) (O.faults out.new) }
+    ensures status { IsStatus result }
+    ensures not_usage { result ≢ 2 }
+{
+    match read_masters(keys) {
+        Ok(Some(masters)) => answer_script(alloc, masters.base, input, out),
+        Ok(None) => put_last(out, b"error keys\n", Status::BadKeys),
+        Err(_) => put_last(out, b"error read\n", Status::ReadFault),
+    }
+}
+
+/// Answers the script of `input` on `out` under the masters of the key file, and gives the exit
+/// status.
 ///
-/// The clauses on what is printed and on the script hold where the source and the sink tell their
-/// bytes; those on the counts of faults hold always. Each reply line is put by itself, before the
-/// next command is read.
-pub fn run<I: Source, O: Sink>(alloc: Global, words: &[String], input: &mut I, out: &mut O) -> u8
+/// The clauses on what is printed, on the script and on the key file hold where the sources and the
+/// sink tell their bytes; those on the counts of faults hold always. Each reply line is put by
+/// itself, before the next command is read.
+pub fn run<K: Source, I: Source, O: Sink>(
+    alloc: Global,
+    words: &[String],
+    keys: &mut K,
+    input: &mut I,
+    out: &mut O,
+) -> u8
     // The access-matrix machine's lines to the whole script and the end line, and nothing else.
     ensures done { result ≡ 0 → IfSome (I.left input.old) (λ text.
         Prints text (Answered AtEnd) (O.written out.old) (O.written out.new)) }
@@ -69,21 +110,34 @@ pub fn run<I: Source, O: Sink>(alloc: Global, words: &[String], input: &mut I, o
     ensures write { result ≡ 6 → IsRunFull words.now → IfSome (I.left input.old) (λ text.
         PrintsFront text (O.written out.old) (O.written out.new)) }
 
-    // Other words are refused, and the script is left as it is.
+    // Without a key file the script is left as it is.
+    ensures keys { IsAnswered result → IfSome (K.left keys.old) HasMasters }
+    ensures bad_keys { result ≡ 10 → IfSome (K.left keys.old) (λ file. HasMasters file → ⊥) }
+    ensures keys_line { result ≡ 10 → Appends (O.written out.old) (O.written out.new) keys_line }
+    ensures other_keys { IsRunFull words.now
+        → IfSome (K.left keys.old) (λ file. (HasMasters file → ⊥)
+        → EndsIn keys_line 10 (O.written out.old) (O.written out.new) result
+        ⊎ EndsIn read_line 5 (O.written out.old) (O.written out.new) result) }
+    ensures unread { IfSome (K.left keys.old) (λ file.
+        (HasMasters file → ⊥) → input.new ≡ input.old) }
+
+    // Other words are refused, and both files are left as they are.
     ensures usage { result ≡ 2
         → (IsRunFull words.now → ⊥) × Appends (O.written out.old) (O.written out.new) usage_line }
     ensures other_words { (IsRunFull words.now → ⊥)
         → EndsIn usage_line 2 (O.written out.old) (O.written out.new) result }
-    ensures unread { (IsRunFull words.now → ⊥) → input.new ≡ input.old }
+    ensures untouched { (IsRunFull words.now → ⊥) → (keys.new ≡ keys.old) × (input.new ≡ input.old) }
 
     // A failed read or write is answered only where the count of faults rose.
-    ensures read_cause { result ≡ 5 → Rose (I.faults input.old) (I.faults input.new) }
+    ensures read_cause { result ≡ 5 → Rose (K.faults keys.old) (K.faults keys.new)
+        ⊎ Rose (I.faults input.old) (I.faults input.new) }
     ensures write_cause { result ≡ 6 → Rose (O.faults out.old) (O.faults out.new) }
-    // The script alone decides between the other statuses.
-    ensures exact { IsRunFull words.now
+    // With a key file the script alone decides between the other statuses.
+    ensures exact { IsRunFull words.now → result ≢ 10
         → IfSome (I.left input.old) (λ text. StatusIsOf text result IsFault) }
     // Where no count rose, it is answered, unless memory was refused.
-    ensures complete { IsRunFull words.now
+    ensures complete { IsRunFull words.now → result ≢ 10
+        → (Rose (K.faults keys.old) (K.faults keys.new) → ⊥)
         → (Rose (I.faults input.old) (I.faults input.new) → ⊥)
         → (Rose (O.faults out.old) (O.faults out.new) → ⊥)
         → IfSome (I.left input.old) (λ text. StatusIsOf text result IsMemory) }
@@ -92,5 +146,5 @@ pub fn run<I: Source, O: Sink>(alloc: Global, words: &[String], input: &mut I, o
     if !is_run_full(words) {
         return put_last(out, b"error usage\n", Status::Usage);
     }
-    answer_script(alloc, input, out)
+    answer_with_keys(alloc, keys, input, out)
 }

@@ -18,6 +18,8 @@ pub enum Status {
     WriteFault,
     /// Memory was refused.
     OutOfMemory,
+    /// The key file is none.
+    BadKeys,
     /// The script is too long.
     Long,
 }
@@ -34,6 +36,7 @@ impl Status {
             Status::ReadFault => 5,
             Status::WriteFault => 6,
             Status::OutOfMemory => 7,
+            Status::BadKeys => 10,
             Status::Long => 11,
         }
     }
@@ -50,6 +53,7 @@ impl Status {
             5 => Some(Status::ReadFault),
             6 => Some(Status::WriteFault),
             7 => Some(Status::OutOfMemory),
+            10 => Some(Status::BadKeys),
             11 => Some(Status::Long),
             _ => None,
         }
@@ -64,12 +68,15 @@ impl Status {
                 "standard output names a bad line; those before it stand; correct it and run again",
             ),
             Status::ReadFault => {
-                Some("reading the script failed; check standard input and run again")
+                Some("reading failed; check keys.hex and standard input and run again")
             }
             Status::WriteFault => {
                 Some("writing the replies failed; check standard output and run again")
             }
             Status::OutOfMemory => Some("the system refused memory; free some and run again"),
+            Status::BadKeys => Some(
+                "keys.hex has to be two different lines of 64 hexadecimal digits; correct it and run again",
+            ),
             Status::Long => Some(
                 "the script is past 268435456 bytes; run what follows as a script of its own",
             ),

@@ -24,12 +24,25 @@ fn ran(
 ) -> Result<u8, Fail>
     requires { 0 < piece }
 {
-    let mut input = MemSource::new(
-        Octets::copy(alloc, script)?,
-        piece,
-        Octets::copy(alloc, source_fails)?,
-    );
-    Ok(run(alloc, &words(alloc, "full")?, &mut input, out))
+    let mut input = source(alloc, script, piece, source_fails)?;
+    let mut keys = key_file(alloc)?;
+    Ok(run(alloc, &words(alloc, "full")?, &mut keys, &mut input, out))
+}
+
+// Bytes that come in pieces, over a source that fails at these calls.
+fn source(alloc: Global, bytes: &[u8], piece: usize, fails: &[u8]) -> Result<MemSource, Fail>
+    requires { 0 < piece }
+{
+    let bytes = Octets::copy(alloc, bytes)?;
+    Ok(MemSource::new(bytes, piece, Octets::copy(alloc, fails)?))
+}
+
+// Two lines of 64 digits, of which the second is in upper case.
+const KEYS: &[u8] = b"000102030405060708090a0b0c0d0e0f101112131415161718191a1b1c1d1e1f\n\
+    E0E1E2E3E4E5E6E7E8E9EAEBECEDEEEFF0F1F2F3F4F5F6F7F8F9FAFBFCFDFEFF\n";
+
+fn key_file(alloc: Global) -> Result<MemSource, Fail> {
+    source(alloc, KEYS, 50, b"")
 }
 
 fn sink(alloc: Global, fails: &[u8]) -> Result<MemSink, Fail> {
@@ -47,7 +60,17 @@ fn scripts_and_their_lines(rt: HostRuntime) -> Result<(), Fail> {
             0,
             b"ok 1\nrefused 1 Taken\nend epoch 1\n",
         ),
-        (b"read a f\n", 3, b"error line 1\n"),
+        (
+            b"enrol alice\nenrol bob\ncreate f1 alice 5\nhello\nread alice f1\nread bob f1\n",
+            0,
+            b"ok 1\nok 2\nok 3\ndata alice f1 5\nhello\nrefused 4 NoPath\nend epoch 3\n",
+        ),
+        (
+            b"enrol a\ncreate f a 3\n\n\n\n\nread a f\nread z g\nlist f\n",
+            3,
+            b"ok 1\nok 2\ndata a f 3\n\n\n\n\nrefused 2 NoUser\nerror line 9\n",
+        ),
+        (b"grant a f\n", 3, b"error line 1\n"),
         (b"enrol alice\nenrol Bob\n", 3, b"ok 1\nerror line 2\n"),
         (b"enrol a", 3, b"error line 1\n"),
         (b"enrol  a\n", 3, b"error line 1\n"),
@@ -83,13 +106,12 @@ fn other_words(rt: HostRuntime) -> Result<(), Fail> {
     let mut three = words(alloc, "full")?;
     three.push(String::from_str(alloc, "full")?)?;
     for words in [words(alloc, "delta")?, words(alloc, "Full")?, one, three] {
-        let mut input = MemSource::new(
-            Octets::copy(alloc, b"enrol a\n")?,
-            8,
-            Octets::copy(alloc, b"")?,
-        );
+        let mut input = source(alloc, b"enrol a\n", 8, b"")?;
         let mut out = sink(alloc, b"")?;
-        assert_eq!(rt; run(alloc, &words, &mut input, &mut out), 2);
+        assert_eq!(rt;
+            run(alloc, &words, &mut key_file(alloc)?, &mut input, &mut out),
+            2
+        );
         assert_eq!(rt; out.written(), b"error usage\n".as_slice());
     }
     Ok(())
@@ -134,6 +156,86 @@ fn users_are_full(rt: HostRuntime) -> Result<(), Fail> {
     Ok(())
 }
 
+// A file of so many bytes, from 1 up, which its reader reads.
+fn file_of(alloc: Global, size: usize) -> Result<(Vec<u8>, Vec<u8>), Fail> {
+    let mut bytes = Vec::new(alloc);
+    let mut next = 0u8;
+    for _ in 0..size {
+        next = next.wrapping_add(1);
+        bytes.push(next)?;
+    }
+    let mut script = b"enrol a\n".to_vec(alloc)?;
+    script.extend_from_slice(format!(in alloc; "create f a {size}\n")?.as_bytes())?;
+    script.extend_from_slice(&bytes)?;
+    script.extend_from_slice(b"\nread a f\n")?;
+    let mut lines = b"ok 1\nok 2\n".to_vec(alloc)?;
+    lines.extend_from_slice(format!(in alloc; "data a f {size}\n")?.as_bytes())?;
+    lines.extend_from_slice(&bytes)?;
+    lines.extend_from_slice(b"\nend epoch 2\n")?;
+    Ok((script, lines))
+}
+
+#[test]
+fn files_of_many_lengths(rt: HostRuntime) -> Result<(), Fail> {
+    let alloc = rt.alloc();
+    for size in [0usize, 15, 16, 17, 4096, 1_048_576] {
+        let (script, lines) = file_of(alloc, size)?;
+        let mut out = sink(alloc, b"")?;
+        assert_eq!(rt; ran(alloc, &script, 1000, b"", &mut out)?, 0);
+        assert!(rt; out.written() == lines.as_slice(), "{size} bytes");
+    }
+    Ok(())
+}
+
+#[test]
+fn one_byte_more_is_a_bad_line(rt: HostRuntime) -> Result<(), Fail> {
+    let alloc = rt.alloc();
+    let mut script = b"enrol a\ncreate f a 2\nxx\ncreate g a 1048577\n".to_vec(alloc)?;
+    script.extend_from_slice(&[b'x'; 100])?;
+    let mut out = sink(alloc, b"")?;
+    assert_eq!(rt; ran(alloc, &script, 1000, b"", &mut out)?, 3);
+    assert_eq!(rt; out.written(), b"ok 1\nok 2\nerror line 4\n".as_slice());
+    Ok(())
+}
+
+#[test]
+fn files_are_full(rt: HostRuntime) -> Result<(), Fail> {
+    let alloc = rt.alloc();
+    let mut script = b"enrol a\n".to_vec(alloc)?;
+    for file in 0..16_385u32 {
+        script.extend_from_slice(format!(in alloc; "create f{file} a 0\n\n")?.as_bytes())?;
+    }
+    let mut out = sink(alloc, b"")?;
+    assert_eq!(rt; ran(alloc, &script, 4096, b"", &mut out)?, 0);
+    assert!(rt;
+        out.written()
+            .ends_with(b"ok 16385\nrefused 8 FilesFull\nend epoch 16385\n")
+    );
+    Ok(())
+}
+
+#[test]
+fn key_files(rt: HostRuntime) -> Result<(), Fail> {
+    let alloc = rt.alloc();
+    let rows = [
+        (KEYS, b"".as_slice(), 0u8, b"end epoch 0\n".as_slice()),
+        (&KEYS[..129], b"", 0, b"end epoch 0\n"),
+        (&KEYS[1..], b"", 10, b"error keys\n"),
+        (&KEYS[..65], b"", 10, b"error keys\n"),
+        (KEYS, &[0], 5, b"error read\n"),
+        (KEYS, &[2], 5, b"error read\n"),
+    ];
+    for (file, fails, status, line) in rows {
+        let mut keys = source(alloc, file, 50, fails)?;
+        let mut input = source(alloc, b"", 8, b"")?;
+        let mut out = sink(alloc, b"")?;
+        let full = words(alloc, "full")?;
+        assert_eq!(rt; run(alloc, &full, &mut keys, &mut input, &mut out), status);
+        assert_eq!(rt; out.written(), line);
+    }
+    Ok(())
+}
+
 #[test]
 fn a_read_fails(rt: HostRuntime) -> Result<(), Fail> {
     let alloc = rt.alloc();
@@ -165,8 +267,12 @@ fn a_write_fails(rt: HostRuntime) -> Result<(), Fail> {
         assert_eq!(rt; out.written(), lines);
     }
     let mut out = sink(alloc, &[0])?;
-    let mut input = MemSource::new(Octets::copy(alloc, b"")?, 8, Octets::copy(alloc, b"")?);
-    assert_eq!(rt; run(alloc, &words(alloc, "half")?, &mut input, &mut out), 6);
+    let mut input = source(alloc, b"", 8, b"")?;
+    let words = words(alloc, "half")?;
+    assert_eq!(rt;
+        run(alloc, &words, &mut key_file(alloc)?, &mut input, &mut out),
+        6
+    );
     Ok(())
 }
 
@@ -232,7 +338,13 @@ fn the_limit_of_a_script(rt: HostRuntime) -> Result<(), Fail> {
             faults: 0,
         };
         assert_eq!(rt;
-            run(alloc, &words(alloc, "full")?, &mut input, &mut out),
+            run(
+                alloc,
+                &words(alloc, "full")?,
+                &mut key_file(alloc)?,
+                &mut input,
+                &mut out
+            ),
             status
         );
         assert_eq!(rt; out.bytes.as_slice(), last);

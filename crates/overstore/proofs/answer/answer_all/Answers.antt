@@ -1,8 +1,18 @@
 use Rattle.std.proofs.Common.{arith}
 use Rattle.std.proofs.lemmas.Grind.{common_steps}
 use Rattle.ov_script.specs.Reading.{AtEnd, BadAt, TooLong}
-use Rattle.overstore.proofs.Answering.{answered, answered_more, answer_stops}
+use Rattle.overstore.proofs.Answering.{answered, answered_more, answer_stops, begins_so, stands_after, stands_so}
 use Rattle.overstore.proofs.answer.answer_all.Goals as goal
+
+pub items-init : goal.items-init
+items-init g c = record {
+  so_far = begins_so _ _ _ _ _ c.requires.line c.requires.room c.requires.nothing;
+  stands = stands_so _ c.requires.nothing;
+  ended = c.requires.fresh;
+  same = grind (arith, common_steps);
+  read_later = grind (arith, common_steps);
+  write_later = grind (arith, common_steps);
+}
 
 pub returns-in-Some-clause-stop : goal.returns-in-Some-clause-stop
 returns-in-Some-clause-stop g c =
@@ -11,6 +21,7 @@ returns-in-Some-clause-stop g c =
 pub items-preserved : goal.items-preserved
 items-preserved g c = record {
   so_far = answered_more _ _ _ _ _ _ _ _ _ _ _ _ _ c.items.invariant.so_far (rw c.in-Ok-Command.field-0-is at (c.in-Ok-Command.ensures.says c.items.invariant.ended)) c.in-None.ensures.answer;
+  stands = stands_after _ _ _ _ _ c.items.invariant.stands c.in-None.ensures.answer;
   ended = grind (arith, common_steps);
   same = grind (arith, common_steps);
   read_later = grind (arith, common_steps);
