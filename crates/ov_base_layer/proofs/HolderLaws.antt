@@ -11,6 +11,7 @@ use Rattle.ov_base.specs.Sets.{Has, single, with}
 use Rattle.ov_base.proofs.SetLaws.{each_within, Has-single, union-Has, with-Has, with_within, within_with}
 use Rattle.ov_graph.proofs.ListLaws.{Contains-cases, Contains-first, Contains-later, Contains-none}
 use Rattle.ov_base_layer.specs.declared.grant.Grant.{Grant}
+use Rattle.ov_base_layer.specs.BaseContents.{BaseContents, holders_of}
 use Rattle.ov_base_layer.specs.Holders.{Access, access_of, accesses_of, holders_in, with_accesses, with_if, AreFirst, IsHolder}
 
 same_number : (a b : ℕ) → a ≡ b → (a == b) ≡ true
@@ -122,6 +123,20 @@ holders_are sets accesses node user = (
     | inr given ↦ held_since accesses node (slice_index sets node) user given
   ],
 )
+
+-- the same of a set and accesses that are found to be the node's
+pub found_holders : (layer : BaseContents) (sets : List ℕ) (grants found : List Grant) (node set held user : ℕ)
+    → held ≡ with_accesses (accesses_of found) node set
+    → found ≡ grants
+    → set ≡ slice_index sets node
+    → holders_in sets (accesses_of grants) node ≡ holders_of layer node
+    → Has held user ↔ IsHolder layer.graph.sets (accesses_of layer.grants) node user
+found_holders layer sets grants found node set held user held_is found_is set_is same =
+    let is : held ≡ holders_of layer node =
+    held_is ∙ ap (λ g. with_accesses (accesses_of g) node set) found_is
+    ∙ ap (with_accesses (accesses_of grants) node) set_is ∙ same in
+    subst (λ users. Has users user ↔ IsHolder layer.graph.sets (accesses_of layer.grants) node user) (sym is)
+    (holders_are layer.graph.sets (accesses_of layer.grants) node user)
 
 -- a user who is in the set is there already
 with_held : (set user : ℕ) → Has set user → with set user ≡ set
