@@ -28,9 +28,11 @@ reply_or reply (Some why) = Refused why
 abbrev pub step_at : Matrix → History → Command → Reply × History
 step_at m h (Enrol user) = update h (Enrolled user)
 step_at m h (Create file reader bytes) = update h (Created file (single (user_number m reader)) bytes)
-step_at m h (Read user file) =
-    (reply_or (Bytes user file (file_at m (file_number m file)).bytes)
-    (read_refusal m (user_number m user) (file_number m file)), h)
+step_at m h (Read user file) = (
+  reply_or (Bytes user file (file_at m (file_number m file)).bytes)
+      (read_refusal m (user_number m user) (file_number m file)),
+  h,
+)
 
 -- the reply to a command, and the history after it
 abbrev pub step : History → Command → Reply × History
