@@ -1,5 +1,5 @@
 //! Bytes on the heap.
-ghost use Rattle.std.specs.Prelude.{◌≡◌, ℕ, List, IfOk};
+ghost use Rattle.std.specs.Prelude.{◌≡◌, ℕ, List, [], IfOk};
 
 use crate::Memory;
 use std::alloc::Global;
@@ -18,6 +18,15 @@ impl Model for Octets {
 }
 
 impl Octets {
+    /// No bytes. It takes no memory.
+    pub fn new(alloc: Global) -> Octets
+        ensures { result ≡ [] }
+    {
+        Octets {
+            bytes: Vec::new(alloc),
+        }
+    }
+
     /// A copy of these bytes.
     pub fn copy(alloc: Global, bytes: &[u8]) -> Result<Octets, Memory>
         ensures { IfOk result (λ octets. octets ≡ bytes.now) }
