@@ -1,6 +1,6 @@
 -- How a run of disk calls goes on, for the proofs of callers: one step for each call, and one run after
 -- another.
-use Rattle.std.proofs.Common.{◌≡◌, inl, inr, ⊎_elim, ℕ, ◌≤◌, Option, Some, None, refl, sym, ◌∙◌, ap, arith}
+use Rattle.std.proofs.Common.{◌≡◌, inl, inr, ⊎_elim, ℕ, ◌≤◌, Option, Some, None, Result, Ok, Err, OnOk, refl, sym, ◌∙◌, ap, arith}
 use Rattle.std.specs.Option.{option_map}
 use Rattle.ov_disk.specs.Disk.{Image, Narrows}
 use Rattle.ov_disk.specs.Moments.{Elapses, LeavesOnly, IsUntouched}
@@ -69,3 +69,8 @@ module _ {D : Type 0} (moment : D → ℕ) (left_since : D → ℕ → Image →
       no_more = λ c left. so_far.no_more c (next.no_more c left);
       any_moment = then_on d0 d1 d2 (may_leave d0) (may_leave d1) so_far.any_moment next.any_moment so_far.no_more;
     }
+
+-- what follows at Ok from two things that hold at Ok
+pub on_both : {T E : Type 0} (r : Result T E) (P Q S : Type 0) → OnOk r P → OnOk r Q → (P → Q → S) → OnOk r S
+on_both (Ok x) P Q S p q then = then p q
+on_both (Err e) P Q S p q then = p
