@@ -64,7 +64,9 @@ impl MemDisk {
     pub fn new(alloc: Global) -> MemDisk
         ensures { result ≡ fresh (image [] []) }
     {
-        MemDisk::of(alloc, Octets::new(alloc), Octets::new(alloc))
+        let book = Octets::from_vec(Vec::new(alloc));
+        let blobs = Octets::from_vec(Vec::new(alloc));
+        MemDisk::of(alloc, book, blobs)
     }
 
     /// These contents, synced.
