@@ -1,6 +1,6 @@
 -- How a run of disk calls goes on, for the proofs of callers: one step for each call, and one run after
 -- another.
-use Rattle.std.proofs.Common.{◌≡◌, inl, inr, ⊎_elim, ℕ, ◌≤◌, Option, Some, None, Result, Ok, Err, OnOk, refl, sym, ◌∙◌, ap, arith}
+use Rattle.std.proofs.Common.{◌≡◌, inl, inr, ⊎_elim, ℕ, Option, Some, None, Result, Ok, Err, OnOk, refl, sym, ◌∙◌, arith}
 use Rattle.std.specs.Option.{option_map}
 use Rattle.ov_disk.specs.Disk.{Image, Narrows}
 use Rattle.ov_disk.specs.Moments.{Elapses, LeavesOnly, IsUntouched}

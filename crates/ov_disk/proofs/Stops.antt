@@ -1,5 +1,5 @@
 -- What a stop leaves of a disk in memory is one of the images that a crash may leave.
-use Rattle.std.proofs.Common.{◌≡◌, ℕ, zero, suc, ◌+◌, ◌≤◌, ◌<◌, List, [], ◌∷◌, ◌++◌, length, take, drop, replicate, get_or, Option, Some, None, Bool, true, false, if◌then◌else◌, leb, ltb, refl, sym, ◌∙◌, ap, subst, arith, length-drop}
+use Rattle.std.proofs.Common.{◌≡◌, ℕ, zero, suc, ◌+◌, ◌≤◌, ◌<◌, List, [], ◌∷◌, length, take, drop, replicate, get_or, Some, None, Bool, true, false, if◌then◌else◌, leb, ltb, refl, sym, ◌∙◌, ap, subst, arith, length-drop}
 use Rattle.std.proofs.lemmas.List.{drop_all, drop_more}
 use Rattle.std.proofs.lemmas.Bool.{leb-true}
 use Rattle.ov_disk.specs.declared.area.Area.{Area}
@@ -9,7 +9,7 @@ use Rattle.ov_disk.specs.declared.change.Change.TheVariants.{Write, Sync}
 use Rattle.ov_disk.specs.declared.change.Tear.{Tear}
 use Rattle.ov_disk.specs.declared.change.Tear.TheVariants.{Old, New, Fill}
 use Rattle.ov_disk.specs.Disk.{Image, bytes_of, overwritten, written, Torn, TornIn}
-use Rattle.ov_disk.specs.Tape.{replayed, LeftBy, Leaves, LeftSince, number_of, kept_if, before, Stop, stop, torn_write, stepped, stepped_all, torn}
+use Rattle.ov_disk.specs.Tape.{replayed, LeftBy, Leaves, LeftSince, number_of, kept_if, before, Stop, stop, torn_write, stepped_all, torn}
 use Rattle.ov_disk.specs.TapeLaws.{length-overwritten, torn_in_done, guarded}
 
 -- the end of the list

@@ -1,13 +1,13 @@
 -- One change more on a disk in memory.
-use Rattle.std.proofs.Common.{◌≡◌, ◌⊎◌, inl, inr, ℕ, zero, suc, ◌+◌, ◌≤◌, ◌<◌, List, [], ◌∷◌, ◌++◌, length, take, drop, Option, Some, None, Bool, true, false, if◌then◌else◌, leb, refl, sym, ◌∙◌, ap, subst, arith, length-append}
+use Rattle.std.proofs.Common.{◌≡◌, ◌⊎◌, inl, inr, ℕ, ◌+◌, ◌≤◌, List, [], ◌∷◌, ◌++◌, length, Option, Some, None, Bool, true, false, if◌then◌else◌, leb, refl, sym, ◌∙◌, ap, subst, arith, length-append}
 use Rattle.std.specs.Option.{option_map}
 use Rattle.std.proofs.lemmas.List.{take_all, take-append-le}
-use Rattle.std.proofs.lemmas.Bool.{leb-true, le-leb}
+use Rattle.std.proofs.lemmas.Bool.{le-leb}
 use Rattle.std.proofs.lemmas.Bool.Decides.{leb_tells}
 use Rattle.ov_disk.specs.declared.area.Area.{Area}
 use Rattle.ov_disk.specs.declared.change.Change.{Change}
 use Rattle.ov_disk.specs.declared.change.Change.TheVariants.{Write, Sync}
-use Rattle.ov_disk.specs.Disk.{Image, image, bytes_of, written, TornIn, Follows, Narrows, Only}
+use Rattle.ov_disk.specs.Disk.{Image, bytes_of, written, TornIn, Follows, Narrows, Only}
 use Rattle.ov_disk.specs.Moments.{Elapses}
 use Rattle.ov_disk.specs.Tape.{Tape, replayed, LeftBy, Leaves, LeftSince, reads_of, may_leave_of, moment_of, left_since_of}
 use Rattle.ov_disk.specs.TapeLaws.{guarded, one_of}

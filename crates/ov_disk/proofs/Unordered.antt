@@ -1,13 +1,13 @@
 -- Writes that tear one after the other, and the model that knows no order.
-use Rattle.std.proofs.Common.{◌≡◌, ◌⊎◌, ◌↔◌, inl, inr, ⊎_elim, ℕ, zero, suc, ◌+◌, ◌-◌, ◌≤◌, ◌<◌, min, max, List, [], ◌∷◌, length, take, drop, get_or, Bool, true, false, leb, refl, sym, ◌∙◌, ap, subst, arith, length-drop}
-use Rattle.std.proofs.lemmas.List.{get_or-take, get_or-drop, length-take, same_lists}
+use Rattle.std.proofs.Common.{◌≡◌, ◌⊎◌, inl, inr, ℕ, zero, suc, ◌+◌, ◌-◌, ◌≤◌, ◌<◌, min, max, List, [], ◌∷◌, length, take, drop, get_or, Bool, true, false, leb, refl, sym, ◌∙◌, ap, subst, arith, length-drop}
+use Rattle.std.proofs.lemmas.List.{get_or-take, get_or-drop, length-take}
 use Rattle.std.proofs.lemmas.Grind.{same_number_lists}
 use Rattle.std.proofs.lemmas.Bool.{le-leb, cases_lt}
 use Rattle.std.proofs.lemmas.Bool.Decides.{leb_tells}
 use Rattle.ov_disk.specs.declared.area.Area.{Area}
 use Rattle.ov_disk.specs.declared.area.Area.TheVariants.{Book, Blobs}
 use Rattle.ov_disk.specs.Disk.{Image, image, bytes_of, Torn, TornIn}
-use Rattle.ov_disk.specs.Model.{Range, Put, IsOutside, longest, MayHold, with_range, ranges_in, LeftAfter, BeginInside}
+use Rattle.ov_disk.specs.Model.{Range, Put, longest, MayHold, with_range, ranges_in, LeftAfter, BeginInside}
 
 -- one area: each write tears what those before it left
 TornAfter : List Range → List ℕ → List ℕ → Type 0

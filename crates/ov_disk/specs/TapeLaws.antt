@@ -1,5 +1,5 @@
 -- The laws of a disk in memory, proved here since an impl can't cite proofs/.
-use Rattle.std.proofs.Common.{◌≡◌, inl, inr, ℕ, zero, suc, ◌+◌, ◌≤◌, List, [], ◌∷◌, ◌++◌, length, take, drop, Option, Some, None, Bool, true, false, if◌then◌else◌, leb, refl, sym, ◌∙◌, ap, subst, arith, append_assoc, length-append, length-drop}
+use Rattle.std.proofs.Common.{◌≡◌, ℕ, ◌+◌, ◌≤◌, List, [], ◌∷◌, ◌++◌, length, take, drop, Option, Some, None, Bool, true, false, if◌then◌else◌, leb, refl, sym, ◌∙◌, ap, subst, arith, append_assoc, length-append, length-drop}
 use Rattle.std.proofs.lemmas.List.{take_at, drop_at, take_all, length-take-le}
 use Rattle.std.proofs.lemmas.Bool.{leb-true}
 use Rattle.ov_disk.specs.declared.area.Area.{Area}
@@ -7,7 +7,7 @@ use Rattle.ov_disk.specs.declared.area.Area.TheVariants.{Book, Blobs}
 use Rattle.ov_disk.specs.declared.change.Change.{Change}
 use Rattle.ov_disk.specs.declared.change.Change.TheVariants.{Write, Sync}
 use Rattle.ov_disk.specs.Disk.{Image, bytes_of, overwritten, written, Torn, TornIn}
-use Rattle.ov_disk.specs.Tape.{Tape, replayed, LeftBy, Leaves, LeftSince, reads_of, may_leave_of, moment_of, left_since_of}
+use Rattle.ov_disk.specs.Tape.{Tape, replayed, LeftBy, Leaves, reads_of, may_leave_of, moment_of, left_since_of}
 
 pub length-overwritten : (at : ℕ) (bytes old : List ℕ) → at ≤ length old → length (overwritten at bytes old) ≡ at + (length bytes + length (drop (at + length bytes) old))
 length-overwritten at bytes old le =

@@ -1,5 +1,5 @@
 -- A disk that tells nothing.
-use Rattle.std.specs.Prelude.{◌≡◌, Option, Some, None, ⊤}
+use Rattle.std.specs.Prelude.{◌≡◌, Some, None, ⊤}
 use Rattle.ov_disk.specs.Disk.{Image}
 
 anything : ⊤

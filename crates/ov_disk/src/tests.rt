@@ -9,7 +9,11 @@ use std::test::Fail;
 #[test]
 fn a_write_torn_in_each_way(rt: HostRuntime) -> Result<(), Fail> {
     let alloc = rt.alloc();
-    let mut disk = MemDisk::of(alloc, Octets::copy(alloc, b"abc")?, Octets::copy(alloc, b"z")?);
+    let mut disk = MemDisk::of(
+        alloc,
+        Octets::copy(alloc, b"abc")?,
+        Octets::copy(alloc, b"z")?,
+    );
     assert_eq!(rt; disk.write_at(Area::Book, 2, b"xyz"), Ok(()));
     assert_eq!(rt; disk.sync(), Ok(()));
     assert_eq!(rt; disk.len(Area::Book), Ok(5));

@@ -1,4 +1,4 @@
-use Rattle.std.proofs.Common.{◌≡◌, sym, ◌∙◌, ap}
+use Rattle.std.proofs.Common.{sym, ◌∙◌, ap}
 use Rattle.ov_disk.specs.Tape.{Stop, stop}
 use Rattle.ov_disk.proofs.Stops.{at_end, at_call}
 use Rattle.ov_disk.proofs.stop.torn_areas.Goals as goal

@@ -1,4 +1,4 @@
-use Rattle.std.proofs.Common.{◌≡◌, List, ◌∙◌, sym, ap}
+use Rattle.std.proofs.Common.{List, ◌∙◌, sym, ap}
 use Rattle.ov_disk.specs.declared.change.Change.{Change}
 use Rattle.ov_disk.specs.Tape.{replayed, reads_of}
 use Rattle.ov_disk.proofs.Tapes.{push_sync}

@@ -1,8 +1,7 @@
-use Rattle.std.proofs.Common.{rules, ◌≡◌, ◌≤◌, List, ◌++◌, ◌∷◌, [], Some, length, ◌∙◌, sym, ap, subst}
+use Rattle.std.proofs.Common.{rules, ◌≡◌, ◌++◌, ◌∷◌, [], Some, ◌∙◌, sym, ap}
 use Rattle.std.specs.Option.{option_map}
-use Rattle.ov_disk.specs.declared.change.Change.{Change}
 use Rattle.ov_disk.specs.declared.change.Change.TheVariants.{Write}
-use Rattle.ov_disk.specs.Disk.{Image, bytes_of, written}
+use Rattle.ov_disk.specs.Disk.{Image, written}
 use Rattle.ov_disk.specs.Tape.{replayed, reads_of}
 use Rattle.ov_disk.proofs.Tapes.{push_write}
 use Rattle.ov_disk.proofs.memory.MemDisk.keep_write.Goals as goal
