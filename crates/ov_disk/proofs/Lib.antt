@@ -1,0 +1,4 @@
+pub mod Runs
+pub mod Stops
+pub mod Tapes
+pub mod Unordered

@@ -1,0 +1,7 @@
+pub mod Bytes
+pub mod Disk
+pub mod Model
+pub mod Moments
+pub mod Tape
+pub mod TapeLaws
+pub mod Untold

@@ -1,0 +1,108 @@
+-- A birth, call by call.
+use Rattle.std.proofs.Common.{◌≡◌, ◌≢◌, ◌⊎◌, inl, inr, ⊎_elim, ℕ, ◌+◌, ◌≤◌, ◌<◌, List, [], ◌∷◌, ◌++◌, length, take, drop, get_or, Option, Some, None, false, refl, sym, ◌∙◌, ap, subst, arith, length-append, length-drop, take-append-drop}
+use Rattle.std.proofs.lemmas.List.{drop_more, drop_all, drop_at, take_at, append-nil}
+use Rattle.std.proofs.lemmas.Bool.{cases_eq}
+use Rattle.ov_disk.specs.Disk.{Image, overwritten, written, Torn, TornIn, Follows, Narrows, Only, OnlyBook}
+use Rattle.ov_disk.specs.Moments.{Elapses, LeavesOnly}
+use Rattle.ov_disk.specs.declared.area.Area.TheVariants.{Book}
+use Rattle.ov_disk.proofs.Runs.{started, goes_on}
+use Rattle.ov_journal.specs.declared.header.Header.{Header}
+use Rattle.ov_journal.specs.Birth.{IsCleared}
+use Rattle.ov_journal.specs.Book.{header_bytes, spelled, records_after, contents_of, born}
+use Rattle.ov_journal.specs.Log.{IsUnbornOrEmpty, IsKept}
+use Rattle.ov_journal.specs.Standing.{IsUnborn}
+use Rattle.ov_journal.proofs.Reading.{records_after-drop}
+
+unborn : (gate : ℕ) (rest : List ℕ) → length rest ≤ 78 → gate ≢ 1 → IsUnborn (gate ∷ rest)
+unborn gate rest short shut = inr (omega (arith, short), shut)
+
+module _ (book : List ℕ) (r : IsCleared book) (h : Header) (frame : List ℕ) (long : length frame ≡ 78) (ends : frame ≡ header_bytes h ++ 0 ∷ []) where
+  pub now_unborn : IsUnborn book
+  now_unborn = subst IsUnborn (sym r.parts) (unborn r.gate r.rest r.short r.closed)
+
+  pub torn_head : (c : List ℕ) → Torn 1 78 book c → IsUnborn c
+  torn_head c torn =
+      let first : take 1 c ≡ r.gate ∷ [] = torn.before ∙ ap (λ (l : List ℕ). take 1 l) r.parts in
+      let whole : c ≡ r.gate ∷ drop 1 c = sym (take-append-drop 1 c) ∙ ap (λ (l : List ℕ). l ++ drop 1 c) first in
+      subst IsUnborn (sym whole) (unborn r.gate (drop 1 c) (omega (arith, length-drop 1 c, torn.no_longer, ap length r.parts, r.short)) r.closed)
+
+  is_headed : overwritten 1 frame book ≡ r.gate ∷ frame
+  is_headed =
+      ap (overwritten 1 frame) r.parts
+      ∙ ap (λ (l : List ℕ). (r.gate ∷ []) ++ frame ++ l) (drop_all (1 + length frame) (r.gate ∷ r.rest) (omega (arith, long, r.short)))
+      ∙ append-nil (r.gate ∷ frame)
+
+  pub is_open : overwritten 0 (1 ∷ []) (overwritten 1 frame book) ≡ 1 ∷ frame
+  is_open = ap (overwritten 0 (1 ∷ [])) is_headed
+
+  pub reads_empty : contents_of (1 ∷ frame) ≡ born h []
+  reads_empty =
+      let whole : 1 ∷ frame ≡ spelled h ++ 0 ∷ [] = ap (λ (l : List ℕ). 1 ∷ l) ends in
+      let size : length (spelled h) ≡ 78 = omega (arith, long, ap length ends, length-append (header_bytes h) (0 ∷ [])) in
+      let tail : drop 78 (1 ∷ frame) ≡ 0 ∷ [] = ap (λ (l : List ℕ). drop 78 l) whole ∙ drop_at (spelled h) (0 ∷ []) 78 size in
+      let head : take 78 (1 ∷ frame) ≡ spelled h = ap (λ (l : List ℕ). take 78 l) whole ∙ take_at (spelled h) (0 ∷ []) 78 size in
+      let records : records_after 78 (1 ∷ frame) ≡ record { bodies = []; bad = false } = records_after-drop 78 (1 ∷ frame) ∙ ap (records_after 0) tail in
+      λ i. record { head = head i; records = records i }
+
+  pub torn_gate : (c : List ℕ) → Torn 0 1 (overwritten 1 frame book) c → IsUnborn c ⊎ (contents_of c ≡ born h [])
+  torn_gate c torn =
+      let headed = ap length is_headed in
+      let after : drop 1 c ≡ frame = torn.after ∙ ap (λ (l : List ℕ). drop 1 l) is_headed in
+      let is : c ≡ get_or c 0 0 ∷ frame = drop_more c 0 0 (omega (arith, torn.no_shorter, headed)) ∙ ap (λ (l : List ℕ). get_or c 0 0 ∷ l) after in
+      elim (cases_eq (get_or c 0 0) 1) [
+        | inl open_gate ↦ inr (ap contents_of (is ∙ ap (λ (g : ℕ). g ∷ frame) open_gate) ∙ reads_empty)
+        | inr shut ↦ inl (subst IsUnborn (sym is) (unborn (get_or c 0 0) frame (omega (arith, long)) shut))
+      ]
+
+-- what holds before the first call of a header
+pub record HeaderBegun {D : Type 0} (moment : D → ℕ) (left_since : D → ℕ → Image → Type 0) (may_leave : D → Image → Type 0)
+    (d0 : D) (i : Image) (h : Header) (frame : List ℕ) : Type 0 where
+  pub only_now : (c : Image) → left_since d0 (moment d0) c → may_leave d0 c
+  pub cleared : IsCleared i.book × OnlyBook i.book (may_leave d0)
+  pub long : length frame ≡ 78
+  pub ends : frame ≡ header_bytes h ++ 0 ∷ []
+
+module _ {D : Type 0} {moment : D → ℕ} {left_since : D → ℕ → Image → Type 0} {may_leave : D → Image → Type 0}
+    {d0 : D} {i : Image} {h : Header} {frame : List ℕ} (s : HeaderBegun moment left_since may_leave d0 i h frame) where
+  abbrev P : Image → Type 0
+  P = IsUnbornOrEmpty h
+
+  head_crash : (new : Image → Type 0) → Follows (TornIn Book 1 (length frame)) (may_leave d0) new → (c : Image) → new c → P c
+  head_crash new follows c left =
+      let from = follows c left in
+      let torn : Torn 1 (length frame) i.book c.book = subst (λ (l : List ℕ). Torn 1 (length frame) l c.book) (s.cleared.1 from.0 from.1) from.2.0 in
+      inl (torn_head i.book s.cleared.0 h frame s.long s.ends c.book (subst (λ (n : ℕ). Torn 1 n i.book c.book) s.long torn))
+
+  gate_crash : (old new : Image → Type 0) → Only (written Book 1 frame i) old → Follows (TornIn Book 0 1) old new → (c : Image) → new c → P c
+  gate_crash old new only follows c left =
+      let from = follows c left in
+      torn_gate i.book s.cleared.0 h frame s.long s.ends c.book (subst (λ (l : List ℕ). Torn 0 1 l c.book) (ap (λ (j : Image). j.book) (only from.0 from.1)) from.2.0)
+
+  at_start : LeavesOnly moment left_since d0 d0 P
+  at_start = started moment left_since may_leave d0 P s.only_now (λ c now. inl (subst IsUnborn (sym (s.cleared.1 c now)) (now_unborn i.book s.cleared.0 h frame s.long s.ends)))
+
+  module _ (d1 : D) (time1 : Elapses moment left_since may_leave d0 d1) (crash1 : Follows (TornIn Book 1 (length frame)) (may_leave d0) (may_leave d1)) where
+    pub first : LeavesOnly moment left_since d0 d1 P
+    first = goes_on moment left_since may_leave d0 d0 d1 P at_start time1 (head_crash (may_leave d1) crash1)
+
+    module _ (d2 : D) (time2 : Elapses moment left_since may_leave d1 d2) (crash2 : Narrows (may_leave d1) (may_leave d2)) where
+      pub second : LeavesOnly moment left_since d0 d2 P
+      second = goes_on moment left_since may_leave d0 d1 d2 P first time2 (λ c left. head_crash (may_leave d1) crash1 c (crash2 c left))
+
+      module _ (durable : Only (written Book 1 frame i) (may_leave d2)) (d3 : D) (time3 : Elapses moment left_since may_leave d2 d3) (crash3 : Follows (TornIn Book 0 1) (may_leave d2) (may_leave d3)) where
+        pub third : LeavesOnly moment left_since d0 d3 P
+        third = goes_on moment left_since may_leave d0 d2 d3 P second time3 (gate_crash (may_leave d2) (may_leave d3) durable crash3)
+
+        pub fourth : (d4 : D) → Elapses moment left_since may_leave d3 d4 → Narrows (may_leave d3) (may_leave d4) → LeavesOnly moment left_since d0 d4 P
+        fourth d4 time4 crash4 = goes_on moment left_since may_leave d0 d3 d4 P third time4 (λ c left. gate_crash (may_leave d2) (may_leave d3) durable crash3 c (crash4 c left))
+
+-- after the last call
+pub is_born : (reads : Option Image) (may_leave : Image → Type 0) (i : Image) (r : IsCleared i.book) (h : Header) (frame : List ℕ) → length frame ≡ 78 → frame ≡ header_bytes h ++ 0 ∷ []
+    → reads ≡ Some (written Book 0 (1 ∷ []) (written Book 1 frame i)) → Only (written Book 0 (1 ∷ []) (written Book 1 frame i)) may_leave → IsKept reads may_leave (born h []) i.blobs
+is_born reads may_leave i r h frame long ends is only = record {
+  now = written Book 0 (1 ∷ []) (written Book 1 frame i);
+  is_read = is;
+  book = ap contents_of (is_open i.book r h frame long ends) ∙ reads_empty i.book r h frame long ends;
+  blobs_same = refl;
+  only = only;
+}

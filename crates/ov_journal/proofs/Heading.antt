@@ -1,0 +1,70 @@
+-- A header as it is read, and what a gate says as it is read.
+use Rattle.std.proofs.Common.{◌≡◌, inl, inr, ℕ, zero, suc, ◌+◌, ◌-◌, ◌≤◌, ◌<◌, min, List, [], ◌∷◌, ◌++◌, length, take, drop, get_or, Bool, true, false, ◌==◌, refl, sym, ◌∙◌, ap, subst, arith, take-append-drop, length-drop, lit<}
+use Rattle.std.proofs.lemmas.List.{take_all, drop_more, drop-take, drop-drop, get_or_past, get_or-take, get_or-drop, length-take, length-take-le}
+use Rattle.std.proofs.lemmas.Bool.{cases_lt}
+use Rattle.std.proofs.lemmas.Nat.{be_bytes_4}
+use Rattle.std.specs.Int.{w32, to_be_bytes, from_be_bytes}
+use Rattle.ov_base.specs.Modes.{mode_byte}
+use Rattle.ov_journal.specs.declared.header.Header.{Header}
+use Rattle.ov_journal.specs.Book.{magic, spelled, length_in, is_length, body_in, Records, past_gate, records_after}
+use Rattle.ov_journal.specs.Heads.{BeginsRecord}
+use Rattle.ov_journal.proofs.Reading.{Fits, fits_is, length-body_in, records_after-drop}
+
+-- a part of some bytes is bytes
+part_fits : (l : List ℕ) → ((i : ℕ) → get_or l i 0 < 256) → (n k i : ℕ) → get_or (take k (drop n l)) i 0 < 256
+part_fits l fits n k i = elim (cases_lt i k) [
+  | inl inside ↦ subst (λ (b : ℕ). b < 256) (sym (get_or-take k (drop n l) i 0 inside ∙ get_or-drop n l i 0)) (fits (n + i))
+  | inr past ↦ subst (λ (b : ℕ). b < 256) (sym (get_or_past (take k (drop n l)) i 0 (omega (arith, past, length-take k (drop n l))))) (lit< tt)
+]
+
+-- a header, part by part
+pub header_whole : (front : List ℕ) (h : Header) → length front ≡ 78 → ((i : ℕ) → get_or front i 0 < 256) → get_or front 0 0 ≡ 1 → take 8 (drop 1 front) ≡ magic → get_or front 9 0 ≡ mode_byte h.mode
+    → h.first ≡ from_be_bytes w32 (take 4 (drop 10 front)) → h.base_check ≡ take 32 (drop 4 (drop 10 front)) → h.surface_check ≡ drop 32 (drop 4 (drop 10 front)) → front ≡ spelled h
+header_whole front h long fits gate is_magic mode first base surface =
+    let rest = drop 10 front in
+    let field : to_be_bytes w32 h.first ≡ take 4 rest =
+    be_bytes_4 (take 4 rest) h.first (omega (arith, long, length-take 4 rest, length-drop 10 front)) (part_fits front fits 10 4) first in
+    let tail : rest ≡ to_be_bytes w32 h.first ++ (h.base_check ++ h.surface_check) =
+    sym (take-append-drop 4 rest) ∙ (λ i. sym field i ++ sym (take-append-drop 32 (drop 4 rest)) i) ∙ (λ i. to_be_bytes w32 h.first ++ (sym base i ++ sym surface i)) in
+    let behind : drop 9 front ≡ mode_byte h.mode ∷ (to_be_bytes w32 h.first ++ (h.base_check ++ h.surface_check)) =
+    drop_more front 9 0 (omega (arith, long)) ∙ (λ i. mode i ∷ tail i) in
+    let more : drop 1 front ≡ magic ++ (mode_byte h.mode ∷ (to_be_bytes w32 h.first ++ (h.base_check ++ h.surface_check))) =
+    sym (take-append-drop 8 (drop 1 front)) ∙ (λ i. is_magic i ++ drop-drop 8 1 front i) ∙ ap (λ (l : List ℕ). magic ++ l) behind in
+    drop_more front 0 0 (omega (arith, long)) ∙ (λ i. gate i ∷ more i)
+
+-- a record, gate and length
+pub begins : (bytes : List ℕ) (count : ℕ) → get_or bytes 0 0 ≡ 1 → count ≡ length_in (drop 1 bytes) → 1 ≤ count → count ≤ 1114112 → count + 5 ≤ length bytes - 1 → BeginsRecord count bytes
+begins [] count gate is some most room = absurd (omega (arith, room))
+begins (g ∷ rest) count gate is some most room =
+    let f : Fits rest = record { some = omega (arith, is, some); most = omega (arith, is, most); room = omega (arith, is, room) } in
+    let skip : 4 + count ≡ length_in rest + 4 = omega (arith, is) in
+    let tail : records_after (length_in rest + 4) rest ≡ records_after 0 (drop (4 + count) rest) =
+    records_after-drop (length_in rest + 4) rest ∙ ap (λ (m : ℕ). records_after 0 (drop m rest)) (sym skip) in
+    let behind : drop (5 + count) (g ∷ rest) ≡ drop (4 + count) rest =
+    let next : 5 + count ≡ suc (4 + count) = omega arith in ap (λ (m : ℕ). drop m (g ∷ rest)) next in
+    let here : records_after 0 (g ∷ rest) ≡ record { bodies = body_in rest ∷ (records_after 0 (drop (4 + count) rest)).bodies; bad = (records_after 0 (drop (4 + count) rest)).bad } =
+    ap (λ (x : ℕ). records_after 0 (x ∷ rest)) gate ∙ (λ i. past_gate true (fits_is rest f i) (body_in rest) (tail i)) in
+    record {
+      body = body_in rest;
+      long = length-body_in rest f ∙ sym is;
+      most = most;
+      inside = omega (arith, room);
+      bodies = ap (λ (r : Records). r.bodies) here ∙ ap (λ (l : List ℕ). body_in rest ∷ (records_after 0 l).bodies) (sym behind);
+      bad = ap (λ (r : Records). r.bad) here ∙ ap (λ (l : List ℕ). (records_after 0 l).bad) (sym behind);
+    }
+
+-- the length field of a record whose first five bytes were read
+pub field_in : (bytes : List ℕ) → length_in (drop 1 bytes) ≡ from_be_bytes w32 (drop 1 (take 5 bytes))
+field_in bytes = ap (λ (l : List ℕ). from_be_bytes w32 l) (sym (drop-take 1 4 bytes))
+
+take_long : (n : ℕ) (l : List ℕ) → take (min n (length l)) l ≡ take n l
+take_long n l = elim (cases_lt n (length l)) [
+  | inl short ↦ let same : min n (length l) ≡ n = omega (arith, short) in ap (λ (m : ℕ). take m l) same
+  | inr long ↦ let same : min n (length l) ≡ length l = omega (arith, long) in ap (λ (m : ℕ). take m l) same ∙ take_all (length l) l (omega arith) ∙ sym (take_all n l long)
+]
+
+-- what was read, as many bytes as there are and no more than k
+pub front_read : (x l : List ℕ) (n k : ℕ) → x ≡ take n l → length x ≡ min k (length l) → x ≡ take k l
+front_read x l n k is long =
+    let size : min n (length l) ≡ min k (length l) = omega (arith, sym (length-take n l), ap length is, long) in
+    is ∙ sym (take_long n l) ∙ ap (λ (m : ℕ). take m l) size ∙ take_long k l

@@ -1,0 +1,10 @@
+pub mod Appending
+pub mod Beginning
+pub mod Clearing
+pub mod Ends
+pub mod Heading
+pub mod Logs
+pub mod Reading
+pub mod Records
+pub mod Runs
+pub mod Scanning

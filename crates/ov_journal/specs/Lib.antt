@@ -1,0 +1,7 @@
+pub mod Birth
+pub mod Book
+pub mod Finding
+pub mod Frames
+pub mod Heads
+pub mod Log
+pub mod Standing

@@ -1,0 +1,93 @@
+//! The header of a Book.
+ghost use Rattle.std.specs.Prelude.{◌≡◌, ◌≤◌, ◌↔◌, ◌++◌, ◌∷◌, [], length, take, drop, slice_index, IsTrue, IfOk};
+ghost use Rattle.ov_base.specs.Modes.{mode_byte};
+ghost use Rattle.ov_journal.specs.Book.{header_bytes, magic, spelled};
+
+use ov_base::{Memory, Mode};
+use std::alloc::Global;
+
+/// What the header of a store holds.
+#[derive(Clone, Copy, Debug, PartialEq, Eq)]
+pub struct Header {
+    /// When a file has a surface layer.
+    pub mode: Mode,
+    /// The epoch at which the store began.
+    pub first: u32,
+    /// The check value of the base master.
+    pub base_check: [u8; 32],
+    /// The check value of the surface master.
+    pub surface_check: [u8; 32],
+}
+
+/// How many bytes a header has, its gate among them.
+pub(crate) const HEADER: u64 = 78;
+
+/// The greatest length of a body.
+pub(crate) const MOST: u32 = 1_114_112;
+
+// What stands behind the header's gate.
+const MAGIC: [u8; 8] = *b"OVERENC0";
+
+// The header behind its gate, and the closed gate of a record that isn't there.
+pub(crate) fn frame_of(alloc: Global, header: &Header) -> Result<Vec<u8>, Memory>
+    ensures bytes { IfOk result (λ frame. frame.items ≡ header_bytes header.now ++ 0 ∷ []) }
+    ensures long { IfOk result (λ frame. length frame.items ≡ 78) }
+{
+    let mut frame = Vec::new(alloc);
+    frame.extend_from_slice(&MAGIC)?;
+    frame.push(header.mode.byte())?;
+    frame.extend_from_slice(&header.first.to_be_bytes())?;
+    frame.extend_from_slice(&header.base_check)?;
+    frame.extend_from_slice(&header.surface_check)?;
+    frame.push(0)?;
+    Ok(frame)
+}
+
+// Whether the magic stands behind the gate.
+pub(crate) fn is_magic(front: &[u8]) -> bool
+    requires { 9 ≤ length front.now }
+    ensures { IsTrue result ↔ (take 8 (drop 1 front.now) ≡ magic) }
+{
+    let (_, rest) = front.split_at(1);
+    let (found, _) = rest.split_at(8);
+    found == MAGIC.as_slice()
+}
+
+// The header of these 78 bytes, which begin with an open gate and the magic.
+pub(crate) fn header_in(front: &[u8], mode: Mode) -> Header
+    requires long { length front.now ≡ 78 }
+    requires gate { slice_index front.now 0 ≡ 1 }
+    requires magic { take 8 (drop 1 front.now) ≡ magic }
+    requires mode { slice_index front.now 9 ≡ mode_byte mode }
+    ensures { front.now ≡ spelled result }
+{
+    let (_, rest) = front.split_at(10);
+    let (first, rest) = rest.split_at(4);
+    let (base, surface) = rest.split_at(32);
+    Header {
+        mode,
+        first: u32::from_be_bytes(array4(first)),
+        base_check: array32(base),
+        surface_check: array32(surface),
+    }
+}
+
+// The four bytes as an array.
+pub(crate) fn array4(bytes: &[u8]) -> [u8; 4]
+    requires { length bytes.now ≡ 4 }
+    ensures { result ≡ bytes.now }
+{
+    let mut array = [0; 4];
+    array.copy_from_slice(bytes);
+    array
+}
+
+// The 32 bytes as an array.
+fn array32(bytes: &[u8]) -> [u8; 32]
+    requires { length bytes.now ≡ 32 }
+    ensures { result ≡ bytes.now }
+{
+    let mut array = [0; 32];
+    array.copy_from_slice(bytes);
+    array
+}

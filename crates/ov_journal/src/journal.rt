@@ -1,0 +1,175 @@
+//! A journal: where its records are, and room for the next one.
+ghost use Rattle.std.specs.Prelude.{◌≡◌, ℕ, ◌≤◌, ◌<◌, ◌+◌, ◌-◌, ◌*◌, ◌^◌, ◌++◌, ◌∷◌, [], Some, IsTrue, IfOk, OnOk, OnErr, MatchResult, length, slice_index, false, vec_len, vec_capacity};
+ghost use Rattle.ov_base.specs.Causes.{HasCause};
+ghost use Rattle.ov_disk.specs.Disk.{Told};
+ghost use Rattle.ov_disk.specs.Moments.{LeavesOnly};
+ghost use Rattle.ov_journal.specs.Book.{contents_of, with_body};
+ghost use Rattle.ov_journal.specs.Finding.{place_if};
+ghost use Rattle.ov_journal.specs.Log.{HasSameRecords, appended, IsBeforeOrAfter, IsKept, Stands};
+
+use crate::header::HEADER;
+use crate::record::put_record;
+use ov_base::Memory;
+use ov_disk::{Disk, DiskFault};
+use std::alloc::Global;
+use std::marker::Model;
+
+/// The records of a Book, by the places of their gates. It stands for a Book and its disk by `Stands`.
+#[derive(Drop)]
+pub struct Journal {
+    offsets: Vec<u64>,
+    end: u64,
+    bad: bool,
+    room: usize,
+    longest: u32,
+    frame: Vec<u8>,
+}
+
+impl Model for Journal {
+    ghost use Rattle.std.specs.Prelude.{◌≤◌, ◌<◌, ◌+◌, ◌*◌, ◌-◌, ◌^◌, length, vec_len, vec_capacity};
+    ghost use Rattle.ov_journal.specs.Log.{Log};
+
+    ghost Value = { Log };
+
+    ghost view = { λ j. record {
+      offsets = j.offsets.items;
+      end = j.end;
+      bad = j.bad;
+      room = j.room;
+      longest = j.longest;
+    } };
+
+    ghost invariant = { λ j. (vec_len j.offsets + j.room ≤ vec_capacity j.offsets)
+        × (j.longest ≤ vec_capacity j.frame - 5)
+        × (j.end < 2 ^ 64 - 1)
+        × (j.end ≤ 78 + 1114117 * length j.offsets.items) };
+}
+
+// Pushes where there is room.
+fn push_reserved(offsets: &mut Vec<u64>, offset: u64)
+    requires { vec_len offsets.old < vec_capacity offsets.old }
+    ensures items { offsets.new.items ≡ offsets.old.items ++ offset ∷ [] }
+    ensures len { vec_len offsets.new ≡ vec_len offsets.old + 1 }
+    ensures capacity { vec_capacity offsets.old ≤ vec_capacity offsets.new }
+{
+    let _ = offsets.push(offset);
+}
+
+impl Journal {
+    /// No records yet, behind a header.
+    pub(crate) fn empty(alloc: Global) -> Journal
+        ensures { result ≡ record { offsets = []; end = 78; bad = false; room = 0; longest = 0 } }
+    {
+        Journal {
+            offsets: Vec::new(alloc),
+            end: HEADER,
+            bad: false,
+            room: 0,
+            longest: 0,
+            frame: Vec::new(alloc),
+        }
+    }
+
+    /// The records that were found in a Book.
+    pub(crate) fn found(alloc: Global, offsets: Vec<u64>, end: u64, bad: bool) -> Journal
+        requires end { (end < 2 ^ 64 - 1) × (end ≤ 78 + 1114117 * length offsets.items) }
+        ensures { result ≡ record { offsets = offsets.items; end = end; bad = bad; room = 0; longest = 0 } }
+    {
+        Journal {
+            offsets,
+            end,
+            bad,
+            room: 0,
+            longest: 0,
+            frame: Vec::new(alloc),
+        }
+    }
+
+    /// The place of the length that can't be, where there is one.
+    pub(crate) fn bad_place(&self) -> Option<u64>
+        ensures { result ≡ place_if self.now.bad self.now.end }
+    {
+        if self.bad { Some(self.end + 1) } else { None }
+    }
+
+    /// How many records there are.
+    pub fn count(&self) -> u64
+        ensures { result ≡ length self.now.offsets }
+    {
+        self.offsets.len() as u64
+    }
+
+    /// The place of the gate of record `i` in Book.
+    pub fn offset(&self, i: u64) -> u64
+        requires { i < length self.now.offsets }
+        ensures { result ≡ slice_index self.now.offsets i }
+    {
+        self.offsets[i as usize]
+    }
+
+    /// Where the body of record `i` begins, and how many bytes stand before the next gate.
+    pub(crate) fn body_range(&self, i: u64) -> (u64, usize)
+        requires { i < length self.now.offsets }
+        ensures { (count : ℕ) → slice_index (self.now.offsets ++ self.now.end ∷ []) (i + 1)
+            ≡ slice_index self.now.offsets i + 5 + count → result ≡ (slice_index self.now.offsets i + 5, count) }
+    {
+        let i = i as usize;
+        let start = self.offsets[i].saturating_add(5);
+        let next = if i + 1 < self.offsets.len() {
+            self.offsets[i + 1]
+        } else {
+            self.end
+        };
+        (start, next.saturating_sub(start) as usize)
+    }
+
+    /// Makes room for one more record, and a buffer for a body of `length` bytes. The buffer never
+    /// shrinks, and it stays after an append.
+    pub fn reserve(&mut self, length: u32) -> Result<(), Memory>
+        ensures room { OnOk result (self.new.room ≡ self.old.room + 1) }
+        ensures longest { OnOk result (length ≤ self.new.longest) }
+        ensures never_less { (self.old.room ≤ self.new.room) × (self.old.longest ≤ self.new.longest) }
+        ensures same { HasSameRecords self.old self.new }
+    {
+        let room = self.room.checked_add(1).ok_or(Memory)?;
+        self.offsets.reserve(room)?;
+        if length > self.longest {
+            self.frame.clear();
+            self.frame.reserve(length as usize + 5)?;
+            self.longest = length;
+        }
+        self.room = room;
+        Ok(())
+    }
+
+    /// Adds a record with this body, behind the last. It makes four calls of the disk: the record behind
+    /// its closed gate, a sync, the open gate, a sync. It takes no memory.
+    ///
+    /// After a fault the journal is as it was, but Book may have the body or not: open it again.
+    pub fn append<D: Disk>(&mut self, disk: &mut D, body: &[u8]) -> Result<(), DiskFault>
+        requires whole { self.old.bad ≡ false }
+        requires count { length self.old.offsets < 2 ^ 40 }
+        requires room { 0 < self.old.room }
+        requires body { (1 ≤ length body.now) × (length body.now ≤ 1114112) × (length body.now ≤ self.old.longest) }
+        requires stands { Stands self.old (D.reads disk.old) (D.may_leave disk.old) }
+
+        // A crash at any moment of the call leaves the bodies from before it, with this one or without.
+        ensures any_moment { Told (D.reads disk.old) (λ i.
+            LeavesOnly D.moment D.left_since disk.old disk.new (IsBeforeOrAfter (D.may_leave disk.old) i body.now)) }
+
+        // At `Ok` each image that a crash may leave has the body.
+        ensures acknowledged { OnOk result (Told (D.reads disk.old) (λ i.
+            IsKept (D.reads disk.new) (D.may_leave disk.new) (with_body body.now (contents_of i.book)) i.blobs)) }
+        ensures stands { OnOk result (Stands self.new (D.reads disk.new) (D.may_leave disk.new)) }
+
+        ensures log { MatchResult result (λ _. self.new ≡ appended (length body.now) self.old) (λ _. self.new ≡ self.old) }
+        ensures same { D.borrow disk.new ≡ D.borrow disk.old }
+        ensures cause { HasCause (D.faults disk.old) (D.faults disk.new) result }
+    {
+        put_record(disk, self.end, &mut self.frame, body)?;
+        push_reserved(&mut self.offsets, self.end);
+        self.end += 5 + body.len() as u64;
+        self.room -= 1;
+        Ok(())
+    }
+}

@@ -1,0 +1,38 @@
+//! Reading a record's body.
+ghost use Rattle.std.specs.Prelude.{◌≡◌, ◌≤◌, ◌<◌, ◌++◌, List, ℕ, OnOk, OnErr, IsErrOf, length};
+ghost use Rattle.ov_base.specs.Causes.{Rose};
+ghost use Rattle.ov_disk.specs.Disk.{Told};
+ghost use Rattle.ov_disk.specs.Moments.{IsUntouched};
+ghost use Rattle.ov_journal.specs.Log.{HasRecord};
+ghost use Rattle.ov_journal.specs.declared.fault.CheckFault.TheVariants.{Disk as DiskFailed};
+
+use crate::{CheckFault, Journal};
+use ov_disk::{Area, Disk};
+
+impl Journal {
+    /// Appends the body of record `i` to `out`.
+    pub fn body<D: Disk>(&self, disk: &mut D, i: u64, out: &mut Vec<u8>) -> Result<(), CheckFault>
+        requires within { i < length self.now.offsets }
+        requires there { Told (D.reads disk.old) (λ d. (body : List ℕ) × HasRecord self.now i body d.book) }
+        ensures bytes { OnOk result (Told (D.reads disk.old) (λ d.
+            (body : List ℕ) → HasRecord self.now i body d.book → out.new.items ≡ out.old.items ++ body)) }
+        ensures err { OnErr result (out.new.items ≡ out.old.items) }
+        ensures untouched { IsUntouched D.moment D.left_since D.may_leave D.reads disk.old disk.new }
+        ensures same { D.borrow disk.new ≡ D.borrow disk.old }
+        ensures later { D.faults disk.old ≤ D.faults disk.new }
+        ensures failed { IsErrOf result DiskFailed → Rose (D.faults disk.old) (D.faults disk.new) }
+    {
+        let (start, count) = self.body_range(i);
+        let old = out.len();
+        let size = old.checked_add(count).ok_or(CheckFault::Memory)?;
+        out.resize(size, 0)?;
+        let (_, tail) = out.as_mut_slice().split_at_mut(old);
+        match disk.read(Area::Book, start, tail) {
+            Ok(()) => Ok(()),
+            Err(_) => {
+                out.truncate(old);
+                Err(CheckFault::Disk)
+            }
+        }
+    }
+}
