@@ -1,0 +1,6 @@
+//! Updates of the catalogue.
+#![tactic(auto)]
+
+mod update;
+
+pub use update::Update;
