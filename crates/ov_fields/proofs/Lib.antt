@@ -1,0 +1,5 @@
+pub mod FieldLaws
+pub mod ListLaws
+pub mod NameLaws
+pub mod ReadingLaws
+pub mod WholeLaws
