@@ -1,3 +1,6 @@
+pub mod Causes
+pub mod Modes
+pub mod NameLists
 pub mod Names
 pub mod Refusals
 pub mod Sets

@@ -1,29 +1,35 @@
 //! The words that every other crate of the store speaks: names, bytes, sets of users, refusals,
 //! keys and want of memory.
 //!
-//! A [`Name`] is a user's or a file's name and holds only bytes that may stand in one; [`Octets`]
-//! is a list of bytes on the heap; a [`UserSet`] is a set of users, of any width; a [`Refusal`]
-//! says by number and word why the access-matrix machine refuses a command; a [`Key`] is 32 bytes
-//! that no text shows; [`Memory`] is the one answer that may come from any call that allocates.
+//! A [`Name`] is a user's or a file's name and holds only bytes that may stand in one; [`Names`] is
+//! a list of distinct names; [`Octets`] is a list of bytes on the heap; a [`UserSet`] is a set of
+//! users, of any width; a [`Mode`] says when a file has a surface layer; a [`Refusal`] says by
+//! number and word why the access-matrix machine refuses a command; a [`Key`] is 32 bytes that no
+//! text shows; [`Memory`] is the one answer that may come from any call that allocates.
 //!
 //! Contracts see a name and octets as the list of their bytes, so a clause compares them with `≡`
 //! and knows nothing of how they are kept. They see a set of users as the number whose bits are its
 //! members, behind the words of `specs/Sets`, and with no width: two sets with the same members are
 //! equal. Its laws stand in `proofs/`: `SetLaws` on members, `SetSizes` on sizes and `SetBytes` on
 //! the written form. `specs/Names` says which bytes are a name, `specs/Refusals` gives each refusal
-//! its number and its word.
+//! its number and its word, and `specs/Causes` says what it is that a count of faults rose, which
+//! every contract of a fault rests on.
 #![tactic(auto)]
 
 mod key;
 mod memory;
+mod mode;
 mod name;
+mod names;
 mod octets;
 mod refusal;
 mod user_set;
 
 pub use key::Key;
 pub use memory::Memory;
+pub use mode::Mode;
 pub use name::Name;
+pub use names::Names;
 pub use octets::Octets;
 pub use refusal::Refusal;
 pub use user_set::{UserSet, Users};

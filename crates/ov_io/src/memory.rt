@@ -2,7 +2,8 @@
 ghost use Rattle.std.specs.Prelude.{◌≡◌, ◌≤◌, ◌<◌, ◌↔◌, [], length, take, drop, Some, IsTrue, IsErr, IfOk, OnErr, Contains, min, ◌+◌, ◌-◌, ◌^◌};
 ghost use Rattle.std.specs.Io.{ReadsAtMost};
 ghost use Rattle.std.specs.Io.KnownBytes.{ReadConsumes};
-ghost use Rattle.ov_io.specs.Causes.{HasCause, Counts, Puts};
+ghost use Rattle.ov_base.specs.Causes.{HasCause, Counts};
+ghost use Rattle.ov_io.specs.Putting.{Puts};
 ghost use Rattle.ov_io.specs.Memory.{Reads, Writes, IsCall};
 
 use crate::{Fault, Sink, Source};

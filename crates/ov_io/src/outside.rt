@@ -3,7 +3,8 @@
 ghost use Rattle.std.specs.Prelude.{◌≡◌, ◌≤◌, length, take};
 ghost use Rattle.std.specs.Io.{ReadsAtMost};
 ghost use Rattle.std.specs.Io.KnownBytes.{Appends, ReadConsumes};
-ghost use Rattle.ov_io.specs.Causes.{HasCause, Counts, Puts};
+ghost use Rattle.ov_base.specs.Causes.{HasCause, Counts};
+ghost use Rattle.ov_io.specs.Putting.{Puts};
 
 use crate::{Fault, Sink, Source};
 use std::io::{Read, Write};

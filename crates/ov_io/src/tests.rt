@@ -1,8 +1,9 @@
 //! Pieces, faults and short writes.
 ghost use Rattle.std.specs.Prelude.{None};
 
-use crate::{MemSink, MemSource, Sink, Source, StdSink, StdSource};
+use crate::{FileSource, MemSink, MemSource, Sink, Source, StdSink, StdSource};
 use ov_base::Octets;
+use std::fs;
 use std::io::{self, Cursor, ErrorKind, Read, Write};
 use std::test::Fail;
 
@@ -73,4 +74,18 @@ fn over_readers_and_writers(rt: HostRuntime) {
     assert!(rt; failing.take(&mut buf).is_err());
     assert!(rt; StdSink::new(Once { used: false }).put(b"x").is_ok());
     assert!(rt; StdSink::new(Once { used: false }).put(b"xy").is_err());
+}
+
+#[test]
+fn a_file_is_opened_at_the_first_take(rt: HostRuntime) -> Result<(), Fail> {
+    let path = "a_file_is_opened_at_the_first_take.bytes";
+    let mut buf = [0u8; 8];
+    let mut source = FileSource::new(rt, path)?;
+    assert!(rt; source.take(&mut buf).is_err());
+    fs::write(&rt, path, b"hello".as_slice())?;
+    assert_eq!(rt; source.take(&mut buf), Ok(5));
+    assert_eq!(rt; buf, *b"hello\0\0\0");
+    assert_eq!(rt; source.take(&mut buf), Ok(0));
+    fs::remove_file(&rt, path)?;
+    Ok(())
 }

@@ -2,7 +2,8 @@
 ghost use Rattle.std.specs.Prelude.{◌≡◌, ℕ, List, Option};
 ghost use Rattle.std.specs.Io.{ReadsAtMost};
 ghost use Rattle.std.specs.Io.KnownBytes.{ReadConsumes};
-ghost use Rattle.ov_io.specs.Causes.{HasCause, Puts};
+ghost use Rattle.ov_base.specs.Causes.{HasCause};
+ghost use Rattle.ov_io.specs.Putting.{Puts};
 
 /// A read or a write failed.
 #[derive(Clone, Copy, Debug, PartialEq, Eq)]

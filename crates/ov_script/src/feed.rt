@@ -1,7 +1,7 @@
 //! A source with the bytes that were taken from it and not yet used.
 ghost use Rattle.std.specs.Prelude.{◌≡◌, ℕ, List, ◌+◌, ◌-◌, ◌≤◌, ◌<◌, [], ◌++◌, length, take, drop, vec_len, MatchResult, IfOk};
 ghost use Rattle.std.specs.Io.KnownBytes.{Consumes, Keeps, IsAtEnd};
-ghost use Rattle.ov_io.specs.Causes.{HasCause};
+ghost use Rattle.ov_base.specs.Causes.{HasCause};
 ghost use Rattle.ov_script.specs.Feed.{Fed};
 
 use ov_base::Memory;

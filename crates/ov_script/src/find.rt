@@ -1,7 +1,7 @@
 //! What stands at the front of a text, found over pieces of any size.
 ghost use Rattle.std.specs.Prelude.{◌≡◌, ◌⊎◌, ℕ, List, Option, [], ◌∷◌, ◌++◌, ◌+◌, ◌<◌, ◌≤◌, length, take, IfOk, IfSome, IfNone, OnErr};
 ghost use Rattle.std.specs.Io.KnownBytes.{IsAtEnd};
-ghost use Rattle.ov_io.specs.Causes.{HasCause};
+ghost use Rattle.ov_base.specs.Causes.{HasCause};
 ghost use Rattle.ov_script.specs.Feed.{Takes};
 ghost use Rattle.ov_script.specs.Finding.{Finds, IsUnsettled, TakesWhatItNeeds};
 ghost use Rattle.ov_script.specs.Items.{longest_line};

@@ -1,7 +1,7 @@
 //! Scripts, item by item.
 ghost use Rattle.std.specs.Prelude.{◌≡◌, ◌⊎◌, ◌+◌, ◌<◌, ◌≤◌, [], IfOk, IfSome, IsErrOf, None, Some};
 ghost use Rattle.std.specs.Option.{option_map};
-ghost use Rattle.ov_io.specs.Causes.{Rose};
+ghost use Rattle.ov_base.specs.Causes.{Rose};
 ghost use Rattle.ov_script.specs.Finding.{TakesWhatItNeeds};
 ghost use Rattle.ov_script.specs.Saying.{SaysOf, IfCommand};
 ghost use Rattle.ov_script.specs.Place.{Place, start, answer_of, ends_with};

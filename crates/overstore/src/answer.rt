@@ -1,6 +1,6 @@
 //! A script, answered command by command.
 ghost use Rattle.std.specs.Prelude.{◌≡◌, ◌≤◌, [], IfSome, None, Some, OnErr};
-ghost use Rattle.ov_io.specs.Causes.{Rose};
+ghost use Rattle.ov_base.specs.Causes.{Rose};
 ghost use Rattle.ov_model.specs.History.{History};
 ghost use Rattle.ov_script.specs.Lines.{reply_line};
 ghost use Rattle.ov_script.specs.Place.{text_left};

@@ -1,6 +1,6 @@
 //! The last line of a run, and its status.
 ghost use Rattle.std.specs.Prelude.{◌≡◌, ◌≢◌, ◌⊎◌, ◌≤◌};
-ghost use Rattle.ov_io.specs.Causes.{Rose};
+ghost use Rattle.ov_base.specs.Causes.{Rose};
 ghost use Rattle.ov_model.specs.History.{empty};
 ghost use Rattle.ov_script.specs.Lines.{reply_line};
 ghost use Rattle.ov_script.specs.Reading.{BadAt};

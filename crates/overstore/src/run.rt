@@ -1,7 +1,7 @@
 //! The top call.
 ghost use Rattle.std.specs.Prelude.{◌≡◌, ◌≢◌, ◌↔◌, ℕ, IfSome, IsTrue};
 ghost use Rattle.std.specs.Io.KnownBytes.{Appends};
-ghost use Rattle.ov_io.specs.Causes.{Rose};
+ghost use Rattle.ov_base.specs.Causes.{Rose};
 ghost use Rattle.ov_script.specs.Reading.{AtEnd, BadAt, TooLong};
 ghost use Rattle.overstore.specs.Answering.{Concluded, EndsIn};
 ghost use Rattle.overstore.specs.Printing.{Answered, ReadFault, OutOfMemory, Prints, PrintsFront};

@@ -1,6 +1,5 @@
--- Counts of faults, and what a call does to the bytes of a sink.
-use Rattle.std.specs.Prelude.{◌≡◌, ℕ, ◌+◌, ◌-◌, ◌^◌, ◌≤◌, List, take, Option, Result, OnErr, MatchResult, min}
-use Rattle.std.specs.Io.KnownBytes.{Appends}
+-- Counts of faults.
+use Rattle.std.specs.Prelude.{◌≡◌, ℕ, ◌+◌, ◌-◌, ◌^◌, ◌≤◌, Result, OnErr, MatchResult, min}
 
 -- A count rose. One that stands at its last value can't, and is then said to have risen. A sum of
 -- counts rises where one of them does, and one that stands at this value or above is said to have
@@ -16,8 +15,3 @@ pub record HasCause {T E : Type 0} (before now : ℕ) (result : Result T E) : Ty
 -- the count stays at Ok, and rises by one at an error; at its last value it stands still
 abbrev pub Counts : {T E : Type 0} → ℕ → ℕ → Result T E → Type 0
 Counts before now result = MatchResult result (λ _. now ≡ before) (λ _. now ≡ min (before + 1) (2 ^ 64 - 1))
-
--- at Ok all the bytes were appended, at Err a front of them
-abbrev pub Puts : {E : Type 0} → Option (List ℕ) → Option (List ℕ) → Result Unit E → List ℕ → Type 0
-Puts old new result bytes =
-    MatchResult result (λ _. Appends old new bytes) (λ _. (n : ℕ) × Appends old new (take n bytes))
