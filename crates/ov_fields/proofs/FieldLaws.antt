@@ -26,7 +26,7 @@ test_again false left x h = absurd cc
 
 -- ---- a byte
 
-byte_takes : (test : ℕ → Bool) (bytes : List ℕ) (x : ℕ × List ℕ) → byte_at test bytes ≡ Ok x → IsTrue (test x.0) × (bytes ≡ x.0 ∷ x.1)
+pub byte_takes : (test : ℕ → Bool) (bytes : List ℕ) (x : ℕ × List ℕ) → byte_at test bytes ≡ Ok x → IsTrue (test x.0) × (bytes ≡ x.0 ∷ x.1)
 unfolding byte_at
 byte_takes test [] x e = absurd cc
 byte_takes test (b ∷ bytes) x e =

@@ -1,5 +1,6 @@
 pub mod FieldLaws
 pub mod ListLaws
+pub mod Loops
 pub mod NameLaws
 pub mod ReadingLaws
 pub mod WholeLaws

@@ -1,13 +1,15 @@
 -- Names and tokens as fields.
-use Rattle.std.proofs.Common.{◌≡◌, ℕ, zero, suc, ◌+◌, ◌-◌, ◌^◌, ◌<◌, ◌≤◌, Bool, true, false, ◌&&◌, IsTrue, nat_lt, List, [], ◌∷◌, ◌++◌, length, Result, Ok, Err, refl, sym, ap, subst, ◌∙◌, append_assoc, length-append, arith}
+use Rattle.std.proofs.Common.{◌≡◌, ℕ, zero, suc, ◌+◌, ◌-◌, ◌^◌, ◌<◌, ◌≤◌, Bool, true, false, ◌&&◌, IsTrue, nat_lt, List, [], ◌∷◌, ◌++◌, length, take, drop, Result, Ok, Err, refl, sym, ap, subst, ◌∙◌, append_assoc, length-append, add-one, arith}
 use Rattle.std.specs.List.{flat_map, list_all, AllByRecursion}
 use Rattle.std.proofs.lemmas.Bool.Decides.{nat_tests}
+use Rattle.std.proofs.lemmas.List.{take_at}
 use Rattle.ov_base.specs.Names.{is_letter_or_digit, is_name_byte, is_name, IsName}
 use Rattle.ov_tokens.specs.declared.token.Token.{Token}
 use Rattle.ov_fields.specs.Spelling.{u8, name_field, token_field}
 use Rattle.ov_fields.specs.Reading.{Read, ◌>>=◌, between, byte_at, bytes_at, many_at, text_at, name_at, token_at, token_of}
 use Rattle.ov_fields.proofs.ReadingLaws.{AreBytes, AreBytes-back, bind_ok, bind_err, fails_first, fails_later, done, ok_is, no_error, Reads, made_reads, given_reads, sized_by}
-use Rattle.ov_fields.proofs.FieldLaws.{byte_reads, bytes_reads}
+use Rattle.ov_fields.proofs.FieldLaws.{byte_takes, byte_reads, bytes_reads}
+use Rattle.ov_fields.proofs.Loops.{with_front, goes_on, ends, is_done}
 use Rattle.ov_fields.proofs.ListLaws.{many_reads, Reads-more}
 
 -- ---- names
@@ -116,3 +118,59 @@ IsToken token = length token.bytes ≡ 32
 
 pub token_reads : Reads token_at token_field (λ token. length token.bytes ≡ 32) 32
 token_reads = made_reads token_of (λ token. token.bytes) (λ bytes. refl) (λ token. refl) (bytes_reads 32)
+
+-- ---- the bytes of a name, as a loop reads them
+
+front_step : (i : ℕ) (bytes : List ℕ) (b : ℕ) (after : List ℕ) → drop i bytes ≡ b ∷ after
+    → (take (suc i) bytes ≡ take i bytes ++ b ∷ []) × (after ≡ drop (suc i) bytes) × (suc i ≤ length bytes)
+front_step zero [] b after e = absurd cc
+front_step (suc i) [] b after e = absurd cc
+front_step zero (x ∷ bytes) b after e = let same : x ≡ b = cc in let rest : bytes ≡ after = cc in (ap (λ (y : ℕ). y ∷ []) same, sym rest, omega arith)
+front_step (suc i) (x ∷ bytes) b after e =
+    let t = front_step i bytes b after e in (ap (λ (l : List ℕ). x ∷ l) t.0, t.1, omega (arith, t.2))
+
+-- so many of the bytes were read
+pub record Passes (count i : ℕ) (bytes rest : List ℕ) : Type 0 where
+  pub read : with_front (take i bytes) (many_at (byte_at is_name_byte) (count - i) rest) ≡ many_at (byte_at is_name_byte) count bytes
+  pub is_rest : rest ≡ drop i bytes
+  pub within : i ≤ length bytes
+
+pub passes_on : (count i : ℕ) (bytes rest : List ℕ) (b : ℕ) (after : List ℕ) → i < count → byte_at is_name_byte rest ≡ Ok (b, after) → Passes count i bytes rest → Passes count (i + 1) bytes after
+passes_on count i bytes rest b after lt h p =
+    let t = byte_takes is_name_byte rest (b, after) h in
+    let f = front_step i bytes b after (sym p.is_rest ∙ t.1) in
+    let total = many_at (byte_at is_name_byte) count bytes in
+    let more = goes_on (byte_at is_name_byte) (take i bytes) count i rest b after total lt h p.read in
+    let next : with_front (take i bytes ++ b ∷ []) (many_at (byte_at is_name_byte) (count - suc i) after) ≡ total =
+      subst (λ (k : ℕ). with_front (take i bytes ++ b ∷ []) (many_at (byte_at is_name_byte) (count - k) after) ≡ total) (add-one i) more in
+    subst (λ (k : ℕ). Passes count k bytes after) (sym (add-one i)) (record {
+      read = subst (λ (l : List ℕ). with_front l (many_at (byte_at is_name_byte) (count - suc i) after) ≡ total) (sym f.0) next;
+      is_rest = f.1;
+      within = f.2;
+    })
+
+pub passed : (count i : ℕ) (bytes rest : List ℕ) → count ≤ i → i ≤ count → Passes count i bytes rest
+    → (many_at (byte_at is_name_byte) count bytes ≡ Ok (take count bytes, drop count bytes)) × (count ≤ length bytes)
+passed count i bytes rest le ge p =
+    let e : count ≡ i = omega arith in
+    let d = is_done (byte_at is_name_byte) (take i bytes) count i rest _ (omega arith) p.read in
+    (d ∙ ap (λ (r : List ℕ). done (take i bytes, r)) p.is_rest ∙ ap (λ (k : ℕ). done (take k bytes, drop k bytes)) (sym e), omega (arith, p.within))
+
+-- the name that a first byte and the others make
+pub record TextFound (more : ℕ) (bytes rest : List ℕ) : Type 0 where
+  pub room : more + 1 ≤ length bytes
+  pub is_name : IsName (take (more + 1) bytes)
+  pub read : text_at more bytes ≡ Ok (take (more + 1) bytes, rest)
+
+pub text_found : (more : ℕ) (bytes : List ℕ) (a : ℕ) (after others rest : List ℕ) → more < 64 → AreBytes bytes
+    → byte_at is_letter_or_digit bytes ≡ Ok (a, after) → many_at (byte_at is_name_byte) more after ≡ Ok (others, rest) → TextFound more bytes rest
+text_found more bytes a after others rest small fits one two =
+    let read : text_at more bytes ≡ Ok (a ∷ others, rest) = rw (one, two) refl in
+    let t = text_takes more bytes (a ∷ others, rest) small fits read in
+    let n : length (a ∷ others) ≡ more + 1 = t.0.1 ∙ sym (add-one more) in
+    let front : take (more + 1) bytes ≡ a ∷ others = ap (take (more + 1)) t.1 ∙ take_at (a ∷ others) rest (more + 1) n in
+    record {
+      room = omega (arith, ap length t.1, length-append (a ∷ others) rest);
+      is_name = subst IsName (sym front) t.0.0;
+      read = read ∙ ap (λ (l : List ℕ). done (l, rest)) (sym front);
+    }

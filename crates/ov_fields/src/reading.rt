@@ -1,16 +1,18 @@
 //! Reading fields.
 
-ghost use Rattle.std.specs.Prelude.{◌≡◌, length, IfOk};
+ghost use Rattle.std.specs.Prelude.{◌≡◌, ◌≤◌, length, IfOk};
 ghost use Rattle.std.specs.Int.{w16, w32};
 ghost use Rattle.ov_fields.specs.Answers.{GivesField};
-ghost use Rattle.ov_fields.specs.Reading.{any, at_most, between, byte_at, bytes_at, number_at, number_that};
+ghost use Rattle.ov_fields.specs.Reading.{at_most, between, byte_at, bytes_at, number_at, number_that, optional_at, sized_at, token_at};
 
 use crate::FieldFault;
+use ov_tokens::Token;
 
 /// A byte from `least` to `most`.
 #[tactic(auto, unfolding(crate::specs::Reading::byte_at))]
 pub fn byte_between(least: u8, most: u8, bytes: &[u8]) -> Result<(u8, &[u8]), FieldFault>
-    ensures { GivesField (λ b. b) result (byte_at (between least most) bytes.now) }
+    ensures read { GivesField (λ b. b) result (byte_at (between least most) bytes.now) }
+    ensures range { IfOk result (λ x. (least ≤ x.0) × (x.0 ≤ most)) }
 {
     match bytes {
         [] => Err(FieldFault::Bad { left: 0 }),
@@ -57,5 +59,75 @@ pub fn u16_at_most(most: u16, bytes: &[u8]) -> Result<(u16, &[u8]), FieldFault>
         Ok((number, rest))
     } else {
         Err(FieldFault::Bad { left: bytes.len() })
+    }
+}
+
+/// A number of four bytes that is at most `most`.
+#[tactic(auto, unfolding(crate::specs::Reading::number_that))]
+pub fn u32_at_most(most: u32, bytes: &[u8]) -> Result<(u32, &[u8]), FieldFault>
+    ensures { GivesField (λ n. n) result (number_that w32 (at_most most) bytes.now) }
+{
+    let (number, rest) = u32_any(bytes)?;
+    if number <= most {
+        Ok((number, rest))
+    } else {
+        Err(FieldFault::Bad { left: bytes.len() })
+    }
+}
+
+/// A number of four bytes from `least` to `most`.
+#[tactic(auto, unfolding(crate::specs::Reading::number_that))]
+pub fn u32_between(least: u64, most: u64, bytes: &[u8]) -> Result<(u32, &[u8]), FieldFault>
+    ensures { GivesField (λ n. n) result (number_that w32 (between least most) bytes.now) }
+{
+    let (number, rest) = u32_any(bytes)?;
+    if least <= number as u64 && number as u64 <= most {
+        Ok((number, rest))
+    } else {
+        Err(FieldFault::Bad { left: bytes.len() })
+    }
+}
+
+/// The 32 bytes of a tag or a check value.
+pub fn tag_of(bytes: &[u8]) -> Result<([u8; 32], &[u8]), FieldFault>
+    ensures { GivesField (λ t. t) result (bytes_at 32 bytes.now) }
+{
+    let (front, rest) = bytes_of(32, bytes)?;
+    let mut tag = [0; 32];
+    tag.copy_from_slice(front);
+    Ok((tag, rest))
+}
+
+/// A token.
+pub fn token_of(bytes: &[u8]) -> Result<(Token, &[u8]), FieldFault>
+    ensures { GivesField (λ t. t) result (token_at bytes.now) }
+{
+    let (bytes, rest) = tag_of(bytes)?;
+    Ok((Token { bytes }, rest))
+}
+
+/// At most so many bytes behind their number.
+#[tactic(auto, unfolding(crate::specs::Reading::sized_at))]
+pub fn sized_of(most: u32, bytes: &[u8]) -> Result<(&[u8], &[u8]), FieldFault>
+    ensures { GivesField (λ b. b.now) result (sized_at most bytes.now) }
+{
+    let (count, rest) = u32_at_most(most, bytes)?;
+    let (text, rest) = bytes_of(count as usize, rest)?;
+    Ok((text, rest))
+}
+
+/// What stands behind a flag, and the bytes after it or after the flag.
+#[tactic(auto, unfolding(crate::specs::Reading::optional_at))]
+pub fn token_or_none_of(bytes: &[u8]) -> Result<(Option<Token>, &[u8]), FieldFault>
+    ensures { GivesField (λ t. t) result (optional_at token_at bytes.now) }
+{
+    match bytes {
+        [] => Err(FieldFault::Bad { left: 0 }),
+        [0, rest @ ..] => Ok((None, rest)),
+        [1, rest @ ..] => {
+            let (token, rest) = token_of(rest)?;
+            Ok((Some(token), rest))
+        }
+        [_, ..] => Err(FieldFault::Bad { left: bytes.len() }),
     }
 }
