@@ -3,4 +3,5 @@ pub mod ListLaws
 pub mod Loops
 pub mod NameLaws
 pub mod ReadingLaws
+pub mod SetFields
 pub mod WholeLaws

@@ -1,6 +1,7 @@
 -- Reading fields from left to right, each from the bytes that those before it left.
 use Rattle.std.specs.Prelude.{ℕ, zero, suc, ◌-◌, ◌==◌, ◌&&◌, nat_le, nat_lt, Bool, true, false, List, [], ◌∷◌, length, take, drop, Option, Some, None, Result, Ok, Err, if◌then◌else◌}
 use Rattle.std.specs.Int.{Width, w16, w32, byte_len, from_be_bytes}
+use Rattle.ov_base.specs.Sets.{set_of_bytes}
 use Rattle.ov_base.specs.Names.{is_letter_or_digit, is_name_byte}
 use Rattle.ov_tokens.specs.declared.token.Token.{Token}
 
@@ -69,6 +70,10 @@ at_most most n = nat_le n most
 
 abbrev pub between : ℕ → ℕ → ℕ → Bool
 between least most n = nat_le least n && nat_le n most
+
+-- a set of users in so many bytes
+abbrev pub set_at : ℕ → List ℕ → Read ℕ
+set_at count bytes = made set_of_bytes (bytes_at count bytes)
 
 -- ---- lists
 

@@ -4,12 +4,14 @@
 mod fault;
 mod name;
 mod reading;
+mod set;
 mod writing;
 
 pub use fault::FieldFault;
-pub use name::name_of;
+pub use name::take_name;
 pub use reading::{
-    byte_between, bytes_of, sized_of, tag_of, token_of, token_or_none_of, u16_at_most, u32_any,
-    u32_at_most, u32_between,
+    take_byte, take_bytes, take_sized, take_tag, take_token, take_token_or_none, take_u16_at_most,
+    take_u32, take_u32_at_most, take_u32_between,
 };
+pub use set::{put_set, take_set};
 pub use writing::{append, put_name, put_token, put_u16, put_u32};

@@ -6,7 +6,7 @@ ghost use Rattle.ov_fields.specs.Answers.{Gives, GivesField, left_of};
 ghost use Rattle.ov_fields.specs.Reading.{byte_at, many_at, name_at, text_at};
 
 use crate::FieldFault;
-use crate::reading::byte_between;
+use crate::reading::take_byte;
 use ov_base::Name;
 
 fn is_letter_or_digit(byte: u8) -> bool
@@ -22,7 +22,7 @@ fn is_name_byte(byte: u8) -> bool
 }
 
 #[tactic(auto, unfolding(crate::specs::Reading::byte_at))]
-fn first_byte(bytes: &[u8]) -> Result<(u8, &[u8]), FieldFault>
+fn take_first(bytes: &[u8]) -> Result<(u8, &[u8]), FieldFault>
     ensures { GivesField (λ b. b) result (byte_at is_letter_or_digit bytes.now) }
 {
     match bytes {
@@ -32,7 +32,7 @@ fn first_byte(bytes: &[u8]) -> Result<(u8, &[u8]), FieldFault>
 }
 
 #[tactic(auto, unfolding(crate::specs::Reading::byte_at))]
-fn other_byte(bytes: &[u8]) -> Result<(u8, &[u8]), FieldFault>
+fn take_other(bytes: &[u8]) -> Result<(u8, &[u8]), FieldFault>
     ensures { GivesField (λ b. b) result (byte_at is_name_byte bytes.now) }
 {
     match bytes {
@@ -42,12 +42,12 @@ fn other_byte(bytes: &[u8]) -> Result<(u8, &[u8]), FieldFault>
 }
 
 /// So many bytes that may stand in a name, and the bytes after them.
-fn other_bytes(count: u8, bytes: &[u8]) -> Result<(&[u8], &[u8]), FieldFault>
+fn take_others(count: u8, bytes: &[u8]) -> Result<(&[u8], &[u8]), FieldFault>
     ensures { GivesField (λ b. b.now) result (many_at (byte_at is_name_byte) count bytes.now) }
 {
     let mut rest = bytes;
     for _ in 0..count {
-        let (_, after) = other_byte(rest)?;
+        let (_, after) = take_other(rest)?;
         rest = after;
     }
     let (text, after) = bytes.split_at(count as usize);
@@ -55,12 +55,12 @@ fn other_bytes(count: u8, bytes: &[u8]) -> Result<(&[u8], &[u8]), FieldFault>
 }
 
 /// A name of so many bytes and one more.
-fn text_of(more: u8, bytes: &[u8]) -> Result<(Name, &[u8]), FieldFault>
+fn take_text(more: u8, bytes: &[u8]) -> Result<(Name, &[u8]), FieldFault>
     requires { more < 64 }
     ensures { GivesField (λ n. n) result (text_at more bytes.now) }
 {
-    let (_, rest) = first_byte(bytes)?;
-    let (_, rest) = other_bytes(more, rest)?;
+    let (_, rest) = take_first(bytes)?;
+    let (_, rest) = take_others(more, rest)?;
     let (text, _) = bytes.split_at(more as usize + 1);
     match Name::read(text) {
         Some(name) => Ok((name, rest)),
@@ -70,10 +70,10 @@ fn text_of(more: u8, bytes: &[u8]) -> Result<(Name, &[u8]), FieldFault>
 
 /// A name behind its length.
 #[tactic(auto, unfolding(crate::specs::Reading::name_at))]
-pub fn name_of(bytes: &[u8]) -> Result<(Name, &[u8]), FieldFault>
+pub fn take_name(bytes: &[u8]) -> Result<(Name, &[u8]), FieldFault>
     ensures { GivesField (λ n. n) result (name_at bytes.now) }
 {
-    let (count, rest) = byte_between(1, 64, bytes)?;
-    let (name, rest) = text_of(count - 1, rest)?;
+    let (count, rest) = take_byte(1, 64, bytes)?;
+    let (name, rest) = take_text(count - 1, rest)?;
     Ok((name, rest))
 }

@@ -10,7 +10,7 @@ use ov_tokens::Token;
 
 /// A byte from `least` to `most`.
 #[tactic(auto, unfolding(crate::specs::Reading::byte_at))]
-pub fn byte_between(least: u8, most: u8, bytes: &[u8]) -> Result<(u8, &[u8]), FieldFault>
+pub fn take_byte(least: u8, most: u8, bytes: &[u8]) -> Result<(u8, &[u8]), FieldFault>
     ensures read { GivesField (λ b. b) result (byte_at (between least most) bytes.now) }
     ensures range { IfOk result (λ x. (least ≤ x.0) × (x.0 ≤ most)) }
 {
@@ -28,7 +28,7 @@ pub fn byte_between(least: u8, most: u8, bytes: &[u8]) -> Result<(u8, &[u8]), Fi
 
 /// So many bytes.
 #[tactic(auto, unfolding(crate::specs::Reading::bytes_at))]
-pub fn bytes_of(count: usize, bytes: &[u8]) -> Result<(&[u8], &[u8]), FieldFault>
+pub fn take_bytes(count: usize, bytes: &[u8]) -> Result<(&[u8], &[u8]), FieldFault>
     ensures read { GivesField (λ b. b.now) result (bytes_at count bytes.now) }
     ensures len { IfOk result (λ x. length x.0.now ≡ count) }
 {
@@ -40,20 +40,20 @@ pub fn bytes_of(count: usize, bytes: &[u8]) -> Result<(&[u8], &[u8]), FieldFault
 }
 
 /// A number of four bytes.
-pub fn u32_any(bytes: &[u8]) -> Result<(u32, &[u8]), FieldFault>
+pub fn take_u32(bytes: &[u8]) -> Result<(u32, &[u8]), FieldFault>
     ensures { GivesField (λ n. n) result (number_at w32 bytes.now) }
 {
-    let (front, rest) = bytes_of(4, bytes)?;
+    let (front, rest) = take_bytes(4, bytes)?;
     let number = u32::from_be_bytes([front[0], front[1], front[2], front[3]]);
     Ok((number, rest))
 }
 
 /// A number of two bytes that is at most `most`.
 #[tactic(auto, unfolding(crate::specs::Reading::number_that))]
-pub fn u16_at_most(most: u16, bytes: &[u8]) -> Result<(u16, &[u8]), FieldFault>
+pub fn take_u16_at_most(most: u16, bytes: &[u8]) -> Result<(u16, &[u8]), FieldFault>
     ensures { GivesField (λ n. n) result (number_that w16 (at_most most) bytes.now) }
 {
-    let (front, rest) = bytes_of(2, bytes)?;
+    let (front, rest) = take_bytes(2, bytes)?;
     let number = u16::from_be_bytes([front[0], front[1]]);
     if number <= most {
         Ok((number, rest))
@@ -64,10 +64,10 @@ pub fn u16_at_most(most: u16, bytes: &[u8]) -> Result<(u16, &[u8]), FieldFault>
 
 /// A number of four bytes that is at most `most`.
 #[tactic(auto, unfolding(crate::specs::Reading::number_that))]
-pub fn u32_at_most(most: u32, bytes: &[u8]) -> Result<(u32, &[u8]), FieldFault>
+pub fn take_u32_at_most(most: u32, bytes: &[u8]) -> Result<(u32, &[u8]), FieldFault>
     ensures { GivesField (λ n. n) result (number_that w32 (at_most most) bytes.now) }
 {
-    let (number, rest) = u32_any(bytes)?;
+    let (number, rest) = take_u32(bytes)?;
     if number <= most {
         Ok((number, rest))
     } else {
@@ -77,10 +77,10 @@ pub fn u32_at_most(most: u32, bytes: &[u8]) -> Result<(u32, &[u8]), FieldFault>
 
 /// A number of four bytes from `least` to `most`.
 #[tactic(auto, unfolding(crate::specs::Reading::number_that))]
-pub fn u32_between(least: u64, most: u64, bytes: &[u8]) -> Result<(u32, &[u8]), FieldFault>
+pub fn take_u32_between(least: u64, most: u64, bytes: &[u8]) -> Result<(u32, &[u8]), FieldFault>
     ensures { GivesField (λ n. n) result (number_that w32 (between least most) bytes.now) }
 {
-    let (number, rest) = u32_any(bytes)?;
+    let (number, rest) = take_u32(bytes)?;
     if least <= number as u64 && number as u64 <= most {
         Ok((number, rest))
     } else {
@@ -89,43 +89,43 @@ pub fn u32_between(least: u64, most: u64, bytes: &[u8]) -> Result<(u32, &[u8]), 
 }
 
 /// The 32 bytes of a tag or a check value.
-pub fn tag_of(bytes: &[u8]) -> Result<([u8; 32], &[u8]), FieldFault>
+pub fn take_tag(bytes: &[u8]) -> Result<([u8; 32], &[u8]), FieldFault>
     ensures { GivesField (λ t. t) result (bytes_at 32 bytes.now) }
 {
-    let (front, rest) = bytes_of(32, bytes)?;
+    let (front, rest) = take_bytes(32, bytes)?;
     let mut tag = [0; 32];
     tag.copy_from_slice(front);
     Ok((tag, rest))
 }
 
 /// A token.
-pub fn token_of(bytes: &[u8]) -> Result<(Token, &[u8]), FieldFault>
+pub fn take_token(bytes: &[u8]) -> Result<(Token, &[u8]), FieldFault>
     ensures { GivesField (λ t. t) result (token_at bytes.now) }
 {
-    let (bytes, rest) = tag_of(bytes)?;
+    let (bytes, rest) = take_tag(bytes)?;
     Ok((Token { bytes }, rest))
 }
 
 /// At most so many bytes behind their number.
 #[tactic(auto, unfolding(crate::specs::Reading::sized_at))]
-pub fn sized_of(most: u32, bytes: &[u8]) -> Result<(&[u8], &[u8]), FieldFault>
+pub fn take_sized(most: u32, bytes: &[u8]) -> Result<(&[u8], &[u8]), FieldFault>
     ensures { GivesField (λ b. b.now) result (sized_at most bytes.now) }
 {
-    let (count, rest) = u32_at_most(most, bytes)?;
-    let (text, rest) = bytes_of(count as usize, rest)?;
+    let (count, rest) = take_u32_at_most(most, bytes)?;
+    let (text, rest) = take_bytes(count as usize, rest)?;
     Ok((text, rest))
 }
 
 /// What stands behind a flag, and the bytes after it or after the flag.
 #[tactic(auto, unfolding(crate::specs::Reading::optional_at))]
-pub fn token_or_none_of(bytes: &[u8]) -> Result<(Option<Token>, &[u8]), FieldFault>
+pub fn take_token_or_none(bytes: &[u8]) -> Result<(Option<Token>, &[u8]), FieldFault>
     ensures { GivesField (λ t. t) result (optional_at token_at bytes.now) }
 {
     match bytes {
         [] => Err(FieldFault::Bad { left: 0 }),
         [0, rest @ ..] => Ok((None, rest)),
         [1, rest @ ..] => {
-            let (token, rest) = token_of(rest)?;
+            let (token, rest) = take_token(rest)?;
             Ok((Some(token), rest))
         }
         [_, ..] => Err(FieldFault::Bad { left: bytes.len() }),

@@ -6,7 +6,7 @@ use Rattle.ov_fields.specs.Reading.{byte_at, many_at}
 use Rattle.ov_fields.proofs.ReadingLaws.{AreBytes}
 use Rattle.ov_fields.proofs.Loops.{ends}
 use Rattle.ov_fields.proofs.NameLaws.{passes_on, passed}
-use Rattle.ov_fields.proofs.name.other_bytes.Goals as goal
+use Rattle.ov_fields.proofs.name.take_others.Goals as goal
 
 pub returns-in_err-after : goal.returns-in_err-after
 returns-in_err-after c =

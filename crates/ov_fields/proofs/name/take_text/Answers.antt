@@ -1,7 +1,7 @@
 use Rattle.std.proofs.Common.{◌≡◌, ◌∙◌, ◌<◌, ◌≤◌, ◌+◌, ap, sym, Ok, List, ℕ, slice_index_or, length, arith}
 use Rattle.ov_fields.proofs.ReadingLaws.{AreBytes}
 use Rattle.ov_fields.proofs.NameLaws.{text_found}
-use Rattle.ov_fields.proofs.name.text_of.Goals as goal
+use Rattle.ov_fields.proofs.name.take_text.Goals as goal
 
 pub split_at-requires : goal.split_at-requires
 split_at-requires c =
