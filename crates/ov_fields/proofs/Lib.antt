@@ -1,4 +1,5 @@
 pub mod FieldLaws
+pub mod KindLaws
 pub mod ListLaws
 pub mod Loops
 pub mod NameLaws

@@ -5,7 +5,7 @@ use Rattle.std.proofs.lemmas.Bool.Decides.{nat_tests}
 use Rattle.std.proofs.lemmas.List.{take_at}
 use Rattle.ov_base.specs.Names.{is_letter_or_digit, is_name_byte, is_name, IsName}
 use Rattle.ov_tokens.specs.declared.token.Token.{Token}
-use Rattle.ov_fields.specs.Spelling.{u8, name_field, token_field}
+use Rattle.ov_fields.specs.Spelling.{u8, name_field, token_field, IsToken}
 use Rattle.ov_fields.specs.Reading.{Read, ◌>>=◌, between, byte_at, bytes_at, many_at, text_at, name_at, token_at, token_of}
 use Rattle.ov_fields.proofs.ReadingLaws.{AreBytes, AreBytes-back, bind_ok, bind_err, fails_first, fails_later, done, ok_is, no_error, Reads, made_reads, given_reads, sized_by}
 use Rattle.ov_fields.proofs.FieldLaws.{byte_takes, byte_reads, bytes_reads}
@@ -113,10 +113,7 @@ name_reads =
 
 -- ---- tokens
 
-pub IsToken : Token → Type 0
-IsToken token = length token.bytes ≡ 32
-
-pub token_reads : Reads token_at token_field (λ token. length token.bytes ≡ 32) 32
+pub token_reads : Reads token_at token_field IsToken 32
 token_reads = made_reads token_of (λ token. token.bytes) (λ bytes. refl) (λ token. refl) (bytes_reads 32)
 
 -- ---- the bytes of a name, as a loop reads them

@@ -1,5 +1,5 @@
 -- How fields stand in bytes. Numbers have their high byte first.
-use Rattle.std.specs.Prelude.{ℕ, ◌+◌, ◌≤◌, List, [], ◌∷◌, ◌++◌, length, Option, Some, None}
+use Rattle.std.specs.Prelude.{ℕ, ◌≡◌, List, [], ◌∷◌, ◌++◌, length, Option, Some, None}
 use Rattle.std.specs.Int.{w16, w32, to_be_bytes}
 use Rattle.std.specs.List.{flat_map}
 use Rattle.ov_tokens.specs.declared.token.Token.{Token}
@@ -36,3 +36,7 @@ optional field (Some value) = 1 ∷ field value
 -- values behind their number
 abbrev pub counted : {A : Type 0} → (A → List ℕ) → List A → List ℕ
 counted field values = u16 (length values) ++ flat_map field values
+
+-- which tokens have a spelling
+abbrev pub IsToken : Token → Type 0
+IsToken token = length token.bytes ≡ 32
