@@ -23,3 +23,17 @@ HasForm set_bytes (SealedCreate name list tokens tag bytes) =
     × (length tag ≡ 32) × (length bytes ≤ 1048576)
 HasForm set_bytes (SealedGrant user file token) = (user < 2 ^ 32) × (file < 2 ^ 32) × IfSome token IsToken
 HasForm set_bytes (SealedRevoke user file) = (user < 2 ^ 32) × (file < 2 ^ 32)
+
+-- what a caller sees to before it writes an update: the limits of a creation
+abbrev pub IsWithinLimits : SealedUpdate → Type 0
+IsWithinLimits (SealedEnrol name) = Unit {0}
+IsWithinLimits (SealedCreate name list tokens tag bytes) = (length tokens ≤ 256) × (length bytes ≤ 1048576)
+IsWithinLimits (SealedGrant user file token) = Unit {0}
+IsWithinLimits (SealedRevoke user file) = Unit {0}
+
+-- the file's bytes, with which the spelling of a creation ends
+abbrev pub body_of : SealedUpdate → List ℕ
+body_of (SealedEnrol name) = []
+body_of (SealedCreate name list tokens tag bytes) = bytes
+body_of (SealedGrant user file token) = []
+body_of (SealedRevoke user file) = []

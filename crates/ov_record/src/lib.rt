@@ -1,6 +1,10 @@
 //! Updates of the catalogue.
 #![tactic(auto)]
 
+mod fault;
+mod reading;
 mod update;
 
+pub use fault::RecordFault;
+pub use reading::read;
 pub use update::Update;
