@@ -14,4 +14,4 @@ pub use reading::{
     take_u32, take_u32_at_most, take_u32_between,
 };
 pub use set::{put_set, take_set};
-pub use writing::{append, put_name, put_token, put_u16, put_u32};
+pub use writing::{append, put_name, put_token, put_token_or_none, put_u16, put_u32};

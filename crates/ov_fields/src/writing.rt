@@ -1,7 +1,7 @@
 //! Writing fields.
 
 ghost use Rattle.std.specs.Prelude.{◌≡◌, ◌++◌, length, take, OnErr, OnOk};
-ghost use Rattle.ov_fields.specs.Spelling.{u16, u32, name_field, token_field};
+ghost use Rattle.ov_fields.specs.Spelling.{u16, u32, name_field, optional, token_field};
 
 use ov_base::{Memory, Name};
 use ov_tokens::Token;
@@ -63,5 +63,19 @@ fn append_all(front: &[u8], body: &[u8], end: &[u8], out: &mut Vec<u8>) -> Resul
     out.extend_from_slice(front)?;
     out.extend_from_slice(body)?;
     out.extend_from_slice(end)?;
+    Ok(())
+}
+
+/// Appends a flag, and the token where there is one.
+pub fn put_token_or_none(token: &Option<Token>, out: &mut Vec<u8>) -> Result<(), Memory>
+    ensures { OnOk result (out.new.items ≡ out.old.items ++ optional token_field token.now) }
+{
+    match token {
+        None => out.push(0)?,
+        Some(token) => {
+            out.push(1)?;
+            put_token(token, out)?;
+        }
+    }
     Ok(())
 }
