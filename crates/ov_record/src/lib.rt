@@ -3,6 +3,7 @@
 
 mod entries;
 mod fault;
+mod form;
 mod laws;
 mod reading;
 mod update;
