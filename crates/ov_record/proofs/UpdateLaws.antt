@@ -16,7 +16,7 @@ use Rattle.ov_fields.proofs.NameLaws.{name_reads, token_reads}
 use Rattle.ov_fields.proofs.SetFields.{set_reads}
 use Rattle.ov_fields.proofs.KindLaws.{IsKind, kind_takes, kind_again, kind_near, kind_none}
 use Rattle.ov_record.specs.Updates.{SealedUpdate, SealedEnrol, SealedCreate, SealedGrant, SealedRevoke}
-use Rattle.ov_record.specs.Spelling.{spelling, HasForm}
+use Rattle.ov_record.specs.Spelling.{spelling, HasForm, IsWithinLimits}
 use Rattle.ov_record.specs.Reading.{creation, creation_at, grant, grant_at, revocation, revocation_at, update_at}
 
 abbrev creation_fields : ℕ → (((List ℕ × ℕ) × List Token) × List ℕ) × List ℕ → List ℕ
@@ -110,7 +110,7 @@ update_short : (n : ℕ) (u : SealedUpdate) → HasForm n u → length (spelling
 update_short n (SealedEnrol name) fits = omega (arith, name_reads.short name fits)
 update_short n (SealedCreate name list tokens tag bytes) fits =
     let k = (creation_reads n).short ((((name, list), tokens), tag), bytes)
-      ((((fits.0, fits.1), (is_count (2 ^ 16) 256 (length tokens) (omega arith) fits.2, fits.3)), fits.4), (is_count (2 ^ 32) 1048576 (length bytes) (omega arith) fits.5, tt)) in
+    ((((fits.0, fits.1), (is_count (2 ^ 16) 256 (length tokens) (omega arith) fits.2, fits.3)), fits.4), (is_count (2 ^ 32) 1048576 (length bytes) (omega arith) fits.5, tt)) in
     omega (arith, k)
 update_short n (SealedGrant user file token) fits =
     let k = grant_reads.short ((user, file), token) ((fits.0, fits.1), fits.2) in omega (arith, k)
@@ -123,3 +123,10 @@ update_reads n = record {
   near = update_near n;
   short = update_short n;
 }
+
+-- what has a spelling is within the limits
+pub within_limits : (n : ℕ) (u : SealedUpdate) → HasForm n u → IsWithinLimits u
+within_limits n (SealedEnrol name) fits = tt
+within_limits n (SealedCreate name list tokens tag bytes) fits = (fits.2, fits.5)
+within_limits n (SealedGrant user file token) fits = tt
+within_limits n (SealedRevoke user file) fits = tt

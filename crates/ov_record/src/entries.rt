@@ -70,12 +70,7 @@ pub fn node_entry<const W: usize>(
 }
 
 /// Appends the entry of an access token.
-pub fn access_entry(
-    user: u32,
-    node: u32,
-    token: &Token,
-    out: &mut Vec<u8>,
-) -> Result<(), Memory>
+pub fn access_entry(user: u32, node: u32, token: &Token, out: &mut Vec<u8>) -> Result<(), Memory>
     ensures ok { OnOk result (out.new.items ≡ out.old.items ++ access_entry user node token.now) }
     ensures err { OnErr result (out.new.items ≡ out.old.items) }
 {

@@ -49,7 +49,13 @@ pub fn has_form<const W: usize>(update: &Update<W>)
 {
     match update {
         Update::Enrol { name } => is_name(name),
-        Update::Create { name, list, tokens, tag, .. } => {
+        Update::Create {
+            name,
+            list,
+            tokens,
+            tag,
+            ..
+        } => {
             is_name(name);
             is_set(list);
             are_tokens(tokens.as_slice());

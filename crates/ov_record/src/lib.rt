@@ -6,6 +6,8 @@ mod fault;
 mod form;
 mod laws;
 mod reading;
+#[cfg(test)]
+mod tests;
 mod update;
 mod writing;
 

@@ -5,7 +5,7 @@ ghost use Rattle.ov_fields.specs.Answers.{Gives, GivesField, left_of};
 ghost use Rattle.ov_fields.specs.Reading.{all_of, counted_at, many_at, token_at, made};
 ghost use Rattle.ov_record.specs.Places.{place_of};
 ghost use Rattle.ov_record.specs.Reading.{creation, creation_at, grant, grant_at, revocation, revocation_at, update_at, update_of};
-ghost use Rattle.ov_record.specs.Spelling.{spelling, HasForm};
+ghost use Rattle.ov_record.specs.Spelling.{spelling, HasForm, IsWithinLimits};
 ghost use Rattle.ov_record.specs.Updates.{SealedUpdate, sealed_update};
 
 use crate::{RecordFault, Update};
@@ -18,6 +18,7 @@ use ov_tokens::Tokens;
 use std::alloc::Global;
 
 const MAX_TOKENS: u16 = 256;
+
 const MAX_BYTES: u32 = 1_048_576;
 
 #[tactic(auto, unfolding(ov_fields::specs::Reading::counted_at))]
@@ -28,11 +29,7 @@ fn take_tokens(alloc: Global, bytes: &[u8]) -> Result<(Tokens, &[u8]), FieldFaul
     take_all_tokens(alloc, count, rest)
 }
 
-fn take_all_tokens(
-    alloc: Global,
-    count: u16,
-    bytes: &[u8],
-) -> Result<(Tokens, &[u8]), FieldFault>
+fn take_all_tokens(alloc: Global, count: u16, bytes: &[u8]) -> Result<(Tokens, &[u8]), FieldFault>
     ensures { GivesField (λ t. t) result (many_at token_at count bytes.now) }
 {
     let mut tokens = Tokens::new(alloc);
@@ -122,6 +119,8 @@ pub fn read<const W: usize>(alloc: Global, bytes: &[u8]) -> Result<Update<W>, Re
     // What is read is spelled so.
     ensures found { IfOk result (λ u. HasForm (8 * W) (sealed_update u)
         × (bytes.now ≡ spelling (8 * W) (sealed_update u))) }
+    // It can be written again.
+    ensures limits { IfOk result (λ u. IsWithinLimits (sealed_update u)) }
     // What is spelled so is read, unless memory runs out.
     ensures only { (u : SealedUpdate) → HasForm (8 * W) u → bytes.now ≡ spelling (8 * W) u
         → Gives place_of sealed_update result (Ok u) }

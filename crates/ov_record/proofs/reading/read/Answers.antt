@@ -4,7 +4,7 @@ use Rattle.ov_fields.proofs.ReadingLaws.{AreBytes}
 use Rattle.ov_fields.proofs.WholeLaws.{all_takes, all_again, all_near}
 use Rattle.ov_record.specs.Updates.{SealedUpdate, sealed_update}
 use Rattle.ov_record.specs.Reading.{update_at}
-use Rattle.ov_record.proofs.UpdateLaws.{update_reads, longest}
+use Rattle.ov_record.proofs.UpdateLaws.{update_reads, longest, within_limits}
 use Rattle.ov_record.proofs.reading.read.Goals as goal
 
 pub overflow_sub-result : goal.overflow_sub-result
@@ -27,3 +27,8 @@ returns-in-Ok-clause-only g c = λ u fits e.
 pub returns-in-Err-Bad-clause-only : goal.returns-in-Err-Bad-clause-only
 returns-in-Err-Bad-clause-only g c = λ u fits e.
     let none = sym (all_again (update_reads (8 * g.row.W)) u fits) ∙ ap (λ (bytes : List ℕ). all_of (update_at (8 * g.row.W) bytes)) (sym e) ∙ (rw c.in-Err-Bad.field-0-is at c.in-Err-Bad.ensures) in cc
+
+pub returns-in-Ok-clause-limits : goal.returns-in-Ok-clause-limits
+returns-in-Ok-clause-limits g c =
+    within_limits (8 * g.row.W) (sealed_update c.in-Ok.update)
+    (all_takes (update_reads (8 * g.row.W)) c.args.bytes.now (sealed_update c.in-Ok.update) (record { each = λ i. omega (arith, c.type_inv.bytes i) }) c.in-Ok.ensures).0
