@@ -29,11 +29,37 @@ made make read = do
   a ← read
   Ok (make a.0, a.1)
 
+-- the bytes that are read, as they stand
+abbrev pub spanned : {A : Type 0} → (List ℕ → Read A) → List ℕ → Read (List ℕ)
+spanned read bytes = do
+  a ← read bytes
+  Ok (take (length bytes - length a.1) bytes, a.1)
+
+-- the bytes after what is read
+abbrev pub rest_of : {A : Type 0} → Read A → Result (List ℕ) ℕ
+rest_of read = do
+  a ← read
+  Ok a.1
+
 -- the value, where nothing follows it
 abbrev pub all_of : {A : Type 0} → Read A → Result A ℕ
 all_of read = do
   a ← read
   if length a.1 == 0 then Ok a.0 else Err (length a.1)
+
+-- what is made of all of the bytes
+abbrev pub whole : {A B : Type 0} → (A → B) → (List ℕ → Read A) → List ℕ → Result B ℕ
+whole make read bytes = all_of (made make (read bytes))
+
+-- what stands behind a kind byte, by the rows of a table: a kind, and how the bytes behind it are read
+abbrev pub by_kind : {A : Type 0} → List (ℕ × (List ℕ → Result A ℕ)) → ℕ → List ℕ → Result A ℕ
+by_kind [] kind bytes = Err (length (kind ∷ bytes))
+by_kind (row ∷ rows) kind bytes = if kind == row.0 then row.1 bytes else by_kind rows kind bytes
+
+-- a kind byte, and what stands behind it
+abbrev pub by_rows : {A : Type 0} → List (ℕ × (List ℕ → Result A ℕ)) → List ℕ → Result A ℕ
+by_rows rows [] = Err 0
+by_rows rows (kind ∷ bytes) = by_kind rows kind bytes
 
 -- the place of a wrong byte, counted from the first of so many
 abbrev pub placed : {A : Type 0} → ℕ → Result A ℕ → Result A ℕ
@@ -46,6 +72,24 @@ placed count (Err left) = Err (count - left)
 unfoldable pub byte_at : (ℕ → Bool) → List ℕ → Read ℕ
 byte_at test [] = Err 0
 byte_at test (byte ∷ bytes) = if test byte then Ok (byte, bytes) else Err (length (byte ∷ bytes))
+
+abbrev pub ok_or_left : {A : Type 0} → Option A → List ℕ → ℕ → Read A
+ok_or_left (Some value) bytes left = Ok (value, bytes)
+ok_or_left None bytes left = Err left
+
+-- the first of these values that has this byte for its tag
+abbrev pub tagged_by : {A : Type 0} → (A → ℕ) → List A → ℕ → Option A
+tagged_by tag [] byte = None
+tagged_by tag (value ∷ values) byte = if tag value == byte then Some value else tagged_by tag values byte
+
+-- one of these values, by its tag
+unfoldable pub one_of_at : {A : Type 0} → (A → ℕ) → List A → List ℕ → Read A
+one_of_at tag values [] = Err 0
+one_of_at tag values (byte ∷ bytes) = ok_or_left (tagged_by tag values byte) bytes (length (byte ∷ bytes))
+
+-- nothing
+abbrev pub nothing_at : List ℕ → Read (Unit {0})
+nothing_at bytes = Ok (tt, bytes)
 
 -- so many bytes
 unfoldable pub bytes_at : ℕ → List ℕ → Read (List ℕ)

@@ -1,5 +1,5 @@
 -- How fields stand in bytes. Numbers have their high byte first.
-use Rattle.std.specs.Prelude.{ℕ, ◌≡◌, List, [], ◌∷◌, ◌++◌, length, Option, Some, None}
+use Rattle.std.specs.Prelude.{ℕ, ◌≡◌, Bool, true, false, List, [], ◌∷◌, ◌++◌, length, Option, Some, None}
 use Rattle.std.specs.Int.{w16, w32, to_be_bytes}
 use Rattle.std.specs.List.{flat_map}
 use Rattle.ov_tokens.specs.declared.token.Token.{Token}
@@ -32,6 +32,11 @@ sized bytes = u32 (length bytes) ++ bytes
 abbrev pub optional : {A : Type 0} → (A → List ℕ) → Option A → List ℕ
 optional field None = 0 ∷ []
 optional field (Some value) = 1 ∷ field value
+
+-- the flag of a truth: 1, and 0 else
+abbrev pub flag : Bool → ℕ
+flag true = 1
+flag false = 0
 
 -- values behind their number
 abbrev pub counted : {A : Type 0} → (A → List ℕ) → List A → List ℕ

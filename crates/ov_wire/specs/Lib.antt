@@ -1,0 +1,3 @@
+pub mod RequestReading
+pub mod Requests
+pub mod Updates
