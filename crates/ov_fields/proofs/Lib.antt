@@ -4,5 +4,7 @@ pub mod ListLaws
 pub mod Loops
 pub mod NameLaws
 pub mod ReadingLaws
+pub mod RowLaws
 pub mod SetFields
+pub mod TagLaws
 pub mod WholeLaws
