@@ -8,15 +8,28 @@ use Rattle.ov_wire.specs.declared.request.Request.TheVariants as requests
 use Rattle.ov_wire.specs.Updates.{fields_at}
 use Rattle.ov_wire.specs.Requests.{is_verb, names_file}
 
--- the names of an Ask with this verb
-abbrev pub ask_names_at : Bool → ℕ → List ℕ → Read Request
-ask_names_at true verb bytes = made (λ n. requests.Ask verb (Some n.0) (Some n.1)) ((name_at >> name_at) bytes)
-ask_names_at false verb bytes = made (λ n. requests.Ask verb (Some n) None) (name_at bytes)
+-- the verb of an Ask, and the names that it has
+abbrev pub AskFields : Type 0
+AskFields = (ℕ × Option (List ℕ)) × Option (List ℕ)
 
-unfoldable pub ask_at : List ℕ → Read Request
+abbrev pub of_user : ℕ → List ℕ → AskFields
+of_user verb user = ((verb, Some user), None)
+
+abbrev pub of_both : ℕ → List ℕ × List ℕ → AskFields
+of_both verb names = ((verb, Some names.0), Some names.1)
+
+-- the names of an Ask with this verb, where it names a file and where it doesn't
+abbrev pub ask_names_at : Bool → ℕ → List ℕ → Read AskFields
+ask_names_at true verb bytes = made (of_both verb) ((name_at >> name_at) bytes)
+ask_names_at false verb bytes = made (of_user verb) (name_at bytes)
+
+unfoldable pub ask_at : List ℕ → Read AskFields
 ask_at bytes = do
   verb ← byte_at is_verb bytes
   ask_names_at (names_file verb.0) verb.0 verb.1
+
+abbrev pub ask : AskFields → Request
+ask f = requests.Ask f.0.0 f.0.1 f.1
 
 -- So many names of which none is among the ones that were seen or comes twice. One that does is
 -- wrong at its length byte.
@@ -71,7 +84,7 @@ page f = requests.Page f.0 f.1
 abbrev pub request_rows : List (ℕ × (List ℕ → Result Request ℕ))
 request_rows =
     (1, whole (λ f. requests.Hello) nothing_at)
-    ∷ (2, whole (λ request. request) ask_at)
+    ∷ (2, whole ask ask_at)
     ∷ (3, whole cover cover_at)
     ∷ (4, whole update update_at)
     ∷ (5, whole chain chain_at)
