@@ -1,8 +1,8 @@
 -- Values that a tag byte tells, nothing, and bytes as they stand.
-use Rattle.std.proofs.Common.{◌≡◌, ℕ, ◌+◌, ◌-◌, ◌≤◌, Bool, true, false, cond, eqb, List, [], ◌∷◌, ◌++◌, length, take, Option, Some, None, Result, Ok, Err, refl, sym, ap, subst, ◌∙◌, length-append, arith}
+use Rattle.std.proofs.Common.{◌≡◌, ℕ, ◌+◌, ◌-◌, ◌≤◌, Bool, true, false, cond, eqb, List, [], ◌∷◌, ◌++◌, length, take, drop, Option, Some, None, Result, Ok, Err, refl, sym, ap, subst, ◌∙◌, length-append, arith}
 use Rattle.std.proofs.lemmas.Bool.{eqb-true}
-use Rattle.std.proofs.lemmas.List.{take_at}
-use Rattle.ov_fields.specs.Reading.{Read, ◌>>=◌, spanned, tagged_by, one_of_at, ok_or_left, nothing_at}
+use Rattle.std.proofs.lemmas.List.{take_at, drop_at}
+use Rattle.ov_fields.specs.Reading.{Read, ◌>>=◌, spanned, rest_of, tagged_by, one_of_at, ok_or_left, nothing_at}
 use Rattle.ov_fields.proofs.ReadingLaws.{AreBytes, bind_ok, bind_err, fails_first, fails_later, done, ok_is, no_error, Reads}
 
 -- ---- tags
@@ -98,3 +98,25 @@ spanned_reads {r = r} {s = s} {F = F} {m = m} Form form back R = record {
   near = λ bytes left fits e. R.near bytes left fits (no_error (r bytes) (λ a. (take (length bytes - length a.1) bytes, a.1)) left e);
   short = λ text fits. let b = back text fits in omega (arith, R.short b.0 b.1, ap length b.2);
 }
+
+-- what is known where the bytes after a value were found
+pub record SpanFound {A : Type 0} (r : List ℕ → Read A) (bytes rest : List ℕ) : Type 0 where
+  pub room : length rest ≤ length bytes
+  pub read : spanned r bytes ≡ Ok (take (length bytes - length rest) bytes, drop (length bytes - length rest) bytes)
+
+pub span_found : {A : Type 0} {r : List ℕ → Read A} {s : A → List ℕ} {F : A → Type 0} {m : ℕ} → Reads r s F m
+    → (bytes rest : List ℕ) → AreBytes bytes → rest_of (r bytes) ≡ Ok rest → SpanFound r bytes rest
+span_found {A = A} {r = r} {s = s} R bytes rest fits e =
+    let a = bind_ok (r bytes) (λ a. done a.1) rest e in
+    let is : a.0.1 ≡ rest = ok_is a.0.1 rest a.2 in
+    let t = R.takes bytes a.0 fits a.1 in
+    let sum : length bytes ≡ length (s a.0.0) + length rest = ap length t.1 ∙ length-append (s a.0.0) a.0.1 ∙ ap (λ (l : List ℕ). length (s a.0.0) + length l) is in
+    let n : length (s a.0.0) ≡ length bytes - length rest = omega (arith, sum) in
+    let back : drop (length bytes - length rest) bytes ≡ rest =
+      ap (λ (l : List ℕ). drop (length bytes - length rest) l) t.1 ∙ drop_at (s a.0.0) a.0.1 (length bytes - length rest) n ∙ is in
+    record {
+      room = omega (arith, sum);
+      read = ap (λ (x : Read A). x >>= λ a. done (take (length bytes - length a.1) bytes, a.1)) a.1
+        ∙ ap (λ (l : List ℕ). done (take (length bytes - length l) bytes, l)) is
+        ∙ ap (λ (l : List ℕ). done (take (length bytes - length rest) bytes, l)) (sym back);
+    }

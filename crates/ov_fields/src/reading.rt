@@ -1,6 +1,7 @@
 //! Reading fields.
 
-ghost use Rattle.std.specs.Prelude.{◌≡◌, ◌≤◌, length, IfOk};
+ghost use Rattle.std.specs.Prelude.{◌≡◌, ◌≤◌, ℕ, List, length, IfOk, option_map};
+ghost use Rattle.std.specs.Borrow.{Bor};
 ghost use Rattle.std.specs.Int.{w16, w32};
 ghost use Rattle.ov_fields.specs.Answers.{GivesField};
 ghost use Rattle.ov_fields.specs.Reading.{at_most, between, byte_at, bytes_at, number_at, number_that, optional_at, sized_at, token_at};
@@ -127,6 +128,22 @@ pub fn take_token_or_none(bytes: &[u8]) -> Result<(Option<Token>, &[u8]), FieldF
         [1, rest @ ..] => {
             let (token, rest) = take_token(rest)?;
             Ok((Some(token), rest))
+        }
+        [_, ..] => Err(FieldFault::Bad { left: bytes.len() }),
+    }
+}
+
+/// A flag, and so many bytes where it is 1.
+#[tactic(auto, unfolding(crate::specs::Reading::optional_at))]
+pub fn take_bytes_or_none(count: usize, bytes: &[u8]) -> Result<(Option<&[u8]>, &[u8]), FieldFault>
+    ensures { GivesField (λ o. option_map (λ (b : Bor (List ℕ)). b.now) o) result (optional_at (bytes_at count) bytes.now) }
+{
+    match bytes {
+        [] => Err(FieldFault::Bad { left: 0 }),
+        [0, rest @ ..] => Ok((None, rest)),
+        [1, rest @ ..] => {
+            let (text, rest) = take_bytes(count, rest)?;
+            Ok((Some(text), rest))
         }
         [_, ..] => Err(FieldFault::Bad { left: bytes.len() }),
     }

@@ -1,35 +1,31 @@
 -- The reader of an update's fields reads exactly their bytes.
-use Rattle.std.proofs.Common.{◌≡◌, ℕ, zero, suc, ◌+◌, ◌*◌, ◌^◌, ◌<◌, ◌≤◌, IsTrue, List, [], ◌∷◌, ◌++◌, length, Option, Ok, Err, refl, sym, ap, subst, ◌∙◌, arith}
+use Rattle.std.proofs.Common.{◌≡◌, ℕ, zero, suc, ◌+◌, ◌*◌, ◌/◌, ◌^◌, ◌<◌, ◌≤◌, IsTrue, List, [], ◌∷◌, ◌++◌, length, Option, Ok, Err, refl, sym, ap, subst, ◌∙◌, arith}
 use Rattle.std.specs.Prelude.{IfSome}
-use Rattle.std.specs.List.{AllByRecursion}
 use Rattle.std.specs.Int.{w32}
 use Rattle.std.proofs.lemmas.Bool.Decides.{nat_tests}
 use Rattle.ov_base.specs.Names.{IsName}
-use Rattle.ov_fields.specs.Spelling.{u32, name_field, sized, optional, counted}
-use Rattle.ov_fields.specs.Reading.{Read, made, at_most}
-use Rattle.ov_fields.proofs.ReadingLaws.{AreBytes, Reads, then_reads}
-use Rattle.ov_fields.proofs.FieldLaws.{bytes_reads, number_reads, wide32}
-use Rattle.ov_fields.proofs.ListLaws.{counted_reads, sized_reads, optional_reads}
+use Rattle.ov_fields.specs.Spelling.{u32, name_field, sized, optional}
+use Rattle.ov_fields.specs.Reading.{Read, made, at_most, bytes_at}
+use Rattle.ov_fields.proofs.ReadingLaws.{AreBytes, Reads, then_reads, given_reads, sized_by}
+use Rattle.ov_fields.proofs.FieldLaws.{bytes_reads, number_reads, that_reads, wide16, wide32}
+use Rattle.ov_fields.proofs.ListLaws.{sized_reads, optional_reads, Reads-more}
 use Rattle.ov_fields.proofs.NameLaws.{name_reads}
 use Rattle.ov_fields.proofs.TagLaws.{spanned_reads}
 use Rattle.ov_fields.proofs.KindLaws.{IsKind, kind_takes, kind_again, kind_near, kind_none}
-use Rattle.ov_wire.specs.Updates.{Fields, Enrolment, Creation, Grant, Revocation, plain, Has32, fields_bytes, HasFields, IsSpelling, creation, creation_at, grant, grant_at, revocation, revocation_at, fields_at}
+use Rattle.ov_wire.specs.Updates.{Fields, Enrolment, Creation, Grant, Revocation, plain, Has32, token_fields, AreTokens, tokens_at, fields_bytes, HasFields, IsSpelling, creation, creation_at, grant, grant_at, revocation, revocation_at, fields_at}
 use Rattle.ov_wire.specs.RequestReading.{spelling_at}
 
-abbrev creation_fields : (((List ℕ × List ℕ) × List (List ℕ)) × List ℕ) × List ℕ → List ℕ
-creation_fields f = name_field f.0.0.0.0 ++ f.0.0.0.1 ++ counted plain f.0.0.1 ++ f.0.1 ++ sized f.1
+abbrev creation_fields : (((List ℕ × List ℕ) × List ℕ) × List ℕ) × List ℕ → List ℕ
+creation_fields f = name_field f.0.0.0.0 ++ f.0.0.0.1 ++ token_fields f.0.0.1 ++ f.0.1 ++ sized f.1
 
 -- a number of values, as its reader tests it
 abbrev IsCount : ℕ → ℕ → ℕ → Type 0
 IsCount limit most n = (n < limit) × IsTrue (at_most most n)
 
-abbrev CreationFits : (((List ℕ × List ℕ) × List (List ℕ)) × List ℕ) × List ℕ → Type 0
+abbrev CreationFits : (((List ℕ × List ℕ) × List ℕ) × List ℕ) × List ℕ → Type 0
 CreationFits f =
-    (((IsName f.0.0.0.0 × Has32 f.0.0.0.1) × (IsCount (2 ^ 16) 256 (length f.0.0.1) × AllByRecursion Has32 f.0.0.1)) × Has32 f.0.1)
+    (((IsName f.0.0.0.0 × Has32 f.0.0.0.1) × AreTokens 256 f.0.0.1) × Has32 f.0.1)
     × (IsCount (2 ^ 32) 1048576 (length f.1) × Unit {0})
-
-creation_reads : Reads creation_at creation_fields CreationFits (65 + 32 + (2 + 256 * 32) + 32 + (4 + 1048576))
-creation_reads = then_reads (then_reads (then_reads (then_reads name_reads (bytes_reads 32)) (counted_reads 256 (bytes_reads 32))) (bytes_reads 32)) (sized_reads 1048576)
 
 count_is : (limit most n : ℕ) → IsCount limit most n → n ≤ most
 count_is limit most n h = grind (arith, nat_tests)
@@ -37,9 +33,35 @@ count_is limit most n h = grind (arith, nat_tests)
 is_count : (limit most n : ℕ) → most < limit → n ≤ most → IsCount limit most n
 is_count limit most n lt le = (omega arith, grind (arith, nat_tests))
 
+-- the bytes of so many tokens
+blocks_reads : (n : ℕ) → Reads (bytes_at (32 * n)) plain (sized_by (λ tokens. length tokens ≡ 32 * (length tokens / 32)) (λ tokens. length tokens / 32) n) (32 * n)
+blocks_reads n =
+    let R = bytes_reads (32 * n) in
+    record {
+      takes = λ bytes x fits e. let t = R.takes bytes x fits e in ((omega (arith, t.0), omega (arith, t.0)), t.1);
+      again = λ tokens rest fits. R.again tokens rest (omega (arith, fits.0, fits.1));
+      near = R.near;
+      short = λ tokens fits. omega (arith, fits.0, fits.1);
+    }
+
+tokens_reads : (most : ℕ) → most < 2 ^ 16 → Reads (tokens_at most) token_fields (AreTokens most) (2 + 32 * most)
+unfolding tokens_at
+tokens_reads most small =
+    let R = given_reads (λ n. bytes_at (32 * n)) plain (λ tokens. length tokens ≡ 32 * (length tokens / 32)) (λ tokens. length tokens / 32) (32 * most) (that_reads wide16 (at_most most))
+      (λ n h. Reads-more (blocks_reads n) (32 * most) (omega (arith, count_is (2 ^ 16) most n h))) in
+    record {
+      takes = λ bytes x fits e. let t = R.takes bytes x fits e in ((t.0.1, count_is (2 ^ 16) most (length x.0 / 32) t.0.0), t.1);
+      again = λ tokens rest fits. R.again tokens rest (is_count (2 ^ 16) most (length tokens / 32) small fits.1, fits.0);
+      near = R.near;
+      short = λ tokens fits. R.short tokens (is_count (2 ^ 16) most (length tokens / 32) small fits.1, fits.0);
+    }
+
+creation_reads : Reads creation_at creation_fields CreationFits (65 + 32 + (2 + 32 * 256) + 32 + (4 + 1048576))
+creation_reads = then_reads (then_reads (then_reads (then_reads name_reads (bytes_reads 32)) (tokens_reads 256 (omega arith))) (bytes_reads 32)) (sized_reads 1048576)
+
 creation_kind : IsKind creation_fields CreationFits fields_bytes HasFields 2 creation
 creation_kind = record {
-  form = λ f fits. (fits.0.0.0.0, fits.0.0.0.1, count_is (2 ^ 16) 256 (length f.0.0.1) fits.0.0.1.0, fits.0.0.1.1, fits.0.1, count_is (2 ^ 32) 1048576 (length f.1) fits.1.0);
+  form = λ f fits. (fits.0.0.0.0, fits.0.0.0.1, fits.0.0.1, fits.0.1, count_is (2 ^ 32) 1048576 (length f.1) fits.1.0);
   spelled = λ f. refl;
 }
 
@@ -84,12 +106,12 @@ fields_takes (suc (suc (suc zero)) ∷ bytes) x fits e = kind_takes 3 grant gran
 fields_takes (suc (suc (suc (suc zero))) ∷ bytes) x fits e = kind_takes 4 revocation revocation_reads revocation_kind bytes x fits e
 fields_takes (suc (suc (suc (suc (suc kind)))) ∷ bytes) x fits e = absurd cc
 
-abbrev creation_values : (name list : List ℕ) → (tokens : List (List ℕ)) → (tag bytes : List ℕ) → (((List ℕ × List ℕ) × List (List ℕ)) × List ℕ) × List ℕ
+abbrev creation_values : (name list tokens tag bytes : List ℕ) → (((List ℕ × List ℕ) × List ℕ) × List ℕ) × List ℕ
 creation_values name list tokens tag bytes = ((((name, list), tokens), tag), bytes)
 
-creation_fits : (name list : List ℕ) (tokens : List (List ℕ)) (tag bytes : List ℕ) → HasFields (Creation name list tokens tag bytes) → CreationFits (creation_values name list tokens tag bytes)
+creation_fits : (name list tokens tag bytes : List ℕ) → HasFields (Creation name list tokens tag bytes) → CreationFits (creation_values name list tokens tag bytes)
 creation_fits name list tokens tag bytes fits =
-    ((((fits.0, fits.1), (is_count (2 ^ 16) 256 (length tokens) (omega arith) fits.2, fits.3)), fits.4), (is_count (2 ^ 32) 1048576 (length bytes) (omega arith) fits.5, tt))
+    ((((fits.0, fits.1), fits.2), fits.3), (is_count (2 ^ 32) 1048576 (length bytes) (omega arith) fits.4, tt))
 
 fields_again : (f : Fields) (rest : List ℕ) → HasFields f → fields_at (fields_bytes f ++ rest) ≡ Ok (f, rest)
 unfolding fields_at

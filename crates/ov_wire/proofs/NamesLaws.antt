@@ -1,15 +1,18 @@
 -- Lists of names of which none comes twice.
-use Rattle.std.proofs.Common.{◌≡◌, ℕ, zero, suc, ◌+◌, ◌*◌, ◌^◌, ◌<◌, ◌≤◌, Bool, true, false, cond, ◌||◌, IsTrue, List, [], ◌∷◌, ◌++◌, length, Result, Ok, Err, refl, sym, ap, subst, ◌∙◌, append_assoc, length-append, mul-le-mul_right, arith}
+use Rattle.std.proofs.Common.{◌≡◌, ℕ, zero, suc, ◌+◌, ◌*◌, ◌^◌, ◌<◌, ◌≤◌, Bool, true, false, cond, ◌||◌, not, IsTrue, List, [], ◌∷◌, ◌++◌, length, ◌-◌, Option, Some, None, Result, Ok, Err, refl, sym, ap, subst, ◌∙◌, append_assoc, length-append, mul-le-mul_right, arith}
 use Rattle.std.specs.List.{flat_map, list_any, AllByRecursion, IsDistinct}
 use Rattle.std.specs.Str.{bytes_eq}
 use Rattle.std.proofs.lemmas.List.Folds.{list_any-append}
 use Rattle.std.proofs.lemmas.Slice.Eq.{bytes_eq-Decides}
 use Rattle.std.proofs.lemmas.Bool.Decides.{nat_tests}
+use Rattle.std.specs.Prelude.{IfSome}
+use Rattle.std.proofs.lemmas.List.{append-nil}
 use Rattle.ov_base.specs.Names.{IsName}
-use Rattle.ov_base.specs.NameLists.{is_among, AreDistinct}
+use Rattle.ov_base.specs.NameLists.{is_among, appended, with_name, AreDistinct}
 use Rattle.ov_fields.specs.Spelling.{name_field, counted}
 use Rattle.ov_fields.specs.Reading.{Read, ◌>>=◌, at_most, name_at}
 use Rattle.ov_fields.proofs.ReadingLaws.{AreBytes, AreBytes-back, bind_ok, bind_err, fails_first, fails_later, done, ok_is, no_error, Reads, given_reads, sized_by}
+use Rattle.ov_fields.proofs.Loops.{with_front}
 use Rattle.ov_fields.proofs.FieldLaws.{wide16, that_reads}
 use Rattle.ov_fields.proofs.ListLaws.{Reads-more}
 use Rattle.ov_fields.proofs.NameLaws.{name_reads}
@@ -97,13 +100,13 @@ neither : (a b : Bool) → (a || b) ≡ false → (a ≡ false) × (b ≡ false)
 neither true b e = absurd cc
 neither false b e = (refl, e)
 
-not_true : (b : Bool) → (b ≡ true → ⊥) → b ≡ false
-not_true true h = absurd (h refl)
-not_true false h = refl
+never_true : (b : Bool) → (b ≡ true → ⊥) → b ≡ false
+never_true true h = absurd (h refl)
+never_true false h = refl
 
 other_way : (a b : List ℕ) → bytes_eq a b ≡ false → bytes_eq b a ≡ false
 other_way a b ne =
-    not_true (bytes_eq b a)
+    never_true (bytes_eq b a)
     (λ is. let same : b ≡ a = (bytes_eq-Decides b a).0 is in let yes : bytes_eq a b ≡ true = (bytes_eq-Decides a b).1 (sym same) in cc)
 
 among_more : (y : List ℕ) (seen : List (List ℕ)) (name : List ℕ) → is_among y (seen ++ name ∷ []) ≡ (is_among y seen || (bytes_eq y name || false))
@@ -182,3 +185,54 @@ names_reads most small =
       short = λ names fits.
         R.short names ((omega (arith, fits.few), is_at_most most (length names) fits.few), are_new [] names fits.are_names.0 fits.are_names.1 (no_names_seen names));
     }
+
+-- ---- reading names one after the other, as a loop does
+
+regroup : (front : List (List ℕ)) (name : List ℕ) (read : Read (List (List ℕ))) → with_front front (read >>= λ x. Ok (name ∷ x.0, x.1)) ≡ with_front (front ++ name ∷ []) read
+regroup front name (Ok x) = ap (λ (l : List (List ℕ)). Ok (l, x.1)) (simp append_assoc)
+regroup front name (Err left) = refl
+
+pub goes_on : (front : List (List ℕ)) (count i : ℕ) (bytes name after : List ℕ) (total : Read (List (List ℕ))) → i < count → name_at bytes ≡ Ok (name, after) → is_among name front ≡ false
+    → with_front front (new_names_at (count - i) front bytes) ≡ total → with_front (front ++ name ∷ []) (new_names_at (count - (i + 1)) (front ++ name ∷ []) after) ≡ total
+unfolding new_names_at
+goes_on front count i bytes name after total lt h new so_far =
+    let k : count - i ≡ suc (count - (i + 1)) = omega arith in
+    let one : with_front front (new_names_at (count - i) front bytes) ≡ with_front (front ++ name ∷ []) (new_names_at (count - (i + 1)) (front ++ name ∷ []) after) =
+      rw (k, h, new) (regroup front name (new_names_at (count - (i + 1)) (front ++ name ∷ []) after)) in
+    sym one ∙ so_far
+
+pub ends : (place : Option ℕ) (front : List (List ℕ)) (count i : ℕ) (bytes : List ℕ) (total : Read (List (List ℕ))) → i < count → IfSome place (λ left. name_at bytes ≡ Err left)
+    → with_front front (new_names_at (count - i) front bytes) ≡ total → IfSome place (λ left. total ≡ Err left)
+unfolding new_names_at
+ends None front count i bytes total lt h so_far = tt
+ends (Some left) front count i bytes total lt h so_far =
+    let k : count - i ≡ suc (count - (i + 1)) = omega arith in
+    let one : with_front front (new_names_at (count - i) front bytes) ≡ Err left = rw (k, h) refl in
+    sym so_far ∙ one
+
+pub ends_twice : (front : List (List ℕ)) (count i : ℕ) (bytes name after : List ℕ) (total : Read (List (List ℕ))) → i < count → name_at bytes ≡ Ok (name, after) → is_among name front ≡ true
+    → with_front front (new_names_at (count - i) front bytes) ≡ total → total ≡ Err (length bytes)
+unfolding new_names_at
+ends_twice front count i bytes name after total lt h seen so_far =
+    let k : count - i ≡ suc (count - (i + 1)) = omega arith in
+    let one : with_front front (new_names_at (count - i) front bytes) ≡ Err (length bytes) = rw (k, h, seen) refl in
+    sym so_far ∙ one
+
+pub is_done : (front : List (List ℕ)) (count i : ℕ) (bytes : List ℕ) (total : Read (List (List ℕ))) → count ≤ i → with_front front (new_names_at (count - i) front bytes) ≡ total → total ≡ Ok (front, bytes)
+unfolding new_names_at
+is_done front count i bytes total le so_far =
+    let k : count - i ≡ 0 = omega arith in
+    let one : with_front front (new_names_at (count - i) front bytes) ≡ Ok (front, bytes) = rw k (ap (λ (l : List (List ℕ)). Ok (l, bytes)) (append-nil front)) in
+    sym so_far ∙ one
+
+-- whether a name was appended
+pub not_false : (b : Bool) → true ≡ not b → b ≡ false
+not_false true e = absurd cc
+not_false false e = refl
+
+pub not_true : (b : Bool) → false ≡ not b → b ≡ true
+not_true true e = refl
+not_true false e = absurd cc
+
+pub was_appended : (names : List (List ℕ)) (name : List ℕ) → is_among name names ≡ false → with_name names name ≡ names ++ name ∷ []
+was_appended names name new = ap (λ (b : Bool). appended b names name) new

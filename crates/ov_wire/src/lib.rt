@@ -3,7 +3,9 @@
 
 mod answer;
 mod fault;
+mod names;
 mod request;
+mod update;
 
 pub use answer::Answer;
 pub use fault::{FeedFault, WireFault};
