@@ -47,17 +47,17 @@ all_of read = do
   a ← read
   if length a.1 == 0 then Ok a.0 else Err (length a.1)
 
--- what is made of all of the bytes
-abbrev pub whole : {A B : Type 0} → (A → B) → (List ℕ → Read A) → List ℕ → Result B ℕ
-whole make read bytes = all_of (made make (read bytes))
+-- a reader of what is made of another's values
+abbrev pub making : {A B : Type 0} → (A → B) → (List ℕ → Read A) → List ℕ → Read B
+making make read bytes = made make (read bytes)
 
 -- what stands behind a kind byte, by the rows of a table: a kind, and how the bytes behind it are read
-abbrev pub by_kind : {A : Type 0} → List (ℕ × (List ℕ → Result A ℕ)) → ℕ → List ℕ → Result A ℕ
+abbrev pub by_kind : {A : Type 0} → List (ℕ × (List ℕ → Read A)) → ℕ → List ℕ → Read A
 by_kind [] kind bytes = Err (length (kind ∷ bytes))
 by_kind (row ∷ rows) kind bytes = if kind == row.0 then row.1 bytes else by_kind rows kind bytes
 
 -- a kind byte, and what stands behind it
-abbrev pub by_rows : {A : Type 0} → List (ℕ × (List ℕ → Result A ℕ)) → List ℕ → Result A ℕ
+abbrev pub by_rows : {A : Type 0} → List (ℕ × (List ℕ → Read A)) → List ℕ → Read A
 by_rows rows [] = Err 0
 by_rows rows (kind ∷ bytes) = by_kind rows kind bytes
 

@@ -4,7 +4,7 @@ ghost use Rattle.std.specs.Prelude.{◌≡◌, ◌≤◌, ℕ, List, length, IfO
 ghost use Rattle.std.specs.Borrow.{Bor};
 ghost use Rattle.std.specs.Int.{w16, w32};
 ghost use Rattle.ov_fields.specs.Answers.{GivesField};
-ghost use Rattle.ov_fields.specs.Reading.{at_most, between, byte_at, bytes_at, number_at, number_that, optional_at, sized_at, token_at};
+ghost use Rattle.ov_fields.specs.Reading.{any, at_most, between, byte_at, bytes_at, number_at, number_that, optional_at, sized_at, token_at};
 
 use crate::FieldFault;
 use ov_tokens::Token;
@@ -146,5 +146,16 @@ pub fn take_bytes_or_none(count: usize, bytes: &[u8]) -> Result<(Option<&[u8]>, 
             Ok((Some(text), rest))
         }
         [_, ..] => Err(FieldFault::Bad { left: bytes.len() }),
+    }
+}
+
+/// A byte.
+#[tactic(auto, unfolding(crate::specs::Reading::byte_at))]
+pub fn take_u8(bytes: &[u8]) -> Result<(u8, &[u8]), FieldFault>
+    ensures { GivesField (λ b. b) result (byte_at any bytes.now) }
+{
+    match bytes {
+        [] => Err(FieldFault::Bad { left: 0 }),
+        [byte, rest @ ..] => Ok((*byte, rest)),
     }
 }

@@ -23,6 +23,14 @@ pub fn put_u32(number: u32, out: &mut Vec<u8>) -> Result<(), Memory>
     Ok(())
 }
 
+/// Appends two numbers of four bytes.
+pub fn put_two(first: u32, second: u32, out: &mut Vec<u8>) -> Result<(), Memory>
+    ensures { OnOk result (out.new.items ≡ out.old.items ++ (u32 first ++ u32 second)) }
+{
+    put_u32(first, out)?;
+    put_u32(second, out)
+}
+
 /// Appends a name behind its length.
 pub fn put_name(name: &Name, out: &mut Vec<u8>) -> Result<(), Memory>
     ensures { OnOk result (out.new.items ≡ out.old.items ++ name_field name.now) }

@@ -5,5 +5,5 @@ use Rattle.ov_record.specs.declared.fault.RecordFault.TheVariants.{BadRecord, Me
 
 -- none where memory ran out
 abbrev pub place_of : RecordFault → Option ℕ
-place_of (BadRecord at-byte) = Some at-byte
+place_of (BadRecord place) = Some place
 place_of Memory = None

@@ -1,3 +1,4 @@
 pub mod FieldsLaws
 pub mod NamesLaws
+pub mod Putting
 pub mod RequestLaws

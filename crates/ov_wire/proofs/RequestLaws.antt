@@ -5,7 +5,7 @@ use Rattle.std.specs.Int.{w32}
 use Rattle.std.proofs.lemmas.Bool.Decides.{nat_tests}
 use Rattle.ov_base.specs.Names.{IsName}
 use Rattle.ov_fields.specs.Spelling.{u8, u32, name_field, counted}
-use Rattle.ov_fields.specs.Reading.{Read, ◌>>=◌, made, whole, by_rows, at_most, between}
+use Rattle.ov_fields.specs.Reading.{Read, ◌>>=◌, made, all_of, by_rows, any, at_most, between}
 use Rattle.ov_fields.proofs.ReadingLaws.{AreBytes, bind_ok, done, ok_is, no_error, Reads, made_of, then_reads, given_reads, sized_by}
 use Rattle.ov_fields.proofs.FieldLaws.{byte_reads, bytes_reads, number_reads, that_reads, wide32}
 use Rattle.std.proofs.lemmas.List.{append-nil}
@@ -107,8 +107,8 @@ chunk_reads : Reads chunk_at (λ f. u32 f.0.0.0 ++ u32 f.0.0.1 ++ u32 f.0.1 ++ u
     (λ f. (((f.0.0.0 < 2 ^ 32) × (f.0.0.1 < 2 ^ 32)) × (f.0.1 < 2 ^ 32)) × ((f.1 < 2 ^ 32) × IsTrue (between 1 65536 f.1))) (4 + 4 + 4 + 4)
 chunk_reads = then_reads (then_reads (then_reads (number_reads wide32) (number_reads wide32)) (number_reads wide32)) (that_reads wide32 (between 1 65536))
 
-page_reads : Reads page_at (λ f. u8 f.0 ++ u32 f.1) (λ f. IsTrue (at_most 255 f.0) × (f.1 < 2 ^ 32)) (1 + 4)
-page_reads = then_reads (byte_reads (at_most 255)) (number_reads wide32)
+page_reads : Reads page_at (λ f. u8 f.0 ++ u32 f.1) (λ f. IsTrue (any f.0) × (f.1 < 2 ^ 32)) (1 + 4)
+page_reads = then_reads (byte_reads any) (number_reads wide32)
 
 le_of : (most n : ℕ) → IsTrue (at_most most n) → n ≤ most
 le_of most n h = grind (arith, nat_tests)
@@ -136,17 +136,16 @@ rows_read =
     (row_reads 5 chain most_bytes chain_reads (omega arith) (record { form = λ f fits. fits; spelled = λ f. refl }),
     (row_reads 6 chunk most_bytes chunk_reads (omega arith)
       (record { form = λ f fits. let b = between_of 1 65536 f.1 fits.1.1 in (fits.0.0.0, fits.0.0.1, fits.0.1, b.0, b.1); spelled = λ f. refl }),
-    (row_reads 7 page most_bytes page_reads (omega arith)
-      (record { form = λ f fits. (omega (arith, le_of 255 f.0 fits.0), fits.1); spelled = λ f. refl }),
+    (row_reads 7 page most_bytes page_reads (omega arith) (record { form = λ f fits. fits.1; spelled = λ f. refl }),
     (row_reads 8 requests.List most_bytes name_reads (omega arith) (record { form = λ f fits. fits; spelled = λ f. refl }),
     tt))))))))
 
 -- what is read is spelled so
-pub request_takes : (bytes : List ℕ) (request : Request) → AreBytes bytes → by_rows request_rows bytes ≡ Ok request → HasRequestForm request × (bytes ≡ request_bytes request)
+pub request_takes : (bytes : List ℕ) (request : Request) → AreBytes bytes → all_of (by_rows request_rows bytes) ≡ Ok request → HasRequestForm request × (bytes ≡ request_bytes request)
 request_takes = rows_take request_bytes HasRequestForm most_bytes request_rows rows_read
 
 -- what is spelled so is read
-pub request_again : (request : Request) → HasRequestForm request → by_rows request_rows (request_bytes request) ≡ Ok request
+pub request_again : (request : Request) → HasRequestForm request → all_of (by_rows request_rows (request_bytes request)) ≡ Ok request
 request_again requests.Hello fits = refl
 request_again (requests.Ask verb user file) fits = row_again ask ask_reads ((verb, user), file) fits
 request_again (requests.Cover file len names) fits =
@@ -155,9 +154,9 @@ request_again (requests.Update epoch spelling tag) fits = row_again update updat
 request_again (requests.Chain user file) fits = row_again chain chain_reads (user, file) fits
 request_again (requests.Chunk file generation start count) fits =
     row_again chunk chunk_reads (((file, generation), start), count) (((fits.0, fits.1), fits.2), (omega (arith, fits.4), of_between 1 65536 count fits.3 fits.4))
-request_again (requests.Page part number) fits = row_again page page_reads (part, number) (of_le 255 part (omega (arith, fits.0)), fits.1)
+request_again (requests.Page part number) fits = row_again page page_reads (part, number) (refl, fits)
 request_again (requests.List file) fits = row_again requests.List name_reads file fits
 
 -- a wrong byte is near
-pub request_near : (bytes : List ℕ) (left : ℕ) → AreBytes bytes → by_rows request_rows bytes ≡ Err left → (left ≤ length bytes) × (length bytes ≤ left + (1 + most_bytes))
+pub request_near : (bytes : List ℕ) (left : ℕ) → AreBytes bytes → all_of (by_rows request_rows bytes) ≡ Err left → (left ≤ length bytes) × (length bytes ≤ left + (1 + most_bytes))
 request_near = rows_near request_bytes HasRequestForm most_bytes request_rows rows_read

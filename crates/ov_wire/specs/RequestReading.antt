@@ -2,7 +2,7 @@
 use Rattle.std.specs.Prelude.{ℕ, zero, suc, Bool, true, false, List, [], ◌∷◌, ◌++◌, length, Option, Some, None, Result, Ok, Err, nat_lt, if◌then◌else◌}
 use Rattle.std.specs.Int.{w8, w16, w32}
 use Rattle.ov_base.specs.NameLists.{is_among}
-use Rattle.ov_fields.specs.Reading.{Read, ◌>>=◌, ◌>>◌, made, spanned, whole, by_rows, placed, any, at_most, between, byte_at, bytes_at, number_at, number_that, name_at, nothing_at}
+use Rattle.ov_fields.specs.Reading.{Read, ◌>>=◌, ◌>>◌, made, spanned, all_of, making, by_rows, placed, any, at_most, between, byte_at, bytes_at, number_at, number_that, name_at, nothing_at}
 use Rattle.ov_wire.specs.declared.request.Request.{Request}
 use Rattle.ov_wire.specs.declared.request.Request.TheVariants as requests
 use Rattle.ov_wire.specs.Updates.{fields_at}
@@ -75,24 +75,24 @@ abbrev pub chunk : ((ℕ × ℕ) × ℕ) × ℕ → Request
 chunk f = requests.Chunk f.0.0.0 f.0.0.1 f.0.1 f.1
 
 abbrev pub page_at : List ℕ → Read (ℕ × ℕ)
-page_at = byte_at (at_most 255) >> number_at w32
+page_at = byte_at any >> number_at w32
 
 abbrev pub page : ℕ × ℕ → Request
 page f = requests.Page f.0 f.1
 
 -- each kind byte, and how what stands behind it is read
-abbrev pub request_rows : List (ℕ × (List ℕ → Result Request ℕ))
+abbrev pub request_rows : List (ℕ × (List ℕ → Read Request))
 request_rows =
-    (1, whole (λ f. requests.Hello) nothing_at)
-    ∷ (2, whole ask ask_at)
-    ∷ (3, whole cover cover_at)
-    ∷ (4, whole update update_at)
-    ∷ (5, whole chain chain_at)
-    ∷ (6, whole chunk chunk_at)
-    ∷ (7, whole page page_at)
-    ∷ (8, whole requests.List name_at)
+    (1, making (λ f. requests.Hello) nothing_at)
+    ∷ (2, making ask ask_at)
+    ∷ (3, making cover cover_at)
+    ∷ (4, making update update_at)
+    ∷ (5, making chain chain_at)
+    ∷ (6, making chunk chunk_at)
+    ∷ (7, making page page_at)
+    ∷ (8, making requests.List name_at)
     ∷ []
 
 -- the request that the bytes are, or the place of the first wrong byte
 abbrev pub request_of : List ℕ → Result Request ℕ
-request_of bytes = placed (length bytes) (by_rows request_rows bytes)
+request_of bytes = placed (length bytes) (all_of (by_rows request_rows bytes))

@@ -51,5 +51,27 @@ HasRequestForm (requests.Update epoch spelling tag) = (epoch < 2 ^ 32) × IsSpel
 HasRequestForm (requests.Chain user file) = IsName user × IsName file
 HasRequestForm (requests.Chunk file generation start count) =
     (file < 2 ^ 32) × (generation < 2 ^ 32) × (start < 2 ^ 32) × (1 ≤ count) × (count ≤ 65536)
-HasRequestForm (requests.Page part number) = (part < 2 ^ 8) × (number < 2 ^ 32)
+HasRequestForm (requests.Page part number) = number < 2 ^ 32
 HasRequestForm (requests.List file) = IsName file
+
+-- what a caller sees to before it writes a request: the number of names fits its field
+abbrev pub HasRequestCounts : Request → Type 0
+HasRequestCounts requests.Hello = Unit {0}
+HasRequestCounts (requests.Ask verb user file) = Unit {0}
+HasRequestCounts (requests.Cover file len names) = length names ≤ 65535
+HasRequestCounts (requests.Update epoch spelling tag) = Unit {0}
+HasRequestCounts (requests.Chain user file) = Unit {0}
+HasRequestCounts (requests.Chunk file generation start count) = Unit {0}
+HasRequestCounts (requests.Page part number) = Unit {0}
+HasRequestCounts (requests.List file) = Unit {0}
+
+-- the update's spelling and the owner's tag, with which an Update ends
+abbrev pub request_body : Request → List ℕ
+request_body requests.Hello = []
+request_body (requests.Ask verb user file) = []
+request_body (requests.Cover file len names) = []
+request_body (requests.Update epoch spelling tag) = spelling ++ tag
+request_body (requests.Chain user file) = []
+request_body (requests.Chunk file generation start count) = []
+request_body (requests.Page part number) = []
+request_body (requests.List file) = []

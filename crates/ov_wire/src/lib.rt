@@ -5,8 +5,12 @@ mod answer;
 mod fault;
 mod names;
 mod request;
+mod request_reading;
+mod request_writing;
 mod update;
 
 pub use answer::Answer;
 pub use fault::{FeedFault, WireFault};
 pub use request::Request;
+pub use request_reading::read_request;
+pub use request_writing::write_request;

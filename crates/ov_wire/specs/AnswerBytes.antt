@@ -1,0 +1,41 @@
+-- The one spelling of each answer, without its length field.
+use Rattle.std.specs.Prelude.{ℕ, List, [], ◌∷◌, ◌++◌, Option}
+use Rattle.ov_base.specs.Modes.{mode_byte}
+use Rattle.ov_base.specs.Refusals.{refusal_number}
+use Rattle.ov_base.specs.Sets.{bytes_of}
+use Rattle.ov_tokens.specs.Labels.{label_bytes}
+use Rattle.ov_tokens.specs.declared.chain.Chain.{Chain}
+use Rattle.ov_tokens.specs.declared.chain.Step.{Step}
+use Rattle.ov_fields.specs.Spelling.{u8, u32, flag, name_field, token_field, optional, counted}
+use Rattle.ov_wire.specs.declared.answer.Answer.{Answer}
+use Rattle.ov_wire.specs.declared.answer.Answer.TheVariants as answers
+use Rattle.ov_wire.specs.Updates.{plain}
+
+-- a step of a chain: its label, and the token that leads to it
+abbrev pub step_field : Step → List ℕ
+step_field step = label_bytes step.to ++ token_field step.token
+
+-- a chain: its root, and its steps
+abbrev pub chain_field : Chain → List ℕ
+chain_field chain = u32 chain.root ++ counted step_field chain.steps
+
+-- a kind byte, and the answer's fields in order
+abbrev pub answer_bytes : Answer → List ℕ
+answer_bytes (answers.Welcome mode epoch check) = 0x81 ∷ u8 (mode_byte mode) ++ u32 epoch ++ check
+answer_bytes (answers.Known epoch user base_root surface_root file node wants) =
+    0x82 ∷ u32 epoch ++ u32 user ++ u32 base_root ++ u32 surface_root ++ u32 file ++ u32 node ++ u8 (flag wants)
+answer_bytes (answers.Plan epoch file list node fresh from) =
+    0x83 ∷ u32 epoch ++ u32 file ++ bytes_of 32 list ++ u32 node ++ u8 (flag fresh) ++ counted u32 from
+answer_bytes (answers.Accepted epoch) = 0x84 ∷ u32 epoch
+answer_bytes (answers.Chained epoch file len generation tag base surface) =
+    0x85 ∷ u32 epoch ++ u32 file ++ u32 len ++ u32 generation ++ tag ++ chain_field base ++ optional chain_field surface
+answer_bytes (answers.Bytes bytes) = 0x86 ∷ bytes
+answer_bytes (answers.PageOf entry) = 0x87 ∷ optional plain entry
+answer_bytes (answers.Refused refusal) = 0x88 ∷ u8 (refusal_number refusal)
+answer_bytes (answers.Stale epoch) = 0x89 ∷ u32 epoch
+answer_bytes answers.BadTag = 0x8a ∷ []
+answer_bytes (answers.BadRequest place) = 0x8b ∷ u32 place
+answer_bytes (answers.Moved generation) = 0x8c ∷ u32 generation
+answer_bytes answers.DeviceFault = 0x8d ∷ []
+answer_bytes answers.NoMemory = 0x8e ∷ []
+answer_bytes (answers.Listed names) = 0x8f ∷ counted name_field names
