@@ -1,5 +1,5 @@
 -- How fields stand in bytes. Numbers have their high byte first.
-use Rattle.std.specs.Prelude.{ℕ, ◌≡◌, Bool, true, false, List, [], ◌∷◌, ◌++◌, length, Option, Some, None}
+use Rattle.std.specs.Prelude.{ℕ, ◌≡◌, ◌⊎◌, Bool, true, false, List, [], ◌∷◌, ◌++◌, length, Option, Some, None}
 use Rattle.std.specs.Int.{w16, w32, to_be_bytes}
 use Rattle.std.specs.List.{flat_map}
 use Rattle.ov_tokens.specs.declared.token.Token.{Token}
@@ -45,3 +45,8 @@ counted field values = u16 (length values) ++ flat_map field values
 -- which tokens have a spelling
 abbrev pub IsToken : Token → Type 0
 IsToken token = length token.bytes ≡ 32
+
+-- the value is one of these
+abbrev pub IsOneOf : {A : Type 0} → A → List A → Type 0
+IsOneOf a [] = ⊥
+IsOneOf a (value ∷ values) = (a ≡ value) ⊎ IsOneOf a values

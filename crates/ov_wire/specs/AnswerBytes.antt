@@ -3,21 +3,11 @@ use Rattle.std.specs.Prelude.{ℕ, List, [], ◌∷◌, ◌++◌, Option}
 use Rattle.ov_base.specs.Modes.{mode_byte}
 use Rattle.ov_base.specs.Refusals.{refusal_number}
 use Rattle.ov_base.specs.Sets.{bytes_of}
-use Rattle.ov_tokens.specs.Labels.{label_bytes}
-use Rattle.ov_tokens.specs.declared.chain.Chain.{Chain}
-use Rattle.ov_tokens.specs.declared.chain.Step.{Step}
-use Rattle.ov_fields.specs.Spelling.{u8, u32, flag, name_field, token_field, optional, counted}
+use Rattle.ov_fields.specs.Spelling.{u8, u32, flag, name_field, optional, counted}
 use Rattle.ov_wire.specs.declared.answer.Answer.{Answer}
 use Rattle.ov_wire.specs.declared.answer.Answer.TheVariants as answers
 use Rattle.ov_wire.specs.Updates.{plain}
-
--- a step of a chain: its label, and the token that leads to it
-abbrev pub step_field : Step → List ℕ
-step_field step = label_bytes step.to ++ token_field step.token
-
--- a chain: its root, and its steps
-abbrev pub chain_field : Chain → List ℕ
-chain_field chain = u32 chain.root ++ counted step_field chain.steps
+use Rattle.ov_wire.specs.Chains.{chain_field}
 
 -- a kind byte, and the answer's fields in order
 abbrev pub answer_bytes : Answer → List ℕ

@@ -1,4 +1,7 @@
 pub mod AnswerBytes
+pub mod AnswerReading
+pub mod AnswersTo
+pub mod Chains
 pub mod Entries
 pub mod Places
 pub mod RequestReading
