@@ -156,3 +156,33 @@ made_reads {A = A} {B = B} {r = r} {s = s} {F = F} {m = m} make back one two R =
   near = λ bytes left fits e. R.near bytes left fits (no_error (r bytes) (made_of make) left e);
   short = λ b fits. R.short (back b) fits;
 }
+
+-- a field made into others, where what is made has the field's spelling and form
+pub made_into : {A B : Type 0} {r : List ℕ → Read A} {s : A → List ℕ} {F : A → Type 0} {m : ℕ} (make : A → B) (s' : B → List ℕ) (F' : B → Type 0)
+    → Reads r s F m → ((a : A) → F a → F' (make a)) → ((a : A) → F a → s a ≡ s' (make a)) → ((b : B) → F' b → (a : A) × F a × (make a ≡ b))
+    → Reads (λ bytes. made make (r bytes)) s' F' m
+made_into {A = A} {B = B} {r = r} {s = s} make s' F' R form spelled back = record {
+  takes = λ bytes x fits e.
+    let a = bind_ok (r bytes) (λ a. done (made_of make a)) x e in
+    let t = R.takes bytes a.0 fits a.1 in
+    subst (λ (y : B × List ℕ). F' y.0 × (bytes ≡ s' y.0 ++ y.1)) (ok_is (made_of make a.0) x a.2)
+    (form a.0.0 t.0, t.1 ∙ ap (λ (l : List ℕ). l ++ a.0.1) (spelled a.0.0 t.0));
+  again = λ b rest fits.
+    let a = back b fits in
+    subst (λ (y : B). made make (r (s' y ++ rest)) ≡ Ok (y, rest)) a.2
+    (subst (λ (l : List ℕ). made make (r (l ++ rest)) ≡ Ok (make a.0, rest)) (spelled a.0 a.1) (ap (made make) (R.again a.0 rest a.1)));
+  near = λ bytes left fits e. R.near bytes left fits (no_error (r bytes) (made_of make) left e);
+  short = λ b fits.
+    let a = back b fits in
+    omega (arith, R.short a.0 a.1, ap length (spelled a.0 a.1 ∙ ap s' a.2));
+}
+
+-- the same values, said in other words
+pub refit : {A : Type 0} {r : List ℕ → Read A} {s : A → List ℕ} {F : A → Type 0} {m : ℕ} (G : A → Type 0)
+    → Reads r s F m → ((a : A) → F a → G a) → ((a : A) → G a → F a) → Reads r s G m
+refit G R there back = record {
+  takes = λ bytes x fits e. let t = R.takes bytes x fits e in (there x.0 t.0, t.1);
+  again = λ a rest fits. R.again a rest (back a fits);
+  near = R.near;
+  short = λ a fits. R.short a (back a fits);
+}

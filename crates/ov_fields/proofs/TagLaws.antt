@@ -1,15 +1,12 @@
 -- Values that a tag byte tells, nothing, and bytes as they stand.
-use Rattle.std.proofs.Common.{◌≡◌, ℕ, ◌+◌, ◌-◌, ◌≤◌, Bool, true, false, cond, eqb, List, [], ◌∷◌, ◌++◌, length, take, drop, Option, Some, None, Result, Ok, Err, refl, sym, ap, subst, ◌∙◌, length-append, arith}
+use Rattle.std.proofs.Common.{◌≡◌, ℕ, ◌+◌, ◌-◌, ◌≤◌, Bool, true, false, cond, eqb, List, [], ◌∷◌, ◌++◌, length, take, drop, Option, Some, None, Result, Ok, Err, ◌⊎◌, inl, inr, refl, sym, ap, subst, ◌∙◌, length-append, eq-eqb, arith}
 use Rattle.std.proofs.lemmas.Bool.{eqb-true}
 use Rattle.std.proofs.lemmas.List.{take_at, drop_at}
+use Rattle.ov_fields.specs.Spelling.{IsOneOf}
 use Rattle.ov_fields.specs.Reading.{Read, ◌>>=◌, spanned, rest_of, tagged_by, one_of_at, ok_or_left, nothing_at}
 use Rattle.ov_fields.proofs.ReadingLaws.{AreBytes, bind_ok, bind_err, fails_first, fails_later, done, ok_is, no_error, Reads}
 
 -- ---- tags
-
--- its tag tells the value
-pub IsTold : {A : Type 0} → (A → ℕ) → List A → A → Type 0
-IsTold tag values a = tagged_by tag values (tag a) ≡ Some a
 
 tagged_or_next : {A : Type 0} (b : Bool) (tag : A → ℕ) (value : A) (byte : ℕ) (next : Option A) (a : A) → eqb (tag value) byte ≡ b
     → (next ≡ Some a → tag a ≡ byte) → cond b (Some value) next ≡ Some a → tag a ≡ byte
@@ -49,12 +46,37 @@ one_near tag values [] left e = let is : 0 ≡ left = cc in (omega arith, omega 
 one_near tag values (byte ∷ bytes) left e =
     let is : length (byte ∷ bytes) ≡ left = err_of (tagged_by tag values byte) bytes (length (byte ∷ bytes)) left e in (omega arith, omega arith)
 
-pub one_of_reads : {A : Type 0} (tag : A → ℕ) (values : List A) → Reads (one_of_at tag values) (λ a. tag a ∷ []) (λ a. tagged_by tag values (tag a) ≡ Some a) 1
-one_of_reads tag values = record {
-  takes = λ bytes x fits e. one_takes tag values bytes x e;
-  again = one_again tag values;
+own : {A : Type 0} (b : Bool) (a : A) (next : Option A) → b ≡ true → cond b (Some a) next ≡ Some a
+own true a next is = refl
+own false a next is = absurd cc
+
+found : {A : Type 0} (b : Bool) (value a : A) (next : Option A) → (b ≡ true → value ≡ a) → next ≡ Some a → cond b (Some value) next ≡ Some a
+found true value a next same later = ap Some (same refl)
+found false value a next same later = later
+
+one_or_next : {A : Type 0} (b : Bool) (value a : A) (next : Option A) (values : List A) → (next ≡ Some a → IsOneOf a values) → cond b (Some value) next ≡ Some a
+    → (a ≡ value) ⊎ IsOneOf a values
+one_or_next true value a next values later e = inl cc
+one_or_next false value a next values later e = inr (later e)
+
+-- one of the values is told by its tag
+told : {A : Type 0} (tag : A → ℕ) → ((a b : A) → tag a ≡ tag b → a ≡ b) → (values : List A) (a : A) → IsOneOf a values → tagged_by tag values (tag a) ≡ Some a
+told tag same [] a is = absurd is
+told tag same (value ∷ values) a (inl is) = rw (sym is) (own (eqb (tag a) (tag a)) a (tagged_by tag values (tag a)) (eq-eqb (tag a) (tag a) refl))
+told tag same (value ∷ values) a (inr is) =
+    found (eqb (tag value) (tag a)) value a (tagged_by tag values (tag a)) (λ b. same value a (eqb-true _ _ b)) (told tag same values a is)
+
+-- what a tag tells is one of the values
+one_of : {A : Type 0} (tag : A → ℕ) (values : List A) (byte : ℕ) (a : A) → tagged_by tag values byte ≡ Some a → IsOneOf a values
+one_of tag [] byte a e = absurd cc
+one_of tag (value ∷ values) byte a e = one_or_next (eqb (tag value) byte) value a (tagged_by tag values byte) values (one_of tag values byte a) e
+
+pub one_of_reads : {A : Type 0} (tag : A → ℕ) (values : List A) → ((a b : A) → tag a ≡ tag b → a ≡ b) → Reads (one_of_at tag values) (λ a. tag a ∷ []) (λ a. IsOneOf a values) 1
+one_of_reads tag values same = record {
+  takes = λ bytes x fits e. let t = one_takes tag values bytes x e in (one_of tag values (tag x.0) x.0 t.0, t.1);
+  again = λ a rest is. one_again tag values a rest (told tag same values a is);
   near = λ bytes left fits e. one_near tag values bytes left e;
-  short = λ a told. omega arith;
+  short = λ a is. omega arith;
 }
 
 -- ---- nothing

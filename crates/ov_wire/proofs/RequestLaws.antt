@@ -6,7 +6,7 @@ use Rattle.std.proofs.lemmas.Bool.Decides.{nat_tests}
 use Rattle.ov_base.specs.Names.{IsName}
 use Rattle.ov_fields.specs.Spelling.{u8, u32, name_field, counted}
 use Rattle.ov_fields.specs.Reading.{Read, ◌>>=◌, made, all_of, by_rows, any, at_most, between}
-use Rattle.ov_fields.proofs.ReadingLaws.{AreBytes, bind_ok, done, ok_is, no_error, Reads, made_of, then_reads, given_reads, sized_by}
+use Rattle.ov_fields.proofs.ReadingLaws.{AreBytes, Reads, made_into, then_reads, given_reads, sized_by}
 use Rattle.ov_fields.proofs.FieldLaws.{byte_reads, bytes_reads, number_reads, that_reads, wide32}
 use Rattle.std.proofs.lemmas.List.{append-nil}
 use Rattle.ov_fields.proofs.ListLaws.{Reads-more}
@@ -42,26 +42,6 @@ AskNamesFit f = AreAskNames (names_file f.0.0) f.0.1 f.1
 abbrev ask_verb : AskFields → ℕ
 ask_verb f = f.0.0
 
--- a field made into others, where what is made has the field's spelling and form
-made_into : {A B : Type 0} {r : List ℕ → Read A} {s : A → List ℕ} {F : A → Type 0} {m : ℕ} (make : A → B) (s' : B → List ℕ) (F' : B → Type 0)
-    → Reads r s F m → ((a : A) → F a → F' (make a)) → ((a : A) → s a ≡ s' (make a)) → ((b : B) → F' b → (a : A) × F a × (make a ≡ b))
-    → Reads (λ bytes. made make (r bytes)) s' F' m
-made_into {A = A} {B = B} {r = r} {s = s} make s' F' R form spelled back = record {
-  takes = λ bytes x fits e.
-    let a = bind_ok (r bytes) (λ a. done (made_of make a)) x e in
-    let t = R.takes bytes a.0 fits a.1 in
-    subst (λ (y : B × List ℕ). F' y.0 × (bytes ≡ s' y.0 ++ y.1)) (ok_is (made_of make a.0) x a.2)
-    (form a.0.0 t.0, t.1 ∙ ap (λ (l : List ℕ). l ++ a.0.1) (spelled a.0.0));
-  again = λ b rest fits.
-    let a = back b fits in
-    subst (λ (y : B). made make (r (s' y ++ rest)) ≡ Ok (y, rest)) a.2
-    (subst (λ (l : List ℕ). made make (r (l ++ rest)) ≡ Ok (make a.0, rest)) (spelled a.0) (ap (made make) (R.again a.0 rest a.1)));
-  near = λ bytes left fits e. R.near bytes left fits (no_error (r bytes) (made_of make) left e);
-  short = λ b fits.
-    let a = back b fits in
-    omega (arith, R.short a.0 a.1, ap length (spelled a.0 ∙ ap s' a.2));
-}
-
 back_both : (verb : ℕ) (b : AskFields) → AreAskNames true b.0.1 b.1 → b.0.0 ≡ verb → (n : List ℕ × List ℕ) × (IsName n.0 × IsName n.1) × (of_both verb n ≡ b)
 back_both verb ((v, Some user), Some file) are e = ((user, file), are, ap (λ (k : ℕ). of_both k (user, file)) (sym e))
 back_both verb ((v, Some user), None) are e = absurd are
@@ -80,12 +60,12 @@ spelled_both n = name_field n.0 ++ name_field n.1
 ask_names_read : (b : Bool) (verb : ℕ) → names_file verb ≡ b → Reads (ask_names_at b verb) ask_names (sized_by AskNamesFit ask_verb verb) (65 + 65)
 ask_names_read true verb is =
     made_into (of_both verb) ask_names (sized_by AskNamesFit ask_verb verb) (then_reads name_reads name_reads)
-    (λ n fits. (subst (λ (b : Bool). AreAskNames b (Some n.0) (Some n.1)) (sym is) fits, refl)) (λ n. refl)
+    (λ n fits. (subst (λ (b : Bool). AreAskNames b (Some n.0) (Some n.1)) (sym is) fits, refl)) (λ n fits. refl)
     (λ b fits. back_both verb b (subst (λ (t : Bool). AreAskNames t b.0.1 b.1) (ap names_file fits.1 ∙ is) fits.0) fits.1)
 ask_names_read false verb is =
     Reads-more
     (made_into (of_user verb) ask_names (sized_by AskNamesFit ask_verb verb) name_reads
-    (λ n fits. (subst (λ (b : Bool). AreAskNames b (Some n) None) (sym is) fits, refl)) (λ n. sym (append-nil (name_field n)))
+    (λ n fits. (subst (λ (b : Bool). AreAskNames b (Some n) None) (sym is) fits, refl)) (λ n fits. sym (append-nil (name_field n)))
     (λ b fits. back_user verb b (subst (λ (t : Bool). AreAskNames t b.0.1 b.1) (ap names_file fits.1 ∙ is) fits.0) fits.1))
     (65 + 65) (omega arith)
 

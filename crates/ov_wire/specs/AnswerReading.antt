@@ -17,7 +17,7 @@ use Rattle.ov_wire.specs.declared.answer.Answer.TheVariants as answers
 use Rattle.ov_wire.specs.Chains.{chain_at, base_kinds, surface_kinds}
 use Rattle.ov_wire.specs.Entries.{node_at, entry_at}
 use Rattle.ov_wire.specs.RequestReading.{names_at}
-use Rattle.ov_wire.specs.AnswersTo.{create_refusals, read_refusals, ask_refusals, update_refusals, most_file, most_node, wants_of}
+use Rattle.ov_wire.specs.AnswersTo.{create_refusals, read_refusals, ask_refusals, update_refusals, most_file, most_node, most_chunk, wants_of}
 
 -- a row of a table: a kind byte, and how what stands behind it is read
 abbrev pub Row : Type 0
@@ -93,7 +93,7 @@ answer_rows (requests.Update epoch spelling tag) =
     ∷ bare 0x8a answers.BadTag ∷ device_fault ∷ no_memory ∷ []
 answer_rows (requests.Chain user file) = (0x85, making chained chained_at) ∷ refused read_refusals ∷ no_memory ∷ []
 answer_rows (requests.Chunk file generation start count) =
-    (0x86, making answers.Bytes (up_to count)) ∷ refused (NoFile ∷ []) ∷ (0x8c, making answers.Moved (greater_at generation))
+    (0x86, making answers.Bytes (up_to (most_chunk count))) ∷ refused (NoFile ∷ []) ∷ (0x8c, making answers.Moved (greater_at generation))
     ∷ device_fault ∷ no_memory ∷ []
 answer_rows (requests.Page part number) = (0x87, making answers.PageOf (entry_or_none_at part)) ∷ no_memory ∷ []
 answer_rows (requests.List file) = (0x8f, making answers.Listed (names_at 256)) ∷ refused (NoFile ∷ []) ∷ no_memory ∷ []

@@ -1,5 +1,5 @@
 -- Which answers are in the grammar of answers to a request, as far as the two decide it.
-use Rattle.std.specs.Prelude.{ℕ, zero, suc, ◌≡◌, ◌≤◌, ◌<◌, ◌^◌, ◌+◌, ◌==◌, Bool, true, false, List, [], ◌∷◌, length, Option, Some, None, IfSome, if◌then◌else◌}
+use Rattle.std.specs.Prelude.{ℕ, zero, suc, ◌≡◌, ◌≤◌, ◌<◌, ◌^◌, ◌+◌, ◌==◌, min, Bool, true, false, List, [], ◌∷◌, length, Option, Some, None, IfSome, if◌then◌else◌}
 use Rattle.std.specs.List.{AllByRecursion}
 use Rattle.ov_base.specs.declared.refusal.Refusal.{Refusal}
 use Rattle.ov_base.specs.declared.refusal.Refusal.TheVariants.{Taken, NoUser, NoFile, NoPath, Listed, NotListed, UsersFull, FilesFull, BytesFull, NodesFull, Spent}
@@ -53,6 +53,10 @@ most_node verb = if names_file verb then 4095 else 0
 abbrev pub wants_of : ℕ → List Bool
 wants_of verb = if verb == 3 then false ∷ true ∷ [] else false ∷ []
 
+-- a chunk has the asked bytes, and never more than 65,536
+abbrev pub most_chunk : ℕ → ℕ
+most_chunk count = min count 65536
+
 -- ---- the answers
 
 abbrev pub IsAnswer : Request → Answer → Type 0
@@ -74,7 +78,7 @@ IsAnswer (requests.Chain user_name file_name) (answers.Chained epoch file len ge
     (epoch < 2 ^ 32) × (file ≤ 16383) × (len ≤ 1048576) × (generation < 2 ^ 32) × Has32 tag
     × IsChain base_kinds base × IfSome surface (IsChain surface_kinds)
 IsAnswer (requests.Chain user_name file_name) (answers.Refused refusal) = IsOneOf refusal read_refusals
-IsAnswer (requests.Chunk file asked start count) (answers.Bytes bytes) = length bytes ≤ count
+IsAnswer (requests.Chunk file asked start count) (answers.Bytes bytes) = length bytes ≤ most_chunk count
 IsAnswer (requests.Chunk file asked start count) (answers.Refused refusal) = IsOneOf refusal (NoFile ∷ [])
 IsAnswer (requests.Chunk file asked start count) (answers.Moved generation) = (asked < generation) × (generation < 2 ^ 32)
 IsAnswer (requests.Chunk file asked start count) answers.DeviceFault = Unit {0}
