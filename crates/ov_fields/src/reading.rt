@@ -159,3 +159,12 @@ pub fn take_u8(bytes: &[u8]) -> Result<(u8, &[u8]), FieldFault>
         [byte, rest @ ..] => Ok((*byte, rest)),
     }
 }
+
+/// A number of two bytes.
+pub fn take_u16(bytes: &[u8]) -> Result<(u16, &[u8]), FieldFault>
+    ensures { GivesField (λ n. n) result (number_at w16 bytes.now) }
+{
+    let (front, rest) = take_bytes(2, bytes)?;
+    let number = u16::from_be_bytes([front[0], front[1]]);
+    Ok((number, rest))
+}

@@ -83,20 +83,45 @@ greater_at n = number_that w32 (between (n + 1) 4294967295)
 abbrev pub next_at : ℕ → List ℕ → Read ℕ
 next_at n = number_that w32 (between (n + 1) (n + 1))
 
--- each kind byte that may come, and how what stands behind it is read
-abbrev pub answer_rows : Request → List Row
-answer_rows requests.Hello = (0x81, making welcome welcome_at) ∷ no_memory ∷ []
-answer_rows (requests.Ask verb user file) = (0x82, making known (known_at verb)) ∷ refused (ask_refusals verb) ∷ no_memory ∷ []
-answer_rows (requests.Cover file len names) = (0x83, making plan plan_at) ∷ refused create_refusals ∷ no_memory ∷ []
-answer_rows (requests.Update epoch spelling tag) =
+-- ---- each kind byte that may come, and how what stands behind it is read
+
+abbrev pub hello_rows : List Row
+hello_rows = (0x81, making welcome welcome_at) ∷ no_memory ∷ []
+
+abbrev pub ask_rows : ℕ → List Row
+ask_rows verb = (0x82, making known (known_at verb)) ∷ refused (ask_refusals verb) ∷ no_memory ∷ []
+
+abbrev pub cover_rows : List Row
+cover_rows = (0x83, making plan plan_at) ∷ refused create_refusals ∷ no_memory ∷ []
+
+abbrev pub update_rows : ℕ → List ℕ → List Row
+update_rows epoch spelling =
     (0x84, making answers.Accepted (next_at epoch)) ∷ refused (update_refusals spelling) ∷ (0x89, making answers.Stale (greater_at epoch))
     ∷ bare 0x8a answers.BadTag ∷ device_fault ∷ no_memory ∷ []
-answer_rows (requests.Chain user file) = (0x85, making chained chained_at) ∷ refused read_refusals ∷ no_memory ∷ []
-answer_rows (requests.Chunk file generation start count) =
+
+abbrev pub chain_rows : List Row
+chain_rows = (0x85, making chained chained_at) ∷ refused read_refusals ∷ no_memory ∷ []
+
+abbrev pub chunk_rows : ℕ → ℕ → List Row
+chunk_rows generation count =
     (0x86, making answers.Bytes (up_to (most_chunk count))) ∷ refused (NoFile ∷ []) ∷ (0x8c, making answers.Moved (greater_at generation))
     ∷ device_fault ∷ no_memory ∷ []
-answer_rows (requests.Page part number) = (0x87, making answers.PageOf (entry_or_none_at part)) ∷ no_memory ∷ []
-answer_rows (requests.List file) = (0x8f, making answers.Listed (names_at 256)) ∷ refused (NoFile ∷ []) ∷ no_memory ∷ []
+
+abbrev pub page_rows : ℕ → List Row
+page_rows part = (0x87, making answers.PageOf (entry_or_none_at part)) ∷ no_memory ∷ []
+
+abbrev pub list_rows : List Row
+list_rows = (0x8f, making answers.Listed (names_at 256)) ∷ refused (NoFile ∷ []) ∷ no_memory ∷ []
+
+abbrev pub answer_rows : Request → List Row
+answer_rows requests.Hello = hello_rows
+answer_rows (requests.Ask verb user file) = ask_rows verb
+answer_rows (requests.Cover file len names) = cover_rows
+answer_rows (requests.Update epoch spelling tag) = update_rows epoch spelling
+answer_rows (requests.Chain user file) = chain_rows
+answer_rows (requests.Chunk file generation start count) = chunk_rows generation count
+answer_rows (requests.Page part number) = page_rows part
+answer_rows (requests.List file) = list_rows
 
 -- the answer that the bytes are, or the place of the first wrong byte
 abbrev pub answer_of : Request → List ℕ → Result Answer ℕ

@@ -11,6 +11,8 @@ use Rattle.ov_tokens.specs.declared.chain.Step.{Step}
 use Rattle.ov_fields.specs.Spelling.{u32, token_field, counted, IsToken, IsOneOf}
 use Rattle.ov_fields.specs.Reading.{Read, ◌>>=◌, ◌>>◌, making, one_of_at, number_at, many_at, token_at}
 use Rattle.ov_wire.specs.Entries.{IsNode, node_at}
+use Rattle.ov_wire.specs.declared.chains.Side.{Side}
+use Rattle.ov_wire.specs.declared.chains.Side.TheVariants as sides
 
 -- a step: its label, and the token that leads to it
 abbrev pub step_field : Step → List ℕ
@@ -27,6 +29,10 @@ base_kinds count = if count == 1 then Derive ∷ Access ∷ [] else Derive ∷ [
 
 abbrev pub surface_kinds : ℕ → List Kind
 surface_kinds count = Surface ∷ []
+
+abbrev pub kinds_of : Side → ℕ → List Kind
+kinds_of sides.Base = base_kinds
+kinds_of sides.Surface = surface_kinds
 
 abbrev pub IsStep : List Kind → Step → Type 0
 IsStep kinds step = IsOneOf step.to.kind kinds × IsNode step.to.number × IsToken step.token

@@ -2,6 +2,7 @@
 #![tactic(auto)]
 
 mod answer;
+mod chains;
 mod fault;
 mod names;
 mod request;
