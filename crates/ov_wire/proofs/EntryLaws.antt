@@ -1,28 +1,28 @@
 -- The readers of catalogue entries read exactly their spellings.
-use Rattle.std.proofs.Common.{◌≡◌, ℕ, zero, suc, ◌+◌, ◌*◌, ◌^◌, ◌<◌, ◌≤◌, Bool, true, false, cond, IsTrue, List, [], ◌∷◌, ◌++◌, length, Option, Some, None, Ok, Err, refl, sym, ap, subst, ◌∙◌, arith}
+use Rattle.std.proofs.Common.{◌≡◌, ℕ, zero, suc, ◌+◌, ◌*◌, ◌-◌, ◌^◌, ◌<◌, ◌≤◌, Bool, true, false, cond, IsTrue, List, [], ◌∷◌, ◌++◌, length, Option, Some, None, Result, Ok, Err, refl, sym, ap, subst, ◌∙◌, arith}
 use Rattle.std.specs.Prelude.{IfSome}
 use Rattle.std.specs.List.{AllByRecursion}
 use Rattle.std.specs.Int.{w32}
 use Rattle.std.proofs.lemmas.Bool.Decides.{nat_tests}
 use Rattle.ov_base.specs.Names.{IsName}
-use Rattle.ov_base.specs.Sets.{IsBelow, bytes_of}
+use Rattle.ov_base.specs.Sets.{IsBelow, bytes_of, set_of_bytes}
 use Rattle.ov_tokens.specs.declared.token.Token.{Token}
 use Rattle.ov_tokens.specs.declared.edge.Edge.{Edge}
 use Rattle.ov_fields.specs.Spelling.{u32, name_field, token_field, optional, counted, IsToken}
 use Rattle.ov_fields.specs.Entries.{edge_field}
-use Rattle.ov_fields.specs.Reading.{Read, making, spanned, at_most, between, byte_at, optional_at}
-use Rattle.ov_fields.proofs.ReadingLaws.{AreBytes, Reads, then_reads, made_reads, made_into, refit}
+use Rattle.ov_fields.specs.Reading.{Read, ◌>>=◌, made, making, spanned, rest_of, at_most, between, byte_at, bytes_at, many_at, counted_at, optional_at}
+use Rattle.ov_fields.proofs.ReadingLaws.{bind_ok, done, ok_is, Reads, then_reads, made_reads, made_into, refit}
 use Rattle.ov_fields.proofs.FieldLaws.{bytes_reads, byte_reads, number_reads, wide32}
 use Rattle.ov_fields.proofs.ListLaws.{counted_reads, optional_reads, Reads-more}
 use Rattle.ov_fields.proofs.NameLaws.{name_reads, token_reads}
 use Rattle.ov_fields.proofs.SetFields.{set_reads}
 use Rattle.ov_fields.proofs.TagLaws.{spanned_reads}
 use Rattle.ov_wire.specs.Updates.{plain}
-use Rattle.ov_wire.specs.Entries.{Entry, User, Node, Access, File, entry_bytes, IsNode, IsEdge, IsOfPart, IsEntry, node_at, user_entry_at, edge_at, edge, node_entry_at, access_entry_at, file_entry_at, entry_at}
+use Rattle.ov_wire.specs.Entries.{Entry, User, Node, Access, File, entry_bytes, IsNode, IsEdge, IsOfPart, IsEntry, node_at, user_entry_at, user, edge_at, edge, node_entry_at, node, access_entry_at, access, file_entry_at, file, entry_at}
 use Rattle.ov_wire.specs.AnswerReading.{entry_or_none_at}
 use Rattle.ov_wire.proofs.NumberLaws.{node_reads, at_most_reads, le_of, of_le, between_of}
 
-edge_reads : Reads (making edge edge_at) edge_field IsEdge (4 + 32)
+edge_reads : Reads edge_at edge_field IsEdge (4 + 32)
 edge_reads = made_reads edge (λ e. (e.from, e.token)) (λ f. refl) (λ e. refl) (then_reads node_reads token_reads)
 
 -- no entry has more bytes
@@ -32,17 +32,14 @@ longest_entry = 10000
 abbrev UserFields : Type 0
 UserFields = (List ℕ × ℕ) × ℕ
 
-abbrev user : UserFields → Entry
-user f = User f.0.0 f.0.1 f.1
-
 abbrev UserFits : UserFields → Type 0
 UserFits f = (IsName f.0.0 × IsNode f.0.1) × IsNode f.1
 
 back_user : (e : Entry) → IsOfPart 1 e → (f : UserFields) × UserFits f × (user f ≡ e)
 back_user (User name base_root surface_root) is = (((name, base_root), surface_root), ((is.0, is.1), is.2), refl)
 back_user (Node set edges) is = absurd is
-back_user (Access u node token) is = absurd is
-back_user (File name node len generation tag surface) is = absurd is
+back_user (Access u n token) is = absurd is
+back_user (File name n len generation tag surface) is = absurd is
 
 user_reads : Reads (making user user_entry_at) entry_bytes (IsOfPart 1) longest_entry
 user_reads =
@@ -54,9 +51,6 @@ user_reads =
 abbrev NodeFields : Type 0
 NodeFields = ℕ × List Edge
 
-abbrev node : NodeFields → Entry
-node f = Node f.0 f.1
-
 abbrev NodeFits : NodeFields → Type 0
 NodeFits f = IsBelow 256 f.0 × (((length f.1 < 2 ^ 16) × IsTrue (at_most 256 (length f.1))) × AllByRecursion IsEdge f.1)
 
@@ -66,14 +60,14 @@ back_node set edges below few all = (below, ((omega (arith, few), of_le 256 (len
 back_node_2 : (e : Entry) → IsOfPart 2 e → (f : NodeFields) × NodeFits f × (node f ≡ e)
 back_node_2 (User name base_root surface_root) is = absurd is
 back_node_2 (Node set edges) is = ((set, edges), back_node set edges is.0 is.1 is.2, refl)
-back_node_2 (Access u node token) is = absurd is
-back_node_2 (File name node len generation tag surface) is = absurd is
+back_node_2 (Access u n token) is = absurd is
+back_node_2 (File name n len generation tag surface) is = absurd is
 
 back_node_3 : (e : Entry) → IsOfPart 3 e → (f : NodeFields) × NodeFits f × (node f ≡ e)
 back_node_3 (User name base_root surface_root) is = absurd is
 back_node_3 (Node set edges) is = ((set, edges), back_node set edges is.0 is.1 is.2, refl)
-back_node_3 (Access u node token) is = absurd is
-back_node_3 (File name node len generation tag surface) is = absurd is
+back_node_3 (Access u n token) is = absurd is
+back_node_3 (File name n len generation tag surface) is = absurd is
 
 abbrev node_fields : NodeFields → List ℕ
 node_fields f = bytes_of 32 f.0 ++ counted edge_field f.1
@@ -96,17 +90,14 @@ node_3_reads =
 abbrev AccessFields : Type 0
 AccessFields = (ℕ × ℕ) × Token
 
-abbrev access : AccessFields → Entry
-access f = Access f.0.0 f.0.1 f.1
-
 abbrev AccessFits : AccessFields → Type 0
 AccessFits f = ((f.0.0 ≤ 255) × IsNode f.0.1) × IsToken f.1
 
 back_access : (e : Entry) → IsOfPart 4 e → (f : AccessFields) × AccessFits f × (access f ≡ e)
 back_access (User name base_root surface_root) is = absurd is
 back_access (Node set edges) is = absurd is
-back_access (Access u node token) is = (((u, node), token), ((is.0, is.1), is.2), refl)
-back_access (File name node len generation tag surface) is = absurd is
+back_access (Access u n token) is = (((u, n), token), ((is.0, is.1), is.2), refl)
+back_access (File name n len generation tag surface) is = absurd is
 
 access_reads : Reads (making access access_entry_at) entry_bytes (IsOfPart 4) longest_entry
 access_reads =
@@ -118,9 +109,6 @@ access_reads =
 abbrev FileFields : Type 0
 FileFields = ((((List ℕ × ℕ) × ℕ) × ℕ) × List ℕ) × Option ℕ
 
-abbrev file : FileFields → Entry
-file f = File f.0.0.0.0.0 f.0.0.0.0.1 f.0.0.0.1 f.0.0.1 f.0.1 f.1
-
 abbrev FileFits : FileFields → Type 0
 FileFits f =
     ((((IsName f.0.0.0.0.0 × IsNode f.0.0.0.0.1) × (f.0.0.0.1 ≤ 1048576)) × (f.0.0.1 < 2 ^ 32)) × (length f.0.1 ≡ 32)) × IfSome f.1 IsNode
@@ -128,9 +116,9 @@ FileFits f =
 back_file : (e : Entry) → IsOfPart 5 e → (f : FileFields) × FileFits f × (file f ≡ e)
 back_file (User name base_root surface_root) is = absurd is
 back_file (Node set edges) is = absurd is
-back_file (Access u node token) is = absurd is
-back_file (File name node len generation tag surface) is =
-    ((((((name, node), len), generation), tag), surface), (((((is.0, is.1), is.2), is.3), is.4), is.5), refl)
+back_file (Access u n token) is = absurd is
+back_file (File name n len generation tag surface) is =
+    ((((((name, n), len), generation), tag), surface), (((((is.0, is.1), is.2), is.3), is.4), is.5), refl)
 
 file_reads : Reads (making file file_entry_at) entry_bytes (IsOfPart 5) longest_entry
 file_reads =
@@ -163,14 +151,14 @@ span_reads part is =
 none_zero : (e : Entry) → IsOfPart zero e → ⊥
 none_zero (User name base_root surface_root) is = is
 none_zero (Node set edges) is = is
-none_zero (Access u node token) is = is
-none_zero (File name node len generation tag surface) is = is
+none_zero (Access u n token) is = is
+none_zero (File name n len generation tag surface) is = is
 
 none_great : (part : ℕ) (e : Entry) → IsOfPart (suc (suc (suc (suc (suc (suc part)))))) e → ⊥
 none_great part (User name base_root surface_root) is = is
 none_great part (Node set edges) is = is
-none_great part (Access u node token) is = is
-none_great part (File name node len generation tag surface) is = is
+none_great part (Access u n token) is = is
+none_great part (File name n len generation tag surface) is = is
 
 no_part : (part : ℕ) → between 1 5 part ≡ false → (e : Entry) → IsOfPart part e → ⊥
 no_part zero out e is = none_zero e is
@@ -204,3 +192,62 @@ none_reads false part out =
 
 pub entry_or_none_reads : (part : ℕ) → Reads (entry_or_none_at part) (optional plain) (λ o. IfSome o (IsEntry part)) (1 + longest_entry)
 entry_or_none_reads part = none_reads (between 1 5 part) part refl
+
+-- ---- entries that are gone over
+
+-- what is made of a value changes nothing behind it
+pub rest-made : {A B : Type 0} (make : A → List ℕ → B × List ℕ) (read : Read A) → ((a : A) (rest : List ℕ) → (make a rest).1 ≡ rest)
+    → rest_of (read >>= λ a. Ok (make a.0 a.1)) ≡ rest_of read
+rest-made make (Ok a) same = ap (λ (l : List ℕ). done l) (same a.0 a.1)
+rest-made make (Err left) same = refl
+
+abbrev Rest : Type 0
+Rest = Result (List ℕ) ℕ
+
+-- one more edge was gone over
+pub skips_on : {A : Type 0} (r : List ℕ → Read A) (count i : ℕ) (bytes after : List ℕ) (total : Rest) → i < count → rest_of (r bytes) ≡ Ok after
+    → rest_of (many_at r (count - i) bytes) ≡ total → rest_of (many_at r (count - (i + 1)) after) ≡ total
+unfolding many_at
+skips_on {A = A} r count i bytes after total lt h so_far =
+    let k : count - i ≡ suc (count - (i + 1)) = omega arith in
+    let a = bind_ok (r bytes) (λ a. done a.1) after h in
+    let n = count - (i + 1) in
+    let is : a.0.1 ≡ after = ok_is a.0.1 after a.2 in
+    let one : rest_of (many_at r (count - i) bytes) ≡ rest_of (many_at r n after) =
+      ap (λ (j : ℕ). rest_of (many_at r j bytes)) k
+      ∙ ap (λ (x : Read A). rest_of (x >>= λ b. many_at r n b.1 >>= λ others. Ok (b.0 ∷ others.0, others.1))) a.1
+      ∙ rest-made (λ others rest. (a.0.0 ∷ others, rest)) (many_at r n a.0.1) (λ others rest. refl)
+      ∙ ap (λ (l : List ℕ). rest_of (many_at r n l)) is in
+    sym one ∙ so_far
+
+no_rest : {A : Type 0} (read : Read A) (left : ℕ) → rest_of read ≡ Err left → read ≡ Err left
+no_rest (Ok a) left e = absurd cc
+no_rest (Err other) left e = cc
+
+-- the next edge is wrong
+pub skips_not : {A : Type 0} (r : List ℕ → Read A) (place : Option ℕ) (count i : ℕ) (bytes : List ℕ) (total : Rest) → i < count → IfSome place (λ left. rest_of (r bytes) ≡ Err left)
+    → rest_of (many_at r (count - i) bytes) ≡ total → IfSome place (λ left. total ≡ Err left)
+unfolding many_at
+skips_not r None count i bytes total lt h so_far = tt
+skips_not {A = A} r (Some left) count i bytes total lt h so_far =
+    let k : count - i ≡ suc (count - (i + 1)) = omega arith in
+    let bad : r bytes ≡ Err left = no_rest (r bytes) left h in
+    let one : rest_of (many_at r (count - i) bytes) ≡ Err left = rw (k, bad) refl in
+    sym so_far ∙ one
+
+-- all were gone over
+pub skipped : {A : Type 0} (r : List ℕ → Read A) (count i : ℕ) (bytes : List ℕ) (total : Rest) → count ≤ i → rest_of (many_at r (count - i) bytes) ≡ total → total ≡ Ok bytes
+unfolding many_at
+skipped r count i bytes total le so_far =
+    let k : count - i ≡ 0 = omega arith in
+    let one : rest_of (many_at r (count - i) bytes) ≡ Ok bytes = rw k refl in
+    sym so_far ∙ one
+
+twice : (set : ℕ) (read : Read (List Edge)) → rest_of (made node (read >>= λ b. Ok ((set, b.0), b.1))) ≡ rest_of read
+twice set (Ok x) = refl
+twice set (Err left) = refl
+
+-- a node's edges stand behind its set
+pub rest-node : (bytes rest : List ℕ) (text : List ℕ) → bytes_at 32 bytes ≡ Ok (text, rest) → rest_of (making node node_entry_at bytes) ≡ rest_of (counted_at 256 edge_at rest)
+rest-node bytes rest text e = rw e (twice (set_of_bytes text) (counted_at 256 edge_at rest))
+

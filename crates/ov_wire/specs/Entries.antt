@@ -54,26 +54,41 @@ node_at = number_that w32 (at_most 4095)
 abbrev pub user_entry_at : List ℕ → Read ((List ℕ × ℕ) × ℕ)
 user_entry_at = name_at >> node_at >> node_at
 
-abbrev pub edge_at : List ℕ → Read (ℕ × Token)
-edge_at = node_at >> token_at
+abbrev pub user : (List ℕ × ℕ) × ℕ → Entry
+user f = User f.0.0 f.0.1 f.1
+
+abbrev pub edge_fields_at : List ℕ → Read (ℕ × Token)
+edge_fields_at = node_at >> token_at
 
 abbrev pub edge : ℕ × Token → Edge
 edge f = record { from = f.0; token = f.1 }
 
+abbrev pub edge_at : List ℕ → Read Edge
+edge_at = making edge edge_fields_at
+
 abbrev pub node_entry_at : List ℕ → Read (ℕ × List Edge)
-node_entry_at = set_at 32 >> counted_at 256 (making edge edge_at)
+node_entry_at = set_at 32 >> counted_at 256 edge_at
+
+abbrev pub node : ℕ × List Edge → Entry
+node f = Node f.0 f.1
 
 abbrev pub access_entry_at : List ℕ → Read ((ℕ × ℕ) × Token)
 access_entry_at = number_that w32 (at_most 255) >> node_at >> token_at
 
+abbrev pub access : (ℕ × ℕ) × Token → Entry
+access f = Access f.0.0 f.0.1 f.1
+
 abbrev pub file_entry_at : List ℕ → Read (((((List ℕ × ℕ) × ℕ) × ℕ) × List ℕ) × Option ℕ)
 file_entry_at = name_at >> node_at >> number_that w32 (at_most 1048576) >> number_at w32 >> bytes_at 32 >> optional_at node_at
 
+abbrev pub file : ((((List ℕ × ℕ) × ℕ) × ℕ) × List ℕ) × Option ℕ → Entry
+file f = File f.0.0.0.0.0 f.0.0.0.0.1 f.0.0.0.1 f.0.0.1 f.0.1 f.1
+
 -- the fields of an entry of this part
 unfoldable pub entry_at : ℕ → List ℕ → Read Entry
-entry_at (suc zero) = making (λ f. User f.0.0 f.0.1 f.1) user_entry_at
-entry_at (suc (suc zero)) = making (λ f. Node f.0 f.1) node_entry_at
-entry_at (suc (suc (suc zero))) = making (λ f. Node f.0 f.1) node_entry_at
-entry_at (suc (suc (suc (suc zero)))) = making (λ f. Access f.0.0 f.0.1 f.1) access_entry_at
-entry_at (suc (suc (suc (suc (suc zero))))) = making (λ f. File f.0.0.0.0.0 f.0.0.0.0.1 f.0.0.0.1 f.0.0.1 f.0.1 f.1) file_entry_at
+entry_at (suc zero) = making user user_entry_at
+entry_at (suc (suc zero)) = making node node_entry_at
+entry_at (suc (suc (suc zero))) = making node node_entry_at
+entry_at (suc (suc (suc (suc zero)))) = making access access_entry_at
+entry_at (suc (suc (suc (suc (suc zero))))) = making file file_entry_at
 entry_at part = λ bytes. Err (length bytes)

@@ -3,6 +3,7 @@
 
 mod answer;
 mod chains;
+mod entries;
 mod fault;
 mod names;
 mod request;
