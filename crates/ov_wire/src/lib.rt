@@ -2,16 +2,19 @@
 #![tactic(auto)]
 
 mod answer;
+mod answer_reading;
 mod chains;
 mod entries;
 mod fault;
 mod names;
+mod refusals;
 mod request;
 mod request_reading;
 mod request_writing;
 mod update;
 
 pub use answer::Answer;
+pub use answer_reading::read_answer;
 pub use fault::{FeedFault, WireFault};
 pub use request::Request;
 pub use request_reading::read_request;
