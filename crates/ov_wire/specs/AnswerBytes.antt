@@ -1,5 +1,5 @@
 -- The one spelling of each answer, without its length field.
-use Rattle.std.specs.Prelude.{ℕ, List, [], ◌∷◌, ◌++◌, Option}
+use Rattle.std.specs.Prelude.{ℕ, ◌≤◌, List, [], ◌∷◌, ◌++◌, length, Option, Some, None, IfSome}
 use Rattle.ov_base.specs.Modes.{mode_byte}
 use Rattle.ov_base.specs.Refusals.{refusal_number}
 use Rattle.ov_base.specs.Sets.{bytes_of}
@@ -29,3 +29,16 @@ answer_bytes (answers.Moved generation) = 0x8c ∷ u32 generation
 answer_bytes answers.DeviceFault = 0x8d ∷ []
 answer_bytes answers.NoMemory = 0x8e ∷ []
 answer_bytes (answers.Listed names) = 0x8f ∷ counted name_field names
+
+-- what a caller sees to before it writes an answer: each number of values fits its field
+abbrev pub HasAnswerCounts : Answer → Type 0
+HasAnswerCounts (answers.Plan epoch file list node fresh from) = length from ≤ 65535
+HasAnswerCounts (answers.Chained epoch file len generation tag base surface) = (length base.steps ≤ 65535) × IfSome surface (λ chain. length chain.steps ≤ 65535)
+HasAnswerCounts (answers.Listed names) = length names ≤ 65535
+HasAnswerCounts answer = Unit {0}
+
+-- the bytes as they stand with which an answer ends
+abbrev pub answer_body : Answer → List ℕ
+answer_body (answers.Bytes bytes) = bytes
+answer_body (answers.PageOf (Some entry)) = entry
+answer_body answer = []

@@ -3,6 +3,7 @@
 
 mod answer;
 mod answer_reading;
+mod answer_writing;
 mod chains;
 mod entries;
 mod fault;
@@ -15,6 +16,7 @@ mod update;
 
 pub use answer::Answer;
 pub use answer_reading::read_answer;
+pub use answer_writing::write_answer;
 pub use fault::{FeedFault, WireFault};
 pub use request::Request;
 pub use request_reading::read_request;
