@@ -1,5 +1,5 @@
 //! Bytes on the heap.
-ghost use Rattle.std.specs.Prelude.{◌≡◌, ℕ, List, IfOk};
+ghost use Rattle.std.specs.Prelude.{◌≡◌, ℕ, List, [], IfOk};
 
 use crate::Memory;
 use std::alloc::Global;
@@ -18,6 +18,15 @@ impl Model for Octets {
 }
 
 impl Octets {
+    /// No bytes. It takes no memory.
+    pub fn new(alloc: Global) -> Octets
+        ensures { result ≡ [] }
+    {
+        Octets {
+            bytes: Vec::new(alloc),
+        }
+    }
+
     /// A copy of these bytes.
     pub fn copy(alloc: Global, bytes: &[u8]) -> Result<Octets, Memory>
         ensures { IfOk result (λ octets. octets ≡ bytes.now) }
@@ -25,6 +34,21 @@ impl Octets {
         Ok(Octets {
             bytes: bytes.to_vec(alloc)?,
         })
+    }
+
+    /// The octets of a vector's bytes. It takes no memory.
+    pub fn from_vec(bytes: Vec<u8>) -> Octets
+        ensures { result ≡ bytes.items }
+    {
+        Octets { bytes }
+    }
+
+    /// The vector of its bytes. It takes no memory.
+    pub fn into_vec(self) -> Vec<u8>
+        ensures { result.items ≡ self }
+    {
+        let Octets { bytes } = self;
+        bytes
     }
 
     /// Its bytes.
@@ -43,8 +67,11 @@ mod tests {
     #[test]
     fn a_copy_has_the_bytes(rt: HostRuntime) -> Result<(), Fail> {
         for bytes in [b"".as_slice(), b"hello", &[0, 255, 10]] {
-            assert_eq!(rt; Octets::copy(rt.alloc(), bytes)?.as_slice(), bytes);
+            let copy = Octets::copy(rt.alloc(), bytes)?;
+            assert_eq!(rt; copy.as_slice(), bytes);
+            assert_eq!(rt; Octets::from_vec(copy.into_vec()).as_slice(), bytes);
         }
+        assert_eq!(rt; Octets::new(rt.alloc()).as_slice(), b"".as_slice());
         Ok(())
     }
 }
