@@ -2,6 +2,7 @@ pub mod AnswerLaws
 pub mod ChainLaws
 pub mod EntryLaws
 pub mod FieldsLaws
+pub mod FrameLaws
 pub mod NamesLaws
 pub mod NumberLaws
 pub mod Putting

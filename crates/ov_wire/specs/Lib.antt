@@ -2,7 +2,9 @@ pub mod AnswerBytes
 pub mod AnswerReading
 pub mod AnswersTo
 pub mod Chains
+pub mod Cutting
 pub mod Entries
+pub mod Frames
 pub mod Places
 pub mod RequestReading
 pub mod Requests
