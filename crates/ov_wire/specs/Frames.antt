@@ -96,3 +96,11 @@ abbrev pub IsState : State → Type 0
 IsState (states.Length head filled) = (length head ≡ 4) × (filled < 4)
 IsState (states.Frame wanted body) = IsFrameLength wanted × (length body.items < wanted)
 IsState states.Bad = Unit {0}
+
+abbrev pub verdict_at : Bool → ℕ → Result (Unit {0}) FeedFault
+verdict_at true place = Err (BadFrame place)
+verdict_at false place = Ok tt
+
+-- what a decoder answers that stands so
+abbrev pub verdict : Decoding → Result (Unit {0}) FeedFault
+verdict d = verdict_at d.bad d.start
