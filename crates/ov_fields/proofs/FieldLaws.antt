@@ -1,15 +1,12 @@
 -- Each field's reader reads exactly what the field's spelling is.
-use Rattle.std.proofs.Common.{◌≡◌, ℕ, zero, suc, ◌+◌, ◌-◌, ◌*◌, ◌^◌, ◌<◌, ◌≤◌, Bool, true, false, cond, ltb, leb, IsTrue, List, [], ◌∷◌, ◌++◌, length, get_or, take, drop, Option, Some, None, Result, Ok, Err, refl, sym, ap, subst, ◌∙◌, append_assoc, length-append, arith, inl, inr}
-use Rattle.std.specs.Prelude.{IfSome}
-use Rattle.std.specs.List.{flat_map, AllByRecursion}
+use Rattle.std.proofs.Common.{◌≡◌, ℕ, ◌+◌, ◌^◌, ◌<◌, ◌≤◌, Bool, true, false, cond, ltb, IsTrue, List, [], ◌∷◌, ◌++◌, length, take, drop, Ok, Err, refl, sym, ap, subst, ◌∙◌, length-append, arith}
 use Rattle.std.specs.Int.{Width, w16, w32, byte_len, from_be_bytes, to_be_bytes}
 use Rattle.std.proofs.lemmas.Bool.{ltb-false, ltb-true, le-ltb}
-use Rattle.std.proofs.lemmas.List.{take_at, drop_at, take-append-drop, length-take, length-drop}
-use Rattle.std.proofs.lemmas.List.Concat.{flat_map-cons}
+use Rattle.std.proofs.lemmas.List.{take_at, drop_at, take-append-drop, length-take}
 use Rattle.std.proofs.lemmas.Nat.{be_bytes_2, be_bytes_4, from_be_bytes-to_be_bytes_2, from_be_bytes-to_be_bytes_4}
-use Rattle.ov_fields.specs.Spelling.{u8, optional, counted, sized, name_field}
-use Rattle.ov_fields.specs.Reading.{Read, ◌>>=◌, made, byte_at, bytes_at, number_at, number_that, many_at, counted_at, sized_at, optional_at}
-use Rattle.ov_fields.proofs.ReadingLaws.{AreBytes, AreBytes-back, AreBytes-front, bind_ok, bind_err, Failing, fails_first, fails_later, done, ok_is, Reads, made_of, made_reads, given_reads, then_reads}
+use Rattle.ov_fields.specs.Spelling.{u8}
+use Rattle.ov_fields.specs.Reading.{Read, ◌>>=◌, made, byte_at, bytes_at, number_at, number_that}
+use Rattle.ov_fields.proofs.ReadingLaws.{AreBytes, AreBytes-front, bind_ok, bind_err, fails_first, fails_later, done, ok_is, Reads, made_of}
 
 -- a test that passed, and one that didn't
 test_ok : {A : Type 0} (b : Bool) (left : ℕ) (x y : A) → cond b (done x) (Err left) ≡ Ok y → IsTrue b × (x ≡ y)

@@ -1,6 +1,6 @@
 -- Values of several kinds: a kind byte, and then what stands for a value of this kind.
-use Rattle.std.proofs.Common.{◌≡◌, ℕ, suc, ◌+◌, ◌≤◌, List, [], ◌∷◌, ◌++◌, length, Ok, Err, refl, sym, ap, subst, ◌∙◌, arith}
-use Rattle.ov_fields.specs.Reading.{Read, ◌>>=◌, made}
+use Rattle.std.proofs.Common.{◌≡◌, ℕ, ◌+◌, ◌≤◌, List, [], ◌∷◌, ◌++◌, length, Ok, Err, ap, subst, ◌∙◌, arith}
+use Rattle.ov_fields.specs.Reading.{Read, made}
 use Rattle.ov_fields.proofs.ReadingLaws.{AreBytes, AreBytes-back, bind_ok, done, ok_is, no_error, Reads, made_of}
 
 -- how the values of one kind are made of what is read behind the kind byte

@@ -1,13 +1,11 @@
 -- Lists and options of fields.
-use Rattle.std.proofs.Common.{◌≡◌, ℕ, zero, suc, ◌+◌, ◌-◌, ◌*◌, ◌^◌, ◌<◌, ◌≤◌, Bool, true, false, cond, leb, IsTrue, List, [], ◌∷◌, ◌++◌, length, Option, Some, None, Result, Ok, Err, refl, sym, ap, subst, ◌∙◌, append_assoc, length-append, mul-le-mul_right, arith}
+use Rattle.std.proofs.Common.{◌≡◌, ℕ, zero, suc, ◌+◌, ◌*◌, ◌^◌, ◌<◌, ◌≤◌, IsTrue, List, [], ◌∷◌, ◌++◌, length, Option, Some, None, Ok, Err, refl, sym, ap, subst, ◌∙◌, append_assoc, length-append, mul-le-mul_right, arith}
 use Rattle.std.specs.Prelude.{IfSome}
 use Rattle.std.specs.List.{flat_map, AllByRecursion}
-use Rattle.std.specs.Int.{w16, w32, to_be_bytes}
 use Rattle.std.proofs.lemmas.Bool.Decides.{nat_tests}
-use Rattle.std.proofs.lemmas.List.Concat.{flat_map-cons}
-use Rattle.ov_fields.specs.Spelling.{u16, u32, optional, counted, sized}
-use Rattle.ov_fields.specs.Reading.{Read, ◌>>=◌, made, at_most, bytes_at, number_that, many_at, counted_at, sized_at, optional_at}
-use Rattle.ov_fields.proofs.ReadingLaws.{AreBytes, AreBytes-back, bind_ok, bind_err, fails_first, fails_later, done, ok_is, no_error, Reads, made_of, given_reads, sized_by}
+use Rattle.ov_fields.specs.Spelling.{optional, counted, sized}
+use Rattle.ov_fields.specs.Reading.{Read, ◌>>=◌, made, at_most, bytes_at, many_at, counted_at, sized_at, optional_at}
+use Rattle.ov_fields.proofs.ReadingLaws.{AreBytes, AreBytes-back, bind_ok, bind_err, fails_first, fails_later, done, ok_is, no_error, Reads, made_of, given_reads}
 use Rattle.ov_fields.proofs.FieldLaws.{bytes_reads, wide16, wide32, that_reads}
 
 -- ---- so many values
@@ -27,7 +25,7 @@ many_takes {A = A} r s F m R (suc n) bytes x fits e =
     let one = R.takes bytes a.0 fits a.1 in
     let two = many_takes r s F m R n a.0.1 b.0 (AreBytes-back (s a.0.0) a.0.1 (subst AreBytes one.1 fits)) b.1 in
     let whole : bytes ≡ flat_map s (a.0.0 ∷ b.0.0) ++ b.0.1 =
-      one.1 ∙ ap (λ (t : List ℕ). s a.0.0 ++ t) two.1 ∙ sym (append_assoc (s a.0.0) (flat_map s b.0.0) b.0.1) in
+    one.1 ∙ ap (λ (t : List ℕ). s a.0.0 ++ t) two.1 ∙ sym (append_assoc (s a.0.0) (flat_map s b.0.0) b.0.1) in
     subst (λ (y : List A × List ℕ). (AllByRecursion F y.0 × (length y.0 ≡ suc n)) × (bytes ≡ flat_map s y.0 ++ y.1)) (ok_is (behind a.0.0 b.0) x b.2)
     (((one.0, two.0.0), ap suc two.0.1), whole)
 

@@ -1,16 +1,15 @@
 -- Names and tokens as fields.
-use Rattle.std.proofs.Common.{◌≡◌, ℕ, zero, suc, ◌+◌, ◌-◌, ◌^◌, ◌<◌, ◌≤◌, Bool, true, false, ◌&&◌, IsTrue, nat_lt, List, [], ◌∷◌, ◌++◌, length, take, drop, Result, Ok, Err, refl, sym, ap, subst, ◌∙◌, append_assoc, length-append, add-one, arith}
+use Rattle.std.proofs.Common.{◌≡◌, ℕ, zero, suc, ◌+◌, ◌-◌, ◌<◌, ◌≤◌, Bool, true, false, ◌&&◌, IsTrue, nat_lt, List, [], ◌∷◌, ◌++◌, length, take, drop, Ok, Err, refl, sym, ap, subst, ◌∙◌, length-append, add-one, arith}
 use Rattle.std.specs.List.{flat_map, list_all, AllByRecursion}
 use Rattle.std.proofs.lemmas.Bool.Decides.{nat_tests}
 use Rattle.std.proofs.lemmas.List.{take_at}
-use Rattle.ov_base.specs.Names.{is_letter_or_digit, is_name_byte, is_name, IsName}
-use Rattle.ov_tokens.specs.declared.token.Token.{Token}
+use Rattle.ov_base.specs.Names.{is_letter_or_digit, is_name_byte, IsName}
 use Rattle.ov_fields.specs.Spelling.{u8, name_field, token_field, IsToken}
-use Rattle.ov_fields.specs.Reading.{Read, ◌>>=◌, between, byte_at, bytes_at, many_at, text_at, name_at, token_at, token_of}
+use Rattle.ov_fields.specs.Reading.{◌>>=◌, between, byte_at, many_at, text_at, name_at, token_at, token_of}
 use Rattle.ov_fields.proofs.ReadingLaws.{AreBytes, AreBytes-back, bind_ok, bind_err, fails_first, fails_later, done, ok_is, no_error, Reads, made_reads, given_reads, sized_by}
 use Rattle.ov_fields.proofs.FieldLaws.{byte_takes, byte_reads, bytes_reads}
-use Rattle.ov_fields.proofs.Loops.{with_front, goes_on, ends, is_done}
-use Rattle.ov_fields.proofs.ListLaws.{many_reads, Reads-more}
+use Rattle.ov_fields.proofs.Loops.{with_front, goes_on, is_done}
+use Rattle.ov_fields.proofs.ListLaws.{many_reads}
 
 -- ---- names
 
@@ -52,7 +51,7 @@ text_takes more bytes x small fits e =
     let one = (byte_reads is_letter_or_digit).takes bytes a.0 fits a.1 in
     let two = (many_reads (byte_reads is_name_byte) more).takes a.0.1 b.0 (AreBytes-back (a.0.0 ∷ []) a.0.1 (subst AreBytes one.1 fits)) b.1 in
     let text : bytes ≡ (a.0.0 ∷ b.0.0) ++ b.0.1 =
-      one.1 ∙ ap (λ (l : List ℕ). a.0.0 ∷ l) (two.1 ∙ ap (λ (l : List ℕ). l ++ b.0.1) (one_each b.0.0)) in
+    one.1 ∙ ap (λ (l : List ℕ). a.0.0 ∷ l) (two.1 ∙ ap (λ (l : List ℕ). l ++ b.0.1) (one_each b.0.0)) in
     let short : length b.0.0 < 64 = omega (arith, two.0.1) in
     subst (λ (y : List ℕ × List ℕ). (IsName y.0 × (length y.0 ≡ suc more)) × (bytes ≡ y.0 ++ y.1)) (ok_is (first_and a.0.0 b.0) x b.2)
     ((is_text a.0.0 b.0.0 one.0 short two.0.0, ap suc two.0.1), text)
@@ -64,8 +63,8 @@ text_again more (a ∷ others) rest is len =
     let q = both_are (is_letter_or_digit a) (nat_lt (length others) 64) p.0 in
     let n : length others ≡ more = omega (arith, len) in
     let two : many_at (byte_at is_name_byte) more (others ++ rest) ≡ Ok (others, rest) =
-      ap (λ (l : List ℕ). many_at (byte_at is_name_byte) more (l ++ rest)) (sym (one_each others))
-      ∙ (many_reads (byte_reads is_name_byte) more).again others rest (each_is others p.1, n) in
+    ap (λ (l : List ℕ). many_at (byte_at is_name_byte) more (l ++ rest)) (sym (one_each others))
+    ∙ (many_reads (byte_reads is_name_byte) more).again others rest (each_is others p.1, n) in
     rw ((byte_reads is_letter_or_digit).again a (others ++ rest) q.0, two) refl
 
 text_near : (more : ℕ) (bytes : List ℕ) (left : ℕ) → more < 64 → AreBytes bytes → text_at more bytes ≡ Err left → (left ≤ length bytes) × (length bytes ≤ left + 64)
@@ -139,7 +138,7 @@ passes_on count i bytes rest b after lt h p =
     let total = many_at (byte_at is_name_byte) count bytes in
     let more = goes_on (byte_at is_name_byte) (take i bytes) count i rest b after total lt h p.read in
     let next : with_front (take i bytes ++ b ∷ []) (many_at (byte_at is_name_byte) (count - suc i) after) ≡ total =
-      subst (λ (k : ℕ). with_front (take i bytes ++ b ∷ []) (many_at (byte_at is_name_byte) (count - k) after) ≡ total) (add-one i) more in
+    subst (λ (k : ℕ). with_front (take i bytes ++ b ∷ []) (many_at (byte_at is_name_byte) (count - k) after) ≡ total) (add-one i) more in
     subst (λ (k : ℕ). Passes count k bytes after) (sym (add-one i)) (record {
       read = subst (λ (l : List ℕ). with_front l (many_at (byte_at is_name_byte) (count - suc i) after) ≡ total) (sym f.0) next;
       is_rest = f.1;

@@ -1,8 +1,6 @@
 -- What a reader keeps: it reads exactly the spellings of its values, and a wrong byte is near.
-use Rattle.std.proofs.Common.{◌≡◌, ℕ, zero, suc, ◌+◌, ◌-◌, ◌*◌, ◌^◌, ◌<◌, ◌≤◌, Bool, true, false, cond, List, [], ◌∷◌, ◌++◌, length, get_or, take, drop, Option, Some, None, Result, Ok, Err, refl, sym, ap, subst, ◌∙◌, append_assoc, length-append, arith}
-use Rattle.std.proofs.lemmas.Bool.{eqb-true}
-use Rattle.std.proofs.lemmas.List.{append-nil, nil_from_length}
-use Rattle.ov_fields.specs.Reading.{Read, ◌>>=◌, ◌>>◌, made, all_of, placed}
+use Rattle.std.proofs.Common.{◌≡◌, ℕ, zero, suc, ◌+◌, ◌<◌, ◌≤◌, List, [], ◌∷◌, ◌++◌, length, get_or, Result, Ok, Err, refl, sym, ap, subst, ◌∙◌, append_assoc, length-append, arith}
+use Rattle.ov_fields.specs.Reading.{Read, ◌>>=◌, ◌>>◌, made}
 
 -- each is a byte
 pub record AreBytes (bytes : List ℕ) : Type 0 where
@@ -147,11 +145,11 @@ pub made_reads : {A B : Type 0} {r : List ℕ → Read A} {s : A → List ℕ} {
     → Reads r s F m → Reads (λ bytes. made make (r bytes)) (λ b. s (back b)) (λ b. F (back b)) m
 made_reads {A = A} {B = B} {r = r} {s = s} {F = F} {m = m} make back one two R = record {
   takes = λ bytes x fits e.
-    let a = bind_ok (r bytes) (λ a. done (made_of make a)) x e in
-    let t = R.takes bytes a.0 fits a.1 in
-    let is = ok_is (made_of make a.0) x a.2 in
-    subst (λ (y : B × List ℕ). F (back y.0) × (bytes ≡ s (back y.0) ++ y.1)) is
-    (subst (λ (y : A). F y × (bytes ≡ s y ++ a.0.1)) (sym (one a.0.0)) t);
+      let a = bind_ok (r bytes) (λ a. done (made_of make a)) x e in
+      let t = R.takes bytes a.0 fits a.1 in
+      let is = ok_is (made_of make a.0) x a.2 in
+      subst (λ (y : B × List ℕ). F (back y.0) × (bytes ≡ s (back y.0) ++ y.1)) is
+      (subst (λ (y : A). F y × (bytes ≡ s y ++ a.0.1)) (sym (one a.0.0)) t);
   again = λ b rest fits. ap (λ (t : Read A). t >>= λ a. done (made_of make a)) (R.again (back b) rest fits) ∙ ap (λ (y : B). done (y, rest)) (two b);
   near = λ bytes left fits e. R.near bytes left fits (no_error (r bytes) (made_of make) left e);
   short = λ b fits. R.short (back b) fits;
@@ -163,18 +161,18 @@ pub made_into : {A B : Type 0} {r : List ℕ → Read A} {s : A → List ℕ} {F
     → Reads (λ bytes. made make (r bytes)) s' F' m
 made_into {A = A} {B = B} {r = r} {s = s} make s' F' R form spelled back = record {
   takes = λ bytes x fits e.
-    let a = bind_ok (r bytes) (λ a. done (made_of make a)) x e in
-    let t = R.takes bytes a.0 fits a.1 in
-    subst (λ (y : B × List ℕ). F' y.0 × (bytes ≡ s' y.0 ++ y.1)) (ok_is (made_of make a.0) x a.2)
-    (form a.0.0 t.0, t.1 ∙ ap (λ (l : List ℕ). l ++ a.0.1) (spelled a.0.0 t.0));
+      let a = bind_ok (r bytes) (λ a. done (made_of make a)) x e in
+      let t = R.takes bytes a.0 fits a.1 in
+      subst (λ (y : B × List ℕ). F' y.0 × (bytes ≡ s' y.0 ++ y.1)) (ok_is (made_of make a.0) x a.2)
+      (form a.0.0 t.0, t.1 ∙ ap (λ (l : List ℕ). l ++ a.0.1) (spelled a.0.0 t.0));
   again = λ b rest fits.
-    let a = back b fits in
-    subst (λ (y : B). made make (r (s' y ++ rest)) ≡ Ok (y, rest)) a.2
-    (subst (λ (l : List ℕ). made make (r (l ++ rest)) ≡ Ok (make a.0, rest)) (spelled a.0 a.1) (ap (made make) (R.again a.0 rest a.1)));
+      let a = back b fits in
+      subst (λ (y : B). made make (r (s' y ++ rest)) ≡ Ok (y, rest)) a.2
+      (subst (λ (l : List ℕ). made make (r (l ++ rest)) ≡ Ok (make a.0, rest)) (spelled a.0 a.1) (ap (made make) (R.again a.0 rest a.1)));
   near = λ bytes left fits e. R.near bytes left fits (no_error (r bytes) (made_of make) left e);
   short = λ b fits.
-    let a = back b fits in
-    omega (arith, R.short a.0 a.1, ap length (spelled a.0 a.1 ∙ ap s' a.2));
+      let a = back b fits in
+      omega (arith, R.short a.0 a.1, ap length (spelled a.0 a.1 ∙ ap s' a.2));
 }
 
 -- the same values, said in other words

@@ -1,8 +1,8 @@
 -- Tables of kinds: each row reads exactly what its kind byte and the bytes behind it spell.
-use Rattle.std.proofs.Common.{◌≡◌, ℕ, suc, ◌+◌, ◌≤◌, Bool, true, false, cond, eqb, List, [], ◌∷◌, ◌++◌, length, Result, Ok, Err, refl, sym, ap, subst, ◌∙◌, arith}
+use Rattle.std.proofs.Common.{◌≡◌, ℕ, suc, ◌+◌, ◌≤◌, Bool, true, false, cond, eqb, List, [], ◌∷◌, length, Result, Ok, Err, refl, sym, ap, subst, ◌∙◌, arith}
 use Rattle.std.specs.List.{AllByRecursion}
 use Rattle.std.proofs.lemmas.Bool.{eqb-true}
-use Rattle.ov_fields.specs.Reading.{Read, ◌>>=◌, made, all_of, making, by_kind, by_rows}
+use Rattle.ov_fields.specs.Reading.{Read, made, all_of, making, by_kind, by_rows}
 use Rattle.ov_fields.proofs.ReadingLaws.{AreBytes, AreBytes-back, Reads}
 use Rattle.ov_fields.proofs.WholeLaws.{all_takes, all_again, all_near}
 use Rattle.ov_fields.proofs.KindLaws.{IsKind}
@@ -37,12 +37,12 @@ pub row_reads : {A U : Type 0} {r : List ℕ → Read A} {s : A → List ℕ} {F
     → Reads r s F m → m ≤ most → IsKind s F spell Form kind make → RowReads spell Form most (kind, making make r)
 row_reads {U = U} {r = r} {spell = spell} {Form = Form} kind make most R le K = record {
   takes = λ bytes u fits e.
-    let a = made_ok make (all_of (r bytes)) u (sym (all_made make (r bytes)) ∙ e) in
-    let t = all_takes R bytes a.0 fits a.1 in
-    subst (λ (v : U). Form v × (kind ∷ bytes ≡ spell v)) a.2 (K.form a.0 t.0, ap (λ (l : List ℕ). kind ∷ l) t.1 ∙ K.spelled a.0);
+      let a = made_ok make (all_of (r bytes)) u (sym (all_made make (r bytes)) ∙ e) in
+      let t = all_takes R bytes a.0 fits a.1 in
+      subst (λ (v : U). Form v × (kind ∷ bytes ≡ spell v)) a.2 (K.form a.0 t.0, ap (λ (l : List ℕ). kind ∷ l) t.1 ∙ K.spelled a.0);
   near = λ bytes left fits e.
-    let k = all_near R bytes left fits (made_err make (all_of (r bytes)) left (sym (all_made make (r bytes)) ∙ e)) in
-    (k.0, omega (arith, k.1));
+      let k = all_near R bytes left fits (made_err make (all_of (r bytes)) left (sym (all_made make (r bytes)) ∙ e)) in
+      (k.0, omega (arith, k.1));
 }
 
 pub row_again : {A U : Type 0} {r : List ℕ → Read A} {s : A → List ℕ} {F : A → Type 0} {m : ℕ} (make : A → U)

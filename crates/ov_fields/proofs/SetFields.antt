@@ -1,11 +1,11 @@
 -- Sets as fields.
-use Rattle.std.proofs.Common.{◌≡◌, ℕ, zero, suc, ◌*◌, ◌^◌, ◌<◌, ◌≤◌, ◌+◌, List, [], ◌∷◌, ◌++◌, length, get_or, refl, sym, ap, subst, ◌∙◌, Ok, arith}
+use Rattle.std.proofs.Common.{◌≡◌, ℕ, zero, suc, ◌*◌, ◌^◌, ◌<◌, ◌+◌, List, [], ◌∷◌, ◌++◌, length, refl, sym, ap, subst, ◌∙◌, Ok, arith}
 use Rattle.std.proofs.Math.Nat.{pow-suc}
 use Rattle.std.proofs.lemmas.Nat.{pow-add}
 use Rattle.ov_base.specs.Sets.{IsBelow, bytes_of, set_of_bytes}
 use Rattle.ov_base.proofs.SetBytes.{length-bytes_of, set_of_bytes-bytes_of, bytes_of-set_of_bytes}
 use Rattle.ov_base.proofs.SetLaws.{small-IsBelow, IsBelow-small}
-use Rattle.ov_fields.specs.Reading.{Read, ◌>>=◌, bytes_at, set_at, made}
+use Rattle.ov_fields.specs.Reading.{bytes_at, set_at, made}
 use Rattle.ov_fields.proofs.ReadingLaws.{AreBytes, AreBytes-back, AreBytes-front, bind_ok, done, ok_is, no_error, Reads, made_of}
 use Rattle.ov_fields.proofs.FieldLaws.{bytes_reads}
 

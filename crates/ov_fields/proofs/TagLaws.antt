@@ -1,10 +1,10 @@
 -- Values that a tag byte tells, nothing, and bytes as they stand.
-use Rattle.std.proofs.Common.{◌≡◌, ℕ, ◌+◌, ◌-◌, ◌≤◌, Bool, true, false, cond, eqb, List, [], ◌∷◌, ◌++◌, length, take, drop, Option, Some, None, Result, Ok, Err, ◌⊎◌, inl, inr, refl, sym, ap, subst, ◌∙◌, length-append, eq-eqb, arith}
+use Rattle.std.proofs.Common.{◌≡◌, ℕ, ◌+◌, ◌-◌, ◌≤◌, Bool, true, false, cond, eqb, List, [], ◌∷◌, ◌++◌, length, take, drop, Option, Some, None, Ok, Err, ◌⊎◌, inl, inr, refl, sym, ap, subst, ◌∙◌, length-append, eq-eqb, arith}
 use Rattle.std.proofs.lemmas.Bool.{eqb-true}
 use Rattle.std.proofs.lemmas.List.{take_at, drop_at}
 use Rattle.ov_fields.specs.Spelling.{IsOneOf}
 use Rattle.ov_fields.specs.Reading.{Read, ◌>>=◌, spanned, rest_of, tagged_by, one_of_at, ok_or_left, nothing_at}
-use Rattle.ov_fields.proofs.ReadingLaws.{AreBytes, bind_ok, bind_err, fails_first, fails_later, done, ok_is, no_error, Reads}
+use Rattle.ov_fields.proofs.ReadingLaws.{AreBytes, bind_ok, done, ok_is, no_error, Reads}
 
 -- ---- tags
 
@@ -98,7 +98,7 @@ spanned_takes {A = A} r s F m R bytes x fits e =
     let t = R.takes bytes a.0 fits a.1 in
     let n : length bytes - length a.0.1 ≡ length (s a.0.0) = omega (arith, ap length t.1, length-append (s a.0.0) a.0.1) in
     let front : take (length bytes - length a.0.1) bytes ≡ s a.0.0 =
-      ap (λ (l : List ℕ). take (length bytes - length a.0.1) l) t.1 ∙ take_at (s a.0.0) a.0.1 (length bytes - length a.0.1) (sym n) in
+    ap (λ (l : List ℕ). take (length bytes - length a.0.1) l) t.1 ∙ take_at (s a.0.0) a.0.1 (length bytes - length a.0.1) (sym n) in
     subst (λ (y : List ℕ × List ℕ). ((a : A) × F a × (y.0 ≡ s a)) × (bytes ≡ y.0 ++ y.1)) (ok_is (take (length bytes - length a.0.1) bytes, a.0.1) x a.2)
     ((a.0.0, t.0, front), t.1 ∙ ap (λ (l : List ℕ). l ++ a.0.1) (sym front))
 
@@ -113,10 +113,10 @@ pub spanned_reads : {A : Type 0} {r : List ℕ → Read A} {s : A → List ℕ} 
     → Reads r s F m → Reads (spanned r) (λ text. text) Form m
 spanned_reads {r = r} {s = s} {F = F} {m = m} Form form back R = record {
   takes = λ bytes x fits e.
-    let t = spanned_takes r s F m R bytes x fits e in (subst Form (sym t.0.2) (form t.0.0 t.0.1), t.1);
+      let t = spanned_takes r s F m R bytes x fits e in (subst Form (sym t.0.2) (form t.0.0 t.0.1), t.1);
   again = λ text rest fits.
-    let b = back text fits in
-    subst (λ (l : List ℕ). spanned r (l ++ rest) ≡ Ok (l, rest)) (sym b.2) (spanned_again r s F m R b.0 rest b.1);
+      let b = back text fits in
+      subst (λ (l : List ℕ). spanned r (l ++ rest) ≡ Ok (l, rest)) (sym b.2) (spanned_again r s F m R b.0 rest b.1);
   near = λ bytes left fits e. R.near bytes left fits (no_error (r bytes) (λ a. (take (length bytes - length a.1) bytes, a.1)) left e);
   short = λ text fits. let b = back text fits in omega (arith, R.short b.0 b.1, ap length b.2);
 }
@@ -135,10 +135,10 @@ span_found {A = A} {r = r} {s = s} R bytes rest fits e =
     let sum : length bytes ≡ length (s a.0.0) + length rest = ap length t.1 ∙ length-append (s a.0.0) a.0.1 ∙ ap (λ (l : List ℕ). length (s a.0.0) + length l) is in
     let n : length (s a.0.0) ≡ length bytes - length rest = omega (arith, sum) in
     let back : drop (length bytes - length rest) bytes ≡ rest =
-      ap (λ (l : List ℕ). drop (length bytes - length rest) l) t.1 ∙ drop_at (s a.0.0) a.0.1 (length bytes - length rest) n ∙ is in
+    ap (λ (l : List ℕ). drop (length bytes - length rest) l) t.1 ∙ drop_at (s a.0.0) a.0.1 (length bytes - length rest) n ∙ is in
     record {
       room = omega (arith, sum);
       read = ap (λ (x : Read A). x >>= λ a. done (take (length bytes - length a.1) bytes, a.1)) a.1
-        ∙ ap (λ (l : List ℕ). done (take (length bytes - length l) bytes, l)) is
-        ∙ ap (λ (l : List ℕ). done (take (length bytes - length rest) bytes, l)) (sym back);
+          ∙ ap (λ (l : List ℕ). done (take (length bytes - length l) bytes, l)) is
+          ∙ ap (λ (l : List ℕ). done (take (length bytes - length rest) bytes, l)) (sym back);
     }

@@ -1,8 +1,8 @@
 -- Reading a list of bytes as a whole, and what follows for spellings.
-use Rattle.std.proofs.Common.{◌≡◌, ℕ, ◌+◌, ◌≤◌, Bool, true, false, cond, eqb, List, [], ◌∷◌, ◌++◌, length, Result, Ok, Err, refl, sym, ap, subst, ◌∙◌, length-append, arith}
+use Rattle.std.proofs.Common.{◌≡◌, ℕ, ◌+◌, ◌≤◌, Bool, true, false, cond, eqb, List, [], ◌++◌, length, Result, Ok, Err, refl, sym, ap, subst, ◌∙◌, length-append, arith}
 use Rattle.std.proofs.lemmas.Bool.{eqb-true}
 use Rattle.std.proofs.lemmas.List.{append-nil, nil_from_length}
-use Rattle.ov_fields.specs.Reading.{Read, ◌>>=◌, all_of}
+use Rattle.ov_fields.specs.Reading.{Read, all_of}
 use Rattle.ov_fields.proofs.ReadingLaws.{AreBytes, bind_ok, bind_err, fails_first, fails_later, done, ok_is, Reads}
 
 abbrev ended : {A : Type 0} → A × List ℕ → Result A ℕ

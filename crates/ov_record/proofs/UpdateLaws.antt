@@ -1,14 +1,13 @@
 -- The reader of updates reads exactly their spellings.
-use Rattle.std.proofs.Common.{◌≡◌, ℕ, zero, suc, ◌+◌, ◌*◌, ◌^◌, ◌<◌, ◌≤◌, IsTrue, List, [], ◌∷◌, ◌++◌, length, Option, Ok, Err, refl, sym, ap, subst, ◌∙◌, arith}
+use Rattle.std.proofs.Common.{◌≡◌, ℕ, zero, suc, ◌+◌, ◌*◌, ◌^◌, ◌<◌, ◌≤◌, IsTrue, List, [], ◌∷◌, ◌++◌, length, Option, Ok, Err, refl, arith}
 use Rattle.std.specs.Prelude.{IfSome}
 use Rattle.std.specs.List.{AllByRecursion}
-use Rattle.std.specs.Int.{w32}
 use Rattle.std.proofs.lemmas.Bool.Decides.{nat_tests}
 use Rattle.ov_base.specs.Names.{IsName}
 use Rattle.ov_base.specs.Sets.{IsBelow, bytes_of}
 use Rattle.ov_tokens.specs.declared.token.Token.{Token}
 use Rattle.ov_fields.specs.Spelling.{u32, name_field, token_field, sized, optional, counted, IsToken}
-use Rattle.ov_fields.specs.Reading.{Read, made, at_most}
+use Rattle.ov_fields.specs.Reading.{at_most}
 use Rattle.ov_fields.proofs.ReadingLaws.{AreBytes, Reads, then_reads}
 use Rattle.ov_fields.proofs.FieldLaws.{bytes_reads, number_reads, wide32}
 use Rattle.ov_fields.proofs.ListLaws.{counted_reads, sized_reads, optional_reads}

@@ -1,5 +1,5 @@
 -- Reading updates from left to right, with sets in so many bytes.
-use Rattle.std.specs.Prelude.{ℕ, zero, suc, List, [], ◌∷◌, length, Option, Result, Ok, Err}
+use Rattle.std.specs.Prelude.{ℕ, zero, suc, List, [], ◌∷◌, length, Option, Result, Err}
 use Rattle.std.specs.Int.{w32}
 use Rattle.ov_tokens.specs.declared.token.Token.{Token}
 use Rattle.ov_fields.specs.Reading.{Read, ◌>>◌, made, all_of, placed, bytes_at, number_at, set_at, counted_at, sized_at, optional_at, name_at, token_at}

@@ -1,9 +1,8 @@
 -- The one spelling of each update, with sets in so many bytes.
-use Rattle.std.specs.Prelude.{ℕ, ◌≡◌, ◌≤◌, ◌<◌, ◌*◌, ◌^◌, List, [], ◌∷◌, ◌++◌, length, Option, Some, None, IfSome}
+use Rattle.std.specs.Prelude.{ℕ, ◌≡◌, ◌≤◌, ◌<◌, ◌*◌, ◌^◌, List, [], ◌∷◌, ◌++◌, length, IfSome}
 use Rattle.std.specs.List.{AllByRecursion}
 use Rattle.ov_base.specs.Names.{IsName}
 use Rattle.ov_base.specs.Sets.{IsBelow, bytes_of}
-use Rattle.ov_tokens.specs.declared.token.Token.{Token}
 use Rattle.ov_fields.specs.Spelling.{u32, name_field, token_field, sized, optional, counted, IsToken}
 use Rattle.ov_record.specs.Updates.{SealedUpdate, SealedEnrol, SealedCreate, SealedGrant, SealedRevoke}
 

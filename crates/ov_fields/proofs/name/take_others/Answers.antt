@@ -1,9 +1,8 @@
-use Rattle.std.proofs.Common.{◌≡◌, ◌∙◌, take, drop, arith, sym, ap, Ok, List, ℕ}
+use Rattle.std.proofs.Common.{◌∙◌, take}
 use Rattle.std.proofs.lemmas.Result.{err_from_is_err_and}
 use Rattle.ov_base.specs.Names.{is_name_byte}
 use Rattle.ov_fields.specs.Answers.{left_of}
 use Rattle.ov_fields.specs.Reading.{byte_at, many_at}
-use Rattle.ov_fields.proofs.ReadingLaws.{AreBytes}
 use Rattle.ov_fields.proofs.Loops.{ends}
 use Rattle.ov_fields.proofs.NameLaws.{passes_on, passed}
 use Rattle.ov_fields.proofs.name.take_others.Goals as goal

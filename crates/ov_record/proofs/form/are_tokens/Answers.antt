@@ -1,4 +1,4 @@
-use Rattle.std.proofs.Common.{[], ◌<◌, subst, arith}
+use Rattle.std.proofs.Common.{[], subst, arith}
 use Rattle.std.proofs.lemmas.List.{get_or_default}
 use Rattle.std.proofs.lemmas.List.Elements.{recursion_from_All}
 use Rattle.ov_fields.specs.Spelling.{IsToken}

@@ -1,10 +1,9 @@
-use Rattle.std.proofs.Common.{◌≡◌, ◌∙◌, ◌*◌, ◌≤◌, ◌<◌, ◌+◌, ◌^◌, ap, sym, Ok, Err, Result, List, ℕ, length, arith}
-use Rattle.ov_fields.specs.Reading.{placed, all_of}
-use Rattle.ov_fields.proofs.ReadingLaws.{AreBytes}
+use Rattle.std.proofs.Common.{◌∙◌, ◌*◌, ap, sym, List, ℕ, arith}
+use Rattle.ov_fields.specs.Reading.{all_of}
 use Rattle.ov_fields.proofs.WholeLaws.{all_takes, all_again, all_near}
-use Rattle.ov_record.specs.Updates.{SealedUpdate, sealed_update}
+use Rattle.ov_record.specs.Updates.{sealed_update}
 use Rattle.ov_record.specs.Reading.{update_at}
-use Rattle.ov_record.proofs.UpdateLaws.{update_reads, longest, within_limits}
+use Rattle.ov_record.proofs.UpdateLaws.{update_reads, within_limits}
 use Rattle.ov_record.proofs.reading.read.Goals as goal
 
 pub overflow_sub-result : goal.overflow_sub-result
