@@ -1,0 +1,10 @@
+pub mod FieldLaws
+pub mod KindLaws
+pub mod ListLaws
+pub mod Loops
+pub mod NameLaws
+pub mod ReadingLaws
+pub mod RowLaws
+pub mod SetFields
+pub mod TagLaws
+pub mod WholeLaws

@@ -1,0 +1,232 @@
+-- The reader of answers to a request reads exactly the spellings of those that are in its grammar.
+use Rattle.std.proofs.Common.{◌≡◌, ℕ, zero, suc, ◌+◌, ◌*◌, ◌^◌, ◌<◌, ◌≤◌, Bool, true, false, cond, IsTrue, List, [], ◌∷◌, ◌++◌, length, take, drop, Option, Some, None, Result, Ok, Err, inl, inr, refl, sym, ap, subst, ◌∙◌, length-drop, eqb, eq-eqb, arith}
+use Rattle.std.specs.Prelude.{IfSome}
+use Rattle.std.specs.List.{AllByRecursion}
+use Rattle.std.proofs.lemmas.Bool.{eqb-true}
+use Rattle.std.proofs.lemmas.List.{take_all}
+use Rattle.ov_base.specs.declared.mode.Mode.{Mode}
+use Rattle.ov_base.specs.declared.mode.Mode.TheVariants.{Full, Delta}
+use Rattle.ov_base.specs.declared.refusal.Refusal.{Refusal}
+use Rattle.ov_base.specs.declared.refusal.Refusal.TheVariants.{NoFile}
+use Rattle.ov_base.specs.Modes.{mode_byte}
+use Rattle.ov_base.specs.Refusals.{refusal_number}
+use Rattle.ov_base.specs.Sets.{IsBelow, bytes_of}
+use Rattle.ov_tokens.specs.declared.chain.Chain.{Chain}
+use Rattle.ov_fields.specs.Spelling.{u8, u32, flag, name_field, optional, counted, IsOneOf}
+use Rattle.ov_fields.specs.Reading.{Read, ◌>>=◌, made, making, all_of, by_rows, at_most, one_of_at}
+use Rattle.ov_fields.proofs.ReadingLaws.{AreBytes, done, Reads, then_reads}
+use Rattle.ov_fields.proofs.FieldLaws.{bytes_reads, number_reads, wide32}
+use Rattle.ov_fields.proofs.ListLaws.{counted_reads, optional_reads}
+use Rattle.ov_fields.proofs.SetFields.{set_reads}
+use Rattle.ov_fields.proofs.TagLaws.{nothing_reads}
+use Rattle.ov_fields.proofs.KindLaws.{IsKind}
+use Rattle.ov_fields.proofs.RowLaws.{RowReads, row_reads, row_again, rows_take, rows_near}
+use Rattle.ov_wire.specs.declared.request.Request.{Request}
+use Rattle.ov_wire.specs.declared.request.Request.TheVariants as requests
+use Rattle.ov_wire.specs.declared.answer.Answer.{Answer}
+use Rattle.ov_wire.specs.declared.answer.Answer.TheVariants as answers
+use Rattle.ov_wire.specs.AnswerBytes.{answer_bytes}
+use Rattle.ov_wire.specs.AnswerReading.{Row, bare, no_memory, device_fault, refused, welcome, welcome_at, known, known_at, plan, plan_at, chained, chained_at, up_to, entry_or_none_at, greater_at, next_at, answer_rows}
+use Rattle.ov_wire.specs.AnswersTo.{IsAnswer, create_refusals, read_refusals, ask_refusals, update_refusals, most_file, most_node, most_chunk, wants_of}
+use Rattle.ov_wire.specs.Chains.{chain_field, chain_at, IsChain, base_kinds, surface_kinds}
+use Rattle.ov_wire.specs.Entries.{IsNode, IsEntry}
+use Rattle.ov_wire.specs.Requests.{names_file, AreNames}
+use Rattle.ov_wire.specs.Updates.{plain, Has32}
+use Rattle.ov_wire.proofs.ChainLaws.{chain_reads}
+use Rattle.ov_wire.proofs.EntryLaws.{entry_or_none_reads, longest_entry}
+use Rattle.ov_wire.proofs.NamesLaws.{AreFewNames, names_reads}
+use Rattle.ov_wire.proofs.NumberLaws.{at_most_reads, node_reads, greater_reads, next_reads, flag_reads, mode_reads, refusal_reads, le_of, of_le}
+
+welcome_reads : Reads welcome_at (λ f. u8 (mode_byte f.0.0) ++ u32 f.0.1 ++ f.1) (λ f. (IsOneOf f.0.0 (Full ∷ Delta ∷ []) × (f.0.1 < 2 ^ 32)) × Has32 f.1) (1 + 4 + 32)
+welcome_reads = then_reads (then_reads (mode_reads (Full ∷ Delta ∷ [])) (number_reads wide32)) (bytes_reads 32)
+
+each_mode : (m : Mode) → IsOneOf m (Full ∷ Delta ∷ [])
+each_mode Full = inl refl
+each_mode Delta = inr (inl refl)
+
+each_flag : (b : Bool) → IsOneOf b (false ∷ true ∷ [])
+each_flag false = inl refl
+each_flag true = inr (inl refl)
+
+either_small : (b : Bool) (n : ℕ) → n < 2 ^ 32 → cond b n 0 < 2 ^ 32
+either_small true n h = h
+either_small false n h = omega arith
+
+abbrev KnownFields : Type 0
+KnownFields = (((((ℕ × ℕ) × ℕ) × ℕ) × ℕ) × ℕ) × Bool
+
+abbrev known_fields : KnownFields → List ℕ
+known_fields f = u32 f.0.0.0.0.0.0 ++ u32 f.0.0.0.0.0.1 ++ u32 f.0.0.0.0.1 ++ u32 f.0.0.0.1 ++ u32 f.0.0.1 ++ u32 f.0.1 ++ u8 (flag f.1)
+
+abbrev KnownFits : ℕ → KnownFields → Type 0
+KnownFits verb f =
+    ((((((f.0.0.0.0.0.0 < 2 ^ 32) × (f.0.0.0.0.0.1 ≤ 255)) × IsNode f.0.0.0.0.1) × IsNode f.0.0.0.1) × (f.0.0.1 ≤ most_file verb)) × (f.0.1 ≤ most_node verb)) × IsOneOf f.1 (wants_of verb)
+
+known_reads : (verb : ℕ) → Reads (known_at verb) known_fields (KnownFits verb) (4 + 4 + 4 + 4 + 4 + 4 + 1)
+known_reads verb =
+    then_reads (then_reads (then_reads (then_reads (then_reads (then_reads (number_reads wide32) (at_most_reads 255 (omega arith))) node_reads) node_reads)
+    (at_most_reads (most_file verb) (either_small (names_file verb) 16383 (omega arith)))) (at_most_reads (most_node verb) (either_small (names_file verb) 4095 (omega arith)))) (flag_reads (wants_of verb))
+
+abbrev PlanFields : Type 0
+PlanFields = ((((ℕ × ℕ) × ℕ) × ℕ) × Bool) × List ℕ
+
+abbrev plan_fields : PlanFields → List ℕ
+plan_fields f = u32 f.0.0.0.0.0 ++ u32 f.0.0.0.0.1 ++ bytes_of 32 f.0.0.0.1 ++ u32 f.0.0.1 ++ u8 (flag f.0.1) ++ counted u32 f.1
+
+abbrev PlanFits : PlanFields → Type 0
+PlanFits f =
+    (((((f.0.0.0.0.0 < 2 ^ 32) × (f.0.0.0.0.1 ≤ 16383)) × IsBelow 256 f.0.0.0.1) × IsNode f.0.0.1) × IsOneOf f.0.1 (false ∷ true ∷ []))
+    × (((length f.1 < 2 ^ 16) × IsTrue (at_most 256 (length f.1))) × AllByRecursion IsNode f.1)
+
+plan_reads : Reads plan_at plan_fields PlanFits (4 + 4 + 32 + 4 + 1 + (2 + 256 * 4))
+plan_reads =
+    then_reads (then_reads (then_reads (then_reads (then_reads (number_reads wide32) (at_most_reads 16383 (omega arith))) (set_reads 32)) node_reads) (flag_reads (false ∷ true ∷ []))) (counted_reads 256 node_reads)
+
+abbrev ChainedFields : Type 0
+ChainedFields = (((((ℕ × ℕ) × ℕ) × ℕ) × List ℕ) × Chain) × Option Chain
+
+abbrev chained_fields : ChainedFields → List ℕ
+chained_fields f =
+    u32 f.0.0.0.0.0.0 ++ u32 f.0.0.0.0.0.1 ++ u32 f.0.0.0.0.1 ++ u32 f.0.0.0.1 ++ f.0.0.1 ++ chain_field f.0.1 ++ optional chain_field f.1
+
+abbrev ChainedFits : ChainedFields → Type 0
+ChainedFits f =
+    ((((((f.0.0.0.0.0.0 < 2 ^ 32) × (f.0.0.0.0.0.1 ≤ 16383)) × (f.0.0.0.0.1 ≤ 1048576)) × (f.0.0.0.1 < 2 ^ 32)) × Has32 f.0.0.1) × IsChain base_kinds f.0.1)
+    × IfSome f.1 (IsChain surface_kinds)
+
+-- no chain has more bytes
+abbrev longest_chain : ℕ
+longest_chain = 4 + (2 + 65535 * 37)
+
+chained_reads : Reads chained_at chained_fields ChainedFits (4 + 4 + 4 + 4 + 32 + longest_chain + (1 + longest_chain))
+chained_reads =
+    then_reads (then_reads (then_reads (then_reads (then_reads (then_reads (number_reads wide32) (at_most_reads 16383 (omega arith))) (at_most_reads 1048576 (omega arith)))
+    (number_reads wide32)) (bytes_reads 32)) (chain_reads base_kinds)) (optional_reads (chain_reads surface_kinds))
+
+-- ---- rows
+
+-- no answer has more bytes behind its kind byte
+abbrev pub most_bytes : ℕ
+most_bytes = 10000000
+
+bare_row : (request : Request) (kind : ℕ) (answer : Answer) → IsAnswer request answer → kind ∷ [] ≡ answer_bytes answer → RowReads answer_bytes (IsAnswer request) most_bytes (bare kind answer)
+bare_row request kind answer is spelled = row_reads kind (λ n. answer) most_bytes nothing_reads (omega arith) (record { form = λ n fits. is; spelled = λ n. spelled })
+
+refused_row : (request : Request) (refusals : List Refusal) → ((r : Refusal) → IsOneOf r refusals → IsAnswer request (answers.Refused r)) → RowReads answer_bytes (IsAnswer request) most_bytes (refused refusals)
+refused_row request refusals form = row_reads 0x88 answers.Refused most_bytes (refusal_reads refusals) (omega arith) (record { form = form; spelled = λ r. refl })
+
+ended_is : {A : Type 0} (b : Bool) (left : ℕ) (x y : A) → cond b (Ok x) (Err left) ≡ Ok y → (b ≡ true) × (x ≡ y)
+ended_is true left x y e = (refl, cc)
+ended_is false left x y e = absurd cc
+
+ended_not : {A : Type 0} (b : Bool) (n left : ℕ) (x : A) → cond b (Ok x) (Err n) ≡ Err left → n ≡ left
+ended_not true n left x e = absurd cc
+ended_not false n left x e = cc
+
+ended_so : {A : Type 0} (b : Bool) (left : ℕ) (x : A) → b ≡ true → cond b (done x) (Err left) ≡ Ok x
+ended_so true left x e = refl
+ended_so false left x e = absurd cc
+
+bytes_row : (request : Request) (n : ℕ) → n ≤ 65536 → ((bytes : List ℕ) → length bytes ≤ n → IsAnswer request (answers.Bytes bytes))
+    → RowReads answer_bytes (IsAnswer request) most_bytes (0x86, making answers.Bytes (up_to n))
+bytes_row request n small form = record {
+  takes = λ bytes u fits e.
+    let end = ended_is (eqb (length (drop n bytes)) 0) (length (drop n bytes)) (answers.Bytes (take n bytes)) u e in
+    let none : length (drop n bytes) ≡ 0 = eqb-true _ _ end.0 in
+    let few : length bytes ≤ n = omega (arith, length-drop n bytes, none) in
+    let all : take n bytes ≡ bytes = take_all n bytes few in
+    subst (λ (v : Answer). IsAnswer request v × (0x86 ∷ bytes ≡ answer_bytes v)) (ap answers.Bytes (sym all) ∙ end.1) (form bytes few, refl);
+  near = λ bytes left fits e.
+    let is : length (drop n bytes) ≡ left = ended_not (eqb (length (drop n bytes)) 0) (length (drop n bytes)) left (answers.Bytes (take n bytes)) e in
+    (omega (arith, length-drop n bytes, is), omega (arith, length-drop n bytes, is));
+}
+
+bytes_again : (n : ℕ) (bytes : List ℕ) → length bytes ≤ n → all_of (making answers.Bytes (up_to n) bytes) ≡ Ok (answers.Bytes bytes)
+bytes_again n bytes few =
+    let none : length (drop n bytes) ≡ 0 = omega (arith, length-drop n bytes) in
+    ended_so (eqb (length (drop n bytes)) 0) (length (drop n bytes)) (answers.Bytes (take n bytes)) (eq-eqb _ _ none) ∙ ap (λ (t : List ℕ). done (answers.Bytes t)) (take_all n bytes few)
+
+names_few : (names : List (List ℕ)) → AreFewNames 256 names → (length names ≤ 256) × AreNames names
+names_few names fits = (fits.few, fits.are_names)
+
+rows_read : (request : Request) → AllByRecursion (RowReads answer_bytes (IsAnswer request) most_bytes) (answer_rows request)
+rows_read requests.Hello =
+    (row_reads 0x81 welcome most_bytes welcome_reads (omega arith) (record { form = λ f fits. (fits.0.1, fits.1); spelled = λ f. refl }),
+    (bare_row requests.Hello 0x8e answers.NoMemory tt refl, tt))
+rows_read (requests.Ask verb user file) =
+    (row_reads 0x82 known most_bytes (known_reads verb) (omega arith)
+      (record { form = λ f fits. (fits.0.0.0.0.0.0, fits.0.0.0.0.0.1, fits.0.0.0.0.1, fits.0.0.0.1, fits.0.0.1, fits.0.1, fits.1); spelled = λ f. refl }),
+    (refused_row (requests.Ask verb user file) (ask_refusals verb) (λ r is. is),
+    (bare_row (requests.Ask verb user file) 0x8e answers.NoMemory tt refl, tt)))
+rows_read (requests.Cover file len names) =
+    (row_reads 0x83 plan most_bytes plan_reads (omega arith)
+      (record { form = λ f fits. (fits.0.0.0.0.0, fits.0.0.0.0.1, fits.0.0.0.1, fits.0.0.1, le_of 256 (length f.1) fits.1.0.1, fits.1.1); spelled = λ f. refl }),
+    (refused_row (requests.Cover file len names) create_refusals (λ r is. is),
+    (bare_row (requests.Cover file len names) 0x8e answers.NoMemory tt refl, tt)))
+rows_read (requests.Update epoch spelling tag) =
+    (row_reads 0x84 answers.Accepted most_bytes (next_reads epoch) (omega arith) (record { form = λ k fits. fits; spelled = λ k. refl }),
+    (refused_row (requests.Update epoch spelling tag) (update_refusals spelling) (λ r is. is),
+    (row_reads 0x89 answers.Stale most_bytes (greater_reads epoch) (omega arith) (record { form = λ k fits. fits; spelled = λ k. refl }),
+    (bare_row (requests.Update epoch spelling tag) 0x8a answers.BadTag tt refl,
+    (bare_row (requests.Update epoch spelling tag) 0x8d answers.DeviceFault tt refl,
+    (bare_row (requests.Update epoch spelling tag) 0x8e answers.NoMemory tt refl, tt))))))
+rows_read (requests.Chain user file) =
+    (row_reads 0x85 chained most_bytes chained_reads (omega arith)
+      (record { form = λ f fits. (fits.0.0.0.0.0.0, fits.0.0.0.0.0.1, fits.0.0.0.0.1, fits.0.0.0.1, fits.0.0.1, fits.0.1, fits.1); spelled = λ f. refl }),
+    (refused_row (requests.Chain user file) read_refusals (λ r is. is),
+    (bare_row (requests.Chain user file) 0x8e answers.NoMemory tt refl, tt)))
+rows_read (requests.Chunk file generation start count) =
+    (bytes_row (requests.Chunk file generation start count) (most_chunk count) (omega arith) (λ bytes few. few),
+    (refused_row (requests.Chunk file generation start count) (NoFile ∷ []) (λ r is. is),
+    (row_reads 0x8c answers.Moved most_bytes (greater_reads generation) (omega arith) (record { form = λ k fits. fits; spelled = λ k. refl }),
+    (bare_row (requests.Chunk file generation start count) 0x8d answers.DeviceFault tt refl,
+    (bare_row (requests.Chunk file generation start count) 0x8e answers.NoMemory tt refl, tt)))))
+rows_read (requests.Page part number) =
+    (row_reads 0x87 answers.PageOf most_bytes (entry_or_none_reads part) (omega arith) (record { form = λ o fits. fits; spelled = λ o. refl }),
+    (bare_row (requests.Page part number) 0x8e answers.NoMemory tt refl, tt))
+rows_read (requests.List file) =
+    (row_reads 0x8f answers.Listed most_bytes (names_reads 256 (omega arith)) (omega arith) (record { form = names_few; spelled = λ names. refl }),
+    (refused_row (requests.List file) (NoFile ∷ []) (λ r is. is),
+    (bare_row (requests.List file) 0x8e answers.NoMemory tt refl, tt)))
+
+-- what is read is spelled so
+pub answer_takes : (request : Request) (bytes : List ℕ) (answer : Answer) → AreBytes bytes → all_of (by_rows (answer_rows request) bytes) ≡ Ok answer → IsAnswer request answer × (bytes ≡ answer_bytes answer)
+answer_takes request = rows_take answer_bytes (IsAnswer request) most_bytes (answer_rows request) (rows_read request)
+
+-- a wrong byte is near
+pub answer_near : (request : Request) (bytes : List ℕ) (left : ℕ) → AreBytes bytes → all_of (by_rows (answer_rows request) bytes) ≡ Err left → (left ≤ length bytes) × (length bytes ≤ left + (1 + most_bytes))
+answer_near request = rows_near answer_bytes (IsAnswer request) most_bytes (answer_rows request) (rows_read request)
+
+-- what is spelled so is read
+pub answer_again : (request : Request) (answer : Answer) → IsAnswer request answer → all_of (by_rows (answer_rows request) (answer_bytes answer)) ≡ Ok answer
+answer_again requests.Hello answers.NoMemory is = refl
+answer_again (requests.Ask verb user file) answers.NoMemory is = refl
+answer_again (requests.Cover file len names) answers.NoMemory is = refl
+answer_again (requests.Update epoch spelling tag) answers.NoMemory is = refl
+answer_again (requests.Chain user file) answers.NoMemory is = refl
+answer_again (requests.Chunk file generation start count) answers.NoMemory is = refl
+answer_again (requests.Page part number) answers.NoMemory is = refl
+answer_again (requests.List file) answers.NoMemory is = refl
+answer_again requests.Hello (answers.Welcome mode epoch check) is = row_again welcome welcome_reads ((mode, epoch), check) ((each_mode mode, is.0), is.1)
+answer_again (requests.Ask verb u f) (answers.Known epoch user base_root surface_root file node wants) is =
+    row_again known (known_reads verb) ((((((epoch, user), base_root), surface_root), file), node), wants) ((((((is.0, is.1), is.2), is.3), is.4), is.5), is.6)
+answer_again (requests.Ask verb u f) (answers.Refused refusal) is = row_again answers.Refused (refusal_reads (ask_refusals verb)) refusal is
+answer_again (requests.Cover f l ns) (answers.Plan epoch file list node fresh from) is =
+    row_again plan plan_reads (((((epoch, file), list), node), fresh), from) (((((is.0, is.1), is.2), is.3), each_flag fresh), ((omega (arith, is.4), of_le 256 (length from) is.4), is.5))
+answer_again (requests.Cover f l ns) (answers.Refused refusal) is = row_again answers.Refused (refusal_reads create_refusals) refusal is
+answer_again (requests.Update made_at spelling tag) (answers.Accepted epoch) is = row_again answers.Accepted (next_reads made_at) epoch is
+answer_again (requests.Update made_at spelling tag) (answers.Refused refusal) is = row_again answers.Refused (refusal_reads (update_refusals spelling)) refusal is
+answer_again (requests.Update made_at spelling tag) (answers.Stale epoch) is = row_again answers.Stale (greater_reads made_at) epoch is
+answer_again (requests.Update made_at spelling tag) answers.BadTag is = refl
+answer_again (requests.Update made_at spelling tag) answers.DeviceFault is = refl
+answer_again (requests.Chain u f) (answers.Chained epoch file len generation tag base surface) is =
+    row_again chained chained_reads ((((((epoch, file), len), generation), tag), base), surface) ((((((is.0, is.1), is.2), is.3), is.4), is.5), is.6)
+answer_again (requests.Chain u f) (answers.Refused refusal) is = row_again answers.Refused (refusal_reads read_refusals) refusal is
+answer_again (requests.Chunk f asked start count) (answers.Bytes bytes) is = bytes_again (most_chunk count) bytes is
+answer_again (requests.Chunk f asked start count) (answers.Refused refusal) is = row_again answers.Refused (refusal_reads (NoFile ∷ [])) refusal is
+answer_again (requests.Chunk f asked start count) (answers.Moved generation) is = row_again answers.Moved (greater_reads asked) generation is
+answer_again (requests.Chunk f asked start count) answers.DeviceFault is = refl
+answer_again (requests.Page part number) (answers.PageOf entry) is = row_again answers.PageOf (entry_or_none_reads part) entry is
+answer_again (requests.List file) (answers.Listed names) is = row_again answers.Listed (names_reads 256 (omega arith)) names (record { few = is.0; are_names = is.1 })
+answer_again (requests.List file) (answers.Refused refusal) is = row_again answers.Refused (refusal_reads (NoFile ∷ [])) refusal is
+answer_again request answer is = absurd is

@@ -1,0 +1,13 @@
+use Rattle.std.proofs.Common.{◌≡◌, ◌∙◌, ◌-◌, ap, sym, Ok, List, ℕ, length, take, drop, arith}
+use Rattle.ov_fields.proofs.TagLaws.{span_found}
+use Rattle.ov_wire.proofs.FieldsLaws.{fields_reads}
+use Rattle.ov_wire.proofs.update.take_spelling.Goals as goal
+
+pub overflow_sub-bytes : goal.overflow_sub-bytes
+overflow_sub-bytes c =
+    (span_found fields_reads c.args.bytes.now c.in_ok-rest.rest.now (record { each = λ i. omega (arith, c.type_inv.bytes i) }) c.in_ok-rest.ensures).room
+
+pub returns : goal.returns
+returns c =
+    rw (c.split_at.ensures.front, c.split_at.ensures.back)
+    (span_found fields_reads c.args.bytes.now c.in_ok-rest.rest.now (record { each = λ i. omega (arith, c.type_inv.bytes i) }) c.in_ok-rest.ensures).read

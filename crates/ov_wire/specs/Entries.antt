@@ -1,0 +1,94 @@
+-- Entries of the public catalogue, as they stand in an answer.
+use Rattle.std.specs.Prelude.{ℕ, zero, suc, ◌≡◌, ◌≤◌, ◌<◌, ◌^◌, List, [], ◌∷◌, length, Option, IfSome, Result, Err}
+use Rattle.std.specs.List.{AllByRecursion}
+use Rattle.std.specs.Int.{w32}
+use Rattle.ov_base.specs.Names.{IsName}
+use Rattle.ov_base.specs.Sets.{IsBelow}
+use Rattle.ov_tokens.specs.declared.token.Token.{Token}
+use Rattle.ov_tokens.specs.declared.edge.Edge.{Edge}
+use Rattle.ov_fields.specs.Spelling.{IsToken}
+use Rattle.ov_fields.specs.Entries.{user_entry, node_entry, access_entry, file_entry}
+use Rattle.ov_fields.specs.Reading.{Read, ◌>>◌, making, spanned, at_most, bytes_at, number_at, number_that, set_at, counted_at, optional_at, name_at, token_at}
+
+-- an entry, by its fields
+pub data Entry : Type 0 where
+  User : (name : List ℕ) → (base_root surface_root : ℕ) → Entry
+  Node : (set : ℕ) → (edges : List Edge) → Entry
+  Access : (user node : ℕ) → (token : Token) → Entry
+  File : (name : List ℕ) → (node len generation : ℕ) → (tag : List ℕ) → (surface : Option ℕ) → Entry
+
+abbrev pub entry_bytes : Entry → List ℕ
+entry_bytes (User name base_root surface_root) = user_entry name base_root surface_root
+entry_bytes (Node set edges) = node_entry 32 set edges
+entry_bytes (Access user node token) = access_entry user node token
+entry_bytes (File name node len generation tag surface) = file_entry name node len generation tag surface
+
+-- a node of a layer, of which there are at most 4,096
+abbrev pub IsNode : ℕ → Type 0
+IsNode node = node ≤ 4095
+
+abbrev pub IsEdge : Edge → Type 0
+IsEdge edge = IsNode edge.from × IsToken edge.token
+
+-- which entries a part can have: 1 users, 2 and 3 nodes, 4 access tokens, 5 files
+abbrev pub IsOfPart : ℕ → Entry → Type 0
+IsOfPart (suc zero) (User name base_root surface_root) = IsName name × IsNode base_root × IsNode surface_root
+IsOfPart (suc (suc zero)) (Node set edges) = IsBelow 256 set × (length edges ≤ 256) × AllByRecursion IsEdge edges
+IsOfPart (suc (suc (suc zero))) (Node set edges) = IsBelow 256 set × (length edges ≤ 256) × AllByRecursion IsEdge edges
+IsOfPart (suc (suc (suc (suc zero)))) (Access user node token) = (user ≤ 255) × IsNode node × IsToken token
+IsOfPart (suc (suc (suc (suc (suc zero))))) (File name node len generation tag surface) =
+    IsName name × IsNode node × (len ≤ 1048576) × (generation < 2 ^ 32) × (length tag ≡ 32) × IfSome surface IsNode
+IsOfPart part entry = ⊥
+
+-- the bytes are an entry of this part
+pub record IsEntry (part : ℕ) (bytes : List ℕ) : Type 0 where
+  pub entry : Entry
+  pub form : IsOfPart part entry
+  pub spelled : bytes ≡ entry_bytes entry
+
+-- ---- reading
+
+abbrev pub node_at : List ℕ → Read ℕ
+node_at = number_that w32 (at_most 4095)
+
+abbrev pub user_entry_at : List ℕ → Read ((List ℕ × ℕ) × ℕ)
+user_entry_at = name_at >> node_at >> node_at
+
+abbrev pub user : (List ℕ × ℕ) × ℕ → Entry
+user f = User f.0.0 f.0.1 f.1
+
+abbrev pub edge_fields_at : List ℕ → Read (ℕ × Token)
+edge_fields_at = node_at >> token_at
+
+abbrev pub edge : ℕ × Token → Edge
+edge f = record { from = f.0; token = f.1 }
+
+abbrev pub edge_at : List ℕ → Read Edge
+edge_at = making edge edge_fields_at
+
+abbrev pub node_entry_at : List ℕ → Read (ℕ × List Edge)
+node_entry_at = set_at 32 >> counted_at 256 edge_at
+
+abbrev pub node : ℕ × List Edge → Entry
+node f = Node f.0 f.1
+
+abbrev pub access_entry_at : List ℕ → Read ((ℕ × ℕ) × Token)
+access_entry_at = number_that w32 (at_most 255) >> node_at >> token_at
+
+abbrev pub access : (ℕ × ℕ) × Token → Entry
+access f = Access f.0.0 f.0.1 f.1
+
+abbrev pub file_entry_at : List ℕ → Read (((((List ℕ × ℕ) × ℕ) × ℕ) × List ℕ) × Option ℕ)
+file_entry_at = name_at >> node_at >> number_that w32 (at_most 1048576) >> number_at w32 >> bytes_at 32 >> optional_at node_at
+
+abbrev pub file : ((((List ℕ × ℕ) × ℕ) × ℕ) × List ℕ) × Option ℕ → Entry
+file f = File f.0.0.0.0.0 f.0.0.0.0.1 f.0.0.0.1 f.0.0.1 f.0.1 f.1
+
+-- the fields of an entry of this part
+unfoldable pub entry_at : ℕ → List ℕ → Read Entry
+entry_at (suc zero) = making user user_entry_at
+entry_at (suc (suc zero)) = making node node_entry_at
+entry_at (suc (suc (suc zero))) = making node node_entry_at
+entry_at (suc (suc (suc (suc zero)))) = making access access_entry_at
+entry_at (suc (suc (suc (suc (suc zero))))) = making file file_entry_at
+entry_at part = λ bytes. Err (length bytes)

@@ -1,0 +1,12 @@
+pub mod AnswerBytes
+pub mod AnswerReading
+pub mod AnswersTo
+pub mod Chains
+pub mod Cutting
+pub mod Entries
+pub mod Frames
+pub mod Places
+pub mod RequestReading
+pub mod Requests
+pub mod Updates
+pub use Rattle.ov_fields.specs.Answers

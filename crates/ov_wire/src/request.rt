@@ -1,0 +1,42 @@
+//! Requests to a server.
+
+use ov_base::{Name, Names, Octets};
+
+/// What an owner or a reader asks of a server.
+#[derive(Drop)]
+pub enum Request {
+    /// Asks for the store's mode, epoch and check value.
+    Hello,
+    /// Asks for the numbers that a command needs: verb 1 enrol, 3 grant, 4 revoke and 5 key. Each
+    /// names a user, and verbs 3 and 4 a file besides.
+    Ask {
+        verb: u8,
+        user: Option<Name>,
+        file: Option<Name>,
+    },
+    /// Asks where the list of a file of this length would stand in the base layer.
+    Cover {
+        file: Name,
+        length: u32,
+        names: Names,
+    },
+    /// Changes the store: an update's spelling, made at this epoch, with the owner's tag.
+    Update {
+        epoch: u32,
+        spelling: Octets,
+        tag: [u8; 32],
+    },
+    /// Asks for the tokens that lead a user to a file's keys.
+    Chain { user: Name, file: Name },
+    /// Asks for stored bytes of a file, as they are at this generation.
+    Chunk {
+        file: u32,
+        generation: u32,
+        start: u32,
+        count: u32,
+    },
+    /// Asks for an entry of the public catalogue.
+    Page { part: u8, number: u32 },
+    /// Asks for the names in a file's list.
+    List { file: Name },
+}

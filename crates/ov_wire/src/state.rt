@@ -1,0 +1,12 @@
+//! What is kept of a frame that isn't whole.
+
+/// What a decoder waits for.
+#[derive(Drop)]
+pub enum State {
+    /// The rest of a length field, of which so many bytes came.
+    Length { head: [u8; 4], filled: usize },
+    /// The rest of a frame of so many bytes.
+    Frame { wanted: usize, body: Vec<u8> },
+    /// Nothing: a length field was outside its limits.
+    Bad,
+}

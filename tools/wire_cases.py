@@ -1,0 +1,246 @@
+#!/usr/bin/env python3
+"""Writes the cases by which ov_wire's readers are tested.
+
+One frame of each kind, with each cut of it, and with each of its bytes changed in its lowest and in its highest bit. For
+each the place of the first wrong byte is computed by the reader below, which shares nothing with the crates, or 65535
+where the bytes are another request or answer. Run it at the top of the repository:
+
+    python3 tools/wire_cases.py > crates/ov_wire/src/tests/cases.rt; (cd crates/ov_wire && rt fmt)
+"""
+
+GOOD = 65535
+NAME_FIRST = b"abcdefghijklmnopqrstuvwxyz0123456789"
+NAME = NAME_FIRST + b"._-"
+NODE, FILE, BYTES = 4095, 16383, 1048576
+ENROL, CREATE = (1, 7, 10, 11), (1, 2, 8, 9, 10, 11)
+GRANT, REVOKE, READ = (2, 3, 5, 10, 11), (2, 3, 6, 10, 11), (2, 3, 4)
+
+
+class Wrong(Exception):
+    pass
+
+
+class Text:
+    def __init__(self, data):
+        self.data, self.at = data, 0
+
+    def take(self, count):
+        if self.at + count > len(self.data):
+            raise Wrong(len(self.data))
+        self.at += count
+        return self.data[self.at - count:self.at]
+
+    def number(self, width, least=0, most=2 ** 32 - 1):
+        at, n = self.at, int.from_bytes(self.take(width), "big")
+        if not least <= n <= most:
+            raise Wrong(at)
+        return n
+
+    def byte(self, allowed):
+        at, n = self.at, self.take(1)[0]
+        if n not in allowed:
+            raise Wrong(at)
+        return n
+
+    def name(self):
+        count = self.number(1, 1, 64)
+        return bytes([self.byte(NAME_FIRST)] + [self.byte(NAME) for _ in range(count - 1)])
+
+    def names(self, most):
+        seen = []
+        for _ in range(self.number(2, 0, most)):
+            at = self.at
+            name = self.name()
+            if name in seen:
+                raise Wrong(at)
+            seen.append(name)
+
+    def update(self):
+        kind = self.byte((1, 2, 3, 4))
+        if kind == 1:
+            self.name()
+        elif kind == 2:
+            self.name()
+            self.take(32)
+            self.take(32 * self.number(2, 0, 256))
+            self.take(32)
+            self.take(self.number(4, 0, BYTES))
+        else:
+            self.take(8)
+            if kind == 3 and self.byte((0, 1)):
+                self.take(32)
+
+    def chain(self, kinds):
+        self.number(4, 0, NODE)
+        count = self.number(2)
+        for _ in range(count):
+            self.byte(kinds if count == 1 else kinds[:1])
+            self.number(4, 0, NODE)
+            self.take(32)
+
+    def entry(self, part):
+        if part == 1:
+            self.name(), self.number(4, 0, NODE), self.number(4, 0, NODE)
+        elif part in (2, 3):
+            self.take(32)
+            for _ in range(self.number(2, 0, 256)):
+                self.number(4, 0, NODE), self.take(32)
+        elif part == 4:
+            self.number(4, 0, 255), self.number(4, 0, NODE), self.take(32)
+        else:
+            self.name(), self.number(4, 0, NODE), self.number(4, 0, BYTES), self.number(4), self.take(32)
+            if self.byte((0, 1)):
+                self.number(4, 0, NODE)
+
+    def end(self):
+        if self.at < len(self.data):
+            raise Wrong(self.at)
+
+
+def read_request(text):
+    kind = text.byte(range(1, 9))
+    if kind == 2:
+        verb = text.byte((1, 3, 4, 5))
+        text.name()
+        if verb in (3, 4):
+            text.name()
+    elif kind == 3:
+        text.name(), text.number(4, 0, BYTES), text.names(65535)
+    elif kind == 4:
+        text.number(4), text.update(), text.take(32)
+    elif kind == 5:
+        text.name(), text.name()
+    elif kind == 6:
+        text.take(12), text.number(4, 1, 65536)
+    elif kind == 7:
+        text.take(5)
+    elif kind == 8:
+        text.name()
+    text.end()
+
+
+def number(data, at):
+    return int.from_bytes(data[at:at + 4], "big")
+
+
+def read_answer(request, text):
+    kind = request[0]
+    kinds = {1: (0x81,), 2: (0x82, 0x88), 3: (0x83, 0x88), 4: (0x84, 0x88, 0x89, 0x8a, 0x8d), 5: (0x85, 0x88),
+             6: (0x86, 0x88, 0x8c, 0x8d), 7: (0x87,), 8: (0x8f, 0x88)}[kind] + (0x8e,)
+    answer = text.byte(kinds)
+    if answer == 0x81:
+        text.byte((0, 1)), text.take(36)
+    elif answer == 0x82:
+        verb = request[1]
+        named, wants = verb in (3, 4), verb == 3
+        text.number(4), text.number(4, 0, 255), text.number(4, 0, NODE), text.number(4, 0, NODE)
+        text.number(4, 0, FILE if named else 0), text.number(4, 0, NODE if named else 0), text.byte((0, 1) if wants else (0,))
+    elif answer == 0x83:
+        text.number(4), text.number(4, 0, FILE), text.take(32), text.number(4, 0, NODE), text.byte((0, 1))
+        for _ in range(text.number(2, 0, 256)):
+            text.number(4, 0, NODE)
+    elif answer == 0x84:
+        text.number(4, number(request, 1) + 1, number(request, 1) + 1)
+    elif answer == 0x85:
+        text.number(4), text.number(4, 0, FILE), text.number(4, 0, BYTES), text.number(4), text.take(32), text.chain(b"BA")
+        if text.byte((0, 1)):
+            text.chain(b"S")
+    elif answer == 0x86:
+        text.take(min(len(text.data) - 1, number(request, 13)))
+    elif answer == 0x87:
+        if text.byte((0, 1) if 1 <= request[1] <= 5 else (0,)):
+            text.entry(request[1])
+    elif answer == 0x88:
+        of_ask = {1: ENROL, 3: GRANT, 4: REVOKE, 5: (2,)}
+        of_update = {1: ENROL, 2: CREATE, 3: GRANT, 4: REVOKE}
+        text.byte({2: lambda: of_ask[request[1]], 3: lambda: CREATE, 4: lambda: of_update[request[5]], 5: lambda: READ,
+                   6: lambda: (3,), 8: lambda: (3,)}[kind]())
+    elif answer == 0x89:
+        text.number(4, number(request, 1) + 1)
+    elif answer == 0x8c:
+        text.number(4, number(request, 5) + 1)
+    elif answer == 0x8f:
+        text.names(256)
+    text.end()
+
+
+def place(read, data):
+    try:
+        read(Text(data))
+        return GOOD
+    except Wrong as wrong:
+        return wrong.args[0]
+
+
+def u16(n):
+    return n.to_bytes(2, "big")
+
+
+def u32(n):
+    return n.to_bytes(4, "big")
+
+
+def field(name):
+    return bytes([len(name)]) + name
+
+
+TOKEN, TAG, SET = bytes(range(32)), bytes(range(100, 132)), bytes([9]) + bytes(31)
+ALICE, BOB, F1 = field(b"alice"), field(b"b0-b"), field(b"f1")
+ENROLMENT = b"\1" + ALICE
+CREATION = b"\2" + F1 + SET + u16(1) + TOKEN + TAG + u32(5) + b"hello"
+
+REQUESTS = [
+    b"\1", b"\2\1" + ALICE, b"\2\3" + ALICE + F1, b"\2\5" + BOB, b"\3" + F1 + u32(700) + u16(2) + ALICE + BOB,
+    b"\4" + u32(7) + ENROLMENT + TAG, b"\4" + u32(7) + CREATION + TAG, b"\4" + u32(7) + b"\3" + u32(1) + u32(2) + b"\1" + TOKEN + TAG,
+    b"\4" + u32(7) + b"\4" + u32(1) + u32(2) + TAG, b"\5" + ALICE + F1, b"\6" + u32(3) + u32(9) + u32(0) + u32(65536),
+    b"\7\5" + u32(4), b"\x08" + F1,
+]
+
+HELLO, ASK, GRANTED, COVER = REQUESTS[0], REQUESTS[1], REQUESTS[2], REQUESTS[4]
+UPDATE, CHAIN, CHUNK, LIST = REQUESTS[5], REQUESTS[9], b"\6" + u32(3) + u32(9) + u32(0) + u32(6), REQUESTS[12]
+STEP = u32(6) + TOKEN
+
+ANSWERS = [
+    (HELLO, b"\x81\1" + u32(7) + TAG), (ASK, b"\x82" + u32(7) + u32(2) + u32(3) + u32(4) + u32(0) + u32(0) + b"\0"),
+    (GRANTED, b"\x82" + u32(7) + u32(2) + u32(3) + u32(4) + u32(5) + u32(6) + b"\1"), (ASK, b"\x88\7"),
+    (COVER, b"\x83" + u32(7) + u32(1) + SET + u32(4) + b"\1" + u16(2) + u32(0) + u32(3)), (UPDATE, b"\x84" + u32(8)),
+    (UPDATE, b"\x89" + u32(300)), (UPDATE, b"\x8a"), (UPDATE, b"\x8d"), (UPDATE, b"\x88\x0b"),
+    (CHAIN, b"\x85" + u32(7) + u32(1) + u32(5) + u32(6) + TAG + u32(2) + u16(1) + b"A" + STEP + b"\0"),
+    (CHAIN, b"\x85" + u32(7) + u32(1) + u32(5) + u32(6) + TAG + u32(2) + u16(0) + b"\1" + u32(3) + u16(1) + b"S" + STEP),
+    (CHUNK, b"\x86hello"), (CHUNK, b"\x8c" + u32(10)), (LIST, b"\x8f" + u16(2) + ALICE + BOB), (LIST, b"\x8e"),
+    (b"\7\1" + u32(0), b"\x87\1" + ALICE + u32(1) + u32(2)), (b"\7\2" + u32(0), b"\x87\1" + SET + u16(1) + u32(4) + TOKEN),
+    (b"\7\4" + u32(0), b"\x87\1" + u32(1) + u32(4) + TOKEN),
+    (b"\7\5" + u32(0), b"\x87\1" + F1 + u32(1) + u32(5) + u32(6) + TAG + b"\1" + u32(2)), (b"\7\6" + u32(0), b"\x87\0"),
+]
+
+
+def literal(data):
+    return 'b"' + "".join("\\x%02x" % b for b in data) + '"'
+
+
+def changed(data, at, bit):
+    return data[:at] + bytes([data[at] ^ bit]) + data[at + 1:]
+
+
+def case(request, data):
+    read = read_request if request is None else lambda text: read_answer(request, text)
+    cuts = [place(read, data[:n]) for n in range(len(data))]
+    low = [place(read, changed(data, i, 1)) for i in range(len(data))]
+    high = [place(read, changed(data, i, 0x80)) for i in range(len(data))]
+    assert place(read, data) == GOOD
+    return "Case { request: %s, frame: %s, cuts: &%s, low: &%s, high: &%s }," % (
+        literal(request or b""), literal(data), cuts, low, high)
+
+
+def main():
+    print("//! Written by tools/wire_cases.py: frames, and the place of the first wrong byte in each cut and change of")
+    print("//! them.\n\nuse super::Case;\n")
+    for name, cases in (("REQUESTS", [(None, r) for r in REQUESTS]), ("ANSWERS", ANSWERS)):
+        print("pub const %s: [Case; %d] = [" % (name, len(cases)))
+        for request, data in cases:
+            print("    " + case(request, data))
+        print("];\n")
+
+
+if __name__ == "__main__":
+    main()
