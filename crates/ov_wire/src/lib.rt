@@ -15,6 +15,8 @@ mod request;
 mod request_reading;
 mod request_writing;
 mod state;
+#[cfg(test)]
+mod tests;
 mod update;
 
 pub use answer::Answer;
