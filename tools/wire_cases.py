@@ -1,9 +1,9 @@
 #!/usr/bin/env python3
 """Writes the cases by which ov_wire's readers are tested.
 
-One frame of each kind, with each cut of it, and with each of its bytes changed in its lowest and in its highest bit. For
-each the place of the first wrong byte is computed by the reader below, which shares nothing with the crates, or 65535
-where the bytes are another request or answer. Run it at the top of the repository:
+One frame of each kind, with each of its bytes changed in its lowest and in its highest bit. For each change the place
+of the first wrong byte is computed by the reader below, which shares nothing with the crates, or 65535 where the bytes
+are another request or answer. Run it at the top of the repository:
 
     python3 tools/wire_cases.py > crates/ov_wire/src/tests/cases.rt; (cd crates/ov_wire && rt fmt)
 """
@@ -224,16 +224,15 @@ def changed(data, at, bit):
 
 def case(request, data):
     read = read_request if request is None else lambda text: read_answer(request, text)
-    cuts = [place(read, data[:n]) for n in range(len(data))]
     low = [place(read, changed(data, i, 1)) for i in range(len(data))]
     high = [place(read, changed(data, i, 0x80)) for i in range(len(data))]
     assert place(read, data) == GOOD
-    return "Case { request: %s, frame: %s, cuts: &%s, low: &%s, high: &%s }," % (
-        literal(request or b""), literal(data), cuts, low, high)
+    return "Case { request: %s, frame: %s, low: &%s, high: &%s }," % (
+        literal(request or b""), literal(data), low, high)
 
 
 def main():
-    print("//! Written by tools/wire_cases.py: frames, and the place of the first wrong byte in each cut and change of")
+    print("//! Written by tools/wire_cases.py: frames, and the place of the first wrong byte in each change of")
     print("//! them.\n\nuse super::Case;\n")
     for name, cases in (("REQUESTS", [(None, r) for r in REQUESTS]), ("ANSWERS", ANSWERS)):
         print("pub const %s: [Case; %d] = [" % (name, len(cases)))

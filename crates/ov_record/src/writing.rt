@@ -3,10 +3,11 @@
 ghost use Rattle.std.specs.Prelude.{◌≡◌, ◌≤◌, ◌*◌, ◌++◌, length, OnErr, OnOk};
 ghost use Rattle.std.specs.List.{flat_map};
 ghost use Rattle.ov_fields.specs.Spelling.{counted, token_field};
-ghost use Rattle.ov_record.specs.Spelling.{spelling, body_of, IsWithinLimits};
+ghost use Rattle.ov_record.specs.Spelling.{spelling, body_of, HasForm, IsWithinLimits};
 ghost use Rattle.ov_record.specs.Updates.{sealed_update};
 
 use crate::Update;
+use crate::form::has_form;
 use ov_base::Memory;
 use ov_fields::{append, put_name, put_set, put_token, put_token_or_none, put_u16, put_u32};
 use ov_tokens::Token;
@@ -86,7 +87,10 @@ pub fn write<const W: usize>(update: &Update<W>, out: &mut Vec<u8>) -> Result<()
     ensures ok { OnOk result (out.new.items
         ≡ out.old.items ++ spelling (8 * W) (sealed_update update.now)) }
     ensures err { OnErr result (out.new.items ≡ out.old.items) }
+    // So what is written is read again.
+    ensures form { HasForm (8 * W) (sealed_update update.now) }
 {
+    has_form(update);
     let mut front = Vec::new(*out.allocator());
     put_front(update, &mut front)?;
     append(&front, body(update), &[], out)

@@ -25,7 +25,7 @@ use Rattle.ov_wire.specs.declared.request.Request.{Request}
 use Rattle.ov_wire.specs.declared.request.Request.TheVariants as requests
 use Rattle.ov_wire.specs.declared.answer.Answer.{Answer}
 use Rattle.ov_wire.specs.declared.answer.Answer.TheVariants as answers
-use Rattle.ov_wire.specs.AnswerBytes.{answer_bytes}
+use Rattle.ov_wire.specs.AnswerBytes.{answer_bytes, HasAnswerCounts}
 use Rattle.ov_wire.specs.AnswerReading.{Row, bare, no_memory, device_fault, refused, welcome, welcome_at, known, known_at, plan, plan_at, chained, chained_at, up_to, entry_or_none_at, greater_at, next_at, answer_rows}
 use Rattle.ov_wire.specs.AnswersTo.{IsAnswer, create_refusals, read_refusals, ask_refusals, update_refusals, most_file, most_node, most_chunk, wants_of}
 use Rattle.ov_wire.specs.Chains.{chain_field, chain_at, IsChain, base_kinds, surface_kinds}
@@ -131,14 +131,14 @@ bytes_row : (request : Request) (n : ℕ) → n ≤ 65536 → ((bytes : List ℕ
     → RowReads answer_bytes (IsAnswer request) most_bytes (0x86, making answers.Bytes (up_to n))
 bytes_row request n small form = record {
   takes = λ bytes u fits e.
-    let end = ended_is (eqb (length (drop n bytes)) 0) (length (drop n bytes)) (answers.Bytes (take n bytes)) u e in
-    let none : length (drop n bytes) ≡ 0 = eqb-true _ _ end.0 in
-    let few : length bytes ≤ n = omega (arith, length-drop n bytes, none) in
-    let all : take n bytes ≡ bytes = take_all n bytes few in
-    subst (λ (v : Answer). IsAnswer request v × (0x86 ∷ bytes ≡ answer_bytes v)) (ap answers.Bytes (sym all) ∙ end.1) (form bytes few, refl);
+      let end = ended_is (eqb (length (drop n bytes)) 0) (length (drop n bytes)) (answers.Bytes (take n bytes)) u e in
+      let none : length (drop n bytes) ≡ 0 = eqb-true _ _ end.0 in
+      let few : length bytes ≤ n = omega (arith, length-drop n bytes, none) in
+      let all : take n bytes ≡ bytes = take_all n bytes few in
+      subst (λ (v : Answer). IsAnswer request v × (0x86 ∷ bytes ≡ answer_bytes v)) (ap answers.Bytes (sym all) ∙ end.1) (form bytes few, refl);
   near = λ bytes left fits e.
-    let is : length (drop n bytes) ≡ left = ended_not (eqb (length (drop n bytes)) 0) (length (drop n bytes)) left (answers.Bytes (take n bytes)) e in
-    (omega (arith, length-drop n bytes, is), omega (arith, length-drop n bytes, is));
+      let is : length (drop n bytes) ≡ left = ended_not (eqb (length (drop n bytes)) 0) (length (drop n bytes)) left (answers.Bytes (take n bytes)) e in
+      (omega (arith, length-drop n bytes, is), omega (arith, length-drop n bytes, is));
 }
 
 bytes_again : (n : ℕ) (bytes : List ℕ) → length bytes ≤ n → all_of (making answers.Bytes (up_to n) bytes) ≡ Ok (answers.Bytes bytes)
@@ -150,44 +150,74 @@ names_few : (names : List (List ℕ)) → AreFewNames 256 names → (length name
 names_few names fits = (fits.few, fits.are_names)
 
 rows_read : (request : Request) → AllByRecursion (RowReads answer_bytes (IsAnswer request) most_bytes) (answer_rows request)
-rows_read requests.Hello =
-    (row_reads 0x81 welcome most_bytes welcome_reads (omega arith) (record { form = λ f fits. (fits.0.1, fits.1); spelled = λ f. refl }),
-    (bare_row requests.Hello 0x8e answers.NoMemory tt refl, tt))
-rows_read (requests.Ask verb user file) =
-    (row_reads 0x82 known most_bytes (known_reads verb) (omega arith)
+rows_read requests.Hello = (
+  row_reads 0x81 welcome most_bytes welcome_reads (omega arith) (record { form = λ f fits. (fits.0.1, fits.1); spelled = λ f. refl }),
+  (bare_row requests.Hello 0x8e answers.NoMemory tt refl, tt),
+)
+rows_read (requests.Ask verb user file) = (
+  row_reads 0x82 known most_bytes (known_reads verb) (omega arith)
       (record { form = λ f fits. (fits.0.0.0.0.0.0, fits.0.0.0.0.0.1, fits.0.0.0.0.1, fits.0.0.0.1, fits.0.0.1, fits.0.1, fits.1); spelled = λ f. refl }),
-    (refused_row (requests.Ask verb user file) (ask_refusals verb) (λ r is. is),
-    (bare_row (requests.Ask verb user file) 0x8e answers.NoMemory tt refl, tt)))
-rows_read (requests.Cover file len names) =
-    (row_reads 0x83 plan most_bytes plan_reads (omega arith)
+  (
+    refused_row (requests.Ask verb user file) (ask_refusals verb) (λ r is. is),
+    (bare_row (requests.Ask verb user file) 0x8e answers.NoMemory tt refl, tt),
+  ),
+)
+rows_read (requests.Cover file len names) = (
+  row_reads 0x83 plan most_bytes plan_reads (omega arith)
       (record { form = λ f fits. (fits.0.0.0.0.0, fits.0.0.0.0.1, fits.0.0.0.1, fits.0.0.1, le_of 256 (length f.1) fits.1.0.1, fits.1.1); spelled = λ f. refl }),
-    (refused_row (requests.Cover file len names) create_refusals (λ r is. is),
-    (bare_row (requests.Cover file len names) 0x8e answers.NoMemory tt refl, tt)))
-rows_read (requests.Update epoch spelling tag) =
-    (row_reads 0x84 answers.Accepted most_bytes (next_reads epoch) (omega arith) (record { form = λ k fits. fits; spelled = λ k. refl }),
-    (refused_row (requests.Update epoch spelling tag) (update_refusals spelling) (λ r is. is),
-    (row_reads 0x89 answers.Stale most_bytes (greater_reads epoch) (omega arith) (record { form = λ k fits. fits; spelled = λ k. refl }),
-    (bare_row (requests.Update epoch spelling tag) 0x8a answers.BadTag tt refl,
-    (bare_row (requests.Update epoch spelling tag) 0x8d answers.DeviceFault tt refl,
-    (bare_row (requests.Update epoch spelling tag) 0x8e answers.NoMemory tt refl, tt))))))
-rows_read (requests.Chain user file) =
-    (row_reads 0x85 chained most_bytes chained_reads (omega arith)
+  (
+    refused_row (requests.Cover file len names) create_refusals (λ r is. is),
+    (bare_row (requests.Cover file len names) 0x8e answers.NoMemory tt refl, tt),
+  ),
+)
+rows_read (requests.Update epoch spelling tag) = (
+  row_reads 0x84 answers.Accepted most_bytes (next_reads epoch) (omega arith) (record { form = λ k fits. fits; spelled = λ k. refl }),
+  (
+    refused_row (requests.Update epoch spelling tag) (update_refusals spelling) (λ r is. is),
+    (
+      row_reads 0x89 answers.Stale most_bytes (greater_reads epoch) (omega arith) (record { form = λ k fits. fits; spelled = λ k. refl }),
+      (
+        bare_row (requests.Update epoch spelling tag) 0x8a answers.BadTag tt refl,
+        (
+          bare_row (requests.Update epoch spelling tag) 0x8d answers.DeviceFault tt refl,
+          (bare_row (requests.Update epoch spelling tag) 0x8e answers.NoMemory tt refl, tt),
+        ),
+      ),
+    ),
+  ),
+)
+rows_read (requests.Chain user file) = (
+  row_reads 0x85 chained most_bytes chained_reads (omega arith)
       (record { form = λ f fits. (fits.0.0.0.0.0.0, fits.0.0.0.0.0.1, fits.0.0.0.0.1, fits.0.0.0.1, fits.0.0.1, fits.0.1, fits.1); spelled = λ f. refl }),
-    (refused_row (requests.Chain user file) read_refusals (λ r is. is),
-    (bare_row (requests.Chain user file) 0x8e answers.NoMemory tt refl, tt)))
-rows_read (requests.Chunk file generation start count) =
-    (bytes_row (requests.Chunk file generation start count) (most_chunk count) (omega arith) (λ bytes few. few),
-    (refused_row (requests.Chunk file generation start count) (NoFile ∷ []) (λ r is. is),
-    (row_reads 0x8c answers.Moved most_bytes (greater_reads generation) (omega arith) (record { form = λ k fits. fits; spelled = λ k. refl }),
-    (bare_row (requests.Chunk file generation start count) 0x8d answers.DeviceFault tt refl,
-    (bare_row (requests.Chunk file generation start count) 0x8e answers.NoMemory tt refl, tt)))))
-rows_read (requests.Page part number) =
-    (row_reads 0x87 answers.PageOf most_bytes (entry_or_none_reads part) (omega arith) (record { form = λ o fits. fits; spelled = λ o. refl }),
-    (bare_row (requests.Page part number) 0x8e answers.NoMemory tt refl, tt))
-rows_read (requests.List file) =
-    (row_reads 0x8f answers.Listed most_bytes (names_reads 256 (omega arith)) (omega arith) (record { form = names_few; spelled = λ names. refl }),
-    (refused_row (requests.List file) (NoFile ∷ []) (λ r is. is),
-    (bare_row (requests.List file) 0x8e answers.NoMemory tt refl, tt)))
+  (
+    refused_row (requests.Chain user file) read_refusals (λ r is. is),
+    (bare_row (requests.Chain user file) 0x8e answers.NoMemory tt refl, tt),
+  ),
+)
+rows_read (requests.Chunk file generation start count) = (
+  bytes_row (requests.Chunk file generation start count) (most_chunk count) (omega arith) (λ bytes few. few),
+  (
+    refused_row (requests.Chunk file generation start count) (NoFile ∷ []) (λ r is. is),
+    (
+      row_reads 0x8c answers.Moved most_bytes (greater_reads generation) (omega arith) (record { form = λ k fits. fits; spelled = λ k. refl }),
+      (
+        bare_row (requests.Chunk file generation start count) 0x8d answers.DeviceFault tt refl,
+        (bare_row (requests.Chunk file generation start count) 0x8e answers.NoMemory tt refl, tt),
+      ),
+    ),
+  ),
+)
+rows_read (requests.Page part number) = (
+  row_reads 0x87 answers.PageOf most_bytes (entry_or_none_reads part) (omega arith) (record { form = λ o fits. fits; spelled = λ o. refl }),
+  (bare_row (requests.Page part number) 0x8e answers.NoMemory tt refl, tt),
+)
+rows_read (requests.List file) = (
+  row_reads 0x8f answers.Listed most_bytes (names_reads 256 (omega arith)) (omega arith) (record { form = names_few; spelled = λ names. refl }),
+  (
+    refused_row (requests.List file) (NoFile ∷ []) (λ r is. is),
+    (bare_row (requests.List file) 0x8e answers.NoMemory tt refl, tt),
+  ),
+)
 
 -- what is read is spelled so
 pub answer_takes : (request : Request) (bytes : List ℕ) (answer : Answer) → AreBytes bytes → all_of (by_rows (answer_rows request) bytes) ≡ Ok answer → IsAnswer request answer × (bytes ≡ answer_bytes answer)
@@ -230,3 +260,27 @@ answer_again (requests.Page part number) (answers.PageOf entry) is = row_again a
 answer_again (requests.List file) (answers.Listed names) is = row_again answers.Listed (names_reads 256 (omega arith)) names (record { few = is.0; are_names = is.1 })
 answer_again (requests.List file) (answers.Refused refusal) is = row_again answers.Refused (refusal_reads (NoFile ∷ [])) refusal is
 answer_again request answer is = absurd is
+
+-- ---- what is an answer can be written
+
+few_steps : (surface : Option Chain) → IfSome surface (IsChain surface_kinds) → IfSome surface (λ chain. length chain.steps ≤ 65535)
+few_steps None is = tt
+few_steps (Some chain) is = omega (arith, is.1.0)
+
+pub answer_counts : (request : Request) (answer : Answer) → IsAnswer request answer → HasAnswerCounts answer
+answer_counts (requests.Cover f l ns) (answers.Plan epoch file list node fresh from) is = omega (arith, is.4)
+answer_counts (requests.Chain u f) (answers.Chained epoch file len generation tag base surface) is = (omega (arith, is.5.1.0), few_steps surface is.6)
+answer_counts (requests.List file) (answers.Listed names) is = omega (arith, is.0)
+answer_counts request (answers.Welcome mode epoch check) is = tt
+answer_counts request (answers.Known epoch user base_root surface_root file node wants) is = tt
+answer_counts request (answers.Accepted epoch) is = tt
+answer_counts request (answers.Bytes bytes) is = tt
+answer_counts request (answers.PageOf entry) is = tt
+answer_counts request (answers.Refused refusal) is = tt
+answer_counts request (answers.Stale epoch) is = tt
+answer_counts request answers.BadTag is = tt
+answer_counts request (answers.BadRequest place) is = tt
+answer_counts request (answers.Moved generation) is = tt
+answer_counts request answers.DeviceFault is = tt
+answer_counts request answers.NoMemory is = tt
+answer_counts request answer is = absurd is

@@ -214,10 +214,10 @@ skips_on {A = A} r count i bytes after total lt h so_far =
     let n = count - (i + 1) in
     let is : a.0.1 ≡ after = ok_is a.0.1 after a.2 in
     let one : rest_of (many_at r (count - i) bytes) ≡ rest_of (many_at r n after) =
-      ap (λ (j : ℕ). rest_of (many_at r j bytes)) k
-      ∙ ap (λ (x : Read A). rest_of (x >>= λ b. many_at r n b.1 >>= λ others. Ok (b.0 ∷ others.0, others.1))) a.1
-      ∙ rest-made (λ others rest. (a.0.0 ∷ others, rest)) (many_at r n a.0.1) (λ others rest. refl)
-      ∙ ap (λ (l : List ℕ). rest_of (many_at r n l)) is in
+    ap (λ (j : ℕ). rest_of (many_at r j bytes)) k
+    ∙ ap (λ (x : Read A). rest_of (x >>= λ b. many_at r n b.1 >>= λ others. Ok (b.0 ∷ others.0, others.1))) a.1
+    ∙ rest-made (λ others rest. (a.0.0 ∷ others, rest)) (many_at r n a.0.1) (λ others rest. refl)
+    ∙ ap (λ (l : List ℕ). rest_of (many_at r n l)) is in
     sym one ∙ so_far
 
 no_rest : {A : Type 0} (read : Read A) (left : ℕ) → rest_of read ≡ Err left → read ≡ Err left
@@ -250,4 +250,3 @@ twice set (Err left) = refl
 -- a node's edges stand behind its set
 pub rest-node : (bytes rest : List ℕ) (text : List ℕ) → bytes_at 32 bytes ≡ Ok (text, rest) → rest_of (making node node_entry_at bytes) ≡ rest_of (counted_at 256 edge_at rest)
 rest-node bytes rest text e = rw e (twice (set_of_bytes text) (counted_at 256 edge_at rest))
-

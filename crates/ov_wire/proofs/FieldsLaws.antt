@@ -48,7 +48,7 @@ tokens_reads : (most : ℕ) → most < 2 ^ 16 → Reads (tokens_at most) token_f
 unfolding tokens_at
 tokens_reads most small =
     let R = given_reads (λ n. bytes_at (32 * n)) plain (λ tokens. length tokens ≡ 32 * (length tokens / 32)) (λ tokens. length tokens / 32) (32 * most) (that_reads wide16 (at_most most))
-      (λ n h. Reads-more (blocks_reads n) (32 * most) (omega (arith, count_is (2 ^ 16) most n h))) in
+    (λ n h. Reads-more (blocks_reads n) (32 * most) (omega (arith, count_is (2 ^ 16) most n h))) in
     record {
       takes = λ bytes x fits e. let t = R.takes bytes x fits e in ((t.0.1, count_is (2 ^ 16) most (length x.0 / 32) t.0.0), t.1);
       again = λ tokens rest fits. R.again tokens rest (is_count (2 ^ 16) most (length tokens / 32) small fits.1, fits.0);

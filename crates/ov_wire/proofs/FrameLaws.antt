@@ -32,9 +32,9 @@ pub cuts_on : (bytes : List ℕ) (frames : List (List ℕ)) (count filled : ℕ)
 cuts_on bytes frames count filled head rest frame after head' here is c =
     let more = joined_more frames frame in
     let parts : bytes ≡ flat_map framed (frames ++ frame ∷ []) ++ after =
-      c.cut.parts ∙ ap (λ (l : List ℕ). flat_map framed frames ++ l) here ∙ sym (append_assoc (flat_map framed frames) (framed frame) after) ∙ ap (λ (l : List ℕ). l ++ after) (sym more) in
+    c.cut.parts ∙ ap (λ (l : List ℕ). flat_map framed frames ++ l) here ∙ sym (append_assoc (flat_map framed frames) (framed frame) after) ∙ ap (λ (l : List ℕ). l ++ after) (sym more) in
     let sum : length (flat_map framed (frames ++ frame ∷ [])) ≡ length (flat_map framed frames) + (4 + length frame) =
-      ap length more ∙ length-append (flat_map framed frames) (framed frame) ∙ ap (λ (n : ℕ). length (flat_map framed frames) + n) (omega arith) in
+    ap length more ∙ length-append (flat_map framed frames) (framed frame) ∙ ap (λ (n : ℕ). length (flat_map framed frames) + n) (omega arith) in
     record {
       cut = record { parts = parts; each = all_more frames frame c.cut.each is };
       counted = omega (arith, c.counted, sum);
@@ -62,7 +62,7 @@ completed wanted body front rest fresh count state fits whole c =
     let n : length (body ++ front) ≡ wanted = length-append body front ∙ whole in
     let is : IsFrame (body ++ front) = subst IsFrameLength (sym n) fits in
     let bytes : framed (body ++ front) ++ rest ≡ (u32 wanted ++ body) ++ (front ++ rest) =
-      ap (λ (k : ℕ). (u32 k ++ (body ++ front)) ++ rest) n ∙ simp append_assoc in
+    ap (λ (k : ℕ). (u32 k ++ (body ++ front)) ++ rest) n ∙ simp append_assoc in
     record {
       cut = subst (λ (l : List ℕ). StateCut l ((body ++ front) ∷ fresh) state) bytes (state_behind (body ++ front) rest fresh state is c.cut);
       counted = omega (arith, c.counted, length-append (framed (body ++ front)) (flat_map framed fresh), n);

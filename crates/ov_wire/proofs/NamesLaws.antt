@@ -48,7 +48,7 @@ new_takes (suc count) seen bytes x fits e =
     let one = name_reads.takes bytes a.0 fits a.1 in
     let two = new_takes count (seen ++ a.0.0 ∷ []) a.0.1 b.0 (AreBytes-back (name_field a.0.0) a.0.1 (subst AreBytes one.1 fits)) g.1 in
     let whole : bytes ≡ flat_map name_field (a.0.0 ∷ b.0.0) ++ b.0.1 =
-      one.1 ∙ ap (λ (t : List ℕ). name_field a.0.0 ++ t) two.1 ∙ sym (append_assoc (name_field a.0.0) (flat_map name_field b.0.0) b.0.1) in
+    one.1 ∙ ap (λ (t : List ℕ). name_field a.0.0 ++ t) two.1 ∙ sym (append_assoc (name_field a.0.0) (flat_map name_field b.0.0) b.0.1) in
     subst (λ (y : List (List ℕ) × List ℕ). (AreNew seen y.0 × (length y.0 ≡ suc count)) × (bytes ≡ flat_map name_field y.0 ++ y.1)) (ok_is (behind a.0.0 b.0) x b.2)
     (((one.0, g.0, two.0.0), ap suc two.0.1), whole)
 
@@ -79,7 +79,7 @@ new_near (suc count) seen bytes left fits e =
           seen_near (is_among a.0 seen) (length bytes) left count (seen ++ a.0 ∷ []) a.1 later ((left ≤ length bytes) × (length bytes ≤ left + suc count * 65))
           (λ same. (omega arith, omega arith))
           (λ bad. let k = new_near count (seen ++ a.0 ∷ []) a.1 left (AreBytes-back (name_field a.0) a.1 (subst AreBytes one.1 fits)) bad in
-            (omega (arith, k.0), omega (arith, k.1)))
+          (omega (arith, k.0), omega (arith, k.1)))
     ]
 
 new_short : (seen names : List (List ℕ)) → AreNew seen names → length (flat_map name_field names) ≤ length names * 65
@@ -118,9 +118,10 @@ NoneSeen seen names = AllByRecursion (λ y. is_among y seen ≡ false) names
 
 none_more : (seen : List (List ℕ)) (name : List ℕ) (names : List (List ℕ)) → NoneSeen seen names → AllByRecursion (λ y. bytes_eq name y ≡ false) names → NoneSeen (seen ++ name ∷ []) names
 none_more seen name [] none other = tt
-none_more seen name (y ∷ names) none other =
-    (among_more y seen name ∙ either_false (is_among y seen) (bytes_eq y name || false) none.0 (either_false (bytes_eq y name) false (other_way name y other.0) refl),
-    none_more seen name names none.1 other.1)
+none_more seen name (y ∷ names) none other = (
+  among_more y seen name ∙ either_false (is_among y seen) (bytes_eq y name || false) none.0 (either_false (bytes_eq y name) false (other_way name y other.0) refl),
+  none_more seen name names none.1 other.1,
+)
 
 none_less : (seen : List (List ℕ)) (name : List ℕ) (names : List (List ℕ)) → NoneSeen (seen ++ name ∷ []) names → NoneSeen seen names × AllByRecursion (λ y. bytes_eq name y ≡ false) names
 none_less seen name [] none = (tt, tt)
@@ -173,17 +174,17 @@ pub names_reads : (most : ℕ) → most < 2 ^ 16 → Reads (names_at most) (coun
 unfolding names_at
 names_reads most small =
     let R = given_reads (λ n. new_names_at n []) (flat_map name_field) (AreNew []) length (most * 65) (that_reads wide16 (at_most most))
-      (λ n h. Reads-more (new_reads n) (most * 65) (mul-le-mul_right 65 (at_most_le most n h.1))) in
+    (λ n h. Reads-more (new_reads n) (most * 65) (mul-le-mul_right 65 (at_most_le most n h.1))) in
     record {
       takes = λ bytes x fits e.
-        let t = R.takes bytes x fits e in
-        let n = new_are [] x.0 t.0.1 in
-        (record { few = at_most_le most (length x.0) t.0.0.1; are_names = (n.0, n.1) }, t.1);
+          let t = R.takes bytes x fits e in
+          let n = new_are [] x.0 t.0.1 in
+          (record { few = at_most_le most (length x.0) t.0.0.1; are_names = (n.0, n.1) }, t.1);
       again = λ names rest fits.
-        R.again names rest ((omega (arith, fits.few), is_at_most most (length names) fits.few), are_new [] names fits.are_names.0 fits.are_names.1 (no_names_seen names));
+          R.again names rest ((omega (arith, fits.few), is_at_most most (length names) fits.few), are_new [] names fits.are_names.0 fits.are_names.1 (no_names_seen names));
       near = R.near;
       short = λ names fits.
-        R.short names ((omega (arith, fits.few), is_at_most most (length names) fits.few), are_new [] names fits.are_names.0 fits.are_names.1 (no_names_seen names));
+          R.short names ((omega (arith, fits.few), is_at_most most (length names) fits.few), are_new [] names fits.are_names.0 fits.are_names.1 (no_names_seen names));
     }
 
 -- ---- reading names one after the other, as a loop does
@@ -198,7 +199,7 @@ unfolding new_names_at
 goes_on front count i bytes name after total lt h new so_far =
     let k : count - i ≡ suc (count - (i + 1)) = omega arith in
     let one : with_front front (new_names_at (count - i) front bytes) ≡ with_front (front ++ name ∷ []) (new_names_at (count - (i + 1)) (front ++ name ∷ []) after) =
-      rw (k, h, new) (regroup front name (new_names_at (count - (i + 1)) (front ++ name ∷ []) after)) in
+    rw (k, h, new) (regroup front name (new_names_at (count - (i + 1)) (front ++ name ∷ []) after)) in
     sym one ∙ so_far
 
 pub ends : (place : Option ℕ) (front : List (List ℕ)) (count i : ℕ) (bytes : List ℕ) (total : Read (List (List ℕ))) → i < count → IfSome place (λ left. name_at bytes ≡ Err left)

@@ -17,7 +17,7 @@ use Rattle.ov_fields.proofs.RowLaws.{RowReads, row_reads, row_again, rows_take, 
 use Rattle.ov_wire.specs.declared.request.Request.{Request}
 use Rattle.ov_wire.specs.declared.request.Request.TheVariants as requests
 use Rattle.ov_wire.specs.Updates.{plain, Has32, IsSpelling}
-use Rattle.ov_wire.specs.Requests.{is_verb, names_file, name_or_nothing, request_bytes, AreAskNames, HasRequestForm}
+use Rattle.ov_wire.specs.Requests.{is_verb, names_file, name_or_nothing, request_bytes, AreAskNames, HasRequestCounts, HasRequestForm}
 use Rattle.ov_wire.specs.RequestReading.{AskFields, of_user, of_both, ask_names_at, ask_at, ask, cover, cover_at, update, update_at, chain, chain_at, chunk, chunk_at, page, page_at, request_rows}
 use Rattle.ov_wire.proofs.FieldsLaws.{spelling_reads, longest}
 use Rattle.ov_wire.proofs.NamesLaws.{AreFewNames, names_reads}
@@ -107,18 +107,33 @@ abbrev pub most_bytes : ℕ
 most_bytes = 65 + 4 + (2 + 65535 * 65)
 
 rows_read : AllByRecursion (RowReads request_bytes HasRequestForm most_bytes) request_rows
-rows_read =
-    (row_reads 1 (λ f. requests.Hello) most_bytes nothing_reads (omega arith) (record { form = λ f fits. tt; spelled = λ f. refl }),
-    (row_reads 2 ask most_bytes ask_reads (omega arith) (record { form = λ f fits. fits; spelled = λ f. refl }),
-    (row_reads 3 cover most_bytes cover_reads (omega arith)
-      (record { form = λ f fits. (fits.0.0, le_of 1048576 f.0.1 fits.0.1.1, omega (arith, fits.1.few), fits.1.are_names); spelled = λ f. refl }),
-    (row_reads 4 update most_bytes update_reads (omega arith) (record { form = λ f fits. (fits.0.0, fits.0.1, fits.1); spelled = λ f. refl }),
-    (row_reads 5 chain most_bytes chain_reads (omega arith) (record { form = λ f fits. fits; spelled = λ f. refl }),
-    (row_reads 6 chunk most_bytes chunk_reads (omega arith)
-      (record { form = λ f fits. let b = between_of 1 65536 f.1 fits.1.1 in (fits.0.0.0, fits.0.0.1, fits.0.1, b.0, b.1); spelled = λ f. refl }),
-    (row_reads 7 page most_bytes page_reads (omega arith) (record { form = λ f fits. fits.1; spelled = λ f. refl }),
-    (row_reads 8 requests.List most_bytes name_reads (omega arith) (record { form = λ f fits. fits; spelled = λ f. refl }),
-    tt))))))))
+rows_read = (
+  row_reads 1 (λ f. requests.Hello) most_bytes nothing_reads (omega arith) (record { form = λ f fits. tt; spelled = λ f. refl }),
+  (
+    row_reads 2 ask most_bytes ask_reads (omega arith) (record { form = λ f fits. fits; spelled = λ f. refl }),
+    (
+      row_reads 3 cover most_bytes cover_reads (omega arith)
+          (record { form = λ f fits. (fits.0.0, le_of 1048576 f.0.1 fits.0.1.1, omega (arith, fits.1.few), fits.1.are_names); spelled = λ f. refl }),
+      (
+        row_reads 4 update most_bytes update_reads (omega arith) (record { form = λ f fits. (fits.0.0, fits.0.1, fits.1); spelled = λ f. refl }),
+        (
+          row_reads 5 chain most_bytes chain_reads (omega arith) (record { form = λ f fits. fits; spelled = λ f. refl }),
+          (
+            row_reads 6 chunk most_bytes chunk_reads (omega arith)
+                (record { form = λ f fits. let b = between_of 1 65536 f.1 fits.1.1 in (fits.0.0.0, fits.0.0.1, fits.0.1, b.0, b.1); spelled = λ f. refl }),
+            (
+              row_reads 7 page most_bytes page_reads (omega arith) (record { form = λ f fits. fits.1; spelled = λ f. refl }),
+              (
+                row_reads 8 requests.List most_bytes name_reads (omega arith) (record { form = λ f fits. fits; spelled = λ f. refl }),
+                tt,
+              ),
+            ),
+          ),
+        ),
+      ),
+    ),
+  ),
+)
 
 -- what is read is spelled so
 pub request_takes : (bytes : List ℕ) (request : Request) → AreBytes bytes → all_of (by_rows request_rows bytes) ≡ Ok request → HasRequestForm request × (bytes ≡ request_bytes request)
@@ -140,3 +155,14 @@ request_again (requests.List file) fits = row_again requests.List name_reads fil
 -- a wrong byte is near
 pub request_near : (bytes : List ℕ) (left : ℕ) → AreBytes bytes → all_of (by_rows request_rows bytes) ≡ Err left → (left ≤ length bytes) × (length bytes ≤ left + (1 + most_bytes))
 request_near = rows_near request_bytes HasRequestForm most_bytes request_rows rows_read
+
+-- what has a spelling can be written
+pub request_counts : (request : Request) → HasRequestForm request → HasRequestCounts request
+request_counts requests.Hello fits = tt
+request_counts (requests.Ask verb user file) fits = tt
+request_counts (requests.Cover file len names) fits = omega (arith, fits.2)
+request_counts (requests.Update epoch spelling tag) fits = tt
+request_counts (requests.Chain user file) fits = tt
+request_counts (requests.Chunk file generation start count) fits = tt
+request_counts (requests.Page part number) fits = tt
+request_counts (requests.List file) fits = tt

@@ -34,7 +34,9 @@ pub enum Answer {
         from: Numbers,
     },
     /// To Update: the epoch that it made.
-    Accepted { epoch: u32 },
+    Accepted {
+        epoch: u32,
+    },
     /// To Chain: the file's number, length, generation and tag, and the chains to its keys.
     Chained {
         epoch: u32,
@@ -46,23 +48,37 @@ pub enum Answer {
         surface: Option<Chain>,
     },
     /// To Chunk.
-    Bytes { bytes: Octets },
+    Bytes {
+        bytes: Octets,
+    },
     /// To Page: the entry, where there is one.
-    PageOf { entry: Option<Octets> },
+    PageOf {
+        entry: Option<Octets>,
+    },
     /// The command is refused.
-    Refused { refusal: Refusal },
+    Refused {
+        refusal: Refusal,
+    },
     /// To Update: the server's epoch is another.
-    Stale { epoch: u32 },
+    Stale {
+        epoch: u32,
+    },
     /// To Update: the owner's tag isn't right.
     BadTag,
     /// The request isn't in the grammar; `at` is the place of its first wrong byte.
-    BadRequest { at: u32 },
+    BadRequest {
+        at: u32,
+    },
     /// To Chunk: the file's generation is another.
-    Moved { generation: u32 },
+    Moved {
+        generation: u32,
+    },
     /// The server's disk failed.
     DeviceFault,
     /// The server's memory ran out.
     NoMemory,
     /// To List: the names, by user number.
-    Listed { names: Names },
+    Listed {
+        names: Names,
+    },
 }

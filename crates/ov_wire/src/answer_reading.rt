@@ -9,7 +9,7 @@ ghost use Rattle.ov_fields.specs.Reading.{all_of, by_rows, counted_at, making, m
 ghost use Rattle.ov_fields.specs.Spelling.{flag};
 ghost use Rattle.ov_wire.specs.declared.answer.Answer.{Answer};
 ghost use Rattle.ov_wire.specs.declared.answer.Answer.TheVariants as answers;
-ghost use Rattle.ov_wire.specs.AnswerBytes.{answer_bytes};
+ghost use Rattle.ov_wire.specs.AnswerBytes.{answer_bytes, HasAnswerCounts};
 ghost use Rattle.ov_wire.specs.AnswerReading.{answer_of, answer_rows, ask_rows, chain_rows, chained, chained_at, chunk_rows, cover_rows, entry_or_none_at, greater_at, hello_rows, known, known_at, list_rows, next_at, page_rows, plan, plan_at, up_to, update_rows, welcome, welcome_at};
 ghost use Rattle.ov_wire.specs.AnswersTo.{IsAnswer, most_chunk, most_file, most_node, wants_of};
 ghost use Rattle.ov_wire.specs.Entries.{node_at};
@@ -26,18 +26,23 @@ use crate::refusals::{
 use crate::{Answer, Request, WireFault};
 use ov_base::{Mode, Octets, Refusal};
 use ov_fields::{
-    FieldFault, take_set, take_tag, take_u16_at_most, take_u32, take_u32_at_most,
-    take_u32_between,
+    FieldFault, take_set, take_tag, take_u16_at_most, take_u32, take_u32_at_most, take_u32_between,
 };
 use ov_tokens::Numbers;
 use std::alloc::Global;
 
 const LAST_USER: u32 = 255;
+
 const LAST_FILE: u32 = 16_383;
+
 const LAST_NODE: u32 = 4095;
+
 const MAX_BYTES: u32 = 1_048_576;
+
 const MAX_CHUNK: u32 = 65_536;
+
 const MAX_STARTS: u16 = 256;
+
 const MAX_NAMES: u16 = 256;
 
 #[tactic(auto, unfolding(ov_fields::specs::Reading::one_of_at))]
@@ -127,11 +132,7 @@ fn take_known(verb: u8, bytes: &[u8]) -> Result<(Answer, &[u8]), FieldFault>
     Ok((answer, rest))
 }
 
-fn take_each_node(
-    alloc: Global,
-    count: u16,
-    bytes: &[u8],
-) -> Result<(Numbers, &[u8]), FieldFault>
+fn take_each_node(alloc: Global, count: u16, bytes: &[u8]) -> Result<(Numbers, &[u8]), FieldFault>
     ensures { GivesField (λ n. n) result (many_at node_at count bytes.now) }
 {
     let mut nodes = Numbers::new(alloc);
@@ -195,10 +196,7 @@ fn take_chained(alloc: Global, bytes: &[u8]) -> Result<(Answer, &[u8]), FieldFau
     Ok((answer, rest))
 }
 
-fn take_refused<'a>(
-    refusals: &[Refusal],
-    bytes: &'a [u8],
-) -> Result<(Answer, &'a [u8]), FieldFault>
+fn take_refused<'a>(refusals: &[Refusal], bytes: &'a [u8]) -> Result<(Answer, &'a [u8]), FieldFault>
     ensures { GivesField (λ a. a) result
         (making answers.Refused (one_of_at refusal_number refusals.now) bytes.now) }
 {
@@ -389,11 +387,15 @@ fn take_answer<'a>(
         Request::Ask { verb, .. } => answer_to_ask(*verb, bytes),
         Request::Cover { .. } => answer_to_cover(alloc, bytes),
         Request::Update {
-            epoch, spelling, ..
+            epoch,
+            spelling,
+            ..
         } => answer_to_update(*epoch, spelling.as_slice(), bytes),
         Request::Chain { .. } => answer_to_chain(alloc, bytes),
         Request::Chunk {
-            generation, count, ..
+            generation,
+            count,
+            ..
         } => answer_to_chunk(alloc, *generation, *count, bytes),
         Request::Page { part, .. } => answer_to_page(alloc, *part, bytes),
         Request::List { .. } => answer_to_list(alloc, bytes),
@@ -411,13 +413,11 @@ fn read_all(alloc: Global, request: &Request, bytes: &[u8]) -> Result<Answer, Fi
 }
 
 /// The answer to this request that a frame is. The frame is without its length field.
-pub fn read_answer(
-    alloc: Global,
-    request: &Request,
-    frame: &[u8],
-) -> Result<Answer, WireFault>
+pub fn read_answer(alloc: Global, request: &Request, frame: &[u8]) -> Result<Answer, WireFault>
     // What is read is an answer to this request, and spelled so.
     ensures found { IfOk result (λ a. IsAnswer request.now a × (frame.now ≡ answer_bytes a)) }
+    // It can be written again.
+    ensures counts { IfOk result HasAnswerCounts }
     // An answer that is spelled so is read, unless memory runs out.
     ensures only { (a : Answer) → IsAnswer request.now a → frame.now ≡ answer_bytes a
         → Gives place_of (λ x. x) result (Ok a) }

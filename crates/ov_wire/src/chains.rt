@@ -9,9 +9,7 @@ ghost use Rattle.ov_fields.specs.Spelling.{counted, optional};
 ghost use Rattle.ov_wire.specs.Chains.{chain_at, chain_field, kinds_of, surface_kinds, step_at, step_field, steps_at};
 
 use ov_base::Memory;
-use ov_fields::{
-    FieldFault, put_token, put_u16, put_u32, take_token, take_u16, take_u32_at_most,
-};
+use ov_fields::{FieldFault, put_token, put_u16, put_u32, take_token, take_u16, take_u32_at_most};
 use ov_tokens::{Chain, Kind, Label, Step, Steps};
 use std::alloc::Global;
 
@@ -85,10 +83,7 @@ pub fn take_chain(alloc: Global, side: Side, bytes: &[u8]) -> Result<(Chain, &[u
 
 /// A flag, and a chain of the surface layer where it is 1.
 #[tactic(auto, unfolding(ov_fields::specs::Reading::optional_at))]
-pub fn take_chain_or_none(
-    alloc: Global,
-    bytes: &[u8],
-) -> Result<(Option<Chain>, &[u8]), FieldFault>
+pub fn take_chain_or_none(alloc: Global, bytes: &[u8]) -> Result<(Option<Chain>, &[u8]), FieldFault>
     ensures { GivesField (λ c. c) result (optional_at (chain_at surface_kinds) bytes.now) }
 {
     match bytes {

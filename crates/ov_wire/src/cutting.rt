@@ -75,12 +75,7 @@ pub struct Cut {
 }
 
 /// All that the bytes hold, of which so many of a length field came before.
-pub fn cut_all(
-    alloc: Global,
-    head: [u8; 4],
-    filled: usize,
-    bytes: &[u8],
-) -> Result<Cut, Memory>
+pub fn cut_all(alloc: Global, head: [u8; 4], filled: usize, bytes: &[u8]) -> Result<Cut, Memory>
     requires { filled < 4 }
     ensures { IfOk result (λ cut. IsCutting (take filled head ++ bytes.now) cut.frames.items
         cut.used cut.state) }

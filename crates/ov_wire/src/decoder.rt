@@ -67,7 +67,7 @@ fn complete(
     requires room { cut.used ≤ length rest.now + 3 }
     ensures { MatchResult result.1
         (λ used. Advances (State.Frame wanted body) result.0 (front.now ++ rest.now)
-            frames.old.items frames.new.items used)
+        frames.old.items frames.new.items used)
         (λ _. Keeps (State.Frame wanted body) result.0 frames.old.items frames.new.items) }
 {
     let mut body = body;
@@ -104,7 +104,7 @@ fn advance_frame(
     requires { IsState (State.Frame wanted body) }
     ensures { MatchResult result.1
         (λ used. Advances (State.Frame wanted body) result.0 piece.now
-            frames.old.items frames.new.items used)
+        frames.old.items frames.new.items used)
         (λ _. Keeps (State.Frame wanted body) result.0 frames.old.items frames.new.items) }
 {
     let mut body = body;
@@ -133,7 +133,7 @@ fn advance_length(
     requires { IsState (State.Length head filled) }
     ensures { MatchResult result.1
         (λ used. Advances (State.Length head filled) result.0 piece.now
-            frames.old.items frames.new.items used)
+        frames.old.items frames.new.items used)
         (λ _. Keeps (State.Length head filled) result.0 frames.old.items frames.new.items) }
 {
     match cut_all(alloc, head, filled, piece) {

@@ -13,8 +13,11 @@ use ov_fields::{
 use std::alloc::Global;
 
 const LAST_USER: u32 = 255;
+
 const LAST_NODE: u32 = 4095;
+
 const MAX_EDGES: u16 = 256;
+
 const MAX_BYTES: u32 = 1_048_576;
 
 fn skip_user(bytes: &[u8]) -> Result<&[u8], FieldFault>

@@ -1,4 +1,17 @@
-//! Frames, and what they hold.
+//! What an owner, a reader and a server send each other.
+//!
+//! A stream is frames, each behind a length field of four bytes; [`Decoder`] cuts one into frames,
+//! whatever the pieces it comes in. A frame is a [`Request`] or an [`Answer`]: a kind byte and
+//! fields. [`read_request`] reads a frame exactly where it is the one spelling of a request
+//! (`request_bytes` in `specs/Requests`), and [`read_answer`] exactly where it is the spelling of an
+//! answer to the request that was sent (`answer_bytes` in `specs/AnswerBytes`, `IsAnswer` in
+//! `specs/AnswersTo`), as far as the two decide it. Elsewhere they name the place of the first
+//! field that nothing in the grammar continues, or the end, as `specs/RequestReading` and
+//! `specs/AnswerReading` say, row by row. [`write_request`] and [`write_answer`] append the spelling.
+//!
+//! An update's spelling and a catalogue entry stand in frames as they are. Where they end, or what
+//! is wrong with them, is found by the definitions of `specs/Updates` and `specs/Entries`; the law
+//! that the former agree with ov_record's is ov_spelling's.
 #![tactic(auto)]
 
 mod answer;
@@ -15,6 +28,8 @@ mod request;
 mod request_reading;
 mod request_writing;
 mod state;
+#[cfg(test)]
+mod tests;
 mod update;
 
 pub use answer::Answer;

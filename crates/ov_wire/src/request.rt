@@ -27,7 +27,10 @@ pub enum Request {
         tag: [u8; 32],
     },
     /// Asks for the tokens that lead a user to a file's keys.
-    Chain { user: Name, file: Name },
+    Chain {
+        user: Name,
+        file: Name,
+    },
     /// Asks for stored bytes of a file, as they are at this generation.
     Chunk {
         file: u32,
@@ -36,7 +39,12 @@ pub enum Request {
         count: u32,
     },
     /// Asks for an entry of the public catalogue.
-    Page { part: u8, number: u32 },
+    Page {
+        part: u8,
+        number: u32,
+    },
     /// Asks for the names in a file's list.
-    List { file: Name },
+    List {
+        file: Name,
+    },
 }

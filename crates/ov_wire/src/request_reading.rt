@@ -7,7 +7,7 @@ ghost use Rattle.ov_wire.specs.declared.request.Request.{Request};
 ghost use Rattle.ov_wire.specs.declared.request.Request.TheVariants as requests;
 ghost use Rattle.ov_wire.specs.Places.{place_of};
 ghost use Rattle.ov_wire.specs.RequestReading.{ask, ask_at, ask_names_at, chain, chain_at, chunk, chunk_at, cover, cover_at, page, page_at, request_of, request_rows, update, update_at};
-ghost use Rattle.ov_wire.specs.Requests.{is_verb, names_file, request_bytes, HasRequestForm};
+ghost use Rattle.ov_wire.specs.Requests.{is_verb, names_file, request_bytes, HasRequestCounts, HasRequestForm};
 
 use crate::names::take_names;
 use crate::update::take_spelling;
@@ -19,6 +19,7 @@ use ov_fields::{
 use std::alloc::Global;
 
 const MAX_BYTES: u32 = 1_048_576;
+
 const MAX_CHUNK: u64 = 65_536;
 
 fn is_verb(verb: u8) -> bool
@@ -167,6 +168,8 @@ fn read_all(alloc: Global, bytes: &[u8]) -> Result<Request, FieldFault>
 pub fn read_request(alloc: Global, frame: &[u8]) -> Result<Request, WireFault>
     // What is read is spelled so.
     ensures found { IfOk result (λ r. HasRequestForm r × (frame.now ≡ request_bytes r)) }
+    // It can be written again.
+    ensures counts { IfOk result HasRequestCounts }
     // What is spelled so is read, unless memory runs out.
     ensures only { (r : Request) → HasRequestForm r → frame.now ≡ request_bytes r
         → Gives place_of (λ x. x) result (Ok r) }

@@ -11,6 +11,7 @@ use ov_fields::{
 };
 
 const MAX_TOKENS: u16 = 256;
+
 const MAX_BYTES: u32 = 1_048_576;
 
 #[tactic(auto, unfolding(crate::specs::Updates::tokens_at))]

@@ -8,7 +8,7 @@ returns c =
     record {
       frames = (c.args.body.items ++ c.args.front.now) ∷ c.args.cut.frames.items;
       appended = first_put c.args.frames.now.items c.append_behind.new.frames.items c.args.cut.frames.items c.len-at.result c.from_vec.result (c.args.body.items ++ c.args.front.now)
-        c.in-Ok-append_behind.ensures.ok (c.len-at.ensures ∙ c.args.frames.now.ok.0) first;
+          c.in-Ok-append_behind.ensures.ok (c.len-at.ensures ∙ c.args.frames.now.ok.0) first;
       cutting = completed c.args.wanted c.args.body.items c.args.front.now c.args.rest.now c.args.cut.frames.items c.args.cut.used c.args.cut.state
-        c.requires.state.0 c.requires.whole c.requires.cut;
+          c.requires.state.0 c.requires.whole c.requires.cut;
     }

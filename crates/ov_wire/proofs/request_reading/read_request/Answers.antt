@@ -1,7 +1,7 @@
 use Rattle.std.proofs.Common.{◌∙◌, ◌≤◌, ap, sym, List, ℕ, arith}
 use Rattle.ov_fields.specs.Reading.{all_of, by_rows}
 use Rattle.ov_wire.specs.RequestReading.{request_rows}
-use Rattle.ov_wire.proofs.RequestLaws.{request_takes, request_again, request_near}
+use Rattle.ov_wire.proofs.RequestLaws.{request_takes, request_again, request_near, request_counts}
 use Rattle.ov_wire.proofs.request_reading.read_request.Goals as goal
 
 pub overflow_sub-result : goal.overflow_sub-result
@@ -22,3 +22,7 @@ returns-in-Ok-clause-only c = λ r fits e. sym (request_again r fits) ∙ ap (λ
 pub returns-in-Err-Bad-clause-only : goal.returns-in-Err-Bad-clause-only
 returns-in-Err-Bad-clause-only c = λ r fits e.
     let none = sym (request_again r fits) ∙ ap (λ (bytes : List ℕ). all_of (by_rows request_rows bytes)) (sym e) ∙ (rw c.in-Err-Bad.field-0-is at c.in-Err-Bad.ensures) in cc
+
+pub returns-in-Ok-clause-counts : goal.returns-in-Ok-clause-counts
+returns-in-Ok-clause-counts c =
+    request_counts c.in-Ok.request (request_takes c.args.frame.now c.in-Ok.request (record { each = λ i. omega (arith, c.type_inv.frame i) }) c.in-Ok.ensures).0
