@@ -103,7 +103,7 @@ fn a_new_store_and_two_records(rt: HostRuntime) -> Result<(), Fail> {
         disk.image(7, Tear::Old)?.book(),
         new_store(alloc)?.as_slice()
     );
-    let (_, records) = disk.book().split_at(78);
+    let records = behind(disk.book(), 78);
     assert_eq!(rt;
         records,
         b"\x01\0\0\0\x07\x01\x05alice\x01\0\0\0\x05\x01\x03bob\0".as_slice()
