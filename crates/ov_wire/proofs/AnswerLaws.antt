@@ -1,5 +1,5 @@
 -- The reader of answers to a request reads exactly the spellings of those that are in its grammar.
-use Rattle.std.proofs.Common.{◌≡◌, ℕ, zero, suc, ◌+◌, ◌*◌, ◌^◌, ◌<◌, ◌≤◌, Bool, true, false, cond, IsTrue, List, [], ◌∷◌, ◌++◌, length, take, drop, Option, Some, None, Result, Ok, Err, inl, inr, refl, sym, ap, subst, ◌∙◌, length-drop, eqb, eq-eqb, arith}
+use Rattle.std.proofs.Common.{◌≡◌, ℕ, ◌+◌, ◌*◌, ◌^◌, ◌<◌, ◌≤◌, Bool, true, false, cond, IsTrue, List, [], ◌∷◌, ◌++◌, length, take, drop, Option, Some, None, Ok, Err, inl, inr, refl, sym, ap, subst, ◌∙◌, length-drop, eqb, eq-eqb, arith}
 use Rattle.std.specs.Prelude.{IfSome}
 use Rattle.std.specs.List.{AllByRecursion}
 use Rattle.std.proofs.lemmas.Bool.{eqb-true}
@@ -9,31 +9,29 @@ use Rattle.ov_base.specs.declared.mode.Mode.TheVariants.{Full, Delta}
 use Rattle.ov_base.specs.declared.refusal.Refusal.{Refusal}
 use Rattle.ov_base.specs.declared.refusal.Refusal.TheVariants.{NoFile}
 use Rattle.ov_base.specs.Modes.{mode_byte}
-use Rattle.ov_base.specs.Refusals.{refusal_number}
 use Rattle.ov_base.specs.Sets.{IsBelow, bytes_of}
 use Rattle.ov_tokens.specs.declared.chain.Chain.{Chain}
-use Rattle.ov_fields.specs.Spelling.{u8, u32, flag, name_field, optional, counted, IsOneOf}
-use Rattle.ov_fields.specs.Reading.{Read, ◌>>=◌, made, making, all_of, by_rows, at_most, one_of_at}
+use Rattle.ov_fields.specs.Spelling.{u8, u32, flag, optional, counted, IsOneOf}
+use Rattle.ov_fields.specs.Reading.{making, all_of, by_rows, at_most}
 use Rattle.ov_fields.proofs.ReadingLaws.{AreBytes, done, Reads, then_reads}
 use Rattle.ov_fields.proofs.FieldLaws.{bytes_reads, number_reads, wide32}
 use Rattle.ov_fields.proofs.ListLaws.{counted_reads, optional_reads}
 use Rattle.ov_fields.proofs.SetFields.{set_reads}
 use Rattle.ov_fields.proofs.TagLaws.{nothing_reads}
-use Rattle.ov_fields.proofs.KindLaws.{IsKind}
 use Rattle.ov_fields.proofs.RowLaws.{RowReads, row_reads, row_again, rows_take, rows_near}
 use Rattle.ov_wire.specs.declared.request.Request.{Request}
 use Rattle.ov_wire.specs.declared.request.Request.TheVariants as requests
 use Rattle.ov_wire.specs.declared.answer.Answer.{Answer}
 use Rattle.ov_wire.specs.declared.answer.Answer.TheVariants as answers
 use Rattle.ov_wire.specs.AnswerBytes.{answer_bytes, HasAnswerCounts}
-use Rattle.ov_wire.specs.AnswerReading.{Row, bare, no_memory, device_fault, refused, welcome, welcome_at, known, known_at, plan, plan_at, chained, chained_at, up_to, entry_or_none_at, greater_at, next_at, answer_rows}
+use Rattle.ov_wire.specs.AnswerReading.{bare, refused, welcome, welcome_at, known, known_at, plan, plan_at, chained, chained_at, up_to, answer_rows}
 use Rattle.ov_wire.specs.AnswersTo.{IsAnswer, create_refusals, read_refusals, ask_refusals, update_refusals, most_file, most_node, most_chunk, wants_of}
-use Rattle.ov_wire.specs.Chains.{chain_field, chain_at, IsChain, base_kinds, surface_kinds}
-use Rattle.ov_wire.specs.Entries.{IsNode, IsEntry}
+use Rattle.ov_wire.specs.Chains.{chain_field, IsChain, base_kinds, surface_kinds}
+use Rattle.ov_wire.specs.Entries.{IsNode}
 use Rattle.ov_wire.specs.Requests.{names_file, AreNames}
-use Rattle.ov_wire.specs.Updates.{plain, Has32}
+use Rattle.ov_wire.specs.Updates.{Has32}
 use Rattle.ov_wire.proofs.ChainLaws.{chain_reads}
-use Rattle.ov_wire.proofs.EntryLaws.{entry_or_none_reads, longest_entry}
+use Rattle.ov_wire.proofs.EntryLaws.{entry_or_none_reads}
 use Rattle.ov_wire.proofs.NamesLaws.{AreFewNames, names_reads}
 use Rattle.ov_wire.proofs.NumberLaws.{at_most_reads, node_reads, greater_reads, next_reads, flag_reads, mode_reads, refusal_reads, le_of, of_le}
 

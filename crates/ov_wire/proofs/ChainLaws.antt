@@ -1,12 +1,10 @@
 -- The reader of chains reads exactly their spellings.
-use Rattle.std.proofs.Common.{◌≡◌, ℕ, ◌+◌, ◌*◌, ◌^◌, ◌<◌, ◌≤◌, List, [], ◌∷◌, ◌++◌, length, refl, sym, subst, arith}
+use Rattle.std.proofs.Common.{ℕ, ◌+◌, ◌*◌, ◌^◌, ◌<◌, List, length, refl, sym, subst, arith}
 use Rattle.std.specs.List.{flat_map, AllByRecursion}
-use Rattle.std.specs.Int.{w16}
 use Rattle.ov_tokens.specs.declared.label.Kind.{Kind}
 use Rattle.ov_tokens.specs.declared.token.Token.{Token}
-use Rattle.ov_tokens.specs.declared.chain.Chain.{Chain}
 use Rattle.ov_tokens.specs.declared.chain.Step.{Step}
-use Rattle.ov_fields.specs.Spelling.{u16, u32, counted}
+use Rattle.ov_fields.specs.Spelling.{counted}
 use Rattle.ov_fields.specs.Reading.{many_at}
 use Rattle.ov_fields.proofs.ReadingLaws.{Reads, then_reads, made_reads, given_reads, sized_by, refit}
 use Rattle.ov_fields.proofs.FieldLaws.{number_reads, wide16}

@@ -1,14 +1,12 @@
 -- The readers of catalogue entries read exactly their spellings.
-use Rattle.std.proofs.Common.{◌≡◌, ℕ, zero, suc, ◌+◌, ◌*◌, ◌-◌, ◌^◌, ◌<◌, ◌≤◌, Bool, true, false, cond, IsTrue, List, [], ◌∷◌, ◌++◌, length, Option, Some, None, Result, Ok, Err, refl, sym, ap, subst, ◌∙◌, arith}
+use Rattle.std.proofs.Common.{◌≡◌, ℕ, zero, suc, ◌+◌, ◌*◌, ◌-◌, ◌^◌, ◌<◌, ◌≤◌, Bool, true, false, cond, IsTrue, List, [], ◌∷◌, ◌++◌, length, Option, Some, None, Result, Ok, Err, refl, sym, ap, ◌∙◌, arith}
 use Rattle.std.specs.Prelude.{IfSome}
 use Rattle.std.specs.List.{AllByRecursion}
-use Rattle.std.specs.Int.{w32}
-use Rattle.std.proofs.lemmas.Bool.Decides.{nat_tests}
 use Rattle.ov_base.specs.Names.{IsName}
 use Rattle.ov_base.specs.Sets.{IsBelow, bytes_of, set_of_bytes}
 use Rattle.ov_tokens.specs.declared.token.Token.{Token}
 use Rattle.ov_tokens.specs.declared.edge.Edge.{Edge}
-use Rattle.ov_fields.specs.Spelling.{u32, name_field, token_field, optional, counted, IsToken}
+use Rattle.ov_fields.specs.Spelling.{optional, counted, IsToken}
 use Rattle.ov_fields.specs.Entries.{edge_field}
 use Rattle.ov_fields.specs.Reading.{Read, ◌>>=◌, made, making, spanned, rest_of, at_most, between, byte_at, bytes_at, many_at, counted_at, optional_at}
 use Rattle.ov_fields.proofs.ReadingLaws.{bind_ok, done, ok_is, Reads, then_reads, made_reads, made_into, refit}
@@ -18,7 +16,7 @@ use Rattle.ov_fields.proofs.NameLaws.{name_reads, token_reads}
 use Rattle.ov_fields.proofs.SetFields.{set_reads}
 use Rattle.ov_fields.proofs.TagLaws.{spanned_reads}
 use Rattle.ov_wire.specs.Updates.{plain}
-use Rattle.ov_wire.specs.Entries.{Entry, User, Node, Access, File, entry_bytes, IsNode, IsEdge, IsOfPart, IsEntry, node_at, user_entry_at, user, edge_at, edge, node_entry_at, node, access_entry_at, access, file_entry_at, file, entry_at}
+use Rattle.ov_wire.specs.Entries.{Entry, User, Node, Access, File, entry_bytes, IsNode, IsEdge, IsOfPart, IsEntry, user_entry_at, user, edge_at, edge, node_entry_at, node, access_entry_at, access, file_entry_at, file, entry_at}
 use Rattle.ov_wire.specs.AnswerReading.{entry_or_none_at}
 use Rattle.ov_wire.proofs.NumberLaws.{node_reads, at_most_reads, le_of, of_le, between_of}
 

@@ -1,11 +1,10 @@
 -- The reader of an update's fields reads exactly their bytes.
-use Rattle.std.proofs.Common.{◌≡◌, ℕ, zero, suc, ◌+◌, ◌*◌, ◌/◌, ◌^◌, ◌<◌, ◌≤◌, IsTrue, List, [], ◌∷◌, ◌++◌, length, Option, Ok, Err, refl, sym, ap, subst, ◌∙◌, arith}
+use Rattle.std.proofs.Common.{◌≡◌, ℕ, zero, suc, ◌+◌, ◌*◌, ◌/◌, ◌^◌, ◌<◌, ◌≤◌, IsTrue, List, [], ◌∷◌, ◌++◌, length, Option, Ok, Err, refl, arith}
 use Rattle.std.specs.Prelude.{IfSome}
-use Rattle.std.specs.Int.{w32}
 use Rattle.std.proofs.lemmas.Bool.Decides.{nat_tests}
 use Rattle.ov_base.specs.Names.{IsName}
 use Rattle.ov_fields.specs.Spelling.{u32, name_field, sized, optional}
-use Rattle.ov_fields.specs.Reading.{Read, made, at_most, bytes_at}
+use Rattle.ov_fields.specs.Reading.{at_most, bytes_at}
 use Rattle.ov_fields.proofs.ReadingLaws.{AreBytes, Reads, then_reads, given_reads, sized_by}
 use Rattle.ov_fields.proofs.FieldLaws.{bytes_reads, number_reads, that_reads, wide16, wide32}
 use Rattle.ov_fields.proofs.ListLaws.{sized_reads, optional_reads, Reads-more}

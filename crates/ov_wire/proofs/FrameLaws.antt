@@ -1,5 +1,5 @@
 -- Cutting a stream into frames.
-use Rattle.std.proofs.Common.{◌≡◌, ℕ, zero, suc, ◌+◌, ◌^◌, ◌<◌, ◌≤◌, List, [], ◌∷◌, ◌++◌, length, take, drop, min, inl, inr, false, refl, sym, ap, subst, ◌∙◌, append_assoc, length-append, length-take, arith}
+use Rattle.std.proofs.Common.{◌≡◌, ℕ, ◌+◌, ◌<◌, List, [], ◌∷◌, ◌++◌, length, take, min, inl, false, refl, sym, ap, subst, ◌∙◌, append_assoc, length-append, length-take, arith}
 use Rattle.std.specs.List.{flat_map, AllByRecursion}
 use Rattle.std.proofs.lemmas.List.{append-nil}
 use Rattle.std.proofs.lemmas.Grind.{flat_map-append}
@@ -8,7 +8,7 @@ use Rattle.std.proofs.Math.Seq.{set-append_seam}
 use Rattle.ov_fields.specs.Spelling.{u32}
 use Rattle.ov_wire.specs.declared.state.State.{State}
 use Rattle.ov_wire.specs.declared.state.State.TheVariants as states
-use Rattle.ov_wire.specs.Frames.{framed, IsFrame, IsFrameLength, IsCut, IsUnfinished, in_length, in_frame, IsBadLength, Decoding, Feeds, state_rest, is_bad, IsState, verdict}
+use Rattle.ov_wire.specs.Frames.{framed, IsFrame, IsFrameLength, IsCut, in_length, in_frame, Decoding, Feeds, state_rest, is_bad, verdict}
 use Rattle.ov_wire.specs.Cutting.{StateCut, IsCutting, Advances}
 
 -- one more

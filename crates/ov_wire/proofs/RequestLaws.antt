@@ -1,22 +1,20 @@
 -- The reader of requests reads exactly their spellings.
-use Rattle.std.proofs.Common.{◌≡◌, ℕ, zero, suc, ◌+◌, ◌*◌, ◌^◌, ◌<◌, ◌≤◌, Bool, true, false, IsTrue, List, [], ◌∷◌, ◌++◌, length, Option, Some, None, Ok, Err, refl, sym, ap, subst, ◌∙◌, arith}
+use Rattle.std.proofs.Common.{◌≡◌, ℕ, ◌+◌, ◌*◌, ◌^◌, ◌<◌, ◌≤◌, Bool, true, false, IsTrue, List, ◌++◌, length, Some, None, Ok, Err, refl, sym, ap, subst, ◌∙◌, arith}
 use Rattle.std.specs.List.{AllByRecursion}
-use Rattle.std.specs.Int.{w32}
 use Rattle.std.proofs.lemmas.Bool.Decides.{nat_tests}
 use Rattle.ov_base.specs.Names.{IsName}
 use Rattle.ov_fields.specs.Spelling.{u8, u32, name_field, counted}
-use Rattle.ov_fields.specs.Reading.{Read, ◌>>=◌, made, all_of, by_rows, any, at_most, between}
+use Rattle.ov_fields.specs.Reading.{all_of, by_rows, any, at_most, between}
 use Rattle.ov_fields.proofs.ReadingLaws.{AreBytes, Reads, made_into, then_reads, given_reads, sized_by}
 use Rattle.ov_fields.proofs.FieldLaws.{byte_reads, bytes_reads, number_reads, that_reads, wide32}
 use Rattle.std.proofs.lemmas.List.{append-nil}
 use Rattle.ov_fields.proofs.ListLaws.{Reads-more}
 use Rattle.ov_fields.proofs.NameLaws.{name_reads}
 use Rattle.ov_fields.proofs.TagLaws.{nothing_reads}
-use Rattle.ov_fields.proofs.KindLaws.{IsKind}
 use Rattle.ov_fields.proofs.RowLaws.{RowReads, row_reads, row_again, rows_take, rows_near}
 use Rattle.ov_wire.specs.declared.request.Request.{Request}
 use Rattle.ov_wire.specs.declared.request.Request.TheVariants as requests
-use Rattle.ov_wire.specs.Updates.{plain, Has32, IsSpelling}
+use Rattle.ov_wire.specs.Updates.{Has32, IsSpelling}
 use Rattle.ov_wire.specs.Requests.{is_verb, names_file, name_or_nothing, request_bytes, AreAskNames, HasRequestCounts, HasRequestForm}
 use Rattle.ov_wire.specs.RequestReading.{AskFields, of_user, of_both, ask_names_at, ask_at, ask, cover, cover_at, update, update_at, chain, chain_at, chunk, chunk_at, page, page_at, request_rows}
 use Rattle.ov_wire.proofs.FieldsLaws.{spelling_reads, longest}

@@ -1,5 +1,5 @@
 -- The one spelling of each answer, without its length field.
-use Rattle.std.specs.Prelude.{ℕ, ◌≤◌, List, [], ◌∷◌, ◌++◌, length, Option, Some, None, IfSome}
+use Rattle.std.specs.Prelude.{ℕ, ◌≤◌, List, [], ◌∷◌, ◌++◌, length, Some, IfSome}
 use Rattle.ov_base.specs.Modes.{mode_byte}
 use Rattle.ov_base.specs.Refusals.{refusal_number}
 use Rattle.ov_base.specs.Sets.{bytes_of}

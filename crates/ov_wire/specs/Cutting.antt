@@ -1,5 +1,5 @@
 -- How a decoder's helpers cut bytes into frames.
-use Rattle.std.specs.Prelude.{ℕ, ◌≡◌, ◌+◌, ◌<◌, List, [], ◌∷◌, ◌++◌, length, take, Result, Ok, Err}
+use Rattle.std.specs.Prelude.{ℕ, ◌≡◌, ◌<◌, List, ◌++◌, length, take}
 use Rattle.std.specs.List.{flat_map}
 use Rattle.ov_fields.specs.Spelling.{u32}
 use Rattle.ov_wire.specs.declared.cutting.Found.{Found}

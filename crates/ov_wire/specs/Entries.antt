@@ -1,5 +1,5 @@
 -- Entries of the public catalogue, as they stand in an answer.
-use Rattle.std.specs.Prelude.{ℕ, zero, suc, ◌≡◌, ◌≤◌, ◌<◌, ◌^◌, List, [], ◌∷◌, length, Option, IfSome, Result, Err}
+use Rattle.std.specs.Prelude.{ℕ, zero, suc, ◌≡◌, ◌≤◌, ◌<◌, ◌^◌, List, length, Option, IfSome, Err}
 use Rattle.std.specs.List.{AllByRecursion}
 use Rattle.std.specs.Int.{w32}
 use Rattle.ov_base.specs.Names.{IsName}
@@ -8,7 +8,7 @@ use Rattle.ov_tokens.specs.declared.token.Token.{Token}
 use Rattle.ov_tokens.specs.declared.edge.Edge.{Edge}
 use Rattle.ov_fields.specs.Spelling.{IsToken}
 use Rattle.ov_fields.specs.Entries.{user_entry, node_entry, access_entry, file_entry}
-use Rattle.ov_fields.specs.Reading.{Read, ◌>>◌, making, spanned, at_most, bytes_at, number_at, number_that, set_at, counted_at, optional_at, name_at, token_at}
+use Rattle.ov_fields.specs.Reading.{Read, ◌>>◌, making, at_most, bytes_at, number_at, number_that, set_at, counted_at, optional_at, name_at, token_at}
 
 -- an entry, by its fields
 pub data Entry : Type 0 where

@@ -1,5 +1,5 @@
 -- Streams of frames, and how a decoder stands in one.
-use Rattle.std.specs.Prelude.{ℕ, ◌≡◌, ◌+◌, ◌≤◌, ◌<◌, ◌^◌, ◌⊎◌, Bool, true, false, List, [], ◌∷◌, ◌++◌, length, take, Result, Ok, Err, min}
+use Rattle.std.specs.Prelude.{ℕ, ◌≡◌, ◌+◌, ◌≤◌, ◌<◌, ◌^◌, ◌⊎◌, Bool, true, false, List, [], ◌++◌, length, take, Result, Ok, Err, min}
 use Rattle.std.specs.List.{flat_map, AllByRecursion}
 use Rattle.ov_fields.specs.Spelling.{u32}
 use Rattle.ov_wire.specs.declared.fault.FeedFault.{FeedFault}

@@ -1,6 +1,6 @@
 -- Reading requests from left to right.
-use Rattle.std.specs.Prelude.{ℕ, zero, suc, Bool, true, false, List, [], ◌∷◌, ◌++◌, length, Option, Some, None, Result, Ok, Err, nat_lt, if◌then◌else◌}
-use Rattle.std.specs.Int.{w8, w16, w32}
+use Rattle.std.specs.Prelude.{ℕ, zero, suc, Bool, true, false, List, [], ◌∷◌, ◌++◌, length, Option, Some, None, Result, Ok, Err, if◌then◌else◌}
+use Rattle.std.specs.Int.{w16, w32}
 use Rattle.ov_base.specs.NameLists.{is_among}
 use Rattle.ov_fields.specs.Reading.{Read, ◌>>=◌, ◌>>◌, made, spanned, all_of, making, by_rows, placed, any, at_most, between, byte_at, bytes_at, number_at, number_that, name_at, nothing_at}
 use Rattle.ov_wire.specs.declared.request.Request.{Request}

@@ -1,4 +1,4 @@
-use Rattle.std.proofs.Common.{◌∙◌, ◌≤◌, ap, sym, List, ℕ, arith}
+use Rattle.std.proofs.Common.{◌∙◌, ap, sym, List, ℕ, arith}
 use Rattle.ov_fields.specs.Reading.{all_of, by_rows}
 use Rattle.ov_wire.specs.AnswerReading.{answer_rows}
 use Rattle.ov_wire.proofs.AnswerLaws.{answer_takes, answer_again, answer_near, answer_counts}

@@ -1,4 +1,4 @@
-use Rattle.std.proofs.Common.{[], ◌∷◌, ◌++◌, ap, ◌∙◌, ℕ, List}
+use Rattle.std.proofs.Common.{[], ◌∷◌, ◌++◌, ap, ◌∙◌, ℕ}
 use Rattle.std.specs.List.{flat_map}
 use Rattle.ov_fields.specs.Spelling.{u8, u32, flag, optional}
 use Rattle.ov_wire.specs.Chains.{chain_field}

@@ -1,4 +1,4 @@
-use Rattle.std.proofs.Common.{◌≡◌, ◌+◌, ◌<◌, ◌++◌, inl, inr, ℕ, List, arith}
+use Rattle.std.proofs.Common.{◌≡◌, ◌++◌, inl, inr, arith}
 use Rattle.std.proofs.lemmas.Grind.{common_steps}
 use Rattle.ov_fields.specs.Spelling.{u32}
 use Rattle.ov_wire.proofs.cutting.find_behind.Goals as goal

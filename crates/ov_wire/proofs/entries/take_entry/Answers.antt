@@ -1,4 +1,4 @@
-use Rattle.std.proofs.Common.{◌≤◌, arith}
+use Rattle.std.proofs.Common.{arith}
 use Rattle.ov_fields.proofs.TagLaws.{span_found}
 use Rattle.ov_wire.proofs.NumberLaws.{of_between}
 use Rattle.ov_wire.proofs.EntryLaws.{entry_reads}

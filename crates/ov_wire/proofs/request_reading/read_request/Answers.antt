@@ -1,4 +1,4 @@
-use Rattle.std.proofs.Common.{◌∙◌, ◌≤◌, ap, sym, List, ℕ, arith}
+use Rattle.std.proofs.Common.{◌∙◌, ap, sym, List, ℕ, arith}
 use Rattle.ov_fields.specs.Reading.{all_of, by_rows}
 use Rattle.ov_wire.specs.RequestReading.{request_rows}
 use Rattle.ov_wire.proofs.RequestLaws.{request_takes, request_again, request_near, request_counts}

@@ -1,4 +1,4 @@
-use Rattle.std.proofs.Common.{◌≡◌, ◌∙◌, ◌-◌, ap, sym, Ok, List, ℕ, length, take, drop, arith}
+use Rattle.std.proofs.Common.{arith}
 use Rattle.ov_fields.proofs.TagLaws.{span_found}
 use Rattle.ov_wire.proofs.FieldsLaws.{fields_reads}
 use Rattle.ov_wire.proofs.update.take_spelling.Goals as goal

@@ -1,4 +1,4 @@
-use Rattle.std.proofs.Common.{◌≡◌, ◌∙◌, sym, ap, false, Bool}
+use Rattle.std.proofs.Common.{◌≡◌, ◌∙◌, sym, ap, false}
 use Rattle.ov_wire.specs.Frames.{Decoding, is_bad}
 use Rattle.ov_wire.proofs.FrameLaws.{has_fed}
 use Rattle.ov_wire.proofs.decoder.Decoder.feed.Goals as goal
