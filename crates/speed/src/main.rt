@@ -1,9 +1,10 @@
-//! What `docs/PERFORMANCE.md` times: `speed pad`, `speed tag`, `speed graph` and `speed chain`.
+//! What `docs/PERFORMANCE.md` times: `speed pad`, `speed tag`, `speed graph`, `speed chain` and `speed journal`.
 //!
 //! Each does one piece of work and prints one line that shows that it was done. It is timed from outside.
 #![tactic(auto)]
 
 mod graph;
+mod journal;
 
 use ov_ctr::apply_at;
 use ov_keyed::mac;
@@ -52,6 +53,7 @@ fn main(rt: HostRuntime) -> Result<(), Fail> {
             "tag" => tag(alloc)?,
             "graph" => graph::chains(alloc, 0)?,
             "chain" => graph::chains(alloc, 10_000)?,
+            "journal" => journal::appends(rt)?,
             _ => 0,
         };
         println!(rt; "{word} {answer}")?;
