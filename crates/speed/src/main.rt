@@ -1,10 +1,12 @@
-//! What `docs/PERFORMANCE.md` times: `speed pad`, `speed tag`, `speed graph`, `speed chain` and `speed journal`.
+//! What `docs/PERFORMANCE.md` times: `speed` and one of these words:
+//! `pad`, `tag`, `graph`, `chain`, `journal`, `wire` and `copy`.
 //!
 //! Each does one piece of work and prints one line that shows that it was done. It is timed from outside.
 #![tactic(auto)]
 
 mod graph;
 mod journal;
+mod wire;
 
 use ov_ctr::apply_at;
 use ov_keyed::mac;
@@ -54,6 +56,8 @@ fn main(rt: HostRuntime) -> Result<(), Fail> {
             "graph" => graph::chains(alloc, 0)?,
             "chain" => graph::chains(alloc, 10_000)?,
             "journal" => journal::appends(rt)?,
+            "wire" => wire::reads(alloc)?,
+            "copy" => wire::copies(alloc)?,
             _ => 0,
         };
         println!(rt; "{word} {answer}")?;
