@@ -1,6 +1,7 @@
 -- Parts of a file that is taken piece by piece, and its two lines.
 use Rattle.std.proofs.Common.{◌≡◌, ℕ, ◌+◌, ◌≤◌, ◌⊎◌, inl, inr, List, [], ◌∷◌, ◌++◌, length, take, drop, refl, sym, ◌∙◌, ap, subst, arith, length-append, append-nil, Option, Some, None}
 use Rattle.std.specs.Prelude.{◌≢◌, IfSome, IfNone}
+use Rattle.std.proofs.lemmas.List.{length-take}
 use Rattle.std.proofs.Math.Seq.{take-append-add, drop-append_seam}
 use Rattle.std.specs.Io.KnownBytes.{Consumes, IsAtEnd}
 use Rattle.std.proofs.KnownBytes.{Consumes-trans}
@@ -15,6 +16,10 @@ piece_more old mid new front before after end count long is had more =
     let whole : take (end + count) (front ++ after) ≡ front ++ take count after =
     ap (λ n. take (n + count) (front ++ after)) (sym long) ∙ take-append-add front after count in
     subst (Consumes old new) (sym whole) (Consumes-trans old mid new front (take count after) (subst (Consumes old mid) (sym is) had) more)
+
+-- no more is taken than the buffer holds
+pub few : (n : ℕ) (xs : List ℕ) → n ≤ 131 → length (take n xs) ≤ 131
+few n xs h = omega (arith, length-take n xs)
 
 -- ---- lines
 

@@ -117,10 +117,12 @@ fn fill<K: Source>(source: &mut K, buffer: &mut [u8]) -> Result<usize, Fault>
 }
 
 /// The masters of the key file that the source has left, or none where what it has left is no key
-/// file.
+/// file. It takes at most one byte more than the longest key file has.
 pub fn read_masters<K: Source>(source: &mut K) -> Result<Option<Masters>, Fault>
     ensures read { IfOk result (λ masters.
         IfSome (K.left source.old) (λ file. IsReadAs file masters)) }
+    ensures taken { IfOk result (λ _. (bytes : List ℕ)
+        × Consumes (K.left source.old) (K.left source.new) bytes × (length bytes ≤ 131)) }
     ensures same { K.borrow source.new ≡ K.borrow source.old }
     ensures cause { HasCause (K.faults source.old) (K.faults source.new) result }
 {

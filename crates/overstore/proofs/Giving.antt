@@ -1,5 +1,5 @@
 -- A file is read.
-use Rattle.std.proofs.Common.{◌≡◌, ℕ, zero, suc, ◌+◌, ◌<◌, ◌≤◌, Bool, List, [], ◌∷◌, length, refl, sym, ◌∙◌, ap, subst, arith, Option, Some, None}
+use Rattle.std.proofs.Common.{◌≡◌, ℕ, zero, suc, ◌+◌, ◌<◌, ◌≤◌, ◌==◌, Bool, true, false, not, nat_lt, List, [], ◌∷◌, length, refl, sym, ◌∙◌, ap, subst, arith, Option, Some, None, Ok}
 use Rattle.std.specs.Prelude.{slice_index_or, slice_get}
 use Rattle.ov_base.specs.declared.refusal.Refusal.{Refusal}
 use Rattle.ov_script.specs.declared.command.Command.TheVariants.{Read}
@@ -9,7 +9,10 @@ use Rattle.ov_model.specs.Lists.{file_at, file_number, no_file as nothing_there}
 use Rattle.ov_model.specs.Places.{place_of, IsNumber}
 use Rattle.ov_model.specs.Step.{reply_or, reply_to}
 use Rattle.overstore.specs.Files.{IsSealedAs}
-use Rattle.overstore.specs.Machine.{Kept, StandsFor, AreKept, IsKeptAs, IsSound, file_names, text_sum, why_not_given}
+use Rattle.ov_base.specs.declared.refusal.Refusal.TheVariants.{NoUser, NoFile, NoPath}
+use Rattle.ov_model.specs.Refusals.{first_of_tests}
+use Rattle.std.proofs.lemmas.Bool.Decides.{nat_tests}
+use Rattle.overstore.specs.Machine.{Kept, StandsFor, AreKept, IsKeptAs, IsSound, AsksFor, file_of, no_file, file_names, text_sum, why_not_given}
 use Rattle.overstore.specs.declared.filed.Filed.{Filed}
 use Rattle.overstore.proofs.Refusing.{read_is, file_is}
 
@@ -57,3 +60,28 @@ given old user file bytes n h s allowed is same =
     let number : n ≡ file_number (matrix_of h) file = is ∙ sym (file_is old h s file) in
     ap (Bytes user file) (same ∙ ap (λ m. (file_at (matrix_of h) m).bytes) number)
     ∙ sym (ap (reply_or (Bytes user file (file_at (matrix_of h) (file_number (matrix_of h) file)).bytes)) (read_is old h s user file ∙ allowed))
+
+-- ---- the user who asks is the file's reader
+
+two_tests : (a b c : Bool) → first_of_tests ((NoUser, a) ∷ (NoFile, b) ∷ (NoPath, not c) ∷ []) ≡ None → c ≡ true
+two_tests true b c e = absurd (cc e)
+two_tests false true c e = absurd (cc e)
+two_tests false false true e = refl
+two_tests false false false e = absurd (cc e)
+
+filed_at : (files : List (List ℕ × Filed)) (n : ℕ) (k : List ℕ × Filed) → Some k ≡ slice_get files n → slice_index_or files n no_file ≡ k
+filed_at [] n k at = cc
+filed_at (l ∷ files) zero k at = let entry : l ≡ k = cc in entry
+filed_at (l ∷ files) (suc n) k at = filed_at files n k at
+
+pub asker_reads : (parts old : Kept) (user file : List ℕ) (reader n : ℕ) (name : List ℕ) (filed : Filed) → parts ≡ old → AsksFor old user file (Ok (reader, n))
+    → Some (name, filed) ≡ slice_get parts.files n → reader ≡ filed.reader
+asker_reads parts old user file reader n name filed view asks at =
+    let same : (place_of user old.users == (file_of old (place_of file (file_names old.files))).reader) ≡ true =
+    two_tests (not (nat_lt (place_of user old.users) (length old.users))) (not (nat_lt (place_of file (file_names old.files)) (length old.files)))
+    (place_of user old.users == (file_of old (place_of file (file_names old.files))).reader) asks.0 in
+    let here : (file_of old n).reader ≡ filed.reader =
+    ap (λ (k : Kept). (file_of k n).reader) (sym view) ∙ ap (λ (f : List ℕ × Filed). f.1.reader) (filed_at parts.files n (name, filed) at) in
+    let number : (file_of old (place_of file (file_names old.files))).reader ≡ (file_of old n).reader = ap (λ m. (file_of old m).reader) (sym asks.2.0) in
+    let equal : place_of user old.users ≡ (file_of old (place_of file (file_names old.files))).reader = grind (arith, nat_tests) in
+    asks.1.0 ∙ equal ∙ number ∙ here

@@ -1,11 +1,12 @@
 -- The files of a history, and what is kept of them.
 use Rattle.std.proofs.Common.{◌≡◌, ℕ, zero, suc, ◌+◌, ◌<◌, List, [], ◌∷◌, ◌++◌, length, refl, sym, ◌∙◌, ap, subst, arith}
-use Rattle.std.specs.Prelude.{slice_index_or}
+use Rattle.std.specs.Prelude.{slice_index_or, Option, Some, None, IfSome}
 use Rattle.ov_ctr.proofs.Pad.{length-xor_pad}
 use Rattle.ov_model.specs.History.{File}
 use Rattle.ov_model.specs.Lists.{byte_sum, file_names as names_of_files}
 use Rattle.ov_model.specs.Sealed.{access_key}
-use Rattle.overstore.specs.Machine.{AreKept, IsKeptAs, file_names, text_sum}
+use Rattle.ov_keyfile.specs.KeyFile.{IsKeyFile}
+use Rattle.overstore.specs.Machine.{Kept, nothing, IsUnder, AreKept, IsKeptAs, file_names, text_sum}
 use Rattle.overstore.specs.declared.filed.Filed.{Filed}
 
 pub kept_names : (base : List ℕ) (number : ℕ) (files : List File) (kept : List (List ℕ × Filed)) → AreKept base number files kept → names_of_files files ≡ file_names kept
@@ -59,3 +60,10 @@ kept_more base number (g ∷ files) (l ∷ kept) f k h is =
 pub text_sum-more : (kept : List (List ℕ × Filed)) (k : List ℕ × Filed) → text_sum (kept ++ k ∷ []) ≡ text_sum kept + length k.1.text
 text_sum-more [] k = omega arith
 text_sum-more (l ∷ kept) k = let rest : text_sum (kept ++ k ∷ []) ≡ text_sum kept + length k.1.text = text_sum-more kept k in omega arith
+
+-- a new machine stands under the base master of a key file that was read
+pub under_masters : (left : Option (List ℕ)) (base surface : List ℕ) (kept : Kept) → kept ≡ nothing base
+    → IfSome left (λ file. IsKeyFile file base surface) → IfSome left (λ file. IsUnder file (Some kept))
+under_masters None base surface kept is read = tt
+under_masters (Some file) base surface kept is read =
+    (surface, subst (λ (k : Kept). IsKeyFile file k.base surface) (sym is) read)

@@ -3,6 +3,7 @@ use Rattle.std.specs.Prelude.{◌≡◌, ℕ, ◌+◌, ◌<◌, ◌≤◌, ◌==
 use Rattle.ov_base.specs.Sets.{single}
 use Rattle.ov_base.specs.declared.refusal.Refusal.{Refusal}
 use Rattle.ov_base.specs.declared.refusal.Refusal.TheVariants.{Taken, NoUser, NoFile, NoPath, FilesFull, BytesFull}
+use Rattle.ov_keyfile.specs.KeyFile.{IsKeyFile, HasMasters}
 use Rattle.ov_model.specs.History.{File, History, matrix_of, epoch_of}
 use Rattle.ov_model.specs.Places.{place_of, IsNumber}
 use Rattle.ov_model.specs.Refusals.{first_of_tests}
@@ -18,6 +19,11 @@ pub record Kept : Type 0 where
 -- nobody is enrolled
 abbrev pub nothing : List ℕ → Kept
 nothing base = record { base = base; users = []; files = [] }
+
+-- a new machine has the base master of this key file, or the file is none
+abbrev pub IsUnder : List ℕ → Option Kept → Type 0
+IsUnder file None = HasMasters file → ⊥
+IsUnder file (Some kept) = (surface : List ℕ) × IsKeyFile file kept.base surface
 
 abbrev pub file_names : List (List ℕ × Filed) → List (List ℕ)
 file_names files = map (λ (file : List ℕ × Filed). file.0) files
@@ -99,8 +105,9 @@ why_not_given kept user file =
     ∷ (NoPath, not (place_of user kept.users == (file_of kept (place_of file (file_names kept.files))).reader))
     ∷ [])
 
--- the number of the file, or why it isn't given
-abbrev pub AsksFor : Kept → List ℕ → List ℕ → Result ℕ Refusal → Type 0
-AsksFor kept user file (Ok number) =
-    (why_not_given kept user file ≡ None) × IsNumber (file_names kept.files) file (Some number)
+-- the numbers of the user and of the file, or why it isn't given
+abbrev pub AsksFor : Kept → List ℕ → List ℕ → Result (ℕ × ℕ) Refusal → Type 0
+AsksFor kept user file (Ok (reader, number)) =
+    (why_not_given kept user file ≡ None) × IsNumber kept.users user (Some reader)
+    × IsNumber (file_names kept.files) file (Some number)
 AsksFor kept user file (Err why) = why_not_given kept user file ≡ Some why

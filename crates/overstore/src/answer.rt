@@ -58,6 +58,7 @@ fn answer<O: Sink>(
     requires { (h : History) × StandsFor machine.old h }
     ensures answer { (h : History) → StandsFor machine.old h →
         Answers h command result (O.written out.old) (O.written out.new) machine.new }
+    ensures master { machine.new.base ≡ machine.old.base }
     ensures same { O.borrow out.new ≡ O.borrow out.old }
     ensures later { O.faults out.old ≤ O.faults out.new }
     ensures write { result ≡ Some Stop.Write → Rose (O.faults out.old) (O.faults out.new) }
@@ -83,6 +84,7 @@ pub fn answer_all<S: Source + Drop, O: Sink>(
     requires nothing { machine.old ≡ nothing machine.old.base }
     ensures stop { IfSome (text_left S.left script.old) (λ text.
         Stops text result (O.written out.old) (O.written out.new) machine.new) }
+    ensures master { machine.new.base ≡ machine.old.base }
     ensures same { S.borrow script.new.source ≡ S.borrow script.old.source }
     ensures read { result ≡ Stop.Read → Rose (S.faults script.old.source) (S.faults script.new.source) }
     ensures later { O.faults out.old ≤ O.faults out.new }

@@ -39,6 +39,7 @@ impl Machine {
         ensures ok { IfOk result (λ reply. (h : History) → StandsFor self.old h →
             (reply ≡ reply_to h (Create file reader bytes))
             × StandsFor self.new (after h (Create file reader bytes))) }
+        ensures master { self.new.base ≡ self.old.base }
         ensures err { OnErr result (self.new ≡ self.old) }
     {
         let size = bytes.as_slice().len() as u64;

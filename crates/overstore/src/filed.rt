@@ -1,8 +1,8 @@
 //! What is kept of a file: its text in the coat of the base layer.
-ghost use Rattle.std.specs.Prelude.{◌≡◌, ◌≤◌, ℕ, List, length, IfOk};
+ghost use Rattle.std.specs.Prelude.{◌≡◌, ◌≤◌, length, IfOk};
 ghost use Rattle.ov_model.specs.Sealed.{access_key};
 ghost use Rattle.ov_surface.specs.Coats.{base_coat};
-ghost use Rattle.overstore.specs.Files.{IsSealedAs};
+ghost use Rattle.overstore.specs.Files.{IsSealedAs, IsOpenedAs};
 
 use ov_base::{Key, Memory, Octets};
 use ov_keyed::same;
@@ -52,21 +52,25 @@ pub fn seal(base: &Key, number: u32, reader: u32, bytes: Octets) -> Filed
     Filed { reader, tag, text }
 }
 
-/// The bytes of file `number`, as its reader gets them: from the key of the reader's own node come
-/// the access key, the pad, and the tag to which the stored one is compared.
-pub fn open(alloc: Global, base: &Key, number: u32, filed: &Filed) -> Result<Octets, Memory>
-    requires sealed { (bytes : List ℕ) × IsSealedAs base.now.bytes number bytes filed.now }
+/// The bytes of file `number`, as this user gets them, or none where the stored tag isn't theirs:
+/// from the key of the user's own node come the access key, the pad, and the tag that is compared.
+pub fn open(
+    alloc: Global,
+    base: &Key,
+    number: u32,
+    user: u32,
+    filed: &Filed,
+) -> Result<Option<Octets>, Memory>
     requires size { length filed.now.text ≤ 67108864 }
-    ensures { IfOk result (λ octets. (bytes : List ℕ)
-        → IsSealedAs base.now.bytes number bytes filed.now → octets ≡ bytes) }
+    ensures { IfOk result (IsOpenedAs (access_key base.now.bytes user) number filed.now) }
 {
-    let access = reader_key(base, filed.reader);
+    let access = reader_key(base, user);
     let bytes = uncoated(alloc, &access, number, filed.text.as_slice())?;
     let octets = Octets::from_vec(bytes);
     let tag = file_tag(&access, number, octets.as_slice());
     if same(&tag, &filed.tag) {
-        Ok(octets)
+        Ok(Some(octets))
     } else {
-        unreachable!()
+        Ok(None)
     }
 }

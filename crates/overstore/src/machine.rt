@@ -80,6 +80,7 @@ impl Machine {
         requires { (h : History) × StandsFor self.old h }
         ensures ok { IfOk result (λ reply. (h : History) → StandsFor self.old h →
             (reply ≡ reply_to h command) × StandsFor self.new (after h command)) }
+        ensures master { self.new.base ≡ self.old.base }
         ensures err { OnErr result (self.new ≡ self.old) }
     {
         match command {
@@ -96,6 +97,7 @@ impl Machine {
     fn enrol(&mut self, user: Name) -> Result<Reply, Memory>
         ensures ok { IfOk result (λ reply. (h : History) → StandsFor self.old h →
             (reply ≡ reply_to h (Enrol user)) × StandsFor self.new (after h (Enrol user))) }
+        ensures master { self.new.base ≡ self.old.base }
         ensures err { OnErr result (self.new ≡ self.old) }
     {
         if self.user_number(&user).is_some() {

@@ -1,8 +1,9 @@
 //! The program `overstore`: a script comes in on standard input, and its reply lines go out.
 //!
-//! `overstore run full` answers a script of commands, line by line, from a store that begins empty.
-//! The contract of [`run`] says what it prints for every script; `main` makes the real source and
-//! sink, calls it, and ends with the status that it gives.
+//! `overstore run full` answers a script of commands, line by line, from a store that begins empty,
+//! under the masters of the key file in its folder. The contract of [`run`] says what it prints for
+//! every script; `main` makes the real sources and the sink, calls it, and ends with the status that
+//! it gives.
 //!
 //! | module | what it does |
 //! |---|---|
@@ -10,6 +11,8 @@
 //! | `answer` | the loop over the script's commands |
 //! | `finish` | the last line |
 //! | `machine` | the access-matrix machine, as code |
+//! | `creation`, `reading` | its creations and reads of files |
+//! | `filed` | a file as it is kept: sealed, and opened for its reader |
 //! | `status` | the exit statuses |
 #![tactic(auto)]
 
@@ -24,6 +27,7 @@ mod status;
 #[cfg(test)]
 mod tests;
 
+use finish::put_last;
 use ov_io::{FileSource, StdSink, StdSource};
 use run::run;
 use status::Status;
@@ -46,8 +50,8 @@ are read from `keys.hex` in this folder: two lines of 64 hexadecimal digits.
 
 The last line is `end epoch EPOCH`, or `error ..` where the script could not be
 answered to its end. Exit status: 0 answered, 2 words not known, 3 bad line,
-5 read failed, 6 write failed, 7 out of memory, 10 no key file, 11 script too
-long.
+5 read failed or no `keys.hex`, 6 write failed, 7 out of memory, 10 `keys.hex` is
+no key file, 11 script too long.
 ";
 
 const VERSION: &str = "overstore 0.2.0\n";
@@ -98,11 +102,11 @@ fn answer_words(rt: &HostRuntime, words: &[String]) -> u8 {
             Err(_) => Status::WriteFault.code(),
         },
         None => {
+            let mut out = StdSink::new(rt.stdout());
             let Ok(mut keys) = FileSource::new(*rt, KEY_FILE) else {
-                return Status::OutOfMemory.code();
+                return put_last(&mut out, b"error memory\n", Status::OutOfMemory);
             };
             let mut input = StdSource::new(rt.stdin());
-            let mut out = StdSink::new(rt.stdout());
             run(rt.alloc(), words, &mut keys, &mut input, &mut out)
         }
     }

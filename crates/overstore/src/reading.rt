@@ -12,8 +12,8 @@ use ov_script::Reply;
 use std::alloc::Global;
 
 impl Machine {
-    /// The number of the file that this user asks for, or why it isn't given.
-    fn asked(&self, user: &Name, file: &Name) -> Result<u32, Refusal>
+    /// The numbers of the user who asks and of the file, or why it isn't given.
+    fn asked(&self, user: &Name, file: &Name) -> Result<(u32, u32), Refusal>
         ensures { AsksFor self.now user.now file.now result }
     {
         let Some(reader) = self.user_number(user) else {
@@ -23,7 +23,7 @@ impl Machine {
             return Err(Refusal::NoFile);
         };
         match self.files.get_index(number as usize) {
-            Some((_, filed)) if filed.reader == reader => Ok(number),
+            Some((_, filed)) if filed.reader == reader => Ok((reader, number)),
             _ => Err(Refusal::NoPath),
         }
     }
@@ -34,14 +34,16 @@ impl Machine {
         ensures { IfOk result (λ reply. (h : History) → StandsFor self.now h →
             reply ≡ reply_to h (Read user file)) }
     {
-        let number = match self.asked(&user, &file) {
-            Ok(number) => number,
+        let (reader, number) = match self.asked(&user, &file) {
+            Ok(numbers) => numbers,
             Err(why) => return Ok(Reply::Refused(why)),
         };
         let Some((_, filed)) = self.files.get_index(number as usize) else {
             unreachable!()
         };
-        let bytes = open(alloc, &self.base, number, filed)?;
-        Ok(Reply::Bytes { user, file, bytes })
+        match open(alloc, &self.base, number, reader, filed)? {
+            Some(bytes) => Ok(Reply::Bytes { user, file, bytes }),
+            None => unreachable!(),
+        }
     }
 }

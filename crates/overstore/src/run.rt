@@ -1,10 +1,11 @@
 //! The top call.
-ghost use Rattle.std.specs.Prelude.{◌≡◌, ◌≢◌, ◌↔◌, ◌⊎◌, ℕ, IfSome, IsTrue};
+ghost use Rattle.std.specs.Prelude.{◌≡◌, ◌≢◌, ◌↔◌, ◌⊎◌, ℕ, IfOk, IfSome, IsTrue};
 ghost use Rattle.std.specs.Io.KnownBytes.{Appends};
-ghost use Rattle.ov_base.specs.Causes.{Rose};
+ghost use Rattle.ov_base.specs.Causes.{HasCause, Rose};
 ghost use Rattle.ov_keyfile.specs.KeyFile.{HasMasters};
 ghost use Rattle.ov_script.specs.Reading.{AtEnd, BadAt, TooLong};
 ghost use Rattle.overstore.specs.Answering.{Concluded, EndsIn};
+ghost use Rattle.overstore.specs.Machine.{nothing, IsUnder};
 ghost use Rattle.overstore.specs.Printing.{Answered, ReadFault, OutOfMemory, Prints, PrintsFront};
 ghost use Rattle.overstore.specs.Printing.{keys_line, read_line, usage_line, IsAnswered, StatusIsOf};
 ghost use Rattle.overstore.specs.Printing.{IsFault, IsMemory, IsStatus};
@@ -14,8 +15,8 @@ use crate::answer::answer_all;
 use crate::finish::{finish, put_last};
 use crate::machine::Machine;
 use crate::status::Status;
-use ov_base::{Key, Memory};
-use ov_io::{Sink, Source};
+use ov_base::Memory;
+use ov_io::{Fault, Sink, Source};
 use ov_keyfile::read_masters;
 use ov_script::Script;
 use std::alloc::Global;
@@ -29,8 +30,28 @@ fn is_run_full(words: &[String]) -> bool
     }
 }
 
-// Answers the script, once the words and the base master are known.
-fn answer_script<I: Source, O: Sink>(alloc: Global, base: Key, input: &mut I, out: &mut O) -> u8
+// The machine under the base master of the key file that `keys` has left, with nobody enrolled.
+fn machine_of<K: Source>(alloc: Global, keys: &mut K) -> Result<Option<Machine>, Fault>
+    ensures under { IfOk result (λ machine.
+        IfSome (K.left keys.old) (λ file. IsUnder file machine)) }
+    ensures new { IfOk result (λ machine. IfSome machine (λ m. m ≡ nothing m.base)) }
+    ensures cause { HasCause (K.faults keys.old) (K.faults keys.new) result }
+{
+    match read_masters(keys)? {
+        Some(masters) => Ok(Some(Machine::new(alloc, masters.base))),
+        None => Ok(None),
+    }
+}
+
+// Answers the script with a machine that has answered nothing yet.
+fn answer_script<I: Source, O: Sink>(
+    alloc: Global,
+    machine: &mut Machine,
+    input: &mut I,
+    out: &mut O,
+) -> u8
+    requires nothing { machine.old ≡ nothing machine.old.base }
+    ensures master { machine.new.base ≡ machine.old.base }
     ensures concluded { IfSome (I.left input.old) (λ text.
         Concluded text (O.written out.old) (O.written out.new) result) }
     ensures read_cause { result ≡ 5 → Rose (I.faults input.old) (I.faults input.new) }
@@ -43,8 +64,7 @@ fn answer_script<I: Source, O: Sink>(alloc: Global, base: Key, input: &mut I, ou
         Ok(script) => script,
         Err(Memory) => return put_last(out, b"error memory\n", Status::OutOfMemory),
     };
-    let mut machine = Machine::new(alloc, base);
-    let stop = answer_all(alloc, &mut script, &mut machine, out);
+    let stop = answer_all(alloc, &mut script, machine, out);
     // The loan ends here, and what is known of the source goes back to `input`.
     let _ = script.into_source();
     finish(alloc, stop, machine.epoch(), out)
@@ -73,8 +93,8 @@ fn answer_with_keys<K: Source, I: Source, O: Sink>(
     ensures status { IsStatus result }
     ensures not_usage { result ≢ 2 }
 {
-    match read_masters(keys) {
-        Ok(Some(masters)) => answer_script(alloc, masters.base, input, out),
+    match machine_of(alloc, keys) {
+        Ok(Some(mut machine)) => answer_script(alloc, &mut machine, input, out),
         Ok(None) => put_last(out, b"error keys\n", Status::BadKeys),
         Err(_) => put_last(out, b"error read\n", Status::ReadFault),
     }

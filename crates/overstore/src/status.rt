@@ -18,7 +18,7 @@ pub enum Status {
     WriteFault,
     /// Memory was refused.
     OutOfMemory,
-    /// The key file is none.
+    /// What should be the key file isn't one.
     BadKeys,
     /// The script is too long.
     Long,

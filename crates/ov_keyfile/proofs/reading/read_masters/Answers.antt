@@ -1,6 +1,10 @@
-use Rattle.ov_keyfile.proofs.Parts.{read_all}
+use Rattle.ov_keyfile.proofs.Parts.{read_all, few}
 use Rattle.ov_keyfile.proofs.reading.read_masters.Goals as goal
 
 pub returns-clause-read : goal.returns-clause-read
 returns-clause-read g c =
     read_all _ _ _ _ _ _ c.split_at.ensures.front c.split_at.ensures.front_len c.in_ok-count.ensures.taken c.in_ok-count.ensures.all c.masters_of.ensures
+
+pub returns-clause-taken : goal.returns-clause-taken
+returns-clause-taken g c =
+    (_, c.in_ok-count.ensures.taken, few _ _ c.in_ok-count.ensures.within)

@@ -8,6 +8,7 @@ pub items-init : goal.items-init
 items-init g c = record {
   so_far = begins_so _ _ _ _ _ c.requires.line c.requires.room c.requires.nothing;
   stands = stands_so _ c.requires.nothing;
+  master = grind (arith, common_steps);
   ended = c.requires.fresh;
   same = grind (arith, common_steps);
   read_later = grind (arith, common_steps);
@@ -22,6 +23,7 @@ pub items-preserved : goal.items-preserved
 items-preserved g c = record {
   so_far = answered_more _ _ _ _ _ _ _ _ _ _ _ _ _ c.items.invariant.so_far (rw c.in-Ok-Command.field-0-is at (c.in-Ok-Command.ensures.says c.items.invariant.ended)) c.in-None.ensures.answer;
   stands = stands_after _ _ _ _ _ c.items.invariant.stands c.in-None.ensures.answer;
+  master = grind (arith, common_steps);
   ended = grind (arith, common_steps);
   same = grind (arith, common_steps);
   read_later = grind (arith, common_steps);

@@ -10,6 +10,7 @@ abbrev pub invariant-items : goal.invariant-items
 invariant-items g l = record {
   so_far : IfSome (text_left g.S.Source.left l.fn.script) (λ text.
       SoFar text (text_left g.S.Source.left l.script) l.script.line l.script.room (g.O.Sink.written l.fn.out) (g.O.Sink.written l.out) l.machine);
+  master : l.machine.base ≡ l.fn.machine.base;
   stands : (h : History) × StandsFor l.machine h;
   ended : l.script.ended ≡ None;
   same : g.S.Source.borrow l.script.source ≡ g.S.Source.borrow l.fn.script.source;
