@@ -78,6 +78,8 @@ fn two_files(rt: HostRuntime) -> Result<(), Fail> {
     assert_eq!(rt; late.sync(), Err(DiskFault));
     drop(early);
     assert_eq!(rt; late.len(Area::Book), Ok(6));
+    // A write that the system refuses.
+    assert_eq!(rt; late.write_at(Area::Book, u64::MAX, b"x"), Err(DiskFault));
     drop(late);
     // A folder, a device, and one file for both areas.
     for (book, blobs) in [

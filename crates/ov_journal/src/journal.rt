@@ -130,6 +130,7 @@ impl Journal {
         ensures longest { OnOk result (length ≤ self.new.longest) }
         ensures never_less { (self.old.room ≤ self.new.room) × (self.old.longest ≤ self.new.longest) }
         ensures same { HasSameRecords self.old self.new }
+        ensures err { OnErr result (self.new ≡ self.old) }
     {
         let room = self.room.checked_add(1).ok_or(Memory)?;
         self.offsets.reserve(room)?;
