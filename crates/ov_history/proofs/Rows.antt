@@ -1,0 +1,68 @@
+-- Worked histories.
+use Rattle.std.specs.Prelude.{ℕ, ◌≡◌, List, [], ◌∷◌, ◌++◌, Some, None}
+use Rattle.std.proofs.Common.{refl}
+use Rattle.ov_base.specs.declared.mode.Mode.TheVariants.{Full, Delta}
+use Rattle.ov_history.specs.History.{History, Update, Enrolled, Created, Granted, Revoked}
+use Rattle.ov_history.specs.Layers.{Layers, Place, layers_of}
+
+-- a place without a surface, and one with
+abbrev bare : ℕ → ℕ → Place
+bare node generation = record { node = node; surface = None; generation = generation }
+
+abbrev under : ℕ → ℕ → ℕ → Place
+under surface node generation = record { node = node; surface = Some surface; generation = generation }
+
+-- ---- two files of one base node
+
+-- three users, two files for the first two of them, and a grant of the first file to the third
+abbrev shared : List Update
+shared =
+    Enrolled (97 ∷ []) ∷ Enrolled (98 ∷ []) ∷ Enrolled (99 ∷ []) ∷ Created (102 ∷ 49 ∷ []) 3 []
+    ∷ Created (102 ∷ 50 ∷ []) 3 [] ∷ Granted 2 0 ∷ []
+
+abbrev in_delta : List Update → Layers
+in_delta updates = layers_of (record { mode = Delta; first = 0; updates = updates })
+
+abbrev three_users : ℕ → List Place → Layers
+three_users epoch files = record {
+  mode = Delta;
+  epoch = epoch;
+  users = 3;
+  base = 1 ∷ 2 ∷ 4 ∷ 3 ∷ [];
+  surface = 1 ∷ 2 ∷ 4 ∷ 3 ∷ [];
+  accesses = record { user = 2; node = 3 } ∷ [];
+  files = files;
+}
+
+-- the third user holds the base node of both, so the second file keeps its list by a surface
+granted : in_delta shared ≡ three_users 6 (bare 3 4 ∷ under 3 3 6 ∷ [])
+granted = refl
+
+-- a revocation lays a surface on the first file too
+revoked : in_delta (shared ++ Revoked 2 0 ∷ []) ≡ three_users 7 (under 3 3 7 ∷ under 3 3 6 ∷ [])
+revoked = refl
+
+-- and the grant again takes it off, without another access token
+granted_again : in_delta (shared ++ Revoked 2 0 ∷ Granted 2 0 ∷ []) ≡ three_users 8 (bare 3 8 ∷ under 3 3 6 ∷ [])
+granted_again = refl
+
+-- ---- a file for no one
+
+abbrev emptied : History
+emptied = record {
+  mode = Full;
+  first = 0;
+  updates = Enrolled (97 ∷ []) ∷ Created (102 ∷ []) 1 [] ∷ Revoked 0 0 ∷ [];
+}
+
+-- in Full each file has a surface, here that of the empty set
+emptied_layers : layers_of emptied ≡ record {
+  mode = Full;
+  epoch = 3;
+  users = 1;
+  base = 1 ∷ [];
+  surface = 1 ∷ 0 ∷ [];
+  accesses = [];
+  files = under 1 0 3 ∷ [];
+}
+emptied_layers = refl

@@ -1,0 +1,167 @@
+-- The lists of files lie within the holders of their base nodes.
+use Rattle.std.proofs.Common.{◌≡◌, ℕ, zero, suc, ◌+◌, ◌<◌, ◌==◌, Bool, true, false, List, [], ◌∷◌, ◌++◌, length, get_or, refl, sym, subst, arith, inl, inr, length-append}
+use Rattle.std.specs.Prelude.{Contains, Some, None, slice_get}
+use Rattle.std.proofs.lemmas.List.{get_or_append_left}
+use Rattle.std.proofs.lemmas.List.Elements.{Contains-append_left, Contains-append_right}
+use Rattle.ov_base.specs.Sets.{single, has, Has, with, without, Within, IsBelow}
+use Rattle.ov_base.proofs.SetLaws.{with_within, without_within, IsBelow-Within}
+use Rattle.ov_base.specs.declared.mode.Mode.{Mode}
+use Rattle.ov_base.specs.declared.mode.Mode.TheVariants.{Full, Delta}
+use Rattle.ov_graph.proofs.ListLaws.{Contains-cases, Contains-first, Contains-none, place-Contains}
+use Rattle.ov_base_layer.specs.Holders.{Access, with_accesses, AreFirst}
+use Rattle.ov_base_layer.proofs.HolderLaws.{holders_are}
+use Rattle.ov_surface.specs.Wanted.{none_where, wanted_surface}
+use Rattle.ov_history.specs.Places.{change_at}
+use Rattle.ov_history.specs.History.{Update, Enrolled, Created, Granted, Revoked}
+use Rattle.ov_history.specs.Layers.{Place, Layers, no_place, node_for, node_of, holders, list_at, lists_at, lists_after, given, grown, wants_at}
+use Rattle.ov_history.specs.Shown.{Filed, place_of_file, places}
+use Rattle.ov_history.proofs.SoundSets.{with_set-at, with_set-own}
+
+-- each place's base node is there, and its holders have each user of the list
+abbrev pub AreHeld : Layers → List ℕ → List Place → Type 0
+AreHeld y [] [] = Unit {0}
+AreHeld y [] (p ∷ placed) = ⊥
+AreHeld y (list ∷ lists) [] = ⊥
+AreHeld y (list ∷ lists) (p ∷ placed) =
+    (p.node < length y.base) × Within list (holders y p.node) × AreHeld y lists placed
+
+-- each base node stays, with its holders and perhaps more
+abbrev pub Grows : Layers → Layers → Type 0
+Grows y z = (node : ℕ) → node < length y.base → (node < length z.base) × Within (holders y node) (holders z node)
+
+pub still_held : (y z : Layers) (lists : List ℕ) (placed : List Place) → Grows y z → AreHeld y lists placed
+    → AreHeld z lists placed
+still_held y z [] [] more h = tt
+still_held y z [] (p ∷ placed) more h = absurd h
+still_held y z (list ∷ lists) [] more h = absurd h
+still_held y z (list ∷ lists) (p ∷ placed) more (there, held, rest) =
+    let grows = more p.node there in
+    (grows.0, (λ user one. grows.1 user (held user one)), still_held y z lists placed more rest)
+
+-- ---- the updates
+
+enrol_grows : (y : Layers) (user : List ℕ) → Grows y (grown y (Enrolled user))
+enrol_grows y user node there = (
+  omega (arith, length-append y.base (single y.users ∷ [])),
+  λ u held. subst (λ set. Has (with_accesses y.accesses node set) u) (sym (get_or_append_left y.base (single y.users ∷ []) 0 node there)) held,
+)
+
+create_grows : (y : Layers) (file : List ℕ) (list : ℕ) (bytes : List ℕ) → Grows y (grown y (Created file list bytes))
+create_grows y file list bytes node there =
+    let kept = with_set-at y.base list node there in
+    (kept.0, λ u held. subst (λ set. Has (with_accesses y.accesses node set) u) (sym kept.1) held)
+
+grant_grows : (y : Layers) (user file : ℕ) → Grows y (grown y (Granted user file))
+grant_grows y user file node there = (there, by_test (has (holders y (node_of y file)) user)) where
+  by_test : (b : Bool) → Within (holders y node) (with_accesses (given b y.accesses user (node_of y file)) node (get_or y.base node 0))
+  by_test true u held = held
+  by_test false u held =
+      let more : List Access = y.accesses ++ record { user = user; node = node_of y file } ∷ [] in
+      elim ((holders_are y.base y.accesses node u).0 held) [
+        | inl member ↦ (holders_are y.base more node u).1 (inl member)
+        | inr access ↦ (holders_are y.base more node u).1 (inr (Contains-append_left y.accesses _ _ access))
+      ]
+
+-- the user of a grant holds the node of its file
+grant_holds : (y : Layers) (user file : ℕ) → Has (holders (grown y (Granted user file)) (node_of y file)) user
+grant_holds y user file = by_test (has (holders y (node_of y file)) user) refl where
+  by_test : (b : Bool) → has (holders y (node_of y file)) user ≡ b
+      → Has (with_accesses (given b y.accesses user (node_of y file)) (node_of y file) (get_or y.base (node_of y file) 0)) user
+  by_test true e = e
+  by_test false e =
+      let new : Access = record { user = user; node = node_of y file } in
+      (holders_are y.base (y.accesses ++ new ∷ []) (node_of y file) user).1
+      (inr (Contains-append_right y.accesses (new ∷ []) new (Contains-first new [])))
+
+-- a user who holds the node of a file may join its list
+listed_held : (y : Layers) (user file : ℕ) (lists : List ℕ) (placed : List Place)
+    → Has (holders y (get_or placed file no_place).node) user → AreHeld y lists placed
+    → AreHeld y (change_at (λ list. with list user) file lists) placed
+listed_held y user file [] [] own h = tt
+listed_held y user file [] (p ∷ placed) own h = absurd h
+listed_held y user file (list ∷ lists) [] own h = absurd h
+listed_held y user zero (list ∷ lists) (p ∷ placed) own (there, held, rest) =
+    (there, with_within list user (holders y p.node) held own, rest)
+listed_held y user (suc file) (list ∷ lists) (p ∷ placed) own (there, held, rest) =
+    (there, held, listed_held y user file lists placed own rest)
+
+delisted_held : (y : Layers) (user file : ℕ) (lists : List ℕ) (placed : List Place)
+    → AreHeld y lists placed → AreHeld y (change_at (λ list. without list user) file lists) placed
+delisted_held y user file [] [] h = tt
+delisted_held y user file [] (p ∷ placed) h = absurd h
+delisted_held y user file (list ∷ lists) [] h = absurd h
+delisted_held y user zero (list ∷ lists) (p ∷ placed) (there, held, rest) =
+    (there, (λ u one. held u (without_within list user u one)), rest)
+delisted_held y user (suc file) (list ∷ lists) (p ∷ placed) (there, held, rest) =
+    (there, held, delisted_held y user file lists placed rest)
+
+more_held : (y : Layers) (list : ℕ) (p : Place) (lists : List ℕ) (placed : List Place)
+    → p.node < length y.base → Within list (holders y p.node) → AreHeld y lists placed
+    → AreHeld y (lists ++ list ∷ []) (placed ++ p ∷ [])
+more_held y list p [] [] there held h = (there, held, tt)
+more_held y list p [] (q ∷ placed) there held h = absurd h
+more_held y list p (other ∷ lists) [] there held h = absurd h
+more_held y list p (other ∷ lists) (q ∷ placed) there held (first, within, rest) =
+    (first, within, more_held y list p lists placed there held rest)
+
+-- the lists after an update lie within the holders after it
+pub held_after : (y : Layers) (lists : List ℕ) (u : Update) → AreHeld y lists y.files
+    → AreHeld (grown y u) (lists_after lists u) (grown y u).files
+held_after y lists (Enrolled user) h =
+    still_held y (grown y (Enrolled user)) lists y.files (enrol_grows y user) h
+held_after y lists (Created file list bytes) h =
+    let z : Layers = grown y (Created file list bytes) in
+    let node : ℕ = node_for y.base list in
+    let own = with_set-own y.base list in
+    more_held z list (record { node = node; surface = None; generation = y.epoch + 1 }) lists y.files own.0
+    (λ u one. (holders_are z.base y.accesses node u).1 (inl (subst (λ set. Has set u) (sym own.1) one)))
+    (still_held y z lists y.files (create_grows y file list bytes) h)
+held_after y lists (Granted user file) h =
+    let z : Layers = grown y (Granted user file) in
+    listed_held z user file lists y.files (grant_holds y user file)
+    (still_held y z lists y.files (grant_grows y user file) h)
+held_after y lists (Revoked user file) h = delisted_held (grown y (Revoked user file)) user file lists y.files
+    (still_held y (grown y (Revoked user file)) lists y.files (λ node there. (there, λ u held. held)) h)
+
+-- ---- files that are placed
+
+pub held_files : (y : Layers) (files : List Filed)
+    → ((file : ℕ) (f : Filed) → slice_get files file ≡ Some f
+    → (f.node < length y.base) × Within (list_at y (place_of_file f)) (holders y f.node))
+    → AreHeld y (lists_at y (places files)) (places files)
+held_files y [] each = tt
+held_files y (f ∷ files) each =
+    let first = each 0 f refl in
+    (first.0, first.1, held_files y files (λ file g is. each (suc file) g is))
+
+-- ---- holders are users
+
+pub holders_below : (users : ℕ) (y : Layers) → ((set : ℕ) → Contains y.base set → IsBelow users set)
+    → AreFirst users y.base y.accesses → (node : ℕ) → node < length y.base → IsBelow users (holders y node)
+holders_below users y below first node there user held = elim ((holders_are y.base y.accesses node user).0 held) [
+  | inl member ↦ below (get_or y.base node 0) (place-Contains y.base node (get_or y.base node 0) there refl) user member
+  | inr access ↦ first.users (record { user = user; node = node }) access
+]
+
+-- ---- wanted sets
+
+none_where-is : (b : Bool) (list set : ℕ) → none_where b list ≡ Some set → list ≡ set
+none_where-is true list set e = absurd (cc)
+none_where-is false list set e = cc
+
+-- a wanted set is the list
+pub wanted-is : (mode : Mode) (list held set : ℕ) → wanted_surface mode list held ≡ Some set → list ≡ set
+wanted-is Full list held set e = cc
+wanted-is Delta list held set e = none_where-is (list == held) list set e
+
+pub wants_below : (users : ℕ) (y : Layers) (lists : List ℕ) (placed : List Place) → AreHeld y lists placed
+    → ((node : ℕ) → node < length y.base → IsBelow users (holders y node))
+    → (set : ℕ) → Contains (wants_at y lists placed) (Some set) → IsBelow users set
+wants_below users y [] placed h below set there = absurd (Contains-none (Some set) there)
+wants_below users y (list ∷ lists) [] h below set there = absurd h
+wants_below users y (list ∷ lists) (p ∷ placed) (node, held, rest) below set there =
+    elim (Contains-cases (wanted_surface y.mode list (holders y p.node)) (wants_at y lists placed) (Some set) there) [
+      | inl is ↦ subst (λ s. IsBelow users s) (wanted-is y.mode list (holders y p.node) set is)
+          (IsBelow-Within users list (holders y p.node) held (below p.node node))
+      | inr later ↦ wants_below users y lists placed rest below set later
+    ]

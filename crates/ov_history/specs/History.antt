@@ -1,0 +1,71 @@
+-- Histories of updates, and the access matrix that they make.
+use Rattle.std.specs.Prelude.{ℕ, ◌+◌, List, [], ◌∷◌, ◌++◌, length}
+use Rattle.ov_base.specs.Sets.{with, without}
+use Rattle.ov_base.specs.declared.mode.Mode.{Mode}
+use Rattle.ov_history.specs.Places.{change_at}
+
+-- An update that was accepted. A name is a list of bytes, an access list is a set of users, and users
+-- and files are their numbers.
+pub data Update : Type 0 where
+  Enrolled : (user : List ℕ) → Update
+  Created : (file : List ℕ) → (list : ℕ) → (bytes : List ℕ) → Update
+  Granted : (user file : ℕ) → Update
+  Revoked : (user file : ℕ) → Update
+
+-- the mode, the epoch at which the store began, and the updates in order
+pub record History : Type 0 where
+  pub mode : Mode
+  pub first : ℕ
+  pub updates : List Update
+
+-- a file as its owner sees it: its name, its bytes, and the set of the users who may read it
+pub record File : Type 0 where
+  pub name : List ℕ
+  pub bytes : List ℕ
+  pub list : ℕ
+
+-- the names of the users and the files, each by number
+pub record Matrix : Type 0 where
+  pub users : List (List ℕ)
+  pub files : List File
+
+-- the file with the user in its list, and without
+abbrev pub listed : ℕ → File → File
+listed user file = record file { list = with file.list user }
+
+abbrev pub delisted : ℕ → File → File
+delisted user file = record file { list = without file.list user }
+
+-- what an update makes of the matrix
+abbrev pub changed : Matrix → Update → Matrix
+changed m (Enrolled user) = record m { users = m.users ++ user ∷ [] }
+changed m (Created file list bytes) = record m { files = m.files ++ record { name = file; bytes = bytes; list = list } ∷ [] }
+changed m (Granted user file) = record m { files = change_at (listed user) file m.files }
+changed m (Revoked user file) = record m { files = change_at (delisted user) file m.files }
+
+abbrev pub changed_all : Matrix → List Update → Matrix
+changed_all m [] = m
+changed_all m (u ∷ updates) = changed_all (changed m u) updates
+
+abbrev pub no_one : Matrix
+no_one = record { users = []; files = [] }
+
+-- the matrix that the updates make in order from nothing
+abbrev pub matrix_of : History → Matrix
+matrix_of h = changed_all no_one h.updates
+
+-- the first epoch and the number of updates
+abbrev pub epoch_of : History → ℕ
+epoch_of h = h.first + length h.updates
+
+-- the history with one more update
+abbrev pub with_update : History → Update → History
+with_update h u = record h { updates = h.updates ++ u ∷ [] }
+
+-- a store of this mode that begins empty, at this epoch
+abbrev pub empty : Mode → ℕ → History
+empty mode first = record { mode = mode; first = first; updates = [] }
+
+-- the history before its first update
+abbrev pub start_of : History → History
+start_of h = empty h.mode h.first

@@ -1,0 +1,175 @@
+-- The two layers of sets that a history makes, and where each file stands in them.
+use Rattle.std.specs.Prelude.{ℕ, ◌+◌, ◌==◌, Bool, true, false, List, [], ◌∷◌, ◌++◌, slice_index, slice_index_or, Option, Some, None}
+use Rattle.ov_base.specs.Sets.{single, has, with, without}
+use Rattle.ov_base.specs.declared.mode.Mode.{Mode}
+use Rattle.ov_base_layer.specs.Holders.{Access, holders_in}
+use Rattle.ov_graph.specs.Contents.{plan_of}
+use Rattle.ov_surface.specs.Wanted.{wanted_surface}
+use Rattle.ov_history.specs.Places.{change_at}
+use Rattle.ov_history.specs.History.{Update, Enrolled, Created, Granted, Revoked, History}
+
+-- ---- sets of a layer
+
+-- The node of a set that comes after these sets: its own, or the next where it isn't there.
+abbrev pub node_for : List ℕ → ℕ → ℕ
+node_for sets set = (plan_of sets set).node
+
+-- the sets, and the set at their end where it is a fresh one
+abbrev pub appended : Bool → List ℕ → ℕ → List ℕ
+appended true sets set = sets ++ set ∷ []
+appended false sets set = sets
+
+abbrev pub with_set : List ℕ → ℕ → List ℕ
+with_set sets set = appended (plan_of sets set).fresh sets set
+
+-- ---- layers
+
+-- where a file stands: its base node, its surface node where it has one, and the epoch at which it
+-- was created or its surface last changed
+pub record Place : Type 0 where
+  pub node : ℕ
+  pub surface : Option ℕ
+  pub generation : ℕ
+
+-- The mode and the epoch, how many users there are, the sets of each layer by node, the accesses that
+-- were given besides, in order, and the files by number.
+pub record Layers : Type 0 where
+  pub mode : Mode
+  pub epoch : ℕ
+  pub users : ℕ
+  pub base : List ℕ
+  pub surface : List ℕ
+  pub accesses : List Access
+  pub files : List Place
+
+abbrev pub no_layers : Mode → ℕ → Layers
+no_layers mode first = record { mode = mode; epoch = first; users = 0; base = []; surface = []; accesses = []; files = [] }
+
+-- the holders of a base node
+abbrev pub holders : Layers → ℕ → ℕ
+holders y node = holders_in y.base y.accesses node
+
+abbrev pub no_place : Place
+no_place = record { node = 0; surface = None; generation = 0 }
+
+-- the base node of a file
+abbrev pub node_of : Layers → ℕ → ℕ
+node_of y file = (slice_index_or y.files file no_place).node
+
+-- ---- who may read
+
+-- the set of the surface node, or the holders of the base node where there is none
+abbrev pub set_or : List ℕ → Option ℕ → ℕ → ℕ
+set_or sets None held = held
+set_or sets (Some node) held = slice_index sets node
+
+-- the list of a file that stands so: it isn't kept besides
+abbrev pub list_at : Layers → Place → ℕ
+list_at y p = set_or y.surface p.surface (holders y p.node)
+
+abbrev pub lists_at : Layers → List Place → List ℕ
+lists_at y [] = []
+lists_at y (p ∷ places) = list_at y p ∷ lists_at y places
+
+-- the lists of all files, by number
+abbrev pub lists_of : Layers → List ℕ
+lists_of y = lists_at y y.files
+
+-- the lists after an update
+abbrev pub lists_after : List ℕ → Update → List ℕ
+lists_after lists (Enrolled user) = lists
+lists_after lists (Created file list bytes) = lists ++ list ∷ []
+lists_after lists (Granted user file) = change_at (λ list. with list user) file lists
+lists_after lists (Revoked user file) = change_at (λ list. without list user) file lists
+
+-- ---- what an update adds
+
+-- the accesses, with one more where the user isn't a holder already
+abbrev pub given : Bool → List Access → ℕ → ℕ → List Access
+given true accesses user node = accesses
+given false accesses user node = accesses ++ record { user = user; node = node } ∷ []
+
+-- A new user has a node alone in each layer, a new file has the base node of its list, and a user who
+-- is granted a file and doesn't hold its base node is given access to that.
+abbrev pub grown : Layers → Update → Layers
+grown y (Enrolled user) = record y {
+  epoch = y.epoch + 1;
+  users = y.users + 1;
+  base = y.base ++ single y.users ∷ [];
+  surface = y.surface ++ single y.users ∷ [];
+}
+grown y (Created file list bytes) = record y {
+  epoch = y.epoch + 1;
+  base = with_set y.base list;
+  files = y.files ++ record { node = node_for y.base list; surface = None; generation = y.epoch + 1 } ∷ [];
+}
+grown y (Granted user file) = record y {
+  epoch = y.epoch + 1;
+  accesses = given (has (holders y (node_of y file)) user) y.accesses user (node_of y file);
+}
+grown y (Revoked user file) = record y { epoch = y.epoch + 1 }
+
+-- ---- surfaces
+
+-- the surface set that each file should have, from its list
+abbrev pub wants_at : Layers → List ℕ → List Place → List (Option ℕ)
+wants_at y [] places = []
+wants_at y (list ∷ lists) [] = []
+wants_at y (list ∷ lists) (p ∷ places) = wanted_surface y.mode list (holders y p.node) ∷ wants_at y lists places
+
+abbrev pub wants_of : Layers → List ℕ → List (Option ℕ)
+wants_of y lists = wants_at y lists y.files
+
+-- the sets, with each wanted set that is new, in order
+abbrev pub with_wants : List ℕ → List (Option ℕ) → List ℕ
+with_wants sets [] = sets
+with_wants sets (None ∷ wants) = with_wants sets wants
+with_wants sets (Some set ∷ wants) = with_wants (with_set sets set) wants
+
+-- the surface node of a wanted set
+abbrev pub surface_at : List ℕ → Option ℕ → Option ℕ
+surface_at sets None = None
+surface_at sets (Some set) = Some (node_for sets set)
+
+abbrev pub same_surface : Option ℕ → Option ℕ → Bool
+same_surface None None = true
+same_surface None (Some node) = false
+same_surface (Some other) None = false
+same_surface (Some other) (Some node) = other == node
+
+-- the place with this surface from this epoch on, where it isn't the same
+abbrev pub moved : Bool → ℕ → Option ℕ → Place → Place
+moved true epoch surface p = p
+moved false epoch surface p = record p { surface = surface; generation = epoch }
+
+abbrev pub settled_at : ℕ → List ℕ → Option ℕ → Place → Place
+settled_at epoch sets want p = moved (same_surface p.surface (surface_at sets want)) epoch (surface_at sets want) p
+
+abbrev pub settled_all : ℕ → List ℕ → List (Option ℕ) → List Place → List Place
+settled_all epoch sets [] places = places
+settled_all epoch sets (want ∷ wants) [] = []
+settled_all epoch sets (want ∷ wants) (p ∷ places) = settled_at epoch sets want p ∷ settled_all epoch sets wants places
+
+abbrev pub settled_by : Layers → List (Option ℕ) → Layers
+settled_by y wants = record y {
+  surface = with_wants y.surface wants;
+  files = settled_all y.epoch (with_wants y.surface wants) wants y.files;
+}
+
+-- the layers, where each file has its wanted surface for these lists
+abbrev pub settled : Layers → List ℕ → Layers
+settled y lists = settled_by y (wants_of y lists)
+
+-- ---- histories
+
+-- the layers after an update
+abbrev pub layers_after : Layers → Update → Layers
+layers_after y u = settled (grown y u) (lists_after (lists_of y) u)
+
+abbrev pub layers_all : Layers → List Update → Layers
+layers_all y [] = y
+layers_all y (u ∷ updates) = layers_all (layers_after y u) updates
+
+-- the layers that a history makes
+abbrev pub layers_of : History → Layers
+layers_of h = layers_all (no_layers h.mode h.first) h.updates

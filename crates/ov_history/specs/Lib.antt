@@ -1,0 +1,14 @@
+pub mod Places
+pub mod History
+pub mod Lists
+pub mod Layers
+pub mod Refusals
+pub mod Shown
+pub mod Sealed
+pub mod Kept
+pub mod Closure
+pub mod Keys
+pub mod Sound
+pub mod Laws
+pub mod Words
+pub mod WordLaws

@@ -1,0 +1,63 @@
+-- The users, files and access lists of the matrix, by number and by name.
+use Rattle.std.specs.Prelude.{ℕ, ◌+◌, ◌-◌, ◌^◌, Bool, true, false, nat_lt, List, [], ◌∷◌, ◌++◌, length, slice_index_or}
+use Rattle.ov_base.specs.Sets.{empty as nobody, has, with}
+use Rattle.ov_history.specs.History.{File, Matrix}
+use Rattle.ov_history.specs.Places.{place_of}
+
+abbrev pub file_names : List File → List (List ℕ)
+file_names [] = []
+file_names (file ∷ files) = file.name ∷ file_names files
+
+-- The number of a user by name. Of a name that isn't there it is one past the last number.
+abbrev pub user_number : Matrix → List ℕ → ℕ
+user_number m name = place_of name m.users
+
+abbrev pub file_number : Matrix → List ℕ → ℕ
+file_number m name = place_of name (file_names m.files)
+
+abbrev pub is_user : Matrix → ℕ → Bool
+is_user m user = nat_lt user (length m.users)
+
+abbrev pub is_file : Matrix → ℕ → Bool
+is_file m file = nat_lt file (length m.files)
+
+abbrev pub no_file : File
+no_file = record { name = []; bytes = []; list = nobody }
+
+abbrev pub file_at : Matrix → ℕ → File
+file_at m file = slice_index_or m.files file no_file
+
+-- whether the user is in the file's list
+abbrev pub is_listed : Matrix → ℕ → ℕ → Bool
+is_listed m user file = has (file_at m file).list user
+
+-- The set of so many users, numbered from 0. A set that has another number isn't within it.
+abbrev pub everyone : ℕ → ℕ
+everyone users = (2 ^ users) - 1
+
+-- the set, and the users of these names; a name that isn't there counts as the number past the last
+abbrev pub set_with : List (List ℕ) → ℕ → List (List ℕ) → ℕ
+set_with users set [] = set
+set_with users set (name ∷ names) = set_with users (with set (place_of name users)) names
+
+-- the users of these names
+abbrev pub set_named : List (List ℕ) → List (List ℕ) → ℕ
+set_named users names = set_with users nobody names
+
+-- the name, where the test says so
+abbrev pub name_if : Bool → List ℕ → List (List ℕ)
+name_if true name = name ∷ []
+name_if false name = []
+
+-- the names of the users in the set, in order of number; the first of these names has this number
+abbrev pub names_from : ℕ → ℕ → List (List ℕ) → List (List ℕ)
+names_from set number [] = []
+names_from set number (name ∷ names) = name_if (has set number) name ++ names_from set (number + 1) names
+
+abbrev pub names_in : ℕ → List (List ℕ) → List (List ℕ)
+names_in set users = names_from set 0 users
+
+-- the bytes of all files together
+abbrev pub byte_sum : List File → ℕ
+byte_sum [] = 0
+byte_sum (file ∷ files) = length file.bytes + byte_sum files

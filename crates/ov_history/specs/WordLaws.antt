@@ -1,0 +1,84 @@
+-- The laws that say what the layers of a history are, in the words of its updates.
+use Rattle.std.specs.Prelude.{◌≡◌, ◌≢◌, ◌⊎◌, ◌↔◌, ℕ, ◌<◌, ◌^◌, List, length, slice_index, Contains, Some}
+use Rattle.ov_base.specs.Sets.{Has}
+use Rattle.ov_ctr.specs.Ctr.{counter_block}
+use Rattle.ov_tokens.specs.declared.label.Label.{Label}
+use Rattle.ov_history.specs.History.{Update, Created, History, epoch_of, matrix_of, with_update}
+use Rattle.ov_history.specs.Layers.{holders, surface_at, layers_of}
+use Rattle.ov_history.specs.Refusals.{IsLegal}
+use Rattle.ov_history.specs.Sealed.{Masters}
+use Rattle.ov_history.specs.Words.{AreDistinct, HasFile, IsPadded, WasGranted, longer, place_in, wanted_of}
+
+-- the holders of a base node are the users of its set, and those who were granted a file of this node
+abbrev pub HoldersAreGranted : Type 0
+HoldersAreGranted =
+    (h : History) (node user : ℕ)
+    → Has (holders (layers_of h) node) user ↔ (Has (slice_index (layers_of h).base node) user ⊎ WasGranted h node user)
+
+-- each file has the surface node of its wanted set, and none where none is wanted
+abbrev pub SurfaceIsWanted : Type 0
+SurfaceIsWanted =
+    (h : History) (file : ℕ)
+    → HasFile h file → (place_in h file).surface ≡ surface_at (layers_of h).surface (wanted_of h file)
+
+-- which is there
+abbrev pub WantedIsThere : Type 0
+WantedIsThere =
+    (h : History) (file set : ℕ)
+    → HasFile h file → wanted_of h file ≡ Some set → Contains (layers_of h).surface set
+
+-- ---- generations
+
+-- with one more update a file keeps its generation where it keeps its wanted set
+abbrev pub GenerationsStay : Type 0
+GenerationsStay =
+    (h : History) (u : Update) (file : ℕ)
+    → HasFile h file → wanted_of (with_update h u) file ≡ wanted_of h file
+    → (place_in (with_update h u) file).generation ≡ (place_in h file).generation
+
+-- and else has the epoch after the update for one
+abbrev pub GenerationsMove : Type 0
+GenerationsMove =
+    (h : History) (u : Update) (file : ℕ)
+    → HasFile h file → wanted_of (with_update h u) file ≢ wanted_of h file
+    → (place_in (with_update h u) file).generation ≡ epoch_of (with_update h u)
+
+-- and so has a new file
+abbrev pub GenerationsBegin : Type 0
+GenerationsBegin =
+    (h : History) (name : List ℕ) (list : ℕ) (bytes : List ℕ)
+    → let next = with_update h (Created name list bytes) in
+    (place_in next (length (matrix_of h).files)).generation ≡ epoch_of next
+
+-- ---- sets
+
+-- after a legal history the sets of each layer are distinct
+abbrev pub SetsAreDistinct : Type 0
+SetsAreDistinct = (h : History) → IsLegal h → AreDistinct (layers_of h).base × AreDistinct (layers_of h).surface
+
+-- ---- pads
+
+-- over all of a history the pad of one key for one file lies over one text alone
+abbrev pub NoPadTwice : Type 0
+NoPadTwice =
+    (k : Masters) (h : History) (more : List Update) (label : Label) (file : ℕ) (text other : List ℕ)
+    → IsPadded k h label file text → IsPadded k (longer h more) label file other → text ≡ other
+
+-- two tag bytes, two files and two blocks of a file have different counter blocks
+abbrev pub CounterBlocksDiffer : Type 0
+CounterBlocksDiffer =
+    (tag other file second block next : ℕ)
+    → file < 2 ^ 32 → second < 2 ^ 32 → block < 2 ^ 64 → next < 2 ^ 64
+    → counter_block tag file block ≡ counter_block other second next
+    → (tag ≡ other) × (file ≡ second) × (block ≡ next)
+
+-- so over all of a legal history no counter block under the key of one label is used for two texts, or
+-- for two blocks of one
+abbrev pub NoBlockTwice : Type 0
+NoBlockTwice =
+    (k : Masters) (h : History) (more : List Update) (label : Label) (file second : ℕ) (text other : List ℕ) (tag block next : ℕ)
+    → IsLegal (longer h more)
+    → IsPadded k h label file text → IsPadded k (longer h more) label second other
+    → block < 2 ^ 64 → next < 2 ^ 64
+    → counter_block tag file block ≡ counter_block tag second next
+    → (text ≡ other) × (block ≡ next)
