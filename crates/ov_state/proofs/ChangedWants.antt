@@ -1,0 +1,189 @@
+-- The wanted sets of files after the list of one changed, by number.
+use Rattle.std.proofs.Common.{◌≡◌, ◌≢◌, ℕ, zero, suc, ◌+◌, ◌<◌, ◌≤◌, ◌==◌, Bool, true, false, List, [], ◌∷◌, ◌++◌, length, take, drop, refl, sym, ◌∙◌, ap, subst, arith, eqb-true, length-append}
+use Rattle.std.specs.Prelude.{slice_get, Option, Some, None, is_some}
+use Rattle.std.proofs.lemmas.Bool.{false≢true}
+use Rattle.std.proofs.lemmas.Bool.Decides.{nat_tests}
+use Rattle.std.proofs.lemmas.List.{take_all, take_more, take-append-drop, length-take-le}
+use Rattle.std.proofs.lemmas.Option.{get_or_from_slice_get, slice_get_within}
+use Rattle.ov_base.specs.Sets.{Has, Within}
+use Rattle.ov_base.specs.declared.mode.Mode.{Mode}
+use Rattle.ov_base.specs.declared.mode.Mode.TheVariants.{Full, Delta}
+use Rattle.ov_base.proofs.SetLaws.{each_within}
+use Rattle.ov_graph.specs.Contents.{plan_of}
+use Rattle.ov_surface.specs.Wanted.{none_where, wanted_surface}
+use Rattle.ov_history.specs.Layers.{Place, Layers, holders, list_at, surface_at, same_surface, appended, with_set, with_wants}
+use Rattle.ov_history.specs.Shown.{Filed as ShownFile, Shown, outline, place_of_file, places}
+use Rattle.ov_history.proofs.Listing.{same_surface-is}
+use Rattle.ov_history.proofs.Outlining.{length-places}
+use Rattle.ov_state.specs.declared.fault.PrepareFault.{PrepareFault}
+use Rattle.ov_state.specs.declared.fault.PrepareFault.TheVariants.{Refused, BadPlan, Memory}
+use Rattle.ov_state.specs.declared.filed.Filed.{Filed}
+use Rattle.ov_state.specs.declared.relist.Relisting.{Relisting}
+use Rattle.ov_state.specs.declared.turn.Resurfacing.{Resurfacing}
+use Rattle.ov_state.specs.Contents.{shown_file, IsWell}
+use Rattle.ov_state.specs.Resurfacing.{nodes_planned, list_if, want_if, want_after, wants_after, with_want, IsFull, IsRelisting, IsResurfaced, IsTurned}
+use Rattle.ov_state.proofs.Turning.{resurfaced-turned, resurfaced-same, full-turned}
+
+-- ---- by number
+
+pub place-at : (files : List ShownFile) (file : ℕ) (f : ShownFile) → slice_get files file ≡ Some f
+    → slice_get (places files) file ≡ Some (place_of_file f)
+place-at [] file f is = absurd (cc)
+place-at (first ∷ files) zero f is =
+    let e : first ≡ f = cc in
+    ap (λ (g : ShownFile). Some (place_of_file g)) e
+place-at (first ∷ files) (suc file) f is = place-at files file f is
+
+pub length-wants_after : {W : ℕ} (y : Layers) (r : Relisting W) (placed : List Place) (number : ℕ)
+    → length (wants_after y r number placed) ≡ length placed
+length-wants_after y r [] number = refl
+length-wants_after y r (p ∷ placed) number = ap suc (length-wants_after y r placed (number + 1))
+
+pub want-at : {W : ℕ} (y : Layers) (r : Relisting W) (placed : List Place) (number file : ℕ) (p : Place)
+    → slice_get placed file ≡ Some p → slice_get (wants_after y r number placed) file ≡ Some (want_after y r (number + file) p)
+want-at y r [] number file p is = absurd (cc)
+want-at y r (first ∷ placed) number zero p is =
+    let e : first ≡ p = cc in
+    let n : number ≡ number + 0 = omega arith in
+    ap (λ (q : Place). Some (want_after y r number q)) e ∙ ap (λ n. Some (want_after y r n p)) n
+want-at y r (first ∷ placed) number (suc file) p is =
+    let n : number + 1 + file ≡ number + suc file = omega arith in
+    want-at y r placed (number + 1) file p is ∙ ap (λ n. Some (want_after y r n p)) n
+
+take-next : {A : Type 0} (xs : List A) (n : ℕ) (x : A) → slice_get xs n ≡ Some x → take (n + 1) xs ≡ take n xs ++ x ∷ []
+take-next xs n x is =
+    take_more xs n x (slice_get_within xs n x is) ∙ ap (λ y. take n xs ++ y ∷ []) (get_or_from_slice_get xs n x x is)
+
+-- ---- wanted sets that stay
+
+-- a file whose list lacks a holder goes on wanting a surface as the holders grow
+want-grown : (sets : List ℕ) (mode : Mode) (list held more : ℕ) → is_some (surface_at sets (wanted_surface mode list held)) ≡ true
+    → Within list held → Within held more → wanted_surface mode list more ≡ wanted_surface mode list held
+want-grown sets Full list held more there within grows = refl
+want-grown sets Delta list held more there within grows = by_tests (list == held) refl (list == more) refl where
+  by_tests : (a : Bool) → (list == held) ≡ a → (b : Bool) → (list == more) ≡ b → none_where b list ≡ none_where (list == held) list
+  by_tests true all b test =
+      absurd (false≢true (ap (λ b. is_some (surface_at sets (none_where b list))) (sym all) ∙ there))
+  by_tests false some true test =
+      let is : list ≡ more = eqb-true list more test in
+      let same : list ≡ held =
+      each_within list held within (λ user one. subst (λ set. Has set user) (sym is) (grows user one)) in
+      absurd (grind (arith, nat_tests))
+  by_tests false some false test = ap (λ b. none_where b list) (sym some)
+
+-- ---- the next file
+
+module _ {W : ℕ} (s : Shown) (r : Relisting W) (file : ℕ) (name : List ℕ) (f : Filed)
+    (here : slice_get s.files file ≡ Some (shown_file (name, f))) where
+  abbrev own : Place
+  own = place_of_file (shown_file (name, f))
+
+  abbrev wants : List (Option ℕ)
+  wants = wants_after (outline s) r 0 (places s.files)
+
+  abbrev want : Option ℕ
+  want = want_after (outline s) r file own
+
+  next : take (file + 1) wants ≡ take file wants ++ want ∷ []
+  next =
+      let same : 0 + file ≡ file = omega arith in
+      take-next wants file want
+      (want-at (outline s) r (places s.files) 0 file own (place-at s.files file (shown_file (name, f)) here)
+      ∙ ap (λ n. Some (want_after (outline s) r n own)) same)
+
+  many : file ≡ length (take file wants)
+  many =
+      let low : file < length s.files = slice_get_within s.files file (shown_file (name, f)) here in
+      let all : length wants ≡ length s.files = length-wants_after (outline s) r (places s.files) 0 ∙ length-places s.files in
+      sym (length-take-le file wants (omega arith))
+
+  module _ (master : List ℕ) (old : Resurfacing W) (done : IsResurfaced master s (take file wants) old) where
+    -- it has another base node
+    pub other-node : (limit : ℕ) → IsWell limit s → f.node ≢ r.node → IsResurfaced master s (take (file + 1) wants) old
+    other-node limit well other =
+        let test : (f.node == r.node) ≡ false = grind (arith, nat_tests) in
+        let is : want ≡ wanted_surface s.mode (list_at (outline s) own) (holders (outline s) f.node) =
+        ap (λ b. want_if b (outline s) r file own) test in
+        subst (λ (ws : List (Option ℕ)). IsResurfaced master s ws old) (sym next)
+        (resurfaced-same master s (take file wants) want file name f many here old done (well.sound.files file _ here).surface
+        (subst (λ (o : Option ℕ). same_surface f.surface (surface_at s.surface.sets o) ≡ true) (sym is) (well.settled file _ here)))
+
+    -- or a surface of its own, and isn't the file whose list changed
+    pub surface-stays : (limit : ℕ) → IsWell limit s → IsRelisting s r → f.node ≡ r.node → file ≢ r.file → is_some f.surface ≡ true
+        → IsResurfaced master s (take (file + 1) wants) old
+    surface-stays limit well relisting same other coat =
+        let y = outline s in
+        let settled : f.surface ≡ surface_at s.surface.sets (wanted_surface s.mode (list_at y own) (holders y f.node)) =
+        same_surface-is f.surface _ (well.settled file _ here) in
+        let coated : is_some (surface_at s.surface.sets (wanted_surface s.mode (list_at y own) (holders y f.node))) ≡ true =
+        ap is_some (sym settled) ∙ coat in
+        let before : holders y f.node ≡ r.before = ap (λ n. holders y n) same ∙ sym relisting.before in
+        let grown : wanted_surface s.mode (list_at y own) r.after ≡ wanted_surface s.mode (list_at y own) (holders y f.node) =
+        want-grown s.surface.sets s.mode (list_at y own) (holders y f.node) r.after coated
+        (well.sound.files file _ here).list (subst (λ set. Within set r.after) (sym before) relisting.grows) in
+        let test : (f.node == r.node) ≡ true = grind (arith, nat_tests) in
+        let else : (file == r.file) ≡ false = grind (arith, nat_tests) in
+        let is : want ≡ wanted_surface s.mode (list_at y own) (holders y f.node) =
+        ap (λ b. want_if b y r file own) test ∙ ap (λ b. wanted_surface s.mode (list_if b r.list (list_at y own)) r.after) else ∙ grown in
+        subst (λ (ws : List (Option ℕ)). IsResurfaced master s ws old) (sym next)
+        (resurfaced-same master s (take file wants) want file name f many here old done (well.sound.files file _ here).surface
+        (subst (λ (o : Option ℕ). same_surface f.surface (surface_at s.surface.sets o) ≡ true) (sym is) (well.settled file _ here)))
+
+    module _ (same : f.node ≡ r.node) (wanted : Option ℕ) (is : wanted ≡ want_if true (outline s) r file own) where
+      wanted_is : wanted ≡ want
+      wanted_is =
+          let test : (f.node == r.node) ≡ true = grind (arith, nat_tests) in
+          is ∙ ap (λ b. want_if b (outline s) r file own) (sym test)
+
+      -- or the same, and is turned
+      pub same-node : (new : Resurfacing W) → IsTurned master s.surface file f wanted old new
+          → IsResurfaced master s (take (file + 1) wants) new
+      same-node new turned =
+          subst (λ (ws : List (Option ℕ)). IsResurfaced master s ws new) (sym next)
+          (resurfaced-turned master s (take file wants) want file name f many here old new done
+          (subst (λ (o : Option ℕ). IsTurned master s.surface file f o old new) wanted_is turned))
+
+      pub same-node-full : (fault : PrepareFault) → IsFull (with_want master (nodes_planned s.surface old.surfaces) wanted).sets fault
+          → IsFull (with_wants s.surface.sets (take (file + 1) wants)) fault
+      same-node-full fault full =
+          subst (λ (ws : List (Option ℕ)). IsFull (with_wants s.surface.sets ws) fault) (sym next)
+          (full-turned master s (take file wants) want file name f many here old fault done
+          (subst (λ (o : Option ℕ). IsFull (with_want master (nodes_planned s.surface old.surfaces) o).sets fault) wanted_is full))
+
+-- ---- all files
+
+with_wants-both : (wants more : List (Option ℕ)) (sets : List ℕ) → with_wants sets (wants ++ more) ≡ with_wants (with_wants sets wants) more
+with_wants-both [] more sets = refl
+with_wants-both (None ∷ wants) more sets = with_wants-both wants more sets
+with_wants-both (Some set ∷ wants) more sets = with_wants-both wants more (with_set sets set)
+
+longer_with : (b : Bool) (sets : List ℕ) (set : ℕ) → length sets ≤ length (appended b sets set)
+longer_with true sets set = omega (arith, length-append sets (set ∷ []))
+longer_with false sets set = omega arith
+
+longer : (wants : List (Option ℕ)) (sets : List ℕ) → length sets ≤ length (with_wants sets wants)
+longer [] sets = omega arith
+longer (None ∷ wants) sets = longer wants sets
+longer (Some set ∷ wants) sets = omega (arith, longer wants (with_set sets set), longer_with (plan_of sets set).fresh sets set)
+
+longest : (sets more : List ℕ) (fault : PrepareFault) → length sets ≤ length more → IsFull sets fault → IsFull more fault
+longest sets more (Refused why) long full = (full.0, omega (arith, full.1))
+longest sets more (BadPlan place) long full = full
+longest sets more Memory long full = full
+
+-- where there is no room for the wanted sets of some files, there is none for all
+pub full-all : (sets : List ℕ) (wants : List (Option ℕ)) (n : ℕ) (fault : PrepareFault) → IsFull (with_wants sets (take n wants)) fault
+    → IsFull (with_wants sets wants) fault
+full-all sets wants n fault full =
+    let all : with_wants (with_wants sets (take n wants)) (drop n wants) ≡ with_wants sets wants =
+    sym (with_wants-both (take n wants) (drop n wants) sets) ∙ ap (with_wants sets) (take-append-drop n wants) in
+    longest (with_wants sets (take n wants)) (with_wants sets wants) fault
+    (subst (λ (more : List ℕ). length (with_wants sets (take n wants)) ≤ length more) all (longer (drop n wants) (with_wants sets (take n wants)))) full
+
+-- all wanted sets are those of all files
+pub take-all : {W : ℕ} (s : Shown) (r : Relisting W) (n : ℕ) → n ≡ length s.files
+    → take n (wants_after (outline s) r 0 (places s.files)) ≡ wants_after (outline s) r 0 (places s.files)
+take-all s r n is =
+    let all : length (wants_after (outline s) r 0 (places s.files)) ≡ length s.files =
+    length-wants_after (outline s) r (places s.files) 0 ∙ length-places s.files in
+    take_all n (wants_after (outline s) r 0 (places s.files)) (omega arith)

@@ -1,0 +1,161 @@
+-- Sets that stand among those of a layer, and files that have their wanted surfaces: they stay.
+use Rattle.std.proofs.Common.{◌≡◌, ℕ, ◌+◌, ◌==◌, Bool, true, false, List, [], ◌∷◌, ◌++◌, length, get_or, refl, sym, ◌∙◌, ap, arith, eq-eqb, length-append, true≢false}
+use Rattle.std.specs.Prelude.{Contains, Option, Some, None}
+use Rattle.std.proofs.lemmas.List.{get_or_append_left, append-nil}
+use Rattle.std.proofs.lemmas.List.Elements.{Contains-append_left}
+use Rattle.std.proofs.lemmas.List.Quantifiers.{position-Some}
+use Rattle.ov_graph.specs.Contents.{node_of, joined, planned, plan_of}
+use Rattle.ov_graph.proofs.ListLaws.{first_is, node_some}
+use Rattle.ov_tokens.specs.declared.label.Kind.TheVariants.{Surface}
+use Rattle.ov_base_layer.specs.Seals.{cover_tokens}
+use Rattle.ov_history.specs.Layers.{node_for, appended, with_set, with_wants, surface_at}
+use Rattle.ov_history.specs.Shown.{Nodes, Filed, Shown, added_if, with_surface, with_surfaces, refiled, settled_file, settled_files, settled_under}
+use Rattle.ov_history.proofs.PlanLaws.{plan-there}
+use Rattle.ov_state.proofs.WellSettled.{same_surface-true}
+
+-- ---- the node of a set
+
+node_of-more : (sets more : List ℕ) (set : ℕ) (o : Option ℕ) → node_of sets set ≡ o → Contains sets set
+    → node_of (sets ++ more) set ≡ o
+node_of-more sets more set None is there =
+    absurd (true≢false (sym (ap (λ (o : Option ℕ). (planned o sets set).fresh) is) ∙ plan-there sets set there))
+node_of-more sets more set (Some node) is there =
+    let found = position-Some (λ s. s == set) sets node 0 is in
+    let own = node_some sets set node is in
+    first_is (sets ++ more) set node (omega (arith, own.0, length-append sets more))
+    (get_or_append_left sets more 0 node own.0 ∙ own.1)
+    (λ k low same. true≢false
+    (sym (eq-eqb (get_or sets k 0) set (sym (get_or_append_left sets more 0 k (omega (arith, low, own.0))) ∙ same)) ∙ found.2 k low))
+
+-- a set that is there keeps its node as more sets come
+pub node_for-more : (sets more : List ℕ) (set : ℕ) → Contains sets set → node_for (sets ++ more) set ≡ node_for sets set
+node_for-more sets more set there = by_node (node_of sets set) refl where
+  by_node : (o : Option ℕ) → node_of sets set ≡ o → node_for (sets ++ more) set ≡ node_for sets set
+  by_node None is =
+      absurd (true≢false (sym (ap (λ (o : Option ℕ). (planned o sets set).fresh) is) ∙ plan-there sets set there))
+  by_node (Some node) is =
+      ap (λ (o : Option ℕ). (planned o (sets ++ more) set).node) (node_of-more sets more set (Some node) is there)
+      ∙ sym (ap (λ (o : Option ℕ). (planned o sets set).node) is)
+
+-- ---- wanted sets that are there
+
+abbrev pub IsAmong : List ℕ → Option ℕ → Type 0
+IsAmong sets None = Unit {0}
+IsAmong sets (Some set) = Contains sets set
+
+pub among-more : (sets more : List ℕ) (want : Option ℕ) → IsAmong sets want → IsAmong (sets ++ more) want
+among-more sets more None among = tt
+among-more sets more (Some set) among = Contains-append_left sets more set among
+
+pub surface_at-more : (sets more : List ℕ) (want : Option ℕ) → IsAmong sets want
+    → surface_at (sets ++ more) want ≡ surface_at sets want
+surface_at-more sets more None among = refl
+surface_at-more sets more (Some set) among = ap Some (node_for-more sets more set among)
+
+-- each file has its wanted surface among these sets
+abbrev pub AreKept : List ℕ → List (Option ℕ) → List Filed → Type 0
+AreKept sets [] [] = Unit {0}
+AreKept sets [] (f ∷ files) = ⊥
+AreKept sets (want ∷ wants) [] = ⊥
+AreKept sets (want ∷ wants) (f ∷ files) =
+    IsAmong sets want × (f.surface ≡ surface_at sets want) × AreKept sets wants files
+
+pub kept-more : (sets more : List ℕ) (wants : List (Option ℕ)) (files : List Filed) → AreKept sets wants files
+    → AreKept (sets ++ more) wants files
+kept-more sets more [] [] kept = tt
+kept-more sets more [] (f ∷ files) kept = absurd kept
+kept-more sets more (want ∷ wants) [] kept = absurd kept
+kept-more sets more (want ∷ wants) (f ∷ files) (among, own, rest) = (
+  among-more sets more want among,
+  own ∙ sym (surface_at-more sets more want among),
+  kept-more sets more wants files rest,
+)
+
+pub kept-with_set : (sets : List ℕ) (set : ℕ) (wants : List (Option ℕ)) (files : List Filed) → AreKept sets wants files
+    → AreKept (with_set sets set) wants files
+kept-with_set sets set wants files kept = by_test (plan_of sets set).fresh where
+  by_test : (b : Bool) → AreKept (appended b sets set) wants files
+  by_test true = kept-more sets (set ∷ []) wants files kept
+  by_test false = kept
+
+-- so it is with the wanted sets that come after theirs
+pub kept-with_wants : (sets : List ℕ) (more wants : List (Option ℕ)) (files : List Filed) → AreKept sets wants files
+    → AreKept (with_wants sets more) wants files
+kept-with_wants sets [] wants files kept = kept
+kept-with_wants sets (None ∷ more) wants files kept = kept-with_wants sets more wants files kept
+kept-with_wants sets (Some set ∷ more) wants files kept =
+    kept-with_wants (with_set sets set) more wants files (kept-with_set sets set wants files kept)
+
+-- ---- nothing is added
+
+module _ (master : List ℕ) where
+  one_stays : (nodes : Nodes) (set : ℕ) → Contains nodes.sets set → with_surface master nodes set ≡ nodes
+  one_stays nodes set there =
+      ap (λ b. added_if b nodes set (joined (plan_of nodes.sets set).from (cover_tokens Surface master (plan_of nodes.sets set))))
+      (plan-there nodes.sets set there)
+
+  -- kept files want no new nodes
+  pub surfaces-kept : (nodes : Nodes) (wants more : List (Option ℕ)) (files : List Filed) → AreKept nodes.sets wants files
+      → with_surfaces master nodes (wants ++ more) ≡ with_surfaces master nodes more
+  surfaces-kept nodes [] more files kept = refl
+  surfaces-kept nodes (want ∷ wants) more [] kept = absurd kept
+  surfaces-kept nodes (None ∷ wants) more (f ∷ files) (among, own, rest) = surfaces-kept nodes wants more files rest
+  surfaces-kept nodes (Some set ∷ wants) more (f ∷ files) (among, own, rest) =
+      ap (λ (n : Nodes). with_surfaces master n (wants ++ more)) (one_stays nodes set among)
+      ∙ surfaces-kept nodes wants more files rest
+
+pub wants-kept : (sets : List ℕ) (wants more : List (Option ℕ)) (files : List Filed) → AreKept sets wants files
+    → with_wants sets (wants ++ more) ≡ with_wants sets more
+wants-kept sets [] more files kept = refl
+wants-kept sets (want ∷ wants) more [] kept = absurd kept
+wants-kept sets (None ∷ wants) more (f ∷ files) (among, own, rest) = wants-kept sets wants more files rest
+wants-kept sets (Some set ∷ wants) more (f ∷ files) (among, own, rest) =
+    ap (λ b. with_wants (appended b sets set) (wants ++ more)) (plan-there sets set among)
+    ∙ wants-kept sets wants more files rest
+
+module _ (master : List ℕ) (epoch : ℕ) (sets : List ℕ) where
+  file_stays : (want : Option ℕ) (number : ℕ) (f : Filed) → f.surface ≡ surface_at sets want
+      → settled_file master epoch sets want number f ≡ f
+  file_stays want number f own =
+      ap (λ b. refiled b master epoch (surface_at sets want) number f) (same_surface-true f.surface (surface_at sets want) own)
+
+  -- kept files stay as they are
+  pub files-kept : (number : ℕ) (wants more : List (Option ℕ)) (files new : List Filed) → AreKept sets wants files
+      → settled_files master epoch sets number (wants ++ more) (files ++ new)
+      ≡ files ++ settled_files master epoch sets (number + length files) more new
+  files-kept number [] more [] new kept = ap (λ n. settled_files master epoch sets n more new) (omega arith)
+  files-kept number [] more (f ∷ files) new kept = absurd kept
+  files-kept number (want ∷ wants) more [] new kept = absurd kept
+  files-kept number (want ∷ wants) more (f ∷ files) new (among, own, rest) =
+      ap (λ (g : Filed). g ∷ settled_files master epoch sets (number + 1) (wants ++ more) (files ++ new)) (file_stays want number f own)
+      ∙ ap (λ (gs : List Filed). f ∷ gs) (files-kept (number + 1) wants more files new rest)
+      ∙ ap (λ n. f ∷ files ++ settled_files master epoch sets n more new) (omega arith)
+
+-- ---- what is shown
+
+module _ (master : List ℕ) (s : Shown) (wants : List (Option ℕ)) (kept : AreKept s.surface.sets wants s.files) where
+  pub no_more : with_wants s.surface.sets wants ≡ s.surface.sets
+  no_more =
+      ap (λ ws. with_wants s.surface.sets ws) (sym (append-nil wants)) ∙ wants-kept s.surface.sets wants [] s.files kept
+
+  surfaces_stay : with_surfaces master s.surface wants ≡ s.surface
+  surfaces_stay =
+      ap (λ ws. with_surfaces master s.surface ws) (sym (append-nil wants))
+      ∙ surfaces-kept master s.surface wants [] s.files kept
+
+  files_stay : settled_files master s.epoch s.surface.sets 0 wants s.files ≡ s.files
+  files_stay =
+      ap (λ ws. settled_files master s.epoch s.surface.sets 0 ws s.files) (sym (append-nil wants))
+      ∙ ap (λ (fs : List Filed). settled_files master s.epoch s.surface.sets 0 (wants ++ []) fs) (sym (append-nil s.files))
+      ∙ files-kept master s.epoch s.surface.sets 0 wants [] s.files [] kept
+      ∙ append-nil s.files
+
+  -- what is shown stays where each file has its wanted surface
+  pub settled_stays : settled_under master s wants ≡ s
+  settled_stays =
+      ap (λ (nodes : Nodes). record s {
+        surface = nodes;
+        files = settled_files master s.epoch (with_wants s.surface.sets wants) 0 wants s.files;
+      }) surfaces_stay
+      ∙ ap (λ sets. record s { files = settled_files master s.epoch sets 0 wants s.files }) no_more
+      ∙ ap (λ (files : List Filed). record s { files = files }) files_stay

@@ -1,0 +1,11 @@
+-- Faults of graphs, as faults of what is prepared.
+use Rattle.ov_base.specs.declared.refusal.Refusal.TheVariants.{NodesFull as Full}
+use Rattle.ov_graph.specs.declared.cover.GraphRefusal.{GraphRefusal}
+use Rattle.ov_graph.specs.declared.cover.GraphRefusal.TheVariants.{NodesFull, Memory as GraphMemory}
+use Rattle.ov_state.specs.declared.fault.PrepareFault.{PrepareFault}
+use Rattle.ov_state.specs.declared.fault.PrepareFault.TheVariants.{Refused, Memory}
+
+-- a graph that is full refuses an update
+abbrev pub fault_of : GraphRefusal → PrepareFault
+fault_of NodesFull = Refused Full
+fault_of GraphMemory = Memory

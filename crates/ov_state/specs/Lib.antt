@@ -1,0 +1,12 @@
+pub mod Contents
+pub mod Changes
+pub mod Plans
+pub mod Faults
+pub mod Resurfacing
+pub mod NewFiles
+pub mod Creations
+pub mod Standing
+pub mod Queries
+pub mod Chains
+pub use Rattle.ov_history.specs.Shown
+pub use Rattle.ov_history.specs.Sealed

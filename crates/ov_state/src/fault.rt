@@ -1,0 +1,72 @@
+//! Why a state answers no change, or no chain.
+ghost use Rattle.std.specs.Prelude.{◌≡◌};
+ghost use Rattle.ov_state.specs.Faults.{fault_of};
+ghost use Rattle.ov_state.specs.declared.fault.PrepareFault.TheVariants.{Memory as NoMemory, Refused};
+ghost use Rattle.ov_state.specs.declared.fault.ChainFault.TheVariants.{Memory as NoChainMemory, Refused as NoChain};
+
+use ov_base::{Memory, Refusal};
+use ov_graph::GraphRefusal;
+
+/// Why no change is prepared.
+#[derive(Clone, Copy, Debug, PartialEq, Eq)]
+pub enum PrepareFault {
+    /// The access-matrix machine refuses the update.
+    Refused(Refusal),
+    /// The update isn't refused, but the number of its tokens, or whether it has an access token,
+    /// isn't what the layers want; this is the place of that number or flag in the update's spelling.
+    BadPlan { at: u32 },
+    /// Memory was refused.
+    Memory,
+}
+
+impl From<Memory> for PrepareFault {
+    ghost from_gives = { λ _ fault. fault ≡ NoMemory };
+
+    fn from(_: Memory) -> Self {
+        PrepareFault::Memory
+    }
+}
+
+impl From<Refusal> for PrepareFault {
+    ghost from_gives = { λ why fault. fault ≡ Refused why };
+
+    fn from(why: Refusal) -> Self {
+        PrepareFault::Refused(why)
+    }
+}
+
+impl From<GraphRefusal> for PrepareFault {
+    ghost from_gives = { λ why fault. fault ≡ fault_of why };
+
+    fn from(why: GraphRefusal) -> Self {
+        match why {
+            GraphRefusal::NodesFull => PrepareFault::Refused(Refusal::NodesFull),
+            GraphRefusal::Memory => PrepareFault::Memory,
+        }
+    }
+}
+
+/// Why no chain is given.
+#[derive(Clone, Copy, Debug, PartialEq, Eq)]
+pub enum ChainFault {
+    /// The access-matrix machine refuses the read.
+    Refused(Refusal),
+    /// Memory was refused.
+    Memory,
+}
+
+impl From<Memory> for ChainFault {
+    ghost from_gives = { λ _ fault. fault ≡ NoChainMemory };
+
+    fn from(_: Memory) -> Self {
+        ChainFault::Memory
+    }
+}
+
+impl From<Refusal> for ChainFault {
+    ghost from_gives = { λ why fault. fault ≡ NoChain why };
+
+    fn from(why: Refusal) -> Self {
+        ChainFault::Refused(why)
+    }
+}

@@ -1,0 +1,76 @@
+//! Where a new file stands.
+ghost use Rattle.std.specs.Prelude.{◌≡◌, length, IfErr, IfOk};
+ghost use Rattle.ov_base.specs.Sets.{IsBelow};
+ghost use Rattle.ov_graph.specs.Contents.{plan_of};
+ghost use Rattle.ov_state.specs.NewFiles.{fresh_if, holders_then, HasNoSite, IsSite};
+
+use crate::change::Fresh;
+use crate::fault::PrepareFault;
+use crate::resurface::Surfaces;
+use crate::state::State;
+use ov_base::{Key, UserSet};
+use ov_graph::{Cover, Graph};
+use ov_surface::wanted;
+use ov_tokens::{Base, Surface, Tokens};
+use std::alloc::Global;
+
+/// Where a new file stands: its base node as it is planned, its surface, and the nodes that the
+/// surface layer gets for that.
+#[derive(Drop)]
+pub struct Site<const W: usize> {
+    pub cover: Cover,
+    pub surface: Vec<Fresh<W>>,
+    pub to: Option<u32>,
+}
+
+/// The node of the cover, where it is a fresh one.
+pub fn fresh_node<const W: usize>(set: UserSet<W>, cover: Cover, tokens: Tokens) -> Option<Fresh<W>>
+    ensures { result ≡ fresh_if cover.fresh
+        (record { set = set.entry; cover = cover; tokens = tokens }) }
+{
+    if cover.fresh {
+        Some(Fresh { set, cover, tokens })
+    } else {
+        None
+    }
+}
+
+impl<B: Graph<Base, W>, S: Graph<Surface, W>, const W: usize> State<B, S, W> {
+    /// The holders of the base node that is planned for these users. It takes no memory.
+    fn holders_then(&self, cover: &Cover, list: &UserSet<W>) -> UserSet<W>
+        requires { cover.now ≡ plan_of self.now.shown.base.sets list.now }
+        ensures { result ≡ holders_then self.now.shown list.now }
+    {
+        self.known();
+        if cover.fresh {
+            list.copy()
+        } else {
+            self.base.holders(cover.node)
+        }
+    }
+
+    /// Where a new file for these users is to stand.
+    pub(crate) fn site(
+        &self,
+        alloc: Global,
+        master: &Key,
+        list: &UserSet<W>,
+    ) -> Result<Site<W>, PrepareFault>
+        requires { IsBelow (length self.now.shown.users) list.now }
+        ensures ok { IfOk result (IsSite master.now.bytes self.now.shown list.now) }
+        ensures err { IfErr result (HasNoSite master.now.bytes self.now.shown list.now) }
+    {
+        self.known();
+        let cover = self.base.plan_create(alloc, list)?;
+        let holders = self.holders_then(&cover, list);
+        let want = wanted(self.mode, list, &holders);
+        let mut surfaces = Surfaces::new(alloc);
+        let to = surfaces.target(alloc, &self.surface, master, want)?;
+        let Surfaces { fresh, sets: _ } = surfaces;
+        Ok(Site {
+            cover,
+            surface: fresh,
+            to,
+        })
+    }
+}
