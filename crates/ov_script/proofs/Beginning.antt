@@ -1,63 +1,94 @@
 -- What can begin an item, and what begins with one.
-use Rattle.std.proofs.Common.{◌≡◌, ◌≢◌, ℕ, zero, suc, ◌+◌, ◌-◌, ◌<◌, ◌≤◌, true, false, List, [], ◌∷◌, ◌++◌, length, replicate, refl, sym, ◌∙◌, ap, subst, append_assoc, append-nil, length-append, arith}
+use Rattle.std.proofs.Common.{◌≡◌, ◌≢◌, ℕ, suc, ◌+◌, ◌-◌, ◌<◌, ◌≤◌, true, false, List, [], ◌∷◌, ◌++◌, length, replicate, refl, sym, ◌∙◌, ap, subst, append_assoc, append-nil, length-append, arith}
 use Rattle.std.specs.Prelude.{codes}
 use Rattle.std.specs.Fmt.{decimal}
-use Rattle.std.proofs.lemmas.List.{length-replicate, append_cancel_left}
+use Rattle.std.proofs.lemmas.List.{length-replicate}
+use Rattle.ov_base.specs.Names.{IsName}
 use Rattle.ov_script.specs.declared.command.Command.{Command}
-use Rattle.ov_script.specs.declared.command.Command.TheVariants.{Enrol, Create, Read}
+use Rattle.ov_script.specs.declared.command.Command.TheVariants.{Enrol, Create, Grant, Revoke, Read, List as Command-List, Epoch}
 use Rattle.ov_script.specs.declared.first_line.FirstLine.{FirstLine}
 use Rattle.ov_script.specs.declared.first_line.FirstLine.TheVariants.{Whole, WithBody}
-use Rattle.ov_script.specs.declared.front.Word.TheVariants.{Enrol as Word-Enrol, Create as Word-Create, Read as Word-Read}
+use Rattle.ov_script.specs.declared.front.Word.TheVariants.{Enrol as Word-Enrol, Create as Word-Create, Grant as Word-Grant, Revoke as Word-Revoke, Read as Word-Read, List as Word-List, Epoch as Word-Epoch}
 use Rattle.ov_script.specs.declared.front.Front.TheVariants.{Start}
-use Rattle.ov_script.specs.ItemLines.{SaysLine, Completes}
-use Rattle.ov_script.specs.Items.{IsItem, BeginsWithItem, CanBegin, spaced}
+use Rattle.ov_script.specs.ItemLines.{SaysWhole, SaysLine, Completes}
+use Rattle.ov_script.specs.Items.{IsItem, BeginsWithItem, CanBegin, longest_line}
+use Rattle.ov_script.specs.LineEnds.{may_go_on}
 use Rattle.ov_script.specs.LineFeeds.{NoLf}
-use Rattle.ov_script.specs.LineFronts.{run, is_alive}
+use Rattle.ov_script.specs.LineFronts.{run}
+use Rattle.ov_script.specs.WrittenLists.{list_text, without_repeats}
 use Rattle.ov_script.proofs.ByteTexts.{front_before, same_length}
-use Rattle.ov_script.proofs.Continuations.{Fits, alive_fits, dead_fits}
-use Rattle.ov_script.proofs.Grammar.{says_no_lf, says_short, item_parts, item_from, item_past, behind_line, not_at_line}
+use Rattle.ov_script.proofs.Fitting.{NameThen, SpaceThen, IsNothing, Fits}
+use Rattle.ov_script.proofs.Grammar.{item_parts, item_from, item_past, behind_line}
+use Rattle.ov_script.proofs.LineFits.{alive_fits, dead_fits}
+use Rattle.ov_script.proofs.LineLaws.{says_short}
 use Rattle.ov_script.proofs.NameFronts.{rest_of_name, name_of_rest}
 
 -- ---- lines are what fits from their start
 
+one_name : (name : List ℕ) → IsName name → NameThen IsNothing 0 name
+one_name name p = (name, [], sym (append-nil name), rest_of_name name p, refl)
+
+two_names : (user file : List ℕ) → IsName user → IsName file → NameThen (SpaceThen (NameThen IsNothing 0)) 0 (user ++ 32 ∷ file)
+two_names user file u f = (user, 32 ∷ file, refl, rest_of_name user u, (file, refl, one_name file f))
+
+whole_fits : (line : List ℕ) (command : Command) → SaysWhole line command → Fits Start line
+whole_fits line (Enrol user) (u, e) = (Word-Enrol, user, e, one_name user u)
+whole_fits line (Create file names body) p = absurd p
+whole_fits line (Grant user file) (u, f, e) = (Word-Grant, user ++ 32 ∷ file, e, two_names user file u f)
+whole_fits line (Revoke user file) (u, f, e) = (Word-Revoke, user ++ 32 ∷ file, e, two_names user file u f)
+whole_fits line (Read user file) (u, f, e) = (Word-Read, user ++ 32 ∷ file, e, two_names user file u f)
+whole_fits line (Command-List file) (f, e) = (Word-List, file, e, one_name file f)
+whole_fits line Epoch e = (Word-Epoch, [], e, refl)
+
 pub said_fits : (line : List ℕ) (said : FirstLine) → SaysLine line said → Fits Start line
-said_fits line (Whole (Enrol user)) (named, e) = (Word-Enrol, user, e, (user, [], sym (append-nil user), rest_of_name user named, refl))
-said_fits line (Whole (Create file reader body)) p = absurd p
-said_fits line (Whole (Read user file)) (u, f, e) =
-    (Word-Read, user ++ 32 ∷ file, e, (user, 32 ∷ file, refl, rest_of_name user u, (file, refl, (file, [], sym (append-nil file), rest_of_name file f, refl))))
-said_fits line (WithBody file reader size) (f, r, low, e) = (
+said_fits line (Whole command) p = whole_fits line command p
+said_fits line (WithBody file names size) (list, named, (said, are, f, once), low, short, e) = (
   Word-Create,
-  file ++ 32 ∷ (reader ++ 32 ∷ decimal size),
+  file ++ 32 ∷ (list ++ 32 ∷ decimal size),
   e,
   (
     file,
-    32 ∷ (reader ++ 32 ∷ decimal size),
+    32 ∷ (list ++ 32 ∷ decimal size),
     refl,
-    rest_of_name file f,
-    (reader ++ 32 ∷ decimal size, refl, (reader, 32 ∷ decimal size, refl, rest_of_name reader r, (decimal size, refl, (size, low, refl)))),
+    rest_of_name file named,
+    (list ++ 32 ∷ decimal size, refl, (said, decimal size, are, ap (λ l. l ++ 32 ∷ decimal size) f, (size, low, refl))),
   ),
 )
 
-pub fits_said : (line : List ℕ) → Fits Start line → (said : FirstLine) × SaysLine line said
-fits_said line (Word-Enrol, rest, e, (user, end, f, u, none)) =
-    let same : rest ≡ user = f ∙ ap (λ l. user ++ l) none ∙ append-nil user in
-    (Whole (Enrol user), (name_of_rest user u, e ∙ ap (λ l. codes "enrol " ++ l) same))
-fits_said line (Word-Read, rest, e, (user, tail, f, u, (more, g, (file, end, h, n, none)))) =
-    let same : more ≡ file = h ∙ ap (λ l. file ++ l) none ∙ append-nil file in (
-      Whole (Read user file),
-      (
-        name_of_rest user u,
-        name_of_rest file n,
-        e ∙ ap (λ l. codes "read " ++ l) (f ∙ ap (λ l. user ++ l) (g ∙ ap (λ l. 32 ∷ l) same)),
-      ),
-    )
-fits_said line (Word-Create, rest, e, (file, tail, f, n, (more, g, (reader, end, h, r, (digits, i, (size, low, j)))))) = (
-  WithBody file reader size,
+-- a text that is one name, or two
+is_one_name : (text : List ℕ) → NameThen IsNothing 0 text → IsName text
+is_one_name text (name, end, e, r, none) = subst IsName (sym (e ∙ ap (λ l. name ++ l) none ∙ append-nil name)) (name_of_rest name r)
+
+record TwoNames (text : List ℕ) : Type 0 where
+  user : List ℕ
+  file : List ℕ
+  user_named : IsName user
+  file_named : IsName file
+  whole : text ≡ user ++ 32 ∷ file
+
+are_two_names : (text : List ℕ) → NameThen (SpaceThen (NameThen IsNothing 0)) 0 text → TwoNames text
+are_two_names text (user, tail, e, r, (file, f, p)) =
+    record { user = user; file = file; user_named = name_of_rest user r; file_named = is_one_name file p; whole = e ∙ ap (λ l. user ++ l) f }
+
+pub fits_said : (line : List ℕ) → length line < longest_line → Fits Start line → (said : FirstLine) × SaysLine line said
+fits_said line short (Word-Enrol, rest, e, p) = (Whole (Enrol rest), (is_one_name rest p, e))
+fits_said line short (Word-Grant, rest, e, p) =
+    let t = are_two_names rest p in (Whole (Grant t.user t.file), (t.user_named, t.file_named, e ∙ ap (λ l. codes "grant " ++ l) t.whole))
+fits_said line short (Word-Revoke, rest, e, p) =
+    let t = are_two_names rest p in (Whole (Revoke t.user t.file), (t.user_named, t.file_named, e ∙ ap (λ l. codes "revoke " ++ l) t.whole))
+fits_said line short (Word-Read, rest, e, p) =
+    let t = are_two_names rest p in (Whole (Read t.user t.file), (t.user_named, t.file_named, e ∙ ap (λ l. codes "read " ++ l) t.whole))
+fits_said line short (Word-List, rest, e, p) = (Whole (Command-List rest), (is_one_name rest p, e))
+fits_said line short (Word-Epoch, rest, e, none) = (Whole Epoch, e ∙ ap (λ l. codes "epoch" ++ l) none)
+fits_said line short (Word-Create, rest, e, (file, tail, f, n, (more, g, (said, digits, are, h, (size, low, i))))) = (
+  WithBody file (without_repeats said) size,
   (
+    list_text said,
     name_of_rest file n,
-    name_of_rest reader r,
+    (said, are, refl, refl),
     low,
-    e ∙ ap (λ l. codes "create " ++ l) (f ∙ ap (λ l. file ++ l) (g ∙ ap (λ l. 32 ∷ l) (h ∙ ap (λ l. reader ++ l) (i ∙ ap (λ l. 32 ∷ l) j)))),
+    short,
+    e ∙ ap (λ l. codes "create " ++ l) (f ∙ ap (λ l. file ++ l) (g ∙ ap (λ l. 32 ∷ l) (h ∙ ap (λ l. list_text said ++ 32 ∷ l) i))),
   ),
 )
 
@@ -66,7 +97,7 @@ fits_said line (Word-Create, rest, e, (file, tail, f, n, (more, g, (reader, end,
 -- the body, or nothing, of a line behind which stands nothing yet
 some_tail : (said : FirstLine) (line : List ℕ) → SaysLine line said → (tail : List ℕ) × (command : Command) × Completes said tail command
 some_tail (Whole command) line p = ([], command, (refl, refl))
-some_tail (WithBody file reader size) line p = (replicate size 0 ++ 10 ∷ [], Create file reader (replicate size 0), (replicate size 0, length-replicate size 0, refl, refl))
+some_tail (WithBody file names size) line p = (replicate size 0 ++ 10 ∷ [], Create file names (replicate size 0), (replicate size 0, length-replicate size 0, refl, refl))
 
 pub can_by_item : (text more item rest : List ℕ) (command : Command) → text ++ more ≡ item ++ rest → IsItem item command → CanBegin text
 can_by_item text more item rest command e is = (more, (item, rest, command, e, is))
@@ -87,28 +118,27 @@ begins_can text b = ([], subst BeginsWithItem (sym (append-nil text)) b)
 -- ---- fronts of lines
 
 -- what may go on can begin an item
-pub alive_can : (front : List ℕ) → is_alive (run Start front) ≡ true → CanBegin front
+pub alive_can : (front : List ℕ) → may_go_on (run Start front) (length front) ≡ true → CanBegin front
 alive_can front alive =
     let more = alive_fits front alive in
-    let line = fits_said (front ++ more.0) more.1 in
+    let line = fits_said (front ++ more.0) more.2 more.1 in
     can_by_line front more.0 line.0 line.1
 
 -- and is shorter than the longest line
-pub alive_short : (front : List ℕ) → is_alive (run Start front) ≡ true → length front < 20000
+pub alive_short : (front : List ℕ) → may_go_on (run Start front) (length front) ≡ true → length front < longest_line
 alive_short front alive =
     let more = alive_fits front alive in
-    let line = fits_said (front ++ more.0) more.1 in
-    let short : length (front ++ more.0) < 20000 = says_short (front ++ more.0) line.0 line.1 in
+    let short : length (front ++ more.0) < longest_line = more.2 in
     let size : length (front ++ more.0) ≡ length front + length more.0 = length-append front more.0 in
     omega arith
 
 -- what may not go on can't
-pub dead_cannot : (front : List ℕ) → NoLf front → is_alive (run Start front) ≡ false → CanBegin front → ⊥
+pub dead_cannot : (front : List ℕ) → NoLf front → may_go_on (run Start front) (length front) ≡ false → CanBegin front → ⊥
 dead_cannot front no_lf dead (more, (item, rest, command, e, is)) =
     let p = item_parts item command is in
     let joined : front ++ more ≡ p.line ++ 10 ∷ (p.tail ++ rest) = e ∙ ap (λ i. i ++ rest) p.whole ∙ append_assoc p.line (10 ∷ p.tail) rest in
     let z = front_before 10 front p.line more (p.tail ++ rest) no_lf joined in
-    dead_fits front z.0 dead (subst (Fits Start) z.1 (said_fits p.line p.said p.says))
+    dead_fits front z.0 dead (subst (Fits Start) z.1 (said_fits p.line p.said p.says)) (subst (λ l. length l < longest_line) z.1 (says_short p.line p.said p.says))
 
 -- no item begins with bytes that have no LF
 pub none_without_lf : (bytes : List ℕ) → NoLf bytes → BeginsWithItem bytes → ⊥
@@ -120,22 +150,22 @@ none_without_lf bytes no_lf (item, rest, command, e, is) =
 -- ---- behind a line
 
 -- a front of a body can go on
-pub can_by_body : (line text file reader : List ℕ) (size : ℕ) → SaysLine line (WithBody file reader size) → length text ≤ size → CanBegin (line ++ 10 ∷ text)
-can_by_body line text file reader size p within =
+pub can_by_body : (line text file : List ℕ) (names : List (List ℕ)) (size : ℕ) → SaysLine line (WithBody file names size) → length text ≤ size → CanBegin (line ++ 10 ∷ text)
+can_by_body line text file names size p within =
     let pad : List ℕ = replicate (size - length text) 0 in
     let count : length (text ++ pad) ≡ size =
     (let n : length (text ++ pad) ≡ length text + length pad = length-append text pad in let m : length pad ≡ size - length text = length-replicate (size - length text) 0 in omega arith) in
-    let item : IsItem (line ++ 10 ∷ ((text ++ pad) ++ 10 ∷ [])) (Create file reader (text ++ pad)) =
-    item_from line ((text ++ pad) ++ 10 ∷ []) (WithBody file reader size) (Create file reader (text ++ pad)) p (text ++ pad, count, refl, refl) in
+    let item : IsItem (line ++ 10 ∷ ((text ++ pad) ++ 10 ∷ [])) (Create file names (text ++ pad)) =
+    item_from line ((text ++ pad) ++ 10 ∷ []) (WithBody file names size) (Create file names (text ++ pad)) p (text ++ pad, count, refl, refl) in
     let joined : (line ++ 10 ∷ text) ++ (pad ++ 10 ∷ []) ≡ (line ++ 10 ∷ ((text ++ pad) ++ 10 ∷ [])) ++ [] =
     append_assoc line (10 ∷ text) (pad ++ 10 ∷ []) ∙ ap (λ t. line ++ 10 ∷ t) (sym (append_assoc text pad (10 ∷ []))) ∙ sym (append-nil (line ++ 10 ∷ ((text ++ pad) ++ 10 ∷ []))) in
-    can_by_item (line ++ 10 ∷ text) (pad ++ 10 ∷ []) (line ++ 10 ∷ ((text ++ pad) ++ 10 ∷ [])) [] (Create file reader (text ++ pad)) joined item
+    can_by_item (line ++ 10 ∷ text) (pad ++ 10 ∷ []) (line ++ 10 ∷ ((text ++ pad) ++ 10 ∷ [])) [] (Create file names (text ++ pad)) joined item
 
 -- an item that begins behind the line of a body has its bytes and LF
-pub body_behind : (line text file reader item rest : List ℕ) (size : ℕ) (command : Command) → SaysLine line (WithBody file reader size) → line ++ 10 ∷ text ≡ item ++ rest → IsItem item command
+pub body_behind : (line text file item rest : List ℕ) (names : List (List ℕ)) (size : ℕ) (command : Command) → SaysLine line (WithBody file names size) → line ++ 10 ∷ text ≡ item ++ rest → IsItem item command
     → (body : List ℕ) × (length body ≡ size) × (text ≡ body ++ 10 ∷ rest) × (length item ≡ length line + 1 + size + 1)
-body_behind line text file reader item rest size command p e is =
-    let b = behind_line line text item rest (WithBody file reader size) command p e is in
+body_behind line text file item rest names size command p e is =
+    let b = behind_line line text item rest (WithBody file names size) command p e is in
     let body = b.completes.0 in
     let tail : b.tail ≡ b.completes.0 ++ 10 ∷ [] = b.completes.2 in
     let count : length b.completes.0 ≡ size = b.completes.1 in
@@ -144,18 +174,18 @@ body_behind line text file reader item rest size command p e is =
     (b.completes.0, count, b.behind ∙ ap (λ t. t ++ rest) tail ∙ append_assoc b.completes.0 (10 ∷ []) rest, omega arith)
 
 -- fewer bytes than the body and its LF hold no item
-pub none_in_body : (line text file reader : List ℕ) (size : ℕ) → SaysLine line (WithBody file reader size) → length text ≤ size → BeginsWithItem (line ++ 10 ∷ text) → ⊥
-none_in_body line text file reader size p within (item, rest, command, e, is) =
-    let b = body_behind line text file reader item rest size command p e is in
+pub none_in_body : (line text file : List ℕ) (names : List (List ℕ)) (size : ℕ) → SaysLine line (WithBody file names size) → length text ≤ size → BeginsWithItem (line ++ 10 ∷ text) → ⊥
+none_in_body line text file names size p within (item, rest, command, e, is) =
+    let b = body_behind line text file item rest names size command p e is in
     let count : length b.0 ≡ size = b.1 in
     let whole : length text ≡ length b.0 + suc (length rest) = ap length b.2 ∙ length-append b.0 (10 ∷ rest) in
     absurd (omega arith)
 
 -- another byte in the place of the LF can't be gone on with
-pub wrong_behind_body : (line body more file reader : List ℕ) (size b : ℕ) → SaysLine line (WithBody file reader size) → length body ≡ size → b ≢ 10
+pub wrong_behind_body : (line body more file : List ℕ) (names : List (List ℕ)) (size b : ℕ) → SaysLine line (WithBody file names size) → length body ≡ size → b ≢ 10
     → BeginsWithItem (line ++ 10 ∷ (body ++ b ∷ more)) → ⊥
-wrong_behind_body line body more file reader size b p count differs (item, rest, command, e, is) =
-    let f = body_behind line (body ++ b ∷ more) file reader item rest size command p e is in
+wrong_behind_body line body more file names size b p count differs (item, rest, command, e, is) =
+    let f = body_behind line (body ++ b ∷ more) file item rest names size command p e is in
     let tails : b ∷ more ≡ 10 ∷ rest = (same_length body f.0 (b ∷ more) (10 ∷ rest) (count ∙ sym f.1) f.2).1 in
     let lf : b ≡ 10 = cc in
     differs lf

@@ -1,8 +1,8 @@
 -- What stands behind the line of a body, once its bytes were gathered.
-use Rattle.std.proofs.Common.{◌≡◌, ◌≢◌, ℕ, ◌+◌, ◌-◌, ◌<◌, ◌≤◌, List, [], ◌∷◌, ◌++◌, length, refl, sym, ◌∙◌, ap, subst, length-append, arith, Option, Some, None, min}
+use Rattle.std.proofs.Common.{◌≡◌, ◌≢◌, ℕ, ◌+◌, ◌<◌, ◌≤◌, List, [], ◌∷◌, ◌++◌, length, ap, length-append, arith, Option, Some, None, min}
 use Rattle.std.specs.Prelude.{IfSome}
 use Rattle.ov_script.specs.Feed.{Fed, Uses, text_of}
-use Rattle.ov_script.specs.Finding.{TakesBelow, IsBadBody, cut, no_lf}
+use Rattle.ov_script.specs.Finding.{TakesBelow, IsBadBody, no_lf}
 use Rattle.ov_script.proofs.Using.{text_used, fact_behind, below_wider, below_behind}
 
 module _ {S : Type 0} (left : S → Option (List ℕ)) (room size : ℕ) (a b : Fed S) (body : List ℕ) (used : Uses left a b body) (count : length body ≡ size) (within : size ≤ room) where

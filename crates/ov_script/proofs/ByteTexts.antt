@@ -1,5 +1,5 @@
 -- Texts that lack a byte, and where it stands first in others.
-use Rattle.std.proofs.Common.{◌≡◌, ◌≢◌, ℕ, zero, suc, ◌+◌, ◌<◌, ◌≤◌, Bool, true, false, List, [], ◌∷◌, ◌++◌, length, take, drop, refl, sym, ◌∙◌, ap, subst, append_assoc, length-append, zero-add, arith, ◌==◌, take-append-drop}
+use Rattle.std.proofs.Common.{◌≡◌, ℕ, zero, suc, ◌+◌, ◌≤◌, Bool, true, false, List, [], ◌∷◌, ◌++◌, length, take, drop, refl, sym, ◌∙◌, ap, subst, append_assoc, zero-add, arith, ◌==◌, take-append-drop}
 use Rattle.std.specs.Prelude.{not, if◌then◌else◌}
 use Rattle.std.specs.List.{list_all}
 use Rattle.std.proofs.lemmas.Bool.{and_parts}
@@ -52,6 +52,13 @@ same_length (a ∷ xs) (b ∷ ys) x y n e =
     let same : xs ≡ ys = rest.0 in
     let head : a ≡ b = cc in
     (cc, rest.1)
+
+-- a text that lacks a byte doesn't have it
+pub lacks_not : (c : ℕ) (text xs ys : List ℕ) → Lacks c text → text ≡ xs ++ c ∷ ys → ⊥
+lacks_not c [] [] ys p e = absurd (cc)
+lacks_not c [] (x ∷ xs) ys p e = absurd (cc)
+lacks_not c (b ∷ text) [] ys p e = p.0 (cc)
+lacks_not c (b ∷ text) (x ∷ xs) ys p e = let tail : text ≡ xs ++ c ∷ ys = cc in lacks_not c text xs ys p.1 tail
 
 -- it stands past any front that lacks it
 pub past_front : (c : ℕ) (xs ys x y : List ℕ) → Lacks c ys → xs ++ c ∷ x ≡ ys ++ y → length ys ≤ length xs

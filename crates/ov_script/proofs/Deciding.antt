@@ -1,5 +1,5 @@
 -- Every text has a reading: what stands at its front can be decided.
-use Rattle.std.proofs.Common.{◌≡◌, ◌≢◌, inl, inr, ℕ, zero, suc, ◌+◌, ◌-◌, ◌<◌, ◌≤◌, Bool, true, false, List, [], ◌∷◌, ◌++◌, length, take, drop, refl, sym, ◌∙◌, ap, subst, append_assoc, length-append, arith, take-append-drop}
+use Rattle.std.proofs.Common.{◌≡◌, inl, inr, ℕ, zero, suc, ◌+◌, ◌-◌, ◌<◌, ◌≤◌, Bool, true, false, List, [], ◌∷◌, ◌++◌, length, take, drop, refl, sym, ◌∙◌, ap, subst, append_assoc, length-append, arith, take-append-drop}
 use Rattle.std.proofs.lemmas.Bool.{cases_lt}
 use Rattle.std.proofs.lemmas.List.{length-take-le, length-drop}
 use Rattle.ov_script.specs.declared.command.Command.{Command}
@@ -8,14 +8,16 @@ use Rattle.ov_script.specs.declared.first_line.FirstLine.{FirstLine}
 use Rattle.ov_script.specs.declared.first_line.FirstLine.TheVariants.{Whole, WithBody}
 use Rattle.ov_script.specs.declared.front.Front.TheVariants.{Start}
 use Rattle.ov_script.specs.ItemLines.{SaysLine}
-use Rattle.ov_script.specs.Items.{IsItem, BeginsWithItem, CanBegin}
+use Rattle.ov_script.specs.Items.{IsItem, BeginsWithItem, CanBegin, longest_line}
 use Rattle.ov_script.specs.LineFeeds.{NoLf, lf_count}
-use Rattle.ov_script.specs.LineFronts.{run, is_alive}
+use Rattle.ov_script.specs.LineFronts.{run}
+use Rattle.ov_script.specs.LineEnds.{may_go_on}
 use Rattle.ov_script.specs.Reading.{Reads, cut, wrong, Ending, AtEnd, BadAt, TooLong}
 use Rattle.ov_script.proofs.Beginning.{fits_said, said_fits, alive_can, dead_cannot, none_without_lf, begins_can, can_by_body, none_in_body, wrong_behind_body}
-use Rattle.ov_script.proofs.Continuations.{line_or_not}
+use Rattle.ov_script.proofs.LineFits.{line_or_not}
 use Rattle.ov_script.proofs.Decided.{Decided, yes, no', same_number}
 use Rattle.ov_script.proofs.Grammar.{not_at_line, item_some, item_once, item_from}
+use Rattle.ov_script.proofs.LineLaws.{says_short}
 
 -- the line before the first LF, or no LF at all
 pub data Split (text : List ℕ) : Type 0 where
@@ -38,7 +40,11 @@ split_first (b ∷ text) =
 line_says : (line : List ℕ) → Decided ((said : FirstLine) × SaysLine line said)
 line_says line =
     elim (line_or_not line) as (λ _. Decided ((said : FirstLine) × SaysLine line said)) [
-      | yes p ↦ yes (fits_said line p)
+      | yes p ↦
+          elim (cases_lt (length line) longest_line) as (λ _. Decided ((said : FirstLine) × SaysLine line said)) [
+            | inl short ↦ yes (fits_said line short p)
+            | inr long ↦ no' (λ (said, q). let short : length line < longest_line = says_short line said q in absurd (omega arith))
+          ]
       | no' none ↦ no' (λ (said, p). none (said_fits line said p))
     ]
 
@@ -63,35 +69,35 @@ pub record AtBody (line text : List ℕ) : Type 0 where
   pub item : Decided (BeginsWithItem (line ++ 10 ∷ text))
   pub can : Decided (CanBegin (line ++ 10 ∷ text))
 
-whole_body : (line body rest file reader : List ℕ) (size : ℕ) → SaysLine line (WithBody file reader size) → length body ≡ size → BeginsWithItem (line ++ 10 ∷ (body ++ 10 ∷ rest))
-whole_body line body rest file reader size p count = (
+whole_body : (line body rest file : List ℕ) (names : List (List ℕ)) (size : ℕ) → SaysLine line (WithBody file names size) → length body ≡ size → BeginsWithItem (line ++ 10 ∷ (body ++ 10 ∷ rest))
+whole_body line body rest file names size p count = (
   line ++ 10 ∷ (body ++ 10 ∷ []),
   rest,
-  Create file reader body,
+  Create file names body,
   ap (λ t. line ++ 10 ∷ t) (sym (append_assoc body (10 ∷ []) rest)) ∙ sym (append_assoc line (10 ∷ (body ++ 10 ∷ [])) rest),
-  item_from line (body ++ 10 ∷ []) (WithBody file reader size) (Create file reader body) p (body, count, refl, refl),
+  item_from line (body ++ 10 ∷ []) (WithBody file names size) (Create file names body) p (body, count, refl, refl),
 )
 
-at_body : (line text file reader : List ℕ) (size : ℕ) → SaysLine line (WithBody file reader size) → AtBody line text
-at_body line text file reader size p =
+at_body : (line text file : List ℕ) (names : List (List ℕ)) (size : ℕ) → SaysLine line (WithBody file names size) → AtBody line text
+at_body line text file names size p =
     elim (cut_at size text) as (λ _. AtBody line text) [
-      | short within ↦ record { item = no' (none_in_body line text file reader size p within); can = yes (can_by_body line text file reader size p within) }
+      | short within ↦ record { item = no' (none_in_body line text file names size p within); can = yes (can_by_body line text file names size p within) }
       | longer body rest b count e ↦
           elim (same_number b 10) as (λ _. AtBody line text) [
             | yes lf ↦
                 let whole : text ≡ body ++ 10 ∷ rest = e ∙ ap (λ c. body ++ c ∷ rest) lf in
-                let begins = subst (λ t. BeginsWithItem (line ++ 10 ∷ t)) (sym whole) (whole_body line body rest file reader size p count) in
+                let begins = subst (λ t. BeginsWithItem (line ++ 10 ∷ t)) (sym whole) (whole_body line body rest file names size p count) in
                 record { item = yes begins; can = yes (begins_can (line ++ 10 ∷ text) begins) }
             | no' differs ↦ record {
-              item = no' (λ i. wrong_behind_body line body rest file reader size b p count differs (subst (λ t. BeginsWithItem (line ++ 10 ∷ t)) e i));
-              can = no' (λ (more, i). wrong_behind_body line body (rest ++ more) file reader size b p count differs
+              item = no' (λ i. wrong_behind_body line body rest file names size b p count differs (subst (λ t. BeginsWithItem (line ++ 10 ∷ t)) e i));
+              can = no' (λ (more, i). wrong_behind_body line body (rest ++ more) file names size b p count differs
                   (subst BeginsWithItem (append_assoc line (10 ∷ text) more ∙ ap (λ t. line ++ 10 ∷ (t ++ more)) e ∙ ap (λ t. line ++ 10 ∷ t) (append_assoc body (b ∷ rest) more)) i));
             }
           ]
     ]
 
 at_said : (line text : List ℕ) (said : FirstLine) → SaysLine line said → AtBody line text
-at_said line text (WithBody file reader size) p = at_body line text file reader size p
+at_said line text (WithBody file names size) p = at_body line text file names size p
 at_said line text (Whole command) p =
     let begins : BeginsWithItem (line ++ 10 ∷ text) = (line ++ 10 ∷ [], text, command, sym (append_assoc line (10 ∷ []) text), item_from line [] (Whole command) command p (refl, refl)) in
     record { item = yes begins; can = yes (begins_can (line ++ 10 ∷ text) begins) }
@@ -115,7 +121,7 @@ item_or_none text =
     ]
 
 -- whether bytes without LF can begin an item
-begins_or_not : (text : List ℕ) (alive : Bool) → is_alive (run Start text) ≡ alive → NoLf text → Decided (CanBegin text)
+begins_or_not : (text : List ℕ) (alive : Bool) → may_go_on (run Start text) (length text) ≡ alive → NoLf text → Decided (CanBegin text)
 begins_or_not text true e p = yes (alive_can text e)
 begins_or_not text false e p = no' (dead_cannot text p e)
 
@@ -124,7 +130,7 @@ pub can_or_not : (text : List ℕ) → Decided (CanBegin text)
 can_or_not text =
     elim (split_first text) as (λ _. Decided (CanBegin text)) [
       | at_lf line rest p e ↦ subst (λ t. Decided (CanBegin t)) (sym e) (at_line line rest p).can
-      | no_lf p ↦ begins_or_not text (is_alive (run Start text)) refl p
+      | no_lf p ↦ begins_or_not text (may_go_on (run Start text) (length text)) refl p
     ]
 
 -- where no item that fits stands here, the reading ends

@@ -1,43 +1,68 @@
 -- How the first line of an item is read word by word.
-use Rattle.std.proofs.Common.{◌≡◌, ℕ, ◌≤◌, List, [], ◌∷◌, ◌++◌, refl, sym, ◌∙◌, ap, subst, Option, Some, None}
-use Rattle.std.specs.Prelude.{codes, IfNone, IsSome, ◌↔◌}
+use Rattle.std.proofs.Common.{◌≡◌, ℕ, ◌≤◌, List, [], ◌∷◌, ◌++◌, sym, ◌∙◌, Option, Some, None, Result, Ok, Err, arith}
+use Rattle.std.specs.Prelude.{codes, IfNone, IfOk}
 use Rattle.std.specs.Fmt.{decimal}
+use Rattle.std.proofs.lemmas.Fmt.{decimal_injective}
 use Rattle.std.proofs.lemmas.List.{append_cancel_left}
 use Rattle.ov_base.specs.Names.{IsName}
-use Rattle.ov_script.specs.declared.command.Command.TheVariants.{Enrol, Read}
+use Rattle.ov_script.specs.declared.command.Command.{Command}
 use Rattle.ov_script.specs.declared.first_line.FirstLine.{FirstLine}
 use Rattle.ov_script.specs.declared.first_line.FirstLine.TheVariants.{Whole, WithBody}
-use Rattle.ov_script.specs.ItemLines.{SaysLine}
-use Rattle.ov_script.specs.Items.{longest_body}
+use Rattle.ov_script.specs.ItemLines.{SaysWhole, SaysCreate, SaysLine}
+use Rattle.ov_script.specs.Items.{spaced, longest_body}
 use Rattle.ov_script.specs.LineFeeds.{Lacks}
 use Rattle.ov_script.proofs.ByteTexts.{split_once}
-use Rattle.ov_script.proofs.Words.{name_no_space}
+use Rattle.ov_script.proofs.WordBytes.{name_no_space}
 
 -- what holds, holds where there is nothing
 pub if_none : {T : Type 0} {P : Type 0} (found : Option T) → P → IfNone found P
 if_none None p = p
 if_none (Some x) p = tt
 
--- a text that lacks a byte doesn't have it
-pub lacks_not : (c : ℕ) (text xs ys : List ℕ) → Lacks c text → text ≡ xs ++ c ∷ ys → ⊥
-lacks_not c [] [] ys p e = absurd (cc)
-lacks_not c [] (x ∷ xs) ys p e = absurd (cc)
-lacks_not c (b ∷ text) [] ys p e = p.0 (cc)
-lacks_not c (b ∷ text) (x ∷ xs) ys p e = let tail : text ≡ xs ++ c ∷ ys = cc in lacks_not c text xs ys p.1 tail
-
 -- the words of two names are those that were split off
 pub names_once : (text first second a b : List ℕ) → Lacks 32 first → text ≡ first ++ 32 ∷ second → IsName a → text ≡ a ++ 32 ∷ b → (first ≡ a) × (second ≡ b)
 names_once text first second a b lacks e named f = split_once 32 first a second b lacks (name_no_space a named) (sym e ∙ f)
 
--- and so are those of a `create`
-pub create_text : (line text file reader : List ℕ) (size : ℕ) → line ≡ codes "create " ++ text → SaysLine line (WithBody file reader size) → text ≡ file ++ 32 ∷ (reader ++ 32 ∷ decimal size)
-create_text line text file reader size e p = append_cancel_left (codes "create ") text (file ++ 32 ∷ (reader ++ 32 ∷ decimal size)) (sym e ∙ p.3)
+-- the words of a `create`
+abbrev pub create_text : List ℕ → List ℕ → ℕ → List ℕ
+create_text file list size = spaced (codes "create" ∷ file ∷ list ∷ decimal size ∷ [])
 
-pub create_file : (line text word rest file reader : List ℕ) (size : ℕ) → line ≡ codes "create " ++ text → Lacks 32 word → text ≡ word ++ 32 ∷ rest → SaysLine line (WithBody file reader size)
-    → (word ≡ file) × (rest ≡ reader ++ 32 ∷ decimal size)
-create_file line text word rest file reader size e lacks f p = names_once text word rest file (reader ++ 32 ∷ decimal size) lacks f p.0 (create_text line text file reader size e p)
+-- those behind the first word
+pub behind_create : (line text file list : List ℕ) (size : ℕ) → line ≡ codes "create " ++ text → line ≡ create_text file list size → text ≡ file ++ 32 ∷ (list ++ 32 ∷ decimal size)
+behind_create line text file list size e p = append_cancel_left (codes "create ") text (file ++ 32 ∷ (list ++ 32 ∷ decimal size)) (sym e ∙ p)
 
-pub create_reader : (line text word rest next digits file reader : List ℕ) (size : ℕ) → line ≡ codes "create " ++ text → Lacks 32 word → text ≡ word ++ 32 ∷ rest → Lacks 32 next → rest ≡ next ++ 32 ∷ digits
-    → SaysLine line (WithBody file reader size) → (next ≡ reader) × (digits ≡ decimal size)
-create_reader line text word rest next digits file reader size e lacks f lacks' g p =
-    names_once rest next digits reader (decimal size) lacks' g p.1 (create_file line text word rest file reader size e lacks f p).1
+-- are those that were split off
+pub create_file : (line text word rest file list : List ℕ) (size : ℕ) → line ≡ codes "create " ++ text → Lacks 32 word → text ≡ word ++ 32 ∷ rest → IsName file → line ≡ create_text file list size
+    → (word ≡ file) × (rest ≡ list ++ 32 ∷ decimal size)
+create_file line text word rest file list size e lacks f named p = names_once text word rest file (list ++ 32 ∷ decimal size) lacks f named (behind_create line text file list size e p)
+
+pub create_list : (line text word rest next digits file list : List ℕ) (size : ℕ) → line ≡ codes "create " ++ text → Lacks 32 word → text ≡ word ++ 32 ∷ rest → Lacks 32 next → rest ≡ next ++ 32 ∷ digits
+    → IsName file → Lacks 32 list → line ≡ create_text file list size → (next ≡ list) × (digits ≡ decimal size)
+create_list line text word rest next digits file list size e lacks f lacks' g named lacks'' p =
+    split_once 32 next list digits (decimal size) lacks' lacks'' (sym g ∙ (create_file line text word rest file list size e lacks f named p).1)
+
+-- a line has one file, list and size
+pub record SameWords (f g r s : List ℕ) (n m : ℕ) : Type 0 where
+  pub file : f ≡ g
+  pub list : r ≡ s
+  pub size : n ≡ m
+
+pub create_once : (line f g r s : List ℕ) (n m : ℕ) → IsName f → Lacks 32 r → n ≤ longest_body → line ≡ create_text f r n → IsName g → Lacks 32 s → m ≤ longest_body → line ≡ create_text g s m → SameWords f g r s n m
+create_once line f g r s n m f_named r_lacks n_low e g_named s_lacks m_low e' =
+    let first = split_once 32 f g (r ++ 32 ∷ decimal n) (s ++ 32 ∷ decimal m) (name_no_space f f_named) (name_no_space g g_named)
+    (append_cancel_left (codes "create ") (f ++ 32 ∷ (r ++ 32 ∷ decimal n)) (g ++ 32 ∷ (s ++ 32 ∷ decimal m)) (sym e ∙ e')) in
+    let second = split_once 32 r s (decimal n) (decimal m) r_lacks s_lacks first.1 in
+    record { file = first.0; list = second.0; size = decimal_injective n m (omega arith) (omega arith) second.1 }
+
+-- what is neither a whole item nor the line of a `create` says nothing
+says_neither : (line : List ℕ) → ((command : Command) → SaysWhole line command → ⊥) → ((file : List ℕ) (names : List (List ℕ)) (size : ℕ) → SaysCreate line file names size → ⊥)
+    → (said : FirstLine) → SaysLine line said → ⊥
+says_neither line none create (Whole command) p = none command p
+says_neither line none create (WithBody file names size) p = create file names size p
+
+pub says_nothing : {E : Type 0} (line : List ℕ) (result : Result (Option FirstLine) E) → ((command : Command) → SaysWhole line command → ⊥)
+    → IfOk result (λ found. IfNone found ((file : List ℕ) (names : List (List ℕ)) (size : ℕ) → SaysCreate line file names size → ⊥))
+    → IfOk result (λ found. IfNone found ((said : FirstLine) → SaysLine line said → ⊥))
+says_nothing line (Ok None) none create = says_neither line none create
+says_nothing line (Ok (Some said)) none create = tt
+says_nothing line (Err e) none create = tt

@@ -1,10 +1,9 @@
 -- What stands at the front of a text.
-use Rattle.std.proofs.Common.{◌≡◌, ◌≢◌, ℕ, zero, suc, ◌+◌, ◌-◌, ◌<◌, ◌≤◌, Bool, true, false, List, [], ◌∷◌, ◌++◌, length, take, drop, refl, sym, ◌∙◌, ap, subst, append_assoc, length-append, append-nil, arith, Option, Some, None, inl, inr, take-append-drop}
-use Rattle.std.specs.Prelude.{codes, MatchBool}
+use Rattle.std.proofs.Common.{◌≡◌, ℕ, ◌+◌, ◌<◌, ◌≤◌, Bool, true, false, List, [], ◌∷◌, ◌++◌, length, take, drop, refl, sym, ◌∙◌, ap, subst, append_assoc, length-append, append-nil, arith, Option, Some, None, inl, inr, take-append-drop}
+use Rattle.std.specs.Prelude.{MatchBool}
 use Rattle.std.proofs.lemmas.List.{take_at, length-take-le}
 use Rattle.std.proofs.lemmas.Bool.{cases_lt}
 use Rattle.std.specs.Io.KnownBytes.{IsAtEnd}
-use Rattle.ov_script.specs.declared.command.Command.{Command}
 use Rattle.ov_script.specs.declared.find.Found.TheVariants.{Line, Bad, Long}
 use Rattle.ov_script.specs.declared.find.Seen.{Seen}
 use Rattle.ov_script.specs.declared.find.Seen.TheVariants.{Settled, Open}
@@ -13,9 +12,10 @@ use Rattle.ov_script.specs.declared.front.Front.{Front}
 use Rattle.ov_script.specs.declared.front.Front.TheVariants.{Start}
 use Rattle.ov_script.specs.Finding.{Finds, IsSettled, IsUnsettled, IsOpen}
 use Rattle.ov_script.specs.ItemLines.{SaysLine}
-use Rattle.ov_script.specs.Items.{IsItem, BeginsWithItem, CanBegin}
+use Rattle.ov_script.specs.Items.{BeginsWithItem, CanBegin}
 use Rattle.ov_script.specs.LineFeeds.{NoLf}
-use Rattle.ov_script.specs.LineFronts.{run, is_alive}
+use Rattle.ov_script.specs.LineFronts.{run}
+use Rattle.ov_script.specs.LineEnds.{may_go_on}
 use Rattle.ov_script.specs.Reading.{IsBad, cut, wrong, IsTooLong}
 use Rattle.ov_script.proofs.Beginning.{alive_can, alive_short, dead_cannot, none_without_lf, CanBegin-front, begins_can}
 use Rattle.ov_script.proofs.Continuations.{run-append}
@@ -44,11 +44,11 @@ finds_bad room bytes (Some rest) within never = bad_front room bytes rest within
 
 -- ---- a line that may go on, or not
 
-pub open_front : (room : ℕ) (bytes : List ℕ) → length bytes ≤ room → NoLf bytes → is_alive (run Start bytes) ≡ true → IsOpen room bytes
+pub open_front : (room : ℕ) (bytes : List ℕ) → length bytes ≤ room → NoLf bytes → may_go_on (run Start bytes) (length bytes) ≡ true → IsOpen room bytes
 open_front room bytes within no_lf alive =
     record { no_lf = no_lf; short = alive_short bytes alive; unsettled = record { within = within; can = alive_can bytes alive; none = none_without_lf bytes no_lf } }
 
-pub dead_front : (room : ℕ) (bytes : List ℕ) (left : Option (List ℕ)) → length bytes ≤ room → NoLf bytes → is_alive (run Start bytes) ≡ false → Finds room bytes left Bad
+pub dead_front : (room : ℕ) (bytes : List ℕ) (left : Option (List ℕ)) → length bytes ≤ room → NoLf bytes → may_go_on (run Start bytes) (length bytes) ≡ false → Finds room bytes left Bad
 dead_front room bytes left within no_lf dead = finds_bad room bytes left within (dead_cannot bytes no_lf dead)
 
 -- the fresh bytes are run behind those that were seen
@@ -56,16 +56,16 @@ run_fresh : (bytes fresh : List ℕ) (front : Front) (seen : ℕ) → front ≡ 
 run_fresh bytes fresh front seen e f =
     ap (λ s. run s fresh) e ∙ ap (λ l. run (run Start (take seen bytes)) l) f ∙ sym (run-append Start (take seen bytes) (drop seen bytes)) ∙ ap (run Start) (take-append-drop seen bytes)
 
-settled_by : (room : ℕ) (bytes : List ℕ) (front : Front) (seen : Seen) (alive : Bool) → length bytes ≤ room → NoLf bytes → front ≡ run Start bytes → is_alive front ≡ alive
+settled_by : (room : ℕ) (bytes : List ℕ) (front : Front) (seen : Seen) (alive : Bool) → length bytes ≤ room → NoLf bytes → front ≡ run Start bytes → may_go_on front (length bytes) ≡ alive
     → MatchBool alive (seen ≡ Open front) (seen ≡ Settled Bad) → IsSettled room bytes seen
-settled_by room bytes front seen true within no_lf e a is = subst (IsSettled room bytes) (sym is) (e, open_front room bytes within no_lf (ap is_alive (sym e) ∙ a))
-settled_by room bytes front seen false within no_lf e a is = subst (IsSettled room bytes) (sym is) (λ left. dead_front room bytes left within no_lf (ap is_alive (sym e) ∙ a))
+settled_by room bytes front seen true within no_lf e a is = subst (IsSettled room bytes) (sym is) (e, open_front room bytes within no_lf (ap (λ f. may_go_on f (length bytes)) (sym e) ∙ a))
+settled_by room bytes front seen false within no_lf e a is = subst (IsSettled room bytes) (sym is) (λ left. dead_front room bytes left within no_lf (ap (λ f. may_go_on f (length bytes)) (sym e) ∙ a))
 
 -- what is known of the bytes
 pub settled_front : (room : ℕ) (bytes fresh : List ℕ) (front : Front) (count : ℕ) (seen : Seen) → length bytes ≤ room → NoLf bytes → front ≡ run Start (take count bytes) → fresh ≡ drop count bytes
-    → MatchBool (is_alive (run front fresh)) (seen ≡ Open (run front fresh)) (seen ≡ Settled Bad) → IsSettled room bytes seen
+    → MatchBool (may_go_on (run front fresh) (length bytes)) (seen ≡ Open (run front fresh)) (seen ≡ Settled Bad) → IsSettled room bytes seen
 settled_front room bytes fresh front count seen within no_lf e f is =
-    settled_by room bytes (run front fresh) seen (is_alive (run front fresh)) within no_lf (run_fresh bytes fresh front count e f) refl is
+    settled_by room bytes (run front fresh) seen (may_go_on (run front fresh) (length bytes)) within no_lf (run_fresh bytes fresh front count e f) refl is
 
 -- ---- a whole line
 
@@ -107,19 +107,24 @@ take_more room bytes more past =
     let size : length (take room bytes) ≡ room = length-take-le room bytes (omega arith) in
     ap (take room) whole ∙ take_at (take room bytes) (drop room bytes ++ more) room size
 
-pub finds_long : (room : ℕ) (bytes : List ℕ) (left : Option (List ℕ)) → room < length bytes → NoLf (take room bytes) → is_alive (run Start (take room bytes)) ≡ true → Finds room bytes left Long
+-- so many bytes as may be read
+full_front : (room : ℕ) (bytes : List ℕ) → room < length bytes → (alive : Bool) → may_go_on (run Start (take room bytes)) room ≡ alive
+    → may_go_on (run Start (take room bytes)) (length (take room bytes)) ≡ alive
+full_front room bytes past alive e = ap (may_go_on (run Start (take room bytes))) (length-take-le room bytes (omega arith)) ∙ e
+
+pub finds_long : (room : ℕ) (bytes : List ℕ) (left : Option (List ℕ)) → room < length bytes → NoLf (take room bytes) → may_go_on (run Start (take room bytes)) room ≡ true → Finds room bytes left Long
 finds_long room bytes None past no_lf alive = tt
 finds_long room bytes (Some more) past no_lf alive =
     let same : take room (bytes ++ more) ≡ take room bytes = take_more room bytes more past in
     let size : length (bytes ++ more) ≡ length bytes + length more = length-append bytes more in
-    too_long room (bytes ++ more) (omega arith) (subst NoLf (sym same) no_lf) (subst CanBegin (sym same) (alive_can (take room bytes) alive))
+    too_long room (bytes ++ more) (omega arith) (subst NoLf (sym same) no_lf) (subst CanBegin (sym same) (alive_can (take room bytes) (full_front room bytes past true alive)))
 
-pub finds_never : (room : ℕ) (bytes : List ℕ) (left : Option (List ℕ)) → room < length bytes → NoLf (take room bytes) → is_alive (run Start (take room bytes)) ≡ false → Finds room bytes left Bad
+pub finds_never : (room : ℕ) (bytes : List ℕ) (left : Option (List ℕ)) → room < length bytes → NoLf (take room bytes) → may_go_on (run Start (take room bytes)) room ≡ false → Finds room bytes left Bad
 finds_never room bytes None past no_lf dead = tt
 finds_never room bytes (Some more) past no_lf dead =
     let same : take room (bytes ++ more) ≡ take room bytes = take_more room bytes more past in
     let size : length (bytes ++ more) ≡ length bytes + length more = length-append bytes more in
-    wrong (omega arith) (λ can. dead_cannot (take room bytes) no_lf dead (subst CanBegin same can))
+    wrong (omega arith) (λ can. dead_cannot (take room bytes) no_lf (full_front room bytes past false dead) (subst CanBegin same can))
 
 -- ---- the end
 

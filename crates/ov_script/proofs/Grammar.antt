@@ -1,98 +1,17 @@
--- Laws of the grammar of scripts: what the first line of an item says, and that no item begins
--- another one.
-use Rattle.std.proofs.Common.{◌≡◌, ℕ, zero, suc, ◌+◌, ◌*◌, ◌<◌, ◌≤◌, List, [], ◌∷◌, ◌++◌, length, get_or, refl, sym, ◌∙◌, ap, subst, append_assoc, append-nil, length-append, arith}
+-- Laws of the grammar of scripts: what an item is made of, and that no item begins another one.
+use Rattle.std.proofs.Common.{◌≡◌, ℕ, suc, ◌+◌, ◌<◌, ◌≤◌, List, [], ◌∷◌, ◌++◌, length, refl, sym, ◌∙◌, ap, subst, append_assoc, append-nil, length-append, arith}
 use Rattle.std.specs.Prelude.{codes}
 use Rattle.std.specs.Fmt.{decimal}
-use Rattle.std.proofs.lemmas.Fmt.{decimal_injective}
 use Rattle.std.proofs.lemmas.List.{append_cancel_left}
-use Rattle.ov_base.specs.Names.{IsName}
 use Rattle.ov_script.specs.declared.command.Command.{Command}
-use Rattle.ov_script.specs.declared.command.Command.TheVariants.{Enrol, Create, Read}
+use Rattle.ov_script.specs.declared.command.Command.TheVariants.{Enrol, Create, Grant, Revoke, Read, List as Command-List, Epoch}
 use Rattle.ov_script.specs.declared.first_line.FirstLine.{FirstLine}
 use Rattle.ov_script.specs.declared.first_line.FirstLine.TheVariants.{Whole, WithBody}
-use Rattle.ov_script.specs.ItemLines.{SaysLine, Completes}
-use Rattle.ov_script.specs.Items.{IsItem, BeginsWithItem, spaced, line_of, longest_body}
-use Rattle.ov_script.specs.LineFeeds.{NoLf, Lacks}
-use Rattle.ov_script.proofs.ByteTexts.{Lacks-append, lacks_by_test, split_once, same_length, past_front}
-use Rattle.ov_script.proofs.Words.{name_no_lf, name_no_space, name_short, size_no_lf, size_no_space, size_short}
-
--- ---- lines
-
--- a line has no LF
-pub says_no_lf : (line : List ℕ) (said : FirstLine) → SaysLine line said → NoLf line
-says_no_lf line (Whole (Enrol user)) p =
-    subst NoLf (sym p.1) (Lacks-append 10 (codes "enrol ") user (lacks_by_test 10 (codes "enrol ") refl) (name_no_lf user p.0))
-says_no_lf line (Whole (Create file reader body)) p = absurd p
-says_no_lf line (Whole (Read user file)) p =
-    subst NoLf (sym p.2) (Lacks-append 10 (codes "read ") (user ++ 32 ∷ file) (lacks_by_test 10 (codes "read ") refl)
-    (Lacks-append 10 user (32 ∷ file) (name_no_lf user p.0) (λ e. omega arith, name_no_lf file p.1)))
-says_no_lf line (WithBody file reader size) p =
-    subst NoLf (sym p.3) (Lacks-append 10 (codes "create ") (file ++ 32 ∷ (reader ++ 32 ∷ decimal size)) (lacks_by_test 10 (codes "create ") refl)
-    (Lacks-append 10 file (32 ∷ (reader ++ 32 ∷ decimal size)) (name_no_lf file p.0)
-    (λ e. omega arith, Lacks-append 10 reader (32 ∷ decimal size) (name_no_lf reader p.1) (λ e. omega arith, size_no_lf size p.2))))
-
--- and is short
-pub says_short : (line : List ℕ) (said : FirstLine) → SaysLine line said → length line < 20000
-says_short line (Whole (Enrol user)) p =
-    let size : length line ≡ 6 + length user = ap length p.1 ∙ length-append (codes "enrol ") user in
-    let short : length user ≤ 64 = name_short user p.0 in
-    omega arith
-says_short line (Whole (Create file reader body)) p = absurd p
-says_short line (Whole (Read user file)) p =
-    let size : length line ≡ 5 + length (user ++ 32 ∷ file) = ap length p.2 ∙ length-append (codes "read ") (user ++ 32 ∷ file) in
-    let both : length (user ++ 32 ∷ file) ≡ length user + suc (length file) = length-append user (32 ∷ file) in
-    let u : length user ≤ 64 = name_short user p.0 in
-    let f : length file ≤ 64 = name_short file p.1 in
-    omega arith
-says_short line (WithBody file reader n) p =
-    let size : length line ≡ 7 + length (file ++ 32 ∷ (reader ++ 32 ∷ decimal n)) = ap length p.3 ∙ length-append (codes "create ") (file ++ 32 ∷ (reader ++ 32 ∷ decimal n)) in
-    let first : length (file ++ 32 ∷ (reader ++ 32 ∷ decimal n)) ≡ length file + suc (length (reader ++ 32 ∷ decimal n)) = length-append file (32 ∷ (reader ++ 32 ∷ decimal n)) in
-    let second : length (reader ++ 32 ∷ decimal n) ≡ length reader + suc (length (decimal n)) = length-append reader (32 ∷ decimal n) in
-    let f : length file ≤ 64 = name_short file p.0 in
-    let r : length reader ≤ 64 = name_short reader p.1 in
-    let d : length (decimal n) ≤ 7 = size_short n p.2 in
-    omega arith
-
--- the first three bytes tell the lines apart
-abbrev key : List ℕ → ℕ
-key line = (get_or line 0 0 * 256 + get_or line 1 0) * 256 + get_or line 2 0
-
-abbrev key_of : FirstLine → ℕ
-key_of (Whole (Enrol user)) = key (codes "enrol")
-key_of (Whole (Create file reader body)) = 0
-key_of (Whole (Read user file)) = key (codes "read")
-key_of (WithBody file reader size) = key (codes "create")
-
-says_key : (line : List ℕ) (said : FirstLine) → SaysLine line said → key line ≡ key_of said
-says_key line (Whole (Enrol user)) p = ap key p.1
-says_key line (Whole (Create file reader body)) p = absurd p
-says_key line (Whole (Read user file)) p = ap key p.2
-says_key line (WithBody file reader size) p = ap key p.3
-
--- a line says one thing
-pub line_once : (line : List ℕ) (a b : FirstLine) → SaysLine line a → SaysLine line b → a ≡ b
-line_once line (Whole (Enrol u)) (Whole (Enrol v)) p q =
-    let same : u ≡ v = append_cancel_left (codes "enrol ") u v (sym p.1 ∙ q.1) in
-    ap (λ n. Whole (Enrol n)) same
-line_once line (Whole (Read u f)) (Whole (Read v g)) p q =
-    let both = split_once 32 u v f g (name_no_space u p.0) (name_no_space v q.0) (append_cancel_left (codes "read ") (u ++ 32 ∷ f) (v ++ 32 ∷ g) (sym p.2 ∙ q.2)) in
-    let users : u ≡ v = both.0 in
-    let files : f ≡ g = both.1 in
-    cc
-line_once line (WithBody f r n) (WithBody g s m) p q =
-    let first = split_once 32 f g (r ++ 32 ∷ decimal n) (s ++ 32 ∷ decimal m) (name_no_space f p.0) (name_no_space g q.0)
-    (append_cancel_left (codes "create ") (f ++ 32 ∷ (r ++ 32 ∷ decimal n)) (g ++ 32 ∷ (s ++ 32 ∷ decimal m)) (sym p.3 ∙ q.3)) in
-    let second = split_once 32 r s (decimal n) (decimal m) (name_no_space r p.1) (name_no_space s q.1) first.1 in
-    let files : f ≡ g = first.0 in
-    let readers : r ≡ s = second.0 in
-    let n_low : n ≤ longest_body = p.2 in
-    let m_low : m ≤ longest_body = q.2 in
-    let sizes : n ≡ m = decimal_injective n m (omega arith) (omega arith) second.1 in
-    cc
-line_once line (WithBody f r n) (Whole (Create g s body)) p q = absurd q
-line_once line a b p q = absurd (omega (arith, says_key line a p, says_key line b q))
-
--- ---- items
+use Rattle.ov_script.specs.ItemLines.{SaysWhole, SaysCreate, SaysLine, Completes}
+use Rattle.ov_script.specs.Items.{IsItem, BeginsWithItem, spaced, create_line}
+use Rattle.ov_script.specs.LineFeeds.{NoLf}
+use Rattle.ov_script.proofs.ByteTexts.{split_once, same_length, past_front}
+use Rattle.ov_script.proofs.LineLaws.{says_no_lf, line_once}
 
 -- an item is a line, LF and what completes it
 pub record Parts (item : List ℕ) (command : Command) : Type 0 where
@@ -109,33 +28,47 @@ with_tail line body = append_assoc (line ++ 10 ∷ []) body (10 ∷ []) ∙ appe
 pub item_parts : (item : List ℕ) (command : Command) → IsItem item command → Parts item command
 item_parts item (Enrol user) p =
     record { line = spaced (codes "enrol" ∷ user ∷ []); tail = []; said = Whole (Enrol user); says = (p.0, refl); whole = p.1; completes = (refl, refl) }
-item_parts item (Read user file) p =
-    record { line = spaced (codes "read" ∷ user ∷ file ∷ []); tail = []; said = Whole (Read user file); says = (p.0, p.1, refl); whole = p.2; completes = (refl, refl) }
-item_parts item (Create file reader body) p =
-    let line = spaced (codes "create" ∷ file ∷ reader ∷ decimal (length body) ∷ []) in
+item_parts item (Create file names body) (list, named, is, low, short, e) =
+    let line = spaced (codes "create" ∷ file ∷ list ∷ decimal (length body) ∷ []) in
+    let size : length (create_line file list (length body)) ≡ length line + 1 = length-append line (10 ∷ []) in
     record {
-      line = spaced (codes "create" ∷ file ∷ reader ∷ decimal (length body) ∷ []);
+      line = spaced (codes "create" ∷ file ∷ list ∷ decimal (length body) ∷ []);
       tail = body ++ 10 ∷ [];
-      said = WithBody file reader (length body);
-      says = (p.0, p.1, p.2, refl);
-      whole = p.3 ∙ with_tail line body;
+      said = WithBody file names (length body);
+      says = (list, named, is, low, omega arith, refl);
+      whole = e ∙ with_tail line body;
       completes = (body, refl, refl, refl);
     }
+item_parts item (Grant user file) p =
+    record { line = spaced (codes "grant" ∷ user ∷ file ∷ []); tail = []; said = Whole (Grant user file); says = (p.0, p.1, refl); whole = p.2; completes = (refl, refl) }
+item_parts item (Revoke user file) p =
+    record { line = spaced (codes "revoke" ∷ user ∷ file ∷ []); tail = []; said = Whole (Revoke user file); says = (p.0, p.1, refl); whole = p.2; completes = (refl, refl) }
+item_parts item (Read user file) p =
+    record { line = spaced (codes "read" ∷ user ∷ file ∷ []); tail = []; said = Whole (Read user file); says = (p.0, p.1, refl); whole = p.2; completes = (refl, refl) }
+item_parts item (Command-List file) p =
+    record { line = spaced (codes "list" ∷ file ∷ []); tail = []; said = Whole (Command-List file); says = (p.0, refl); whole = p.1; completes = (refl, refl) }
+item_parts item Epoch p = record { line = codes "epoch"; tail = []; said = Whole Epoch; says = refl; whole = p; completes = (refl, refl) }
+
+whole_item : (line : List ℕ) (command : Command) → SaysWhole line command → IsItem (line ++ 10 ∷ []) command
+whole_item line (Enrol user) p = (p.0, ap (λ l. l ++ 10 ∷ []) p.1)
+whole_item line (Create file names body) p = absurd p
+whole_item line (Grant user file) p = (p.0, p.1, ap (λ l. l ++ 10 ∷ []) p.2)
+whole_item line (Revoke user file) p = (p.0, p.1, ap (λ l. l ++ 10 ∷ []) p.2)
+whole_item line (Read user file) p = (p.0, p.1, ap (λ l. l ++ 10 ∷ []) p.2)
+whole_item line (Command-List file) p = (p.0, ap (λ l. l ++ 10 ∷ []) p.1)
+whole_item line Epoch p = ap (λ l. l ++ 10 ∷ []) p
+
+create_item : (line file body : List ℕ) (names : List (List ℕ)) → SaysCreate line file names (length body) → IsItem (line ++ 10 ∷ (body ++ 10 ∷ [])) (Create file names body)
+create_item line file body names (list, named, is, low, short, e) =
+    let whole : create_line file list (length body) ≡ line ++ 10 ∷ [] = ap (λ l. l ++ 10 ∷ []) (sym e) in
+    let size : length (create_line file list (length body)) ≡ length line + 1 = ap length whole ∙ length-append line (10 ∷ []) in
+    (list, named, is, low, omega arith, sym (with_tail line body) ∙ ap (λ l. l ++ body ++ 10 ∷ []) (sym whole))
 
 pub item_from : (line tail : List ℕ) (said : FirstLine) (command : Command) → SaysLine line said → Completes said tail command → IsItem (line ++ 10 ∷ tail) command
-item_from line tail (Whole (Enrol user)) command p (t, c) = subst (IsItem (line ++ 10 ∷ tail)) (sym c) (p.0, ap (λ l. l ++ 10 ∷ tail) p.1 ∙ ap (λ z. spaced (codes "enrol" ∷ user ∷ []) ++ 10 ∷ z) t)
-item_from line tail (Whole (Create file reader body)) command p c = absurd p
-item_from line tail (Whole (Read user file)) command p (t, c) =
-    subst (IsItem (line ++ 10 ∷ tail)) (sym c) (p.0, p.1, ap (λ l. l ++ 10 ∷ tail) p.2 ∙ ap (λ z. spaced (codes "read" ∷ user ∷ file ∷ []) ++ 10 ∷ z) t)
-item_from line tail (WithBody file reader size) command p (body, count, t, c) =
-    let low : length body ≤ longest_body = subst (λ n. n ≤ longest_body) (sym count) p.2 in
-    let words : line ≡ spaced (codes "create" ∷ file ∷ reader ∷ decimal (length body) ∷ []) = p.3 ∙ ap (λ n. spaced (codes "create" ∷ file ∷ reader ∷ decimal n ∷ [])) (sym count) in
-    subst (IsItem (line ++ 10 ∷ tail)) (sym c) (
-      p.0,
-      p.1,
-      low,
-      ap (λ z. line ++ 10 ∷ z) t ∙ sym (with_tail line body) ∙ ap (λ l. (l ++ 10 ∷ []) ++ body ++ 10 ∷ []) words,
-    )
+item_from line tail (Whole said) command p (t, c) = subst (λ z. IsItem (line ++ 10 ∷ z) command) (sym t) (subst (IsItem (line ++ 10 ∷ [])) (sym c) (whole_item line said p))
+item_from line tail (WithBody file names size) command p (body, count, t, c) =
+    let item = create_item line file body names (subst (SaysCreate line file names) (sym count) p) in
+    subst (λ z. IsItem (line ++ 10 ∷ z) command) (sym t) (subst (IsItem (line ++ 10 ∷ (body ++ 10 ∷ []))) (sym c) item)
 
 -- of what stands behind the line of an item, its tail is the front
 pub record Behind (line z whole rest : List ℕ) (said : FirstLine) (command : Command) : Type 0 where
@@ -167,12 +100,12 @@ same_tail : (said : FirstLine) (s t x y : List ℕ) (c d : Command) → Complete
 same_tail (Whole said) s t x y c d p q e =
     let tails : s ≡ t = p.0 ∙ sym q.0 in
     (tails, append_cancel_left t x y (ap (λ l. l ++ x) (sym tails) ∙ e), p.1 ∙ sym q.1)
-same_tail (WithBody file reader size) s t x y c d p q e =
+same_tail (WithBody file names size) s t x y c d p q e =
     let joined : p.0 ++ (10 ∷ x) ≡ q.0 ++ (10 ∷ y) =
     sym (ap (λ l. l ++ x) p.2 ∙ append_assoc p.0 (10 ∷ []) x) ∙ e ∙ ap (λ l. l ++ y) q.2 ∙ append_assoc q.0 (10 ∷ []) y in
     let bodies = same_length p.0 q.0 (10 ∷ x) (10 ∷ y) (p.1 ∙ sym q.1) joined in
     let rests : x ≡ y = let t : 10 ∷ x ≡ 10 ∷ y = bodies.1 in cc in
-    (p.2 ∙ ap (λ b. b ++ 10 ∷ []) bodies.0 ∙ sym q.2, rests, p.3 ∙ ap (λ b. Create file reader b) bodies.0 ∙ sym q.3)
+    (p.2 ∙ ap (λ b. b ++ 10 ∷ []) bodies.0 ∙ sym q.2, rests, p.3 ∙ ap (λ b. Create file names b) bodies.0 ∙ sym q.3)
 
 -- two items that begin one text are one
 pub item_once : (a b x y : List ℕ) (c d : Command) → a ++ x ≡ b ++ y → IsItem a c → IsItem b d → (a ≡ b) × (x ≡ y) × (c ≡ d)

@@ -1,12 +1,12 @@
 -- How the bytes of a name go on.
-use Rattle.std.proofs.Common.{◌≡◌, ℕ, zero, suc, ◌+◌, ◌<◌, ◌≤◌, Bool, true, false, List, [], ◌∷◌, ◌++◌, length, refl, sym, ◌∙◌, ap, subst, arith, ◌&&◌}
+use Rattle.std.proofs.Common.{◌≡◌, ℕ, zero, suc, ◌+◌, ◌<◌, ◌≤◌, Bool, true, false, List, [], ◌∷◌, length, refl, sym, ◌∙◌, arith, ◌&&◌}
 use Rattle.std.specs.Prelude.{nat_lt}
 use Rattle.std.specs.List.{list_all}
 use Rattle.std.proofs.lemmas.Bool.{and_parts, and_from}
 use Rattle.std.proofs.lemmas.Bool.Decides.{nat_tests}
-use Rattle.ov_base.specs.Names.{is_letter_or_digit, is_name_byte, IsName}
+use Rattle.ov_base.specs.Names.{is_name_byte, IsName}
 use Rattle.ov_script.specs.LineFronts.{is_named}
-use Rattle.ov_script.proofs.Words.{name_parts, name_from}
+use Rattle.ov_script.proofs.WordBytes.{name_parts, name_from}
 
 -- the rest of a name of which so many bytes came
 abbrev pub RestOfName : ℕ → List ℕ → Type 0
@@ -52,3 +52,7 @@ name_of_rest (b ∷ more) p =
 pub space_ends_name : (count : ℕ) → is_named count 32 ≡ false
 space_ends_name zero = refl
 space_ends_name (suc n) = elim (nat_lt (suc n) 64) as (λ (t : Bool). (t && is_name_byte 32) ≡ false) [ true ↦ refl | false ↦ refl ]
+
+pub comma_ends_name : (count : ℕ) → is_named count 44 ≡ false
+comma_ends_name zero = refl
+comma_ends_name (suc n) = elim (nat_lt (suc n) 64) as (λ (t : Bool). (t && is_name_byte 44) ≡ false) [ true ↦ refl | false ↦ refl ]

@@ -1,9 +1,10 @@
 -- The grammar of scripts, met by short texts.
-use Rattle.std.proofs.Common.{◌≡◌, ℕ, ◌+◌, ◌-◌, ◌<◌, ◌≤◌, List, [], ◌∷◌, ◌++◌, length, refl, sym, ◌∙◌, ap, append-nil, length-append, arith}
+use Rattle.std.proofs.Common.{◌≡◌, ℕ, ◌+◌, ◌-◌, ◌<◌, ◌≤◌, List, [], ◌∷◌, ◌++◌, length, refl, ◌∙◌, ap, append-nil, length-append, arith}
 use Rattle.std.specs.Prelude.{codes}
-use Rattle.std.specs.Fmt.{decimal, digits}
-use Rattle.ov_script.specs.declared.command.Command.TheVariants.{Enrol, Create, Read}
-use Rattle.ov_script.specs.Items.{BeginsWithItem, CanBegin, line_of}
+use Rattle.std.specs.Fmt.{digits}
+use Rattle.ov_script.specs.declared.command.Command.TheVariants.{Enrol, Create, Grant, Revoke, Read, List as Command-List, Epoch}
+use Rattle.ov_script.specs.Items.{IsItem, BeginsWithItem, CanBegin}
+use Rattle.ov_script.specs.WrittenLists.{IsList}
 use Rattle.ov_script.specs.Reading.{limit, IsBad, cut, Reads, IsScript, AtEnd, BadAt, TooLong}
 use Rattle.ov_script.proofs.Beginning.{alive_can, dead_cannot}
 use Rattle.ov_script.proofs.ByteTexts.{lacks_by_test}
@@ -28,33 +29,22 @@ file_item = codes "create f1 alice 5" ++ 10 ∷ body ++ 10 ∷ []
 abbrev read_item : List ℕ
 read_item = codes "read alice f1" ++ 10 ∷ []
 
-five : decimal 5 ≡ 53 ∷ []
-unfolding digits
-five = refl
+alice : IsList (codes "alice") (codes "alice" ∷ [])
+alice = (codes "alice" ∷ [], (refl, tt), refl, refl)
 
-a_file : IsScript (file_item ++ read_item) (Create (codes "f1") (codes "alice") body ∷ Read (codes "alice") (codes "f1") ∷ []) AtEnd
-a_file = (
-  file_item,
-  read_item,
-  refl,
-  omega arith,
-  (refl, refl, omega arith, ap (λ d. line_of (codes "create" ∷ codes "f1" ∷ codes "alice" ∷ d ∷ []) ++ body ++ 10 ∷ []) (sym five)),
-  (read_item, [], refl, omega arith, (refl, refl, refl), refl),
-)
+five_bytes : IsItem file_item (Create (codes "f1") (codes "alice" ∷ []) body)
+unfolding digits
+five_bytes = (codes "alice", refl, alice, omega arith, omega arith, refl)
+
+a_file : IsScript (file_item ++ read_item) (Create (codes "f1") (codes "alice" ∷ []) body ∷ Read (codes "alice") (codes "f1") ∷ []) AtEnd
+a_file = (file_item, read_item, refl, omega arith, five_bytes, (read_item, [], refl, omega arith, (refl, refl, refl), refl))
 
 -- a bad line behind it stands on line 5
 bad_line : (room : ℕ) → 4 ≤ room → IsBad room (codes "quit" ++ 10 ∷ [])
 bad_line room h = bad_front room (codes "quit") (10 ∷ []) h (dead_cannot (codes "quit") (lacks_by_test 10 (codes "quit") refl) refl)
 
-behind_a_file : IsScript (file_item ++ codes "quit" ++ 10 ∷ []) (Create (codes "f1") (codes "alice") body ∷ []) (BadAt 5)
-behind_a_file = (
-  file_item,
-  codes "quit" ++ 10 ∷ [],
-  refl,
-  omega arith,
-  (refl, refl, omega arith, ap (λ d. line_of (codes "create" ∷ codes "f1" ∷ codes "alice" ∷ d ∷ []) ++ body ++ 10 ∷ []) (sym five)),
-  (refl, bad_line (limit - 24) (omega arith)),
-)
+behind_a_file : IsScript (file_item ++ codes "quit" ++ 10 ∷ []) (Create (codes "f1") (codes "alice" ∷ []) body ∷ []) (BadAt 5)
+behind_a_file = (file_item, codes "quit" ++ 10 ∷ [], refl, omega arith, five_bytes, (refl, bad_line (limit - 24) (omega arith)))
 
 -- a user who is no name, on the second line
 alice_and_bob : IsScript (codes "enrol alice" ++ 10 ∷ codes "enrol Bob" ++ 10 ∷ []) (Enrol (codes "alice") ∷ []) (BadAt 2)
@@ -66,6 +56,46 @@ alice_and_bob = (
   (refl, refl),
   (refl, bad_front (limit - 12) (codes "enrol B") (codes "ob" ++ 10 ∷ []) (omega arith) (dead_cannot (codes "enrol B") (lacks_by_test 10 (codes "enrol B") refl) refl)),
 )
+
+-- ---- the other commands
+
+grant_item : IsItem (codes "grant b f" ++ 10 ∷ []) (Grant (codes "b") (codes "f"))
+grant_item = (refl, refl, refl)
+
+revoke_item : IsItem (codes "revoke b f" ++ 10 ∷ []) (Revoke (codes "b") (codes "f"))
+revoke_item = (refl, refl, refl)
+
+list_item : IsItem (codes "list f" ++ 10 ∷ []) (Command-List (codes "f"))
+list_item = (refl, refl)
+
+epoch_item : IsItem (codes "epoch" ++ 10 ∷ []) Epoch
+epoch_item = refl
+
+-- ---- lists
+
+-- a list without names, and a file without bytes
+nobody : IsItem (codes "create f - 0" ++ 10 ∷ 10 ∷ []) (Create (codes "f") [] [])
+unfolding digits
+nobody = (codes "-", refl, ([], tt, refl, refl), omega arith, omega arith, refl)
+
+-- a name that comes again counts once, at its first place
+repeated : IsList (codes "b,a,b,c,a") (codes "b" ∷ codes "a" ∷ codes "c" ∷ [])
+repeated = (codes "b" ∷ codes "a" ∷ codes "b" ∷ codes "c" ∷ codes "a" ∷ [], (refl, (refl, (refl, (refl, (refl, tt))))), refl, refl)
+
+next_name_may_come : CanBegin (codes "create f a,")
+next_name_may_come = alive_can (codes "create f a,") refl
+
+two_commas : CanBegin (codes "create f a,,") → ⊥
+two_commas = dead_cannot (codes "create f a,,") (lacks_by_test 10 (codes "create f a,,") refl) refl
+
+trailing_comma : CanBegin (codes "create f a, ") → ⊥
+trailing_comma = dead_cannot (codes "create f a, ") (lacks_by_test 10 (codes "create f a, ") refl) refl
+
+behind_nobody : CanBegin (codes "create f -,") → ⊥
+behind_nobody = dead_cannot (codes "create f -,") (lacks_by_test 10 (codes "create f -,") refl) refl
+
+comma_in_a_grant : CanBegin (codes "grant a,") → ⊥
+comma_in_a_grant = dead_cannot (codes "grant a,") (lacks_by_test 10 (codes "grant a,") refl) refl
 
 -- ---- fronts of a size
 

@@ -1,5 +1,5 @@
 -- What the digits of a size say.
-use Rattle.std.proofs.Common.{◌≡◌, ℕ, zero, suc, ◌+◌, ◌*◌, ◌-◌, ◌<◌, ◌≤◌, Bool, true, false, List, [], ◌∷◌, ◌++◌, length, refl, sym, ◌∙◌, ap, subst, append_assoc, append-nil, arith, ◌&&◌, Option, Some, None}
+use Rattle.std.proofs.Common.{◌≡◌, ℕ, ◌+◌, ◌*◌, ◌-◌, ◌<◌, ◌≤◌, Bool, true, false, List, [], ◌∷◌, ◌++◌, length, refl, sym, ◌∙◌, ap, subst, append_assoc, append-nil, arith, ◌&&◌, Option, Some, None}
 use Rattle.std.specs.Prelude.{nat_lt, nat_le}
 use Rattle.std.specs.Fmt.{decimal}
 use Rattle.std.proofs.lemmas.Bool.{and_parts, and_from}
@@ -7,7 +7,7 @@ use Rattle.std.proofs.lemmas.Bool.Decides.{nat_tests}
 use Rattle.std.proofs.lemmas.Fmt.{decimal_nonempty, decimal_injective}
 use Rattle.ov_script.specs.declared.front.Front.TheVariants.{InSize, Never}
 use Rattle.ov_script.specs.Items.{longest_body}
-use Rattle.ov_script.specs.LineFronts.{is_digit, size_by, size_step, step, run, size_read}
+use Rattle.ov_script.specs.LineFronts.{is_digit, size_by, size_step, run, size_read}
 use Rattle.ov_script.proofs.SizeFronts.{first_digit, digit_is_number, digit_bounds, one_more, more_is_number}
 
 abbrev digits_so_far : Option ℕ → List ℕ

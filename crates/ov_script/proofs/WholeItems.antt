@@ -1,12 +1,10 @@
 -- What stands behind the line of an item makes the item whole, or not.
-use Rattle.std.proofs.Common.{◌≡◌, ◌≢◌, inl, inr, ℕ, zero, suc, ◌+◌, ◌-◌, ◌<◌, ◌≤◌, List, [], ◌∷◌, ◌++◌, length, take, drop, refl, sym, ◌∙◌, ap, subst, append_assoc, append-nil, length-append, arith, Option, Some, None, Result, Ok, Err, IfOk, min}
-use Rattle.std.specs.Prelude.{IfSome}
+use Rattle.std.proofs.Common.{◌≡◌, ◌≢◌, inl, inr, ℕ, suc, ◌+◌, ◌-◌, ◌<◌, ◌≤◌, List, [], ◌∷◌, ◌++◌, length, take, drop, refl, sym, ◌∙◌, ap, subst, append_assoc, length-append, arith, Option, Result, Ok, Err, IfOk, min}
 use Rattle.std.specs.Io.KnownBytes.{Consumes}
 use Rattle.std.proofs.KnownBytes.{Consumes-trans}
 use Rattle.std.proofs.Math.Seq.{drop-append_seam, take-append-add}
 use Rattle.std.proofs.lemmas.List.{length-take-le}
 use Rattle.ov_script.specs.declared.command.Command.{Command}
-use Rattle.ov_script.specs.declared.command.Command.TheVariants.{Create}
 use Rattle.ov_script.specs.declared.find.Found.TheVariants.{Line}
 use Rattle.ov_script.specs.declared.first_line.FirstLine.{FirstLine}
 use Rattle.ov_script.specs.declared.first_line.FirstLine.TheVariants.{Whole, WithBody}
@@ -16,8 +14,8 @@ use Rattle.ov_script.specs.declared.next.ScriptFault.{ScriptFault}
 use Rattle.ov_script.specs.Feed.{Fed, Uses, Takes, text_of}
 use Rattle.ov_script.specs.Finding.{Finds, Creates, Tells, IsSized, IsBadBody, cut, no_lf, IsUnsettled, TakesWhatItNeeds, TakesBelow}
 use Rattle.ov_script.specs.ItemLines.{SaysLine}
-use Rattle.ov_script.specs.Items.{IsItem, BeginsWithItem, CanBegin}
-use Rattle.ov_script.specs.LineFeeds.{NoLf, lf_count}
+use Rattle.ov_script.specs.Items.{BeginsWithItem, CanBegin}
+use Rattle.ov_script.specs.LineFeeds.{lf_count}
 use Rattle.ov_script.specs.Reading.{IsBad, cut as bad_cut, IsTooLong}
 use Rattle.ov_script.proofs.Beginning.{can_by_body, none_in_body, body_behind, wrong_behind_body}
 use Rattle.ov_script.proofs.ByteTexts.{lf_count-append, lf_count-line, lf_count-within}
@@ -27,7 +25,7 @@ use Rattle.ov_script.proofs.Using.{text_used, fact_behind, uses_trans}
 
 -- ---- texts behind the line of a body
 
-module _ (line file reader : List ℕ) (size room : ℕ) (says : SaysLine line (WithBody file reader size)) (fits : length line + 1 ≤ room) where
+module _ (line file : List ℕ) (names : List (List ℕ)) (size room : ℕ) (says : SaysLine line (WithBody file names size)) (fits : length line + 1 ≤ room) where
   joined : (text : List ℕ) → (line ++ 10 ∷ []) ++ text ≡ line ++ 10 ∷ text
   joined text = append_assoc line (10 ∷ []) text
 
@@ -36,13 +34,13 @@ module _ (line file reader : List ℕ) (size room : ℕ) (says : SaysLine line (
 
   never_behind : (body : List ℕ) (b : ℕ) → length body ≡ size → b ≢ 10 → CanBegin (line ++ 10 ∷ (body ++ b ∷ [])) → ⊥
   never_behind body b count differs (more, i) =
-      wrong_behind_body line body more file reader size b says count differs
+      wrong_behind_body line body more file names size b says count differs
       (subst BeginsWithItem (append_assoc line (10 ∷ (body ++ b ∷ [])) more ∙ ap (λ t. line ++ 10 ∷ t) (append_assoc body (b ∷ []) more)) i)
 
   bad_body : (text : List ℕ) → IsBadBody (room - (length line + 1)) size text → IsBad room (line ++ 10 ∷ text)
   bad_body text (cut within short) =
       let whole : length (line ++ 10 ∷ text) ≡ length line + 1 + length text = whole_length text in
-      bad_cut (omega arith) (omega arith) (none_in_body line text file reader size says short)
+      bad_cut (omega arith) (omega arith) (none_in_body line text file names size says short)
   bad_body text (no_lf body rest b count small differs e) =
       let split : (line ++ 10 ∷ (body ++ b ∷ [])) ++ rest ≡ line ++ 10 ∷ text =
       append_assoc line (10 ∷ (body ++ b ∷ [])) rest ∙ ap (λ t. line ++ 10 ∷ t) (append_assoc body (b ∷ []) rest ∙ sym e) in
@@ -60,9 +58,9 @@ module _ (line file reader : List ℕ) (size room : ℕ) (says : SaysLine line (
       let count : length (take (room - (length line + 1)) text) ≡ room - (length line + 1) = length-take-le (room - (length line + 1)) text (omega arith) in
       record {
         past = omega arith;
-        can = subst CanBegin (sym front) (can_by_body line (take (room - (length line + 1)) text) file reader size says (omega arith));
+        can = subst CanBegin (sym front) (can_by_body line (take (room - (length line + 1)) text) file names size says (omega arith));
         none_fits = λ item rest command e is.
-            let b = body_behind line text file reader item rest size command says e is in
+            let b = body_behind line text file item rest names size command says e is in
             let n : length item ≡ length line + 1 + size + 1 = b.3 in
             omega arith;
       }
@@ -70,7 +68,7 @@ module _ (line file reader : List ℕ) (size room : ℕ) (says : SaysLine line (
   unsettled_body : (text : List ℕ) → length text < min (room - (length line + 1)) size + 1 → IsUnsettled room (line ++ 10 ∷ text)
   unsettled_body text small =
       let whole : length (line ++ 10 ∷ text) ≡ length line + 1 + length text = whole_length text in
-      record { within = omega arith; can = can_by_body line text file reader size says (omega arith); none = none_in_body line text file reader size says (omega arith) }
+      record { within = omega arith; can = can_by_body line text file names size says (omega arith); none = none_in_body line text file names size says (omega arith) }
 
 -- ---- the line was found and used
 
@@ -104,11 +102,11 @@ module _ {S : Type 0} (left : S → Option (List ℕ)) (room size : ℕ) (a b m 
       (found.0 ++ 10 ∷ [], item_from found.0 [] (Whole command) command says (refl, refl), count, found.5, lf_count-line found.0 [] found.2, uses_line)
 
   -- an item with a body
-  module _ (file reader : List ℕ) (body : ℕ) (is : said ≡ WithBody file reader body) (c : Fed S) where
-    says_body : SaysLine found.0 (WithBody file reader body)
+  module _ (file : List ℕ) (names : List (List ℕ)) (body : ℕ) (is : said ≡ WithBody file names body) (c : Fed S) where
+    says_body : SaysLine found.0 (WithBody file names body)
     says_body = subst (SaysLine found.0) is found.3
 
-    tells_item : (item : Item) → Creates left room (file, reader) size body m c item → Tells left room a c item
+    tells_item : (item : Item) → Creates left room (file, names) size body m c item → Tells left room a c item
     tells_item (Item-Whole command count lines) (bytes, e, n, total, within, lfs, uses) =
         let size_is : length found.0 + 1 ≡ size = found.4 in
         let tail : length (bytes ++ 10 ∷ []) ≡ length bytes + 1 = length-append bytes (10 ∷ []) in
@@ -117,7 +115,7 @@ module _ {S : Type 0} (left : S → Option (List ℕ)) (room size : ℕ) (a b m 
         let lf_all : lf_count (found.0 ++ 10 ∷ (bytes ++ 10 ∷ [])) ≡ 1 + lf_count (bytes ++ 10 ∷ []) = lf_count-line found.0 (bytes ++ 10 ∷ []) found.2 in
         let lf_is : lines ≡ lf_count bytes + 2 = lfs in (
           found.0 ++ 10 ∷ (bytes ++ 10 ∷ []),
-          item_from found.0 (bytes ++ 10 ∷ []) (WithBody file reader body) command says_body (bytes, n, refl, e),
+          item_from found.0 (bytes ++ 10 ∷ []) (WithBody file names body) command says_body (bytes, n, refl, e),
           omega arith,
           within,
           omega arith,
@@ -126,19 +124,19 @@ module _ {S : Type 0} (left : S → Option (List ℕ)) (room size : ℕ) (a b m 
     tells_item End p = absurd p
     tells_item Bad p = fact_behind (IsBad room) (IsBadBody (room - size) body) (text_of left a) (text_of left m) (found.0 ++ 10 ∷ [])
         (λ text bad. subst (IsBad room) (sym (append_assoc found.0 (10 ∷ []) text))
-        (bad_body found.0 file reader body room says_body (subst (λ n. n ≤ room) (sym found.4) found.5) text (subst (λ n. IsBadBody (room - n) body text) (sym found.4) bad)))
+        (bad_body found.0 file names body room says_body (subst (λ n. n ≤ room) (sym found.4) found.5) text (subst (λ n. IsBadBody (room - n) body text) (sym found.4) bad)))
         (text_used left a m (found.0 ++ 10 ∷ []) uses_line) p
     tells_item Long p = fact_behind (IsTooLong room) (λ text. (room - size < length text) × (room - size ≤ body)) (text_of left a) (text_of left m) (found.0 ++ 10 ∷ [])
         (λ text long. subst (IsTooLong room) (sym (append_assoc found.0 (10 ∷ []) text))
-        (long_body found.0 file reader body room says_body (subst (λ n. n ≤ room) (sym found.4) found.5) text
+        (long_body found.0 file names body room says_body (subst (λ n. n ≤ room) (sym found.4) found.5) text
         (subst (λ n. room - n < length text) (sym found.4) long.0) (subst (λ n. room - n ≤ body) (sym found.4) long.1)))
         (text_used left a m (found.0 ++ 10 ∷ []) uses_line) p
 
-    pub tells_created : (result : Result Item ScriptFault) → IfOk result (Creates left room (file, reader) size body m c) → IfOk result (Tells left room a c)
+    pub tells_created : (result : Result Item ScriptFault) → IfOk result (Creates left room (file, names) size body m c) → IfOk result (Tells left room a c)
     tells_created (Ok item) p = tells_item item p
     tells_created (Err fault) p = tt
 
-    sized_item : (item : Item) → Creates left room (file, reader) size body m c item → IsSized item
+    sized_item : (item : Item) → Creates left room (file, names) size body m c item → IsSized item
     sized_item (Item-Whole command count lines) (bytes, e, n, total, within, lfs, uses) =
         let size_is : length found.0 + 1 ≡ size = found.4 in
         let few : lf_count bytes ≤ length bytes = lf_count-within bytes in
@@ -147,7 +145,7 @@ module _ {S : Type 0} (left : S → Option (List ℕ)) (room size : ℕ) (a b m 
     sized_item Bad p = tt
     sized_item Long p = tt
 
-    pub sized_created : (result : Result Item ScriptFault) → IfOk result (Creates left room (file, reader) size body m c) → IfOk result IsSized
+    pub sized_created : (result : Result Item ScriptFault) → IfOk result (Creates left room (file, names) size body m c) → IfOk result IsSized
     sized_created (Ok item) p = sized_item item p
     sized_created (Err fault) p = tt
 
@@ -161,6 +159,6 @@ module _ {S : Type 0} (left : S → Option (List ℕ)) (room size : ℕ) (a b m 
           u.more ++ seen,
           last,
           subst (λ l. Consumes (left a.source) (left c.source) l) (sym (append_assoc u.more seen last)) (Consumes-trans (left a.source) (left m.source) (left c.source) u.more (seen ++ last) u.source t),
-          subst (IsUnsettled room) (sym whole) (unsettled_body found.0 file reader body room says_body (subst (λ n. n ≤ room) (sym found.4) found.5) (m.pending ++ seen)
+          subst (IsUnsettled room) (sym whole) (unsettled_body found.0 file names body room says_body (subst (λ n. n ≤ room) (sym found.4) found.5) (m.pending ++ seen)
               (subst (λ n. length (m.pending ++ seen) < min (room - n) body + 1) (sym found.4) small)),
         )

@@ -9,7 +9,6 @@ use Rattle.ov_script.specs.LineFronts.{run}
 use Rattle.ov_script.specs.Reading.{IsBad, IsTooLong}
 use Rattle.ov_script.specs.declared.command.Command.TheVariants.{Create}
 use Rattle.ov_script.specs.declared.body.Body.{Body}
-use Rattle.ov_script.specs.declared.command.Command.TheVariants.{Create}
 use Rattle.ov_script.specs.declared.body.Body.TheVariants.{Bytes, Bad as Body-Bad, Long as Body-Long}
 use Rattle.ov_script.specs.declared.body.Behind.{Behind}
 use Rattle.ov_script.specs.declared.body.Behind.TheVariants.{Lf, Other, Nothing}
@@ -89,7 +88,7 @@ TakesLf left old new Other =
 TakesLf left old new Nothing = IfSome (text_of left old) (λ text. text ≡ [])
 
 -- what stands behind the line of a `create`, of so many bytes, makes an item or none
-abbrev pub Creates : {S : Type 0} → (S → Option (List ℕ)) → ℕ → List ℕ × List ℕ → ℕ → ℕ → Fed S → Fed S → Item → Type 0
+abbrev pub Creates : {S : Type 0} → (S → Option (List ℕ)) → ℕ → List ℕ × List (List ℕ) → ℕ → ℕ → Fed S → Fed S → Item → Type 0
 Creates left room names line size old new (Whole command count lines) =
     (body : List ℕ) × (command ≡ Create names.0 names.1 body) × (length body ≡ size)
     × (count ≡ line + size + 1) × (count ≤ room) × (lines ≡ lf_count body + 2)

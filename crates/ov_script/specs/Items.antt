@@ -2,8 +2,9 @@
 use Rattle.std.specs.Prelude.{◌≡◌, ◌≤◌, ℕ, List, [], ◌∷◌, ◌++◌, length, codes}
 use Rattle.std.specs.Fmt.{decimal}
 use Rattle.ov_base.specs.Names.{IsName}
+use Rattle.ov_script.specs.WrittenLists.{IsList}
 use Rattle.ov_script.specs.declared.command.Command.{Command}
-use Rattle.ov_script.specs.declared.command.Command.TheVariants.{Enrol, Create, Read}
+use Rattle.ov_script.specs.declared.command.Command.TheVariants.{Enrol, Create, Grant, Revoke, Read, List as Command-List, Epoch}
 
 -- no item has a line of more bytes than this, its LF included
 abbrev pub longest_line : ℕ
@@ -23,14 +24,24 @@ spaced (word ∷ next ∷ words) = word ++ 32 ∷ spaced (next ∷ words)
 abbrev pub line_of : List (List ℕ) → List ℕ
 line_of words = spaced words ++ 10 ∷ []
 
+-- the line of a `create`, whose list is written so
+abbrev pub create_line : List ℕ → List ℕ → ℕ → List ℕ
+create_line file list size = line_of (codes "create" ∷ file ∷ list ∷ decimal size ∷ [])
+
 -- These bytes are one item, which says this command: a line, and behind that of a `create` so many
--- bytes as its last word says, and one LF.
+-- bytes as its last word says, and one LF. Only the line of a `create` could be longer than a line
+-- may be.
 abbrev pub IsItem : List ℕ → Command → Type 0
 IsItem bytes (Enrol user) = IsName user × (bytes ≡ line_of (codes "enrol" ∷ user ∷ []))
-IsItem bytes (Create file reader body) =
-    IsName file × IsName reader × (length body ≤ longest_body)
-    × (bytes ≡ line_of (codes "create" ∷ file ∷ reader ∷ decimal (length body) ∷ []) ++ body ++ 10 ∷ [])
+IsItem bytes (Create file names body) =
+    (list : List ℕ) × IsName file × IsList list names × (length body ≤ longest_body)
+    × (length (create_line file list (length body)) ≤ longest_line)
+    × (bytes ≡ create_line file list (length body) ++ body ++ 10 ∷ [])
+IsItem bytes (Grant user file) = IsName user × IsName file × (bytes ≡ line_of (codes "grant" ∷ user ∷ file ∷ []))
+IsItem bytes (Revoke user file) = IsName user × IsName file × (bytes ≡ line_of (codes "revoke" ∷ user ∷ file ∷ []))
 IsItem bytes (Read user file) = IsName user × IsName file × (bytes ≡ line_of (codes "read" ∷ user ∷ file ∷ []))
+IsItem bytes (Command-List file) = IsName file × (bytes ≡ line_of (codes "list" ∷ file ∷ []))
+IsItem bytes Epoch = bytes ≡ line_of (codes "epoch" ∷ [])
 
 -- some front of the text is an item
 abbrev pub BeginsWithItem : List ℕ → Type 0

@@ -2,9 +2,11 @@ pub mod Feed
 pub mod Finding
 pub mod ItemLines
 pub mod Items
+pub mod LineEnds
 pub mod LineFeeds
 pub mod LineFronts
 pub mod Lines
 pub mod Place
 pub mod Reading
 pub mod Saying
+pub mod WrittenLists

@@ -3,37 +3,54 @@ use Rattle.std.specs.Prelude.{ℕ, ◌+◌, ◌-◌, ◌*◌, zero, suc, Bool, t
 use Rattle.ov_base.specs.Names.{is_letter_or_digit, is_name_byte}
 use Rattle.ov_script.specs.Items.{longest_body}
 use Rattle.ov_script.specs.declared.front.Word.{Word}
-use Rattle.ov_script.specs.declared.front.Word.TheVariants.{Enrol, Create, Read}
+use Rattle.ov_script.specs.declared.front.Word.TheVariants.{Enrol, Create, Grant, Revoke, Read, List as Word-List, Epoch}
+use Rattle.ov_script.specs.declared.front.Stem.{Stem}
+use Rattle.ov_script.specs.declared.front.Stem.TheVariants.{E, R, Re}
 use Rattle.ov_script.specs.declared.front.Then.{Then}
-use Rattle.ov_script.specs.declared.front.Then.TheVariants.{End, LastName, Reader, Size}
+use Rattle.ov_script.specs.declared.front.Then.TheVariants.{End, LastName, Readers, NextReader}
 use Rattle.ov_script.specs.declared.front.Front.{Front}
-use Rattle.ov_script.specs.declared.front.Front.TheVariants.{Start, InWord, InName, InSize, Never}
+use Rattle.ov_script.specs.declared.front.Front.TheVariants.{Start, InStem, InWord, InName, AtReaders, Nobody, InSize, Done, Never}
 
--- a word and the space behind it
+-- ---- the word
+
+-- a word, and a space where more stands behind it
 abbrev pub spelling : Word → List ℕ
 spelling Enrol = codes "enrol "
 spelling Create = codes "create "
+spelling Grant = codes "grant "
+spelling Revoke = codes "revoke "
 spelling Read = codes "read "
+spelling Word-List = codes "list "
+spelling Epoch = codes "epoch"
 
 -- what is read behind the word
 abbrev pub behind : Word → Front
 behind Enrol = InName End 0
-behind Create = InName Reader 0
+behind Create = InName Readers 0
+behind Grant = InName LastName 0
+behind Revoke = InName LastName 0
 behind Read = InName LastName 0
+behind Word-List = InName End 0
+behind Epoch = Done
 
--- what is read behind a name and a space
-abbrev pub after_name : Then → Front
-after_name End = Never
-after_name LastName = InName End 0
-after_name Reader = InName Size 0
-after_name Size = InSize None
+-- what this byte leads to, of these choices
+abbrev pub chosen_by : Bool → Front → Front → Front
+chosen_by true front other = front
+chosen_by false front other = other
 
--- the first byte tells the word
-abbrev pub begin_by : Bool → Bool → Bool → Front
-begin_by true is_c is_r = InWord Enrol 1
-begin_by false true is_r = InWord Create 1
-begin_by false false true = InWord Read 1
-begin_by false false false = Never
+abbrev pub chosen : ℕ → List (ℕ × Front) → Front
+chosen b [] = Never
+chosen b (choice ∷ choices) = chosen_by (b == choice.0) choice.1 (chosen b choices)
+
+-- the first bytes of a line, and where each leads
+abbrev pub first_bytes : List (ℕ × Front)
+first_bytes = (99, InWord Create 1) ∷ (101, InStem E) ∷ (103, InWord Grant 1) ∷ (108, InWord Word-List 1) ∷ (114, InStem R) ∷ []
+
+-- and those behind what several words begin with
+abbrev pub next_bytes : Stem → List (ℕ × Front)
+next_bytes E = (110, InWord Enrol 2) ∷ (112, InWord Epoch 2) ∷ []
+next_bytes R = (101, InStem Re) ∷ []
+next_bytes Re = (97, InWord Read 3) ∷ (118, InWord Revoke 3) ∷ []
 
 abbrev pub word_by : Bool → Bool → Word → ℕ → Front
 word_by false is_last word count = Never
@@ -44,15 +61,46 @@ word_by true false word count = InWord word (count + 1)
 abbrev pub is_spelled : Word → ℕ → ℕ → Bool
 is_spelled word count b = nat_lt count (length (spelling word)) && (slice_index (spelling word) count == b)
 
-abbrev pub name_by : Bool → Bool → Then → ℕ → Front
-name_by true is_space next count = InName next (count + 1)
-name_by false true next count = after_name next
-name_by false false next count = Never
+-- ---- names
+
+-- what is read behind a name and a space
+abbrev pub after_name : Then → Front
+after_name End = Never
+after_name LastName = InName End 0
+after_name Readers = AtReaders
+after_name NextReader = InSize None
+
+-- and behind a name and a comma
+abbrev pub after_comma : Then → Front
+after_comma End = Never
+after_comma LastName = Never
+after_comma Readers = Never
+after_comma NextReader = InName NextReader 0
+
+-- what is read behind a whole name and one more byte
+abbrev pub end_by : Bool → Bool → Then → Front
+end_by true is_comma next = after_name next
+end_by false true next = after_comma next
+end_by false false next = Never
+
+-- what is read behind one more byte of a name, or behind it
+abbrev pub name_by : Bool → Bool → Then → ℕ → ℕ → Front
+name_by true is_whole next count b = InName next (count + 1)
+name_by false true next count b = end_by (b == 32) (b == 44) next
+name_by false false next count b = Never
 
 -- whether a name of which so many bytes came goes on with this byte
 abbrev pub is_named : ℕ → ℕ → Bool
 is_named zero b = is_letter_or_digit b
 is_named (suc n) b = nat_lt (suc n) 64 && is_name_byte b
+
+-- a list is `-`, or begins with a name
+abbrev pub readers_by : Bool → Bool → Front
+readers_by true is_nobody = InName NextReader 1
+readers_by false true = Nobody
+readers_by false false = Never
+
+-- ---- the size
 
 abbrev pub size_by : Bool → ℕ → Front
 size_by false size = Never
@@ -67,13 +115,19 @@ size_step None b = size_by (is_digit b) (b - 48)
 size_step (Some size) b =
     size_by (is_digit b && (nat_lt 0 size && nat_le (size * 10 + (b - 48)) longest_body)) (size * 10 + (b - 48))
 
+-- ---- the line
+
 -- what is read behind one more byte
 abbrev pub step : Front → ℕ → Front
-step Start b = begin_by (b == 101) (b == 99) (b == 114)
+step Start b = chosen b first_bytes
+step (InStem stem) b = chosen b (next_bytes stem)
 step (InWord word count) b =
     word_by (is_spelled word count b) (count + 1 == length (spelling word)) word count
-step (InName next count) b = name_by (is_named count b) (nat_lt 0 count && b == 32) next count
+step (InName next count) b = name_by (is_named count b) (nat_lt 0 count) next count b
+step AtReaders b = readers_by (is_letter_or_digit b) (b == 45)
+step Nobody b = chosen_by (b == 32) (InSize None) Never
 step (InSize size) b = size_step size b
+step Done b = Never
 step Never b = Never
 
 abbrev pub run : Front → List ℕ → Front
@@ -83,15 +137,11 @@ run front (b ∷ bytes) = run (step front b) bytes
 -- the size that was read
 abbrev pub size_read : Front → Option ℕ
 size_read Start = None
+size_read (InStem stem) = None
 size_read (InWord word count) = None
 size_read (InName next count) = None
+size_read AtReaders = None
+size_read Nobody = None
 size_read (InSize size) = size
+size_read Done = None
 size_read Never = None
-
--- whether the line may go on
-abbrev pub is_alive : Front → Bool
-is_alive Start = true
-is_alive (InWord word count) = true
-is_alive (InName next count) = true
-is_alive (InSize size) = true
-is_alive Never = false

@@ -25,6 +25,13 @@ IfCommand End P = ⊤
 IfCommand (BadLine n) P = ⊤
 IfCommand Long P = ⊤
 
+-- a command is what some item says, whatever the source tells
+abbrev pub IsOfItem : Next → Type 0
+IsOfItem (Command command) = (item : List ℕ) × IsItem item command
+IsOfItem End = ⊤
+IsOfItem (BadLine n) = ⊤
+IsOfItem Long = ⊤
+
 -- what `next` says of what was still to be read, where the source tells it
 abbrev pub SaysOf : {S : Type 0} → (S → Option (List ℕ)) → Place S → Next → Place S → Type 0
 SaysOf left old next new =

@@ -1,5 +1,5 @@
 //! The commands of a script.
-use ov_base::{Name, Octets};
+use ov_base::{Name, Names, Octets};
 
 /// A command of a script.
 #[derive(Drop)]
@@ -8,15 +8,31 @@ pub enum Command {
     Enrol {
         user: Name,
     },
-    /// `create FILE READER LENGTH`, LENGTH bytes: the file is made, for one reader.
+    /// `create FILE LIST LENGTH`, LENGTH bytes: the file is made, for the users of the list.
     Create {
         file: Name,
-        reader: Name,
+        list: Names,
         bytes: Octets,
+    },
+    /// `grant USER FILE`: the user joins the file's list.
+    Grant {
+        user: Name,
+        file: Name,
+    },
+    /// `revoke USER FILE`: the user leaves the file's list.
+    Revoke {
+        user: Name,
+        file: Name,
     },
     /// `read USER FILE`: the user asks for the file's bytes.
     Read {
         user: Name,
         file: Name,
     },
+    /// `list FILE`: the names in the file's list are asked for.
+    List {
+        file: Name,
+    },
+    /// `epoch`: the epoch is asked for.
+    Epoch,
 }

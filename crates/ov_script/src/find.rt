@@ -1,19 +1,23 @@
 //! What line stands at the front of a text, found over pieces of any size.
-ghost use Rattle.std.specs.Prelude.{◌≡◌, ◌⊎◌, ℕ, List, Option, [], ◌∷◌, ◌++◌, ◌+◌, ◌<◌, ◌≤◌, length, take, IfOk, IfSome, IfNone, OnErr, MatchBool};
+ghost use Rattle.std.specs.Prelude.{◌≡◌, ◌⊎◌, ℕ, List, Option, [], ◌∷◌, ◌++◌, ◌+◌, ◌<◌, ◌≤◌, length, take, IfOk, IfSome, IfNone, IsErrOf, MatchBool};
 ghost use Rattle.std.specs.Io.KnownBytes.{IsAtEnd};
-ghost use Rattle.ov_base.specs.Causes.{HasCause};
+ghost use Rattle.ov_base.specs.Causes.{Rose};
 ghost use Rattle.ov_script.specs.declared.front.Front.TheVariants.{Start};
 ghost use Rattle.ov_script.specs.Feed.{Takes};
 ghost use Rattle.ov_script.specs.Finding.{Finds, IsSettled, IsUnsettled, TakesWhatItNeeds};
-ghost use Rattle.ov_script.specs.Items.{longest_line};
 ghost use Rattle.ov_script.specs.LineFeeds.{NoLf};
-ghost use Rattle.ov_script.specs.LineFronts.{run, is_alive};
+ghost use Rattle.ov_script.specs.LineEnds.{may_go_on};
+ghost use Rattle.ov_script.specs.LineFronts.{run};
 
 use crate::feed::Feed;
 use crate::first_line::{FirstLine, read_line};
 use crate::front::Front;
+use crate::line_end::may_go_on;
+use crate::next::ScriptFault;
 use memchr::memchr;
-use ov_io::{Fault, Source};
+use ov_base::Memory;
+use ov_io::Source;
+use std::alloc::Global;
 
 /// What stands at the front of a text.
 #[derive(Drop)]
@@ -58,17 +62,18 @@ fn first_lf(bytes: &[u8], seen: usize) -> Option<usize>
 }
 
 // What the line is that ends at the first LF.
-fn line_at(bytes: &[u8], end: usize) -> Found
+fn line_at(bytes: &[u8], end: usize, alloc: Global) -> Result<Found, Memory>
     requires { (line rest : List ℕ) × NoLf line × (length line ≡ end) × (bytes.now ≡ line ++ 10 ∷ rest) }
-    ensures { (room : ℕ) (left : Option (List ℕ)) → end < room → Finds room bytes.now left result }
+    ensures { IfOk result (λ found. (room : ℕ) (left : Option (List ℕ))
+        → end < room → Finds room bytes.now left found) }
 {
     let (line, _) = bytes.split_at(end);
-    match read_line(line) {
-        Some(said) => Found::Line {
+    match read_line(line, alloc)? {
+        Some(said) => Ok(Found::Line {
             said,
             size: end + 1,
-        },
-        None => Found::Bad,
+        }),
+        None => Ok(Found::Bad),
     }
 }
 
@@ -79,21 +84,21 @@ fn front_of(bytes: &[u8], room: usize) -> Found
     ensures { (left : Option (List ℕ)) → Finds room bytes.now left result }
 {
     let (front, _) = bytes.split_at(room);
-    if Front::Start.run(front).is_alive() {
+    if may_go_on(Front::Start.run(front), room) {
         Found::Long
     } else {
         Found::Bad
     }
 }
 
-// Whether the line may go on, of which `front` is read and the rest is fresh.
-fn open_or_bad(front: Front, fresh: &[u8]) -> Seen
-    ensures { MatchBool (is_alive (run front fresh.now))
+// Whether the line may go on, of which so many bytes came: `front` is read, and the rest is fresh.
+fn open_or_bad(front: Front, fresh: &[u8], count: usize) -> Seen
+    ensures { MatchBool (may_go_on (run front fresh.now) count)
         (result ≡ Seen.Open (run front fresh.now))
         (result ≡ Seen.Settled Found.Bad) }
 {
     let front = front.run(fresh);
-    if front.is_alive() {
+    if may_go_on(front, count) {
         Seen::Open(front)
     } else {
         Seen::Settled(Found::Bad)
@@ -101,26 +106,32 @@ fn open_or_bad(front: Front, fresh: &[u8]) -> Seen
 }
 
 // What is known of these bytes, of which the first `seen` were read and have no LF.
-fn settled(bytes: &[u8], seen: usize, front: Front, room: usize) -> Seen
+fn settled(
+    bytes: &[u8],
+    seen: usize,
+    front: Front,
+    room: usize,
+    alloc: Global,
+) -> Result<Seen, Memory>
     requires within { seen ≤ length bytes.now }
     requires seen { NoLf (take seen bytes.now) }
     requires front { front ≡ run Start (take seen bytes.now) }
-    ensures { IsSettled room bytes.now result }
+    ensures { IfOk result (IsSettled room bytes.now) }
 {
     match first_lf(bytes, seen) {
         Some(end) => {
             if end < room {
-                Seen::Settled(line_at(bytes, end))
+                Ok(Seen::Settled(line_at(bytes, end, alloc)?))
             } else {
-                Seen::Settled(front_of(bytes, room))
+                Ok(Seen::Settled(front_of(bytes, room)))
             }
         }
         None => {
             if bytes.len() > room {
-                Seen::Settled(front_of(bytes, room))
+                Ok(Seen::Settled(front_of(bytes, room)))
             } else {
                 let (_, fresh) = bytes.split_at(seen);
-                open_or_bad(front, fresh)
+                Ok(open_or_bad(front, fresh, bytes.len()))
             }
         }
     }
@@ -137,28 +148,32 @@ fn at_end(count: usize) -> Found
 
 /// Takes bytes until it is known what stands at the front of the text, of which `room` bytes may be
 /// read.
-pub fn find<S: Source + Drop>(feed: &mut Feed<S>, room: usize) -> Result<Found, Fault>
+pub fn find<S: Source + Drop>(feed: &mut Feed<S>, room: usize) -> Result<Found, ScriptFault>
     ensures found { IfOk result (Finds room feed.new.pending (S.left feed.new.source)) }
     ensures taken { (more : List ℕ) × Takes S.left feed.old feed.new more }
     ensures needed { TakesWhatItNeeds S.left room feed.old.pending feed.old.source feed.new.source }
     ensures same { S.borrow feed.new.source ≡ S.borrow feed.old.source }
-    ensures cause { HasCause (S.faults feed.old.source) (S.faults feed.new.source) result }
+    ensures later { S.faults feed.old.source ≤ S.faults feed.new.source }
+    ensures read { IsErrOf result ScriptFault.Read
+        → Rose (S.faults feed.old.source) (S.faults feed.new.source) }
 {
+    let alloc = feed.alloc();
     let mut seen = 0;
     let mut front = Front::Start;
     'pieces: loop {
         let bytes = feed.pending();
-        match settled(bytes, seen, front, room) {
-            Seen::Settled(found) => return Ok(found),
-            Seen::Open(open) => {
+        match settled(bytes, seen, front, room, alloc) {
+            Ok(Seen::Settled(found)) => return Ok(found),
+            Ok(Seen::Open(open)) => {
                 front = open;
                 seen = bytes.len();
                 match feed.fill() {
                     Ok(0) => return Ok(at_end(seen)),
                     Ok(_) => {}
-                    Err(fault) => return Err(fault),
+                    Err(_) => return Err(ScriptFault::Read),
                 }
             }
+            Err(_) => return Err(ScriptFault::Memory),
         }
     }
 }

@@ -1,16 +1,19 @@
 //! What the first line of an item says.
-ghost use Rattle.std.specs.Prelude.{◌≡◌, ◌≤◌, ℕ, List, ◌∷◌, ◌++◌, IfSome, IfNone};
+ghost use Rattle.std.specs.Prelude.{◌≡◌, ◌≤◌, ◌<◌, ℕ, List, [], ◌∷◌, ◌++◌, length, codes, IfSome, IfNone, IfOk};
 ghost use Rattle.std.specs.Fmt.{decimal};
 ghost use Rattle.ov_base.specs.Names.{IsName};
+ghost use Rattle.ov_script.specs.declared.command.Command.{Command};
 ghost use Rattle.ov_script.specs.declared.first_line.FirstLine.{FirstLine};
-ghost use Rattle.ov_script.specs.ItemLines.{SaysLine};
-ghost use Rattle.ov_script.specs.Items.{longest_body};
+ghost use Rattle.ov_script.specs.ItemLines.{SaysWhole, SaysCreate, SaysLine};
+ghost use Rattle.ov_script.specs.Items.{spaced, longest_body, longest_line};
 ghost use Rattle.ov_script.specs.LineFeeds.{Lacks};
 
 use crate::command::Command;
-use crate::front::Front;
-use memchr::memchr;
-use ov_base::Name;
+use crate::front::LONGEST_LINE;
+use crate::list::list_of;
+use crate::words::{behind, size_of_digits, split, two_names};
+use ov_base::{Memory, Name, Names};
+use std::alloc::Global;
 
 /// What the first line of an item says.
 #[derive(Drop)]
@@ -20,99 +23,125 @@ pub enum FirstLine {
     /// A `create`, whose line has so many bytes and one LF behind it.
     WithBody {
         file: Name,
-        reader: Name,
+        list: Names,
         size: usize,
     },
 }
 
-// What stands behind the word.
-fn behind<'a>(line: &'a [u8], word: &[u8]) -> Option<&'a [u8]>
-    ensures found { IfSome result (λ rest. line.now ≡ word.now ++ rest.now) }
-    ensures none { IfNone result ((rest : List ℕ) → line.now ≡ word.now ++ rest → ⊥) }
-{
-    line.strip_prefix(word)
-}
-
-// The first word of the text, and what stands behind its space.
-fn split_word(text: &[u8]) -> Option<(&[u8], &[u8])>
-    ensures found { IfSome result (λ p. Lacks 32 p.0.now × (text.now ≡ p.0.now ++ 32 ∷ p.1.now)) }
-    ensures none { IfNone result (Lacks 32 text.now) }
-{
-    match memchr(b' ', text) {
-        Some(end) => {
-            let (word, rest) = text.split_at(end);
-            let (_, rest) = rest.split_at(1);
-            Some((word, rest))
-        }
-        None => None,
-    }
-}
-
-// Two names with a space between them.
-fn two_names(text: &[u8]) -> Option<(Name, Name)>
-    ensures found { IfSome result (λ p. IsName p.0 × IsName p.1 × (text.now ≡ p.0 ++ 32 ∷ p.1)) }
-    ensures none { IfNone result ((a b : List ℕ) → IsName a → IsName b
-        → text.now ≡ a ++ 32 ∷ b → ⊥) }
-{
-    let (first, second) = split_word(text)?;
-    let first = Name::read(first)?;
-    let second = Name::read(second)?;
-    Some((first, second))
-}
-
-// The size that these digits say.
-fn size_of_digits(digits: &[u8]) -> Option<usize>
-    ensures found { IfSome result (λ size. (size ≤ longest_body) × (digits.now ≡ decimal size)) }
-    ensures none { IfNone result ((size : ℕ) → size ≤ longest_body → digits.now ≡ decimal size → ⊥) }
-{
-    match Front::InSize(None).run(digits).size() {
-        Some(size) => Some(size as usize),
-        None => None,
-    }
-}
-
-fn enrol(line: &[u8]) -> Option<FirstLine>
-    ensures found { IfSome result (SaysLine line.now) }
-    ensures none { IfNone result ((user : List ℕ)
-        → SaysLine line.now (FirstLine.Whole (Command.Enrol user)) → ⊥) }
+fn enrol(line: &[u8]) -> Option<Command>
+    ensures found { IfSome result (SaysWhole line.now) }
+    ensures none { IfNone result ((user : List ℕ) → SaysWhole line.now (Command.Enrol user) → ⊥) }
 {
     let user = Name::read(behind(line, b"enrol ")?)?;
-    Some(FirstLine::Whole(Command::Enrol { user }))
+    Some(Command::Enrol { user })
 }
 
-fn read(line: &[u8]) -> Option<FirstLine>
-    ensures found { IfSome result (SaysLine line.now) }
+fn grant(line: &[u8]) -> Option<Command>
+    ensures found { IfSome result (SaysWhole line.now) }
     ensures none { IfNone result ((user file : List ℕ)
-        → SaysLine line.now (FirstLine.Whole (Command.Read user file)) → ⊥) }
+        → SaysWhole line.now (Command.Grant user file) → ⊥) }
+{
+    let (user, file) = two_names(behind(line, b"grant ")?)?;
+    Some(Command::Grant { user, file })
+}
+
+fn revoke(line: &[u8]) -> Option<Command>
+    ensures found { IfSome result (SaysWhole line.now) }
+    ensures none { IfNone result ((user file : List ℕ)
+        → SaysWhole line.now (Command.Revoke user file) → ⊥) }
+{
+    let (user, file) = two_names(behind(line, b"revoke ")?)?;
+    Some(Command::Revoke { user, file })
+}
+
+fn read(line: &[u8]) -> Option<Command>
+    ensures found { IfSome result (SaysWhole line.now) }
+    ensures none { IfNone result ((user file : List ℕ)
+        → SaysWhole line.now (Command.Read user file) → ⊥) }
 {
     let (user, file) = two_names(behind(line, b"read ")?)?;
-    Some(FirstLine::Whole(Command::Read { user, file }))
+    Some(Command::Read { user, file })
 }
 
-fn create(line: &[u8]) -> Option<FirstLine>
-    ensures found { IfSome result (SaysLine line.now) }
-    ensures none { IfNone result ((file reader : List ℕ) (size : ℕ)
-        → SaysLine line.now (FirstLine.WithBody file reader size) → ⊥) }
+fn list(line: &[u8]) -> Option<Command>
+    ensures found { IfSome result (SaysWhole line.now) }
+    ensures none { IfNone result ((file : List ℕ) → SaysWhole line.now (Command.List file) → ⊥) }
 {
-    let (file, rest) = split_word(behind(line, b"create ")?)?;
-    let (reader, digits) = split_word(rest)?;
-    Some(FirstLine::WithBody {
-        file: Name::read(file)?,
-        reader: Name::read(reader)?,
-        size: size_of_digits(digits)?,
-    })
+    let file = Name::read(behind(line, b"list ")?)?;
+    Some(Command::List { file })
+}
+
+fn epoch(line: &[u8]) -> Option<Command>
+    ensures found { IfSome result (SaysWhole line.now) }
+    ensures none { IfNone result (SaysWhole line.now Command.Epoch → ⊥) }
+{
+    if line == b"epoch".as_slice() {
+        Some(Command::Epoch)
+    } else {
+        None
+    }
+}
+
+// The command of a line that is a whole item.
+fn command(line: &[u8]) -> Option<Command>
+    ensures found { IfSome result (SaysWhole line.now) }
+    ensures none { IfNone result ((command : Command) → SaysWhole line.now command → ⊥) }
+{
+    if let Some(command) = enrol(line) {
+        return Some(command);
+    }
+    if let Some(command) = grant(line) {
+        return Some(command);
+    }
+    if let Some(command) = revoke(line) {
+        return Some(command);
+    }
+    if let Some(command) = read(line) {
+        return Some(command);
+    }
+    if let Some(command) = list(line) {
+        return Some(command);
+    }
+    epoch(line)
+}
+
+// The file, the list's text and the size of a `create`.
+fn create_words(line: &[u8]) -> Option<(Name, &[u8], usize)>
+    ensures found { IfSome result (λ p. IsName p.0 × Lacks 32 p.1.now × (p.2 ≤ longest_body)
+        × (line.now ≡ spaced (codes "create" ∷ p.0 ∷ p.1.now ∷ decimal p.2 ∷ []))) }
+    ensures none { IfNone result ((file list : List ℕ) (size : ℕ)
+        → IsName file → Lacks 32 list → size ≤ longest_body
+        → line.now ≡ spaced (codes "create" ∷ file ∷ list ∷ decimal size ∷ []) → ⊥) }
+{
+    let (file, rest) = split(behind(line, b"create ")?, b' ')?;
+    let (list, digits) = split(rest, b' ')?;
+    Some((Name::read(file)?, list, size_of_digits(digits)?))
+}
+
+fn create(line: &[u8], alloc: Global) -> Result<Option<FirstLine>, Memory>
+    ensures found { IfOk result (λ found. IfSome found (SaysLine line.now)) }
+    ensures none { IfOk result (λ found. IfNone found ((file : List ℕ) (names : List (List ℕ)) (size : ℕ)
+        → SaysCreate line.now file names size → ⊥)) }
+{
+    if line.len() >= LONGEST_LINE {
+        return Ok(None);
+    }
+    match create_words(line) {
+        Some((file, list, size)) => match list_of(list, alloc)? {
+            Some(list) => Ok(Some(FirstLine::WithBody { file, list, size })),
+            None => Ok(None),
+        },
+        None => Ok(None),
+    }
 }
 
 /// What a line says, which is given without its LF.
-pub fn read_line(line: &[u8]) -> Option<FirstLine>
-    ensures found { IfSome result (SaysLine line.now) }
-    ensures none { IfNone result ((said : FirstLine) → SaysLine line.now said → ⊥) }
+pub fn read_line(line: &[u8], alloc: Global) -> Result<Option<FirstLine>, Memory>
+    ensures found { IfOk result (λ found. IfSome found (SaysLine line.now)) }
+    ensures none { IfOk result (λ found. IfNone found ((said : FirstLine) → SaysLine line.now said → ⊥)) }
 {
-    match enrol(line) {
-        Some(said) => Some(said),
-        None => match read(line) {
-            Some(said) => Some(said),
-            None => create(line),
-        },
+    match command(line) {
+        Some(command) => Ok(Some(FirstLine::Whole(command))),
+        None => create(line, alloc),
     }
 }

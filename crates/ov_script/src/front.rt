@@ -1,7 +1,11 @@
 //! What a line may go on with, where its LF didn't come yet.
-ghost use Rattle.std.specs.Prelude.{◌≡◌, List};
-ghost use Rattle.ov_script.specs.LineFronts.{spelling, behind, after_name, step, run, is_alive, is_digit, is_named, begin_by, word_by, is_spelled, name_by, size_step, size_read};
-ghost use Rattle.std.specs.Prelude.{◌==◌, ◌+◌, length, nat_lt, ◌&&◌};
+ghost use Rattle.std.specs.Prelude.{◌≡◌, ◌==◌, ◌+◌, List, length, nat_lt, ◌&&◌};
+ghost use Rattle.ov_base.specs.Names.{is_letter_or_digit};
+ghost use Rattle.ov_script.specs.LineFronts.{spelling, behind, after_name, after_comma, chosen, chosen_by, first_bytes, next_bytes, step, run, is_digit, is_named, word_by, is_spelled, name_by, end_by, readers_by, size_step, size_read};
+ghost use Rattle.ov_script.specs.LineEnds.{fewest_after, fewest_behind, fewest_more, may_go_on};
+
+/// No line has more bytes than this, its LF included.
+pub const LONGEST_LINE: usize = 20_000;
 
 const LONGEST_BODY: u64 = 1_048_576;
 
@@ -10,7 +14,22 @@ const LONGEST_BODY: u64 = 1_048_576;
 pub enum Word {
     Enrol,
     Create,
+    Grant,
+    Revoke,
     Read,
+    List,
+    Epoch,
+}
+
+/// What several words begin with.
+#[derive(Clone, Copy)]
+pub enum Stem {
+    /// The `e` of `enrol` and `epoch`.
+    E,
+    /// The `r` of `read` and `revoke`.
+    R,
+    /// The `re` of `read` and `revoke`.
+    Re,
 }
 
 /// What stands behind a name.
@@ -20,10 +39,10 @@ pub enum Then {
     End,
     /// A space and the last name.
     LastName,
-    /// A space, the reader's name, a space and the size.
-    Reader,
-    /// A space and the size.
-    Size,
+    /// A space, the list of readers, a space and the size.
+    Readers,
+    /// A comma and the next reader, or a space and the size.
+    NextReader,
 }
 
 /// How far the front of a line is read.
@@ -31,24 +50,36 @@ pub enum Then {
 pub enum Front {
     /// Nothing came yet.
     Start,
+    /// What several words begin with came.
+    InStem(Stem),
     /// So many bytes of the first word came.
     InWord { word: Word, count: usize },
     /// So many bytes of a name came.
     InName { next: Then, count: usize },
+    /// A list of readers stands here, of which nothing came yet.
+    AtReaders,
+    /// The `-` of a list without names came.
+    Nobody,
     /// The digits that came are this number, or none came yet.
     InSize(Option<u32>),
+    /// The whole line came.
+    Done,
     /// No line goes on so.
     Never,
 }
 
-// The word and the space behind it.
-fn spelling(word: Word) -> &'static [u8]
+/// The word, and a space where more stands behind it.
+pub fn spelling(word: Word) -> &'static [u8]
     ensures { result.now ≡ spelling word }
 {
     match word {
         Word::Enrol => b"enrol ",
         Word::Create => b"create ",
+        Word::Grant => b"grant ",
+        Word::Revoke => b"revoke ",
         Word::Read => b"read ",
+        Word::List => b"list ",
+        Word::Epoch => b"epoch",
     }
 }
 
@@ -57,42 +88,42 @@ fn behind(word: Word) -> Front
     ensures { result ≡ behind word }
 {
     let next = match word {
-        Word::Enrol => Then::End,
-        Word::Create => Then::Reader,
-        Word::Read => Then::LastName,
+        Word::Enrol | Word::List => Then::End,
+        Word::Create => Then::Readers,
+        Word::Grant | Word::Revoke | Word::Read => Then::LastName,
+        Word::Epoch => return Front::Done,
     };
     Front::InName { next, count: 0 }
 }
 
-// What is read behind a name and a space.
-fn after_name(next: Then) -> Front
-    ensures { result ≡ after_name next }
-{
-    match next {
-        Then::End => Front::Never,
-        Then::LastName => Front::InName {
-            next: Then::End,
-            count: 0,
-        },
-        Then::Reader => Front::InName {
-            next: Then::Size,
-            count: 0,
-        },
-        Then::Size => Front::InSize(None),
-    }
-}
-
 // What is read behind the first byte.
 fn begin(byte: u8) -> Front
-    ensures { result ≡ begin_by (byte == 101) (byte == 99) (byte == 114) }
+    ensures { result ≡ chosen byte first_bytes }
 {
     let word = match byte {
-        b'e' => Word::Enrol,
         b'c' => Word::Create,
-        b'r' => Word::Read,
+        b'e' => return Front::InStem(Stem::E),
+        b'g' => Word::Grant,
+        b'l' => Word::List,
+        b'r' => return Front::InStem(Stem::R),
         _ => return Front::Never,
     };
     Front::InWord { word, count: 1 }
+}
+
+// What is read behind one more byte, where several words begin as the line does.
+fn in_stem(stem: Stem, byte: u8) -> Front
+    ensures { result ≡ chosen byte (next_bytes stem) }
+{
+    let (word, count) = match (stem, byte) {
+        (Stem::E, b'n') => (Word::Enrol, 2),
+        (Stem::E, b'p') => (Word::Epoch, 2),
+        (Stem::R, b'e') => return Front::InStem(Stem::Re),
+        (Stem::Re, b'a') => (Word::Read, 3),
+        (Stem::Re, b'v') => (Word::Revoke, 3),
+        _ => return Front::Never,
+    };
+    Front::InWord { word, count }
 }
 
 // What is read behind one more byte of the first word.
@@ -112,11 +143,53 @@ fn in_word(word: Word, count: usize, byte: u8) -> Front
     }
 }
 
+// What is read behind a name and a space.
+fn after_name(next: Then) -> Front
+    ensures { result ≡ after_name next }
+{
+    match next {
+        Then::End => Front::Never,
+        Then::LastName => Front::InName {
+            next: Then::End,
+            count: 0,
+        },
+        Then::Readers => Front::AtReaders,
+        Then::NextReader => Front::InSize(None),
+    }
+}
+
+// What is read behind a name and a comma.
+fn after_comma(next: Then) -> Front
+    ensures { result ≡ after_comma next }
+{
+    match next {
+        Then::NextReader => Front::InName { next, count: 0 },
+        _ => Front::Never,
+    }
+}
+
+// What is read behind a whole name and one more byte.
+fn end_of_name(next: Then, byte: u8) -> Front
+    ensures { result ≡ end_by (byte == 32) (byte == 44) next }
+{
+    match byte {
+        b' ' => after_name(next),
+        b',' => after_comma(next),
+        _ => Front::Never,
+    }
+}
+
+fn is_letter_or_digit(byte: u8) -> bool
+    ensures { result ≡ is_letter_or_digit byte }
+{
+    byte.is_ascii_lowercase() || byte.is_ascii_digit()
+}
+
 // Whether a name of which so many bytes came goes on with this byte.
 fn is_named(count: usize, byte: u8) -> bool
     ensures { result ≡ is_named count byte }
 {
-    let begins = byte.is_ascii_lowercase() || byte.is_ascii_digit();
+    let begins = is_letter_or_digit(byte);
     if count == 0 {
         begins
     } else {
@@ -124,17 +197,33 @@ fn is_named(count: usize, byte: u8) -> bool
     }
 }
 
-// What is read behind one more byte of a name.
+// What is read behind one more byte of a name, or behind it.
 fn in_name(next: Then, count: usize, byte: u8) -> Front
-    ensures { result ≡ name_by (is_named count byte) (nat_lt 0 count && byte == 32) next count }
+    ensures { result ≡ name_by (is_named count byte) (nat_lt 0 count) next count byte }
 {
     if is_named(count, byte) {
         Front::InName {
             next,
             count: count + 1,
         }
-    } else if count > 0 && byte == b' ' {
-        after_name(next)
+    } else if count > 0 {
+        end_of_name(next, byte)
+    } else {
+        Front::Never
+    }
+}
+
+// What is read behind the first byte of a list of readers.
+fn at_readers(byte: u8) -> Front
+    ensures { result ≡ readers_by (is_letter_or_digit byte) (byte == 45) }
+{
+    if is_letter_or_digit(byte) {
+        Front::InName {
+            next: Then::NextReader,
+            count: 1,
+        }
+    } else if byte == b'-' {
+        Front::Nobody
     } else {
         Front::Never
     }
@@ -167,10 +256,13 @@ fn step(front: Front, byte: u8) -> Front
 {
     match front {
         Front::Start => begin(byte),
+        Front::InStem(stem) => in_stem(stem, byte),
         Front::InWord { word, count } => in_word(word, count, byte),
         Front::InName { next, count } => in_name(next, count, byte),
+        Front::AtReaders => at_readers(byte),
+        Front::Nobody if byte == b' ' => Front::InSize(None),
         Front::InSize(size) => in_size(size, byte),
-        Front::Never => Front::Never,
+        Front::Nobody | Front::Done | Front::Never => Front::Never,
     }
 }
 
@@ -194,12 +286,5 @@ impl Front {
             Front::InSize(size) => size,
             _ => None,
         }
-    }
-
-    /// Whether the line may go on.
-    pub fn is_alive(self) -> bool
-        ensures { result ≡ is_alive self }
-    {
-        !matches!(self, Front::Never)
     }
 }

@@ -10,7 +10,7 @@ use crate::feed::Feed;
 use crate::find::{Found, find};
 use crate::first_line::FirstLine;
 use crate::next::ScriptFault;
-use ov_base::{Name, Octets};
+use ov_base::{Name, Names, Octets};
 use ov_io::Source;
 
 /// What stands at the front of a text.
@@ -51,7 +51,7 @@ fn lf_count(bytes: &[u8]) -> usize
 fn create<S: Source + Drop>(
     feed: &mut Feed<S>,
     room: usize,
-    names: (Name, Name),
+    names: (Name, Names),
     line: usize,
     size: usize,
 ) -> Result<Item, ScriptFault>
@@ -66,11 +66,11 @@ fn create<S: Source + Drop>(
     match body_of(feed, room - line, size) {
         Ok(Body::Bytes(bytes)) => {
             let lines = lf_count(&bytes) + 2;
-            let (file, reader) = names;
+            let (file, list) = names;
             Ok(Item::Whole {
                 command: Command::Create {
                     file,
-                    reader,
+                    list,
                     bytes: Octets::from_vec(bytes),
                 },
                 size: line + size + 1,
@@ -104,14 +104,14 @@ pub fn item_of<S: Source + Drop>(feed: &mut Feed<S>, room: usize) -> Result<Item
                 }),
                 FirstLine::WithBody {
                     file,
-                    reader,
+                    list,
                     size: body,
-                } => create(feed, room, (file, reader), size, body),
+                } => create(feed, room, (file, list), size, body),
             }
         }
         Ok(Found::End) => Ok(Item::End),
         Ok(Found::Bad) => Ok(Item::Bad),
         Ok(Found::Long) => Ok(Item::Long),
-        Err(_) => Err(ScriptFault::Read),
+        Err(fault) => Err(fault),
     }
 }

@@ -5,16 +5,23 @@
 //! source. From then on it answers the same and takes nothing. Its contract says so against the
 //! grammar in `specs/`, which knows nothing of pieces or buffers:
 //!
-//! * `Items` says what an item is, and when bytes that follow could still make one;
+//! * `Items` says what an item is, and when bytes that follow could still make one, and
+//!   `WrittenLists` how a list of names is written, of which each counts once;
 //! * `Reading` says what the commands of a text are and how its reading ends; that each text has a
 //!   reading, and only one, are the laws [`every_text_has_a_reading`] and [`one_reading`];
 //! * `Saying` says what one call of `next` tells of the text, and `Finding` what it may take from
 //!   the source: bytes are taken only while it isn't settled what stands next;
 //! * `Lines` gives the reply lines, which [`line`] appends.
 //!
+//! A command that `next` gives is that of some item, also where the source tells nothing (`IsOfItem`
+//! in `Saying`); the laws in `proofs/CreateLaws` give from it that the names of a `create` are names,
+//! distinct and few, and that its bytes are no more than a file may have.
+//!
 //! Inside, a `Feed` is the source with the bytes that were taken and not yet used; `find` takes
-//! bytes until it knows what stands at the front (`Found`); `Script` uses an item up and counts
-//! lines and room (`Next`); and `Ended` keeps what is answered from then on.
+//! bytes until it knows what stands at the front (`Found`), by a `Front` that reads them one by one
+//! and by the fewest bytes that its line still needs; `read_line` says what a whole line says;
+//! `Script` uses an item up and counts lines and room (`Next`); and `Ended` keeps what is answered
+//! from then on.
 #![tactic(auto)]
 
 ghost use Rattle.std.specs.Prelude.{◌≡◌, ℕ, List};
@@ -28,11 +35,14 @@ mod find;
 mod first_line;
 mod front;
 mod item;
+mod line_end;
+mod list;
 mod next;
 mod reply;
 mod script;
 #[cfg(test)]
 mod tests;
+mod words;
 
 pub use command::Command;
 pub use next::{Next, ScriptFault};

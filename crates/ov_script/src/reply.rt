@@ -2,8 +2,9 @@
 ghost use Rattle.std.specs.Prelude.{◌≡◌, [], ◌∷◌, ◌++◌, codes, OnOk, OnErr, IfOk};
 ghost use Rattle.std.specs.Fmt.{decimal};
 ghost use Rattle.ov_script.specs.Lines.{reply_line};
+ghost use Rattle.ov_script.specs.WrittenLists.{list_text, with_commas};
 
-use ov_base::{Memory, Name, Octets, Refusal};
+use ov_base::{Memory, Name, Names, Octets, Refusal};
 use std::alloc::Global;
 
 /// What a command, or the end of a script, is answered with.
@@ -17,6 +18,13 @@ pub enum Reply {
         file: Name,
         bytes: Octets,
     },
+    /// The names in the list of a file, in order.
+    List {
+        file: Name,
+        names: Names,
+    },
+    /// The epoch.
+    Epoch(u32),
     /// The command was refused, and nothing changed.
     Refused(Refusal),
     /// The script ended, at this epoch.
@@ -48,6 +56,43 @@ fn data_line(user: &Name, file: &Name, size: usize, alloc: Global) -> Result<Vec
     Ok(head)
 }
 
+// Appends the names, each behind a comma.
+fn put_with_commas(names: &[Name], text: &mut Vec<u8>) -> Result<(), Memory>
+    ensures { OnOk result (text.new.items ≡ text.old.items ++ with_commas names.now) }
+{
+    for name in names {
+        text.push(b',')?;
+        text.extend_from_slice(name.as_bytes())?;
+    }
+    Ok(())
+}
+
+// Appends the names with commas between them, or `-` where there are none.
+fn put_names(names: &[Name], text: &mut Vec<u8>) -> Result<(), Memory>
+    ensures { OnOk result (text.new.items ≡ text.old.items ++ list_text names.now) }
+{
+    match names {
+        [] => Ok(text.push(b'-')?),
+        [first, others @ ..] => {
+            text.extend_from_slice(first.as_bytes())?;
+            put_with_commas(others, text)
+        }
+    }
+}
+
+// The line of a list.
+fn list_line(file: &Name, names: &[Name], alloc: Global) -> Result<Vec<u8>, Memory>
+    ensures { IfOk result (λ text. text.items
+        ≡ codes "list " ++ file.now ++ 32 ∷ list_text names.now ++ 10 ∷ []) }
+{
+    let mut text = b"list ".to_vec(alloc)?;
+    text.extend_from_slice(file.as_bytes())?;
+    text.push(b' ')?;
+    put_names(names, &mut text)?;
+    text.push(b'\n')?;
+    Ok(text)
+}
+
 /// Appends the line of a reply, with its LF.
 pub fn line(reply: &Reply, out: &mut Vec<u8>) -> Result<(), Memory>
     ensures ok { OnOk result (out.new.items ≡ out.old.items ++ reply_line reply.now) }
@@ -61,6 +106,11 @@ pub fn line(reply: &Reply, out: &mut Vec<u8>) -> Result<(), Memory>
             let head = data_line(user, file, bytes.len(), alloc)?;
             return append_all(out, &head, bytes);
         }
+        Reply::List { file, names } => {
+            let text = list_line(file, names.as_slice(), alloc)?;
+            return Ok(out.extend_from_slice(&text)?);
+        }
+        Reply::Epoch(epoch) => format!(in alloc; "epoch {epoch}\n")?,
         Reply::Refused(why) => {
             let number = why.number();
             let word = why.word();

@@ -3,7 +3,7 @@ ghost use Rattle.std.specs.Prelude.{◌≡◌, ◌⊎◌, ◌+◌, ◌<◌, ◌�
 ghost use Rattle.std.specs.Option.{option_map};
 ghost use Rattle.ov_base.specs.Causes.{Rose};
 ghost use Rattle.ov_script.specs.Finding.{TakesWhatItNeeds};
-ghost use Rattle.ov_script.specs.Saying.{SaysOf, IfCommand};
+ghost use Rattle.ov_script.specs.Saying.{SaysOf, IfCommand, IsOfItem};
 ghost use Rattle.ov_script.specs.Place.{Place, start, answer_of, ends_with};
 
 use crate::feed::Feed;
@@ -69,6 +69,7 @@ impl<S: Source + Drop> Script<S> {
     /// nothing.
     pub fn next(&mut self) -> Result<Next, ScriptFault>
         ensures says { self.old.ended ≡ None → IfOk result (λ next. SaysOf S.left self.old next self.new) }
+        ensures item { IfOk result IsOfItem }
         ensures needed { TakesWhatItNeeds S.left self.old.room self.old.pending self.old.source self.new.source }
         ensures ended { self.old.ended ≡ None → self.new.ended ≡ ends_with result }
         ensures again { IfSome self.old.ended (λ answer. (result ≡ answer) × (self.new ≡ self.old)) }
@@ -91,6 +92,7 @@ impl<S: Source + Drop> Script<S> {
     // The next item, where the reading has not ended.
     fn item(&mut self) -> Result<Next, ScriptFault>
         ensures says { IfOk result (λ next. SaysOf S.left self.old next self.new) }
+        ensures item { IfOk result IsOfItem }
         ensures needed { TakesWhatItNeeds S.left self.old.room self.old.pending self.old.source self.new.source }
         ensures progress { IfOk result (λ next. IfCommand next (self.new.room < self.old.room)) }
         ensures same { S.borrow self.new.source ≡ S.borrow self.old.source }

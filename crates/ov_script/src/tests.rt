@@ -2,7 +2,7 @@
 ghost use Rattle.std.specs.Prelude.{◌<◌};
 
 use crate::{Command, Next, Reply, Script, line};
-use ov_base::{Name, Octets, Refusal};
+use ov_base::{Name, Names, Octets, Refusal};
 use ov_io::MemSource;
 use std::alloc::Global;
 use std::test::Fail;
@@ -17,27 +17,51 @@ fn script_of(alloc: Global, text: &[u8], piece: usize) -> Result<Script<MemSourc
     Ok(Script::new(alloc, source)?)
 }
 
+// Appends the word and a space, where it has a byte.
+fn put_word(word: &[u8], out: &mut Vec<u8>) -> Result<(), Fail> {
+    if !word.is_empty() {
+        out.extend_from_slice(word)?;
+        out.push(b' ')?;
+    }
+    Ok(())
+}
+
+fn put_names(word: &[u8], user: &Name, file: &Name, out: &mut Vec<u8>) -> Result<(), Fail> {
+    put_word(word, out)?;
+    put_word(user.as_bytes(), out)?;
+    put_word(file.as_bytes(), out)
+}
+
+// Appends the words of a `create`, with a slash behind each name of its list.
+fn put_create(file: &Name, list: &[Name], bytes: &[u8], out: &mut Vec<u8>) -> Result<(), Fail> {
+    put_word(b"create", out)?;
+    put_word(file.as_bytes(), out)?;
+    for name in list {
+        out.extend_from_slice(name.as_bytes())?;
+        out.push(b'/')?;
+    }
+    put_word(b"+", out)?;
+    put_word(bytes, out)
+}
+
 // Appends the command's words, each with a space, and a semicolon.
 fn put_command(command: &Command, out: &mut Vec<u8>) -> Result<(), Fail> {
-    let words = match command {
-        Command::Enrol { user } => [b"enrol".as_slice(), user.as_bytes(), b"", b""],
-        Command::Create {
-            file,
-            reader,
-            bytes,
-        } => [
-            b"create".as_slice(),
-            file.as_bytes(),
-            reader.as_bytes(),
-            bytes.as_slice(),
-        ],
-        Command::Read { user, file } => [b"read".as_slice(), user.as_bytes(), file.as_bytes(), b""],
-    };
-    for word in words {
-        if !word.is_empty() {
-            out.extend_from_slice(word)?;
-            out.push(b' ')?;
+    match command {
+        Command::Enrol { user } => {
+            put_word(b"enrol", out)?;
+            put_word(user.as_bytes(), out)?;
         }
+        Command::Create { file, list, bytes } => {
+            put_create(file, list.as_slice(), bytes.as_slice(), out)?
+        }
+        Command::Grant { user, file } => put_names(b"grant", user, file, out)?,
+        Command::Revoke { user, file } => put_names(b"revoke", user, file, out)?,
+        Command::Read { user, file } => put_names(b"read", user, file, out)?,
+        Command::List { file } => {
+            put_word(b"list", out)?;
+            put_word(file.as_bytes(), out)?;
+        }
+        Command::Epoch => put_word(b"epoch", out)?,
     }
     out.push(b';')?;
     Ok(())
@@ -75,20 +99,31 @@ fn scripts_and_what_they_say(rt: HostRuntime) -> Result<(), Fail> {
         (b"enrol alice\nenrol bob\n", b"enrol alice ;enrol bob ;end"),
         (
             b"create f1 alice 5\nhello\nread alice f1\n",
-            b"create f1 alice hello ;read alice f1 ;end",
+            b"create f1 alice/+ hello ;read alice f1 ;end",
         ),
-        (b"create f a 0\n\nread a f\n", b"create f a ;read a f ;end"),
+        (
+            b"grant a f\nrevoke a f\nread a f\nlist f\nepoch\n",
+            b"grant a f ;revoke a f ;read a f ;list f ;epoch ;end",
+        ),
+        (b"create f - 0\n\nlist f\n", b"create f + ;list f ;end"),
+        (b"create f b,a,b,c,a 1\nx\n", b"create f b/a/c/+ x ;end"),
+        (b"create f a,a- 1\nx\n", b"create f a/a-/+ x ;end"),
         (
             b"create f a 3\n\n\n\n\nenrol Bob\n",
-            b"create f a \n\n\n ;bad 6",
+            b"create f a/+ \n\n\n ;bad 6",
         ),
         (b"create f a 3\nabcd\n", b"bad 1"),
         (b"enrol a\ncreate f a 3\nab", b"enrol a ;bad 2"),
         (b"create f a 3\nabc", b"bad 1"),
         (b"create f a 03\nabc\n", b"bad 1"),
         (b"create f a 1048577", b"bad 1"),
-        (b"create f a,a 1\nx\n", b"bad 1"),
-        (b"create f - 1\nx\n", b"bad 1"),
+        (b"create f a, 1\nx\n", b"bad 1"),
+        (b"create f a,,b 1\nx\n", b"bad 1"),
+        (b"create f ,a 1\nx\n", b"bad 1"),
+        (b"create f -,a 1\nx\n", b"bad 1"),
+        (b"create f a,- 1\nx\n", b"bad 1"),
+        (b"create f -- 1\nx\n", b"bad 1"),
+        (b"create f a,B 1\nx\n", b"bad 1"),
         (b"create f  a 1\nx\n", b"bad 1"),
         (b"create f a 1 \nx\n", b"bad 1"),
         (b"create f a +1\nx\n", b"bad 1"),
@@ -96,10 +131,16 @@ fn scripts_and_what_they_say(rt: HostRuntime) -> Result<(), Fail> {
         (b"read a\n", b"bad 1"),
         (b"read a f g\n", b"bad 1"),
         (b"read  a f\n", b"bad 1"),
+        (b"grant a,b f\n", b"bad 1"),
+        (b"list f g\n", b"bad 1"),
+        (b"epoch \n", b"bad 1"),
+        (b"epochs\n", b"bad 1"),
         (b"enrol a\r\n", b"bad 1"),
         (b"enrol a", b"bad 1"),
         (b"\n", b"bad 1"),
         (b"quit\n", b"bad 1"),
+        (b"reed a f\n", b"bad 1"),
+        (b"erol a\n", b"bad 1"),
     ];
     for (text, says) in rows {
         for piece in PIECES {
@@ -156,6 +197,40 @@ fn the_longest_body(rt: HostRuntime) -> Result<(), Fail> {
     Ok(())
 }
 
+// A `create` whose line has so many bytes, its LF included: the name `a` again and again, and `b`.
+fn with_line(alloc: Global, size: usize) -> Result<Vec<u8>, Fail> {
+    let mut text = b"create f ".to_vec(alloc)?;
+    for _ in 0..size.saturating_sub(13) / 2 {
+        text.extend_from_slice(b"a,")?;
+    }
+    text.extend_from_slice(if text.len() + 5 == size {
+        b"bb 0\n"
+    } else {
+        b"b 0\n"
+    })?;
+    text.push(b'\n')?;
+    Ok(text)
+}
+
+#[test]
+fn the_longest_line(rt: HostRuntime) -> Result<(), Fail> {
+    let alloc = rt.alloc();
+    let rows = [
+        (19_999, b"create f a/b/+ ;end".as_slice()),
+        (20_000, b"create f a/bb/+ ;end"),
+        (20_001, b"bad 1"),
+    ];
+    for (size, says) in rows {
+        let text = with_line(alloc, size)?;
+        assert_eq!(rt; text.len(), size + 1);
+        for piece in PIECES {
+            prove!(piece > 0);
+            assert_eq!(rt; told(alloc, &text, piece)?.as_slice(), says);
+        }
+    }
+    Ok(())
+}
+
 #[test]
 fn reply_lines(rt: HostRuntime) -> Result<(), Fail> {
     let alloc = rt.alloc();
@@ -168,9 +243,20 @@ fn reply_lines(rt: HostRuntime) -> Result<(), Fail> {
         bytes: Octets::copy(alloc, b"he\nlo")?,
     };
     line(&data, &mut out)?;
+    let lists: [&[&[u8]]; 3] = [&[], &[b"b"], &[b"b", b"a1", b"c"]];
+    for texts in lists {
+        let mut names = Names::new(alloc);
+        for text in texts {
+            names.insert(name(text).ok_or("a name")?)?;
+        }
+        let file = name(b"f1").ok_or("a name")?;
+        line(&Reply::List { file, names }, &mut out)?;
+    }
+    line(&Reply::Epoch(2), &mut out)?;
     line(&Reply::Refused(Refusal::NoPath), &mut out)?;
     line(&Reply::End(3), &mut out)?;
-    let lines = b"ok 4294967295\ndata alice f1 5\nhe\nlo\nrefused 4 NoPath\nend epoch 3\n";
+    let lines = b"ok 4294967295\ndata alice f1 5\nhe\nlo\nlist f1 -\nlist f1 b\nlist f1 b,a1,c\n\
+        epoch 2\nrefused 4 NoPath\nend epoch 3\n";
     assert_eq!(rt; out.as_slice(), lines.as_slice());
     Ok(())
 }

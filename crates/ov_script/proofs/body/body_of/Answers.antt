@@ -1,4 +1,4 @@
-use Rattle.std.proofs.Common.{◌≡◌, ◌≤◌, min, length, arith, vec_len}
+use Rattle.std.proofs.Common.{◌≡◌, ◌≤◌, length, arith, vec_len}
 use Rattle.ov_script.proofs.Bodies.{lf_past, other_behind, taken_for_lf}
 use Rattle.ov_script.proofs.Using.{uses_trans}
 use Rattle.ov_script.proofs.body.body_of.Goals as goal

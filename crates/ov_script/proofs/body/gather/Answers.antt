@@ -1,7 +1,5 @@
-use Rattle.std.proofs.Common.{◌≡◌, ◌<◌, ◌≤◌, ◌+◌, [], ◌++◌, length, vec_len, refl, sym, ap, subst, ◌∙◌, min, arith, length-append}
-use Rattle.std.proofs.lemmas.Bool.Decides.{nat_tests}
-use Rattle.std.proofs.lemmas.Grind.{common_steps}
-use Rattle.ov_script.specs.Feed.{Fed, Uses}
+use Rattle.std.proofs.Common.{◌≡◌, ◌<◌, ◌≤◌, ◌+◌, length, vec_len, sym, ap, subst, ◌∙◌, min, arith, length-append}
+use Rattle.ov_script.specs.Feed.{Uses}
 use Rattle.ov_script.proofs.Using.{uses_taken, uses_more, below_more}
 use Rattle.ov_script.proofs.body.gather.Goals as goal
 

@@ -1,13 +1,14 @@
 use Rattle.std.proofs.Common.{ap, sym, ◌∙◌}
 use Rattle.ov_script.specs.declared.front.Front.TheVariants.{Start}
-use Rattle.ov_script.specs.LineFronts.{run, is_alive}
+use Rattle.ov_script.specs.LineEnds.{may_go_on}
+use Rattle.ov_script.specs.LineFronts.{run}
 use Rattle.ov_script.proofs.Fronts.{finds_long, finds_never}
 use Rattle.ov_script.proofs.find.front_of.Goals as goal
 
-pub returns-then-is_alive : goal.returns-then-is_alive
-returns-then-is_alive c = λ left. finds_long _ _ left c.requires.past c.requires.no_lf
-    (ap (λ l. is_alive (run Start l)) (sym c.split_at.ensures.front) ∙ sym (ap is_alive c.run.ensures) ∙ sym c.is_alive.ensures ∙ c.if-is_alive.true)
+pub returns-then-may_go_on : goal.returns-then-may_go_on
+returns-then-may_go_on c = λ left. finds_long _ _ left c.requires.past c.requires.no_lf
+    (ap (λ l. may_go_on (run Start l) c.args.room) (sym c.split_at.ensures.front) ∙ sym (ap (λ f. may_go_on f c.args.room) c.run.ensures) ∙ sym c.may_go_on.ensures ∙ c.if-may_go_on.true)
 
-pub returns-else-is_alive : goal.returns-else-is_alive
-returns-else-is_alive c = λ left. finds_never _ _ left c.requires.past c.requires.no_lf
-    (ap (λ l. is_alive (run Start l)) (sym c.split_at.ensures.front) ∙ sym (ap is_alive c.run.ensures) ∙ sym c.is_alive.ensures ∙ c.if-is_alive.false)
+pub returns-else-may_go_on : goal.returns-else-may_go_on
+returns-else-may_go_on c = λ left. finds_never _ _ left c.requires.past c.requires.no_lf
+    (ap (λ l. may_go_on (run Start l) c.args.room) (sym c.split_at.ensures.front) ∙ sym (ap (λ f. may_go_on f c.args.room) c.run.ensures) ∙ sym c.may_go_on.ensures ∙ c.if-may_go_on.false)

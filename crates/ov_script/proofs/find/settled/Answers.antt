@@ -1,9 +1,6 @@
-use Rattle.std.proofs.Common.{◌≡◌, ◌≤◌, ◌∷◌, ◌++◌, take, drop, length, ap, sym, ◌∙◌, arith, take-append-drop}
+use Rattle.std.proofs.Common.{◌≤◌, ◌∷◌, length, arith}
 use Rattle.std.proofs.lemmas.Grind.{common_steps}
-use Rattle.ov_script.specs.declared.front.Front.TheVariants.{Start}
-use Rattle.ov_script.specs.LineFronts.{run}
 use Rattle.ov_script.proofs.ByteTexts.{lacks_before, Lacks-take}
-use Rattle.ov_script.proofs.Continuations.{run-append}
 use Rattle.ov_script.proofs.Fronts.{settled_front}
 use Rattle.ov_script.proofs.find.settled.Goals as goal
 

@@ -1,4 +1,4 @@
-use Rattle.std.proofs.Common.{◌≡◌, ◌≤◌, ◌+◌, drop, take, length}
+use Rattle.std.proofs.Common.{◌≡◌, ◌≤◌, ◌+◌, drop}
 use Rattle.ov_script.specs.LineFeeds.{lf_count}
 use Rattle.ov_script.proofs.item.lf_count.Given as goal
 

@@ -1,7 +1,8 @@
 use Rattle.std.proofs.Common.{List, ℕ, ◌≡◌, ◌++◌, ◌∷◌, sym, subst, false, true}
 use Rattle.ov_base.specs.Names.{IsName}
-use Rattle.ov_script.proofs.FirstLines.{if_none, lacks_not, names_once}
-use Rattle.ov_script.proofs.first_line.two_names.Goals as goal
+use Rattle.ov_script.proofs.FirstLines.{if_none, names_once}
+use Rattle.ov_script.proofs.ByteTexts.{lacks_not}
+use Rattle.ov_script.proofs.words.two_names.Goals as goal
 
 abbrev NoTwo : List ℕ → Type 0
 NoTwo text = (a b : List ℕ) → IsName a → IsName b → text ≡ a ++ 32 ∷ b → ⊥

@@ -1,5 +1,5 @@
 -- The words of a line: names and sizes have neither space nor LF, and are short.
-use Rattle.std.proofs.Common.{◌≡◌, ◌≢◌, ℕ, zero, suc, ◌+◌, ◌*◌, ◌/◌, ◌%◌, ◌-◌, ◌^◌, ◌<◌, ◌≤◌, Bool, true, false, List, [], ◌∷◌, ◌++◌, length, refl, sym, ◌∙◌, ap, subst, length-append, arith, ◌&&◌, ◌==◌}
+use Rattle.std.proofs.Common.{◌≡◌, ◌≢◌, ℕ, ◌+◌, ◌%◌, ◌^◌, ◌<◌, ◌≤◌, true, false, List, [], ◌∷◌, length, refl, subst, arith, ◌&&◌}
 use Rattle.std.specs.Prelude.{nat_lt}
 use Rattle.std.specs.List.{list_all}
 use Rattle.std.specs.Fmt.{decimal}
@@ -34,7 +34,7 @@ name_from first rest q =
 first_is_name_byte : (b : ℕ) → is_letter_or_digit b ≡ true → is_name_byte b ≡ true
 first_is_name_byte b p = rw p refl
 
-name_byte_differs : (c b : ℕ) → is_name_byte c ≡ false → is_name_byte b ≡ true → b ≢ c
+pub name_byte_differs : (c b : ℕ) → is_name_byte c ≡ false → is_name_byte b ≡ true → b ≢ c
 name_byte_differs c b none p e =
     let P : ℕ → Type 0 = λ n. is_name_byte n ≡ true in
     let at : is_name_byte c ≡ true = subst P e p in
@@ -46,7 +46,7 @@ name_bytes_lack c (b ∷ bs) none p =
     let both = and_parts (is_name_byte b) (list_all is_name_byte bs) p in
     (name_byte_differs c b none both.0, name_bytes_lack c bs none both.1)
 
-name_lacks : (c : ℕ) (bs : List ℕ) → is_name_byte c ≡ false → IsName bs → Lacks c bs
+pub name_lacks : (c : ℕ) (bs : List ℕ) → is_name_byte c ≡ false → IsName bs → Lacks c bs
 name_lacks c [] none p = tt
 name_lacks c (b ∷ rest) none p =
     let q = name_parts b rest p in
@@ -57,6 +57,9 @@ name_no_lf bs p = name_lacks 10 bs refl p
 
 pub name_no_space : (bs : List ℕ) → IsName bs → Lacks 32 bs
 name_no_space bs p = name_lacks 32 bs refl p
+
+pub name_no_comma : (bs : List ℕ) → IsName bs → Lacks 44 bs
+name_no_comma bs p = name_lacks 44 bs refl p
 
 pub name_short : (bs : List ℕ) → IsName bs → length bs ≤ 64
 name_short [] p = omega arith

@@ -1,0 +1,135 @@
+-- Laws of the lists and bodies of `create`: the names are names, none comes twice, and they are few.
+use Rattle.std.proofs.Common.{◌≡◌, ℕ, suc, ◌+◌, ◌*◌, ◌<◌, ◌≤◌, Bool, true, false, ◌||◌, List, [], ◌∷◌, ◌++◌, length, refl, sym, ap, subst, length-append, arith}
+use Rattle.std.specs.Prelude.{codes}
+use Rattle.std.specs.Fmt.{decimal}
+use Rattle.std.specs.List.{list_any, AllByRecursion}
+use Rattle.std.specs.Str.{bytes_eq}
+use Rattle.std.proofs.lemmas.Map.Keys.{IsDistinct-head, IsDistinct-tail, IsDistinct-cons}
+use Rattle.std.proofs.lemmas.Map.Made.{IsDistinct-from_AllPairs}
+use Rattle.std.proofs.lemmas.Slice.Eq.{bytes_eq-Decides}
+use Rattle.ov_base.specs.NameLists.{is_among, appended, with_name, AreDistinct}
+use Rattle.ov_base.specs.Names.{IsName}
+use Rattle.ov_script.specs.Items.{IsItem, create_line, longest_body}
+use Rattle.ov_script.specs.WrittenLists.{AreNames, with_commas, list_text, with_names, IsList}
+use Rattle.ov_script.specs.declared.command.Command.TheVariants.{Create}
+use Rattle.ov_script.proofs.ListTexts.{AreNames-append}
+
+-- ---- names
+
+appended_named : (among : Bool) (names : List (List ℕ)) (name : List ℕ) → AreNames names → IsName name → AreNames (appended among names name)
+appended_named true names name are named = are
+appended_named false names name are named = AreNames-append names (name ∷ []) are (named, tt)
+
+with_names_named : (names others : List (List ℕ)) → AreNames names → AreNames others → AreNames (with_names names others)
+with_names_named names [] are more = are
+with_names_named names (name ∷ others) are more = with_names_named (with_name names name) others (appended_named (is_among name names) names name are more.0) more.1
+
+pub list_names : (text : List ℕ) (names : List (List ℕ)) → IsList text names → AreNames names
+list_names text names (said, are, e, once) = subst AreNames (sym once) (with_names_named [] said tt are)
+
+-- ---- none comes twice
+
+both_false : (a b : Bool) → (a || b) ≡ false → (a ≡ false) × (b ≡ false)
+both_false true b e = absurd (cc)
+both_false false b e = (refl, e)
+
+flipped : (a b : List ℕ) (test : Bool) → bytes_eq b a ≡ test → bytes_eq a b ≡ false → bytes_eq b a ≡ false
+flipped a b false e p = e
+flipped a b true e p =
+    let same : b ≡ a = (bytes_eq-Decides b a).0 e in
+    let again : bytes_eq a b ≡ true = (bytes_eq-Decides a b).1 (sym same) in
+    absurd (cc)
+
+all_differ : (n name : List ℕ) (names : List (List ℕ)) → AllByRecursion (λ y. bytes_eq n y ≡ false) names → bytes_eq n name ≡ false → AllByRecursion (λ y. bytes_eq n y ≡ false) (names ++ name ∷ [])
+all_differ n name [] all differs = (differs, tt)
+all_differ n name (m ∷ names) all differs = (all.0, all_differ n name names all.1 differs)
+
+none_distinct : AreDistinct []
+none_distinct = IsDistinct-from_AllPairs bytes_eq-Decides [] (λ i j d before none. absurd (omega arith))
+
+distinct_last : (names : List (List ℕ)) (name : List ℕ) → AreDistinct names → is_among name names ≡ false → AreDistinct (names ++ name ∷ [])
+distinct_last [] name d none = IsDistinct-cons bytes_eq name [] tt none_distinct
+distinct_last (n ∷ names) name d none =
+    let both = both_false (bytes_eq name n) (list_any (bytes_eq name) names) none in
+    let differs = all_differ n name names (IsDistinct-head bytes_eq n names d) (flipped name n (bytes_eq n name) refl both.0) in
+    IsDistinct-cons bytes_eq n (names ++ name ∷ []) differs (distinct_last names name (IsDistinct-tail bytes_eq n names d) both.1)
+
+appended_distinct : (among : Bool) (names : List (List ℕ)) (name : List ℕ) → is_among name names ≡ among → AreDistinct names → AreDistinct (appended among names name)
+appended_distinct true names name e d = d
+appended_distinct false names name e d = distinct_last names name d e
+
+with_names_distinct : (names others : List (List ℕ)) → AreDistinct names → AreDistinct (with_names names others)
+with_names_distinct names [] d = d
+with_names_distinct names (name ∷ others) d = with_names_distinct (with_name names name) others (appended_distinct (is_among name names) names name refl d)
+
+pub list_distinct : (text : List ℕ) (names : List (List ℕ)) → IsList text names → AreDistinct names
+list_distinct text names (said, are, e, once) = subst AreDistinct (sym once) (with_names_distinct [] said none_distinct)
+
+-- ---- few
+
+appended_few : (among : Bool) (names : List (List ℕ)) (name : List ℕ) → length (appended among names name) ≤ length names + 1
+appended_few true names name = omega arith
+appended_few false names name = let n : length (names ++ name ∷ []) ≡ length names + 1 = length-append names (name ∷ []) in omega arith
+
+with_names_few : (names others : List (List ℕ)) → length (with_names names others) ≤ length names + length others
+with_names_few names [] = omega arith
+with_names_few names (name ∷ others) =
+    let one : length (with_name names name) ≤ length names + 1 = appended_few (is_among name names) names name in
+    let rest : length (with_names (with_name names name) others) ≤ length (with_name names name) + length others = with_names_few (with_name names name) others in
+    omega arith
+
+named_some : (name : List ℕ) → IsName name → 0 < length name
+named_some [] p = absurd (cc)
+named_some (b ∷ name) p = omega arith
+
+commas_long : (names : List (List ℕ)) → AreNames names → length names * 2 ≤ length (with_commas names)
+commas_long [] are = omega arith
+commas_long (name ∷ names) are =
+    let some : 0 < length name = named_some name are.0 in
+    let rest : length names * 2 ≤ length (with_commas names) = commas_long names are.1 in
+    let size : length (name ++ with_commas names) ≡ length name + length (with_commas names) = length-append name (with_commas names) in
+    omega arith
+
+list_long : (names : List (List ℕ)) → AreNames names → length names * 2 ≤ length (list_text names) + 1
+list_long [] are = omega arith
+list_long (name ∷ names) are =
+    let some : 0 < length name = named_some name are.0 in
+    let rest : length names * 2 ≤ length (with_commas names) = commas_long names are.1 in
+    let size : length (name ++ with_commas names) ≡ length name + length (with_commas names) = length-append name (with_commas names) in
+    omega arith
+
+list_in_line : (file list : List ℕ) (size : ℕ) → length list + 1 ≤ length (create_line file list size)
+list_in_line file list size =
+    let line : length (create_line file list size) ≡ length (codes "create " ++ (file ++ 32 ∷ (list ++ 32 ∷ decimal size))) + 1 =
+    length-append (codes "create " ++ (file ++ 32 ∷ (list ++ 32 ∷ decimal size))) (10 ∷ []) in
+    let words : length (codes "create " ++ (file ++ 32 ∷ (list ++ 32 ∷ decimal size))) ≡ 7 + length (file ++ 32 ∷ (list ++ 32 ∷ decimal size)) =
+    length-append (codes "create ") (file ++ 32 ∷ (list ++ 32 ∷ decimal size)) in
+    let first : length (file ++ 32 ∷ (list ++ 32 ∷ decimal size)) ≡ length file + suc (length (list ++ 32 ∷ decimal size)) = length-append file (32 ∷ (list ++ 32 ∷ decimal size)) in
+    let second : length (list ++ 32 ∷ decimal size) ≡ length list + suc (length (decimal size)) = length-append list (32 ∷ decimal size) in
+    omega arith
+
+few_said : (text : List ℕ) (names : List (List ℕ)) → IsList text names → length names * 2 ≤ length text + 1
+few_said text names (said, are, e, once) =
+    let few : length (with_names [] said) ≤ 0 + length said = with_names_few [] said in
+    let same : length names ≡ length (with_names [] said) = ap length once in
+    let long : length said * 2 ≤ length (list_text said) + 1 = list_long said are in
+    let size : length text ≡ length (list_text said) = ap length e in
+    omega arith
+
+-- ---- what a `create` has
+
+pub create_names : (item file body : List ℕ) (names : List (List ℕ)) → IsItem item (Create file names body) → AreNames names
+create_names item file body names (list, named, is, low, short, e) = list_names list names is
+
+pub create_distinct : (item file body : List ℕ) (names : List (List ℕ)) → IsItem item (Create file names body) → AreDistinct names
+create_distinct item file body names (list, named, is, low, short, e) = list_distinct list names is
+
+pub create_few_names : (item file body : List ℕ) (names : List (List ℕ)) → IsItem item (Create file names body) → length names ≤ 10000
+create_few_names item file body names (list, named, is, low, short, e) =
+    let few : length names * 2 ≤ length list + 1 = few_said list names is in
+    let line : length list + 1 ≤ length (create_line file list (length body)) = list_in_line file list (length body) in
+    let within : length (create_line file list (length body)) ≤ 20000 = short in
+    omega arith
+
+pub create_size : (item file body : List ℕ) (names : List (List ℕ)) → IsItem item (Create file names body) → length body ≤ longest_body
+create_size item file body names (list, named, is, low, short, e) = low
