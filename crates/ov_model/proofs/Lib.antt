@@ -1,4 +1,3 @@
-pub mod Places
-pub mod Runs
 pub mod Steps
+pub mod Runs
 mod Rows

@@ -1,7 +1,5 @@
-pub mod History
 pub mod Lines
-pub mod Lists
-pub mod Places
-pub mod Refusals
-pub mod Sealed
 pub mod Step
+pub use Rattle.ov_history.specs.History
+pub use Rattle.ov_history.specs.Lists
+pub use Rattle.ov_history.specs.Refusals

@@ -2,7 +2,7 @@
 use Rattle.std.specs.Prelude.{ℕ, List, [], ◌∷◌, ◌++◌}
 use Rattle.ov_script.specs.Lines.{reply_line}
 use Rattle.ov_script.specs.declared.command.Command.{Command}
-use Rattle.ov_model.specs.History.{History}
+use Rattle.ov_history.specs.History.{History}
 use Rattle.ov_model.specs.Step.{reply_to, after}
 
 -- the reply line of each command, at the history that the earlier ones leave

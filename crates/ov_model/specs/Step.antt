@@ -1,14 +1,13 @@
 -- One step of the access-matrix machine.
 use Rattle.std.specs.Prelude.{ℕ, ◌+◌, List, [], ◌∷◌, Option, Some, None}
-use Rattle.ov_base.specs.Sets.{single}
 use Rattle.ov_base.specs.declared.refusal.Refusal.{Refusal}
 use Rattle.ov_script.specs.declared.command.Command.{Command}
-use Rattle.ov_script.specs.declared.command.Command.TheVariants.{Enrol, Create, Read}
+use Rattle.ov_script.specs.declared.command.Command.TheVariants.{Enrol, Create, Grant, Revoke, Read, List as ListNames, Epoch as AskEpoch}
 use Rattle.ov_script.specs.declared.reply.Reply.{Reply}
-use Rattle.ov_script.specs.declared.reply.Reply.TheVariants.{Accepted, Bytes, Refused}
-use Rattle.ov_model.specs.History.{Update, Enrolled, Created, History, Matrix, matrix_of, epoch_of, with_update}
-use Rattle.ov_model.specs.Lists.{user_number, file_number, file_at}
-use Rattle.ov_model.specs.Refusals.{refusal_of, read_refusal}
+use Rattle.ov_script.specs.declared.reply.Reply.TheVariants.{Accepted, Bytes, List as Listed, Epoch as EpochIs, Refused}
+use Rattle.ov_history.specs.History.{Update, Enrolled, Created, Granted, Revoked, History, Matrix, matrix_of, epoch_of, with_update}
+use Rattle.ov_history.specs.Lists.{user_number, file_number, file_at, names_in, set_named}
+use Rattle.ov_history.specs.Refusals.{refusal_of, read_refusal, list_refusal}
 
 -- An update that is refused leaves the history; one that isn't is appended, and the reply is the
 -- new epoch.
@@ -24,15 +23,29 @@ abbrev pub reply_or : Reply → Option Refusal → Reply
 reply_or reply None = reply
 reply_or reply (Some why) = Refused why
 
+-- the bytes of the file of this number, for a user
+abbrev pub bytes_reply : Matrix → List ℕ → List ℕ → ℕ → Reply
+bytes_reply m user file number = Bytes user file (file_at m number).bytes
+
+-- the names in the list of the file of this number, in the order of the users
+abbrev pub names_reply : Matrix → List ℕ → ℕ → Reply
+names_reply m file number = Listed file (names_in (file_at m number).list m.users)
+
 -- the reply to a command at a history that makes this matrix, and the history after it
 abbrev pub step_at : Matrix → History → Command → Reply × History
 step_at m h (Enrol user) = update h (Enrolled user)
-step_at m h (Create file reader bytes) = update h (Created file (single (user_number m reader)) bytes)
+step_at m h (Create file list bytes) = update h (Created file (set_named m.users list) bytes)
+step_at m h (Grant user file) = update h (Granted (user_number m user) (file_number m file))
+step_at m h (Revoke user file) = update h (Revoked (user_number m user) (file_number m file))
 step_at m h (Read user file) = (
-  reply_or (Bytes user file (file_at m (file_number m file)).bytes)
-      (read_refusal m (user_number m user) (file_number m file)),
+  reply_or (bytes_reply m user file (file_number m file)) (read_refusal m (user_number m user) (file_number m file)),
   h,
 )
+step_at m h (ListNames file) = (
+  reply_or (names_reply m file (file_number m file)) (list_refusal m (file_number m file)),
+  h,
+)
+step_at m h AskEpoch = (EpochIs (epoch_of h), h)
 
 -- the reply to a command, and the history after it
 abbrev pub step : History → Command → Reply × History

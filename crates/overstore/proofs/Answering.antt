@@ -4,6 +4,7 @@ use Rattle.std.specs.Prelude.{IfSome}
 use Rattle.std.proofs.Math.Seq.{take-append-add}
 use Rattle.std.specs.Io.KnownBytes.{Appends}
 use Rattle.std.proofs.KnownBytes.{Appends-trans, Appends-kept, Appends-nil}
+use Rattle.ov_base.specs.declared.mode.Mode.{Mode}
 use Rattle.ov_script.specs.declared.command.Command.{Command}
 use Rattle.ov_script.specs.declared.next.Next.TheVariants.{Command as Next-Command}
 use Rattle.ov_script.specs.Items.{IsItem}
@@ -12,10 +13,12 @@ use Rattle.ov_script.specs.Lines.{reply_line}
 use Rattle.ov_script.specs.Reading.{Reads, BeginsWith, limit, Ending}
 use Rattle.ov_script.specs.Saying.{Says}
 use Rattle.ov_script.proofs.Readings.{BeginsWith-more, BeginsWith-ends}
-use Rattle.ov_model.specs.History.{History}
+use Rattle.ov_history.specs.History.{History}
 use Rattle.ov_model.specs.Lines.{lines}
 use Rattle.ov_model.specs.Step.{reply_to, after, after_all}
 use Rattle.ov_model.proofs.Runs.{after_all-more, lines-more}
+use Rattle.ov_history.specs.Sealed.{Masters}
+use Rattle.ov_history.proofs.Keeping.{nothing_is_kept}
 use Rattle.overstore.specs.Machine.{Kept, StandsFor, nothing}
 use Rattle.overstore.specs.Printing.{new_store}
 use Rattle.overstore.specs.Answering.{Answers, AnsweredAll, SoFar, Stops}
@@ -26,91 +29,92 @@ abbrev next_line : History → Command → List ℕ
 next_line h command = reply_line (reply_to h command)
 
 -- nothing is kept at the start
-pub starts : (base : List ℕ) → StandsFor (nothing base) new_store
-starts base = record { users = refl; files = tt; epoch = refl }
+pub starts : (mode : Mode) (masters : Masters) → StandsFor (nothing masters mode) (new_store mode)
+starts mode masters = nothing_is_kept masters mode 0
 
 -- nobody is enrolled, and nothing was read
-nothing_yet : (base : List ℕ) (input out : Option (List ℕ)) → IfSome input (λ text. SoFar text input 1 limit out out (nothing base))
-nothing_yet base None out = tt
-nothing_yet base (Some text) out = ([], (refl, refl, refl), Appends-nil out, starts base)
+nothing_yet : (mode : Mode) (masters : Masters) (input out : Option (List ℕ)) → IfSome input (λ text. SoFar mode text input 1 limit out out (nothing masters mode))
+nothing_yet mode masters None out = tt
+nothing_yet mode masters (Some text) out = ([], (refl, refl, refl), Appends-nil out, starts mode masters)
 
-pub begins_so : (kept : Kept) (line room : ℕ) (input out : Option (List ℕ)) → line ≡ 1 → room ≡ limit → kept ≡ nothing kept.base
-    → IfSome input (λ text. SoFar text input line room out out kept)
+pub begins_so : (kept : Kept) (line room : ℕ) (input out : Option (List ℕ)) → line ≡ 1 → room ≡ limit → kept ≡ nothing kept.masters kept.shown.mode
+    → IfSome input (λ text. SoFar kept.shown.mode text input line room out out kept)
 begins_so kept line room input out l r n =
-    subst (λ k. IfSome input (λ text. SoFar text input line room out out k)) (sym n)
-    (subst (λ m. IfSome input (λ text. SoFar text input m room out out (nothing kept.base))) (sym l)
-    (subst (λ m. IfSome input (λ text. SoFar text input 1 m out out (nothing kept.base))) (sym r) (nothing_yet kept.base input out)))
+    let mode = kept.shown.mode in
+    subst (λ (k : Kept). IfSome input (λ text. SoFar mode text input line room out out k)) (sym n)
+    (subst (λ m. IfSome input (λ text. SoFar mode text input m room out out (nothing kept.masters mode))) (sym l)
+    (subst (λ m. IfSome input (λ text. SoFar mode text input 1 m out out (nothing kept.masters mode))) (sym r) (nothing_yet mode kept.masters input out)))
 
-pub stands_so : (kept : Kept) → kept ≡ nothing kept.base → (h : History) × StandsFor kept h
-stands_so kept n = (new_store, subst (λ k. StandsFor k new_store) (sym n) (starts kept.base))
+pub stands_so : (kept : Kept) → kept ≡ nothing kept.masters kept.shown.mode → (h : History) × StandsFor kept h
+stands_so kept n = (new_store kept.shown.mode, subst (λ (k : Kept). StandsFor k (new_store kept.shown.mode)) (sym n) (starts kept.shown.mode kept.masters))
 
 -- the reading ends
-pub answered : (input rest : Option (List ℕ)) (line room : ℕ) (old now : Option (List ℕ)) (kept : Kept) (ending : Ending)
-    → IfSome input (λ text. SoFar text rest line room old now kept) → IfSome rest (λ t. Reads line room t [] ending)
-    → IfSome input (λ text. AnsweredAll text ending old now kept)
-answered None rest line room old now kept ending s says = tt
-answered (Some text) None line room old now kept ending s says = absurd s
-answered (Some text) (Some t) line room old now kept ending s says =
+pub answered : (mode : Mode) → (input rest : Option (List ℕ)) (line room : ℕ) (old now : Option (List ℕ)) (kept : Kept) (ending : Ending)
+    → IfSome input (λ text. SoFar mode text rest line room old now kept) → IfSome rest (λ t. Reads line room t [] ending)
+    → IfSome input (λ text. AnsweredAll mode text ending old now kept)
+answered mode None rest line room old now kept ending s says = tt
+answered mode (Some text) None line room old now kept ending s says = absurd s
+answered mode (Some text) (Some t) line room old now kept ending s says =
     (s.0, BeginsWith-ends 1 limit text s.0 line room t ending s.1 says, s.2, s.3)
 
 -- one more command is answered
-pub answered_more : (input rest rest' : Option (List ℕ)) (line room line' room' : ℕ) (old now now' : Option (List ℕ)) (kept kept' : Kept) (command : Command)
-    → IfSome input (λ text. SoFar text rest line room old now kept)
+pub answered_more : (mode : Mode) → (input rest rest' : Option (List ℕ)) (line room line' room' : ℕ) (old now now' : Option (List ℕ)) (kept kept' : Kept) (command : Command)
+    → IfSome input (λ text. SoFar mode text rest line room old now kept)
     → IfSome rest (λ t. Says line room t (Next-Command command) line' room' rest')
     → ((h : History) → StandsFor kept h → Answers h command None now now' kept')
-    → IfSome input (λ text. SoFar text rest' line' room' old now' kept')
-answered_more None rest rest' line room line' room' old now now' kept kept' command s says answers = tt
-answered_more (Some text) None rest' line room line' room' old now now' kept kept' command s says answers = absurd s
-answered_more (Some text) (Some t) None line room line' room' old now now' kept kept' command s says answers = absurd says.2
-answered_more (Some text) (Some t) (Some more) line room line' room' old now now' kept kept' command s says answers =
-    let a = answers (after_all new_store s.0) s.3 in
+    → IfSome input (λ text. SoFar mode text rest' line' room' old now' kept')
+answered_more mode None rest rest' line room line' room' old now now' kept kept' command s says answers = tt
+answered_more mode (Some text) None rest' line room line' room' old now now' kept kept' command s says answers = absurd s
+answered_more mode (Some text) (Some t) None line room line' room' old now now' kept kept' command s says answers = absurd says.2
+answered_more mode (Some text) (Some t) (Some more) line room line' room' old now now' kept kept' command s says answers =
+    let a = answers (after_all (new_store mode) s.0) s.3 in
     let begins = BeginsWith-more 1 limit text s.0 line room t says.0 more command s.1 says.2 says.3 says.1 in
     let P : ℕ → ℕ → Type 0 = λ l r. BeginsWith 1 limit text (s.0 ++ command ∷ []) l r more in (
       s.0 ++ command ∷ [],
       subst (λ l. P l room') (sym says.4) (subst (P (line + lf_count says.0)) (sym says.5) begins),
-      subst (Appends old now') (sym (lines-more new_store s.0 command)) (Appends-trans old now now' (lines new_store s.0) (next_line (after_all new_store s.0) command) s.2 a.0),
-      subst (StandsFor kept') (sym (after_all-more new_store s.0 command)) a.1,
+      subst (Appends old now') (sym (lines-more (new_store mode) s.0 command)) (Appends-trans old now now' (lines (new_store mode) s.0) (next_line (after_all (new_store mode) s.0) command) s.2 a.0),
+      subst (StandsFor kept') (sym (after_all-more (new_store mode) s.0 command)) a.1,
     )
 
-stopped : (text t more item : List ℕ) (line_no room : ℕ) (old now now' : Option (List ℕ)) (kept' : Kept) (c : Command) (stop : Stop)
-    (cs : List Command) → BeginsWith 1 limit text cs line_no room t → Appends old now (lines new_store cs) → t ≡ item ++ more → length item ≤ room → IsItem item c
-    → Answers (after_all new_store cs) c (Some stop) now now' kept' → Stops text stop old now' kept'
-stopped text t more item line_no room old now now' kept' c End cs f p e fits is a = absurd a
-stopped text t more item line_no room old now now' kept' c (BadLine n) cs f p e fits is a = absurd a
-stopped text t more item line_no room old now now' kept' c Long cs f p e fits is a = absurd a
-stopped text t more item line_no room old now now' kept' c Read cs f p e fits is a = absurd a
-stopped text t more item line_no room old now now' kept' c Memory cs f p e fits is a =
-    (cs, (line_no, room, t, f), Appends-kept old now now' (lines new_store cs) p a)
-stopped text t more item line_no room old now now' kept' c Write cs f p e fits is a = (
+stopped : (mode : Mode) → (text t more item : List ℕ) (line_no room : ℕ) (old now now' : Option (List ℕ)) (kept' : Kept) (c : Command) (stop : Stop)
+    (cs : List Command) → BeginsWith 1 limit text cs line_no room t → Appends old now (lines (new_store mode) cs) → t ≡ item ++ more → length item ≤ room → IsItem item c
+    → Answers (after_all (new_store mode) cs) c (Some stop) now now' kept' → Stops mode text stop old now' kept'
+stopped mode text t more item line_no room old now now' kept' c End cs f p e fits is a = absurd a
+stopped mode text t more item line_no room old now now' kept' c (BadLine n) cs f p e fits is a = absurd a
+stopped mode text t more item line_no room old now now' kept' c Long cs f p e fits is a = absurd a
+stopped mode text t more item line_no room old now now' kept' c Read cs f p e fits is a = absurd a
+stopped mode text t more item line_no room old now now' kept' c Memory cs f p e fits is a =
+    (cs, (line_no, room, t, f), Appends-kept old now now' (lines (new_store mode) cs) p a)
+stopped mode text t more item line_no room old now now' kept' c Write cs f p e fits is a = (
   cs ++ c ∷ [],
   (line_no + lf_count item, room - length item, more, BeginsWith-more 1 limit text cs line_no room t item more c f e fits is),
   (
-    length (lines new_store cs) + a.0,
-    subst (Appends old now') (sym (ap (take (length (lines new_store cs) + a.0)) (lines-more new_store cs c) ∙ take-append-add (lines new_store cs) (next_line (after_all new_store cs) c) a.0))
-        (Appends-trans old now now' (lines new_store cs) (take a.0 (next_line (after_all new_store cs) c)) p a.1),
+    length (lines (new_store mode) cs) + a.0,
+    subst (Appends old now') (sym (ap (take (length (lines (new_store mode) cs) + a.0)) (lines-more (new_store mode) cs c) ∙ take-append-add (lines (new_store mode) cs) (next_line (after_all (new_store mode) cs) c) a.0))
+        (Appends-trans old now now' (lines (new_store mode) cs) (take a.0 (next_line (after_all (new_store mode) cs) c)) p a.1),
   ),
 )
 
 -- an answer that stops
-pub answer_stops : (input rest rest' : Option (List ℕ)) (line room line' room' : ℕ) (old now now' : Option (List ℕ)) (kept kept' : Kept) (command : Command) (stop : Stop)
-    → IfSome input (λ text. SoFar text rest line room old now kept)
+pub answer_stops : (mode : Mode) → (input rest rest' : Option (List ℕ)) (line room line' room' : ℕ) (old now now' : Option (List ℕ)) (kept kept' : Kept) (command : Command) (stop : Stop)
+    → IfSome input (λ text. SoFar mode text rest line room old now kept)
     → IfSome rest (λ t. Says line room t (Next-Command command) line' room' rest')
     → ((h : History) → StandsFor kept h → Answers h command (Some stop) now now' kept')
-    → IfSome input (λ text. Stops text stop old now' kept')
-answer_stops None rest rest' line room line' room' old now now' kept kept' command stop s says answers = tt
-answer_stops (Some text) None rest' line room line' room' old now now' kept kept' command stop s says answers = absurd s
-answer_stops (Some text) (Some t) None line room line' room' old now now' kept kept' command stop s says answers = absurd says.2
-answer_stops (Some text) (Some t) (Some more) line room line' room' old now now' kept kept' command stop s says answers =
-    stopped text t more says.0 line room old now now' kept' command stop s.0 s.1 s.2 says.2 says.3 says.1 (answers (after_all new_store s.0) s.3)
+    → IfSome input (λ text. Stops mode text stop old now' kept')
+answer_stops mode None rest rest' line room line' room' old now now' kept kept' command stop s says answers = tt
+answer_stops mode (Some text) None rest' line room line' room' old now now' kept kept' command stop s says answers = absurd s
+answer_stops mode (Some text) (Some t) None line room line' room' old now now' kept kept' command stop s says answers = absurd says.2
+answer_stops mode (Some text) (Some t) (Some more) line room line' room' old now now' kept kept' command stop s says answers =
+    stopped mode text t more says.0 line room old now now' kept' command stop s.0 s.1 s.2 says.2 says.3 says.1 (answers (after_all (new_store mode) s.0) s.3)
 
 -- a read or memory ends it
-pub answered_first : (input rest : Option (List ℕ)) (line room : ℕ) (old now : Option (List ℕ)) (kept : Kept) (stop : Stop)
-    → IfSome input (λ text. SoFar text rest line room old now kept)
-    → ((text : List ℕ) (t : List ℕ) → SoFar text (Some t) line room old now kept → Stops text stop old now kept)
-    → IfSome input (λ text. Stops text stop old now kept)
-answered_first None rest line room old now kept stop s stops = tt
-answered_first (Some text) None line room old now kept stop s stops = absurd s
-answered_first (Some text) (Some t) line room old now kept stop s stops = stops text t s
+pub answered_first : (mode : Mode) → (input rest : Option (List ℕ)) (line room : ℕ) (old now : Option (List ℕ)) (kept : Kept) (stop : Stop)
+    → IfSome input (λ text. SoFar mode text rest line room old now kept)
+    → ((text : List ℕ) (t : List ℕ) → SoFar mode text (Some t) line room old now kept → Stops mode text stop old now kept)
+    → IfSome input (λ text. Stops mode text stop old now kept)
+answered_first mode None rest line room old now kept stop s stops = tt
+answered_first mode (Some text) None line room old now kept stop s stops = absurd s
+answered_first mode (Some text) (Some t) line room old now kept stop s stops = stops text t s
 
 -- what is kept stands for some history still
 pub stands_after : (kept kept' : Kept) (command : Command) (now now' : Option (List ℕ)) → (h : History) × StandsFor kept h

@@ -1,129 +1,158 @@
--- A file more.
-use Rattle.std.proofs.Common.{◌≡◌, ℕ, ◌+◌, ◌<◌, ◌≤◌, Bool, true, false, List, [], ◌∷◌, ◌++◌, length, refl, sym, ◌∙◌, ap, subst, length-append, arith, Option, Some, None}
-use Rattle.std.proofs.lemmas.List.{length-map}
-use Rattle.std.specs.Prelude.{is_some, Ok}
-use Rattle.std.specs.List.{list_any}
-use Rattle.std.specs.Str.{bytes_eq}
-use Rattle.std.specs.Map.{lookup, keys_of}
-use Rattle.std.proofs.lemmas.Map.Made.{is_some-lookup}
-use Rattle.ov_base.specs.Sets.{single}
-use Rattle.ov_base.specs.declared.refusal.Refusal.{Refusal}
-use Rattle.ov_ctr.proofs.Pad.{length-xor_pad}
+-- Creations of files.
+use Rattle.std.proofs.Common.{◌≡◌, inl, inr, ℕ, ◌+◌, ◌<◌, ◌≤◌, true≢false, Bool, true, false, not, ◌||◌, List, [], ◌∷◌, length, refl, sym, ◌∙◌, ap, subst, arith}
+use Rattle.std.specs.Prelude.{Option, Some, None, is_some, nat_lt, nat_le}
+use Rattle.std.proofs.lemmas.Bool.Decides.{nat_tests}
+use Rattle.ov_base.specs.Sets.{within}
+use Rattle.ov_base.specs.declared.refusal.Refusal.TheVariants.{Taken, NoUser, FilesFull, BytesFull, NodesFull, Spent}
+use Rattle.ov_record.specs.Updates.{SealedUpdate}
+use Rattle.ov_script.specs.declared.reply.Reply.{Reply}
+use Rattle.ov_script.specs.declared.reply.Reply.TheVariants.{Refused}
 use Rattle.ov_script.specs.declared.command.Command.TheVariants.{Create}
-use Rattle.ov_script.specs.declared.reply.Reply.TheVariants.{Accepted, Refused}
-use Rattle.ov_model.specs.History.{History, Update, Created, File, Matrix, matrix_of, epoch_of, with_update}
-use Rattle.ov_model.specs.Lists.{user_number}
-use Rattle.ov_model.specs.Places.{place_of, IsNumber}
-use Rattle.ov_model.specs.Refusals.{refusal_of}
-use Rattle.ov_model.specs.Sealed.{access_key}
-use Rattle.ov_model.specs.Step.{update_step, reply_to, after}
-use Rattle.ov_model.proofs.Places.{not_among}
-use Rattle.ov_model.proofs.Steps.{matrix_of-more, epoch-more}
-use Rattle.overstore.specs.Files.{IsSealedAs}
-use Rattle.overstore.specs.Machine.{Kept, StandsFor, HaveReaders, IsSound, AreKept, file_names, text_sum, why_not_made, Admits}
-use Rattle.overstore.specs.declared.filed.Filed.{Filed}
-use Rattle.overstore.proofs.Keeping.{kept_more, text_sum-more}
-use Rattle.overstore.proofs.Refusing.{create_refusal, user_is}
+use Rattle.ov_history.specs.History.{Update, Created, History, Matrix, matrix_of}
+use Rattle.ov_ctr.proofs.Pad.{length-xor_pad}
+use Rattle.ov_surface.specs.Coats.{base_text}
+use Rattle.ov_state.specs.Plans.{IsFitting}
+use Rattle.ov_history.specs.Layers.{Layers, layers_after, node_for}
+use Rattle.ov_history.specs.Lists.{file_names, file_number, is_file, everyone, set_named, byte_sum}
+use Rattle.ov_history.specs.Places.{place_of, IsNumber}
+use Rattle.ov_history.specs.Refusals.{Test, first_of_tests, tests_of, refusal_of, is_past_nodes, is_last}
+use Rattle.ov_history.specs.Sealed.{access_key, HasParts, refusal_shown, sealed_update}
+use Rattle.ov_history.specs.Shown.{Shown, matrix_shown, outline}
+use Rattle.ov_history.proofs.Keeping.{kept_is_shown, seen-kept}
+use Rattle.ov_history.proofs.Seen.{tests-seen}
+use Rattle.ov_history.proofs.Sealing.{parts-sealed}
+use Rattle.ov_model.specs.Step.{reply_to, after}
+use Rattle.overstore.specs.Machine.{Kept, StandsFor, Steps, Applies}
+use Rattle.overstore.specs.Owner.{HasNoRoom, IsCreation}
+use Rattle.overstore.proofs.Finding.{length-names}
+use Rattle.overstore.proofs.Stepping.{refused_step, applied_step, sealed_step}
 
--- ---- what is kept
+first_taken : (b : Bool) (tests : List Test) → b ≡ true → first_of_tests ((Taken, b) ∷ tests) ≡ Some Taken
+first_taken b tests is = ap (λ t. first_of_tests ((Taken, t) ∷ tests)) is
 
--- a name that isn't there has no entry
-pub no_entry : (files : List (List ℕ × Filed)) (file : List ℕ) → place_of file (file_names files) ≡ length (file_names files) → lookup (bytes_eq file) files ≡ None
-no_entry files file absent = nothing (lookup (bytes_eq file) files) (is_some-lookup (bytes_eq file) files ∙ not_among file (file_names files) absent) where
-  nothing : (r : Option Filed) → is_some r ≡ false → r ≡ None
-  nothing None e = refl
-  nothing (Some filed) e = cc
+second_user : (a b : Bool) (tests : List Test) → a ≡ false → b ≡ true → first_of_tests ((Taken, a) ∷ (NoUser, b) ∷ tests) ≡ Some NoUser
+second_user a b tests free is =
+    ap (λ t. first_of_tests ((Taken, t) ∷ (NoUser, b) ∷ tests)) free ∙ ap (λ t. first_of_tests ((NoUser, t) ∷ tests)) is
 
--- a sealed text is as long as the bytes
-pub sealed_long : (base : List ℕ) (number : ℕ) (bytes : List ℕ) (filed : Filed) → IsSealedAs base number bytes filed → length filed.text ≡ length bytes
-sealed_long base number bytes filed is = ap length is.text ∙ length-xor_pad (access_key base filed.reader) 0x42 number 0 bytes
+low_is : (a b : ℕ) → a < b → nat_lt a b ≡ true
+low_is a b low = grind (arith, nat_tests)
 
-readers_more : (users : ℕ) (files : List (List ℕ × Filed)) (k : List ℕ × Filed) → HaveReaders users files → k.1.reader < users → HaveReaders users (files ++ k ∷ [])
-readers_more users [] k h low = (low, tt)
-readers_more users (l ∷ files) k h low = (h.0, readers_more users files k h.1 low)
+past_is : (a b : ℕ) → a ≡ b → nat_lt a b ≡ false
+past_is a b same = grind (arith, nat_tests)
 
-pub sound_file : (users : List (List ℕ)) (files new : List (List ℕ × Filed)) (held size n number : ℕ) (base file bytes : List ℕ) (filed : Filed) → new ≡ files ++ (file, filed) ∷ []
-    → length files < 16384 → text_sum files + size ≤ 67108864 → n < length users → filed.reader ≡ n → size ≡ length bytes → IsSealedAs base number bytes filed
-    → IsSound users files held → IsSound users new (held + size)
-sound_file users files new held size n number base file bytes filed e few little user mine same sealed s =
-    let count : length new ≡ length files + 1 = ap length e ∙ length-append files ((file, filed) ∷ []) in
-    let sum : text_sum new ≡ text_sum files + length filed.text = ap text_sum e ∙ text_sum-more files (file, filed) in
-    let before : held ≡ text_sum files = s.sum in
-    let long : length filed.text ≡ length bytes = sealed_long base number bytes filed sealed in
-    let low : filed.reader < length users = omega arith in
-    record {
-      few_users = s.few_users;
-      few_files = omega arith;
-      few_bytes = omega arith;
-      sum = omega arith;
-      readers = subst (HaveReaders (length users)) (sym e) (readers_more (length users) files (file, filed) s.readers low);
-    }
+-- the file is there
+pub taken : (old : Kept) (file : List ℕ) (list : List (List ℕ)) (bytes : List ℕ) (n : ℕ)
+    → IsNumber (file_names (matrix_shown old.shown).files) file (Some n) → Steps old (Create file list bytes) (Refused Taken) old
+taken old file list bytes n (is, low) h stands =
+    let names = (kept_is_shown old.masters h old.shown stands).names in
+    let there : place_of file (file_names (matrix_of h).files) < length (file_names (matrix_of h).files) =
+    subst (λ l. place_of file l < length l) names (subst (λ m. m < length (file_names (matrix_shown old.shown).files)) is low) in
+    refused_step old old (Created file (set_named (matrix_of h).users list) bytes) Taken h stands (first_taken _ _ (low_is _ _ (subst (λ m. place_of file (file_names (matrix_of h).files) < m) (length-names (matrix_of h).files) there))) refl
 
--- what was admitted, by the parts of the machine
-pub record IsAdmitted (parts : Kept) (file reader : List ℕ) (size n : ℕ) : Type 0 where
-  pub allowed : why_not_made parts file reader size ≡ None
-  pub number : n ≡ place_of reader parts.users
-  pub user : n < length parts.users
-  pub absent : place_of file (file_names parts.files) ≡ length (file_names parts.files)
-  pub few : length parts.files < 16384
-  pub little : text_sum parts.files + size ≤ 67108864
+-- some name isn't a user's
+pub no_such_user : (old : Kept) (file : List ℕ) (list : List (List ℕ)) (bytes : List ℕ)
+    → IsNumber (file_names (matrix_shown old.shown).files) file None
+    → within (set_named old.shown.users list) (everyone (length old.shown.users)) ≡ false → Steps old (Create file list bytes) (Refused NoUser) old
+no_such_user old file list bytes free out h stands =
+    let shows = kept_is_shown old.masters h old.shown stands in
+    let past : place_of file (file_names (matrix_of h).files) ≡ length (matrix_of h).files =
+    subst (λ l. place_of file l ≡ length l) shows.names free ∙ length-names (matrix_of h).files in
+    let outside : within (set_named (matrix_of h).users list) (everyone (length (matrix_of h).users)) ≡ false =
+    subst (λ users. within (set_named users list) (everyone (length users)) ≡ false) shows.users out in
+    refused_step old old (Created file (set_named (matrix_of h).users list) bytes) NoUser h stands (second_user _ _ _ (past_is _ _ past) (ap not outside)) refl
 
-pub admitted : (parts old : Kept) (file reader : List ℕ) (size n : ℕ) → parts ≡ old → Admits old file reader size (Ok n) → IsAdmitted parts file reader size n
-admitted parts old file reader size n view h =
-    let a = subst (λ k. Admits k file reader size (Ok n)) (sym view) h in record {
-      allowed = a.0;
-      number = a.1.0;
-      user = a.1.1;
-      absent = a.2 ∙ sym (length-map parts.files (λ (k : List ℕ × Filed). k.0));
-      few = a.3;
-      little = a.4;
-    }
+-- ---- a creation that is sent
 
--- ---- the step
+-- the refusals of a creation, by the number of its bytes
+abbrev tests_by : Matrix → Layers → ℕ → List ℕ → ℕ → ℕ → List Test
+tests_by m y epoch file list size =
+    (Taken, is_file m (file_number m file)) ∷ (NoUser, not (within list (everyone (length m.users))))
+    ∷ (FilesFull, nat_le 16384 (length m.files)) ∷ (BytesFull, nat_lt 67108864 (byte_sum m.files + size))
+    ∷ (NodesFull, is_past_nodes (layers_after y (Created file list []))) ∷ (Spent, is_last epoch) ∷ []
 
-module _ (h : History) (file reader bytes : List ℕ) where
-  abbrev creation : Update
-  creation = Created file (single (user_number (matrix_of h) reader)) bytes
+-- they don't depend on the bytes otherwise
+same_size : (s : Shown) (file : List ℕ) (list : ℕ) (one other : List ℕ) → length one ≡ length other
+    → first_of_tests (tests_of (matrix_shown s) (outline s) s.epoch (Created file list one))
+    ≡ first_of_tests (tests_of (matrix_shown s) (outline s) s.epoch (Created file list other))
+same_size s file list one other same = ap (λ size. first_of_tests (tests_by (matrix_shown s) (outline s) s.epoch file list size)) same
 
-  pub not_made : (old : Kept) (why : Refusal) (size : ℕ) → size ≡ length bytes → why_not_made old file reader size ≡ Some why → StandsFor old h
-      → (Refused why ≡ reply_to h (Create file reader bytes)) × StandsFor old (after h (Create file reader bytes))
-  not_made old why size same is s =
-      let found : refusal_of h creation ≡ Some why = create_refusal old h s file reader bytes ∙ ap (why_not_made old file reader) (sym same) ∙ is in (
-        sym (ap (λ r. (update_step h creation r).0) found),
-        subst (λ r. StandsFor old (update_step h creation r).1) (sym found) s,
-      )
+-- what is kept refuses a plain update as the history does
+plain_refusal : (old : Kept) (h : History) → StandsFor old h → (file : List ℕ) (list : ℕ) (bytes : List ℕ)
+    → first_of_tests (tests_of (matrix_shown old.shown) (outline old.shown) old.shown.epoch (Created file list bytes)) ≡ refusal_of h (Created file list bytes)
+plain_refusal old h stands file list bytes =
+    let shows = kept_is_shown old.masters h old.shown stands in
+    ap first_of_tests
+    (tests-seen (matrix_shown old.shown) (matrix_of h) (outline old.shown) old.shown.epoch (Created file list bytes) (seen-kept old.masters h old.shown stands)
+    ∙ (λ i. tests_of (matrix_of h) (shows.layers i) (shows.epoch i) (Created file list bytes)))
 
-  made_at : (old new : Kept) (filed : Filed) (n epoch : ℕ) → why_not_made old file reader (length bytes) ≡ None → n ≡ place_of reader old.users
-      → filed.reader ≡ n → IsSealedAs old.base (length old.files) bytes filed → new.base ≡ old.base → new.users ≡ old.users
-      → new.files ≡ old.files ++ (file, filed) ∷ [] → epoch ≡ length new.users + length new.files → StandsFor old h
-      → (Accepted epoch ≡ reply_to h (Create file reader bytes)) × StandsFor new (after h (Create file reader bytes))
-  made_at old new filed n epoch allowed user mine sealed base users files count s =
-      let why : refusal_of h creation ≡ None = create_refusal old h s file reader bytes ∙ allowed in
-      let matrix = matrix_of-more h creation in
-      let same : length new.users ≡ length old.users = ap length users in
-      let longer : length new.files ≡ length old.files + 1 = ap length files ∙ length-append old.files ((file, filed) ∷ []) in
-      let before : epoch_of h ≡ length old.users + length old.files = s.epoch in
-      let after_it : epoch_of (with_update h creation) ≡ epoch_of h + 1 = epoch-more h creation in
-      let number : epoch ≡ epoch_of h + 1 = omega arith in
-      let list : single (user_number (matrix_of h) reader) ≡ single filed.reader = ap single (user_is old h s reader ∙ sym user ∙ sym mine) in
-      let f : File = record { name = file; bytes = bytes; list = single (user_number (matrix_of h) reader) } in
-      let more : AreKept old.base 0 ((matrix_of h).files ++ f ∷ []) (old.files ++ (file, filed) ∷ []) =
-      kept_more old.base 0 (matrix_of h).files old.files f (file, filed) s.files
-      (record { name = refl; list = list; sealed = subst (λ m. IsSealedAs old.base m bytes filed) (omega arith) sealed }) in (
-        ap Accepted number ∙ sym (ap (λ r. (update_step h creation r).0) why),
-        subst (λ r. StandsFor new (update_step h creation r).1) (sym why) (record {
-          users = ap (λ (m : Matrix). m.users) matrix ∙ s.users ∙ sym users;
-          files = subst (λ (m : Matrix). AreKept new.base 0 m.files new.files) (sym matrix)
-              (subst (λ b. AreKept b 0 ((matrix_of h).files ++ f ∷ []) new.files) (sym base)
-              (subst (AreKept old.base 0 ((matrix_of h).files ++ f ∷ [])) (sym files) more));
-          epoch = omega arith;
-        }),
-      )
+-- where there is no room some refusal applies
+some_applies : (a b c d e : Bool) (tests : List Test) → e ≡ true
+    → first_of_tests ((Taken, a) ∷ (NoUser, b) ∷ (FilesFull, c) ∷ (BytesFull, d) ∷ (NodesFull, e) ∷ tests) ≡ None → ⊥
+some_applies true b c d e tests is none = cc
+some_applies false true c d e tests is none = cc
+some_applies false false true d e tests is none = cc
+some_applies false false false true e tests is none = cc
+some_applies false false false false true tests is none = cc
+some_applies false false false false false tests is none = cc
 
--- `old` is what is seen of a machine with these parts
-pub made : (parts old new : Kept) (file reader bytes : List ℕ) (filed : Filed) (size n epoch : ℕ) → parts ≡ old → IsAdmitted parts file reader size n → size ≡ length bytes
-    → filed.reader ≡ n → IsSealedAs parts.base (length parts.files) bytes filed → new.base ≡ parts.base → new.users ≡ parts.users
-    → new.files ≡ parts.files ++ (file, filed) ∷ [] → epoch ≡ length new.users + length new.files
-    → (h : History) → StandsFor old h → (Accepted epoch ≡ reply_to h (Create file reader bytes)) × StandsFor new (after h (Create file reader bytes))
-made parts old new file reader bytes filed size n epoch view a same mine sealed base users files count h s =
-    made_at h file reader bytes parts new filed n epoch (ap (why_not_made parts file reader) (sym same) ∙ a.allowed) a.number mine sealed base users files count (subst (λ k. StandsFor k h) (sym view) s)
+no_room : (s : Shown) (file : List ℕ) (list : ℕ) (text : List ℕ) → HasNoRoom s list
+    → first_of_tests (tests_of (matrix_shown s) (outline s) s.epoch (Created file list text)) ≡ None → ⊥
+no_room s file list text full none =
+    some_applies (is_file (matrix_shown s) (file_number (matrix_shown s) file)) (not (within list (everyone (length s.users))))
+    (nat_le 16384 (length (matrix_shown s).files)) (nat_lt 67108864 (byte_sum (matrix_shown s).files + length text))
+    (is_past_nodes (layers_after (outline s) (Created file list text))) ((Spent, is_last s.epoch) ∷ [])
+    (ap (λ b. b || nat_lt 4096 (length (layers_after (outline s) (Created file list text)).surface)) full) none
+
+-- it has its parts, unless it is refused
+pub creation_parts : (old : Kept) (file : List ℕ) (list : ℕ) (bytes : List ℕ) (u : SealedUpdate) → IsCreation old file list bytes u
+    → refusal_shown old.shown u ≡ None → HasParts (outline old.shown) u
+creation_parts old file list bytes u (inl is) none = subst (HasParts (outline old.shown)) (sym is) (parts-sealed old.masters (outline old.shown) (Created file list bytes))
+creation_parts old file list bytes u (inr (full, (tokens, tag, text, is, size))) none =
+    absurd (no_room old.shown file list text full (ap (λ (x : SealedUpdate). refusal_shown old.shown x) (sym is) ∙ none))
+
+pub creation_step : (old new : Kept) (file : List ℕ) (names : List (List ℕ)) (list : ℕ) (bytes : List ℕ) (u : SealedUpdate) (reply : Reply)
+    → list ≡ set_named old.shown.users names → IsCreation old file list bytes u → Applies old u reply new → Steps old (Create file names bytes) reply new
+creation_step old new file names list bytes u reply set is applies h stands = by_cases is where
+  same_set : list ≡ set_named (matrix_of h).users names
+  same_set = set ∙ ap (λ users. set_named users names) (kept_is_shown old.masters h old.shown stands).users
+
+  by_cases : IsCreation old file list bytes u → (reply ≡ reply_to h (Create file names bytes)) × StandsFor new (after h (Create file names bytes))
+  by_cases (inl exact) =
+      sealed_step old new (Created file (set_named (matrix_of h).users names) bytes) u reply
+      (exact ∙ ap (λ l. sealed_update old.masters (outline old.shown) (Created file l bytes)) same_set) applies h stands
+  by_cases (inr (full, (tokens, tag, text, exact, size))) =
+      let plain : Update = Created file (set_named (matrix_of h).users names) bytes in
+      let shown_as : refusal_shown old.shown u ≡ first_of_tests (tests_of (matrix_shown old.shown) (outline old.shown) old.shown.epoch (Created file list bytes)) =
+      ap (λ (x : SealedUpdate). refusal_shown old.shown x) exact ∙ same_size old.shown file list text bytes size in
+      let refused_as : refusal_shown old.shown u ≡ refusal_of h plain =
+      shown_as ∙ ap (λ l. first_of_tests (tests_of (matrix_shown old.shown) (outline old.shown) old.shown.epoch (Created file l bytes))) same_set
+      ∙ plain_refusal old h stands file (set_named (matrix_of h).users names) bytes in
+      applied_step old new u plain reply h stands refused_as
+      (λ none. absurd (no_room old.shown file list bytes full (sym shown_as ∙ refused_as ∙ none))) applies
+
+-- ---- by what was found
+
+pub taken_if : (old : Kept) (s : Shown) (file : List ℕ) (list : List (List ℕ)) (bytes : List ℕ) (r : Option ℕ) → s ≡ old.shown
+    → IsNumber (file_names (matrix_shown s).files) file r → is_some r ≡ true → Steps old (Create file list bytes) (Refused Taken) old
+taken_if old s file list bytes None same number is = absurd (true≢false (sym is))
+taken_if old s file list bytes (Some n) same number is =
+    taken old file list bytes n (subst (λ (x : Shown). IsNumber (file_names (matrix_shown x).files) file (Some n)) same number)
+
+pub no_user_if : (old : Kept) (s : Shown) (file : List ℕ) (list : List (List ℕ)) (bytes : List ℕ) (r : Option ℕ) → s ≡ old.shown
+    → IsNumber (file_names (matrix_shown s).files) file r → is_some r ≡ false
+    → within (set_named old.shown.users list) (everyone (length old.shown.users)) ≡ false → Steps old (Create file list bytes) (Refused NoUser) old
+no_user_if old s file list bytes (Some n) same number is out = absurd (true≢false is)
+no_user_if old s file list bytes None same number is out =
+    no_such_user old file list bytes (subst (λ (x : Shown). IsNumber (file_names (matrix_shown x).files) file None) same number) out
+
+-- what is sent has as many bytes as the file
+pub creation_fits : (old : Kept) (file : List ℕ) (list : ℕ) (bytes : List ℕ) (u : SealedUpdate) → IsCreation old file list bytes u → length bytes ≤ 1048576 → IsFitting u
+creation_fits old file list bytes u (inl is) few =
+    let access = access_key old.masters.base (node_for (outline old.shown).base list) in
+    let number = length (outline old.shown).files in
+    let same : length (base_text access number bytes) ≡ length bytes = length-xor_pad access 0x42 number 0 bytes in
+    let small : length (base_text access number bytes) ≤ 1048576 = omega arith in
+    subst IsFitting (sym is) small
+creation_fits old file list bytes u (inr (full, (tokens, tag, text, is, size))) few =
+    let small : length text ≤ 1048576 = omega arith in
+    subst IsFitting (sym is) small

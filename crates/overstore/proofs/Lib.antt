@@ -1,9 +1,11 @@
-mod Answering
-mod Concluding
-mod Creating
-mod Enrolling
-mod Giving
-mod Keeping
-mod Refusing
-mod Sealing
-mod TwoWords
+pub mod Answering
+pub mod Concluding
+pub mod Creating
+pub mod Finding
+pub mod NamesIn
+pub mod Reading
+pub mod Stepping
+pub mod TwoWords
+pub mod DistinctUsers
+pub mod Owning
+pub mod Leaving

@@ -1,6 +1,7 @@
 pub mod Answering
-pub mod Files
 pub mod Machine
+pub mod Opening
+pub mod Owner
 pub mod Printing
 pub mod Status
 pub mod Words

@@ -6,14 +6,14 @@ use Rattle.ov_script.specs.declared.command.Command.{Command}
 use Rattle.ov_script.specs.declared.reply.Reply.TheVariants.{End}
 use Rattle.ov_script.specs.Lines.{reply_line}
 use Rattle.ov_script.specs.Reading.{IsScript, BeginsScript, Ending, AtEnd, BadAt, TooLong}
-use Rattle.ov_base.specs.declared.mode.Mode.TheVariants.{Full}
-use Rattle.ov_model.specs.History.{History, empty, epoch_of}
+use Rattle.ov_base.specs.declared.mode.Mode.{Mode}
+use Rattle.ov_history.specs.History.{History, empty, epoch_of}
 use Rattle.ov_model.specs.Lines.{lines}
 use Rattle.ov_model.specs.Step.{after_all}
 
--- the history of a store that begins with the run
-abbrev pub new_store : History
-new_store = empty Full
+-- the history of a store of this mode that begins with the run
+abbrev pub new_store : Mode → History
+new_store mode = empty mode 0
 
 -- How a run ends: its key file is none, or the script was read to its ending and answered, a read
 -- failed, or memory was refused.
@@ -43,35 +43,41 @@ read_line = codes "error read" ++ 10 ∷ []
 abbrev pub memory_line : List ℕ
 memory_line = codes "error memory" ++ 10 ∷ []
 
+abbrev pub bad_line : ℕ → List ℕ
+bad_line n = codes "error line " ++ decimal n ++ 10 ∷ []
+
+abbrev pub long_line : List ℕ
+long_line = codes "error long" ++ 10 ∷ []
+
 -- the last line at this history, by how the reading of the script ended
 abbrev pub last_line : History → Ending → List ℕ
 last_line h AtEnd = reply_line (End (epoch_of h))
-last_line h (BadAt n) = codes "error line " ++ decimal n ++ 10 ∷ []
-last_line h TooLong = codes "error long" ++ 10 ∷ []
+last_line h (BadAt n) = bad_line n
+last_line h TooLong = long_line
 
 -- What a run over this script that ends so prints: the machine's lines to its commands, or to the
 -- first of them, and then the last line; or the line on the key file alone.
-abbrev pub IsPrinted : List ℕ → Outcome → List ℕ → Type 0
-IsPrinted text BadKeys printed = printed ≡ keys_line
-IsPrinted text (Answered ending) printed =
+abbrev pub IsPrinted : Mode → List ℕ → Outcome → List ℕ → Type 0
+IsPrinted mode text BadKeys printed = printed ≡ keys_line
+IsPrinted mode text (Answered ending) printed =
     (commands : List Command) × IsScript text commands ending
-    × (printed ≡ lines new_store commands ++ last_line (after_all new_store commands) ending)
-IsPrinted text ReadFault printed =
+    × (printed ≡ lines (new_store mode) commands ++ last_line (after_all (new_store mode) commands) ending)
+IsPrinted mode text ReadFault printed =
     (commands : List Command) × BeginsScript text commands
-    × (printed ≡ lines new_store commands ++ read_line)
-IsPrinted text OutOfMemory printed =
+    × (printed ≡ lines (new_store mode) commands ++ read_line)
+IsPrinted mode text OutOfMemory printed =
     (commands : List Command) × BeginsScript text commands
-    × (printed ≡ lines new_store commands ++ memory_line)
+    × (printed ≡ lines (new_store mode) commands ++ memory_line)
 
 -- all of it was put
-abbrev pub Prints : List ℕ → Outcome → Option (List ℕ) → Option (List ℕ) → Type 0
-Prints text outcome old new =
-    (printed : List ℕ) × IsPrinted text outcome printed × Appends old new printed
+abbrev pub Prints : Mode → List ℕ → Outcome → Option (List ℕ) → Option (List ℕ) → Type 0
+Prints mode text outcome old new =
+    (printed : List ℕ) × IsPrinted mode text outcome printed × Appends old new printed
 
 -- a front of what some run over this script prints was put
-abbrev pub PrintsFront : List ℕ → Option (List ℕ) → Option (List ℕ) → Type 0
-PrintsFront text old new =
-    (outcome : Outcome) × (printed : List ℕ) × IsPrinted text outcome printed
+abbrev pub PrintsFront : Mode → List ℕ → Option (List ℕ) → Option (List ℕ) → Type 0
+PrintsFront mode text old new =
+    (outcome : Outcome) × (printed : List ℕ) × IsPrinted mode text outcome printed
     × ((n : ℕ) × Appends old new (take n printed))
 
 -- The status is that of the script's ending, whichever that is, or one of these.

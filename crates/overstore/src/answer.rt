@@ -1,11 +1,11 @@
 //! A script, answered command by command.
 ghost use Rattle.std.specs.Prelude.{◌≡◌, ◌≤◌, IfSome, None, Some};
 ghost use Rattle.ov_base.specs.Causes.{Rose};
-ghost use Rattle.ov_model.specs.History.{History};
+ghost use Rattle.ov_history.specs.History.{History};
 ghost use Rattle.ov_script.specs.Lines.{reply_line};
 ghost use Rattle.ov_script.specs.Place.{text_left};
 ghost use Rattle.ov_script.specs.Reading.{limit};
-ghost use Rattle.overstore.specs.Machine.{nothing, StandsFor};
+ghost use Rattle.overstore.specs.Machine.{nothing, IsCommand, StandsFor};
 ghost use Rattle.overstore.specs.Answering.{PutsOr, Answers, Stops};
 
 use crate::machine::Machine;
@@ -55,10 +55,11 @@ fn answer<O: Sink>(
     buffer: &mut Vec<u8>,
     out: &mut O,
 ) -> Option<Stop>
-    requires { (h : History) × StandsFor machine.old h }
+    requires command { IsCommand command }
+    requires stands { (h : History) × StandsFor machine.old h }
     ensures answer { (h : History) → StandsFor machine.old h →
         Answers h command result (O.written out.old) (O.written out.new) machine.new }
-    ensures master { machine.new.base ≡ machine.old.base }
+    ensures masters { machine.new.masters ≡ machine.old.masters }
     ensures same { O.borrow out.new ≡ O.borrow out.old }
     ensures later { O.faults out.old ≤ O.faults out.new }
     ensures write { result ≡ Some Stop.Write → Rose (O.faults out.old) (O.faults out.new) }
@@ -81,10 +82,11 @@ pub fn answer_all<S: Source + Drop, O: Sink>(
     requires line { script.old.line ≡ 1 }
     requires room { script.old.room ≡ limit }
     requires fresh { script.old.ended ≡ None }
-    requires nothing { machine.old ≡ nothing machine.old.base }
-    ensures stop { IfSome (text_left S.left script.old) (λ text.
-        Stops text result (O.written out.old) (O.written out.new) machine.new) }
-    ensures master { machine.new.base ≡ machine.old.base }
+    requires nothing { machine.old ≡ nothing machine.old.masters machine.old.shown.mode }
+    ensures stop { let mode = machine.old.shown.mode in
+        IfSome (text_left S.left script.old) (λ text.
+        Stops mode text result (O.written out.old) (O.written out.new) machine.new) }
+    ensures masters { machine.new.masters ≡ machine.old.masters }
     ensures same { S.borrow script.new.source ≡ S.borrow script.old.source }
     ensures read { result ≡ Stop.Read → Rose (S.faults script.old.source) (S.faults script.new.source) }
     ensures later { O.faults out.old ≤ O.faults out.new }

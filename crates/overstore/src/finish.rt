@@ -2,10 +2,9 @@
 ghost use Rattle.std.specs.Prelude.{◌≡◌, ◌≢◌, ◌⊎◌, ◌≤◌};
 ghost use Rattle.ov_base.specs.Causes.{Rose};
 ghost use Rattle.ov_script.specs.Lines.{reply_line};
-ghost use Rattle.ov_script.specs.Reading.{BadAt};
 ghost use Rattle.ov_script.specs.declared.reply.Reply.TheVariants.{End as EndReply};
 ghost use Rattle.overstore.specs.Answering.{EndsIn, Finishes};
-ghost use Rattle.overstore.specs.Printing.{new_store, last_line, memory_line};
+ghost use Rattle.overstore.specs.Printing.{bad_line, memory_line};
 ghost use Rattle.overstore.specs.Status.{status_code};
 
 use crate::answer::Stop;
@@ -49,7 +48,7 @@ fn put_end<O: Sink>(alloc: Global, out: &mut O, epoch: u32) -> u8
 }
 
 fn put_bad_line<O: Sink>(alloc: Global, out: &mut O, number: u64) -> u8
-    ensures ends { EndsIn (last_line new_store (BadAt number)) 3 (O.written out.old) (O.written out.new) result
+    ensures ends { EndsIn (bad_line number) 3 (O.written out.old) (O.written out.new) result
         ⊎ EndsIn memory_line 7 (O.written out.old) (O.written out.new) result }
     ensures later { O.faults out.old ≤ O.faults out.new }
     ensures write { result ≡ 6 → Rose (O.faults out.old) (O.faults out.new) }

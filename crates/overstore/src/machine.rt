@@ -1,112 +1,100 @@
-//! The access-matrix machine, over users and sealed files.
-ghost use Rattle.std.specs.Prelude.{◌≡◌, ◌+◌, length, IfOk, OnErr};
-ghost use Rattle.ov_model.specs.History.{History};
-ghost use Rattle.ov_model.specs.Places.{IsNumber};
-ghost use Rattle.ov_model.specs.Step.{reply_to, after};
-ghost use Rattle.ov_script.specs.declared.command.Command.TheVariants.{Enrol};
-ghost use Rattle.overstore.specs.Machine.{nothing, file_names, StandsFor};
+//! The access-matrix machine over a catalogue, for who has both masters.
+ghost use Rattle.std.specs.Prelude.{◌≡◌, ◌<◌, ◌^◌, IfOk, OnErr};
+ghost use Rattle.ov_history.specs.History.{History};
+ghost use Rattle.ov_history.specs.Sealed.{HasParts, refusal_shown};
+ghost use Rattle.ov_history.specs.Shown.{outline};
+ghost use Rattle.ov_record.specs.Updates.{sealed_update};
+ghost use Rattle.ov_state.specs.Plans.{IsFitting};
+ghost use Rattle.overstore.specs.Machine.{nothing, Applies, IsCommand, StandsFor, Steps};
+ghost use Rattle.std.specs.Prelude.{None};
 
-use crate::filed::Filed;
-use indexmap::{IndexMap, IndexSet};
-use ov_base::{Key, Memory, Name, Refusal};
+use ov_base::{Memory, Mode};
+use ov_graph::ListGraph;
+use ov_keyfile::Masters;
+use ov_record::Update;
 use ov_script::{Command, Reply};
+use ov_state::{PrepareFault, State};
+use ov_tokens::{Base, Surface};
 use std::alloc::Global;
 use std::marker::Model;
 
-const MAX_USERS: usize = 256;
+/// The catalogue of at most 256 users, whose layers are lists.
+pub type Catalogue = State<ListGraph<Base, 4>, ListGraph<Surface, 4>, 4>;
 
-/// The users in the order in which they were enrolled, and the files in the order in which they were
-/// created, each in the coat of the base layer.
+/// The two masters, and the catalogue that is kept under them: the owner, the readers and the server
+/// in one.
 #[derive(Drop)]
 pub struct Machine {
-    pub base: Key,
-    pub users: IndexSet<Name>,
-    pub files: IndexMap<Name, Filed>,
-    pub bytes: u64,
+    pub masters: Masters,
+    pub catalogue: Catalogue,
 }
 
 impl Model for Machine {
-    ghost use Rattle.overstore.specs.Machine.{Kept, IsSound};
+    ghost use Rattle.overstore.specs.Machine.{Kept};
 
     ghost Value = { Kept };
 
-    ghost view = { λ m. record { base = m.base.bytes; users = m.users.keys; files = m.files.entries } };
-
-    ghost invariant = { λ m. IsSound m.users.keys m.files.entries m.bytes };
+    ghost view = { λ m. record {
+      masters = record { base = m.masters.base.bytes; surface = m.masters.surface.bytes };
+      shown = m.catalogue.shown;
+    } };
 }
 
 impl Machine {
-    /// Nobody is enrolled; this is the base master.
-    pub fn new(alloc: Global, base: Key) -> Machine
-        ensures { result ≡ nothing base.bytes }
+    /// Nobody is enrolled; these are the masters.
+    pub fn new(alloc: Global, masters: Masters, mode: Mode) -> Result<Machine, Memory>
+        ensures { IfOk result (λ machine. machine
+            ≡ nothing (record { base = masters.base.bytes; surface = masters.surface.bytes }) mode) }
     {
-        Machine {
-            base,
-            users: IndexSet::new(alloc),
-            files: IndexMap::new(alloc),
-            bytes: 0,
-        }
+        Ok(Machine {
+            masters,
+            catalogue: State::new(alloc, mode, 0)?,
+        })
     }
 
-    /// The epoch: one for each user and for each file.
+    /// The epoch.
     pub fn epoch(&self) -> u32
-        ensures { result ≡ length self.now.users + length self.now.files }
+        ensures { result ≡ self.now.shown.epoch }
     {
-        self.users.len() as u32 + self.files.len() as u32
-    }
-
-    /// The number of a user by name.
-    pub fn user_number(&self, name: &Name) -> Option<u32>
-        ensures { IsNumber self.now.users name.now result }
-    {
-        match self.users.get_index_of(name) {
-            Some(user) => Some(user as u32),
-            None => None,
-        }
-    }
-
-    /// The number of a file by name.
-    pub fn file_number(&self, name: &Name) -> Option<u32>
-        ensures { IsNumber (file_names self.now.files) name.now result }
-    {
-        match self.files.get_index_of(name) {
-            Some(file) => Some(file as u32),
-            None => None,
-        }
+        self.catalogue.epoch()
     }
 
     /// One step, at whatever history the machine stands for.
     pub fn step(&mut self, alloc: Global, command: Command) -> Result<Reply, Memory>
-        requires { (h : History) × StandsFor self.old h }
-        ensures ok { IfOk result (λ reply. (h : History) → StandsFor self.old h →
-            (reply ≡ reply_to h command) × StandsFor self.new (after h command)) }
-        ensures master { self.new.base ≡ self.old.base }
+        requires command { IsCommand command }
+        requires stands { (h : History) × StandsFor self.old h }
+        ensures ok { IfOk result (λ reply. Steps self.old command reply self.new) }
+        ensures masters { self.new.masters ≡ self.old.masters }
         ensures err { OnErr result (self.new ≡ self.old) }
     {
         match command {
-            Command::Enrol { user } => self.enrol(user),
-            Command::Create {
-                file,
-                reader,
-                bytes,
-            } => self.create(file, reader, bytes),
+            Command::Enrol { user } => self.enrol(alloc, user),
+            Command::Create { file, list, bytes } => self.create(alloc, file, list, bytes),
+            Command::Grant { user, file } => self.grant(alloc, user, file),
+            Command::Revoke { user, file } => self.revoke(alloc, user, file),
             Command::Read { user, file } => self.read(alloc, user, file),
+            Command::List { file } => self.list(alloc, file),
+            Command::Epoch => Ok(Reply::Epoch(self.epoch())),
         }
     }
 
-    fn enrol(&mut self, user: Name) -> Result<Reply, Memory>
-        ensures ok { IfOk result (λ reply. (h : History) → StandsFor self.old h →
-            (reply ≡ reply_to h (Enrol user)) × StandsFor self.new (after h (Enrol user))) }
-        ensures master { self.new.base ≡ self.old.base }
+    /// Makes an update as its owner sent it, or answers why it is refused.
+    pub fn apply(&mut self, alloc: Global, update: Update<4>) -> Result<Reply, Memory>
+        requires fitting { IsFitting (sealed_update update) }
+        requires parts { refusal_shown self.old.shown (sealed_update update) ≡ None
+            → HasParts (outline self.old.shown) (sealed_update update) }
+        ensures ok { IfOk result (λ reply. Applies self.old (sealed_update update) reply self.new) }
+        ensures masters { self.new.masters ≡ self.old.masters }
         ensures err { OnErr result (self.new ≡ self.old) }
     {
-        if self.user_number(&user).is_some() {
-            return Ok(Reply::Refused(Refusal::Taken));
+        match self.catalogue.prepare(alloc, &self.masters.surface, update) {
+            Ok(change) => {
+                self.catalogue.commit(change);
+                Ok(Reply::Accepted(self.catalogue.epoch()))
+            }
+            Err(PrepareFault::Refused(why)) => Ok(Reply::Refused(why)),
+            Err(PrepareFault::BadPlan { at: _ }) => unreachable!(),
+            Err(PrepareFault::Memory) => Err(Memory),
         }
-        if self.users.len() >= MAX_USERS {
-            return Ok(Reply::Refused(Refusal::UsersFull));
-        }
-        self.users.insert(user)?;
-        Ok(Reply::Accepted(self.epoch()))
     }
 }

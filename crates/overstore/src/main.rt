@@ -1,7 +1,7 @@
 //! The program `overstore`: a script comes in on standard input, and its reply lines go out.
 //!
-//! `overstore run full` answers a script of commands, line by line, from a store that begins empty,
-//! under the masters of the key file in its folder. The contract of [`run`] says what it prints for
+//! `overstore run full` and `overstore run delta` answer a script of commands, line by line, from a
+//! store that begins empty, under the masters of the key file in its folder. The contract of [`run`] says what it prints for
 //! every script; `main` makes the real sources and the sink, calls it, and ends with the status that
 //! it gives.
 //!
@@ -10,18 +10,17 @@
 //! | `run` | the top call, and its contract |
 //! | `answer` | the loop over the script's commands |
 //! | `finish` | the last line |
-//! | `machine` | the access-matrix machine, as code |
-//! | `creation`, `reading` | its creations and reads of files |
-//! | `filed` | a file as it is kept: sealed, and opened for its reader |
+//! | `machine` | the access-matrix machine over a catalogue |
+//! | `owner` | updates, as their owner seals them |
+//! | `reader` | files and lists, as readers are given them |
 //! | `status` | the exit statuses |
 #![tactic(auto)]
 
 mod answer;
-mod creation;
-mod filed;
 mod finish;
 mod machine;
-mod reading;
+mod owner;
+mod reader;
 mod run;
 mod status;
 #[cfg(test)]
@@ -36,15 +35,22 @@ use std::io::{self, ErrorKind};
 use std::process::ExitCode;
 
 const HELP: &str = "\
-Usage: overstore run full < SCRIPT
+Usage: overstore run full|delta < SCRIPT
 
-Answers the script on standard input, one reply line for each command.
+Answers the script on standard input, one reply line for each command. In `full`
+each file has a surface layer; in `delta` only where more users hold its key than
+its list has.
 
   enrol USER                  adds a user: `ok EPOCH`
-  create FILE USER LENGTH     adds a file for one user, with so many bytes and an
-                              LF behind the line: `ok EPOCH`
+  create FILE LIST LENGTH     adds a file for the users of LIST, with so many bytes
+                              and an LF behind the line: `ok EPOCH`
+  grant USER FILE             adds the user to the file's list: `ok EPOCH`
+  revoke USER FILE            takes the user off the file's list: `ok EPOCH`
   read USER FILE              gives a file: `data USER FILE LENGTH`, and its bytes
+  list FILE                   gives the file's list: `list FILE LIST`
+  epoch                       gives the epoch: `epoch EPOCH`
 
+LIST is names with commas between them, or `-` for nobody.
 Where a command isn't accepted the reply is `refused NUMBER REASON`. The masters
 are read from `keys.hex` in this folder: two lines of 64 hexadecimal digits.
 
@@ -54,7 +60,7 @@ answered to its end. Exit status: 0 answered, 2 words not known, 3 bad line,
 no key file, 11 script too long.
 ";
 
-const VERSION: &str = "overstore 0.2.0\n";
+const VERSION: &str = "overstore 0.3.0\n";
 
 // The file of the two masters, in the folder where the program runs.
 const KEY_FILE: &str = "keys.hex";

@@ -1,59 +1,67 @@
 //! The top call.
-ghost use Rattle.std.specs.Prelude.{◌≡◌, ◌≢◌, ◌↔◌, ◌⊎◌, ℕ, IfOk, IfSome, IsTrue};
+ghost use Rattle.std.specs.Prelude.{◌≡◌, ◌≢◌, ◌↔◌, ◌⊎◌, ℕ, IfNone, IfSome, None};
 ghost use Rattle.std.specs.Io.KnownBytes.{Appends};
-ghost use Rattle.ov_base.specs.Causes.{HasCause, Rose};
+ghost use Rattle.ov_base.specs.Causes.{Rose};
 ghost use Rattle.ov_keyfile.specs.KeyFile.{HasMasters};
+ghost use Rattle.ov_base.specs.declared.mode.Mode.{Mode};
+ghost use Rattle.ov_state.specs.Standing.{ClosuresAreMatrix};
 ghost use Rattle.ov_script.specs.Reading.{AtEnd, BadAt, TooLong};
-ghost use Rattle.overstore.specs.Answering.{Concluded, EndsIn};
-ghost use Rattle.overstore.specs.Machine.{nothing, IsUnder};
+ghost use Rattle.overstore.specs.Answering.{Concluded, EndsIn, StandsAtEnd, LeavesUnder, LeavesWith};
+ghost use Rattle.overstore.specs.Machine.{nothing};
 ghost use Rattle.overstore.specs.Printing.{Answered, ReadFault, OutOfMemory, Prints, PrintsFront};
 ghost use Rattle.overstore.specs.Printing.{keys_line, read_line, usage_line, IsAnswered, StatusIsOf};
 ghost use Rattle.overstore.specs.Printing.{IsFault, IsMemory, IsStatus};
-ghost use Rattle.overstore.specs.Words.{IsRunFull};
+ghost use Rattle.overstore.specs.Words.{mode_word, AreOther, IsRun};
 
 use crate::answer::answer_all;
 use crate::finish::{finish, put_last};
 use crate::machine::Machine;
 use crate::status::Status;
-use ov_base::Memory;
-use ov_io::{Fault, Sink, Source};
-use ov_keyfile::read_masters;
+use ov_base::{Memory, Mode};
+use ov_io::{Sink, Source};
+use ov_keyfile::{Masters, read_masters};
 use ov_script::Script;
 use std::alloc::Global;
 
-fn is_run_full(words: &[String]) -> bool
-    ensures { IsTrue result ↔ IsRunFull words.now }
+// The mode of this word.
+fn mode_of_word(word: &str) -> Option<Mode>
+    ensures found { IfSome result (λ mode. word.now ≡ mode_word mode) }
+    ensures none { IfNone result ((mode : Mode) → word.now ≡ mode_word mode → ⊥) }
+{
+    match word {
+        "full" => Some(Mode::Full),
+        "delta" => Some(Mode::Delta),
+        _ => None,
+    }
+}
+
+// The mode in which these words ask for a run.
+fn mode_of(words: &[String]) -> Option<Mode>
+    ensures found { IfSome result (λ mode. IsRun mode words.now) }
+    ensures none { IfNone result (AreOther words.now) }
 {
     match words {
-        [run, mode] => run.as_str() == "run" && mode.as_str() == "full",
-        _ => false,
+        [run, mode] if run.as_str() == "run" => mode_of_word(mode.as_str()),
+        _ => None,
     }
 }
 
-// The machine under the base master of the key file that `keys` has left, with nobody enrolled.
-fn machine_of<K: Source>(alloc: Global, keys: &mut K) -> Result<Option<Machine>, Fault>
-    ensures under { IfOk result (λ machine.
-        IfSome (K.left keys.old) (λ file. IsUnder file machine)) }
-    ensures new { IfOk result (λ machine. IfSome machine (λ m. m ≡ nothing m.base)) }
-    ensures cause { HasCause (K.faults keys.old) (K.faults keys.new) result }
-{
-    match read_masters(keys)? {
-        Some(masters) => Ok(Some(Machine::new(alloc, masters.base))),
-        None => Ok(None),
-    }
-}
-
-// Answers the script with a machine that has answered nothing yet.
+// Answers the script with a machine that has answered nothing yet. Whatever history it stands for at
+// the end, the closures over its published tokens are the matrix.
 fn answer_script<I: Source, O: Sink>(
     alloc: Global,
     machine: &mut Machine,
     input: &mut I,
     out: &mut O,
 ) -> u8
-    requires nothing { machine.old ≡ nothing machine.old.base }
-    ensures master { machine.new.base ≡ machine.old.base }
-    ensures concluded { IfSome (I.left input.old) (λ text.
-        Concluded text (O.written out.old) (O.written out.new) result) }
+    requires nothing { machine.old ≡ nothing machine.old.masters machine.old.shown.mode }
+    ensures masters { machine.new.masters ≡ machine.old.masters }
+    ensures closure { ClosuresAreMatrix machine.new.shown }
+    ensures stands { let mode = machine.old.shown.mode in
+        IfSome (I.left input.old) (λ text. StandsAtEnd mode text result machine.new) }
+    ensures concluded { let mode = machine.old.shown.mode in
+        IfSome (I.left input.old) (λ text.
+        Concluded mode text (O.written out.old) (O.written out.new) result) }
     ensures read_cause { result ≡ 5 → Rose (I.faults input.old) (I.faults input.new) }
     ensures write_cause { result ≡ 6 → Rose (O.faults out.old) (O.faults out.new) }
     ensures status { IsStatus result }
@@ -70,15 +78,52 @@ fn answer_script<I: Source, O: Sink>(
     finish(alloc, stop, machine.epoch(), out)
 }
 
-// Reads the key file and answers the script, once the words are known.
+// Answers the script in this mode under these masters, and leaves the machine that answered it.
+fn answer_under<I: Source, O: Sink>(
+    alloc: Global,
+    mode: Mode,
+    masters: Masters,
+    input: &mut I,
+    out: &mut O,
+    left: &mut Option<Machine>,
+) -> u8
+    requires none { left.old ≡ None }
+    ensures left { IfSome (I.left input.old) (λ text.
+        LeavesWith (record { base = masters.base.bytes; surface = masters.surface.bytes })
+        mode text result left.new) }
+    ensures concluded { IfSome (I.left input.old) (λ text.
+        Concluded mode text (O.written out.old) (O.written out.new) result) }
+    ensures read_cause { result ≡ 5 → Rose (I.faults input.old) (I.faults input.new) }
+    ensures write_cause { result ≡ 6 → Rose (O.faults out.old) (O.faults out.new) }
+    ensures status { IsStatus result }
+    ensures not_usage { result ≢ 2 }
+    ensures not_keys { result ≢ 10 }
+{
+    match Machine::new(alloc, masters, mode) {
+        Ok(mut machine) => {
+            let code = answer_script(alloc, &mut machine, input, out);
+            *left = Some(machine);
+            code
+        }
+        Err(Memory) => put_last(out, b"error memory\n", Status::OutOfMemory),
+    }
+}
+
+// Reads the key file and answers the script, once the words are known. The machine that answered it
+// is left, under the masters of the key file.
 fn answer_with_keys<K: Source, I: Source, O: Sink>(
     alloc: Global,
+    mode: Mode,
     keys: &mut K,
     input: &mut I,
     out: &mut O,
+    left: &mut Option<Machine>,
 ) -> u8
+    requires none { left.old ≡ None }
+    ensures left { IfSome (K.left keys.old) (λ file. IfSome (I.left input.old) (λ text.
+        LeavesUnder file mode text result left.new)) }
     ensures concluded { IfSome (I.left input.old) (λ text.
-        Concluded text (O.written out.old) (O.written out.new) result) }
+        Concluded mode text (O.written out.old) (O.written out.new) result) }
     ensures keys { IsAnswered result → IfSome (K.left keys.old) HasMasters }
     ensures bad_keys { result ≡ 10 → IfSome (K.left keys.old) (λ file. HasMasters file → ⊥) }
     ensures keys_line { result ≡ 10 → Appends (O.written out.old) (O.written out.new) keys_line }
@@ -93,8 +138,8 @@ fn answer_with_keys<K: Source, I: Source, O: Sink>(
     ensures status { IsStatus result }
     ensures not_usage { result ≢ 2 }
 {
-    match machine_of(alloc, keys) {
-        Ok(Some(mut machine)) => answer_script(alloc, &mut machine, input, out),
+    match read_masters(keys) {
+        Ok(Some(masters)) => answer_under(alloc, mode, masters, input, out, left),
         Ok(None) => put_last(out, b"error keys\n", Status::BadKeys),
         Err(_) => put_last(out, b"error read\n", Status::ReadFault),
     }
@@ -113,28 +158,35 @@ pub fn run<K: Source, I: Source, O: Sink>(
     input: &mut I,
     out: &mut O,
 ) -> u8
-    // The access-matrix machine's lines to the whole script and the end line, and nothing else.
-    ensures done { result ≡ 0 → IfSome (I.left input.old) (λ text.
-        Prints text (Answered AtEnd) (O.written out.old) (O.written out.new)) }
+    // In the mode of the words: the access-matrix machine's lines to the whole script and the end
+    // line, and nothing else.
+    ensures done { (mode : Mode) → IsRun mode words.now → result ≡ 0
+        → IfSome (I.left input.old) (λ text.
+        Prints mode text (Answered AtEnd) (O.written out.old) (O.written out.new)) }
     // The same lines to the commands before, and then the error line.
-    ensures bad_line { result ≡ 3 → IfSome (I.left input.old) (λ text.
-        (n : ℕ) × Prints text (Answered (BadAt n)) (O.written out.old) (O.written out.new)) }
-    ensures long { result ≡ 11 → IfSome (I.left input.old) (λ text.
-        Prints text (Answered TooLong) (O.written out.old) (O.written out.new)) }
+    ensures bad_line { (mode : Mode) → IsRun mode words.now → result ≡ 3
+        → IfSome (I.left input.old) (λ text. (n : ℕ)
+        × Prints mode text (Answered (BadAt n)) (O.written out.old) (O.written out.new)) }
+    ensures long { (mode : Mode) → IsRun mode words.now → result ≡ 11
+        → IfSome (I.left input.old) (λ text.
+        Prints mode text (Answered TooLong) (O.written out.old) (O.written out.new)) }
     // The lines to the first commands, and then the error line.
-    ensures read { result ≡ 5 → IfSome (I.left input.old) (λ text.
-        Prints text ReadFault (O.written out.old) (O.written out.new)) }
-    ensures memory { result ≡ 7 → IsRunFull words.now → IfSome (I.left input.old) (λ text.
-        Prints text OutOfMemory (O.written out.old) (O.written out.new)) }
+    ensures read { (mode : Mode) → IsRun mode words.now → result ≡ 5
+        → IfSome (I.left input.old) (λ text.
+        Prints mode text ReadFault (O.written out.old) (O.written out.new)) }
+    ensures memory { (mode : Mode) → IsRun mode words.now → result ≡ 7
+        → IfSome (I.left input.old) (λ text.
+        Prints mode text OutOfMemory (O.written out.old) (O.written out.new)) }
     // A front of what some run over this script prints.
-    ensures write { result ≡ 6 → IsRunFull words.now → IfSome (I.left input.old) (λ text.
-        PrintsFront text (O.written out.old) (O.written out.new)) }
+    ensures write { (mode : Mode) → IsRun mode words.now → result ≡ 6
+        → IfSome (I.left input.old) (λ text.
+        PrintsFront mode text (O.written out.old) (O.written out.new)) }
 
     // Without a key file the script is left as it is.
     ensures keys { IsAnswered result → IfSome (K.left keys.old) HasMasters }
     ensures bad_keys { result ≡ 10 → IfSome (K.left keys.old) (λ file. HasMasters file → ⊥) }
     ensures keys_line { result ≡ 10 → Appends (O.written out.old) (O.written out.new) keys_line }
-    ensures other_keys { IsRunFull words.now
+    ensures other_keys { (mode : Mode) → IsRun mode words.now
         → IfSome (K.left keys.old) (λ file. (HasMasters file → ⊥)
         → EndsIn keys_line 10 (O.written out.old) (O.written out.new) result
         ⊎ EndsIn read_line 5 (O.written out.old) (O.written out.new) result) }
@@ -143,28 +195,28 @@ pub fn run<K: Source, I: Source, O: Sink>(
 
     // Other words are refused, and both files are left as they are.
     ensures usage { result ≡ 2
-        → (IsRunFull words.now → ⊥) × Appends (O.written out.old) (O.written out.new) usage_line }
-    ensures other_words { (IsRunFull words.now → ⊥)
+        → AreOther words.now × Appends (O.written out.old) (O.written out.new) usage_line }
+    ensures other_words { AreOther words.now
         → EndsIn usage_line 2 (O.written out.old) (O.written out.new) result }
-    ensures untouched { (IsRunFull words.now → ⊥) → (keys.new ≡ keys.old) × (input.new ≡ input.old) }
+    ensures untouched { AreOther words.now → (keys.new ≡ keys.old) × (input.new ≡ input.old) }
 
     // A failed read or write is answered only where the count of faults rose.
     ensures read_cause { result ≡ 5 → Rose (K.faults keys.old) (K.faults keys.new)
         ⊎ Rose (I.faults input.old) (I.faults input.new) }
     ensures write_cause { result ≡ 6 → Rose (O.faults out.old) (O.faults out.new) }
     // With a key file the script alone decides between the other statuses.
-    ensures exact { IsRunFull words.now → result ≢ 10
+    ensures exact { (mode : Mode) → IsRun mode words.now → result ≢ 10
         → IfSome (I.left input.old) (λ text. StatusIsOf text result IsFault) }
     // Where no count rose, it is answered, unless memory was refused.
-    ensures complete { IsRunFull words.now → result ≢ 10
+    ensures complete { (mode : Mode) → IsRun mode words.now → result ≢ 10
         → (Rose (K.faults keys.old) (K.faults keys.new) → ⊥)
         → (Rose (I.faults input.old) (I.faults input.new) → ⊥)
         → (Rose (O.faults out.old) (O.faults out.new) → ⊥)
         → IfSome (I.left input.old) (λ text. StatusIsOf text result IsMemory) }
     ensures status { IsStatus result }
 {
-    if !is_run_full(words) {
-        return put_last(out, b"error usage\n", Status::Usage);
+    match mode_of(words) {
+        Some(mode) => answer_with_keys(alloc, mode, keys, input, out, &mut None),
+        None => put_last(out, b"error usage\n", Status::Usage),
     }
-    answer_with_keys(alloc, keys, input, out)
 }

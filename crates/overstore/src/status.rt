@@ -63,7 +63,9 @@ impl Status {
     pub fn advice(self) -> Option<&'static str> {
         match self {
             Status::Done => None,
-            Status::Usage => Some("unknown words; use `overstore run full` or `overstore --help`"),
+            Status::Usage => Some(
+                "unknown words; use `overstore run full` or `run delta` or `overstore --help`",
+            ),
             Status::BadLine => Some(
                 "standard output names a bad line; those before it stand; correct it and run again",
             ),

@@ -1,9 +1,11 @@
 //! What the program prints and how it ends, over scripts, pieces and faults.
-ghost use Rattle.std.specs.Prelude.{◌<◌, None};
+ghost use Rattle.std.specs.Prelude.{◌<◌};
+
+mod faults;
 
 use crate::run::run;
 use ov_base::Octets;
-use ov_io::{Fault, MemSink, MemSource, Sink, Source};
+use ov_io::{MemSink, MemSource};
 use std::alloc::{AllocError, Global};
 use std::test::Fail;
 
@@ -15,8 +17,9 @@ fn words(alloc: Global, mode: &str) -> Result<Vec<String>, AllocError> {
 }
 
 // Runs a script that comes in pieces, over a source and a sink that fail at these calls.
-fn ran(
+fn ran_in(
     alloc: Global,
+    mode: &str,
     script: &[u8],
     piece: usize,
     source_fails: &[u8],
@@ -26,7 +29,19 @@ fn ran(
 {
     let mut input = source(alloc, script, piece, source_fails)?;
     let mut keys = key_file(alloc)?;
-    Ok(run(alloc, &words(alloc, "full")?, &mut keys, &mut input, out))
+    Ok(run(alloc, &words(alloc, mode)?, &mut keys, &mut input, out))
+}
+
+fn ran(
+    alloc: Global,
+    script: &[u8],
+    piece: usize,
+    source_fails: &[u8],
+    out: &mut MemSink,
+) -> Result<u8, Fail>
+    requires { 0 < piece }
+{
+    ran_in(alloc, "full", script, piece, source_fails, out)
 }
 
 // Bytes that come in pieces, over a source that fails at these calls.
@@ -66,11 +81,21 @@ fn scripts_and_their_lines(rt: HostRuntime) -> Result<(), Fail> {
             b"ok 1\nok 2\nok 3\ndata alice f1 5\nhello\nrefused 4 NoPath\nend epoch 3\n",
         ),
         (
-            b"enrol a\ncreate f a 3\n\n\n\n\nread a f\nread z g\nlist f\n",
+            b"enrol a\ncreate f a 3\n\n\n\n\nread a f\nread z g\nlist f \n",
             3,
             b"ok 1\nok 2\ndata a f 3\n\n\n\n\nrefused 2 NoUser\nerror line 9\n",
         ),
-        (b"grant a f\n", 3, b"error line 1\n"),
+        (b"grant a\n", 3, b"error line 1\n"),
+        (
+            b"enrol alice\ncreate f0 - 0\n\nread alice f0\nlist f0\nepoch\n",
+            0,
+            b"ok 1\nok 2\nrefused 4 NoPath\nlist f0 -\nepoch 2\nend epoch 2\n",
+        ),
+        (
+            b"enrol a\ncreate f1 a 3\nabc\nrevoke a f1\nread a f1\nlist f1\n",
+            0,
+            b"ok 1\nok 2\nok 3\nrefused 4 NoPath\nlist f1 -\nend epoch 3\n",
+        ),
         (b"enrol alice\nenrol Bob\n", 3, b"ok 1\nerror line 2\n"),
         (b"enrol a", 3, b"error line 1\n"),
         (b"enrol  a\n", 3, b"error line 1\n"),
@@ -92,9 +117,39 @@ fn scripts_and_their_lines(rt: HostRuntime) -> Result<(), Fail> {
         ),
     ];
     for (script, status, lines) in rows {
-        let mut out = sink(alloc, b"")?;
-        assert_eq!(rt; ran(alloc, script, 4096, b"", &mut out)?, status);
-        assert_eq!(rt; out.written(), lines);
+        for mode in ["full", "delta"] {
+            let mut out = sink(alloc, b"")?;
+            assert_eq!(rt; ran_in(alloc, mode, script, 4096, b"", &mut out)?, status);
+            assert_eq!(rt; out.written(), lines);
+        }
+    }
+    Ok(())
+}
+
+// Three users and two files for two of them; the third is granted the one, loses it and is granted
+// it again, and a third file comes for the same two.
+const SIBLINGS: &[u8] =
+    b"enrol a\nenrol b\nenrol c\ncreate f1 a,b 2\nx1\ncreate f2 b,a 2\nx2\ngrant c f1\nread c f1\nread c f2\nlist f2\nrevoke c f1\nread c f1\ngrant c f1\nread c f1\ncreate f3 a,b,a 3\nabc\nread c f3\nread b f3\nlist f3\nlist f1\n";
+
+const SIBLINGS_LINES: &[u8] =
+    b"ok 1\nok 2\nok 3\nok 4\nok 5\nok 6\ndata c f1 2\nx1\nrefused 4 NoPath\nlist f2 a,b\nok 7\nrefused 4 NoPath\nok 8\ndata c f1 2\nx1\nok 9\nrefused 4 NoPath\ndata b f3 3\nabc\nlist f3 a,b\nlist f1 a,b,c\nend epoch 9\n";
+
+// Every refusal of an update and of a question.
+const REFUSED: &[u8] =
+    b"enrol alice\nenrol bob\nenrol alice\ncreate f1 - 1\nx\ngrant alice f1\ngrant alice f1\nrevoke bob f1\ngrant zed f1\ngrant bob f9\ncreate f1 zed 0\n\ncreate f2 bob,zed 0\n\nread bob f1\nlist f9\n";
+
+const REFUSED_LINES: &[u8] =
+    b"ok 1\nok 2\nrefused 1 Taken\nok 3\nok 4\nrefused 5 Listed\nrefused 6 NotListed\nrefused 2 NoUser\nrefused 3 NoFile\nrefused 1 Taken\nrefused 2 NoUser\nrefused 4 NoPath\nrefused 3 NoFile\nend epoch 4\n";
+
+#[test]
+fn grants_and_refusals_in_both_modes(rt: HostRuntime) -> Result<(), Fail> {
+    let alloc = rt.alloc();
+    for mode in ["full", "delta"] {
+        for (script, lines) in [(SIBLINGS, SIBLINGS_LINES), (REFUSED, REFUSED_LINES)] {
+            let mut out = sink(alloc, b"")?;
+            assert_eq!(rt; ran_in(alloc, mode, script, 7, b"", &mut out)?, 0);
+            assert_eq!(rt; out.written(), lines);
+        }
     }
     Ok(())
 }
@@ -105,7 +160,7 @@ fn other_words(rt: HostRuntime) -> Result<(), Fail> {
     let one = vec![in alloc; String::from_str(alloc, "run")?]?;
     let mut three = words(alloc, "full")?;
     three.push(String::from_str(alloc, "full")?)?;
-    for words in [words(alloc, "delta")?, words(alloc, "Full")?, one, three] {
+    for words in [words(alloc, "half")?, words(alloc, "Full")?, one, three] {
         let mut input = source(alloc, b"enrol a\n", 8, b"")?;
         let mut out = sink(alloc, b"")?;
         assert_eq!(rt;
@@ -232,122 +287,6 @@ fn key_files(rt: HostRuntime) -> Result<(), Fail> {
         let full = words(alloc, "full")?;
         assert_eq!(rt; run(alloc, &full, &mut keys, &mut input, &mut out), status);
         assert_eq!(rt; out.written(), line);
-    }
-    Ok(())
-}
-
-#[test]
-fn a_read_fails(rt: HostRuntime) -> Result<(), Fail> {
-    let alloc = rt.alloc();
-    // In pieces of 8 the script comes with two calls, and the third finds its end.
-    let rows = [
-        (0u8, b"error read\n".as_slice()),
-        (1, b"ok 1\nerror read\n"),
-        (2, b"ok 1\nok 2\nerror read\n"),
-    ];
-    for (call, lines) in rows {
-        let mut out = sink(alloc, b"")?;
-        assert_eq!(rt; ran(alloc, b"enrol a\nenrol b\n", 8, &[call], &mut out)?, 5);
-        assert_eq!(rt; out.written(), lines);
-    }
-    Ok(())
-}
-
-#[test]
-fn a_write_fails(rt: HostRuntime) -> Result<(), Fail> {
-    let alloc = rt.alloc();
-    let rows = [
-        (0u8, b"".as_slice()),
-        (1, b"ok 1\n"),
-        (2, b"ok 1\nrefused 1 Taken\n"),
-    ];
-    for (call, lines) in rows {
-        let mut out = sink(alloc, &[call])?;
-        assert_eq!(rt; ran(alloc, b"enrol a\nenrol a\n", 8, b"", &mut out)?, 6);
-        assert_eq!(rt; out.written(), lines);
-    }
-    let mut out = sink(alloc, &[0])?;
-    let mut input = source(alloc, b"", 8, b"")?;
-    let words = words(alloc, "half")?;
-    assert_eq!(rt;
-        run(alloc, &words, &mut key_file(alloc)?, &mut input, &mut out),
-        6
-    );
-    Ok(())
-}
-
-// Makes one line over and over, up to so many bytes, and holds none of them.
-#[derive(Drop)]
-struct Repeats {
-    line: [u8; 64],
-    left: u64,
-}
-
-impl Source for Repeats {
-    ghost left = { λ _. None };
-
-    ghost faults = { λ _. 0 };
-
-    ghost borrow = { λ _. 0 };
-
-    fn take(&mut self, buf: &mut [u8]) -> Result<usize, Fault> {
-        let (_, rest) = self.line.split_at((64 - self.left % 64) as usize % 64);
-        let count = rest.len().min(buf.len()).min(self.left as usize);
-        buf[..count].copy_from_slice(&rest[..count]);
-        self.left -= count as u64;
-        Ok(count)
-    }
-}
-
-// Keeps what was put last.
-#[derive(Drop)]
-struct Last {
-    bytes: Vec<u8>,
-    faults: u64,
-}
-
-impl Sink for Last {
-    ghost written = { λ _. None };
-
-    ghost faults = { λ s. s.faults };
-
-    ghost borrow = { λ _. 0 };
-
-    fn put(&mut self, bytes: &[u8]) -> Result<(), Fault> {
-        self.bytes.clear();
-        if self.bytes.extend_from_slice(bytes).is_err() {
-            self.faults = self.faults.saturating_add(1);
-            return Err(Fault);
-        }
-        Ok(())
-    }
-}
-
-#[test]
-fn the_limit_of_a_script(rt: HostRuntime) -> Result<(), Fail> {
-    let alloc = rt.alloc();
-    let line = *b"enrol aaaaaaaaaaaaaaaaaaaaaaaaaaaaaaaaaaaaaaaaaaaaaaaaaaaaaaaaa\n";
-    let rows = [
-        (268_435_456u64, 0u8, b"end epoch 1\n".as_slice()),
-        (268_435_456 + 64, 11, b"error long\n"),
-    ];
-    for (left, status, last) in rows {
-        let mut input = Repeats { line, left };
-        let mut out = Last {
-            bytes: Vec::new(alloc),
-            faults: 0,
-        };
-        assert_eq!(rt;
-            run(
-                alloc,
-                &words(alloc, "full")?,
-                &mut key_file(alloc)?,
-                &mut input,
-                &mut out
-            ),
-            status
-        );
-        assert_eq!(rt; out.bytes.as_slice(), last);
     }
     Ok(())
 }

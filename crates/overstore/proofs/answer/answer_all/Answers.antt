@@ -8,7 +8,7 @@ pub items-init : goal.items-init
 items-init g c = record {
   so_far = begins_so _ _ _ _ _ c.requires.line c.requires.room c.requires.nothing;
   stands = stands_so _ c.requires.nothing;
-  master = grind (arith, common_steps);
+  masters = grind (arith, common_steps);
   ended = c.requires.fresh;
   same = grind (arith, common_steps);
   read_later = grind (arith, common_steps);
@@ -17,13 +17,13 @@ items-init g c = record {
 
 pub returns-in-Some-clause-stop : goal.returns-in-Some-clause-stop
 returns-in-Some-clause-stop g c =
-    answer_stops _ _ _ _ _ _ _ _ _ _ _ _ _ _ c.items.invariant.so_far (rw c.in-Ok-Command.field-0-is at (c.in-Ok-Command.ensures.says c.items.invariant.ended)) c.in-Some.ensures.answer
+    answer_stops _ _ _ _ _ _ _ _ _ _ _ _ _ _ _ c.items.invariant.so_far (rw c.in-Ok-Command.field-0-is at (c.in-Ok-Command.ensures.says c.items.invariant.ended)) c.in-Some.ensures.answer
 
 pub items-preserved : goal.items-preserved
 items-preserved g c = record {
-  so_far = answered_more _ _ _ _ _ _ _ _ _ _ _ _ _ c.items.invariant.so_far (rw c.in-Ok-Command.field-0-is at (c.in-Ok-Command.ensures.says c.items.invariant.ended)) c.in-None.ensures.answer;
+  so_far = answered_more _ _ _ _ _ _ _ _ _ _ _ _ _ _ c.items.invariant.so_far (rw c.in-Ok-Command.field-0-is at (c.in-Ok-Command.ensures.says c.items.invariant.ended)) c.in-None.ensures.answer;
   stands = stands_after _ _ _ _ _ c.items.invariant.stands c.in-None.ensures.answer;
-  master = grind (arith, common_steps);
+  masters = grind (arith, common_steps);
   ended = grind (arith, common_steps);
   same = grind (arith, common_steps);
   read_later = grind (arith, common_steps);
@@ -31,10 +31,10 @@ items-preserved g c = record {
 }
 
 pub returns-in-Ok-End-clause-stop : goal.returns-in-Ok-End-clause-stop
-returns-in-Ok-End-clause-stop g c = answered _ _ _ _ _ _ _ AtEnd c.items.invariant.so_far (rw c.in-Ok-End.field-0-is at (c.in-Ok-End.ensures.says c.items.invariant.ended))
+returns-in-Ok-End-clause-stop g c = answered _ _ _ _ _ _ _ _ AtEnd c.items.invariant.so_far (rw c.in-Ok-End.field-0-is at (c.in-Ok-End.ensures.says c.items.invariant.ended))
 
 pub returns-in-Ok-BadLine-clause-stop : goal.returns-in-Ok-BadLine-clause-stop
-returns-in-Ok-BadLine-clause-stop g c = answered _ _ _ _ _ _ _ (BadAt c.in-Ok-BadLine.line) c.items.invariant.so_far (rw c.in-Ok-BadLine.field-0-is at (c.in-Ok-BadLine.ensures.says c.items.invariant.ended))
+returns-in-Ok-BadLine-clause-stop g c = answered _ _ _ _ _ _ _ _ (BadAt c.in-Ok-BadLine.line) c.items.invariant.so_far (rw c.in-Ok-BadLine.field-0-is at (c.in-Ok-BadLine.ensures.says c.items.invariant.ended))
 
 pub returns-in-Ok-Long-clause-stop : goal.returns-in-Ok-Long-clause-stop
-returns-in-Ok-Long-clause-stop g c = answered _ _ _ _ _ _ _ TooLong c.items.invariant.so_far (rw c.in-Ok-Long.field-0-is at (c.in-Ok-Long.ensures.says c.items.invariant.ended))
+returns-in-Ok-Long-clause-stop g c = answered _ _ _ _ _ _ _ _ TooLong c.items.invariant.so_far (rw c.in-Ok-Long.field-0-is at (c.in-Ok-Long.ensures.says c.items.invariant.ended))

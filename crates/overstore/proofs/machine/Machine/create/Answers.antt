@@ -1,26 +1,34 @@
-use Rattle.std.proofs.Common.{◌∙◌, refl, subst, sym, ap}
-use Rattle.std.specs.Prelude.{length}
-use Rattle.std.specs.Str.{bytes_eq}
-use Rattle.indexmap.proofs.CallerLemmas.{insert_entry-new}
-use Rattle.overstore.specs.Files.{IsSealedAs}
-use Rattle.overstore.proofs.Creating.{admitted, no_entry, sound_file, not_made, made}
+use Rattle.std.proofs.Common.{◌≡◌, ◌∙◌, ℕ, List, false, length, ap, sym, subst}
+use Rattle.ov_base.specs.Sets.{within}
+use Rattle.ov_history.specs.Lists.{everyone, set_named}
+use Rattle.ov_record.specs.Updates.{sealed_update}
+use Rattle.overstore.specs.Machine.{Kept}
+use Rattle.overstore.proofs.Creating.{taken_if, no_user_if, creation_fits, creation_parts, creation_step}
+use Rattle.overstore.proofs.Owning.{told_reply}
 use Rattle.overstore.proofs.machine.Machine.create.Goals as goal
 
-pub returns-in-Err-clause-ok : goal.returns-in-Err-clause-ok
-returns-in-Err-clause-ok c h s = not_made h c.args.file c.args.reader c.args.bytes _ _ _ (ap length c.as_slice.ensures) c.in-Err.ensures s
+pub returns-then-is_some-clause-ok : goal.returns-then-is_some-clause-ok
+returns-then-is_some-clause-ok c =
+    taken_if c.args.self.now c.self.inside.catalogue.shown c.args.file c.args.list c.args.bytes c.file_number.result (ap (λ (k : Kept). k.shown) c.self.view_is)
+    c.file_number.ensures (sym c.is_some.ensures ∙ c.if-is_some.true)
 
-pub invariant_of-self-2 : goal.invariant_of-self-2
-invariant_of-self-2 c =
-    let a = admitted _ _ c.args.file c.args.reader _ _ c.self.view_is c.in-Ok.ensures in
-    let none = no_entry c.self.inside.files.entries c.args.file a.absent in
-    sound_file _ _ _ _ _ _ _ _ c.args.file c.args.bytes c.seal-filed.result
-    (c.in_ok-insert.ensures.entries ∙ insert_entry-new bytes_eq c.self.inside.files c.args.file c.seal-filed.result none)
-    a.few a.little a.user c.seal-filed.ensures.reader (ap length c.as_slice.ensures) c.seal-filed.ensures.sealed c.self.invariant
+pub apply-requires-clause-fitting : goal.apply-requires-clause-fitting
+apply-requires-clause-fitting c =
+    creation_fits c.args.self.now c.args.file c.in-Some.users c.args.bytes (sealed_update c.in_ok-update-in-Some.update) c.in_ok-update-in-Some.ensures c.requires
+
+pub apply-requires-clause-parts : goal.apply-requires-clause-parts
+apply-requires-clause-parts c =
+    creation_parts c.args.self.now c.args.file c.in-Some.users c.args.bytes (sealed_update c.in_ok-update-in-Some.update) c.in_ok-update-in-Some.ensures
+
+pub returns-in-Some-clause-ok : goal.returns-in-Some-clause-ok
+returns-in-Some-clause-ok c =
+    told_reply c.apply.result _ _ c.apply.ensures.ok
+    (λ reply applies. creation_step c.args.self.now c.apply.new.self c.args.file c.args.list c.in-Some.users c.args.bytes (sealed_update c.in_ok-update-in-Some.update) reply
+    (c.in-Some.ensures.set ∙ ap (set_named c.args.self.now.shown.users) c.as_slice.ensures.names) c.in_ok-update-in-Some.ensures applies)
 
 pub returns-clause-ok : goal.returns-clause-ok
 returns-clause-ok c =
-    let a = admitted _ _ c.args.file c.args.reader _ _ c.self.view_is c.in-Ok.ensures in
-    let none = no_entry c.self.inside.files.entries c.args.file a.absent in
-    let sealed = subst (λ n. IsSealedAs c.self.inside.base.bytes n c.args.bytes c.seal-filed.result) c.len.ensures.len c.seal-filed.ensures.sealed in
-    made _ _ _ c.args.file c.args.reader c.args.bytes c.seal-filed.result _ _ _ c.self.view_is a (ap length c.as_slice.ensures) c.seal-filed.ensures.reader sealed refl refl
-    (c.in_ok-insert.ensures.entries ∙ insert_entry-new bytes_eq c.self.inside.files c.args.file c.seal-filed.result none) c.epoch.ensures
+    no_user_if c.args.self.now c.self.inside.catalogue.shown c.args.file c.args.list c.args.bytes c.file_number.result (ap (λ (k : Kept). k.shown) c.self.view_is)
+    c.file_number.ensures (sym c.is_some.ensures ∙ c.if-is_some.false)
+    (subst (λ (l : List (List ℕ)). within (set_named c.args.self.now.shown.users l) (everyone (length c.args.self.now.shown.users)) ≡ false) c.as_slice.ensures.names
+    c.in-None.ensures.none)

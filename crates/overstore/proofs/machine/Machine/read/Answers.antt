@@ -1,26 +1,31 @@
-use Rattle.std.proofs.Common.{rules, arith, ◌≡◌, ◌≤◌, length, ap, sym}
-use Rattle.overstore.specs.Machine.{text_sum}
-use Rattle.overstore.proofs.Giving.{text_fits, sealed_at, not_given, given, asker_reads}
-use Rattle.overstore.proofs.Sealing.{opened, never_refused}
+use Rattle.std.proofs.Common.{ap, subst}
+use Rattle.std.specs.Prelude.{Ok}
+use Rattle.ov_history.specs.Keys.{AreTrueTokens}
+use Rattle.ov_history.specs.Sealed.{Masters}
+use Rattle.ov_history.specs.Shown.{Shown, filed_at}
+use Rattle.ov_state.specs.Chains.{AnswersChain, LeadsToKeys}
+use Rattle.ov_state.specs.Queries.{file_named, user_named}
+use Rattle.overstore.specs.Machine.{Kept}
+use Rattle.overstore.proofs.Reading.{read_given, read_never_none, read_faulted}
 use Rattle.overstore.proofs.machine.Machine.read.Goals as goal
 
+pub unreachable-requires : goal.unreachable-requires
+unreachable-requires c =
+    let shown = ap (λ (k : Kept). k.shown) c.self.view_is in
+    read_never_none c.args.self.now c.args.user c.args.file c.in-Ok.chained
+    (subst (λ (s : Shown). AnswersChain s (user_named s c.args.user) (file_named s c.args.file) (Ok c.in-Ok.chained)) shown c.in-Ok.ensures.chain)
+    (subst (λ (s : Shown). (k : Masters) → AreTrueTokens k s → LeadsToKeys k (filed_at s c.in-Ok.chained.file) c.in-Ok.chained) shown c.in-Ok.ensures.keys)
+    (rw c.in-None.is at c.in_ok-bytes-in-Ok.ensures) c.requires
+
+pub returns-in-Some : goal.returns-in-Some
+returns-in-Some c =
+    let shown = ap (λ (k : Kept). k.shown) c.self.view_is in
+    read_given c.args.self.now c.args.user c.args.file c.in-Ok.chained c.in-Some.bytes
+    (subst (λ (s : Shown). AnswersChain s (user_named s c.args.user) (file_named s c.args.file) (Ok c.in-Ok.chained)) shown c.in-Ok.ensures.chain)
+    (subst (λ (s : Shown). (k : Masters) → AreTrueTokens k s → LeadsToKeys k (filed_at s c.in-Ok.chained.file) c.in-Ok.chained) shown c.in-Ok.ensures.keys)
+    (rw c.in-Some.is at c.in_ok-bytes-in-Ok.ensures)
+
 pub returns-in-Err : goal.returns-in-Err
-returns-in-Err c h s = not_given c.args.self.now c.args.user c.args.file _ c.in-Err.ensures h s
-
-pub open-requires : goal.open-requires
-open-requires c =
-    let fits = text_fits c.self.inside.files.entries _ (c.in-Some.field-0-0.now, c.in-Some.filed.now) c.in-Some.ensures.entry in
-    omega (arith, fits, c.self.invariant.sum, c.self.invariant.few_bytes)
-
-pub unreachable-requires-in-None : goal.unreachable-requires-in-None
-unreachable-requires-in-None c =
-    let at = c.in-Some.ensures.entry in
-    let own = asker_reads _ _ c.args.user c.args.file _ _ _ _ c.self.view_is c.in-Ok.ensures at in
-    never_refused _ _ _ _ _ own (sealed_at _ _ c.requires.0 _ c.in-Some.field-0-0.now _ c.self.view_is c.requires.1 at) (rw c.in-None.is at c.in_ok-bytes.ensures)
-
-pub returns : goal.returns
-returns c h s =
-    let at = c.in-Some.ensures.entry in
-    let own = asker_reads _ _ c.args.user c.args.file _ _ _ _ c.self.view_is c.in-Ok.ensures at in
-    given c.args.self.now c.args.user c.args.file _ c.in-Ok.numbers.1 h s c.in-Ok.ensures.0 c.in-Ok.ensures.2.0
-    (opened _ _ _ _ _ _ own (sealed_at _ _ h _ c.in-Some.field-0-0.now _ c.self.view_is s at) (rw c.in-Some-2.is at c.in_ok-bytes.ensures).0)
+returns-in-Err c =
+    read_faulted c.args.self.now c.self.inside.catalogue.shown c.args.user c.args.file c.in-Err.fault c.faulted.result (ap (λ (k : Kept). k.shown) c.self.view_is)
+    c.in-Err.ensures.chain c.faulted.ensures

@@ -1,0 +1,6 @@
+use Rattle.std.proofs.Common.{◌≡◌, take}
+use Rattle.ov_history.specs.Lists.{names_in}
+use Rattle.overstore.proofs.machine.Machine.names_of.Given as goal
+
+abbrev pub invariant-loop-user : goal.invariant-loop-user
+invariant-loop-user l = l.names ≡ names_in l.set (take l.user l.self.shown.users)
