@@ -1,4 +1,4 @@
-"""Tries the largest store: 67,108,864 bytes of files, and one byte more, which is refused.
+"""Tries stores that are full, in both modes: of bytes, of files and of nodes. One more is refused.
 
 Run, after `rt run` has built the program: python3 tools/full_store.py crates/overstore/out/overstore
 """
@@ -10,23 +10,56 @@ import tempfile
 program = pathlib.Path(sys.argv[1]).resolve()
 keys = pathlib.Path(__file__).resolve().parent.parent / "examples" / "keys.hex"
 MIB = 1_048_576
+USERS = 12
 
-bodies = [bytes([number]) * MIB for number in range(64)]
-script = [b"enrol a\n"]
-wanted = [b"ok 1\n"]
-for number, body in enumerate(bodies):
-    script += [b"create f%d a %d\n" % (number, MIB), body, b"\n"]
-    wanted.append(b"ok %d\n" % (number + 2))
-script += [b"create one-more a 1\nx\n", b"create empty a 0\n\n"]
-wanted += [b"refused 9 BytesFull\n", b"ok 66\n"]
-for number, body in enumerate(bodies):
-    script.append(b"read a f%d\n" % number)
-    wanted += [b"data a f%d %d\n" % (number, MIB), body, b"\n"]
-wanted.append(b"end epoch 66\n")
 
-with tempfile.TemporaryDirectory() as folder:
-    (pathlib.Path(folder) / "keys.hex").write_bytes(keys.read_bytes())
-    ran = subprocess.run([program, "run", "full"], cwd=folder, input=b"".join(script), capture_output=True)
-if ran.returncode != 0 or ran.stdout != b"".join(wanted):
-    sys.exit(f"status {ran.returncode}: the replies are not what they should be; {ran.stderr.decode()}")
-print("67,108,864 bytes are kept and read, and one byte more is refused")
+def full_of_bytes():
+    """67,108,864 bytes in 64 files for one user, who reads them all, and for nobody."""
+    bodies = [bytes([number]) * MIB for number in range(64)]
+    for readers in (b"a", b"-"):
+        script = [b"enrol a\n"]
+        replies = [b"ok 1\n"]
+        for number, body in enumerate(bodies):
+            script += [b"create f%d %s %d\n" % (number, readers, MIB), body, b"\n"]
+            replies.append(b"ok %d\n" % (number + 2))
+        script += [b"create one-more %s 1\nx\n" % readers, b"create empty %s 0\n\n" % readers]
+        replies += [b"refused 9 BytesFull\n", b"ok 66\n"]
+        for number, body in enumerate(bodies):
+            script.append(b"read a f%d\n" % number)
+            replies += [b"data a f%d %d\n" % (number, MIB), body, b"\n"] if readers == b"a" else [b"refused 4 NoPath\n"]
+        replies.append(b"end epoch 66\n")
+        yield script, replies
+
+
+def full_of_files():
+    """16,384 files without bytes."""
+    script = [b"enrol a\n"] + [b"create f%d a 0\n\n" % number for number in range(16_384)]
+    replies = [b"ok %d\n" % (number + 1) for number in range(16_385)]
+    script += [b"create one-more a 0\n\n", b"list f16383\n"]
+    replies += [b"refused 8 FilesFull\n", b"list f16383 a\n", b"end epoch 16385\n"]
+    yield script, replies
+
+
+def full_of_nodes():
+    """A file for each set of twelve users that isn't one user alone: 4,096 base nodes."""
+    script = [b"enrol u%d\n" % user for user in range(USERS)]
+    for users in range(1 << USERS):
+        names = [b"u%d" % user for user in range(USERS) if users >> user & 1]
+        if len(names) != 1:
+            script.append(b"create f%d %s 0\n\n" % (users, b",".join(names) or b"-"))
+    replies = [b"ok %d\n" % (number + 1) for number in range(4_096)]
+    script += [b"enrol z\n", b"create again u0,u1 0\n\n"]
+    replies += [b"refused 10 NodesFull\n", b"ok 4097\n", b"end epoch 4097\n"]
+    yield script, replies
+
+
+stores = {"bytes": full_of_bytes, "files": full_of_files, "nodes": full_of_nodes}
+for name, cases in stores.items():
+    for script, replies in cases():
+        for mode in ("full", "delta"):
+            with tempfile.TemporaryDirectory() as folder:
+                (pathlib.Path(folder) / "keys.hex").write_bytes(keys.read_bytes())
+                ran = subprocess.run([program, "run", mode], cwd=folder, input=b"".join(script), capture_output=True)
+            if ran.returncode != 0 or ran.stdout != b"".join(replies):
+                sys.exit(f"full of {name}, {mode}: status {ran.returncode}, wrong replies; {ran.stderr.decode()}")
+    print(f"full of {name}: all replies are right, and one more is refused")

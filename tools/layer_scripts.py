@@ -1,0 +1,63 @@
+"""Scripts by which the speed of the layers is measured (docs/PERFORMANCE.md).
+
+    python3 tools/layer_scripts.py sets|reads|revoke|grant|wide > SCRIPT
+
+sets    twelve users, and a file of no bytes for each of the 4,084 other sets of them
+reads   one user, 1,000 files of 4,096 bytes, and a read of each
+revoke  two users, 16,384 files for both, and 100 revocations and grants of one file
+grant   three users, 10,000 files of 4,096 bytes for two of them, and a grant of one to the third
+wide    those of `sets`, 12,288 more files for all twelve, and 500 revocations and grants of one
+"""
+import sys
+
+
+def put(text):
+    sys.stdout.buffer.write(text)
+
+
+def create(name, users, size):
+    put(b"create %s %s %d\n%s\n" % (name, users or b"-", size, b"x" * size))
+
+
+def sets():
+    for user in range(12):
+        put(b"enrol u%d\n" % user)
+    for members in range(1 << 12):
+        users = [b"u%d" % user for user in range(12) if members >> user & 1]
+        if len(users) != 1:
+            create(b"f%d" % members, b",".join(users), 0)
+
+
+def reads():
+    put(b"enrol a\n")
+    for file in range(1000):
+        create(b"f%d" % file, b"a", 4096)
+    for file in range(1000):
+        put(b"read a f%d\n" % file)
+
+
+def revoke():
+    put(b"enrol a\nenrol b\n")
+    for file in range(16384):
+        create(b"f%d" % file, b"a,b", 0)
+    for _ in range(100):
+        put(b"revoke b f8000\ngrant b f8000\n")
+
+
+def grant():
+    put(b"enrol a\nenrol b\nenrol c\n")
+    for file in range(10000):
+        create(b"f%d" % file, b"a,b", 4096)
+    put(b"grant c f5000\n")
+
+
+def wide():
+    sets()
+    users = b",".join(b"u%d" % user for user in range(12))
+    for file in range(12288):
+        create(b"g%d" % file, users, 0)
+    for _ in range(500):
+        put(b"revoke u3 g77\ngrant u3 g77\n")
+
+
+{"sets": sets, "reads": reads, "revoke": revoke, "grant": grant, "wide": wide}[sys.argv[1]]()
