@@ -1,5 +1,6 @@
 pub mod SetLaws
 pub mod SetSizes
+pub mod Tests
 pub mod SetBytes
 pub mod WordBits
 pub mod WordBytes

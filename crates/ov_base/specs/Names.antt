@@ -1,6 +1,7 @@
 -- Which bytes are the name of a user or of a file.
 use Rattle.std.specs.Prelude.{ℕ, Bool, false, ◌&&◌, ◌||◌, nat_le, nat_lt, ◌==◌, List, [], ◌∷◌, length, IsTrue}
 use Rattle.std.specs.List.{list_all}
+use Rattle.ov_base.specs.declared.limits.TheConstants.{MAX_NAME_BYTES}
 
 -- a letter `a-z` or a digit `0-9`
 abbrev pub is_letter_or_digit : ℕ → Bool
@@ -10,10 +11,10 @@ is_letter_or_digit b = (nat_le 97 b && nat_le b 122) || (nat_le 48 b && nat_le b
 abbrev pub is_name_byte : ℕ → Bool
 is_name_byte b = is_letter_or_digit b || b == 46 || b == 95 || b == 45
 
--- a letter or a digit, and then fewer than 64 bytes that may stand in a name
+-- a letter or a digit, and then fewer than MAX_NAME_BYTES bytes that may stand in a name
 abbrev pub is_name : List ℕ → Bool
 is_name [] = false
-is_name (first ∷ rest) = is_letter_or_digit first && nat_lt (length rest) 64 && list_all is_name_byte rest
+is_name (first ∷ rest) = is_letter_or_digit first && nat_lt (length rest) MAX_NAME_BYTES && list_all is_name_byte rest
 
 abbrev pub IsName : List ℕ → Type 0
 IsName bytes = IsTrue (is_name bytes)

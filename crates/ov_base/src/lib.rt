@@ -5,7 +5,8 @@
 //! a list of distinct names; [`Octets`] is a list of bytes on the heap; a [`UserSet`] is a set of
 //! users, of any width; a [`Mode`] says when a file has a surface layer; a [`Refusal`] says by
 //! number and word why the access-matrix machine refuses a command; a [`Key`] is 32 bytes that no
-//! text shows; [`Memory`] is the one answer that may come from any call that allocates.
+//! text shows; [`Memory`] is the one answer that may come from any call that allocates. The limits
+//! of a store are the constants of [`limits`].
 //!
 //! Contracts see a name and octets as the list of their bytes, so a clause compares them with `≡`
 //! and knows nothing of how they are kept. They see a set of users as the number whose bits are its
@@ -17,6 +18,7 @@
 #![tactic(auto)]
 
 mod key;
+pub mod limits;
 mod memory;
 mod mode;
 mod name;

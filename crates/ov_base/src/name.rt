@@ -7,12 +7,12 @@ ghost use Rattle.std.specs.List.{list_all};
 ghost use Rattle.std.specs.Str.{bytes_eq};
 ghost use Rattle.std.proofs.Common.{ap};
 ghost use Rattle.std.proofs.lemmas.Slice.Eq.{bytes_eq-Decides};
+ghost use Rattle.ov_base.specs.declared.limits.TheConstants.{MAX_NAME_BYTES};
 ghost use Rattle.ov_base.specs.Names.{is_letter_or_digit, is_name_byte, is_name, IsName};
 
+use crate::limits::MAX_NAME_BYTES;
 use std::hash::{Hash, Hasher};
 use std::marker::Model;
-
-const MAX_LEN: usize = 64;
 
 /// A name: 1 to 64 bytes of `a-z`, `0-9`, `.`, `_` and `-`, of which the first is a letter or a
 /// digit.
@@ -20,7 +20,7 @@ const MAX_LEN: usize = 64;
 /// It is kept in place, so making, copying and reading one takes no memory.
 #[derive(Drop)]
 pub struct Name {
-    bytes: [u8; 64],
+    bytes: [u8; MAX_NAME_BYTES],
     len: usize,
 }
 
@@ -29,7 +29,7 @@ impl Model for Name {
 
     ghost view = { λ n. take n.len n.bytes };
 
-    ghost invariant = { λ n. (n.len ≤ 64) × IsName (take n.len n.bytes) };
+    ghost invariant = { λ n. (n.len ≤ MAX_NAME_BYTES) × IsName (take n.len n.bytes) };
 }
 
 fn is_letter_or_digit(byte: u8) -> bool
@@ -56,7 +56,7 @@ fn is_name(text: &[u8]) -> bool
     match text {
         [] => false,
         [first, rest @ ..] => {
-            is_letter_or_digit(*first) && rest.len() < MAX_LEN && are_name_bytes(rest)
+            is_letter_or_digit(*first) && rest.len() < MAX_NAME_BYTES && are_name_bytes(rest)
         }
     }
 }
@@ -71,7 +71,7 @@ impl Name {
             return None;
         }
         let len = text.len();
-        let mut bytes = [0; MAX_LEN];
+        let mut bytes = [0; MAX_NAME_BYTES];
         bytes[..len].copy_from_slice(text);
         Some(Name { bytes, len })
     }

@@ -1,6 +1,7 @@
 //! Sets of users.
 ghost use Rattle.std.specs.Prelude.{◌≡◌, ◌<◌, ◌≤◌, ◌*◌, ◌==◌, ◌↔◌, ℕ, length, IsSome, IfSome};
 ghost use Rattle.std.specs.Cmp.{nat_eq_equiv, partial_equiv_from_equiv};
+ghost use Rattle.ov_base.specs.declared.limits.TheConstants.{MAX_SET_WORDS};
 ghost use Rattle.ov_base.specs.Sets.{empty, has, with, without, within, union, size, IsBelow, bytes_of, set_of_bytes};
 ghost use Rattle.ov_base.specs.Words.{set_of_words};
 
@@ -25,13 +26,13 @@ impl<const W: usize> Model for UserSet<W> {
 
     ghost view = { λ s. set_of_words s.words };
 
-    ghost invariant = { λ s. (1 ≤ length s.words) × (length s.words ≤ 1024) };
+    ghost invariant = { λ s. (1 ≤ length s.words) × (length s.words ≤ MAX_SET_WORDS) };
 }
 
 impl<const W: usize> UserSet<W> {
     /// The set without members.
     pub fn empty() -> Self
-        requires { (1 ≤ W) × (W ≤ 1024) }
+        requires { (1 ≤ W) × (W ≤ MAX_SET_WORDS) }
         ensures { result ≡ empty }
     {
         UserSet { words: [0; W] }
@@ -92,7 +93,7 @@ impl<const W: usize> UserSet<W> {
     pub fn count(&self) -> u32
         ensures size { result ≡ size self.now }
         ensures limit { result ≤ 64 * W }
-        ensures width { (1 ≤ W) × (W ≤ 1024) }
+        ensures width { (1 ≤ W) × (W ≤ MAX_SET_WORDS) }
     {
         words::count(&self.words)
     }
@@ -109,7 +110,7 @@ impl<const W: usize> UserSet<W> {
 
     /// The set that is written so.
     pub fn read(bytes: &[u8]) -> Option<Self>
-        requires { (1 ≤ W) × (W ≤ 1024) }
+        requires { (1 ≤ W) × (W ≤ MAX_SET_WORDS) }
         ensures found { IsSome result ↔ (length bytes.now ≡ 8 * W) }
         ensures set { IfSome result (λ set. set ≡ set_of_bytes bytes.now) }
         ensures bytes { IfSome result (λ set. bytes_of (8 * W) set ≡ bytes.now) }
@@ -140,7 +141,7 @@ mod tests {
 
     /// The first and the last user of a width, and the bytes of the two.
     fn ends_of_a_width<const W: usize>(rt: &impl Abort, bytes: &mut [u8])
-        requires width { (1 ≤ W) × (W ≤ 1024) }
+        requires width { (1 ≤ W) × (W ≤ MAX_SET_WORDS) }
         requires bytes { length bytes.old ≡ 8 * W }
     {
         let last = (64 * W - 1) as u32;

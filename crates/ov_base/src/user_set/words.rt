@@ -1,5 +1,6 @@
 //! Words that are a set of users: user n is bit `n % 64` of word `n / 64`.
 ghost use Rattle.std.specs.Prelude.{◌≡◌, ◌==◌, ◌<◌, ◌≤◌, ◌*◌, ◌^◌, ◌+◌, ℕ, length, slice_index, take, drop};
+ghost use Rattle.ov_base.specs.declared.limits.TheConstants.{MAX_SET_WORDS};
 ghost use Rattle.ov_base.specs.Sets.{has, with, without, within, union, size, IsBelow, bytes_of, set_of_bytes};
 ghost use Rattle.ov_base.specs.Words.{set_of_words};
 
@@ -69,7 +70,7 @@ pub fn are_same(words: &[u64], other: &[u64]) -> bool
 }
 
 pub fn count(words: &[u64]) -> u32
-    requires { length words.now ≤ 1024 }
+    requires { length words.now ≤ MAX_SET_WORDS }
     ensures size { result ≡ size (set_of_words words.now) }
     ensures limit { result ≤ 64 * length words.now }
 {
