@@ -1,2 +1,5 @@
+pub mod Calls
+pub mod Files
 pub mod Memory
 pub mod Putting
+pub mod Streams

@@ -1,8 +1,8 @@
 -- A source and a sink in memory.
-use Rattle.std.specs.Prelude.{◌≡◌, ℕ, ◌+◌, ◌-◌, ◌^◌, List, min}
+use Rattle.std.specs.Prelude.{◌≡◌, ℕ, ◌+◌, ◌-◌, ◌^◌, List, length, min, Contains, Result, MatchResult}
 
--- what is left of a source's bytes, how many of them a call gives at most, the numbers of the calls
--- that fail, how many calls there were, and how many of them failed
+-- What is left of a source's bytes, how many of them a call gives at most, the numbers of the calls
+-- that fail, how many calls there were, and how many of them failed.
 pub record Reads : Type 0 where
   pub left : List ℕ
   pub piece : ℕ
@@ -10,16 +10,33 @@ pub record Reads : Type 0 where
   pub calls : ℕ
   pub faults : ℕ
 
--- what was put to a sink, the numbers of the calls that fail, how many calls there were, and how
--- many failed
+-- What was put to a sink, the numbers of the calls that fail, how many calls there were, and how
+-- many failed.
 pub record Writes : Type 0 where
   pub written : List ℕ
   pub fails : List ℕ
   pub calls : ℕ
   pub faults : ℕ
 
--- one more call of a source, which is told the same things still
-pub record IsCall (old new : Reads) : Type 0 where
+-- The number of calls after one call more, which stands still at its last value.
+abbrev pub one_call : ℕ → ℕ
+one_call calls = min (calls + 1) (2 ^ 64 - 1)
+
+-- A take leaves the size of a piece and the calls that fail, and is one call.
+pub record IsTake (old new : Reads) : Type 0 where
   pub piece : new.piece ≡ old.piece
   pub fails : new.fails ≡ old.fails
-  pub calls : new.calls ≡ min (old.calls + 1) (2 ^ 64 - 1)
+  pub calls : new.calls ≡ one_call old.calls
+
+-- A put leaves the calls that fail, and is one call.
+pub record IsPut (old new : Writes) : Type 0 where
+  pub fails : new.fails ≡ old.fails
+  pub calls : new.calls ≡ one_call old.calls
+
+-- A take gives as many bytes as are left, as there is room for and as a piece has, or it is one of
+-- the calls that fail.
+abbrev pub Gives : {E : Type 0} → Reads → ℕ → Result ℕ E → Type 0
+Gives old room result =
+    MatchResult result
+    (λ n. (Contains old.fails old.calls → ⊥) × (n ≡ min (min (length old.left) room) old.piece))
+    (λ _. Contains old.fails old.calls)

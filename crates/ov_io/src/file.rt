@@ -1,16 +1,19 @@
 //! A file as a source. What a file really holds is trusted.
-ghost use Rattle.std.specs.Prelude.{◌≡◌, ◌≤◌, length, IfOk, IfSome, None};
-ghost use Rattle.ov_base.specs.Causes.{Counts, HasCause};
+ghost use Rattle.std.specs.Prelude.{◌≡◌, IfOk, ⊤};
 ghost use Rattle.std.specs.Io.{ReadsAtMost};
+ghost use Rattle.std.specs.Io.KnownBytes.{ReadConsumes};
+ghost use Rattle.ov_base.specs.Causes.{Counts, HasCause};
+ghost use Rattle.ov_io.specs.Files.{left_of};
 
+use crate::outside::read_some;
 use crate::{Fault, Source};
 use ov_base::Memory;
 use std::fs;
-use std::io::Read;
 use std::rt::Files;
 
-/// The file at a path, which is opened at the first call. It tells nothing of its bytes. A file that
-/// can't be opened is a fault of that call; the next one tries again.
+/// The file at a path, which is opened at the first call and from then on tells of its bytes what
+/// the files of the runtime tell. A file that can't be opened is a fault of that call; the next one
+/// tries again.
 #[derive(Drop)]
 pub struct FileSource<R: Files + Alloc + Drop> {
     rt: R,
@@ -34,38 +37,42 @@ impl<R: Files + Alloc + Drop> FileSource<R> {
     }
 
     // Opens the file where it isn't open, and reads.
-    fn read(&mut self, buf: &mut [u8]) -> Option<usize>
-        ensures bound { IfSome result (λ n. n ≤ length buf.old) }
+    fn read(&mut self, buf: &mut [u8]) -> Result<usize, Fault>
+        ensures bound { ReadsAtMost result buf.new }
+        ensures bytes { ReadConsumes (left_of R.File.remaining self.old.file)
+            (left_of R.File.remaining self.new.file) result buf.new }
         ensures same { self.new.faults ≡ self.old.faults }
     {
         if self.file.is_none() {
             self.file = fs::open(&self.rt, self.path.as_str()).ok();
         }
         match &mut self.file {
-            Some(file) => file.read(buf).ok(),
-            None => None,
+            Some(file) => read_some(file, buf),
+            None => Err(Fault),
         }
     }
 }
 
 impl<R: Files + Alloc + Drop> Source for FileSource<R> {
-    ghost left = { λ _. None };
+    ghost left = { λ s. left_of R.File.remaining s.file };
 
     ghost faults = { λ s. s.faults };
 
     ghost borrow = { λ _. 0 };
 
+    ghost takes = { λ _ _. ⊤ };
+
     fn take(&mut self, buf: &mut [u8]) -> Result<usize, Fault>
         ensures bound { ReadsAtMost result buf.new }
+        ensures bytes { ReadConsumes (left_of R.File.remaining self.old.file)
+            (left_of R.File.remaining self.new.file) result buf.new }
         ensures cause { HasCause self.old.faults self.new.faults result }
         ensures counted { Counts self.old.faults self.new.faults result }
     {
-        match self.read(buf) {
-            Some(count) => Ok(count),
-            None => {
-                self.faults = self.faults.saturating_add(1);
-                Err(Fault)
-            }
+        let taken = self.read(buf);
+        if taken.is_err() {
+            self.faults = self.faults.saturating_add(1);
         }
+        taken
     }
 }

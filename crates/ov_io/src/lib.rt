@@ -1,4 +1,4 @@
-//! Where bytes come from and where they go: [`Source`] and [`Sink`].
+//! Where bytes come from and where they go: [`Source`], [`Sink`], and [`Stream`], which is both.
 //!
 //! Both traits tell, where they can, what a source has left and what a sink was given, and both
 //! count their faults. The count never falls, and a call answers [`Fault`] only where it rose. So a
@@ -6,17 +6,23 @@
 //! what was read or written of each source or sink that tells it. The words for it, `Rose` and
 //! `HasCause`, are those of `ov_base`.
 //!
-//! * [`MemSource`] and [`MemSink`] are in memory, tell everything, and fail at the calls that they
-//!   are told to.
-//! * [`FileSource`] is over a path, [`StdSource`] and [`StdSink`] are over the readers and writers of
-//!   std. Over files, sockets and terminals these tell nothing of their contents: they are the edge
-//!   where the system is trusted.
-//! * Both traits hold of `&mut S` where they hold of `S`, with the same meanings.
+//! Each trait has one relation between the value before its call and after it, `takes` and `puts`.
+//! Code over any source can show the relation of one call alone, so contracts count takes by it
+//! (`TakesWhile` in `specs/Calls`); and by it a stream says what a take leaves written and what a
+//! put leaves to be read.
+//!
+//! * [`MemSource`], [`MemSink`] and [`MemStream`] are in memory, tell everything, and fail at the
+//!   calls that they are told to.
+//! * [`FileSource`] is over a path, [`StdSource`], [`StdSink`] and [`StdStream`] are over what std
+//!   reads and writes. Over files, sockets and terminals these tell nothing of their contents: they
+//!   are the edge where the system is trusted.
+//! * All three traits hold of `&mut S` where they hold of `S`, with the same meanings.
 #![tactic(auto)]
 
 mod file;
 mod memory;
 mod outside;
+mod stream;
 #[cfg(test)]
 mod tests;
 mod traits;
@@ -24,4 +30,5 @@ mod traits;
 pub use file::FileSource;
 pub use memory::{MemSink, MemSource};
 pub use outside::{StdSink, StdSource};
-pub use traits::{Fault, Sink, Source};
+pub use stream::{MemStream, StdStream};
+pub use traits::{Fault, Sink, Source, Stream};

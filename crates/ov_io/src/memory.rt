@@ -1,10 +1,10 @@
 //! A source and a sink in memory, which fail at the calls that they are told to.
-ghost use Rattle.std.specs.Prelude.{◌≡◌, ◌≤◌, ◌<◌, ◌↔◌, [], length, take, drop, Some, IsTrue, IsErr, IfOk, OnErr, Contains, min, ◌+◌, ◌-◌, ◌^◌};
+ghost use Rattle.std.specs.Prelude.{◌≡◌, ◌≤◌, ◌<◌, ◌↔◌, [], length, take, drop, Some, IsTrue, IsErr, OnErr, Contains, min};
 ghost use Rattle.std.specs.Io.{ReadsAtMost};
 ghost use Rattle.std.specs.Io.KnownBytes.{ReadConsumes};
 ghost use Rattle.ov_base.specs.Causes.{HasCause, Counts};
 ghost use Rattle.ov_io.specs.Putting.{Puts};
-ghost use Rattle.ov_io.specs.Memory.{Reads, Writes, IsCall};
+ghost use Rattle.ov_io.specs.Memory.{Reads, Writes, IsTake, IsPut, Gives};
 
 use crate::{Fault, Sink, Source};
 use ov_base::Octets;
@@ -59,7 +59,13 @@ impl MemSource {
     /// calls whose numbers, from 0 and below 256, are in `fails`.
     pub fn new(bytes: Octets, piece: usize, fails: Octets) -> MemSource
         requires { 0 < piece }
-        ensures { result ≡ record { left = bytes; piece = piece; fails = fails; calls = 0; faults = 0 } }
+        ensures { result ≡ record {
+          left = bytes;
+          piece = piece;
+          fails = fails;
+          calls = 0;
+          faults = 0;
+        } }
     {
         MemSource {
             bytes,
@@ -79,15 +85,15 @@ impl Source for MemSource {
 
     ghost borrow = { λ _. 0 };
 
+    ghost takes = { IsTake };
+
     fn take(&mut self, buf: &mut [u8]) -> Result<usize, Fault>
         ensures bound { ReadsAtMost result buf.new }
         ensures bytes { ReadConsumes (Some self.old.left) (Some self.new.left) result buf.new }
-        ensures counted { Counts self.old.faults self.new.faults result }
         ensures cause { HasCause self.old.faults self.new.faults result }
-        ensures call { IsCall self.old self.new }
-        ensures fails { IsErr result ↔ Contains self.old.fails self.old.calls }
-        ensures count { IfOk result (λ n.
-            n ≡ min (min (length self.old.left) (length buf.old)) self.old.piece) }
+        ensures counted { Counts self.old.faults self.new.faults result }
+        ensures step { IsTake self.old self.new }
+        ensures gives { Gives self.old (length buf.old) result }
     {
         let call = self.calls;
         self.calls = call.saturating_add(1);
@@ -151,12 +157,13 @@ impl Sink for MemSink {
 
     ghost borrow = { λ _. 0 };
 
+    ghost puts = { IsPut };
+
     fn put(&mut self, bytes: &[u8]) -> Result<(), Fault>
         ensures bytes { Puts (Some self.old.written) (Some self.new.written) result bytes.now }
         ensures counted { Counts self.old.faults self.new.faults result }
         ensures cause { HasCause self.old.faults self.new.faults result }
-        ensures call { (self.new.fails ≡ self.old.fails)
-            × (self.new.calls ≡ min (self.old.calls + 1) (2 ^ 64 - 1)) }
+        ensures step { IsPut self.old self.new }
         ensures fails { Contains self.old.fails self.old.calls → IsErr result }
         ensures kept { OnErr result (self.new.written ≡ self.old.written) }
     {

@@ -1,61 +1,88 @@
-//! Pieces, faults and short writes.
-ghost use Rattle.std.specs.Prelude.{None};
+//! Pieces, faults, short writes and files.
+ghost use Rattle.std.specs.Prelude.{◌≡◌, ◌⊎◌, take, IfOk, OnErr};
+ghost use Rattle.std.specs.Io.KnownBytes.{Appends, Consumes};
+ghost use Rattle.ov_base.specs.Causes.{Rose};
 
-use crate::{FileSource, MemSink, MemSource, Sink, Source, StdSink, StdSource};
+use crate::{
+    Fault, FileSource, MemSink, MemSource, MemStream, Sink, Source, StdSink, StdSource, StdStream,
+    Stream,
+};
 use ov_base::Octets;
 use std::fs;
 use std::io::{self, Cursor, ErrorKind, Read, Write};
 use std::test::Fail;
 
+// Sends back what one take gives. Its clauses need the laws of a stream.
+fn echo<L: Stream>(stream: &mut L, buf: &mut [u8]) -> Result<usize, Fault>
+    ensures read { IfOk result (λ n.
+        Consumes (L.Source.left stream.old) (L.Source.left stream.new) (take n buf.new)) }
+    ensures written { IfOk result (λ n.
+        Appends (L.Sink.written stream.old) (L.Sink.written stream.new) (take n buf.new)) }
+    ensures cause { OnErr result (Rose (L.Source.faults stream.old) (L.Source.faults stream.new)
+        ⊎ Rose (L.Sink.faults stream.old) (L.Sink.faults stream.new)) }
+    ensures same { (L.Source.borrow stream.new ≡ L.Source.borrow stream.old)
+        × (L.Sink.borrow stream.new ≡ L.Sink.borrow stream.old) }
+{
+    let count = stream.take(buf)?;
+    let (front, _) = buf.split_at(count);
+    stream.put(front)?;
+    Ok(count)
+}
+
 #[test]
-fn a_source_in_pieces(rt: HostRuntime) -> Result<(), Fail> {
+fn in_memory(rt: HostRuntime) -> Result<(), Fail> {
     let alloc = rt.alloc();
-    let bytes = Octets::copy(alloc, b"hello")?;
-    let mut source = MemSource::new(bytes, 2, Octets::copy(alloc, &[1])?);
     let mut buf = [0u8; 4];
-    assert_eq!(rt; source.take(&mut buf), Ok(2));
+    let source = MemSource::new(
+        Octets::copy(alloc, b"hello")?,
+        2,
+        Octets::copy(alloc, &[1])?,
+    );
+    let sink = MemSink::new(alloc, Octets::copy(alloc, &[1])?);
+    let mut stream = MemStream { source, sink };
+    assert_eq!(rt; echo(&mut stream, &mut buf), Ok(2));
     assert_eq!(rt; buf, *b"he\0\0");
-    assert!(rt; source.take(&mut buf).is_err());
-    assert_eq!(rt; source.take(&mut buf), Ok(2));
-    assert_eq!(rt; buf, *b"ll\0\0");
+    assert!(rt; stream.take(&mut buf).is_err());
+    assert!(rt; stream.put(b"x").is_err());
+    assert_eq!(rt; echo(&mut stream, &mut buf), Ok(2));
+    assert_eq!(rt; echo(&mut (&mut stream), &mut buf), Ok(1));
+    assert_eq!(rt; stream.take(&mut buf), Ok(0));
+    assert!(rt; stream.put(b", hello").is_ok());
+    assert_eq!(rt; stream.sink.written(), b"hello, hello".as_slice());
     Ok(())
 }
 
-#[test]
-fn a_sink_that_fails_once(rt: HostRuntime) -> Result<(), Fail> {
-    let alloc = rt.alloc();
-    let mut sink = MemSink::new(alloc, Octets::copy(alloc, &[1])?);
-    assert!(rt; sink.put(b"ab").is_ok());
-    assert!(rt; sink.put(b"cd").is_err());
-    assert!(rt; (&mut sink).put(b"ef").is_ok());
-    assert_eq!(rt; sink.written(), b"abef".as_slice());
-    Ok(())
-}
-
-// Fails each read and each write after the first.
+// Reads and writes one byte in a call, and fails the second call.
 #[derive(Drop)]
-struct Once {
-    used: bool,
+struct Halting {
+    calls: u8,
 }
 
-impl Read for Once {
-    fn read(&mut self, buf: &mut [u8]) -> io::Result<usize> {
-        if self.used || buf.is_empty() {
+impl Halting {
+    fn call(&mut self) -> io::Result<()> {
+        self.calls = self.calls.saturating_add(1);
+        if self.calls == 2 {
             return Err(io::Error::from(ErrorKind::Other));
         }
-        self.used = true;
+        Ok(())
+    }
+}
+
+impl Read for Halting {
+    fn read(&mut self, buf: &mut [u8]) -> io::Result<usize> {
+        self.call()?;
+        if buf.is_empty() {
+            return Ok(0);
+        }
         buf[0] = b'x';
         Ok(1)
     }
 }
 
-impl Write for Once {
+impl Write for Halting {
     fn write(&mut self, buf: &[u8]) -> io::Result<usize> {
-        if self.used || buf.is_empty() {
-            return Err(io::Error::from(ErrorKind::Other));
-        }
-        self.used = true;
-        Ok(1)
+        self.call()?;
+        Ok(buf.len().min(1))
     }
 
     fn flush(&mut self) -> io::Result<()> {
@@ -69,16 +96,22 @@ fn over_readers_and_writers(rt: HostRuntime) {
     let mut source = StdSource::new(Cursor::new(b"abc".as_slice()));
     assert_eq!(rt; source.take(&mut buf), Ok(3));
     assert_eq!(rt; source.take(&mut buf), Ok(0));
-    let mut failing = StdSource::new(Once { used: false });
-    assert_eq!(rt; failing.take(&mut buf), Ok(1));
-    assert!(rt; failing.take(&mut buf).is_err());
-    assert!(rt; StdSink::new(Once { used: false }).put(b"x").is_ok());
-    assert!(rt; StdSink::new(Once { used: false }).put(b"xy").is_err());
+    let mut source = StdSource::new(Halting { calls: 0 });
+    assert_eq!(rt; source.take(&mut buf), Ok(1));
+    assert!(rt; source.take(&mut buf).is_err());
+    assert_eq!(rt; source.take(&mut buf), Ok(1));
+    let mut sink = StdSink::new(Halting { calls: 0 });
+    assert!(rt; sink.put(b"ab").is_err());
+    assert!(rt; sink.put(b"abcd").is_ok());
+    let mut stream = StdStream::new(Halting { calls: 0 });
+    assert!(rt; stream.put(b"a").is_ok());
+    assert!(rt; stream.take(&mut buf).is_err());
+    assert_eq!(rt; echo(&mut stream, &mut buf), Ok(1));
 }
 
 #[test]
-fn a_file_is_opened_at_the_first_take(rt: HostRuntime) -> Result<(), Fail> {
-    let path = "a_file_is_opened_at_the_first_take.bytes";
+fn a_file_that_is_missing_then_grows_and_a_folder(rt: HostRuntime) -> Result<(), Fail> {
+    let path = "a_file_that_grows.bytes";
     let mut buf = [0u8; 8];
     let mut source = FileSource::new(rt, path)?;
     assert!(rt; source.take(&mut buf).is_err());
@@ -86,6 +119,15 @@ fn a_file_is_opened_at_the_first_take(rt: HostRuntime) -> Result<(), Fail> {
     assert_eq!(rt; source.take(&mut buf), Ok(5));
     assert_eq!(rt; buf, *b"hello\0\0\0");
     assert_eq!(rt; source.take(&mut buf), Ok(0));
+    fs::write(&rt, path, b"hello, you".as_slice())?;
+    assert_eq!(rt; source.take(&mut buf), Ok(5));
+    assert_eq!(rt; buf, *b", you\0\0\0");
     fs::remove_file(&rt, path)?;
+    let path = "a_folder";
+    fs::create_dir(&rt, path)?;
+    let mut source = FileSource::new(rt, path)?;
+    let read = source.take(&mut buf);
+    fs::remove_dir(&rt, path)?;
+    assert!(rt; read.is_err());
     Ok(())
 }

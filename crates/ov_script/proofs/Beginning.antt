@@ -3,6 +3,7 @@ use Rattle.std.proofs.Common.{◌≡◌, ◌≢◌, ℕ, suc, ◌+◌, ◌-◌, 
 use Rattle.std.specs.Prelude.{codes}
 use Rattle.std.specs.Fmt.{decimal}
 use Rattle.std.proofs.lemmas.List.{length-replicate}
+use Rattle.ov_base.specs.declared.limits.TheConstants.{MAX_LINE_BYTES}
 use Rattle.ov_base.specs.Names.{IsName}
 use Rattle.ov_script.specs.declared.command.Command.{Command}
 use Rattle.ov_script.specs.declared.command.Command.TheVariants.{Enrol, Create, Grant, Revoke, Read, List as Command-List, Epoch}
@@ -11,7 +12,7 @@ use Rattle.ov_script.specs.declared.first_line.FirstLine.TheVariants.{Whole, Wit
 use Rattle.ov_script.specs.declared.front.Word.TheVariants.{Enrol as Word-Enrol, Create as Word-Create, Grant as Word-Grant, Revoke as Word-Revoke, Read as Word-Read, List as Word-List, Epoch as Word-Epoch}
 use Rattle.ov_script.specs.declared.front.Front.TheVariants.{Start}
 use Rattle.ov_script.specs.ItemLines.{SaysWhole, SaysLine, Completes}
-use Rattle.ov_script.specs.Items.{IsItem, BeginsWithItem, CanBegin, longest_line}
+use Rattle.ov_script.specs.Items.{IsItem, BeginsWithItem, CanBegin}
 use Rattle.ov_script.specs.LineEnds.{may_go_on}
 use Rattle.ov_script.specs.LineFeeds.{NoLf}
 use Rattle.ov_script.specs.LineFronts.{run}
@@ -70,7 +71,7 @@ are_two_names : (text : List ℕ) → NameThen (SpaceThen (NameThen IsNothing 0)
 are_two_names text (user, tail, e, r, (file, f, p)) =
     record { user = user; file = file; user_named = name_of_rest user r; file_named = is_one_name file p; whole = e ∙ ap (λ l. user ++ l) f }
 
-pub fits_said : (line : List ℕ) → length line < longest_line → Fits Start line → (said : FirstLine) × SaysLine line said
+pub fits_said : (line : List ℕ) → length line < MAX_LINE_BYTES → Fits Start line → (said : FirstLine) × SaysLine line said
 fits_said line short (Word-Enrol, rest, e, p) = (Whole (Enrol rest), (is_one_name rest p, e))
 fits_said line short (Word-Grant, rest, e, p) =
     let t = are_two_names rest p in (Whole (Grant t.user t.file), (t.user_named, t.file_named, e ∙ ap (λ l. codes "grant " ++ l) t.whole))
@@ -125,10 +126,10 @@ alive_can front alive =
     can_by_line front more.0 line.0 line.1
 
 -- and is shorter than the longest line
-pub alive_short : (front : List ℕ) → may_go_on (run Start front) (length front) ≡ true → length front < longest_line
+pub alive_short : (front : List ℕ) → may_go_on (run Start front) (length front) ≡ true → length front < MAX_LINE_BYTES
 alive_short front alive =
     let more = alive_fits front alive in
-    let short : length (front ++ more.0) < longest_line = more.2 in
+    let short : length (front ++ more.0) < MAX_LINE_BYTES = more.2 in
     let size : length (front ++ more.0) ≡ length front + length more.0 = length-append front more.0 in
     omega arith
 
@@ -138,7 +139,7 @@ dead_cannot front no_lf dead (more, (item, rest, command, e, is)) =
     let p = item_parts item command is in
     let joined : front ++ more ≡ p.line ++ 10 ∷ (p.tail ++ rest) = e ∙ ap (λ i. i ++ rest) p.whole ∙ append_assoc p.line (10 ∷ p.tail) rest in
     let z = front_before 10 front p.line more (p.tail ++ rest) no_lf joined in
-    dead_fits front z.0 dead (subst (Fits Start) z.1 (said_fits p.line p.said p.says)) (subst (λ l. length l < longest_line) z.1 (says_short p.line p.said p.says))
+    dead_fits front z.0 dead (subst (Fits Start) z.1 (said_fits p.line p.said p.says)) (subst (λ l. length l < MAX_LINE_BYTES) z.1 (says_short p.line p.said p.says))
 
 -- no item begins with bytes that have no LF
 pub none_without_lf : (bytes : List ℕ) → NoLf bytes → BeginsWithItem bytes → ⊥

@@ -4,7 +4,7 @@ use Rattle.std.specs.Prelude.{codes}
 use Rattle.std.specs.Fmt.{decimal}
 use Rattle.std.proofs.lemmas.List.{length-drop}
 use Rattle.std.proofs.lemmas.Fmt.{decimal_digit, decimal_nonempty}
-use Rattle.ov_script.specs.Items.{longest_body}
+use Rattle.ov_base.specs.declared.limits.TheConstants.{MAX_FILE_BYTES}
 use Rattle.ov_script.specs.LineEnds.{fewest_after, fewest_behind, fewest_from, fewest_more}
 use Rattle.ov_script.specs.LineFronts.{spelling}
 use Rattle.ov_script.specs.WrittenLists.{AreNames, with_commas, list_text}
@@ -192,7 +192,7 @@ IsSound (InName next count) = Unit {0}
 IsSound AtReaders = Unit {0}
 IsSound Nobody = Unit {0}
 IsSound (InSize None) = Unit {0}
-IsSound (InSize (Some n)) = n ≤ longest_body
+IsSound (InSize (Some n)) = n ≤ MAX_FILE_BYTES
 IsSound Done = Unit {0}
 IsSound Never = Unit {0}
 

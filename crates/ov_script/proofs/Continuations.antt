@@ -2,8 +2,8 @@
 use Rattle.std.proofs.Common.{◌≡◌, ℕ, ◌+◌, ◌*◌, ◌-◌, Bool, true, false, List, [], ◌∷◌, ◌++◌, length, refl, sym, subst, arith, ◌&&◌, ◌==◌, Some, None}
 use Rattle.std.specs.Prelude.{nat_lt, nat_le}
 use Rattle.std.proofs.lemmas.Bool.Decides.{nat_tests}
+use Rattle.ov_base.specs.declared.limits.TheConstants.{MAX_FILE_BYTES}
 use Rattle.ov_base.specs.Names.{is_letter_or_digit}
-use Rattle.ov_script.specs.Items.{longest_body}
 use Rattle.ov_script.specs.LineFronts.{spelling, chosen_by, word_by, is_spelled, is_named, is_digit, step, run}
 use Rattle.ov_script.specs.declared.front.Front.{Front}
 use Rattle.ov_script.specs.declared.front.Front.TheVariants.{Start, InStem, InWord, InName, AtReaders, Nobody, InSize, Done, Never}
@@ -47,7 +47,7 @@ step_fits (InName next count) b text p = name_fits next count b text (is_named c
 step_fits AtReaders b text p = readers_fits b text (is_letter_or_digit b) (b == 45) refl refl p
 step_fits Nobody b text p = nobody_fits b text (b == 32) refl p
 step_fits (InSize None) b text p = first_digit_fits b text (is_digit b) refl p
-step_fits (InSize (Some n)) b text p = size_fits n b text (is_digit b && (nat_lt 0 n && nat_le (n * 10 + (b - 48)) longest_body)) refl p
+step_fits (InSize (Some n)) b text p = size_fits n b text (is_digit b && (nat_lt 0 n && nat_le (n * 10 + (b - 48)) MAX_FILE_BYTES)) refl p
 step_fits Done b text p = absurd p
 step_fits Never b text p = p
 

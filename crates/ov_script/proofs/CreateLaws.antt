@@ -7,9 +7,10 @@ use Rattle.std.specs.Str.{bytes_eq}
 use Rattle.std.proofs.lemmas.Map.Keys.{IsDistinct-head, IsDistinct-tail, IsDistinct-cons}
 use Rattle.std.proofs.lemmas.Map.Made.{IsDistinct-from_AllPairs}
 use Rattle.std.proofs.lemmas.Slice.Eq.{bytes_eq-Decides}
+use Rattle.ov_base.specs.declared.limits.TheConstants.{MAX_FILE_BYTES, MAX_LINE_BYTES}
 use Rattle.ov_base.specs.NameLists.{is_among, appended, with_name, AreDistinct}
 use Rattle.ov_base.specs.Names.{IsName}
-use Rattle.ov_script.specs.Items.{IsItem, create_line, longest_body}
+use Rattle.ov_script.specs.Items.{IsItem, create_line}
 use Rattle.ov_script.specs.WrittenLists.{AreNames, with_commas, list_text, with_names, IsList}
 use Rattle.ov_script.specs.declared.command.Command.TheVariants.{Create}
 use Rattle.ov_script.proofs.ListTexts.{AreNames-append}
@@ -128,8 +129,8 @@ pub create_few_names : (item file body : List ℕ) (names : List (List ℕ)) →
 create_few_names item file body names (list, named, is, low, short, e) =
     let few : length names * 2 ≤ length list + 1 = few_said list names is in
     let line : length list + 1 ≤ length (create_line file list (length body)) = list_in_line file list (length body) in
-    let within : length (create_line file list (length body)) ≤ 20000 = short in
+    let within : length (create_line file list (length body)) ≤ MAX_LINE_BYTES = short in
     omega arith
 
-pub create_size : (item file body : List ℕ) (names : List (List ℕ)) → IsItem item (Create file names body) → length body ≤ longest_body
+pub create_size : (item file body : List ℕ) (names : List (List ℕ)) → IsItem item (Create file names body) → length body ≤ MAX_FILE_BYTES
 create_size item file body names (list, named, is, low, short, e) = low

@@ -2,13 +2,14 @@
 use Rattle.std.proofs.Common.{◌≡◌, inl, inr, ℕ, zero, suc, ◌+◌, ◌-◌, ◌<◌, ◌≤◌, Bool, true, false, List, [], ◌∷◌, ◌++◌, length, take, drop, refl, sym, ◌∙◌, ap, subst, append_assoc, length-append, arith, take-append-drop}
 use Rattle.std.proofs.lemmas.Bool.{cases_lt}
 use Rattle.std.proofs.lemmas.List.{length-take-le, length-drop}
+use Rattle.ov_base.specs.declared.limits.TheConstants.{MAX_LINE_BYTES}
 use Rattle.ov_script.specs.declared.command.Command.{Command}
 use Rattle.ov_script.specs.declared.command.Command.TheVariants.{Create}
 use Rattle.ov_script.specs.declared.first_line.FirstLine.{FirstLine}
 use Rattle.ov_script.specs.declared.first_line.FirstLine.TheVariants.{Whole, WithBody}
 use Rattle.ov_script.specs.declared.front.Front.TheVariants.{Start}
 use Rattle.ov_script.specs.ItemLines.{SaysLine}
-use Rattle.ov_script.specs.Items.{IsItem, BeginsWithItem, CanBegin, longest_line}
+use Rattle.ov_script.specs.Items.{IsItem, BeginsWithItem, CanBegin}
 use Rattle.ov_script.specs.LineFeeds.{NoLf, lf_count}
 use Rattle.ov_script.specs.LineFronts.{run}
 use Rattle.ov_script.specs.LineEnds.{may_go_on}
@@ -41,9 +42,9 @@ line_says : (line : List ℕ) → Decided ((said : FirstLine) × SaysLine line s
 line_says line =
     elim (line_or_not line) as (λ _. Decided ((said : FirstLine) × SaysLine line said)) [
       | yes p ↦
-          elim (cases_lt (length line) longest_line) as (λ _. Decided ((said : FirstLine) × SaysLine line said)) [
+          elim (cases_lt (length line) MAX_LINE_BYTES) as (λ _. Decided ((said : FirstLine) × SaysLine line said)) [
             | inl short ↦ yes (fits_said line short p)
-            | inr long ↦ no' (λ (said, q). let short : length line < longest_line = says_short line said q in absurd (omega arith))
+            | inr long ↦ no' (λ (said, q). let short : length line < MAX_LINE_BYTES = says_short line said q in absurd (omega arith))
           ]
       | no' none ↦ no' (λ (said, p). none (said_fits line said p))
     ]

@@ -4,12 +4,13 @@ use Rattle.std.specs.Prelude.{codes, IfNone, IfOk}
 use Rattle.std.specs.Fmt.{decimal}
 use Rattle.std.proofs.lemmas.Fmt.{decimal_injective}
 use Rattle.std.proofs.lemmas.List.{append_cancel_left}
+use Rattle.ov_base.specs.declared.limits.TheConstants.{MAX_FILE_BYTES}
 use Rattle.ov_base.specs.Names.{IsName}
 use Rattle.ov_script.specs.declared.command.Command.{Command}
 use Rattle.ov_script.specs.declared.first_line.FirstLine.{FirstLine}
 use Rattle.ov_script.specs.declared.first_line.FirstLine.TheVariants.{Whole, WithBody}
 use Rattle.ov_script.specs.ItemLines.{SaysWhole, SaysCreate, SaysLine}
-use Rattle.ov_script.specs.Items.{spaced, longest_body}
+use Rattle.ov_script.specs.Items.{spaced}
 use Rattle.ov_script.specs.LineFeeds.{Lacks}
 use Rattle.ov_script.proofs.ByteTexts.{split_once}
 use Rattle.ov_script.proofs.WordBytes.{name_no_space}
@@ -47,7 +48,7 @@ pub record SameWords (f g r s : List ℕ) (n m : ℕ) : Type 0 where
   pub list : r ≡ s
   pub size : n ≡ m
 
-pub create_once : (line f g r s : List ℕ) (n m : ℕ) → IsName f → Lacks 32 r → n ≤ longest_body → line ≡ create_text f r n → IsName g → Lacks 32 s → m ≤ longest_body → line ≡ create_text g s m → SameWords f g r s n m
+pub create_once : (line f g r s : List ℕ) (n m : ℕ) → IsName f → Lacks 32 r → n ≤ MAX_FILE_BYTES → line ≡ create_text f r n → IsName g → Lacks 32 s → m ≤ MAX_FILE_BYTES → line ≡ create_text g s m → SameWords f g r s n m
 create_once line f g r s n m f_named r_lacks n_low e g_named s_lacks m_low e' =
     let first = split_once 32 f g (r ++ 32 ∷ decimal n) (s ++ 32 ∷ decimal m) (name_no_space f f_named) (name_no_space g g_named)
     (append_cancel_left (codes "create ") (f ++ 32 ∷ (r ++ 32 ∷ decimal n)) (g ++ 32 ∷ (s ++ 32 ∷ decimal m)) (sym e ∙ e')) in

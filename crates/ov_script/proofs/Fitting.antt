@@ -1,7 +1,7 @@
 -- The texts that make a whole line of the front that was read.
 use Rattle.std.proofs.Common.{◌≡◌, ◌⊎◌, ℕ, ◌<◌, ◌≤◌, List, [], ◌∷◌, ◌++◌, length, drop, Some, None}
 use Rattle.std.specs.Fmt.{decimal}
-use Rattle.ov_script.specs.Items.{longest_body}
+use Rattle.ov_base.specs.declared.limits.TheConstants.{MAX_FILE_BYTES}
 use Rattle.ov_script.specs.LineFronts.{spelling}
 use Rattle.ov_script.specs.WrittenLists.{AreNames, with_commas, list_text}
 use Rattle.ov_script.specs.declared.front.Word.{Word}
@@ -25,7 +25,7 @@ abbrev pub IsNothing : List ℕ → Type 0
 IsNothing text = text ≡ []
 
 abbrev pub IsSize : List ℕ → Type 0
-IsSize text = (n : ℕ) × (n ≤ longest_body) × (text ≡ decimal n)
+IsSize text = (n : ℕ) × (n ≤ MAX_FILE_BYTES) × (text ≡ decimal n)
 
 -- a list and a size
 abbrev pub AreReaders : List ℕ → Type 0
@@ -77,6 +77,6 @@ Fits (InName next count) text = NameThen (Follows next) count text
 Fits AtReaders text = AreReaders text
 Fits Nobody text = SpaceThen IsSize text
 Fits (InSize None) text = IsSize text
-Fits (InSize (Some n)) text = (n ≤ longest_body) × ((m : ℕ) × (m ≤ longest_body) × (decimal n ++ text ≡ decimal m))
+Fits (InSize (Some n)) text = (n ≤ MAX_FILE_BYTES) × ((m : ℕ) × (m ≤ MAX_FILE_BYTES) × (decimal n ++ text ≡ decimal m))
 Fits Done text = IsNothing text
 Fits Never text = ⊥

@@ -1,22 +1,25 @@
 -- What stands at the front of a text.
-use Rattle.std.proofs.Common.{◌≡◌, ℕ, ◌+◌, ◌<◌, ◌≤◌, Bool, true, false, List, [], ◌∷◌, ◌++◌, length, take, drop, refl, sym, ◌∙◌, ap, subst, append_assoc, length-append, append-nil, arith, Option, Some, None, inl, inr, take-append-drop}
+use Rattle.std.proofs.Common.{◌≡◌, ℕ, ◌+◌, ◌<◌, ◌≤◌, Bool, true, false, List, [], ◌∷◌, ◌++◌, length, take, drop, refl, sym, ◌∙◌, ap, subst, append_assoc, length-append, append-nil, arith, Option, Some, None, inl, inr, take-append-drop, Result, Ok, Err}
 use Rattle.std.specs.Prelude.{MatchBool}
 use Rattle.std.proofs.lemmas.List.{take_at, length-take-le}
 use Rattle.std.proofs.lemmas.Bool.{cases_lt}
-use Rattle.std.specs.Io.KnownBytes.{IsAtEnd}
-use Rattle.ov_script.specs.declared.find.Found.TheVariants.{Line, Bad, Long}
+use Rattle.std.specs.Io.KnownBytes.{IsAtEnd, prepend_known}
+use Rattle.ov_script.specs.declared.ended.Ended.{Ended}
+use Rattle.ov_script.specs.declared.ended.Ended.TheVariants.{Bad, Long}
 use Rattle.ov_script.specs.declared.find.Seen.{Seen}
-use Rattle.ov_script.specs.declared.find.Seen.TheVariants.{Settled, Open}
+use Rattle.ov_script.specs.declared.find.Seen.TheVariants.{Open}
 use Rattle.ov_script.specs.declared.first_line.FirstLine.{FirstLine}
 use Rattle.ov_script.specs.declared.front.Front.{Front}
 use Rattle.ov_script.specs.declared.front.Front.TheVariants.{Start}
-use Rattle.ov_script.specs.Finding.{Finds, IsSettled, IsUnsettled, IsOpen}
+use Rattle.ov_script.specs.Finding.{Finds, IsSettled, IsOpen}
+use Rattle.ov_script.specs.NoItem.{IsWhyNone}
 use Rattle.ov_script.specs.ItemLines.{SaysLine}
 use Rattle.ov_script.specs.Items.{BeginsWithItem, CanBegin}
 use Rattle.ov_script.specs.LineFeeds.{NoLf}
 use Rattle.ov_script.specs.LineFronts.{run}
 use Rattle.ov_script.specs.LineEnds.{may_go_on}
 use Rattle.ov_script.specs.Reading.{IsBad, cut, wrong, IsTooLong}
+use Rattle.ov_script.specs.Taking.{IsUnsettled}
 use Rattle.ov_script.proofs.Beginning.{alive_can, alive_short, dead_cannot, none_without_lf, CanBegin-front, begins_can}
 use Rattle.ov_script.proofs.Continuations.{run-append}
 use Rattle.ov_script.proofs.Grammar.{not_at_line, item_past}
@@ -38,7 +41,7 @@ bad_front room front rest within never =
       | inr fits ↦ cut (omega arith) fits (λ b. never (CanBegin-front front rest (begins_can (front ++ rest) b)))
     ]
 
-pub finds_bad : (room : ℕ) (bytes : List ℕ) (left : Option (List ℕ)) → length bytes ≤ room → (CanBegin bytes → ⊥) → Finds room bytes left Bad
+pub finds_bad : (room : ℕ) (bytes : List ℕ) (left : Option (List ℕ)) → length bytes ≤ room → (CanBegin bytes → ⊥) → IsWhyNone room (prepend_known bytes left) Bad
 finds_bad room bytes None within never = tt
 finds_bad room bytes (Some rest) within never = bad_front room bytes rest within never
 
@@ -48,7 +51,7 @@ pub open_front : (room : ℕ) (bytes : List ℕ) → length bytes ≤ room → N
 open_front room bytes within no_lf alive =
     record { no_lf = no_lf; short = alive_short bytes alive; unsettled = record { within = within; can = alive_can bytes alive; none = none_without_lf bytes no_lf } }
 
-pub dead_front : (room : ℕ) (bytes : List ℕ) (left : Option (List ℕ)) → length bytes ≤ room → NoLf bytes → may_go_on (run Start bytes) (length bytes) ≡ false → Finds room bytes left Bad
+pub dead_front : (room : ℕ) (bytes : List ℕ) (left : Option (List ℕ)) → length bytes ≤ room → NoLf bytes → may_go_on (run Start bytes) (length bytes) ≡ false → IsWhyNone room (prepend_known bytes left) Bad
 dead_front room bytes left within no_lf dead = finds_bad room bytes left within (dead_cannot bytes no_lf dead)
 
 -- the fresh bytes are run behind those that were seen
@@ -56,27 +59,27 @@ run_fresh : (bytes fresh : List ℕ) (front : Front) (seen : ℕ) → front ≡ 
 run_fresh bytes fresh front seen e f =
     ap (λ s. run s fresh) e ∙ ap (λ l. run (run Start (take seen bytes)) l) f ∙ sym (run-append Start (take seen bytes) (drop seen bytes)) ∙ ap (run Start) (take-append-drop seen bytes)
 
-settled_by : (room : ℕ) (bytes : List ℕ) (front : Front) (seen : Seen) (alive : Bool) → length bytes ≤ room → NoLf bytes → front ≡ run Start bytes → may_go_on front (length bytes) ≡ alive
-    → MatchBool alive (seen ≡ Open front) (seen ≡ Settled Bad) → IsSettled room bytes seen
+settled_by : (room : ℕ) (bytes : List ℕ) (front : Front) (seen : Result Seen Ended) (alive : Bool) → length bytes ≤ room → NoLf bytes → front ≡ run Start bytes → may_go_on front (length bytes) ≡ alive
+    → MatchBool alive (seen ≡ Ok (Open front)) (seen ≡ Err Bad) → IsSettled room bytes seen
 settled_by room bytes front seen true within no_lf e a is = subst (IsSettled room bytes) (sym is) (e, open_front room bytes within no_lf (ap (λ f. may_go_on f (length bytes)) (sym e) ∙ a))
 settled_by room bytes front seen false within no_lf e a is = subst (IsSettled room bytes) (sym is) (λ left. dead_front room bytes left within no_lf (ap (λ f. may_go_on f (length bytes)) (sym e) ∙ a))
 
 -- what is known of the bytes
-pub settled_front : (room : ℕ) (bytes fresh : List ℕ) (front : Front) (count : ℕ) (seen : Seen) → length bytes ≤ room → NoLf bytes → front ≡ run Start (take count bytes) → fresh ≡ drop count bytes
-    → MatchBool (may_go_on (run front fresh) (length bytes)) (seen ≡ Open (run front fresh)) (seen ≡ Settled Bad) → IsSettled room bytes seen
+pub settled_front : (room : ℕ) (bytes fresh : List ℕ) (front : Front) (count : ℕ) (seen : Result Seen Ended) → length bytes ≤ room → NoLf bytes → front ≡ run Start (take count bytes) → fresh ≡ drop count bytes
+    → MatchBool (may_go_on (run front fresh) (length bytes)) (seen ≡ Ok (Open (run front fresh))) (seen ≡ Err Bad) → IsSettled room bytes seen
 settled_front room bytes fresh front count seen within no_lf e f is =
     settled_by room bytes (run front fresh) seen (may_go_on (run front fresh) (length bytes)) within no_lf (run_fresh bytes fresh front count e f) refl is
 
 -- ---- a whole line
 
 pub finds_line : (room end : ℕ) (bytes line rest : List ℕ) (said : FirstLine) (left : Option (List ℕ))
-    → NoLf line → length line ≡ end → bytes ≡ line ++ 10 ∷ rest → end < room → SaysLine (take end bytes) said → Finds room bytes left (Line said (end + 1))
+    → NoLf line → length line ≡ end → bytes ≡ line ++ 10 ∷ rest → end < room → SaysLine (take end bytes) said → Finds room bytes left (Ok (record { said = said; size = end + 1 }))
 finds_line room end bytes line rest said left no_lf count whole within says =
     let front : take end bytes ≡ line = ap (take end) whole ∙ take_at line (10 ∷ rest) end count in
     (line, rest, no_lf, subst (λ t. SaysLine t said) front says, ap (λ n. n + 1) count, omega arith, whole)
 
 pub finds_no_line : (room end : ℕ) (bytes line rest : List ℕ) (left : Option (List ℕ))
-    → NoLf line → length line ≡ end → bytes ≡ line ++ 10 ∷ rest → end < room → ((said : FirstLine) → SaysLine (take end bytes) said → ⊥) → Finds room bytes left Bad
+    → NoLf line → length line ≡ end → bytes ≡ line ++ 10 ∷ rest → end < room → ((said : FirstLine) → SaysLine (take end bytes) said → ⊥) → IsWhyNone room (prepend_known bytes left) Bad
 finds_no_line room end bytes line rest None no_lf count whole within none = tt
 finds_no_line room end bytes line rest (Some more) no_lf count whole within none =
     let front : take end bytes ≡ line = ap (take end) whole ∙ take_at line (10 ∷ rest) end count in
@@ -112,14 +115,14 @@ full_front : (room : ℕ) (bytes : List ℕ) → room < length bytes → (alive 
     → may_go_on (run Start (take room bytes)) (length (take room bytes)) ≡ alive
 full_front room bytes past alive e = ap (may_go_on (run Start (take room bytes))) (length-take-le room bytes (omega arith)) ∙ e
 
-pub finds_long : (room : ℕ) (bytes : List ℕ) (left : Option (List ℕ)) → room < length bytes → NoLf (take room bytes) → may_go_on (run Start (take room bytes)) room ≡ true → Finds room bytes left Long
+pub finds_long : (room : ℕ) (bytes : List ℕ) (left : Option (List ℕ)) → room < length bytes → NoLf (take room bytes) → may_go_on (run Start (take room bytes)) room ≡ true → IsWhyNone room (prepend_known bytes left) Long
 finds_long room bytes None past no_lf alive = tt
 finds_long room bytes (Some more) past no_lf alive =
     let same : take room (bytes ++ more) ≡ take room bytes = take_more room bytes more past in
     let size : length (bytes ++ more) ≡ length bytes + length more = length-append bytes more in
     too_long room (bytes ++ more) (omega arith) (subst NoLf (sym same) no_lf) (subst CanBegin (sym same) (alive_can (take room bytes) (full_front room bytes past true alive)))
 
-pub finds_never : (room : ℕ) (bytes : List ℕ) (left : Option (List ℕ)) → room < length bytes → NoLf (take room bytes) → may_go_on (run Start (take room bytes)) room ≡ false → Finds room bytes left Bad
+pub finds_never : (room : ℕ) (bytes : List ℕ) (left : Option (List ℕ)) → room < length bytes → NoLf (take room bytes) → may_go_on (run Start (take room bytes)) room ≡ false → IsWhyNone room (prepend_known bytes left) Bad
 finds_never room bytes None past no_lf dead = tt
 finds_never room bytes (Some more) past no_lf dead =
     let same : take room (bytes ++ more) ≡ take room bytes = take_more room bytes more past in
@@ -128,7 +131,7 @@ finds_never room bytes (Some more) past no_lf dead =
 
 -- ---- the end
 
-pub finds_cut : (room count : ℕ) (bytes : List ℕ) (left : Option (List ℕ)) → (count ≡ 0 → ⊥) → length bytes ≡ count → IsUnsettled room bytes → IsAtEnd left → Finds room bytes left Bad
+pub finds_cut : (room count : ℕ) (bytes : List ℕ) (left : Option (List ℕ)) → (count ≡ 0 → ⊥) → length bytes ≡ count → IsUnsettled room bytes → IsAtEnd left → IsWhyNone room (prepend_known bytes left) Bad
 finds_cut room count bytes None some size u end = tt
 finds_cut room count bytes (Some rest) some size u end =
     let whole : bytes ≡ bytes ++ rest = sym (ap (λ r. bytes ++ r) end ∙ append-nil bytes) in

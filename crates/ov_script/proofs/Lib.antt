@@ -18,6 +18,7 @@ mod ListTexts
 mod NameFits
 mod NameFronts
 pub mod Readings
+mod Needing
 mod Sayings
 mod Searches
 mod ShortScripts

@@ -3,8 +3,8 @@ use Rattle.std.proofs.Common.{◌≡◌, ℕ, zero, suc, ◌+◌, ◌*◌, ◌-�
 use Rattle.std.specs.Prelude.{nat_lt, nat_le}
 use Rattle.std.proofs.lemmas.Bool.{and_parts}
 use Rattle.std.proofs.lemmas.Bool.Decides.{nat_tests}
+use Rattle.ov_base.specs.declared.limits.TheConstants.{MAX_FILE_BYTES, MAX_LINE_BYTES}
 use Rattle.ov_base.specs.Names.{is_letter_or_digit}
-use Rattle.ov_script.specs.Items.{longest_body, longest_line}
 use Rattle.ov_script.specs.LineEnds.{fewest_more, has_room, may_go_on}
 use Rattle.ov_script.specs.LineFronts.{spelling, behind, after_name, after_comma, chosen, chosen_by, first_bytes, next_bytes, word_by, is_spelled, end_by, name_by, is_named, readers_by, size_by, is_digit, step, run}
 use Rattle.ov_script.specs.declared.front.Word.{Word}
@@ -89,12 +89,12 @@ sound_first : (b : ℕ) (digit : Bool) → is_digit b ≡ digit → IsSound (siz
 sound_first b false d = tt
 sound_first b true d = let bounds = digit_bounds b d in omega (arith, bounds.1)
 
-sound_size : (n b : ℕ) (test : Bool) → (is_digit b && (nat_lt 0 n && nat_le (n * 10 + (b - 48)) longest_body)) ≡ test → IsSound (size_by test (n * 10 + (b - 48)))
+sound_size : (n b : ℕ) (test : Bool) → (is_digit b && (nat_lt 0 n && nat_le (n * 10 + (b - 48)) MAX_FILE_BYTES)) ≡ test → IsSound (size_by test (n * 10 + (b - 48)))
 sound_size n b false t = tt
 sound_size n b true t =
-    let outer = and_parts (is_digit b) (nat_lt 0 n && nat_le (n * 10 + (b - 48)) longest_body) t in
-    let inner = and_parts (nat_lt 0 n) (nat_le (n * 10 + (b - 48)) longest_body) outer.1 in
-    let fits : nat_le (n * 10 + (b - 48)) longest_body ≡ true = inner.1 in
+    let outer = and_parts (is_digit b) (nat_lt 0 n && nat_le (n * 10 + (b - 48)) MAX_FILE_BYTES) t in
+    let inner = and_parts (nat_lt 0 n) (nat_le (n * 10 + (b - 48)) MAX_FILE_BYTES) outer.1 in
+    let fits : nat_le (n * 10 + (b - 48)) MAX_FILE_BYTES ≡ true = inner.1 in
     grind (arith, nat_tests)
 
 sound_step : (front : Front) (b : ℕ) → IsSound (step front b)
@@ -105,7 +105,7 @@ sound_step (InName next count) b = sound_name next count b (is_named count b) (n
 sound_step AtReaders b = sound_readers (is_letter_or_digit b) (b == 45)
 sound_step Nobody b = sound_by (b == 32) (InSize None) Never tt tt
 sound_step (InSize None) b = sound_first b (is_digit b) refl
-sound_step (InSize (Some n)) b = sound_size n b (is_digit b && (nat_lt 0 n && nat_le (n * 10 + (b - 48)) longest_body)) refl
+sound_step (InSize (Some n)) b = sound_size n b (is_digit b && (nat_lt 0 n && nat_le (n * 10 + (b - 48)) MAX_FILE_BYTES)) refl
 sound_step Done b = tt
 sound_step Never b = tt
 
@@ -132,24 +132,24 @@ line_or_not bytes =
 
 -- ---- whether they begin one
 
-room_for : (front : Front) (count : ℕ) (fewest : Option ℕ) → IfSoMany fewest (Fits front) → has_room fewest count ≡ true → (text : List ℕ) × Fits front text × (count + length text < longest_line)
+room_for : (front : Front) (count : ℕ) (fewest : Option ℕ) → IfSoMany fewest (Fits front) → has_room fewest count ≡ true → (text : List ℕ) × Fits front text × (count + length text < MAX_LINE_BYTES)
 room_for front count None some room = absurd (cc)
-room_for front count (Some n) (text, p, size) room = let less : count + n < longest_line = grind (arith, nat_tests) in (text, p, omega arith)
+room_for front count (Some n) (text, p, size) room = let less : count + n < MAX_LINE_BYTES = grind (arith, nat_tests) in (text, p, omega arith)
 
 -- where the line may go on, some text makes it whole
-pub alive_fits : (bytes : List ℕ) → may_go_on (run Start bytes) (length bytes) ≡ true → (text : List ℕ) × Fits Start (bytes ++ text) × (length (bytes ++ text) < longest_line)
+pub alive_fits : (bytes : List ℕ) → may_go_on (run Start bytes) (length bytes) ≡ true → (text : List ℕ) × Fits Start (bytes ++ text) × (length (bytes ++ text) < MAX_LINE_BYTES)
 alive_fits bytes alive =
     let some = room_for (run Start bytes) (length bytes) (fewest_more (run Start bytes)) (some_text (run Start bytes) (sound_run Start bytes tt)) alive in
     let size : length (bytes ++ some.0) ≡ length bytes + length some.0 = length-append bytes some.0 in
-    let room : length bytes + length some.0 < longest_line = some.2 in
+    let room : length bytes + length some.0 < MAX_LINE_BYTES = some.2 in
     (some.0, run_fits Start bytes some.0 some.1, omega arith)
 
-no_room : (count more : ℕ) (fewest : Option ℕ) → AtLeast fewest more → has_room fewest count ≡ false → count + more < longest_line → ⊥
+no_room : (count more : ℕ) (fewest : Option ℕ) → AtLeast fewest more → has_room fewest count ≡ false → count + more < MAX_LINE_BYTES → ⊥
 no_room count more None needs full less = needs
 no_room count more (Some n) needs full less = grind (arith, nat_tests)
 
 -- and where it may not, none does
-pub dead_fits : (bytes text : List ℕ) → may_go_on (run Start bytes) (length bytes) ≡ false → Fits Start (bytes ++ text) → length (bytes ++ text) < longest_line → ⊥
+pub dead_fits : (bytes text : List ℕ) → may_go_on (run Start bytes) (length bytes) ≡ false → Fits Start (bytes ++ text) → length (bytes ++ text) < MAX_LINE_BYTES → ⊥
 dead_fits bytes text dead p short =
     let size : length (bytes ++ text) ≡ length bytes + length text = length-append bytes text in
     no_room (length bytes) (length text) (fewest_more (run Start bytes)) (fits_needs (run Start bytes) text (fits_run Start bytes text p)) dead (omega arith)

@@ -3,6 +3,7 @@ use Rattle.std.proofs.Common.{◌≡◌, ℕ, suc, ◌+◌, ◌*◌, ◌<◌, �
 use Rattle.std.specs.Prelude.{codes}
 use Rattle.std.specs.Fmt.{decimal}
 use Rattle.std.proofs.lemmas.List.{append_cancel_left}
+use Rattle.ov_base.specs.declared.limits.TheConstants.{MAX_LINE_BYTES}
 use Rattle.ov_base.specs.Names.{IsName}
 use Rattle.ov_script.specs.declared.command.Command.{Command}
 use Rattle.ov_script.specs.declared.command.Command.TheVariants.{Enrol, Create, Grant, Revoke, Read, List as Command-List, Epoch}
@@ -42,13 +43,13 @@ says_no_lf line (WithBody file names size) p = create_no_lf line file names size
 
 -- ---- short lines
 
-one_short : (line word name : List ℕ) → length word ≤ 7 → IsName name → line ≡ word ++ name → length line < 20000
+one_short : (line word name : List ℕ) → length word ≤ 7 → IsName name → line ≡ word ++ name → length line < MAX_LINE_BYTES
 one_short line word name low named e =
     let size : length line ≡ length word + length name = ap length e ∙ length-append word name in
     let short : length name ≤ 64 = name_short name named in
     omega arith
 
-two_short : (line word user file : List ℕ) → length word ≤ 7 → IsName user → IsName file → line ≡ word ++ (user ++ 32 ∷ file) → length line < 20000
+two_short : (line word user file : List ℕ) → length word ≤ 7 → IsName user → IsName file → line ≡ word ++ (user ++ 32 ∷ file) → length line < MAX_LINE_BYTES
 two_short line word user file low u f e =
     let size : length line ≡ length word + length (user ++ 32 ∷ file) = ap length e ∙ length-append word (user ++ 32 ∷ file) in
     let both : length (user ++ 32 ∷ file) ≡ length user + suc (length file) = length-append user (32 ∷ file) in
@@ -56,7 +57,7 @@ two_short line word user file low u f e =
     let f_short : length file ≤ 64 = name_short file f in
     omega arith
 
-whole_short : (line : List ℕ) (command : Command) → SaysWhole line command → length line < 20000
+whole_short : (line : List ℕ) (command : Command) → SaysWhole line command → length line < MAX_LINE_BYTES
 whole_short line (Enrol user) p = one_short line (codes "enrol ") user (omega arith) p.0 p.1
 whole_short line (Create file names body) p = absurd p
 whole_short line (Grant user file) p = two_short line (codes "grant ") user file (omega arith) p.0 p.1 p.2
@@ -65,7 +66,7 @@ whole_short line (Read user file) p = two_short line (codes "read ") user file (
 whole_short line (Command-List file) p = one_short line (codes "list ") file (omega arith) p.0 p.1
 whole_short line Epoch p = let size : length line ≡ 5 = ap length p in omega arith
 
-pub says_short : (line : List ℕ) (said : FirstLine) → SaysLine line said → length line < 20000
+pub says_short : (line : List ℕ) (said : FirstLine) → SaysLine line said → length line < MAX_LINE_BYTES
 says_short line (Whole command) p = whole_short line command p
 says_short line (WithBody file names size) p = p.4
 

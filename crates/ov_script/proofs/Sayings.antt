@@ -1,33 +1,27 @@
 -- What was told of the front of a text, said of the place.
-use Rattle.std.proofs.Common.{◌≡◌, ℕ, ◌+◌, ◌-◌, ◌≤◌, List, refl, sym, ap, subst, Option, Some, None}
+use Rattle.std.proofs.Common.{◌≡◌, ℕ, ◌+◌, ◌-◌, ◌≤◌, List, sym, ap, subst, Option, Some, None, Ok, Err}
 use Rattle.std.specs.Prelude.{IfSome}
 use Rattle.std.specs.Io.KnownBytes.{Consumes}
-use Rattle.ov_script.specs.declared.command.Command.{Command}
-use Rattle.ov_script.specs.declared.item.Item.TheVariants.{Whole, Bad}
+use Rattle.ov_script.specs.declared.ended.Ended.{Ended}
+use Rattle.ov_script.specs.declared.ended.Ended.TheVariants.{End, Bad, Long, Fault}
+use Rattle.ov_script.specs.declared.item.Item.{Item}
 use Rattle.ov_script.specs.declared.next.Next.{Next}
-use Rattle.ov_script.specs.declared.next.Next.TheVariants.{Command as Next-Command, BadLine}
+use Rattle.ov_script.specs.declared.next.ScriptFault.{ScriptFault}
+use Rattle.ov_script.specs.declared.next.Next.TheVariants.{Command as Next-Command}
 use Rattle.ov_script.specs.Feed.{Fed, text_of}
-use Rattle.ov_script.specs.Finding.{Tells, TakesWhatItNeeds}
-use Rattle.ov_script.specs.Place.{Place, text_left}
-use Rattle.ov_script.specs.Reading.{IsBad}
+use Rattle.ov_script.specs.Finding.{Tells}
+use Rattle.ov_script.specs.Place.{Place, text_left, answer_of}
 use Rattle.ov_script.specs.Saying.{Says}
+use Rattle.ov_script.specs.Taking.{TakesWhatItNeeds}
 use Rattle.ov_script.proofs.Using.{text_used}
 
 -- an item
-pub says_item : {S : Type 0} (left : S → Option (List ℕ)) (line room size lines : ℕ) (old new : Fed S) (command : Command) → Tells left room old new (Whole command size lines)
-    → IfSome (text_of left old) (λ text. Says line room text (Next-Command command) (line + lines) (room - size) (text_of left new))
-says_item left line room size lines old new command (item, is, count, within, lfs, uses) = told (text_of left old) (text_used left old new item uses) where
-  told : (x : Option (List ℕ)) → Consumes x (text_of left new) item → IfSome x (λ text. Says line room text (Next-Command command) (line + lines) (room - size) (text_of left new))
+pub says_item : {S : Type 0} (left : S → Option (List ℕ)) (line room : ℕ) (old new : Fed S) (item : Item) → Tells left room old new (Ok item)
+    → IfSome (text_of left old) (λ text. Says line room text (Next-Command item.command) (line + item.lines) (room - item.size) (text_of left new))
+says_item left line room old new item (bytes, is, count, within, lfs, uses) = told (text_of left old) (text_used left old new bytes uses) where
+  told : (x : Option (List ℕ)) → Consumes x (text_of left new) bytes → IfSome x (λ text. Says line room text (Next-Command item.command) (line + item.lines) (room - item.size) (text_of left new))
   told None c = tt
-  told (Some text) c = (item, is, c, subst (λ n. n ≤ room) (sym count) within, ap (λ n. line + n) (sym lfs), ap (λ n. room - n) (sym count))
-
--- a bad item
-pub says_bad : {S : Type 0} (left : S → Option (List ℕ)) (line room line' room' : ℕ) (old new : Fed S) (rest : Option (List ℕ)) → Tells left room old new Bad
-    → IfSome (text_of left old) (λ text. Says line room text (BadLine line) line' room' rest)
-says_bad left line room line' room' old new rest tells = told (text_of left old) tells where
-  told : (x : Option (List ℕ)) → IfSome x (IsBad room) → IfSome x (λ text. Says line room text (BadLine line) line' room' rest)
-  told None p = tt
-  told (Some text) p = (refl, p)
+  told (Some text) c = (bytes, is, c, subst (λ n. n ≤ room) (sym count) within, ap (λ n. line + n) (sym lfs), ap (λ n. room - n) (sym count))
 
 -- what is said of the fields is said of the place
 pub said_at : {S : Type 0} (left : S → Option (List ℕ)) (inside place : Place S) (next : Next) (line' room' : ℕ) (rest : Option (List ℕ)) → inside ≡ place
@@ -35,6 +29,13 @@ pub said_at : {S : Type 0} (left : S → Option (List ℕ)) (inside place : Plac
     → IfSome (text_left left place) (λ text. Says place.line place.room text next line' room' rest)
 said_at left inside place next line' room' rest e p = subst (λ (q : Place _). IfSome (text_left left q) (λ text. Says q.line q.room text next line' room' rest)) e p
 
-pub needed_at : {S : Type 0} (left : S → Option (List ℕ)) (inside place : Place S) (new : S) → inside ≡ place
-    → TakesWhatItNeeds left inside.room inside.pending inside.source new → TakesWhatItNeeds left place.room place.pending place.source new
-needed_at left inside place new e p = subst (λ (q : Place _). TakesWhatItNeeds left q.room q.pending q.source new) e p
+pub needed_at : {S : Type 0} (takes : S → S → Type 0) (left : S → Option (List ℕ)) (failed : Type 0) (inside place : Place S) (new : S) → inside ≡ place
+    → TakesWhatItNeeds takes left inside.room inside.pending failed inside.source new → TakesWhatItNeeds takes left place.room place.pending failed place.source new
+needed_at takes left failed inside place new e p = subst (λ (q : Place _). TakesWhatItNeeds takes left q.room q.pending failed q.source new) e p
+
+-- a fault is answered only where the reading ended with it
+pub fault_answered : (line : ℕ) (ended : Ended) (fault : ScriptFault) → answer_of line ended ≡ Err fault → ended ≡ Fault fault
+fault_answered line End fault e = absurd (cc)
+fault_answered line Bad fault e = absurd (cc)
+fault_answered line Long fault e = absurd (cc)
+fault_answered line (Fault other) fault e = cc

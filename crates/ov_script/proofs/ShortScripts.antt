@@ -2,10 +2,11 @@
 use Rattle.std.proofs.Common.{◌≡◌, ℕ, ◌+◌, ◌-◌, ◌<◌, ◌≤◌, List, [], ◌∷◌, ◌++◌, length, refl, ◌∙◌, ap, append-nil, length-append, arith}
 use Rattle.std.specs.Prelude.{codes}
 use Rattle.std.specs.Fmt.{digits}
+use Rattle.ov_base.specs.declared.limits.TheConstants.{MAX_SCRIPT_BYTES}
 use Rattle.ov_script.specs.declared.command.Command.TheVariants.{Enrol, Create, Grant, Revoke, Read, List as Command-List, Epoch}
 use Rattle.ov_script.specs.Items.{IsItem, BeginsWithItem, CanBegin}
 use Rattle.ov_script.specs.WrittenLists.{IsList}
-use Rattle.ov_script.specs.Reading.{limit, IsBad, cut, Reads, IsScript, AtEnd, BadAt, TooLong}
+use Rattle.ov_script.specs.Reading.{IsBad, cut, Reads, IsScript, AtEnd, BadAt, TooLong}
 use Rattle.ov_script.proofs.Beginning.{alive_can, dead_cannot}
 use Rattle.ov_script.proofs.ByteTexts.{lacks_by_test}
 use Rattle.ov_script.proofs.Fronts.{bad_front}
@@ -44,7 +45,7 @@ bad_line : (room : ℕ) → 4 ≤ room → IsBad room (codes "quit" ++ 10 ∷ []
 bad_line room h = bad_front room (codes "quit") (10 ∷ []) h (dead_cannot (codes "quit") (lacks_by_test 10 (codes "quit") refl) refl)
 
 behind_a_file : IsScript (file_item ++ codes "quit" ++ 10 ∷ []) (Create (codes "f1") (codes "alice" ∷ []) body ∷ []) (BadAt 5)
-behind_a_file = (file_item, codes "quit" ++ 10 ∷ [], refl, omega arith, five_bytes, (refl, bad_line (limit - 24) (omega arith)))
+behind_a_file = (file_item, codes "quit" ++ 10 ∷ [], refl, omega arith, five_bytes, (refl, bad_line (MAX_SCRIPT_BYTES - 24) (omega arith)))
 
 -- a user who is no name, on the second line
 alice_and_bob : IsScript (codes "enrol alice" ++ 10 ∷ codes "enrol Bob" ++ 10 ∷ []) (Enrol (codes "alice") ∷ []) (BadAt 2)
@@ -54,7 +55,7 @@ alice_and_bob = (
   refl,
   omega arith,
   (refl, refl),
-  (refl, bad_front (limit - 12) (codes "enrol B") (codes "ob" ++ 10 ∷ []) (omega arith) (dead_cannot (codes "enrol B") (lacks_by_test 10 (codes "enrol B") refl) refl)),
+  (refl, bad_front (MAX_SCRIPT_BYTES - 12) (codes "enrol B") (codes "ob" ++ 10 ∷ []) (omega arith) (dead_cannot (codes "enrol B") (lacks_by_test 10 (codes "enrol B") refl) refl)),
 )
 
 -- ---- the other commands

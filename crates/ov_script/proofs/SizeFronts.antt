@@ -5,7 +5,7 @@ use Rattle.std.specs.Fmt.{decimal}
 use Rattle.std.proofs.lemmas.Bool.{and_parts, and_from, cases_lt}
 use Rattle.std.proofs.lemmas.Bool.Decides.{nat_tests}
 use Rattle.std.proofs.lemmas.Fmt.{decimal_by_steps, decimal_step, decimal_digit, decimal_nonempty, decimal_injective}
-use Rattle.ov_script.specs.Items.{longest_body}
+use Rattle.ov_base.specs.declared.limits.TheConstants.{MAX_FILE_BYTES}
 use Rattle.ov_script.specs.LineFronts.{is_digit}
 
 -- the last byte of a text that is cut in two stands in the second part, or this is empty
@@ -86,7 +86,7 @@ digit_bounds b p = let both = and_parts (nat_le 48 b) (nat_le b 57) p in let l :
 
 -- ---- the first digit
 
-pub first_digit : (b n : ℕ) (w : List ℕ) → n ≤ longest_body → b ∷ w ≡ decimal n → (is_digit b ≡ true) × (decimal (b - 48) ≡ b ∷ [])
+pub first_digit : (b n : ℕ) (w : List ℕ) → n ≤ MAX_FILE_BYTES → b ∷ w ≡ decimal n → (is_digit b ≡ true) × (decimal (b - 48) ≡ b ∷ [])
 first_digit b n w low e =
     let f = front_of_number n (b ∷ []) w (omega arith) (omega arith) e in
     elim (cases_lt f.0 10) as (λ _. (is_digit b ≡ true) × (decimal (b - 48) ≡ b ∷ [])) [
@@ -118,10 +118,10 @@ digit_is_number b p =
 pub record OneMore (n b : ℕ) : Type 0 where
   pub digit : is_digit b ≡ true
   pub some : 0 < n
-  pub within : n * 10 + (b - 48) ≤ longest_body
+  pub within : n * 10 + (b - 48) ≤ MAX_FILE_BYTES
   pub number : decimal (n * 10 + (b - 48)) ≡ decimal n ++ b ∷ []
 
-pub one_more : (n b m : ℕ) (w : List ℕ) → n ≤ longest_body → m ≤ longest_body → decimal n ++ b ∷ w ≡ decimal m → OneMore n b
+pub one_more : (n b m : ℕ) (w : List ℕ) → n ≤ MAX_FILE_BYTES → m ≤ MAX_FILE_BYTES → decimal n ++ b ∷ w ≡ decimal m → OneMore n b
 one_more n b m w n_low m_low e =
     let joined : (decimal n ++ b ∷ []) ++ w ≡ decimal m = append_assoc (decimal n) (b ∷ []) w ∙ e in
     let some : 0 < length (decimal n ++ b ∷ []) = let size = length-append (decimal n) (b ∷ []) in omega (arith, size) in
@@ -148,7 +148,7 @@ one_more n b m w n_low m_low e =
           }
     ]
 
-pub more_is_number : (n b : ℕ) → is_digit b ≡ true → 0 < n → n * 10 + (b - 48) ≤ longest_body → decimal (n * 10 + (b - 48)) ≡ decimal n ++ b ∷ []
+pub more_is_number : (n b : ℕ) → is_digit b ≡ true → 0 < n → n * 10 + (b - 48) ≤ MAX_FILE_BYTES → decimal (n * 10 + (b - 48)) ≡ decimal n ++ b ∷ []
 more_is_number n b p some within =
     let bounds = digit_bounds b p in
     let low : 48 ≤ b = bounds.0 in

@@ -1,11 +1,14 @@
 -- What several takes together take.
-use Rattle.std.proofs.Common.{◌≡◌, inr, ℕ, ◌+◌, ◌≤◌, List, [], ◌∷◌, ◌++◌, length, take, sym, ◌∙◌, ap, subst, append_assoc, append-nil, length-append, arith, Option, Some, None}
+use Rattle.std.proofs.Common.{◌≡◌, refl, ℕ, ◌+◌, ◌≤◌, List, [], ◌∷◌, ◌++◌, length, take, sym, ◌∙◌, ap, subst, append_assoc, append-nil, length-append, arith, Option, Some, None}
 use Rattle.std.proofs.Math.Seq.{take-append_seam}
 use Rattle.std.specs.Io.KnownBytes.{prepend_known, Consumes, Keeps}
 use Rattle.std.proofs.KnownBytes.{Consumes-trans, Consumes-nil, Consumes-kept}
 use Rattle.ov_script.specs.Feed.{Fed, Takes, text_of}
-use Rattle.ov_script.specs.Finding.{IsUnsettled, TakesWhatItNeeds}
 use Rattle.ov_script.specs.LineFeeds.{NoLf}
+use Rattle.ov_script.specs.NoItem.{IsWhyNone}
+use Rattle.ov_script.specs.Reading.{IsBad, IsTooLong}
+use Rattle.ov_script.specs.declared.ended.Ended.{Ended}
+use Rattle.ov_script.specs.declared.ended.Ended.TheVariants.{End, Bad, Long, Fault}
 
 -- one take after another
 pub Takes-trans : {S : Type 0} (left : S → Option (List ℕ)) (a b c : Fed S) (xs ys : List ℕ) → Takes left a b xs → Takes left b c ys → Takes left a c (xs ++ ys)
@@ -20,12 +23,6 @@ Takes-none left a b same kept = record {
   pending = same ∙ sym (append-nil a.pending);
   source = Consumes-kept (left a.source) (left a.source) (left b.source) [] (Consumes-nil (left a.source)) kept;
 }
-
--- one more take, where what was pending left it open what stands there
-pub needs_more : {S : Type 0} (room : ℕ) (left : S → Option (List ℕ)) (a b c : Fed S) (xs ys : List ℕ)
-    → Takes left a b xs → IsUnsettled room b.pending → Takes left b c ys → TakesWhatItNeeds left room a.pending a.source c.source
-needs_more room left a b c xs ys p unsettled q =
-    inr (xs, ys, (Takes-trans left a b c xs ys p q).source, subst (IsUnsettled room) p.pending unsettled)
 
 -- what had no LF is a front of what is pending after a take
 pub seen_behind : (old new more : List ℕ) → new ≡ old ++ more → NoLf old → (length old ≤ length new) × NoLf (take (length old) new)
@@ -47,7 +44,28 @@ kept_at (Some xs) (Some ys) old new more e p = ap (λ l. l ++ ys) e ∙ append_a
 pub text_kept : {S : Type 0} (left : S → Option (List ℕ)) (a b : Fed S) (more : List ℕ) → Takes left a b more → Keeps (text_of left a) (text_of left b)
 text_kept left a b more t = kept_at (left a.source) (left b.source) a.pending b.pending more t.pending t.source
 
+why_at : (room : ℕ) (x y : Option (List ℕ)) (ended : Ended) → Keeps x y → IsWhyNone room y ended → IsWhyNone room x ended
+why_at room None y End k w = tt
+why_at room None y Bad k w = tt
+why_at room None y Long k w = tt
+why_at room x y (Fault fault) k w = tt
+why_at room (Some xs) None End k w = absurd k
+why_at room (Some xs) None Bad k w = absurd k
+why_at room (Some xs) None Long k w = absurd k
+why_at room (Some xs) (Some ys) End k w = sym k ∙ w
+why_at room (Some xs) (Some ys) Bad k w = subst (IsBad room) k w
+why_at room (Some xs) (Some ys) Long k w = subst (IsTooLong room) k w
+
+-- why there is no item in what is pending is why there is none in the text
+pub why_kept : {S : Type 0} (left : S → Option (List ℕ)) (room : ℕ) (a b : Fed S) (more : List ℕ) (ended : Ended) → Takes left a b more
+    → IsWhyNone room (text_of left b) ended → IsWhyNone room (text_of left a) ended
+why_kept left room a b more ended taken why = why_at room (text_of left a) (text_of left b) ended (text_kept left a b more taken) why
+
 -- nothing was taken
 pub none_taken : (old new more : List ℕ) → new ≡ old ++ more → length more ≡ 0 → new ≡ old
 none_taken old new [] e none = e ∙ append-nil old
 none_taken old new (b ∷ more) e none = absurd (omega arith)
+
+pub none_more : (more : List ℕ) → length more ≡ 0 → more ≡ []
+none_more [] none = refl
+none_more (b ∷ more) none = absurd (omega arith)

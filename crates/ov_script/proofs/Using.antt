@@ -1,10 +1,9 @@
--- What is used of a text, and what is taken for it.
-use Rattle.std.proofs.Common.{◌≡◌, inl, inr, ℕ, ◌+◌, ◌<◌, ◌≤◌, List, [], ◌++◌, length, sym, ◌∙◌, ap, subst, append_assoc, append-nil, length-append, arith, Option, Some, None}
+-- What is used of a text.
+use Rattle.std.proofs.Common.{◌≡◌, inl, inr, ℕ, ◌+◌, ◌<◌, ◌≤◌, List, [], ◌++◌, length, sym, ◌∙◌, ap, subst, append_assoc, append-nil, length-append, arith, Option, Some, None, min}
 use Rattle.std.specs.Prelude.{IfSome}
 use Rattle.std.specs.Io.KnownBytes.{prepend_known, Consumes, Keeps, IsAtEnd}
 use Rattle.std.proofs.KnownBytes.{Consumes-trans, Consumes-nil, Consumes-kept}
 use Rattle.ov_script.specs.Feed.{Fed, Uses, Takes, text_of}
-use Rattle.ov_script.specs.Finding.{TakesBelow}
 
 -- the same bytes behind a longer front
 behind_front : (a b c d : List ℕ) → (a ++ b) ++ c ≡ a ++ (b ++ c)
@@ -29,6 +28,15 @@ uses_more left a b c used piece u same e = record {
   source = subst (λ s. Consumes (left a.source) (left s) u.more) (sym same) u.source;
   pending = u.pending ∙ ap (λ l. used ++ l) e ∙ sym (append_assoc used piece c.pending);
 }
+
+-- some of the pending bytes were used, and those used so far are fewer than are wanted still
+pub moved_less : {S : Type 0} (left : S → Option (List ℕ)) (a b m : Fed S) (old new : List ℕ) (count n k : ℕ) → length old ≡ n → length new ≡ k → Uses left a b old → m.source ≡ b.source
+    → (piece : List ℕ) × (new ≡ old ++ piece) × (b.pending ≡ piece ++ m.pending) × (length new ≡ min count (n + length b.pending)) → (k ≡ count → ⊥)
+    → Uses left a m new × (k ≤ count) × (length new + length m.pending < count)
+moved_less left a b m old new count n k olds news used same (piece, parts, pending, filled) less =
+    let sum : length new ≡ length old + length piece = ap length parts ∙ length-append old piece in
+    let rest : length b.pending ≡ length piece + length m.pending = ap length pending ∙ length-append piece m.pending in
+    (subst (λ l. Uses left a m l) (sym parts) (uses_more left a b m old piece used same pending), omega arith, omega (arith, less))
 
 -- one use after another
 pub uses_trans : {S : Type 0} (left : S → Option (List ℕ)) (a b c : Fed S) (xs ys : List ℕ) → Uses left a b xs → Uses left b c ys → Uses left a c (xs ++ ys)
@@ -59,39 +67,3 @@ nothing_left left feed none end = at_end (left feed.source) end where
   at_end : (x : Option (List ℕ)) → IsAtEnd x → IfSome (prepend_known feed.pending x) (λ text. text ≡ [])
   at_end None e = tt
   at_end (Some xs) e = ap (λ l. l ++ xs) none ∙ e
-
--- ---- what is taken
-
--- one more take, where few bytes stood there
-pub below_more : {S : Type 0} (left : S → Option (List ℕ)) (count : ℕ) (a b c : Fed S) (used more : List ℕ) → Uses left a b used → length used + length b.pending < count
-    → Consumes (left b.source) (left c.source) more → TakesBelow left count a.pending a.source c.source
-below_more left count a b c used more u small t =
-    let size : length (a.pending ++ u.more) ≡ length used + length b.pending = ap length u.pending ∙ length-append used b.pending in
-    inr (u.more, more, Consumes-trans (left a.source) (left b.source) (left c.source) u.more more u.source t, omega arith)
-
--- a take that gave nothing
-pub below_kept : {S : Type 0} (left : S → Option (List ℕ)) (count : ℕ) (pending : List ℕ) (old new : S) → length pending < count → Keeps (left old) (left new) → TakesBelow left count pending old new
-below_kept left count pending old new small kept =
-    inr ([], [], Consumes-kept (left old) (left old) (left new) [] (Consumes-nil (left old)) kept, subst (λ l. length l < count) (sym (append-nil pending)) small)
-
--- no take at all
-pub below_same : {S : Type 0} (left : S → Option (List ℕ)) (count : ℕ) (pending : List ℕ) (old mid new : S) → new ≡ mid → TakesBelow left count pending old mid → TakesBelow left count pending old new
-below_same left count pending old mid new e t = subst (λ s. TakesBelow left count pending old s) (sym e) t
-
-pub below_wider : {S : Type 0} (left : S → Option (List ℕ)) (few many : ℕ) (pending : List ℕ) (old new : S) → few ≤ many → TakesBelow left few pending old new → TakesBelow left many pending old new
-below_wider left few many pending old new h (inl e) = inl e
-below_wider left few many pending old new h (inr (seen, last, c, small)) = inr (seen, last, c, omega arith)
-
--- takes for what stands behind the bytes that were used are takes for all of it
-pub below_behind : {S : Type 0} (left : S → Option (List ℕ)) (few many : ℕ) (a b : Fed S) (used : List ℕ) (new : S) → Uses left a b used → length used + few ≤ many
-    → TakesBelow left many a.pending a.source b.source → TakesBelow left few b.pending b.source new → TakesBelow left many a.pending a.source new
-below_behind left few many a b used new u h before (inl e) = below_same left many a.pending a.source b.source new e before
-below_behind left few many a b used new u h before (inr (seen, last, c, small)) =
-    let joined : a.pending ++ (u.more ++ seen) ≡ used ++ (b.pending ++ seen) = sym (append_assoc a.pending u.more seen) ∙ ap (λ l. l ++ seen) u.pending ∙ append_assoc used b.pending seen in
-    let size : length (a.pending ++ (u.more ++ seen)) ≡ length used + length (b.pending ++ seen) = ap length joined ∙ length-append used (b.pending ++ seen) in
-    inr (
-      u.more ++ seen,
-      last,
-      subst (λ l. Consumes (left a.source) (left new) l) (sym (append_assoc u.more seen last)) (Consumes-trans (left a.source) (left b.source) (left new) u.more (seen ++ last) u.source c),
-      omega arith,
-    )

@@ -5,22 +5,25 @@ use Rattle.std.proofs.KnownBytes.{Consumes-trans}
 use Rattle.std.proofs.Math.Seq.{drop-append_seam, take-append-add}
 use Rattle.std.proofs.lemmas.List.{length-take-le}
 use Rattle.ov_script.specs.declared.command.Command.{Command}
-use Rattle.ov_script.specs.declared.find.Found.TheVariants.{Line}
+use Rattle.ov_script.specs.declared.ended.Ended.{Ended}
+use Rattle.ov_script.specs.declared.ended.Ended.TheVariants.{End, Bad, Long, Fault}
+use Rattle.ov_script.specs.declared.find.Line.{Line}
 use Rattle.ov_script.specs.declared.first_line.FirstLine.{FirstLine}
 use Rattle.ov_script.specs.declared.first_line.FirstLine.TheVariants.{Whole, WithBody}
 use Rattle.ov_script.specs.declared.item.Item.{Item}
-use Rattle.ov_script.specs.declared.item.Item.TheVariants.{Whole as Item-Whole, End, Bad, Long}
-use Rattle.ov_script.specs.declared.next.ScriptFault.{ScriptFault}
 use Rattle.ov_script.specs.Feed.{Fed, Uses, Takes, text_of}
-use Rattle.ov_script.specs.Finding.{Finds, Creates, Tells, IsSized, IsBadBody, cut, no_lf, IsUnsettled, TakesWhatItNeeds, TakesBelow}
+use Rattle.ov_script.specs.Finding.{Finds, Creates, Tells, IsBadBody, cut, no_lf, IsWhyNoBody, TakesBelow}
 use Rattle.ov_script.specs.ItemLines.{SaysLine}
 use Rattle.ov_script.specs.Items.{BeginsWithItem, CanBegin}
 use Rattle.ov_script.specs.LineFeeds.{lf_count}
+use Rattle.ov_script.specs.NoItem.{IsWhyNone}
+use Rattle.ov_script.specs.Taking.{IsUnsettled, TakesWhatItNeeds}
 use Rattle.ov_script.specs.Reading.{IsBad, cut as bad_cut, IsTooLong}
 use Rattle.ov_script.proofs.Beginning.{can_by_body, none_in_body, body_behind, wrong_behind_body}
 use Rattle.ov_script.proofs.ByteTexts.{lf_count-append, lf_count-line, lf_count-within}
 use Rattle.ov_script.proofs.Fronts.{bad_front}
 use Rattle.ov_script.proofs.Grammar.{item_from}
+use Rattle.ov_script.proofs.Needing.{while_same, while_behind}
 use Rattle.ov_script.proofs.Using.{text_used, fact_behind, uses_trans}
 
 -- ---- texts behind the line of a body
@@ -77,88 +80,83 @@ drop_line bytes line rest size count e =
     let n : length (line ++ 10 ∷ []) ≡ size = length-append line (10 ∷ []) ∙ count in
     ap (drop size) (e ∙ sym (append_assoc line (10 ∷ []) rest)) ∙ ap (λ n. drop n ((line ++ 10 ∷ []) ++ rest)) (sym n) ∙ drop-append_seam (line ++ 10 ∷ []) rest
 
-module _ {S : Type 0} (left : S → Option (List ℕ)) (room size : ℕ) (a b m : Fed S) (more : List ℕ) (said : FirstLine) (taken : Takes left a b more)
-    (found : Finds room b.pending (left b.source) (Line said size)) (used : m ≡ record { source = b.source; pending = drop size b.pending }) where
-  source : m.source ≡ b.source
-  source = ap (λ (f : Fed S). f.source) used
+module _ {S : Type 0} (left : S → Option (List ℕ)) (room : ℕ) (a b m : Fed S) (more : List ℕ) (line : Line) (taken : Takes left a b more)
+    (found : Finds room b.pending (left b.source) (Ok line)) (used : m ≡ record { source = b.source; pending = drop line.size b.pending }) where
+  pub line_used : m.source ≡ b.source
+  line_used = ap (λ (f : Fed S). f.source) used
 
   uses_line : Uses left a m (found.0 ++ 10 ∷ [])
   uses_line =
-      let rest : m.pending ≡ found.1 = ap (λ (f : Fed S). f.pending) used ∙ drop_line b.pending found.0 found.1 size found.4 found.6 in
+      let rest : m.pending ≡ found.1 = ap (λ (f : Fed S). f.pending) used ∙ drop_line b.pending found.0 found.1 line.size found.4 found.6 in
       record {
         more = more;
-        source = subst (λ s. Consumes (left a.source) (left s) more) (sym source) taken.source;
+        source = subst (λ s. Consumes (left a.source) (left s) more) (sym line_used) taken.source;
         pending = sym taken.pending ∙ found.6 ∙ sym (append_assoc found.0 (10 ∷ []) found.1) ∙ ap (λ r. (found.0 ++ 10 ∷ []) ++ r) (sym rest);
       }
 
-  pub needed_line : TakesWhatItNeeds left room a.pending a.source b.source → TakesWhatItNeeds left room a.pending a.source m.source
-  needed_line n = subst (λ s. TakesWhatItNeeds left room a.pending a.source s) (sym source) n
-
   -- a whole item
-  pub tells_line : (command : Command) → said ≡ Whole command → Tells left room a m (Item-Whole command size 1)
-  tells_line command is =
+  pub tells_line : (item : Item) → line.said ≡ Whole item.command → item.size ≡ line.size → item.lines ≡ 1 → Tells left room a m (Ok item)
+  tells_line item is size_is lines_is =
       let says = subst (SaysLine found.0) is found.3 in
-      let count : length (found.0 ++ 10 ∷ []) ≡ size = length-append found.0 (10 ∷ []) ∙ found.4 in
-      (found.0 ++ 10 ∷ [], item_from found.0 [] (Whole command) command says (refl, refl), count, found.5, lf_count-line found.0 [] found.2, uses_line)
+      let count : length (found.0 ++ 10 ∷ []) ≡ line.size = length-append found.0 (10 ∷ []) ∙ found.4 in
+      (found.0 ++ 10 ∷ [], item_from found.0 [] (Whole item.command) item.command says (refl, refl), count ∙ sym size_is, subst (λ n. n ≤ room) (sym size_is) found.5, lf_count-line found.0 [] found.2 ∙ sym lines_is, uses_line)
 
   -- an item with a body
-  module _ (file : List ℕ) (names : List (List ℕ)) (body : ℕ) (is : said ≡ WithBody file names body) (c : Fed S) where
+  module _ (file : List ℕ) (names : List (List ℕ)) (body : ℕ) (is : line.said ≡ WithBody file names body) (c : Fed S) where
     says_body : SaysLine found.0 (WithBody file names body)
     says_body = subst (SaysLine found.0) is found.3
 
-    tells_item : (item : Item) → Creates left room (file, names) size body m c item → Tells left room a c item
-    tells_item (Item-Whole command count lines) (bytes, e, n, total, within, lfs, uses) =
-        let size_is : length found.0 + 1 ≡ size = found.4 in
+    fits : length found.0 + 1 ≤ room
+    fits = subst (λ n. n ≤ room) (sym found.4) found.5
+
+    -- why there is no body is why there is no item
+    no_item : (ended : Ended) → IsWhyNoBody (room - line.size) body (text_of left m) ended → IsWhyNone room (text_of left a) ended
+    no_item End p = absurd p
+    no_item Bad p = fact_behind (IsBad room) (IsBadBody (room - line.size) body) (text_of left a) (text_of left m) (found.0 ++ 10 ∷ [])
+        (λ text bad. subst (IsBad room) (sym (append_assoc found.0 (10 ∷ []) text))
+        (bad_body found.0 file names body room says_body fits text (subst (λ n. IsBadBody (room - n) body text) (sym found.4) bad)))
+        (text_used left a m (found.0 ++ 10 ∷ []) uses_line) p
+    no_item Long p = fact_behind (IsTooLong room) (λ text. (room - line.size < length text) × (room - line.size ≤ body)) (text_of left a) (text_of left m) (found.0 ++ 10 ∷ [])
+        (λ text long. subst (IsTooLong room) (sym (append_assoc found.0 (10 ∷ []) text))
+        (long_body found.0 file names body room says_body fits text
+        (subst (λ n. room - n < length text) (sym found.4) long.0) (subst (λ n. room - n ≤ body) (sym found.4) long.1)))
+        (text_used left a m (found.0 ++ 10 ∷ []) uses_line) p
+    no_item (Fault fault) p = tt
+
+    pub tells_created : (result : Result Item Ended) → Creates left room (file, names) line.size body m c result → Tells left room a c result
+    tells_created (Ok item) (bytes, e, n, total, within, lfs, uses) =
+        let size_is : length found.0 + 1 ≡ line.size = found.4 in
         let tail : length (bytes ++ 10 ∷ []) ≡ length bytes + 1 = length-append bytes (10 ∷ []) in
         let whole : length (found.0 ++ 10 ∷ (bytes ++ 10 ∷ [])) ≡ length found.0 + suc (length (bytes ++ 10 ∷ [])) = length-append found.0 (10 ∷ (bytes ++ 10 ∷ [])) in
         let lf_tail : lf_count (bytes ++ 10 ∷ []) ≡ lf_count bytes + 1 = lf_count-append bytes (10 ∷ []) in
         let lf_all : lf_count (found.0 ++ 10 ∷ (bytes ++ 10 ∷ [])) ≡ 1 + lf_count (bytes ++ 10 ∷ []) = lf_count-line found.0 (bytes ++ 10 ∷ []) found.2 in
-        let lf_is : lines ≡ lf_count bytes + 2 = lfs in (
+        let lf_is : item.lines ≡ lf_count bytes + 2 = lfs in (
           found.0 ++ 10 ∷ (bytes ++ 10 ∷ []),
-          item_from found.0 (bytes ++ 10 ∷ []) (WithBody file names body) command says_body (bytes, n, refl, e),
+          item_from found.0 (bytes ++ 10 ∷ []) (WithBody file names body) item.command says_body (bytes, n, refl, e),
           omega arith,
           within,
           omega arith,
           subst (Uses left a c) (append_assoc found.0 (10 ∷ []) (bytes ++ 10 ∷ [])) (uses_trans left a m c (found.0 ++ 10 ∷ []) (bytes ++ 10 ∷ []) uses_line uses),
         )
-    tells_item End p = absurd p
-    tells_item Bad p = fact_behind (IsBad room) (IsBadBody (room - size) body) (text_of left a) (text_of left m) (found.0 ++ 10 ∷ [])
-        (λ text bad. subst (IsBad room) (sym (append_assoc found.0 (10 ∷ []) text))
-        (bad_body found.0 file names body room says_body (subst (λ n. n ≤ room) (sym found.4) found.5) text (subst (λ n. IsBadBody (room - n) body text) (sym found.4) bad)))
-        (text_used left a m (found.0 ++ 10 ∷ []) uses_line) p
-    tells_item Long p = fact_behind (IsTooLong room) (λ text. (room - size < length text) × (room - size ≤ body)) (text_of left a) (text_of left m) (found.0 ++ 10 ∷ [])
-        (λ text long. subst (IsTooLong room) (sym (append_assoc found.0 (10 ∷ []) text))
-        (long_body found.0 file names body room says_body (subst (λ n. n ≤ room) (sym found.4) found.5) text
-        (subst (λ n. room - n < length text) (sym found.4) long.0) (subst (λ n. room - n ≤ body) (sym found.4) long.1)))
-        (text_used left a m (found.0 ++ 10 ∷ []) uses_line) p
+    tells_created (Err ended) p = no_item ended p
 
-    pub tells_created : (result : Result Item ScriptFault) → IfOk result (Creates left room (file, names) size body m c) → IfOk result (Tells left room a c)
-    tells_created (Ok item) p = tells_item item p
-    tells_created (Err fault) p = tt
-
-    sized_item : (item : Item) → Creates left room (file, names) size body m c item → IsSized item
-    sized_item (Item-Whole command count lines) (bytes, e, n, total, within, lfs, uses) =
-        let size_is : length found.0 + 1 ≡ size = found.4 in
+    pub sized_created : (result : Result Item Ended) → Creates left room (file, names) line.size body m c result → IfOk result (λ item. (0 < item.size) × (item.lines ≤ item.size))
+    sized_created (Ok item) (bytes, e, n, total, within, lfs, uses) =
+        let size_is : length found.0 + 1 ≡ line.size = found.4 in
         let few : lf_count bytes ≤ length bytes = lf_count-within bytes in
         (omega arith, omega arith)
-    sized_item End p = tt
-    sized_item Bad p = tt
-    sized_item Long p = tt
+    sized_created (Err ended) p = tt
 
-    pub sized_created : (result : Result Item ScriptFault) → IfOk result (Creates left room (file, names) size body m c) → IfOk result IsSized
-    sized_created (Ok item) p = sized_item item p
-    sized_created (Err fault) p = tt
-
-    pub needed_created : TakesWhatItNeeds left room a.pending a.source b.source → TakesBelow left (min (room - size) body + 1) m.pending m.source c.source → TakesWhatItNeeds left room a.pending a.source c.source
-    needed_created before (inl e) = subst (λ s. TakesWhatItNeeds left room a.pending a.source s) (sym e) (needed_line before)
-    needed_created before (inr (seen, last, t, small)) =
+    pub needed_created : (takes : S → S → Type 0) (F G : Type 0) → TakesWhatItNeeds takes left room a.pending F a.source b.source
+        → TakesBelow takes left (min (room - line.size) body + 1) m.pending G m.source c.source → TakesWhatItNeeds takes left room a.pending G a.source c.source
+    needed_created takes F G before after' =
         let u = uses_line in
-        let whole : a.pending ++ (u.more ++ seen) ≡ found.0 ++ 10 ∷ (m.pending ++ seen) =
-        sym (append_assoc a.pending u.more seen) ∙ ap (λ l. l ++ seen) u.pending ∙ append_assoc (found.0 ++ 10 ∷ []) m.pending seen ∙ append_assoc found.0 (10 ∷ []) (m.pending ++ seen) in
-        inr (
-          u.more ++ seen,
-          last,
-          subst (λ l. Consumes (left a.source) (left c.source) l) (sym (append_assoc u.more seen last)) (Consumes-trans (left a.source) (left m.source) (left c.source) u.more (seen ++ last) u.source t),
-          subst (IsUnsettled room) (sym whole) (unsettled_body found.0 file names body room says_body (subst (λ n. n ≤ room) (sym found.4) found.5) (m.pending ++ seen)
-              (subst (λ n. length (m.pending ++ seen) < min (room - n) body + 1) (sym found.4) small)),
-        )
+        while_behind takes left (λ seen. IsUnsettled room (a.pending ++ seen)) (λ seen. length (m.pending ++ seen) < min (room - line.size) body + 1) F G
+        a.source m.source c.source u.more u.source wider (while_same takes left (λ seen. IsUnsettled room (a.pending ++ seen)) F a.source b.source m.source line_used before) after' where
+          wider : (seen : List ℕ) → length (m.pending ++ seen) < min (room - line.size) body + 1 → IsUnsettled room (a.pending ++ (uses_line.more ++ seen))
+          wider seen small =
+              let u = uses_line in
+              let whole : a.pending ++ (u.more ++ seen) ≡ found.0 ++ 10 ∷ (m.pending ++ seen) =
+              sym (append_assoc a.pending u.more seen) ∙ ap (λ l. l ++ seen) u.pending ∙ append_assoc (found.0 ++ 10 ∷ []) m.pending seen ∙ append_assoc found.0 (10 ∷ []) (m.pending ++ seen) in
+              subst (IsUnsettled room) (sym whole) (unsettled_body found.0 file names body room says_body fits (m.pending ++ seen)
+              (subst (λ n. length (m.pending ++ seen) < min (room - n) body + 1) (sym found.4) small))

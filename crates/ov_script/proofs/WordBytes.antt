@@ -6,8 +6,8 @@ use Rattle.std.specs.Fmt.{decimal}
 use Rattle.std.proofs.lemmas.Bool.{and_parts, and_from}
 use Rattle.std.proofs.lemmas.Bool.Decides.{nat_tests}
 use Rattle.std.proofs.lemmas.Fmt.{decimal_by_steps, length-decimal-le}
+use Rattle.ov_base.specs.declared.limits.TheConstants.{MAX_FILE_BYTES}
 use Rattle.ov_base.specs.Names.{is_letter_or_digit, is_name_byte, IsName}
-use Rattle.ov_script.specs.Items.{longest_body}
 use Rattle.ov_script.specs.LineFeeds.{Lacks, NoLf}
 use Rattle.ov_script.proofs.ByteTexts.{Lacks-append}
 
@@ -70,11 +70,11 @@ name_short (b ∷ rest) p = let short : length rest < 64 = (name_parts b rest p)
 decimal_lacks : (c n : ℕ) → c < 48 → n < 2 ^ 64 → Lacks c (decimal n)
 decimal_lacks c n low small = decimal_by_steps (λ m ds. Lacks c ds) (λ m l. (λ e. omega arith, tt)) (λ m ds l p. Lacks-append c ds ((48 + m % 10) ∷ []) p (λ e. omega arith, tt)) n small
 
-pub size_no_lf : (n : ℕ) → n ≤ longest_body → NoLf (decimal n)
+pub size_no_lf : (n : ℕ) → n ≤ MAX_FILE_BYTES → NoLf (decimal n)
 size_no_lf n h = decimal_lacks 10 n (omega arith) (omega arith)
 
-pub size_no_space : (n : ℕ) → n ≤ longest_body → Lacks 32 (decimal n)
+pub size_no_space : (n : ℕ) → n ≤ MAX_FILE_BYTES → Lacks 32 (decimal n)
 size_no_space n h = decimal_lacks 32 n (omega arith) (omega arith)
 
-pub size_short : (n : ℕ) → n ≤ longest_body → length (decimal n) ≤ 7
+pub size_short : (n : ℕ) → n ≤ MAX_FILE_BYTES → length (decimal n) ≤ 7
 size_short n h = length-decimal-le 7 n (omega arith) (omega arith) (omega arith)

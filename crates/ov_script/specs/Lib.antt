@@ -6,7 +6,9 @@ pub mod LineEnds
 pub mod LineFeeds
 pub mod LineFronts
 pub mod Lines
+pub mod NoItem
 pub mod Place
 pub mod Reading
 pub mod Saying
+pub mod Taking
 pub mod WrittenLists

@@ -1,6 +1,7 @@
--- How many bytes a line still needs, of which a front was read, and whether there is room for them.
+-- Inner: no public contract needs this. How many bytes a line still needs, of which a front was
+-- read, and whether there is room for them.
 use Rattle.std.specs.Prelude.{ℕ, ◌+◌, ◌-◌, zero, suc, Bool, false, nat_lt, length, Option, None, Some}
-use Rattle.ov_script.specs.Items.{longest_line}
+use Rattle.ov_base.specs.declared.limits.TheConstants.{MAX_LINE_BYTES}
 use Rattle.ov_script.specs.LineFronts.{spelling}
 use Rattle.ov_script.specs.declared.front.Word.{Word}
 use Rattle.ov_script.specs.declared.front.Word.TheVariants.{Enrol, Create, Grant, Revoke, Read, List as Word-List, Epoch}
@@ -11,14 +12,14 @@ use Rattle.ov_script.specs.declared.front.Then.TheVariants.{End, LastName, Reade
 use Rattle.ov_script.specs.declared.front.Front.{Front}
 use Rattle.ov_script.specs.declared.front.Front.TheVariants.{Start, InStem, InWord, InName, AtReaders, Nobody, InSize, Done, Never}
 
--- the fewest bytes that may stand behind a name
+-- The fewest bytes that may stand behind a name.
 abbrev pub fewest_after : Then → ℕ
 fewest_after End = 0
 fewest_after LastName = 2
 fewest_after Readers = 4
 fewest_after NextReader = 2
 
--- behind a word
+-- The fewest bytes that may stand behind a word.
 abbrev pub fewest_behind : Word → ℕ
 fewest_behind Enrol = 1
 fewest_behind Create = 5
@@ -28,13 +29,13 @@ fewest_behind Read = 3
 fewest_behind Word-List = 1
 fewest_behind Epoch = 0
 
--- and behind what several words begin with
+-- The fewest bytes that may stand behind what several words begin with.
 abbrev pub fewest_from : Stem → ℕ
 fewest_from E = 4
 fewest_from R = 7
 fewest_from Re = 6
 
--- the fewest bytes that make a whole line of this front, if any do
+-- The fewest bytes that make a whole line of this front, if any do.
 abbrev pub fewest_more : Front → Option ℕ
 fewest_more Start = Some 5
 fewest_more (InStem stem) = Some (fewest_from stem)
@@ -48,10 +49,11 @@ fewest_more (InSize (Some size)) = Some 0
 fewest_more Done = Some 0
 fewest_more Never = None
 
+-- Whether a line of so many bytes has room for this many more, if any make it whole, and its LF.
 abbrev pub has_room : Option ℕ → ℕ → Bool
 has_room None count = false
-has_room (Some more) count = nat_lt (count + more) longest_line
+has_room (Some more) count = nat_lt (count + more) MAX_LINE_BYTES
 
--- whether a line may begin with this front, which has so many bytes
+-- Whether a line may begin with this front, which has so many bytes.
 abbrev pub may_go_on : Front → ℕ → Bool
 may_go_on front count = has_room (fewest_more front) count

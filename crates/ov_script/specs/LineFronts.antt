@@ -1,7 +1,8 @@
--- How the front of a line is read, byte by byte, where its LF didn't come yet.
+-- Inner: no public contract needs this. How the front of a line is read, byte by byte, where its LF
+-- didn't come yet.
 use Rattle.std.specs.Prelude.{ℕ, ◌+◌, ◌-◌, ◌*◌, zero, suc, Bool, true, false, ◌&&◌, nat_le, nat_lt, ◌==◌, List, [], ◌∷◌, length, slice_index, codes, Option, None, Some}
+use Rattle.ov_base.specs.declared.limits.TheConstants.{MAX_FILE_BYTES}
 use Rattle.ov_base.specs.Names.{is_letter_or_digit, is_name_byte}
-use Rattle.ov_script.specs.Items.{longest_body}
 use Rattle.ov_script.specs.declared.front.Word.{Word}
 use Rattle.ov_script.specs.declared.front.Word.TheVariants.{Enrol, Create, Grant, Revoke, Read, List as Word-List, Epoch}
 use Rattle.ov_script.specs.declared.front.Stem.{Stem}
@@ -13,7 +14,7 @@ use Rattle.ov_script.specs.declared.front.Front.TheVariants.{Start, InStem, InWo
 
 -- ---- the word
 
--- a word, and a space where more stands behind it
+-- A word, and a space where more stands behind it.
 abbrev pub spelling : Word → List ℕ
 spelling Enrol = codes "enrol "
 spelling Create = codes "create "
@@ -23,7 +24,7 @@ spelling Read = codes "read "
 spelling Word-List = codes "list "
 spelling Epoch = codes "epoch"
 
--- what is read behind the word
+-- What is read behind the word.
 abbrev pub behind : Word → Front
 behind Enrol = InName End 0
 behind Create = InName Readers 0
@@ -33,68 +34,74 @@ behind Read = InName LastName 0
 behind Word-List = InName End 0
 behind Epoch = Done
 
--- what this byte leads to, of these choices
+-- The first of two, where the test holds, and else the other.
 abbrev pub chosen_by : Bool → Front → Front → Front
 chosen_by true front other = front
 chosen_by false front other = other
 
+-- What this byte leads to, of these choices.
 abbrev pub chosen : ℕ → List (ℕ × Front) → Front
 chosen b [] = Never
 chosen b (choice ∷ choices) = chosen_by (b == choice.0) choice.1 (chosen b choices)
 
--- the first bytes of a line, and where each leads
+-- The first bytes of a line, and where each leads.
 abbrev pub first_bytes : List (ℕ × Front)
-first_bytes = (99, InWord Create 1) ∷ (101, InStem E) ∷ (103, InWord Grant 1) ∷ (108, InWord Word-List 1) ∷ (114, InStem R) ∷ []
+first_bytes =
+    (99, InWord Create 1) ∷ (101, InStem E) ∷ (103, InWord Grant 1) ∷ (108, InWord Word-List 1)
+    ∷ (114, InStem R) ∷ []
 
--- and those behind what several words begin with
+-- The bytes behind what several words begin with, and where each leads.
 abbrev pub next_bytes : Stem → List (ℕ × Front)
 next_bytes E = (110, InWord Enrol 2) ∷ (112, InWord Epoch 2) ∷ []
 next_bytes R = (101, InStem Re) ∷ []
 next_bytes Re = (97, InWord Read 3) ∷ (118, InWord Revoke 3) ∷ []
 
+-- What is read behind one more byte of a word, by whether it is the word's next one and the last.
 abbrev pub word_by : Bool → Bool → Word → ℕ → Front
 word_by false is_last word count = Never
 word_by true true word count = behind word
 word_by true false word count = InWord word (count + 1)
 
--- whether this byte is the word's next one
+-- Whether this byte is the word's next one.
 abbrev pub is_spelled : Word → ℕ → ℕ → Bool
-is_spelled word count b = nat_lt count (length (spelling word)) && (slice_index (spelling word) count == b)
+is_spelled word count b =
+    nat_lt count (length (spelling word)) && (slice_index (spelling word) count == b)
 
 -- ---- names
 
--- what is read behind a name and a space
+-- What is read behind a name and a space.
 abbrev pub after_name : Then → Front
 after_name End = Never
 after_name LastName = InName End 0
 after_name Readers = AtReaders
 after_name NextReader = InSize None
 
--- and behind a name and a comma
+-- What is read behind a name and a comma.
 abbrev pub after_comma : Then → Front
 after_comma End = Never
 after_comma LastName = Never
 after_comma Readers = Never
 after_comma NextReader = InName NextReader 0
 
--- what is read behind a whole name and one more byte
+-- What is read behind a whole name and one more byte, by whether it is a space or a comma.
 abbrev pub end_by : Bool → Bool → Then → Front
 end_by true is_comma next = after_name next
 end_by false true next = after_comma next
 end_by false false next = Never
 
--- what is read behind one more byte of a name, or behind it
+-- What is read behind one more byte of a name, or behind it, by whether the byte goes on with the
+-- name and whether that has a byte.
 abbrev pub name_by : Bool → Bool → Then → ℕ → ℕ → Front
 name_by true is_whole next count b = InName next (count + 1)
 name_by false true next count b = end_by (b == 32) (b == 44) next
 name_by false false next count b = Never
 
--- whether a name of which so many bytes came goes on with this byte
+-- Whether a name of which so many bytes came goes on with this byte.
 abbrev pub is_named : ℕ → ℕ → Bool
 is_named zero b = is_letter_or_digit b
 is_named (suc n) b = nat_lt (suc n) 64 && is_name_byte b
 
--- a list is `-`, or begins with a name
+-- What is read behind the first byte of a list, which is `-` or begins with a name.
 abbrev pub readers_by : Bool → Bool → Front
 readers_by true is_nobody = InName NextReader 1
 readers_by false true = Nobody
@@ -102,22 +109,26 @@ readers_by false false = Never
 
 -- ---- the size
 
+-- The size, where the test holds.
 abbrev pub size_by : Bool → ℕ → Front
 size_by false size = Never
 size_by true size = InSize (Some size)
 
+-- Whether this byte is a digit.
 abbrev pub is_digit : ℕ → Bool
 is_digit b = nat_le 48 b && nat_le b 57
 
--- the number with one more digit, which has no leading zero
+-- What is read behind one more byte of a size, which has no leading zero and is no more than a file
+-- may have.
 abbrev pub size_step : Option ℕ → ℕ → Front
 size_step None b = size_by (is_digit b) (b - 48)
 size_step (Some size) b =
-    size_by (is_digit b && (nat_lt 0 size && nat_le (size * 10 + (b - 48)) longest_body)) (size * 10 + (b - 48))
+    size_by (is_digit b && (nat_lt 0 size && nat_le (size * 10 + (b - 48)) MAX_FILE_BYTES))
+    (size * 10 + (b - 48))
 
 -- ---- the line
 
--- what is read behind one more byte
+-- What is read behind one more byte.
 abbrev pub step : Front → ℕ → Front
 step Start b = chosen b first_bytes
 step (InStem stem) b = chosen b (next_bytes stem)
@@ -130,11 +141,12 @@ step (InSize size) b = size_step size b
 step Done b = Never
 step Never b = Never
 
+-- What is read behind these bytes.
 abbrev pub run : Front → List ℕ → Front
 run front [] = front
 run front (b ∷ bytes) = run (step front b) bytes
 
--- the size that was read
+-- The size that was read.
 abbrev pub size_read : Front → Option ℕ
 size_read Start = None
 size_read (InStem stem) = None

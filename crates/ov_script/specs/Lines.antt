@@ -6,7 +6,7 @@ use Rattle.ov_script.specs.WrittenLists.{list_text}
 use Rattle.ov_script.specs.declared.reply.Reply.{Reply}
 use Rattle.ov_script.specs.declared.reply.Reply.TheVariants.{Accepted, Bytes, List as Reply-List, Epoch, Refused, End}
 
--- the line of a reply, with its LF
+-- The line of a reply, with its LF.
 abbrev pub reply_line : Reply → List ℕ
 reply_line (Accepted epoch) = codes "ok " ++ decimal epoch ++ 10 ∷ []
 reply_line (Bytes user file bytes) =

@@ -1,12 +1,9 @@
 -- How a script is read: its commands, and how the reading ends.
 use Rattle.std.specs.Prelude.{◌≡◌, ℕ, ◌+◌, ◌-◌, ◌<◌, ◌≤◌, List, [], ◌∷◌, ◌++◌, length, take}
+use Rattle.ov_base.specs.declared.limits.TheConstants.{MAX_SCRIPT_BYTES}
 use Rattle.ov_script.specs.declared.command.Command.{Command}
 use Rattle.ov_script.specs.Items.{IsItem, BeginsWithItem, CanBegin}
 use Rattle.ov_script.specs.LineFeeds.{lf_count}
-
--- the bytes of a script that are read
-abbrev pub limit : ℕ
-limit = 268435456
 
 -- How the reading of a script ends: at the end of the input, at a bad item, which stands at this
 -- line, or at the limit.
@@ -38,9 +35,9 @@ Reads line room text (command ∷ commands) ending =
     (item rest : List ℕ) × (text ≡ item ++ rest) × (length item ≤ room) × IsItem item command
     × Reads (line + lf_count item) (room - length item) rest commands ending
 
--- the commands of a whole script, and how its reading ends
+-- The commands of a whole script, and how its reading ends.
 abbrev pub IsScript : List ℕ → List Command → Ending → Type 0
-IsScript text commands ending = Reads 1 limit text commands ending
+IsScript text commands ending = Reads 1 MAX_SCRIPT_BYTES text commands ending
 
 -- The text begins with these commands, and behind them this line, room and rest are left.
 abbrev pub BeginsWith : ℕ → ℕ → List ℕ → List Command → ℕ → ℕ → List ℕ → Type 0
@@ -49,7 +46,7 @@ BeginsWith line room text (command ∷ commands) line' room' rest =
     (item more : List ℕ) × (text ≡ item ++ more) × (length item ≤ room) × IsItem item command
     × BeginsWith (line + lf_count item) (room - length item) more commands line' room' rest
 
--- the text begins with these commands
+-- The text begins with these commands.
 abbrev pub BeginsScript : List ℕ → List Command → Type 0
 BeginsScript text commands =
-    (line room : ℕ) × (rest : List ℕ) × BeginsWith 1 limit text commands line room rest
+    (line room : ℕ) × (rest : List ℕ) × BeginsWith 1 MAX_SCRIPT_BYTES text commands line room rest

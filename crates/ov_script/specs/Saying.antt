@@ -18,21 +18,21 @@ Says line room text End line' room' rest = text ≡ []
 Says line room text (BadLine n) line' room' rest = (n ≡ line) × IsBad room text
 Says line room text Long line' room' rest = IsTooLong room text
 
--- the fact, where a command was found
+-- The fact, where a command was found.
 abbrev pub IfCommand : Next → Type 0 → Type 0
 IfCommand (Command command) P = P
 IfCommand End P = ⊤
 IfCommand (BadLine n) P = ⊤
 IfCommand Long P = ⊤
 
--- a command is what some item says, whatever the source tells
+-- A command is what some item says, whatever the source tells.
 abbrev pub IsOfItem : Next → Type 0
 IsOfItem (Command command) = (item : List ℕ) × IsItem item command
 IsOfItem End = ⊤
 IsOfItem (BadLine n) = ⊤
 IsOfItem Long = ⊤
 
--- what `next` says of what was still to be read, where the source tells it
+-- What `next` says of what was still to be read, where the source tells it.
 abbrev pub SaysOf : {S : Type 0} → (S → Option (List ℕ)) → Place S → Next → Place S → Type 0
 SaysOf left old next new =
     IfSome (text_left left old)

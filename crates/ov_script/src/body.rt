@@ -1,24 +1,15 @@
 //! The body of a file in a script, gathered over pieces of any size.
-ghost use Rattle.std.specs.Prelude.{◌≡◌, ◌⊎◌, ℕ, List, Option, [], ◌∷◌, ◌++◌, ◌+◌, ◌<◌, ◌≤◌, length, min, vec_len, IfOk, OnOk, IsErrOf, IfSome, IfNone, MatchOption};
-ghost use Rattle.ov_base.specs.Causes.{HasCause, Rose};
+ghost use Rattle.std.specs.Prelude.{◌≡◌, ℕ, List, ◌++◌, ◌+◌, ◌<◌, ◌≤◌, length, min, vec_len, IfOk, OnOk, IsErrOf, IfSome, IfNone};
+ghost use Rattle.ov_io.specs.Calls.{IsCallOf};
 ghost use Rattle.ov_script.specs.Feed.{Uses, text_of};
 ghost use Rattle.ov_script.specs.Finding.{Gathers, TakesLf, TakesBelow};
+ghost use Rattle.ov_script.specs.NoItem.{IsReadFault};
 
+use crate::ended::Ended;
 use crate::feed::Feed;
 use crate::next::ScriptFault;
 use ov_base::Memory;
-use ov_io::{Fault, Source};
-
-/// What stands behind a line that has a body.
-#[derive(Drop)]
-pub enum Body {
-    /// The body, and an LF behind it.
-    Bytes(Vec<u8>),
-    /// No such body and LF.
-    Bad,
-    /// More than may be read, before the LF.
-    Long,
-}
+use ov_io::Source;
 
 /// What stands behind a body.
 #[derive(Drop)]
@@ -75,35 +66,30 @@ fn gather<S: Source + Drop>(
         (vec_len bytes ≡ count) × Uses S.left feed.old feed.new bytes.items)) }
     ensures none { IfOk result (λ found. IfNone found
         (IfSome (text_of S.left feed.old) (λ text. length text < count))) }
-    ensures needed { TakesBelow S.left count feed.old.pending feed.old.source feed.new.source }
-    ensures same { S.borrow feed.new.source ≡ S.borrow feed.old.source }
-    ensures later { S.faults feed.old.source ≤ S.faults feed.new.source }
-    ensures read { IsErrOf result ScriptFault.Read
-        → Rose (S.faults feed.old.source) (S.faults feed.new.source) }
+    ensures needed { TakesBelow S.takes S.left count feed.old.pending
+        (IsErrOf result ScriptFault.Read) feed.old.source feed.new.source }
+    ensures call { IsCallOf S.borrow S.faults (IsErrOf result ScriptFault.Read)
+        feed.old.source feed.new.source }
 {
     let mut bytes = Vec::new(feed.alloc());
     'pieces: loop {
-        match move_pending(feed, &mut bytes, count) {
-            Ok(()) => {}
-            Err(_) => return Err(ScriptFault::Memory),
-        }
+        move_pending(feed, &mut bytes, count)?;
         if bytes.len() == count {
             return Ok(Some(bytes));
         }
-        match feed.fill() {
-            Ok(0) => return Ok(None),
-            Ok(_) => {}
-            Err(_) => return Err(ScriptFault::Read),
+        if feed.fill()? == 0 {
+            return Ok(None);
         }
     }
 }
 
 // Uses an LF, if one stands there.
-fn take_lf<S: Source + Drop>(feed: &mut Feed<S>) -> Result<Behind, Fault>
+fn take_lf<S: Source + Drop>(feed: &mut Feed<S>) -> Result<Behind, ScriptFault>
     ensures found { IfOk result (TakesLf S.left feed.old feed.new) }
-    ensures needed { TakesBelow S.left 1 feed.old.pending feed.old.source feed.new.source }
-    ensures same { S.borrow feed.new.source ≡ S.borrow feed.old.source }
-    ensures cause { HasCause (S.faults feed.old.source) (S.faults feed.new.source) result }
+    ensures needed { TakesBelow S.takes S.left 1 feed.old.pending
+        (IsErrOf result ScriptFault.Read) feed.old.source feed.new.source }
+    ensures call { IsCallOf S.borrow S.faults (IsErrOf result ScriptFault.Read)
+        feed.old.source feed.new.source }
 {
     if feed.pending().is_empty() {
         feed.fill()?;
@@ -130,38 +116,22 @@ pub fn body_of<S: Source + Drop>(
     feed: &mut Feed<S>,
     room: usize,
     size: usize,
-) -> Result<Body, ScriptFault>
-    ensures found { IfOk result (Gathers S.left room size feed.old feed.new) }
-    ensures needed { TakesBelow S.left (min room size + 1) feed.old.pending feed.old.source feed.new.source }
-    ensures same { S.borrow feed.new.source ≡ S.borrow feed.old.source }
-    ensures later { S.faults feed.old.source ≤ S.faults feed.new.source }
-    ensures read { IsErrOf result ScriptFault.Read
-        → Rose (S.faults feed.old.source) (S.faults feed.new.source) }
+) -> Result<Vec<u8>, Ended>
+    ensures found { Gathers S.left room size feed.old feed.new result }
+    ensures needed { TakesBelow S.takes S.left (min room size + 1) feed.old.pending
+        (IsReadFault result) feed.old.source feed.new.source }
+    ensures call { IsCallOf S.borrow S.faults (IsReadFault result) feed.old.source feed.new.source }
 {
-    let bytes = match gather(feed, count_of(room, size)) {
-        Ok(Some(bytes)) => bytes,
-        Ok(None) => return Ok(Body::Bad),
-        Err(fault) => return Err(fault),
+    let Some(bytes) = gather(feed, count_of(room, size))? else {
+        return Err(Ended::Bad);
     };
     if size > room {
-        return Ok(Body::Long);
+        return Err(Ended::Long);
     }
-    match take_lf(feed) {
-        Ok(Behind::Lf) => {
-            if size < room {
-                Ok(Body::Bytes(bytes))
-            } else {
-                Ok(Body::Long)
-            }
-        }
-        Ok(Behind::Other) => {
-            if size < room {
-                Ok(Body::Bad)
-            } else {
-                Ok(Body::Long)
-            }
-        }
-        Ok(Behind::Nothing) => Ok(Body::Bad),
-        Err(_) => Err(ScriptFault::Read),
+    match take_lf(feed)? {
+        Behind::Nothing => Err(Ended::Bad),
+        Behind::Lf if size < room => Ok(bytes),
+        Behind::Other if size < room => Err(Ended::Bad),
+        _ => Err(Ended::Long),
     }
 }

@@ -24,9 +24,13 @@ pub struct Feed<S> {
 impl<S> Model for Feed<S> {
     ghost Value = { Fed S };
 
-    ghost view = { λ f. record { source = f.source; pending = drop f.start (take f.end f.buffer.items) } };
+    ghost view = { λ f. record {
+      source = f.source;
+      pending = drop f.start (take f.end f.buffer.items);
+    } };
 
-    ghost invariant = { λ f. (f.start ≤ f.end) × (f.end ≤ vec_len f.buffer) × (vec_len f.buffer ≡ 32768) };
+    ghost invariant = { λ f. (f.start ≤ f.end) × (f.end ≤ vec_len f.buffer)
+        × (vec_len f.buffer ≡ 32768) };
 }
 
 // Moves what stands from `start` to `end` to the front, and says where it ends there.
@@ -46,13 +50,13 @@ fn move_to_front(buffer: &mut Vec<u8>, start: usize, end: usize) -> usize
 // Takes bytes from the source to the place behind the first `end` bytes, which stay.
 fn take_behind<S: Source>(source: &mut S, buffer: &mut Vec<u8>, end: usize) -> Result<usize, Fault>
     requires { end < vec_len buffer.old }
-    ensures len { vec_len buffer.new ≡ vec_len buffer.old }
-    ensures kept { take end buffer.new.items ≡ take end buffer.old.items }
-    ensures within { IfOk result (λ n. end + n ≤ vec_len buffer.old) }
+    ensures kept { (vec_len buffer.new ≡ vec_len buffer.old)
+        × (take end buffer.new.items ≡ take end buffer.old.items) }
     ensures taken { MatchResult result
         (λ n. Consumes (S.left source.old) (S.left source.new) (take n (drop end buffer.new.items))
-        × (n ≡ 0 → IsAtEnd (S.left source.new)))
+        × (n ≡ 0 → IsAtEnd (S.left source.new)) × (end + n ≤ vec_len buffer.old))
         (λ _. Keeps (S.left source.old) (S.left source.new)) }
+    ensures step { S.takes source.old source.new }
     ensures same { S.borrow source.new ≡ S.borrow source.old }
     ensures cause { HasCause (S.faults source.old) (S.faults source.new) result }
 {
@@ -91,11 +95,13 @@ impl<S: Source + Drop> Feed<S> {
     pub fn fill(&mut self) -> Result<usize, Fault>
         requires { length self.old.pending < 32768 }
         ensures taken { MatchResult result
-            (λ n. (more : List ℕ) × (self.new.pending ≡ self.old.pending ++ more) × (length more ≡ n)
+            (λ n. (more : List ℕ) × (self.new.pending ≡ self.old.pending ++ more)
+            × (length more ≡ n)
             × Consumes (S.left self.old.source) (S.left self.new.source) more
             × (n ≡ 0 → IsAtEnd (S.left self.new.source)))
             (λ _. (self.new.pending ≡ self.old.pending)
             × Keeps (S.left self.old.source) (S.left self.new.source)) }
+        ensures step { S.takes self.old.source self.new.source }
         ensures same { S.borrow self.new.source ≡ S.borrow self.old.source }
         ensures cause { HasCause (S.faults self.old.source) (S.faults self.new.source) result }
     {
@@ -109,7 +115,10 @@ impl<S: Source + Drop> Feed<S> {
     /// Uses the first `count` of the pending bytes.
     pub fn advance(&mut self, count: usize)
         requires { count ≤ length self.old.pending }
-        ensures { self.new ≡ record { source = self.old.source; pending = drop count self.old.pending } }
+        ensures { self.new ≡ record {
+          source = self.old.source;
+          pending = drop count self.old.pending;
+        } }
     {
         self.start += count;
     }

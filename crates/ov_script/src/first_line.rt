@@ -1,17 +1,18 @@
 //! What the first line of an item says.
 ghost use Rattle.std.specs.Prelude.{◌≡◌, ◌≤◌, ◌<◌, ℕ, List, [], ◌∷◌, ◌++◌, length, codes, IfSome, IfNone, IfOk};
 ghost use Rattle.std.specs.Fmt.{decimal};
+ghost use Rattle.ov_base.specs.declared.limits.TheConstants.{MAX_FILE_BYTES, MAX_LINE_BYTES};
 ghost use Rattle.ov_base.specs.Names.{IsName};
 ghost use Rattle.ov_script.specs.declared.command.Command.{Command};
 ghost use Rattle.ov_script.specs.declared.first_line.FirstLine.{FirstLine};
 ghost use Rattle.ov_script.specs.ItemLines.{SaysWhole, SaysCreate, SaysLine};
-ghost use Rattle.ov_script.specs.Items.{spaced, longest_body, longest_line};
+ghost use Rattle.ov_script.specs.Items.{spaced};
 ghost use Rattle.ov_script.specs.LineFeeds.{Lacks};
 
 use crate::command::Command;
-use crate::front::LONGEST_LINE;
 use crate::list::list_of;
 use crate::words::{behind, size_of_digits, split, two_names};
+use ov_base::limits::MAX_LINE_BYTES;
 use ov_base::{Memory, Name, Names};
 use std::alloc::Global;
 
@@ -107,10 +108,10 @@ fn command(line: &[u8]) -> Option<Command>
 
 // The file, the list's text and the size of a `create`.
 fn create_words(line: &[u8]) -> Option<(Name, &[u8], usize)>
-    ensures found { IfSome result (λ p. IsName p.0 × Lacks 32 p.1.now × (p.2 ≤ longest_body)
+    ensures found { IfSome result (λ p. IsName p.0 × Lacks 32 p.1.now × (p.2 ≤ MAX_FILE_BYTES)
         × (line.now ≡ spaced (codes "create" ∷ p.0 ∷ p.1.now ∷ decimal p.2 ∷ []))) }
     ensures none { IfNone result ((file list : List ℕ) (size : ℕ)
-        → IsName file → Lacks 32 list → size ≤ longest_body
+        → IsName file → Lacks 32 list → size ≤ MAX_FILE_BYTES
         → line.now ≡ spaced (codes "create" ∷ file ∷ list ∷ decimal size ∷ []) → ⊥) }
 {
     let (file, rest) = split(behind(line, b"create ")?, b' ')?;
@@ -120,10 +121,11 @@ fn create_words(line: &[u8]) -> Option<(Name, &[u8], usize)>
 
 fn create(line: &[u8], alloc: Global) -> Result<Option<FirstLine>, Memory>
     ensures found { IfOk result (λ found. IfSome found (SaysLine line.now)) }
-    ensures none { IfOk result (λ found. IfNone found ((file : List ℕ) (names : List (List ℕ)) (size : ℕ)
+    ensures none { IfOk result (λ found. IfNone found
+        ((file : List ℕ) (names : List (List ℕ)) (size : ℕ)
         → SaysCreate line.now file names size → ⊥)) }
 {
-    if line.len() >= LONGEST_LINE {
+    if line.len() >= MAX_LINE_BYTES {
         return Ok(None);
     }
     match create_words(line) {
@@ -138,7 +140,8 @@ fn create(line: &[u8], alloc: Global) -> Result<Option<FirstLine>, Memory>
 /// What a line says, which is given without its LF.
 pub fn read_line(line: &[u8], alloc: Global) -> Result<Option<FirstLine>, Memory>
     ensures found { IfOk result (λ found. IfSome found (SaysLine line.now)) }
-    ensures none { IfOk result (λ found. IfNone found ((said : FirstLine) → SaysLine line.now said → ⊥)) }
+    ensures none { IfOk result (λ found. IfNone found
+        ((said : FirstLine) → SaysLine line.now said → ⊥)) }
 {
     match command(line) {
         Some(command) => Ok(Some(FirstLine::Whole(command))),

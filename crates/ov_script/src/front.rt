@@ -4,10 +4,7 @@ ghost use Rattle.ov_base.specs.Names.{is_letter_or_digit};
 ghost use Rattle.ov_script.specs.LineFronts.{spelling, behind, after_name, after_comma, chosen, chosen_by, first_bytes, next_bytes, step, run, is_digit, is_named, word_by, is_spelled, name_by, end_by, readers_by, size_step, size_read};
 ghost use Rattle.ov_script.specs.LineEnds.{fewest_after, fewest_behind, fewest_more, may_go_on};
 
-/// No line has more bytes than this, its LF included.
-pub const LONGEST_LINE: usize = 20_000;
-
-const LONGEST_BODY: u64 = 1_048_576;
+use ov_base::limits::MAX_FILE_BYTES;
 
 /// The word that begins a line.
 #[derive(Clone, Copy)]
@@ -128,7 +125,8 @@ fn in_stem(stem: Stem, byte: u8) -> Front
 
 // What is read behind one more byte of the first word.
 fn in_word(word: Word, count: usize, byte: u8) -> Front
-    ensures { result ≡ word_by (is_spelled word count byte) (count + 1 == length (spelling word)) word count }
+    ensures { result ≡ word_by (is_spelled word count byte)
+        (count + 1 == length (spelling word)) word count }
 {
     let spelling = spelling(word);
     if count >= spelling.len() || spelling[count] != byte {
@@ -241,7 +239,7 @@ fn in_size(size: Option<u32>, byte: u8) -> Front
         None => Front::InSize(Some(u32::from(digit))),
         Some(size) => {
             let next = u64::from(size) * 10 + u64::from(digit);
-            if size > 0 && next <= LONGEST_BODY {
+            if size > 0 && next <= u64::from(MAX_FILE_BYTES) {
                 Front::InSize(Some(next as u32))
             } else {
                 Front::Never

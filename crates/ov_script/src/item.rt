@@ -1,36 +1,29 @@
 //! What item stands at the front of a text.
-ghost use Rattle.std.specs.Prelude.{◌≡◌, ◌+◌, ◌-◌, min, ◌≤◌, ◌<◌, ℕ, length, IfOk, IsErrOf};
-ghost use Rattle.ov_base.specs.Causes.{Rose};
-ghost use Rattle.ov_script.specs.Finding.{Tells, Creates, IsSized, TakesWhatItNeeds, TakesBelow};
+ghost use Rattle.std.specs.Prelude.{◌≡◌, ◌+◌, ◌-◌, min, ◌≤◌, ◌<◌, length, IfOk};
+ghost use Rattle.ov_io.specs.Calls.{IsCallOf};
+ghost use Rattle.ov_script.specs.Finding.{Tells, Creates, TakesBelow};
 ghost use Rattle.ov_script.specs.LineFeeds.{lf_count};
+ghost use Rattle.ov_script.specs.Taking.{TakesWhatItNeeds};
+ghost use Rattle.ov_script.specs.NoItem.{IsReadFault};
 
-use crate::body::{Body, body_of};
+use crate::body::body_of;
 use crate::command::Command;
+use crate::ended::Ended;
 use crate::feed::Feed;
-use crate::find::{Found, find};
+use crate::find::{Line, find};
 use crate::first_line::FirstLine;
-use crate::next::ScriptFault;
 use ov_base::{Name, Names, Octets};
 use ov_io::Source;
 
-/// What stands at the front of a text.
+/// A whole item, which was used.
 #[derive(Drop)]
-pub enum Item {
-    /// A whole item, which was used.
-    Whole {
-        /// Its command.
-        command: Command,
-        /// How many bytes it has.
-        size: usize,
-        /// How many of them are LF.
-        lines: usize,
-    },
-    /// Nothing: the text has ended.
-    End,
-    /// A bad item.
-    Bad,
-    /// More than may be read, which is no bad item.
-    Long,
+pub struct Item {
+    /// Its command.
+    pub command: Command,
+    /// How many bytes it has.
+    pub size: usize,
+    /// How many of them are LF.
+    pub lines: usize,
 }
 
 // How many of the bytes are LF.
@@ -54,64 +47,47 @@ fn create<S: Source + Drop>(
     names: (Name, Names),
     line: usize,
     size: usize,
-) -> Result<Item, ScriptFault>
+) -> Result<Item, Ended>
     requires { line ≤ room }
-    ensures found { IfOk result (Creates S.left room names line size feed.old feed.new) }
-    ensures needed { TakesBelow S.left (min (room - line) size + 1) feed.old.pending feed.old.source feed.new.source }
-    ensures same { S.borrow feed.new.source ≡ S.borrow feed.old.source }
-    ensures later { S.faults feed.old.source ≤ S.faults feed.new.source }
-    ensures read { IsErrOf result ScriptFault.Read
-        → Rose (S.faults feed.old.source) (S.faults feed.new.source) }
+    ensures found { Creates S.left room names line size feed.old feed.new result }
+    ensures needed { TakesBelow S.takes S.left (min (room - line) size + 1) feed.old.pending
+        (IsReadFault result) feed.old.source feed.new.source }
+    ensures call { IsCallOf S.borrow S.faults (IsReadFault result) feed.old.source feed.new.source }
 {
-    match body_of(feed, room - line, size) {
-        Ok(Body::Bytes(bytes)) => {
-            let lines = lf_count(&bytes) + 2;
-            let (file, list) = names;
-            Ok(Item::Whole {
-                command: Command::Create {
-                    file,
-                    list,
-                    bytes: Octets::from_vec(bytes),
-                },
-                size: line + size + 1,
-                lines,
-            })
-        }
-        Ok(Body::Bad) => Ok(Item::Bad),
-        Ok(Body::Long) => Ok(Item::Long),
-        Err(fault) => Err(fault),
-    }
+    let bytes = body_of(feed, room - line, size)?;
+    let lines = lf_count(&bytes) + 2;
+    let (file, list) = names;
+    Ok(Item {
+        command: Command::Create {
+            file,
+            list,
+            bytes: Octets::from_vec(bytes),
+        },
+        size: line + size + 1,
+        lines,
+    })
 }
 
 /// Uses the item that stands at the front of the text, of which `room` bytes may be read.
-pub fn item_of<S: Source + Drop>(feed: &mut Feed<S>, room: usize) -> Result<Item, ScriptFault>
-    ensures found { IfOk result (Tells S.left room feed.old feed.new) }
-    ensures size { IfOk result IsSized }
-    ensures needed { TakesWhatItNeeds S.left room feed.old.pending feed.old.source feed.new.source }
-    ensures same { S.borrow feed.new.source ≡ S.borrow feed.old.source }
-    ensures later { S.faults feed.old.source ≤ S.faults feed.new.source }
-    ensures read { IsErrOf result ScriptFault.Read
-        → Rose (S.faults feed.old.source) (S.faults feed.new.source) }
+pub fn item_of<S: Source + Drop>(feed: &mut Feed<S>, room: usize) -> Result<Item, Ended>
+    ensures found { Tells S.left room feed.old feed.new result }
+    ensures size { IfOk result (λ item. (0 < item.size) × (item.lines ≤ item.size)) }
+    ensures needed { TakesWhatItNeeds S.takes S.left room feed.old.pending
+        (IsReadFault result) feed.old.source feed.new.source }
+    ensures call { IsCallOf S.borrow S.faults (IsReadFault result) feed.old.source feed.new.source }
 {
-    match find(feed, room) {
-        Ok(Found::Line { said, size }) => {
-            feed.advance(size);
-            match said {
-                FirstLine::Whole(command) => Ok(Item::Whole {
-                    command,
-                    size,
-                    lines: 1,
-                }),
-                FirstLine::WithBody {
-                    file,
-                    list,
-                    size: body,
-                } => create(feed, room, (file, list), size, body),
-            }
-        }
-        Ok(Found::End) => Ok(Item::End),
-        Ok(Found::Bad) => Ok(Item::Bad),
-        Ok(Found::Long) => Ok(Item::Long),
-        Err(fault) => Err(fault),
+    let Line { said, size } = find(feed, room)?;
+    feed.advance(size);
+    match said {
+        FirstLine::Whole(command) => Ok(Item {
+            command,
+            size,
+            lines: 1,
+        }),
+        FirstLine::WithBody {
+            file,
+            list,
+            size: body,
+        } => create(feed, room, (file, list), size, body),
     }
 }

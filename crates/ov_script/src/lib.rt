@@ -9,19 +9,20 @@
 //!   `WrittenLists` how a list of names is written, of which each counts once;
 //! * `Reading` says what the commands of a text are and how its reading ends; that each text has a
 //!   reading, and only one, are the laws [`every_text_has_a_reading`] and [`one_reading`];
-//! * `Saying` says what one call of `next` tells of the text, and `Finding` what it may take from
-//!   the source: bytes are taken only while it isn't settled what stands next;
+//! * `Saying` says what one call of `next` tells of the text, and `Taking` what it may take from
+//!   the source: bytes are taken only while it isn't settled what stands next, and none are lost at
+//!   a fault;
 //! * `Lines` gives the reply lines, which [`line`] appends.
 //!
-//! A command that `next` gives is that of some item, also where the source tells nothing (`IsOfItem`
-//! in `Saying`); the laws in `proofs/CreateLaws` give from it that the names of a `create` are names,
-//! distinct and few, and that its bytes are no more than a file may have.
+//! A command that `next` gives is that of some item, also where the source tells nothing
+//! (`IsOfItem` in `Saying`); the laws in `proofs/CreateLaws` give from it that the names of a
+//! `create` are names, distinct and few, and that its bytes are no more than a file may have.
 //!
 //! Inside, a `Feed` is the source with the bytes that were taken and not yet used; `find` takes
-//! bytes until it knows what stands at the front (`Found`), by a `Front` that reads them one by one
-//! and by the fewest bytes that its line still needs; `read_line` says what a whole line says;
-//! `Script` uses an item up and counts lines and room (`Next`); and `Ended` keeps what is answered
-//! from then on.
+//! bytes until it knows what line stands at the front, by a `Front` that reads them one by one and
+//! by the fewest bytes that its line still needs; `read_line` says what a whole line says;
+//! `item_of` uses the line and the body behind it; and `Script` counts lines and room. All of them
+//! answer `Ended` where no item is read, which `Script` keeps.
 #![tactic(auto)]
 
 ghost use Rattle.std.specs.Prelude.{◌≡◌, ℕ, List};
@@ -30,6 +31,7 @@ ghost use Rattle.ov_script.specs.Reading.{Reads, Ending};
 
 mod body;
 mod command;
+mod ended;
 mod feed;
 mod find;
 mod first_line;

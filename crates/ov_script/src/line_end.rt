@@ -2,7 +2,8 @@
 ghost use Rattle.std.specs.Prelude.{◌≡◌, ◌≤◌};
 ghost use Rattle.ov_script.specs.LineEnds.{fewest_after, fewest_behind, fewest_from, fewest_more, may_go_on};
 
-use crate::front::{Front, LONGEST_LINE, Stem, Then, Word, spelling};
+use crate::front::{Front, Stem, Then, Word, spelling};
+use ov_base::limits::MAX_LINE_BYTES;
 
 // The fewest bytes that may stand behind a name.
 fn fewest_after(next: Then) -> usize
@@ -63,7 +64,7 @@ pub fn may_go_on(front: Front, count: usize) -> bool
     ensures { result ≡ may_go_on front count }
 {
     match fewest_more(front) {
-        Some(more) => count < LONGEST_LINE && count + more < LONGEST_LINE,
+        Some(more) => count < MAX_LINE_BYTES && count + more < MAX_LINE_BYTES,
         None => false,
     }
 }

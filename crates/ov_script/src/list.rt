@@ -52,7 +52,8 @@ fn joined_names(text: &[u8], alloc: Global) -> Result<Option<Names>, Memory>
 /// The names of a list, each once.
 pub fn list_of(text: &[u8], alloc: Global) -> Result<Option<Names>, Memory>
     ensures found { IfOk result (λ found. IfSome found (IsList text.now)) }
-    ensures none { IfOk result (λ found. IfNone found ((names : List (List ℕ)) → IsList text.now names → ⊥)) }
+    ensures none { IfOk result (λ found. IfNone found
+        ((names : List (List ℕ)) → IsList text.now names → ⊥)) }
 {
     if text == b"-".as_slice() {
         Ok(Some(Names::new(alloc)))

@@ -1,9 +1,10 @@
 //! What a script gives, item by item.
 ghost use Rattle.std.specs.Prelude.{◌≡◌};
-ghost use Rattle.std.specs.Option.{option_map};
-ghost use Rattle.ov_script.specs.Place.{answer_of, ends_with};
+ghost use Rattle.ov_script.specs.declared.next.ScriptFault.TheVariants.{Memory as OfMemory, Read};
 
 use crate::command::Command;
+use ov_base::Memory;
+use ov_io::Fault;
 
 /// The next item of a script, or how its reading ended.
 #[derive(Drop)]
@@ -31,42 +32,18 @@ pub enum ScriptFault {
     Memory,
 }
 
-/// How the reading ended, which each later call answers.
-#[derive(Clone, Copy, Debug, PartialEq, Eq)]
-pub enum Ended {
-    /// At the end of the input.
-    End,
-    /// At a bad item.
-    BadLine(u64),
-    /// At the limit.
-    Long,
-    /// At a fault.
-    Fault(ScriptFault),
+impl From<Memory> for ScriptFault {
+    ghost from_gives = { λ _ fault. fault ≡ OfMemory };
+
+    fn from(_: Memory) -> ScriptFault {
+        ScriptFault::Memory
+    }
 }
 
-impl Ended {
-    /// What is answered from then on.
-    pub fn answer(self) -> Result<Next, ScriptFault>
-        ensures { result ≡ answer_of self }
-    {
-        match self {
-            Ended::End => Ok(Next::End),
-            Ended::BadLine(line) => Ok(Next::BadLine { line }),
-            Ended::Long => Ok(Next::Long),
-            Ended::Fault(fault) => Err(fault),
-        }
-    }
+impl From<Fault> for ScriptFault {
+    ghost from_gives = { λ _ fault. fault ≡ Read };
 
-    /// How this answer ends the reading, if it does.
-    pub fn by(answer: &Result<Next, ScriptFault>) -> Option<Ended>
-        ensures { option_map answer_of result ≡ ends_with answer.now }
-    {
-        match answer {
-            Ok(Next::Command(_)) => None,
-            Ok(Next::End) => Some(Ended::End),
-            Ok(Next::BadLine { line }) => Some(Ended::BadLine(*line)),
-            Ok(Next::Long) => Some(Ended::Long),
-            Err(fault) => Some(Ended::Fault(*fault)),
-        }
+    fn from(_: Fault) -> ScriptFault {
+        ScriptFault::Read
     }
 }

@@ -1,20 +1,24 @@
 //! Scripts, item by item.
-ghost use Rattle.std.specs.Prelude.{◌≡◌, ◌⊎◌, ◌+◌, ◌<◌, ◌≤◌, [], IfOk, IfSome, IsErrOf, None, Some};
+ghost use Rattle.std.specs.Prelude.{◌≡◌, ◌+◌, ◌<◌, ◌≤◌, [], IfOk, MatchResult, None};
 ghost use Rattle.std.specs.Option.{option_map};
-ghost use Rattle.ov_base.specs.Causes.{Rose};
-ghost use Rattle.ov_script.specs.Finding.{TakesWhatItNeeds};
+ghost use Rattle.ov_base.specs.declared.limits.TheConstants.{MAX_SCRIPT_BYTES};
+ghost use Rattle.ov_io.specs.Calls.{IsCallOf};
+ghost use Rattle.ov_script.specs.Finding.{Gives};
+ghost use Rattle.ov_script.specs.NoItem.{IsReadFault};
+ghost use Rattle.ov_script.specs.Place.{Place, start, answer_of, GoesOn};
 ghost use Rattle.ov_script.specs.Saying.{SaysOf, IfCommand, IsOfItem};
-ghost use Rattle.ov_script.specs.Place.{Place, start, answer_of, ends_with};
+ghost use Rattle.ov_script.specs.Taking.{IsFreshFault, TakesWhatItNeeds};
 
+use crate::command::Command;
+use crate::ended::Ended;
 use crate::feed::Feed;
-use crate::item::{Item, item_of};
-use crate::next::{Ended, Next, ScriptFault};
+use crate::item::item_of;
+use crate::next::{Next, ScriptFault};
 use ov_base::Memory;
+use ov_base::limits::MAX_SCRIPT_BYTES;
 use ov_io::Source;
 use std::alloc::Global;
 use std::marker::Model;
-
-const LIMIT: usize = 268_435_456;
 
 /// A script that is read from a source, item by item.
 #[derive(Drop)]
@@ -33,10 +37,10 @@ impl<S> Model for Script<S> {
       pending = s.feed.pending;
       line = s.line;
       room = s.room;
-      ended = option_map answer_of s.ended;
+      ended = option_map (answer_of s.line) s.ended;
     } };
 
-    ghost invariant = { λ s. s.line + s.room ≤ 268435457 };
+    ghost invariant = { λ s. s.line + s.room ≤ MAX_SCRIPT_BYTES + 1 };
 }
 
 impl<S: Source + Drop> Script<S> {
@@ -47,7 +51,7 @@ impl<S: Source + Drop> Script<S> {
         Ok(Script {
             feed: Feed::new(alloc, source)?,
             line: 1,
-            room: LIMIT,
+            room: MAX_SCRIPT_BYTES as usize,
             ended: None,
         })
     }
@@ -68,54 +72,43 @@ impl<S: Source + Drop> Script<S> {
     /// The next item, or how the reading ended. From then on each call answers the same and reads
     /// nothing.
     pub fn next(&mut self) -> Result<Next, ScriptFault>
-        ensures says { self.old.ended ≡ None → IfOk result (λ next. SaysOf S.left self.old next self.new) }
+        ensures says { self.old.ended ≡ None
+            → IfOk result (λ next. SaysOf S.left self.old next self.new) }
         ensures item { IfOk result IsOfItem }
-        ensures needed { TakesWhatItNeeds S.left self.old.room self.old.pending self.old.source self.new.source }
-        ensures ended { self.old.ended ≡ None → self.new.ended ≡ ends_with result }
-        ensures again { IfSome self.old.ended (λ answer. (result ≡ answer) × (self.new ≡ self.old)) }
+        ensures needed { TakesWhatItNeeds S.takes S.left self.old.room self.old.pending
+            (IsFreshFault self.old result) self.old.source self.new.source }
+        ensures ended { GoesOn self.old result self.new }
         ensures progress { IfOk result (λ next. IfCommand next (self.new.room < self.old.room)) }
-        ensures same { S.borrow self.new.source ≡ S.borrow self.old.source }
-        ensures later { S.faults self.old.source ≤ S.faults self.new.source }
-        ensures read { self.old.ended ≡ None → IsErrOf result ScriptFault.Read
-            → Rose (S.faults self.old.source) (S.faults self.new.source) }
+        ensures call { IsCallOf S.borrow S.faults (IsFreshFault self.old result)
+            self.old.source self.new.source }
     {
-        match self.ended {
-            Some(ended) => ended.answer(),
-            None => {
-                let answer = self.item();
-                self.ended = Ended::by(&answer);
-                answer
+        if let Some(ended) = self.ended {
+            return ended.answer(self.line);
+        }
+        match self.item() {
+            Ok(command) => Ok(Next::Command(command)),
+            Err(ended) => {
+                self.ended = Some(ended);
+                ended.answer(self.line)
             }
         }
     }
 
-    // The next item, where the reading has not ended.
-    fn item(&mut self) -> Result<Next, ScriptFault>
-        ensures says { IfOk result (λ next. SaysOf S.left self.old next self.new) }
-        ensures item { IfOk result IsOfItem }
-        ensures needed { TakesWhatItNeeds S.left self.old.room self.old.pending self.old.source self.new.source }
-        ensures progress { IfOk result (λ next. IfCommand next (self.new.room < self.old.room)) }
-        ensures same { S.borrow self.new.source ≡ S.borrow self.old.source }
-        ensures later { S.faults self.old.source ≤ S.faults self.new.source }
-        ensures read { IsErrOf result ScriptFault.Read
-            → Rose (S.faults self.old.source) (S.faults self.new.source) }
+    // The command of the next item, where the reading has not ended.
+    fn item(&mut self) -> Result<Command, Ended>
+        requires { self.old.ended ≡ None }
+        ensures says { Gives S.left self.old result self.new }
+        ensures needed { TakesWhatItNeeds S.takes S.left self.old.room self.old.pending
+            (IsReadFault result) self.old.source self.new.source }
+        ensures moved { MatchResult result
+            (λ _. self.new.room < self.old.room) (λ _. self.new.line ≡ self.old.line) }
+        ensures ended { self.new.ended ≡ None }
+        ensures call { IsCallOf S.borrow S.faults (IsReadFault result)
+            self.old.source self.new.source }
     {
-        match item_of(&mut self.feed, self.room) {
-            Ok(
-                Item::Whole {
-                    command,
-                    size,
-                    lines,
-                },
-            ) => {
-                self.line += lines as u64;
-                self.room -= size;
-                Ok(Next::Command(command))
-            }
-            Ok(Item::End) => Ok(Next::End),
-            Ok(Item::Bad) => Ok(Next::BadLine { line: self.line }),
-            Ok(Item::Long) => Ok(Next::Long),
-            Err(fault) => Err(fault),
-        }
+        let item = item_of(&mut self.feed, self.room)?;
+        self.line += item.lines as u64;
+        self.room -= item.size;
+        Ok(item.command)
     }
 }

@@ -2,6 +2,7 @@
 ghost use Rattle.std.specs.Prelude.{◌<◌};
 
 use crate::{Command, Next, Reply, Script, line};
+use ov_base::limits::{MAX_FILE_BYTES, MAX_LINE_BYTES};
 use ov_base::{Name, Names, Octets, Refusal};
 use ov_io::MemSource;
 use std::alloc::Global;
@@ -188,7 +189,7 @@ fn bodies_of_many_sizes(rt: HostRuntime) -> Result<(), Fail> {
 fn the_longest_body(rt: HostRuntime) -> Result<(), Fail> {
     let alloc = rt.alloc();
     let mut text = b"enrol a\ncreate f a 1048576\n".to_vec(alloc)?;
-    text.extend_from_slice(&vec![in alloc; b'x'; 1_048_576]?)?;
+    text.extend_from_slice(&vec![in alloc; b'x'; MAX_FILE_BYTES as usize]?)?;
     text.extend_from_slice(b"\ncreate g a 1048577\n")?;
     let mut script = script_of(alloc, &text, 65_536)?;
     assert!(rt; matches!(script.next(), Ok(Next::Command(Command::Enrol { .. }))));
@@ -216,9 +217,9 @@ fn with_line(alloc: Global, size: usize) -> Result<Vec<u8>, Fail> {
 fn the_longest_line(rt: HostRuntime) -> Result<(), Fail> {
     let alloc = rt.alloc();
     let rows = [
-        (19_999, b"create f a/b/+ ;end".as_slice()),
-        (20_000, b"create f a/bb/+ ;end"),
-        (20_001, b"bad 1"),
+        (MAX_LINE_BYTES - 1, b"create f a/b/+ ;end".as_slice()),
+        (MAX_LINE_BYTES, b"create f a/bb/+ ;end"),
+        (MAX_LINE_BYTES + 1, b"bad 1"),
     ];
     for (size, says) in rows {
         let text = with_line(alloc, size)?;

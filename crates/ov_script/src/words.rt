@@ -1,8 +1,8 @@
 //! The words of a line.
 ghost use Rattle.std.specs.Prelude.{◌≡◌, ◌≤◌, ℕ, List, ◌∷◌, ◌++◌, IfSome, IfNone};
 ghost use Rattle.std.specs.Fmt.{decimal};
+ghost use Rattle.ov_base.specs.declared.limits.TheConstants.{MAX_FILE_BYTES};
 ghost use Rattle.ov_base.specs.Names.{IsName};
-ghost use Rattle.ov_script.specs.Items.{longest_body};
 ghost use Rattle.ov_script.specs.LineFeeds.{Lacks};
 
 use crate::front::Front;
@@ -19,7 +19,8 @@ pub fn behind<'a>(line: &'a [u8], word: &[u8]) -> Option<&'a [u8]>
 
 /// What stands before the first such byte, and behind it.
 pub fn split(text: &[u8], byte: u8) -> Option<(&[u8], &[u8])>
-    ensures found { IfSome result (λ p. Lacks byte p.0.now × (text.now ≡ p.0.now ++ byte ∷ p.1.now)) }
+    ensures found { IfSome result (λ p. Lacks byte p.0.now
+        × (text.now ≡ p.0.now ++ byte ∷ p.1.now)) }
     ensures none { IfNone result (Lacks byte text.now) }
 {
     match memchr(byte, text) {
@@ -46,8 +47,9 @@ pub fn two_names(text: &[u8]) -> Option<(Name, Name)>
 
 /// The size that these digits say.
 pub fn size_of_digits(digits: &[u8]) -> Option<usize>
-    ensures found { IfSome result (λ size. (size ≤ longest_body) × (digits.now ≡ decimal size)) }
-    ensures none { IfNone result ((size : ℕ) → size ≤ longest_body → digits.now ≡ decimal size → ⊥) }
+    ensures found { IfSome result (λ size. (size ≤ MAX_FILE_BYTES) × (digits.now ≡ decimal size)) }
+    ensures none { IfNone result ((size : ℕ)
+        → size ≤ MAX_FILE_BYTES → digits.now ≡ decimal size → ⊥) }
 {
     match Front::InSize(None).run(digits).size() {
         Some(size) => Some(size as usize),

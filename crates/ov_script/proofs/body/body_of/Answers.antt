@@ -1,56 +1,97 @@
 use Rattle.std.proofs.Common.{◌≡◌, ◌≤◌, length, arith, vec_len}
-use Rattle.ov_script.proofs.Bodies.{lf_past, other_behind, taken_for_lf}
+use Rattle.std.proofs.lemmas.Result.{err_from_is_err_and}
+use Rattle.ov_script.proofs.Bodies.{lf_past, other_past, other_behind, taken_for_lf}
+use Rattle.ov_script.proofs.Needing.{while_as, below_wider}
 use Rattle.ov_script.proofs.Using.{uses_trans}
 use Rattle.ov_script.proofs.body.body_of.Goals as goal
+use Rattle.ov_script.proofs.body.body_of.Goals.{in_default-2-via-in-Lf+else-size-room-2, in_default-2-via-in-Other+else-size-room-3}
 
-pub returns-then-size-room-2-clause-found : goal.returns-then-size-room-2-clause-found
-returns-then-size-room-2-clause-found g c =
-    let all = rw c.in-Ok-Some.field-0-is at c.in-Ok-Some.ensures.bytes in
-    let lf = rw c.in-Ok-Lf.field-0-is at c.in-Ok-Lf.ensures.found in
-    let within : c.args.size ≤ c.args.room = c.if-size-room.false in
-    let count : vec_len c.in-Ok-Some.bytes ≡ c.args.size = omega (arith, all.0, c.count_of.ensures, within) in
-    (count, c.if-size-room-2.true, uses_trans g.S.Source.left _ _ _ _ _ all.1 lf)
+pub returns-in_err-bytes-clause-needed : goal.returns-in_err-bytes-clause-needed
+returns-in_err-bytes-clause-needed g c =
+    let p = err_from_is_err_and c.from_residual.result c.from_residual.ensures.1 in
+    let gathered = c.count_of.ensures in
+    below_wider g.S.Source.takes g.S.Source.left _ _ _ _ _ _ (omega (arith, gathered))
+    (while_as g.S.Source.takes g.S.Source.left _ _ _ _ _ (λ e. let is = p.1 in let that = p.2 in cc) c.in_err-bytes.ensures.needed)
 
-pub returns-in-Ok-Lf-clause-found : goal.returns-in-Ok-Lf-clause-found
-returns-in-Ok-Lf-clause-found g c =
-    let all = rw c.in-Ok-Some.field-0-is at c.in-Ok-Some.ensures.bytes in
-    let lf = rw c.in-Ok-Lf.field-0-is at c.in-Ok-Lf.ensures.found in
-    let within : c.args.size ≤ c.args.room = c.if-size-room.false in
-    let count : length c.in-Ok-Some.bytes.items ≡ c.args.size = omega (arith, all.0, c.count_of.ensures, within, c.in-Ok-Some.bytes.ok.0) in
-    lf_past g.S.Source.left c.args.room c.args.size c.args.feed.now c.gather.new.feed _ all.1 count within c.take_lf.new.feed c.if-size-room-2.false lf
+pub returns-in_default-clause-needed : goal.returns-in_default-clause-needed
+returns-in_default-clause-needed g c =
+    let gathered = c.count_of.ensures in
+    below_wider g.S.Source.takes g.S.Source.left _ _ _ _ _ _ (omega (arith, gathered))
+    (while_as g.S.Source.takes g.S.Source.left _ _ _ _ _ (λ e. absurd (cc)) c.in_ok-bytes.ensures.needed)
 
-pub returns-then-size-room-3-clause-found : goal.returns-then-size-room-3-clause-found
-returns-then-size-room-3-clause-found g c =
-    let all = rw c.in-Ok-Some.field-0-is at c.in-Ok-Some.ensures.bytes in
-    let other = rw c.in-Ok-Other.field-0-is at c.in-Ok-Other.ensures.found in
+pub returns-then-size-room-clause-needed : goal.returns-then-size-room-clause-needed
+returns-then-size-room-clause-needed g c =
+    let gathered = c.count_of.ensures in
+    below_wider g.S.Source.takes g.S.Source.left _ _ _ _ _ _ (omega (arith, gathered))
+    (while_as g.S.Source.takes g.S.Source.left _ _ _ _ _ (λ e. absurd (cc)) c.in_ok-bytes.ensures.needed)
+
+pub returns-in_err-take_lf-clause-needed : goal.returns-in_err-take_lf-clause-needed
+returns-in_err-take_lf-clause-needed g c =
+    let all = rw c.in-Some.is at c.in_ok-bytes.ensures.bytes in
     let within : c.args.size ≤ c.args.room = c.if-size-room.false in
-    let count : length c.in-Ok-Some.bytes.items ≡ c.args.size = omega (arith, all.0, c.count_of.ensures, within, c.in-Ok-Some.bytes.ok.0) in
+    let count : length c.in-Some.bytes.items ≡ c.args.size = omega (arith, all.0, c.count_of.ensures, within, c.in-Some.bytes.ok.0) in
+    let p = err_from_is_err_and c.from_residual-in_err-take_lf.result c.from_residual-in_err-take_lf.ensures.1 in
+    while_as g.S.Source.takes g.S.Source.left _ _ _ _ _ (λ e. let is = p.1 in let that = p.2 in cc)
+    (taken_for_lf g.S.Source.left c.args.room c.args.size c.args.feed.now c.gather.new.feed _ all.1 count within g.S.Source.takes _ _ _ _ c.count_of.ensures c.in_ok-bytes.ensures.needed c.in_err-take_lf.ensures.needed)
+
+pub returns-in-Nothing-clause-needed : goal.returns-in-Nothing-clause-needed
+returns-in-Nothing-clause-needed g c =
+    let all = rw c.in-Some.is at c.in_ok-bytes.ensures.bytes in
+    let within : c.args.size ≤ c.args.room = c.if-size-room.false in
+    let count : length c.in-Some.bytes.items ≡ c.args.size = omega (arith, all.0, c.count_of.ensures, within, c.in-Some.bytes.ok.0) in
+    while_as g.S.Source.takes g.S.Source.left _ _ _ _ _ (λ e. absurd (cc))
+    (taken_for_lf g.S.Source.left c.args.room c.args.size c.args.feed.now c.gather.new.feed _ all.1 count within g.S.Source.takes _ _ _ _ c.count_of.ensures c.in_ok-bytes.ensures.needed c.in_ok-take_lf.ensures.needed)
+
+pub returns-in-Lf-clause-needed : goal.returns-in-Lf-clause-needed
+returns-in-Lf-clause-needed g c =
+    let all = rw c.in-Some.is at c.in_ok-bytes.ensures.bytes in
+    let within : c.args.size ≤ c.args.room = c.if-size-room.false in
+    let count : length c.in-Some.bytes.items ≡ c.args.size = omega (arith, all.0, c.count_of.ensures, within, c.in-Some.bytes.ok.0) in
+    while_as g.S.Source.takes g.S.Source.left _ _ _ _ _ (λ e. absurd (cc))
+    (taken_for_lf g.S.Source.left c.args.room c.args.size c.args.feed.now c.gather.new.feed _ all.1 count within g.S.Source.takes _ _ _ _ c.count_of.ensures c.in_ok-bytes.ensures.needed c.in_ok-take_lf.ensures.needed)
+
+pub returns-in-Other-clause-needed : goal.returns-in-Other-clause-needed
+returns-in-Other-clause-needed g c =
+    let all = rw c.in-Some.is at c.in_ok-bytes.ensures.bytes in
+    let within : c.args.size ≤ c.args.room = c.if-size-room.false in
+    let count : length c.in-Some.bytes.items ≡ c.args.size = omega (arith, all.0, c.count_of.ensures, within, c.in-Some.bytes.ok.0) in
+    while_as g.S.Source.takes g.S.Source.left _ _ _ _ _ (λ e. absurd (cc))
+    (taken_for_lf g.S.Source.left c.args.room c.args.size c.args.feed.now c.gather.new.feed _ all.1 count within g.S.Source.takes _ _ _ _ c.count_of.ensures c.in_ok-bytes.ensures.needed c.in_ok-take_lf.ensures.needed)
+
+pub returns-in_default-2-clause-needed : goal.returns-in_default-2-clause-needed
+returns-in_default-2-clause-needed g c =
+    let all = rw c.in-Some.is at c.in_ok-bytes.ensures.bytes in
+    let within : c.args.size ≤ c.args.room = c.if-size-room.false in
+    let count : length c.in-Some.bytes.items ≡ c.args.size = omega (arith, all.0, c.count_of.ensures, within, c.in-Some.bytes.ok.0) in
+    while_as g.S.Source.takes g.S.Source.left _ _ _ _ _ (λ e. absurd (cc))
+    (taken_for_lf g.S.Source.left c.args.room c.args.size c.args.feed.now c.gather.new.feed _ all.1 count within g.S.Source.takes _ _ _ _ c.count_of.ensures c.in_ok-bytes.ensures.needed c.in_ok-take_lf.ensures.needed)
+
+pub returns-in-Lf-clause-found : goal.returns-in-Lf-clause-found
+returns-in-Lf-clause-found g c =
+    let all = rw c.in-Some.is at c.in_ok-bytes.ensures.bytes in
+    let within : c.args.size ≤ c.args.room = c.if-size-room.false in
+    let count : length c.in-Some.bytes.items ≡ c.args.size = omega (arith, all.0, c.count_of.ensures, within, c.in-Some.bytes.ok.0) in
+    let lf = rw c.in-Lf.is at c.in_ok-take_lf.ensures.found in
+    (omega (arith, count, c.in-Some.bytes.ok.0), c.if-size-room-2.true, uses_trans g.S.Source.left _ _ _ _ _ all.1 lf)
+
+pub returns-in-Other-clause-found : goal.returns-in-Other-clause-found
+returns-in-Other-clause-found g c =
+    let all = rw c.in-Some.is at c.in_ok-bytes.ensures.bytes in
+    let within : c.args.size ≤ c.args.room = c.if-size-room.false in
+    let count : length c.in-Some.bytes.items ≡ c.args.size = omega (arith, all.0, c.count_of.ensures, within, c.in-Some.bytes.ok.0) in
+    let other = rw c.in-Other.is at c.in_ok-take_lf.ensures.found in
     other_behind g.S.Source.left c.args.room c.args.size c.args.feed.now c.gather.new.feed _ all.1 count within c.if-size-room-3.true other
 
-pub returns-then-size-room-3-clause-needed : goal.returns-then-size-room-3-clause-needed
-returns-then-size-room-3-clause-needed g c =
-    let all = rw c.in-Ok-Some.field-0-is at c.in-Ok-Some.ensures.bytes in
+pub returns-in_default-2-clause-found : goal.returns-in_default-2-clause-found
+returns-in_default-2-clause-found g c =
+    let all = rw c.in-Some.is at c.in_ok-bytes.ensures.bytes in
     let within : c.args.size ≤ c.args.room = c.if-size-room.false in
-    let count : length c.in-Ok-Some.bytes.items ≡ c.args.size = omega (arith, all.0, c.count_of.ensures, within, c.in-Ok-Some.bytes.ok.0) in
-    taken_for_lf g.S.Source.left c.args.room c.args.size c.args.feed.now c.gather.new.feed _ all.1 count within _ _ c.count_of.ensures c.in-Ok-Some.ensures.needed c.in-Ok-Other.ensures.needed
-
-pub returns-in-Ok-Other-clause-needed : goal.returns-in-Ok-Other-clause-needed
-returns-in-Ok-Other-clause-needed g c =
-    let all = rw c.in-Ok-Some.field-0-is at c.in-Ok-Some.ensures.bytes in
-    let within : c.args.size ≤ c.args.room = c.if-size-room.false in
-    let count : length c.in-Ok-Some.bytes.items ≡ c.args.size = omega (arith, all.0, c.count_of.ensures, within, c.in-Ok-Some.bytes.ok.0) in
-    taken_for_lf g.S.Source.left c.args.room c.args.size c.args.feed.now c.gather.new.feed _ all.1 count within _ _ c.count_of.ensures c.in-Ok-Some.ensures.needed c.in-Ok-Other.ensures.needed
-
-pub returns-in-Ok-Nothing-clause-needed : goal.returns-in-Ok-Nothing-clause-needed
-returns-in-Ok-Nothing-clause-needed g c =
-    let all = rw c.in-Ok-Some.field-0-is at c.in-Ok-Some.ensures.bytes in
-    let within : c.args.size ≤ c.args.room = c.if-size-room.false in
-    let count : length c.in-Ok-Some.bytes.items ≡ c.args.size = omega (arith, all.0, c.count_of.ensures, within, c.in-Ok-Some.bytes.ok.0) in
-    taken_for_lf g.S.Source.left c.args.room c.args.size c.args.feed.now c.gather.new.feed _ all.1 count within _ _ c.count_of.ensures c.in-Ok-Some.ensures.needed c.in-Ok-Nothing.ensures.needed
-
-pub returns-clause-needed : goal.returns-clause-needed
-returns-clause-needed g c =
-    let all = rw c.in-Ok-Some.field-0-is at c.in-Ok-Some.ensures.bytes in
-    let within : c.args.size ≤ c.args.room = c.if-size-room.false in
-    let count : length c.in-Ok-Some.bytes.items ≡ c.args.size = omega (arith, all.0, c.count_of.ensures, within, c.in-Ok-Some.bytes.ok.0) in
-    taken_for_lf g.S.Source.left c.args.room c.args.size c.args.feed.now c.gather.new.feed _ all.1 count within _ _ c.count_of.ensures c.in-Ok-Some.ensures.needed c.in-Err-take_lf.ensures.needed
+    let count : length c.in-Some.bytes.items ≡ c.args.size = omega (arith, all.0, c.count_of.ensures, within, c.in-Some.bytes.ok.0) in
+    elim c.in_default-2.branch [
+      | in_default-2-via-in-Lf+else-size-room-2 w ↦
+          let lf = rw w.in-Lf.is at c.in_ok-take_lf.ensures.found in
+          lf_past g.S.Source.left c.args.room c.args.size c.args.feed.now c.gather.new.feed _ all.1 count within c.take_lf.new.feed w.if-size-room-2.false lf
+      | in_default-2-via-in-Other+else-size-room-3 w ↦
+          let other = rw w.in-Other.is at c.in_ok-take_lf.ensures.found in
+          other_past g.S.Source.left c.args.room c.args.size c.args.feed.now c.gather.new.feed _ all.1 count within w.if-size-room-3.false other
+    ]

@@ -1,4 +1,5 @@
 use Rattle.std.proofs.Common.{◌≡◌, ◌≤◌, ◌+◌, ◌-◌, length, vec_len}
+use Rattle.ov_io.specs.Calls.{IsCallOf}
 use Rattle.ov_script.specs.Feed.{Uses}
 use Rattle.ov_script.specs.Finding.{TakesBelow}
 use Rattle.ov_script.proofs.body.gather.Given as goal
@@ -7,9 +8,8 @@ abbrev pub invariant-pieces : goal.invariant-pieces
 invariant-pieces g l = record {
   within : vec_len l.bytes ≤ l.fn.count;
   used : Uses g.S.Source.left l.fn.feed l.feed l.bytes.items;
-  needed : TakesBelow g.S.Source.left l.fn.count l.fn.feed.pending l.fn.feed.source l.feed.source;
-  same : g.S.Source.borrow l.feed.source ≡ g.S.Source.borrow l.fn.feed.source;
-  later : g.S.Source.faults l.fn.feed.source ≤ g.S.Source.faults l.feed.source;
+  needed : TakesBelow g.S.Source.takes g.S.Source.left l.fn.count l.fn.feed.pending ⊥ l.fn.feed.source l.feed.source;
+  call : IsCallOf g.S.Source.borrow g.S.Source.faults ⊥ l.fn.feed.source l.feed.source;
 }
 
 abbrev pub decreases-pieces : goal.decreases-pieces

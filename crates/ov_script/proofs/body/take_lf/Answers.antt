@@ -1,11 +1,51 @@
-use Rattle.std.proofs.Common.{◌≡◌, ◌<◌, length, ap, arith}
+use Rattle.std.proofs.Common.{◌≡◌, ◌<◌, length, ap, refl, ◌∙◌, arith}
 use Rattle.std.proofs.lemmas.Bool.Decides.{nat_tests}
 use Rattle.std.proofs.lemmas.Grind.{common_steps}
-use Rattle.ov_script.proofs.Using.{below_kept}
+use Rattle.std.proofs.KnownBytes.{Consumes-nil, Consumes-kept}
+use Rattle.ov_io.specs.Calls.{nothing}
+use Rattle.ov_script.specs.Feed.{Fed}
+use Rattle.ov_script.proofs.Needing.{below_once, while_same}
 use Rattle.ov_script.proofs.body.take_lf.Goals as goal
+use Rattle.ov_script.proofs.body.take_lf.Goals.{then-is_empty+in_ok-fill, else-is_empty}
 
 pub returns-in_err-fill-clause-needed : goal.returns-in_err-fill-clause-needed
 returns-in_err-fill-clause-needed g c =
     let same : length c.pending.result.now ≡ length c.args.feed.now.pending = ap length c.pending.ensures in
     let small : length c.args.feed.now.pending < 1 = grind (arith, nat_tests, common_steps) in
-    below_kept g.S.Source.left 1 _ _ _ small c.in_err-fill.ensures.taken.1
+    below_once g.S.Source.takes g.S.Source.left 1 _ _ _ _ _ small c.in_err-fill.ensures.step (Consumes-kept _ _ _ _ (Consumes-nil _) c.in_err-fill.ensures.taken.1) (λ f. refl)
+
+pub returns-in-empty-clause-needed : goal.returns-in-empty-clause-needed
+returns-in-empty-clause-needed g c =
+    let same : length c.pending.result.now ≡ length c.args.feed.now.pending = ap length c.pending.ensures in
+    elim c.if-is_empty.branch [
+      | then-is_empty+in_ok-fill w ↦
+          let empty = w.if-is_empty.true in
+          let small : length c.args.feed.now.pending < 1 = grind (arith, nat_tests, common_steps) in
+          let more = w.in_ok-fill.ensures.taken in
+          while_same g.S.Source.takes g.S.Source.left _ _ _ _ _ (ap (λ (f : Fed _). f.source) w.feed-is) (below_once g.S.Source.takes g.S.Source.left 1 _ _ _ _ _ small w.in_ok-fill.ensures.step more.3 (λ e. absurd (cc)))
+      | else-is_empty w ↦ nothing (λ e. absurd (cc)) (ap (λ (f : Fed _). f.source) w.feed-is)
+    ]
+
+pub returns-in-10-clause-needed : goal.returns-in-10-clause-needed
+returns-in-10-clause-needed g c =
+    let same : length c.pending.result.now ≡ length c.args.feed.now.pending = ap length c.pending.ensures in
+    elim c.if-is_empty.branch [
+      | then-is_empty+in_ok-fill w ↦
+          let empty = w.if-is_empty.true in
+          let small : length c.args.feed.now.pending < 1 = grind (arith, nat_tests, common_steps) in
+          let more = w.in_ok-fill.ensures.taken in
+          while_same g.S.Source.takes g.S.Source.left _ _ _ _ _ (ap (λ (f : Fed _). f.source) c.advance.ensures ∙ ap (λ (f : Fed _). f.source) w.feed-is) (below_once g.S.Source.takes g.S.Source.left 1 _ _ _ _ _ small w.in_ok-fill.ensures.step more.3 (λ e. absurd (cc)))
+      | else-is_empty w ↦ nothing (λ e. absurd (cc)) (ap (λ (f : Fed _). f.source) c.advance.ensures ∙ ap (λ (f : Fed _). f.source) w.feed-is)
+    ]
+
+pub returns-in_default-clause-needed : goal.returns-in_default-clause-needed
+returns-in_default-clause-needed g c =
+    let same : length c.pending.result.now ≡ length c.args.feed.now.pending = ap length c.pending.ensures in
+    elim c.if-is_empty.branch [
+      | then-is_empty+in_ok-fill w ↦
+          let empty = w.if-is_empty.true in
+          let small : length c.args.feed.now.pending < 1 = grind (arith, nat_tests, common_steps) in
+          let more = w.in_ok-fill.ensures.taken in
+          while_same g.S.Source.takes g.S.Source.left _ _ _ _ _ (ap (λ (f : Fed _). f.source) w.feed-is) (below_once g.S.Source.takes g.S.Source.left 1 _ _ _ _ _ small w.in_ok-fill.ensures.step more.3 (λ e. absurd (cc)))
+      | else-is_empty w ↦ nothing (λ e. absurd (cc)) (ap (λ (f : Fed _). f.source) w.feed-is)
+    ]

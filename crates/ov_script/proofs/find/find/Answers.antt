@@ -1,45 +1,70 @@
-use Rattle.std.proofs.Common.{◌≡◌, length, arith, ap, sym, ◌∙◌}
+use Rattle.std.proofs.Common.{◌≡◌, length, arith, ap, sym, refl, ◌∙◌}
 use Rattle.std.proofs.lemmas.Bool.Decides.{nat_tests}
 use Rattle.std.proofs.lemmas.Grind.{common_steps}
+use Rattle.std.proofs.lemmas.Result.{err_from_is_err_and}
+use Rattle.std.proofs.KnownBytes.{Consumes-nil, Consumes-kept}
 use Rattle.ov_script.specs.Feed.{Takes}
 use Rattle.ov_script.specs.declared.front.Front.TheVariants.{Start}
 use Rattle.ov_script.specs.LineFronts.{run}
-use Rattle.ov_script.proofs.Taking.{seen_again, Takes-trans, Takes-none, needs_more, seen_behind, none_taken}
+use Rattle.ov_script.proofs.Needing.{needs_more, while_as}
+use Rattle.ov_script.proofs.Taking.{seen_again, Takes-trans, seen_behind, none_taken, none_more}
 use Rattle.ov_script.proofs.find.find.Goals as goal
 
-pub returns-in-Ok-Settled-clause-found : goal.returns-in-Ok-Settled-clause-found
-returns-in-Ok-Settled-clause-found g c =
-    let told = rw c.in-Ok-Settled.field-0-is at c.in-Ok-Settled.ensures in
-    rw (← c.pending-bytes.ensures) (told _)
+pub returns-in_err-line-clause-found : goal.returns-in_err-line-clause-found
+returns-in_err-line-clause-found g c =
+    let p = err_from_is_err_and c.from_residual.result c.from_residual.ensures.1 in
+    let told = c.in_err-line.ensures.settled in
+    rw (p.1, p.2, ← c.pending-bytes.ensures) (told _)
 
-pub returns-in-Ok-eq0-clause-found : goal.returns-in-Ok-eq0-clause-found
-returns-in-Ok-eq0-clause-found g c =
-    let opened = rw c.in-Ok-Open.field-0-is at c.in-Ok-Open.ensures in
+pub returns-in_err-line-clause-needed : goal.returns-in_err-line-clause-needed
+returns-in_err-line-clause-needed g c =
+    let p = err_from_is_err_and c.from_residual.result c.from_residual.ensures.1 in
+    while_as g.S.Source.takes g.S.Source.left _ ⊥ _ _ _ (λ e. c.in_err-line.ensures.no_fault (let is = p.1 in let that = p.2 in cc)) c.pieces.invariant.needed
+
+pub returns-in-Whole-clause-found : goal.returns-in-Whole-clause-found
+returns-in-Whole-clause-found g c =
+    let told = rw c.in-Whole.is at c.in_ok-line.ensures.settled in
+    rw (← c.pending-bytes.ensures) (told (g.S.Source.left c.pieces.feed.source))
+
+pub returns-in-Whole-clause-needed : goal.returns-in-Whole-clause-needed
+returns-in-Whole-clause-needed g c = while_as g.S.Source.takes g.S.Source.left _ ⊥ _ _ _ (λ e. absurd (cc)) c.pieces.invariant.needed
+
+pub returns-in_err-fill-in-Open-clause-needed : goal.returns-in_err-fill-in-Open-clause-needed
+returns-in_err-fill-in-Open-clause-needed g c =
+    let opened = rw c.in-Open.is at c.in_ok-line.ensures.settled in
     let unsettled = rw c.pending-bytes.ensures at opened.1.unsettled in
-    let more = c.in-Ok-eq0.ensures.taken in
-    let zero : c.in-Ok-eq0.field-0 ≡ 0 = grind (arith, nat_tests) in
-    let same = none_taken _ _ more.0 more.1 (more.2 ∙ zero) in
-    c.at_end.ensures _ _ _ (ap length (same ∙ sym c.pending-bytes.ensures)) (rw same unsettled) (more.4 zero)
+    needs_more g.S.Source.takes g.S.Source.left c.args.room _ c.args.feed.now c.pieces.feed c.fill.new.self _ _ c.pieces.invariant.taken.1 unsettled c.in_err-fill-in-Open.ensures.step
+    (Consumes-kept _ _ _ _ (Consumes-nil _) c.in_err-fill-in-Open.ensures.taken.1) (λ f. refl)
 
-pub returns-in-Ok-eq0-clause-taken : goal.returns-in-Ok-eq0-clause-taken
-returns-in-Ok-eq0-clause-taken g c =
-    let more = c.in-Ok-eq0.ensures.taken in
+pub returns-then-branch-eq0-clause-found : goal.returns-then-branch-eq0-clause-found
+returns-then-branch-eq0-clause-found g c =
+    let opened = rw c.in-Open.is at c.in_ok-line.ensures.settled in
+    let unsettled = rw c.pending-bytes.ensures at opened.1.unsettled in
+    let more = c.in_ok-fill-in-Open.ensures.taken in
+    let zero : c.in_ok-fill-in-Open.field-0 ≡ 0 = c.if-branch-eq0.true in
+    let same = none_taken _ _ more.0 more.1 (more.2 ∙ zero) in
+    c.at_end.ensures.found _ _ _ (ap length (same ∙ sym c.pending-bytes.ensures)) (rw same unsettled) (more.4 zero)
+
+pub returns-then-branch-eq0-clause-taken : goal.returns-then-branch-eq0-clause-taken
+returns-then-branch-eq0-clause-taken g c =
+    let more = c.in_ok-fill-in-Open.ensures.taken in
     (_, Takes-trans _ _ _ _ _ _ c.pieces.invariant.taken.1 (record { pending = more.1; source = more.3 }))
 
-pub returns-in-Ok-eq0-clause-needed : goal.returns-in-Ok-eq0-clause-needed
-returns-in-Ok-eq0-clause-needed g c =
-    let opened = rw c.in-Ok-Open.field-0-is at c.in-Ok-Open.ensures in
+pub returns-then-branch-eq0-clause-needed : goal.returns-then-branch-eq0-clause-needed
+returns-then-branch-eq0-clause-needed g c =
+    let opened = rw c.in-Open.is at c.in_ok-line.ensures.settled in
     let unsettled = rw c.pending-bytes.ensures at opened.1.unsettled in
-    let more = c.in-Ok-eq0.ensures.taken in
-    needs_more _ _ _ _ _ _ _ c.pieces.invariant.taken.1 unsettled (record { pending = more.1; source = more.3 })
+    let more = c.in_ok-fill-in-Open.ensures.taken in
+    let zero : c.in_ok-fill-in-Open.field-0 ≡ 0 = c.if-branch-eq0.true in
+    needs_more g.S.Source.takes g.S.Source.left c.args.room _ c.args.feed.now c.pieces.feed c.fill.new.self _ more.0 c.pieces.invariant.taken.1 unsettled c.in_ok-fill-in-Open.ensures.step more.3 (λ f. none_more more.0 (more.2 ∙ zero))
 
 pub pieces-preserved : goal.pieces-preserved
 pieces-preserved g c =
     let inv = c.pieces.invariant in
-    let opened = rw c.in-Ok-Open.field-0-is at c.in-Ok-Open.ensures in
+    let opened = rw c.in-Open.is at c.in_ok-line.ensures.settled in
     let unsettled = rw c.pending-bytes.ensures at opened.1.unsettled in
     let no_lf = rw c.pending-bytes.ensures at opened.1.no_lf in
-    let more = c.in-Ok.ensures.taken in
+    let more = c.in_ok-fill-in-Open.ensures.taken in
     let takes : Takes g.S.Source.left c.pieces.feed c.fill.new.self more.0 = record { pending = more.1; source = more.3 } in
     let behind = seen_behind _ _ _ more.1 no_lf in
     record {
@@ -47,13 +72,10 @@ pieces-preserved g c =
       no_lf = rw c.pending-bytes.ensures behind.1;
       front = opened.0 ∙ ap (run Start) (seen_again _ _ _ _ c.pending-bytes.ensures more.1);
       taken = (_, Takes-trans _ _ _ _ _ _ inv.taken.1 takes);
-      needed = needs_more _ _ _ _ _ _ _ inv.taken.1 unsettled takes;
-      same = grind (arith, common_steps);
-      later = grind (arith, common_steps);
+      needed = needs_more g.S.Source.takes g.S.Source.left c.args.room ⊥ c.args.feed.now c.pieces.feed c.fill.new.self _ more.0 inv.taken.1 unsettled c.in_ok-fill-in-Open.ensures.step more.3 (λ f. absurd f);
+      call = record {
+        same = c.in_ok-fill-in-Open.ensures.same ∙ inv.call.same;
+        later = omega (arith, inv.call.later, c.in_ok-fill-in-Open.ensures.cause.later);
+        read = λ f. absurd f;
+      };
     }
-
-pub returns-in-Err-fill-clause-needed : goal.returns-in-Err-fill-clause-needed
-returns-in-Err-fill-clause-needed g c =
-    let opened = rw c.in-Ok-Open.field-0-is at c.in-Ok-Open.ensures in
-    let unsettled = rw c.pending-bytes.ensures at opened.1.unsettled in
-    needs_more _ _ _ _ _ _ _ c.pieces.invariant.taken.1 unsettled (Takes-none _ _ _ c.in-Err-fill.ensures.taken.0 c.in-Err-fill.ensures.taken.1)

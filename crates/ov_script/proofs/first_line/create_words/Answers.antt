@@ -1,13 +1,13 @@
 use Rattle.std.proofs.Common.{List, ℕ, ◌≡◌, ◌≤◌, sym, subst, false, true}
+use Rattle.ov_base.specs.declared.limits.TheConstants.{MAX_FILE_BYTES}
 use Rattle.ov_base.specs.Names.{IsName}
-use Rattle.ov_script.specs.Items.{longest_body}
 use Rattle.ov_script.specs.LineFeeds.{Lacks}
 use Rattle.ov_script.proofs.ByteTexts.{lacks_not}
 use Rattle.ov_script.proofs.FirstLines.{if_none, create_text, behind_create, create_file, create_list}
 use Rattle.ov_script.proofs.first_line.create_words.Goals as goal
 
 abbrev NoWords : List ℕ → Type 0
-NoWords line = (file list : List ℕ) (size : ℕ) → IsName file → Lacks 32 list → size ≤ longest_body → line ≡ create_text file list size → ⊥
+NoWords line = (file list : List ℕ) (size : ℕ) → IsName file → Lacks 32 list → size ≤ MAX_FILE_BYTES → line ≡ create_text file list size → ⊥
 
 pub returns-in_err-file-clause-none : goal.returns-in_err-file-clause-none
 returns-in_err-file-clause-none c =

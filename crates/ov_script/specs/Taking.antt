@@ -1,0 +1,26 @@
+-- What a call of `next` may take from the source.
+use Rattle.std.specs.Prelude.{◌≡◌, ◌≤◌, ℕ, List, ◌++◌, length, Option, Result, Err, None}
+use Rattle.ov_io.specs.Calls.{TakesWhile}
+use Rattle.ov_script.specs.Items.{BeginsWithItem, CanBegin}
+use Rattle.ov_script.specs.Place.{Place}
+use Rattle.ov_script.specs.declared.next.Next.{Next}
+use Rattle.ov_script.specs.declared.next.ScriptFault.{ScriptFault}
+use Rattle.ov_script.specs.declared.next.ScriptFault.TheVariants.{Read}
+
+-- So many bytes may be read of the text, and it isn't known before more of it is whether an item
+-- stands here.
+pub record IsUnsettled (room : ℕ) (text : List ℕ) : Type 0 where
+  pub within : length text ≤ room
+  pub can : CanBegin text
+  pub none : BeginsWithItem text → ⊥
+
+-- Bytes are taken only while the pending bytes and those taken leave it unsettled what item stands
+-- there. At a fault of the source nothing is lost, and it is unsettled still.
+abbrev pub TakesWhatItNeeds : {S : Type 0} → (S → S → Type 0) → (S → Option (List ℕ)) → ℕ → List ℕ
+    → Type 0 → S → S → Type 0
+TakesWhatItNeeds takes left room pending failed old new =
+    TakesWhile takes left (λ seen. IsUnsettled room (pending ++ seen)) failed old new
+
+-- The reading had not ended, and a fault of the source ends it.
+abbrev pub IsFreshFault : {S : Type 0} → Place S → Result Next ScriptFault → Type 0
+IsFreshFault old result = (old.ended ≡ None) × (result ≡ Err Read)
