@@ -111,9 +111,17 @@ front_replays i (Write call area at bytes ∷ xs) s (suc k) is =
     (rest.0, ap (λ (b : Bool). if b then replayed (written area at bytes i) (take k xs) else None) both.0 ∙ rest.1)
 front_replays i (Sync call ∷ xs) s (suc k) is = front_replays i xs s k is
 
-pub torn_possible : (tear : Tear) (i : Image) (xs : List Change) (s : Image) (call : ℕ) → replayed i xs ≡ Some s → LeftSince i xs 0 (torn tear i (before call xs))
-torn_possible tear i xs s call is =
+-- what a stop leaves after so many calls, a crash after them may leave
+pub torn_after : (tear : Tear) (i : Image) (xs : List Change) (s : Image) (call : ℕ) → replayed i xs ≡ Some s → Leaves i (before call xs) (torn tear i (before call xs))
+torn_after tear i xs s call is =
     let front = before_front call xs in
     let read = front_replays i xs s front.0 is in
     let left : Leaves i (take front.0 xs) (torn tear i (take front.0 xs)) = torn_left tear (λ c. c ≡ i) i i (take front.0 xs) read.0 read.1 refl (keeps_same tear i) in
-    (front.0, omega arith, front.1, subst (λ (l : List Change). Leaves i (take front.0 xs) (torn tear i l)) (sym front.2) left)
+    subst (λ (l : List Change). Leaves i l (torn tear i l)) (sym front.2) left
+
+-- and so may one at some moment
+pub torn_possible : (tear : Tear) (i : Image) (xs : List Change) (s : Image) (call : ℕ) → replayed i xs ≡ Some s → LeftSince i xs 0 (torn tear i (before call xs))
+torn_possible tear i xs s call is =
+    let front = before_front call xs in
+    let left = torn_after tear i xs s call is in
+    (front.0, omega arith, front.1, subst (λ (l : List Change). Leaves i l (torn tear i (before call xs))) front.2 left)

@@ -2,9 +2,8 @@
 ghost use Rattle.std.specs.Prelude.{◌≡◌, ◌≤◌, ◌+◌, ◌↔◌, ◌++◌, ◌∷◌, [], Some, IsTrue, IsErr, IfOk, OnOk, OnErr, MatchResult, Contains, length, take, drop, option_map};
 ghost use Rattle.ov_base.specs.Causes.{HasCause};
 ghost use Rattle.ov_disk.specs.Disk.{Image, image, bytes_of, written, TornIn, Follows, Narrows, Told, Only};
-ghost use Rattle.ov_disk.specs.Moments.{Elapses};
 ghost use Rattle.ov_disk.specs.declared.change.Change.TheVariants.{Write, Sync};
-ghost use Rattle.ov_disk.specs.Tape.{fresh, answered, failed, changed, risen, before, torn, reads_of, may_leave_of, moment_of, left_since_of};
+ghost use Rattle.ov_disk.specs.Tape.{fresh, answered, failed, changed, risen, before, torn, reads_of, may_leave_of, moment_of, left_since_of, Leaves};
 ghost use Rattle.ov_disk.specs.TapeLaws.{reads_is_one, now_counts, only_last};
 
 use crate::areas::Areas;
@@ -118,6 +117,9 @@ impl MemDisk {
         requires { call ≤ self.now.calls }
         ensures exact { IfOk result (λ disk.
             disk ≡ fresh (torn tear self.now.first (before call self.now.changes))) }
+        // A crash after so many calls may leave it, and so may one at some moment up to now.
+        ensures after { IfOk result (λ disk.
+            Leaves self.now.first (before call self.now.changes) disk.first) }
         ensures possible { IfOk result (λ disk. left_since_of self.now 0 disk.first) }
     {
         let left = torn_areas(self.alloc, &self.areas, &self.changes, call, tear)?;
@@ -130,7 +132,9 @@ impl MemDisk {
     fn next_call(&mut self) -> Result<u64, DiskFault>
         ensures fails { IsErr result ↔ Contains self.old.fails self.old.calls }
         ensures call { IfOk result (λ call. call ≡ self.old.calls) }
-        ensures exact { MatchResult result (λ _. self.new ≡ answered self.old) (λ _. self.new ≡ failed self.old) }
+        ensures exact { MatchResult result
+            (λ _. self.new ≡ answered self.old)
+            (λ _. self.new ≡ failed self.old) }
         ensures cause { HasCause self.old.faults self.new.faults result }
     {
         let call = self.calls;
@@ -202,14 +206,14 @@ impl Disk for MemDisk {
 
     ghost reads_one = { reads_is_one };
 
+    // What else the trait asks follows from the exact clauses.
     fn len(&mut self, area: Area) -> Result<u64, DiskFault>
         ensures len { IfOk result (λ n. Told (reads_of self.old) (λ i. n ≡ length (bytes_of area i))) }
-        ensures reads { reads_of self.new ≡ reads_of self.old }
-        ensures crash { Narrows (may_leave_of self.old) (may_leave_of self.new) }
-        ensures time { Elapses moment_of left_since_of may_leave_of self.old self.new }
         ensures cause { HasCause self.old.faults self.new.faults result }
         ensures fails { IsErr result ↔ Contains self.old.fails self.old.calls }
-        ensures exact { MatchResult result (λ _. self.new ≡ answered self.old) (λ _. self.new ≡ failed self.old) }
+        ensures exact { MatchResult result
+            (λ _. self.new ≡ answered self.old)
+            (λ _. self.new ≡ failed self.old) }
     {
         self.next_call()?;
         Ok(self.areas.get(area).len() as u64)
@@ -219,12 +223,11 @@ impl Disk for MemDisk {
         requires { Told (reads_of self.old) (λ i. at + length buf.old ≤ length (bytes_of area i)) }
         ensures bytes { OnOk result (Told (reads_of self.old) (λ i.
             buf.new ≡ take (length buf.old) (drop at (bytes_of area i)))) }
-        ensures reads { reads_of self.new ≡ reads_of self.old }
-        ensures crash { Narrows (may_leave_of self.old) (may_leave_of self.new) }
-        ensures time { Elapses moment_of left_since_of may_leave_of self.old self.new }
         ensures cause { HasCause self.old.faults self.new.faults result }
         ensures fails { IsErr result ↔ Contains self.old.fails self.old.calls }
-        ensures exact { MatchResult result (λ _. self.new ≡ answered self.old) (λ _. self.new ≡ failed self.old) }
+        ensures exact { MatchResult result
+            (λ _. self.new ≡ answered self.old)
+            (λ _. self.new ≡ failed self.old) }
     {
         self.next_call()?;
         give(self.areas.get(area), at, buf);
@@ -235,8 +238,8 @@ impl Disk for MemDisk {
         requires { Told (reads_of self.old) (λ i. at ≤ length (bytes_of area i)) }
         ensures written { OnOk result
             (reads_of self.new ≡ option_map (written area at bytes.now) (reads_of self.old)) }
-        ensures crash { Follows (TornIn area at (length bytes.now)) (may_leave_of self.old) (may_leave_of self.new) }
-        ensures time { Elapses moment_of left_since_of may_leave_of self.old self.new }
+        ensures crash { Follows (TornIn area at (length bytes.now))
+            (may_leave_of self.old) (may_leave_of self.new) }
         ensures cause { HasCause self.old.faults self.new.faults result }
         ensures fails { Contains self.old.fails self.old.calls → IsErr result }
         ensures exact { MatchResult result
@@ -254,7 +257,6 @@ impl Disk for MemDisk {
         ensures durable { OnOk result (Told (reads_of self.old) (λ i. Only i (may_leave_of self.new))) }
         ensures reads { OnOk result (reads_of self.new ≡ reads_of self.old) }
         ensures crash { Narrows (may_leave_of self.old) (may_leave_of self.new) }
-        ensures time { Elapses moment_of left_since_of may_leave_of self.old self.new }
         ensures cause { HasCause self.old.faults self.new.faults result }
         ensures fails { Contains self.old.fails self.old.calls → IsErr result }
         ensures exact { MatchResult result

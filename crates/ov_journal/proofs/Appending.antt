@@ -1,5 +1,6 @@
 -- An append, call by call.
 use Rattle.std.proofs.Common.{◌≡◌, inl, inr, ⊎_elim, ℕ, ◌+◌, ◌≤◌, List, [], ◌∷◌, length, Option, Some, refl, ◌∙◌, ap, subst, arith}
+use Rattle.ov_base.specs.declared.limits.TheConstants.{MAX_RECORD_BYTES}
 use Rattle.ov_disk.specs.Disk.{Image, overwritten, written, Torn, TornIn, Follows, Narrows, Only, OnlyBook}
 use Rattle.ov_disk.specs.Moments.{Elapses, LeavesOnly}
 use Rattle.ov_disk.specs.declared.area.Area.TheVariants.{Book}
@@ -21,7 +22,7 @@ pub record Begun {D : Type 0} (moment : D → ℕ) (left_since : D → ℕ → I
   pub only_now : (c : Image) → left_since d0 (moment d0) c → may_leave d0 c
   pub mine : may_leave d0 i
   pub stands : EndsAt end i.book × OnlyBook i.book (may_leave d0)
-  pub size : (1 ≤ length body) × (length body ≤ 1114112)
+  pub size : (1 ≤ length body) × (length body ≤ MAX_RECORD_BYTES)
   pub is_frame : frame ≡ framed body
 
 module _ {D : Type 0} {moment : D → ℕ} {left_since : D → ℕ → Image → Type 0} {may_leave : D → Image → Type 0}
@@ -68,7 +69,7 @@ module _ {D : Type 0} {moment : D → ℕ} {left_since : D → ℕ → Image →
         fourth d4 time4 crash4 = goes_on moment left_since may_leave d0 d3 d4 P third time4 (λ c left. gate_crash (may_leave d2) (may_leave d3) durable crash3 c (crash4 c left))
 
 -- after the last call
-pub is_kept : (reads : Option Image) (may_leave : Image → Type 0) (i : Image) (end : ℕ) (ends : EndsAt end i.book) (body frame : List ℕ) → (1 ≤ length body) × (length body ≤ 1114112)
+pub is_kept : (reads : Option Image) (may_leave : Image → Type 0) (i : Image) (end : ℕ) (ends : EndsAt end i.book) (body frame : List ℕ) → (1 ≤ length body) × (length body ≤ MAX_RECORD_BYTES)
     → frame ≡ framed body → reads ≡ Some (written Book end (1 ∷ []) (written Book (end + 1) frame i)) → Only (written Book end (1 ∷ []) (written Book (end + 1) frame i)) may_leave
     → IsKept reads may_leave (with_body body (contents_of i.book)) i.blobs
 is_kept reads may_leave i end ends body frame size is_frame is only =

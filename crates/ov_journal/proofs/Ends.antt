@@ -1,6 +1,7 @@
 -- What a crash leaves in each of the two steps of an append: the record behind the closed gate at the end,
 -- and then that gate.
 use Rattle.std.proofs.Common.{◌≡◌, ◌≢◌, ◌⊎◌, inl, inr, ℕ, zero, suc, ◌+◌, ◌≤◌, ◌<◌, List, [], ◌∷◌, ◌++◌, length, get_or, take, drop, false, refl, sym, ◌∙◌, ap, subst, arith, append_assoc, length-append, take-append-drop}
+use Rattle.ov_base.specs.declared.limits.TheConstants.{MAX_RECORD_BYTES}
 use Rattle.std.proofs.lemmas.List.{take_at, drop_at, drop_more, length-take-le}
 use Rattle.std.proofs.lemmas.Bool.{cases_eq}
 use Rattle.ov_disk.specs.Disk.{overwritten, Torn}
@@ -115,7 +116,7 @@ module _ (end : ℕ) (book : List ℕ) (ends : EndsAt end book) where
     pub staged_long : end ≤ length staged
     staged_long = omega (arith, long front end front_long gate more)
 
-    module _ (some : 1 ≤ length body) (most : length body ≤ 1114112) where
+    module _ (some : 1 ≤ length body) (most : length body ≤ MAX_RECORD_BYTES) where
       pub opened_reads : contents_of opened ≡ with_body body (contents_of book)
       opened_reads =
           on_front (1 ∷ more) (record { bodies = body ∷ []; bad = false }) (omega arith) (frame_reads body (drop (length (framed body)) rest) some most)

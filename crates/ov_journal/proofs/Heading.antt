@@ -1,5 +1,6 @@
 -- A header as it is read, and what a gate says as it is read.
 use Rattle.std.proofs.Common.{◌≡◌, inl, inr, ℕ, zero, suc, ◌+◌, ◌-◌, ◌≤◌, ◌<◌, min, List, [], ◌∷◌, ◌++◌, length, take, drop, get_or, Bool, true, false, ◌==◌, refl, sym, ◌∙◌, ap, subst, arith, take-append-drop, length-drop, lit<}
+use Rattle.ov_base.specs.declared.limits.TheConstants.{MAX_RECORD_BYTES}
 use Rattle.std.proofs.lemmas.List.{take_all, drop_more, drop-take, drop-drop, get_or_past, get_or-take, get_or-drop, length-take, length-take-le}
 use Rattle.std.proofs.lemmas.Bool.{cases_lt}
 use Rattle.std.proofs.lemmas.Nat.{be_bytes_4}
@@ -33,7 +34,7 @@ header_whole front h long fits gate is_magic mode first base surface =
     drop_more front 0 0 (omega (arith, long)) ∙ (λ i. gate i ∷ more i)
 
 -- a record, gate and length
-pub begins : (bytes : List ℕ) (count : ℕ) → get_or bytes 0 0 ≡ 1 → count ≡ length_in (drop 1 bytes) → 1 ≤ count → count ≤ 1114112 → count + 5 ≤ length bytes - 1 → BeginsRecord count bytes
+pub begins : (bytes : List ℕ) (count : ℕ) → get_or bytes 0 0 ≡ 1 → count ≡ length_in (drop 1 bytes) → 1 ≤ count → count ≤ MAX_RECORD_BYTES → count + 5 ≤ length bytes - 1 → BeginsRecord count bytes
 begins [] count gate is some most room = absurd (omega (arith, room))
 begins (g ∷ rest) count gate is some most room =
     let f : Fits rest = record { some = omega (arith, is, some); most = omega (arith, is, most); room = omega (arith, is, room) } in

@@ -8,3 +8,4 @@ pub mod Reading
 pub mod Records
 pub mod Runs
 pub mod Scanning
+pub mod Headers

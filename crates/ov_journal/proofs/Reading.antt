@@ -1,5 +1,6 @@
 -- How a Book is read: what stands before a gate, and what stands behind it.
 use Rattle.std.proofs.Common.{◌≡◌, ◌≢◌, ℕ, zero, suc, ◌+◌, ◌≤◌, ◌<◌, List, [], ◌∷◌, ◌++◌, length, take, drop, get_or, Bool, true, false, ◌==◌, ◌&&◌, leb, refl, sym, ◌∙◌, ap, subst, arith, append_assoc, length-append, length-drop, take-append-drop}
+use Rattle.ov_base.specs.declared.limits.TheConstants.{MAX_RECORD_BYTES}
 use Rattle.std.proofs.lemmas.List.{take_at, drop_at, drop-take, take-append-le, length-take-le}
 use Rattle.std.proofs.lemmas.Bool.{le-leb, leb-true, and_parts}
 use Rattle.std.proofs.lemmas.Bool.Decides.{nat_tests}
@@ -37,17 +38,17 @@ take_front m n xs t le long =
 -- What a length that can be says.
 pub record Fits (rest : List ℕ) : Type 0 where
   pub some : 1 ≤ length_in rest
-  pub most : length_in rest ≤ 1114112
+  pub most : length_in rest ≤ MAX_RECORD_BYTES
   pub room : length_in rest + 5 ≤ length rest
 
 pub fits : (rest : List ℕ) → is_length rest ≡ true → Fits rest
 fits rest is =
-    let first = and_parts (leb 1 (length_in rest) && leb (length_in rest) 1114112) (leb (length_in rest + 5) (length rest)) is in
-    let both = and_parts (leb 1 (length_in rest)) (leb (length_in rest) 1114112) first.0 in
+    let first = and_parts (leb 1 (length_in rest) && leb (length_in rest) MAX_RECORD_BYTES) (leb (length_in rest + 5) (length rest)) is in
+    let both = and_parts (leb 1 (length_in rest)) (leb (length_in rest) MAX_RECORD_BYTES) first.0 in
     record { some = leb-true _ _ both.0; most = leb-true _ _ both.1; room = leb-true _ _ first.1 }
 
 pub fits_is : (rest : List ℕ) → Fits rest → is_length rest ≡ true
-fits_is rest f = λ i. le-leb 1 (length_in rest) f.some i && le-leb (length_in rest) 1114112 f.most i && le-leb (length_in rest + 5) (length rest) f.room i
+fits_is rest f = λ i. le-leb 1 (length_in rest) f.some i && le-leb (length_in rest) MAX_RECORD_BYTES f.most i && le-leb (length_in rest + 5) (length rest) f.room i
 
 pub length-body_in : (rest : List ℕ) → Fits rest → length (body_in rest) ≡ length_in rest
 length-body_in rest f = length-take-le (length_in rest) (drop 4 rest) (omega (arith, f.room, length-drop 4 rest))
@@ -130,7 +131,7 @@ front_reads (gate ∷ rest) zero end whole end_is =
     record { inside = here.inside; closed = here.closed; reads = here.reads }
 
 -- a record that was written behind an open gate
-pub frame_reads : (body rest : List ℕ) → 1 ≤ length body → length body ≤ 1114112 → records_after 0 (1 ∷ (framed body ++ rest)) ≡ record { bodies = body ∷ []; bad = false }
+pub frame_reads : (body rest : List ℕ) → 1 ≤ length body → length body ≤ MAX_RECORD_BYTES → records_after 0 (1 ∷ (framed body ++ rest)) ≡ record { bodies = body ∷ []; bad = false }
 frame_reads body rest some most =
     let size = to_be_bytes w32 (length body) in
     let x = framed body ++ rest in

@@ -1,7 +1,9 @@
 -- What a Book says, read from the whole of it: a header of 78 bytes, and then records. A record is a gate
 -- of one byte, the length of its body in four bytes, and the body. The list of records ends at the first
 -- gate that isn't open; whatever follows it doesn't count.
-use Rattle.std.specs.Prelude.{◌≡◌, ℕ, zero, suc, ◌+◌, List, [], ◌∷◌, ◌++◌, length, take, drop, Bool, true, false, ◌==◌, ◌&&◌, leb, codes}
+use Rattle.std.specs.Prelude.{◌≡◌, ◌<◌, ◌^◌, ℕ, zero, suc, ◌+◌, List, [], ◌∷◌, ◌++◌, length, take, drop}
+use Rattle.std.specs.Prelude.{Bool, true, false, ◌==◌, ◌&&◌, leb, codes}
+use Rattle.ov_base.specs.declared.limits.TheConstants.{MAX_RECORD_BYTES}
 use Rattle.std.specs.Int.{w32, to_be_bytes, from_be_bytes}
 use Rattle.ov_base.specs.Modes.{mode_byte}
 use Rattle.ov_journal.specs.declared.header.Header.{Header}
@@ -19,13 +21,25 @@ header_bytes h = magic ++ mode_byte h.mode ∷ to_be_bytes w32 h.first ++ h.base
 abbrev pub spelled : Header → List ℕ
 spelled h = 1 ∷ header_bytes h
 
+-- an epoch of four bytes, and check values of 32 bytes each
+pub record HasHeaderForm (h : Header) : Type 0 where
+  pub first : h.first < 2 ^ 32
+  pub base : length h.base_check ≡ 32
+  pub surface : length h.surface_check ≡ 32
+
+-- two headers of this form with the same bytes are the same
+abbrev pub HeadersAreSpelledApart : Type 0
+HeadersAreSpelledApart =
+    (one other : Header) → HasHeaderForm one → HasHeaderForm other
+    → header_bytes one ≡ header_bytes other → one ≡ other
+
 -- the length field that begins these bytes
 abbrev pub length_in : List ℕ → ℕ
 length_in rest = from_be_bytes w32 (take 4 rest)
 
 -- a length from 1 to 1,114,112 that leaves room for the body and one more byte
 abbrev pub is_length : List ℕ → Bool
-is_length rest = leb 1 (length_in rest) && leb (length_in rest) 1114112 && leb (length_in rest + 5) (length rest)
+is_length rest = leb 1 (length_in rest) && leb (length_in rest) MAX_RECORD_BYTES && leb (length_in rest + 5) (length rest)
 
 -- the body behind the length field
 abbrev pub body_in : List ℕ → List ℕ

@@ -17,6 +17,13 @@ abbrev pub place_if : Bool → ℕ → Option ℕ
 place_if false end = None
 place_if true end = Some (end + 1)
 
+-- A store that was found with a bad place has a journal that is bad there; one that was found without
+-- is whole.
+abbrev pub IsWholeUnlessBad : Found → Type 0
+IsWholeUnlessBad Unborn = ⊤
+IsWholeUnlessBad (Born log header bad) =
+    (bad ≡ place_if log.bad log.end) × (bad ≡ None → log.bad ≡ false)
+
 -- a store with this header, this journal, and this place of the first length that can't be
 pub record IsStore (log : Log) (header : Header) (bad : Option ℕ) (book : List ℕ) : Type 0 where
   pub magic : HasMagic book

@@ -1,5 +1,6 @@
 -- What the code finds of a Book before it has read all of it.
 use Rattle.std.specs.Prelude.{◌≡◌, ℕ, ◌+◌, ◌≤◌, ◌<◌, List, [], ◌∷◌, ◌++◌, length, take, drop, true, false, ⊤}
+use Rattle.ov_base.specs.declared.limits.TheConstants.{MAX_RECORD_BYTES}
 use Rattle.ov_journal.specs.declared.open.Head.{Head}
 use Rattle.ov_journal.specs.declared.open.Head.TheVariants.{Unborn, Foreign, NoMode, Store}
 use Rattle.ov_journal.specs.declared.scan.Next.{Next}
@@ -26,7 +27,7 @@ HasRoom size (Store header) = 78 < size
 pub record BeginsRecord (count : ℕ) (bytes : List ℕ) : Type 0 where
   pub body : List ℕ
   pub long : length body ≡ count
-  pub most : count ≤ 1114112
+  pub most : count ≤ MAX_RECORD_BYTES
   pub inside : 5 + count < length bytes
   pub bodies : (records_after 0 bytes).bodies ≡ body ∷ (records_after 0 (drop (5 + count) bytes)).bodies
   pub bad : (records_after 0 bytes).bad ≡ (records_after 0 (drop (5 + count) bytes)).bad
@@ -41,7 +42,7 @@ Nexts bytes (Record count) = BeginsRecord count bytes
 abbrev pub LiesIn : ℕ → Next → Type 0
 LiesIn left Closed = ⊤
 LiesIn left Bad = ⊤
-LiesIn left (Record count) = (count ≤ 1114112) × (5 + count < left)
+LiesIn left (Record count) = (count ≤ MAX_RECORD_BYTES) × (5 + count < left)
 
 -- these records were read, up to this place
 pub record ReadTo (end : ℕ) (offsets : List ℕ) (book : List ℕ) : Type 0 where

@@ -1,5 +1,6 @@
 //! A run of appends, which shows how their contracts compose.
 ghost use Rattle.std.specs.Prelude.{◌≡◌, ◌≤◌, ◌<◌, ◌+◌, ◌^◌, All, OnOk, IsErrOf, length, false};
+ghost use Rattle.ov_base.specs.declared.limits.TheConstants.{MAX_RECORD_BYTES};
 ghost use Rattle.ov_base.specs.Causes.{Rose};
 ghost use Rattle.ov_disk.specs.Disk.{Told};
 ghost use Rattle.ov_disk.specs.Moments.{LeavesOnly};
@@ -17,7 +18,7 @@ impl Journal {
     pub fn append_all<D: Disk>(&mut self, disk: &mut D, bodies: &[Octets]) -> Result<(), CheckFault>
         requires whole { self.old.bad ≡ false }
         requires count { length self.old.offsets + length bodies.now < 2 ^ 40 }
-        requires bodies { All (λ body. (1 ≤ length body) × (length body ≤ 1114112)) bodies.now }
+        requires bodies { All (λ body. (1 ≤ length body) × (length body ≤ MAX_RECORD_BYTES)) bodies.now }
         requires stands { Stands self.old (D.reads disk.old) (D.may_leave disk.old) }
 
         // A crash at any moment leaves the bodies from before, and then some front of these.

@@ -24,6 +24,7 @@ fn clear<D: Disk>(disk: &mut D) -> Result<(), DiskFault>
         IsCleared k.book × OnlyBook k.book (D.may_leave disk.new))) }
     ensures told { OnOk result (Told (D.reads disk.old) (λ i.
         (k : Image) × (D.reads disk.new ≡ Some k) × (k.blobs ≡ i.blobs))) }
+    ensures told_before { OnOk result (Told (D.reads disk.new) (λ _. (i : Image) × (D.reads disk.old ≡ Some i))) }
     ensures same { D.borrow disk.new ≡ D.borrow disk.old }
     ensures cause { HasCause (D.faults disk.old) (D.faults disk.new) result }
 {
@@ -71,6 +72,8 @@ impl Journal {
         ensures born { OnOk result (Told (D.reads disk.old) (λ i.
             IsKept (D.reads disk.new) (D.may_leave disk.new) (born header.now []) i.blobs)) }
         ensures stands { IfOk result (λ journal. Stands journal (D.reads disk.new) (D.may_leave disk.new)) }
+        // A disk that tells its bytes now told them before.
+        ensures told_before { OnOk result (Told (D.reads disk.new) (λ _. (i : Image) × (D.reads disk.old ≡ Some i))) }
 
         ensures log { IfOk result (λ journal.
             journal ≡ record { offsets = []; end = 78; bad = false; room = 0; longest = 0 }) }

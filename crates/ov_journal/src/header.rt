@@ -22,9 +22,6 @@ pub struct Header {
 /// How many bytes a header has, its gate among them.
 pub(crate) const HEADER: u64 = 78;
 
-/// The greatest length of a body.
-pub(crate) const MOST: u32 = 1_114_112;
-
 // What stands behind the header's gate.
 const MAGIC: [u8; 8] = *b"OVERENC0";
 

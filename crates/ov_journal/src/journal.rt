@@ -1,11 +1,12 @@
 //! A journal: where its records are, and room for the next one.
 ghost use Rattle.std.specs.Prelude.{◌≡◌, ℕ, ◌≤◌, ◌<◌, ◌+◌, ◌-◌, ◌*◌, ◌^◌, ◌++◌, ◌∷◌, [], Some, IsTrue, IfOk, OnOk, OnErr, MatchResult, length, slice_index, false, vec_len, vec_capacity};
+ghost use Rattle.ov_base.specs.declared.limits.TheConstants.{MAX_RECORD_BYTES};
 ghost use Rattle.ov_base.specs.Causes.{HasCause};
-ghost use Rattle.ov_disk.specs.Disk.{Told};
+ghost use Rattle.ov_disk.specs.Disk.{Image, Told};
 ghost use Rattle.ov_disk.specs.Moments.{LeavesOnly};
-ghost use Rattle.ov_journal.specs.Book.{contents_of, with_body};
+ghost use Rattle.ov_journal.specs.Book.{Records, contents_of, with_body};
 ghost use Rattle.ov_journal.specs.Finding.{place_if};
-ghost use Rattle.ov_journal.specs.Log.{HasSameRecords, appended, IsBeforeOrAfter, IsKept, Stands};
+ghost use Rattle.ov_journal.specs.Log.{HasSameRecords, IsLogOf, appended, IsBeforeOrAfter, IsKept, Stands};
 
 use crate::header::HEADER;
 use crate::record::put_record;
@@ -27,6 +28,7 @@ pub struct Journal {
 
 impl Model for Journal {
     ghost use Rattle.std.specs.Prelude.{◌≤◌, ◌<◌, ◌+◌, ◌*◌, ◌-◌, ◌^◌, length, vec_len, vec_capacity};
+    ghost use Rattle.ov_base.specs.declared.limits.TheConstants.{MAX_RECORD_BYTES};
     ghost use Rattle.ov_journal.specs.Log.{Log};
 
     ghost Value = { Log };
@@ -42,7 +44,7 @@ impl Model for Journal {
     ghost invariant = { λ j. (vec_len j.offsets + j.room ≤ vec_capacity j.offsets)
         × (j.longest ≤ vec_capacity j.frame - 5)
         × (j.end < 2 ^ 64 - 1)
-        × (j.end ≤ 78 + 1114117 * length j.offsets.items) };
+        × (j.end ≤ 78 + (MAX_RECORD_BYTES + 5) * length j.offsets.items) };
 }
 
 // Pushes where there is room.
@@ -72,7 +74,7 @@ impl Journal {
 
     /// The records that were found in a Book.
     pub(crate) fn found(alloc: Global, offsets: Vec<u64>, end: u64, bad: bool) -> Journal
-        requires end { (end < 2 ^ 64 - 1) × (end ≤ 78 + 1114117 * length offsets.items) }
+        requires end { (end < 2 ^ 64 - 1) × (end ≤ 78 + (MAX_RECORD_BYTES + 5) * length offsets.items) }
         ensures { result ≡ record { offsets = offsets.items; end = end; bad = bad; room = 0; longest = 0 } }
     {
         Journal {
@@ -130,6 +132,7 @@ impl Journal {
         ensures longest { OnOk result (length ≤ self.new.longest) }
         ensures never_less { (self.old.room ≤ self.new.room) × (self.old.longest ≤ self.new.longest) }
         ensures same { HasSameRecords self.old self.new }
+        ensures stands { (records : Records) → IsLogOf self.old records → IsLogOf self.new records }
         ensures err { OnErr result (self.new ≡ self.old) }
     {
         let room = self.room.checked_add(1).ok_or(Memory)?;
@@ -151,7 +154,7 @@ impl Journal {
         requires whole { self.old.bad ≡ false }
         requires count { length self.old.offsets < 2 ^ 40 }
         requires room { 0 < self.old.room }
-        requires body { (1 ≤ length body.now) × (length body.now ≤ 1114112) × (length body.now ≤ self.old.longest) }
+        requires body { (1 ≤ length body.now) × (length body.now ≤ MAX_RECORD_BYTES) × (length body.now ≤ self.old.longest) }
         requires stands { Stands self.old (D.reads disk.old) (D.may_leave disk.old) }
 
         // A crash at any moment of the call leaves the bodies from before it, with this one or without.
@@ -162,6 +165,8 @@ impl Journal {
         ensures acknowledged { OnOk result (Told (D.reads disk.old) (λ i.
             IsKept (D.reads disk.new) (D.may_leave disk.new) (with_body body.now (contents_of i.book)) i.blobs)) }
         ensures stands { OnOk result (Stands self.new (D.reads disk.new) (D.may_leave disk.new)) }
+        // A disk that tells its bytes now told them before.
+        ensures told_before { OnOk result (Told (D.reads disk.new) (λ _. (i : Image) × (D.reads disk.old ≡ Some i))) }
 
         ensures log { MatchResult result (λ _. self.new ≡ appended (length body.now) self.old) (λ _. self.new ≡ self.old) }
         ensures same { D.borrow disk.new ≡ D.borrow disk.old }

@@ -1,4 +1,5 @@
 //! What a Book can be.
+ghost use Rattle.ov_journal.specs.Book.{HeadersAreSpelledApart};
 ghost use Rattle.ov_journal.specs.Standing.{IsOneThing};
 
 /// No Book is unborn and a store, and none is a store with a header and a store without a mode. So what
@@ -6,4 +7,9 @@ ghost use Rattle.ov_journal.specs.Standing.{IsOneThing};
 /// answer that fits.
 pub fn a_book_is_one_thing()
     ensures { IsOneThing }
+{}
+
+/// Two headers with the same bytes are the same.
+pub fn headers_are_spelled_apart()
+    ensures { HeadersAreSpelledApart }
 {}

@@ -3,7 +3,7 @@ ghost use Rattle.std.specs.Prelude.{◌≡◌, ◌≤◌, ◌<◌, ℕ, List, If
 ghost use Rattle.ov_base.specs.Causes.{HasCause, Rose};
 ghost use Rattle.ov_disk.specs.Disk.{Told, Only};
 ghost use Rattle.ov_disk.specs.Moments.{LeavesOnly, IsUntouched};
-ghost use Rattle.ov_journal.specs.Finding.{Finds, UnlessFaulty};
+ghost use Rattle.ov_journal.specs.Finding.{Finds, IsWholeUnlessBad, UnlessFaulty};
 ghost use Rattle.ov_journal.specs.Heads.{Heads, HasRoom};
 ghost use Rattle.ov_journal.specs.declared.fault.JournalFault.TheVariants.{Disk as DiskFailed};
 
@@ -68,6 +68,7 @@ fn read_head<D: Disk>(disk: &mut D, size: u64) -> Result<Head, DiskFault>
 // What a Book is, and its records.
 fn find<D: Disk>(alloc: Global, disk: &mut D) -> Result<Found, JournalFault>
     ensures finds { Told (D.reads disk.old) (λ i. Finds i.book result) }
+    ensures whole { IfOk result IsWholeUnlessBad }
     ensures untouched { IsUntouched D.moment D.left_since D.may_leave D.reads disk.old disk.new }
     ensures same { D.borrow disk.new ≡ D.borrow disk.old }
     ensures later { D.faults disk.old ≤ D.faults disk.new }
@@ -98,6 +99,8 @@ impl Journal {
     /// the records before it; such a journal takes no more records.
     pub fn begin<D: Disk>(alloc: Global, disk: &mut D) -> Result<Found, JournalFault>
         ensures finds { Told (D.reads disk.old) (λ i. Finds i.book result) }
+        // Of a disk that tells nothing too.
+        ensures whole { IfOk result IsWholeUnlessBad }
         ensures reads { UnlessFaulty result (D.reads disk.new ≡ D.reads disk.old) }
         ensures settled { UnlessFaulty result (Told (D.reads disk.old) (λ i. Only i (D.may_leave disk.new))) }
         ensures any_moment { LeavesOnly D.moment D.left_since disk.old disk.new (D.may_leave disk.old) }

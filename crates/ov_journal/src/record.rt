@@ -1,5 +1,6 @@
 //! How a record gets onto a disk.
 ghost use Rattle.std.specs.Prelude.{◌≡◌, ◌≤◌, ◌<◌, ◌+◌, ◌^◌, Some, OnOk, length, vec_len, vec_capacity};
+ghost use Rattle.ov_base.specs.declared.limits.TheConstants.{MAX_RECORD_BYTES};
 ghost use Rattle.ov_base.specs.Causes.{HasCause};
 ghost use Rattle.ov_disk.specs.Disk.{Image, Told, OnlyBook};
 ghost use Rattle.ov_disk.specs.Moments.{LeavesOnly};
@@ -11,7 +12,7 @@ use ov_disk::{Area, Disk, DiskFault};
 
 // Fills the frame with what stands behind the gate of a record, and the closed gate behind it.
 fn fill(frame: &mut Vec<u8>, body: &[u8])
-    requires most { length body.now ≤ 1114112 }
+    requires most { length body.now ≤ MAX_RECORD_BYTES }
     requires room { length body.now + 5 ≤ vec_capacity frame.old }
     ensures bytes { frame.new.items ≡ framed body.now }
     ensures capacity { vec_capacity frame.old ≤ vec_capacity frame.new }
@@ -29,7 +30,7 @@ pub fn put_record<D: Disk>(
     frame: &mut Vec<u8>,
     body: &[u8],
 ) -> Result<(), DiskFault>
-    requires body { (1 ≤ length body.now) × (length body.now ≤ 1114112) }
+    requires body { (1 ≤ length body.now) × (length body.now ≤ MAX_RECORD_BYTES) }
     requires room { length body.now + 5 ≤ vec_capacity frame.old }
     requires end { end < 2 ^ 62 }
     requires stands { Told (D.reads disk.old) (λ i. EndsAt end i.book × OnlyBook i.book (D.may_leave disk.old)) }

@@ -8,8 +8,9 @@ ghost use Rattle.ov_journal.specs.Heads.{Nexts, LiesIn};
 ghost use Rattle.ov_journal.specs.Log.{IsLogOf};
 ghost use Rattle.ov_journal.specs.declared.fault.JournalFault.TheVariants.{Disk as DiskFailed, Memory as NoMemory};
 
-use crate::header::{HEADER, MOST, array4};
+use crate::header::{HEADER, array4};
 use crate::{Journal, JournalFault};
+use ov_base::limits::MAX_RECORD_BYTES;
 use ov_disk::{Area, Disk, DiskFault};
 use std::alloc::Global;
 
@@ -39,7 +40,7 @@ fn next_of(left: u64, front: &[u8]) -> Next
     }
     let (_, field) = front.split_at(1);
     let count = u32::from_be_bytes(array4(field));
-    if count < 1 || count > MOST || left - 1 < u64::from(count) + 5 {
+    if count < 1 || count > MAX_RECORD_BYTES || left - 1 < u64::from(count) + 5 {
         return Next::Bad;
     }
     Next::Record(count)

@@ -56,3 +56,9 @@ returns-else-branch-le1-clause-cleared g c i is =
     let gt : 1 < c.in_ok-len.field-0 = search rules in
     let un = c.requires.unborn i was in
     (was_clear i.book (omega (arith, gt, c.in_ok-len.ensures.len i was)) un.0, λ d left. un.1 d (c.len.ensures.crash d left))
+
+pub returns-in_ok-sync-clause-told_before : goal.returns-in_ok-sync-clause-told_before
+returns-in_ok-sync-clause-told_before g c k is =
+    let was = sym c.in_ok-sync.ensures.reads ∙ is in
+    let a = mapped_some (written Book 0 (0 ∷ [])) (g.D.Disk.reads c.len.new.self) k (sym c.in_ok-write_at.ensures.written ∙ was) in
+    (a.0, sym c.len.ensures.reads ∙ a.1)

@@ -9,4 +9,4 @@ returns-clause-next c bytes long front =
     let gate = sym (get_or-take 5 bytes 0 0 (lit< tt)) ∙ sym (ap (λ (l : List ℕ). get_or l 0 0) front) ∙ c.if-front-ne1.false in
     let field = c.array4.ensures ∙ c.split_at.ensures.back ∙ ap (λ (l : List ℕ). drop 1 l) front in
     let count = c.from_be_bytes-count.ensures ∙ ap (λ (l : List ℕ). from_be_bytes w32 l) field ∙ sym (field_in bytes) in
-    begins bytes c.from_be_bytes-count.result gate count c.if-count-lt1.false c.if-count-gt-MOST.false (omega (arith, c.if-left-from.false, c.from.ensures, long))
+    begins bytes c.from_be_bytes-count.result gate count c.if-count-lt1.false c.if-count-gt-MAX_RECORD_BYTES.false (omega (arith, c.if-left-from.false, c.from.ensures, long))
