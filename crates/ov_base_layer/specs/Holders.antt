@@ -1,5 +1,6 @@
 -- Who holds a base node: the users of its set, and those who were given access besides.
-use Rattle.std.specs.Prelude.{◌≡◌, ℕ, ◌==◌, ◌<◌, ◌⊎◌, Bool, true, false, List, [], ◌∷◌, length, map, take, slice_get, slice_index, Contains, Some}
+use Rattle.std.specs.Prelude.{◌≡◌, ℕ, ◌==◌, ◌<◌, ◌⊎◌, Bool, true, false, List, [], ◌∷◌}
+use Rattle.std.specs.Prelude.{length, map, take, slice_get, slice_index, Contains, Some}
 use Rattle.ov_base.specs.Sets.{with, Has}
 use Rattle.ov_base_layer.specs.declared.grant.Grant.{Grant}
 
@@ -8,10 +9,11 @@ pub record Access : Type 0 where
   pub user : ℕ
   pub node : ℕ
 
--- the user and the node of each access token, in order
+-- the user and the node of an access token
 abbrev pub access_of : Grant → Access
 access_of grant = record { user = grant.user; node = grant.node }
 
+-- the users and nodes of access tokens, in order
 abbrev pub accesses_of : List Grant → List Access
 accesses_of grants = map access_of grants
 

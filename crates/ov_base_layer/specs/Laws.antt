@@ -32,7 +32,8 @@ AgainChangesNothing =
     → Has (holders_in sets accesses access.node) access.user
     → holders_in sets (accesses ++ access ∷ []) node ≡ holders_in sets accesses node
 
--- each edge that a cover makes has the token from the key of its start to the key of the cover's node
+-- each edge that a cover makes has the token from the key of its start to the key of the cover's
+-- node
 abbrev pub CoversAreSealed : Type 0
 CoversAreSealed =
     (kind : Kind) (master : List ℕ) (cover : Cover) (edge : Edge)
@@ -43,12 +44,14 @@ CoversAreSealed =
 abbrev pub EdgesLead : Type 0
 EdgesLead =
     (kind : Kind) (master : List ℕ) (from to : ℕ)
-    → derived_key (node_key kind master from) (label_of kind to) (edge_token kind master from to).bytes
+    → derived_key (node_key kind master from) (label_of kind to)
+    (edge_token kind master from to).bytes
     ≡ node_key kind master to
 
 -- over an access token the derivation key of the root leads to the access key of the node
 abbrev pub AccessesLead : Type 0
 AccessesLead =
     (base surface : List ℕ) (root node : ℕ) → let to = label_of AccessLabels node in
-    derived_key (key_of_label base surface (label_of Derive root)) to (access_token base root node).bytes
+    derived_key (key_of_label base surface (label_of Derive root)) to
+    (access_token base root node).bytes
     ≡ key_of_label base surface to

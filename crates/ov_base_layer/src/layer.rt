@@ -2,6 +2,7 @@
 ghost use Rattle.std.specs.Prelude.{◌≡◌, ◌↔◌, ◌<◌, ◌≤◌, ◌*◌, ◌+◌, ◌++◌, ◌∷◌, [], ℕ, not, length};
 ghost use Rattle.std.specs.Prelude.{Err, IfOk, OnOk, IsTrue};
 ghost use Rattle.ov_base.specs.Sets.{Has, has, size};
+ghost use Rattle.ov_base.specs.declared.limits.TheConstants.{MAX_LAYER_NODES, MAX_SET_WORDS};
 ghost use Rattle.ov_graph.specs.Contents.{joined, plan_of, HasNode, HasRoom, IsGraph};
 ghost use Rattle.ov_graph.specs.Reach.{IsRooted};
 ghost use Rattle.ov_base_layer.specs.BaseContents.{holders_of, HasAccessRoom};
@@ -24,6 +25,7 @@ pub struct BaseLayer<G: Graph<Base, W>, const W: usize> {
 
 impl<G: Graph<Base, W>, const W: usize> Model for BaseLayer<G, W> {
     ghost use Rattle.std.specs.Prelude.{◌-◌, ◌*◌, ◌≤◌, vec_len, vec_capacity};
+    ghost use Rattle.ov_base.specs.declared.limits.TheConstants.{MAX_SET_WORDS};
     ghost use Rattle.ov_base_layer.specs.BaseContents.{BaseContents};
     ghost use Rattle.ov_base_layer.specs.Holders.{accesses_of, AreFirst};
 
@@ -35,14 +37,14 @@ impl<G: Graph<Base, W>, const W: usize> Model for BaseLayer<G, W> {
       spare_grants = vec_capacity b.grants - vec_len b.grants;
     } };
 
-    ghost invariant = { λ b. ((1 ≤ W) × (W ≤ 1024))
+    ghost invariant = { λ b. ((1 ≤ W) × (W ≤ MAX_SET_WORDS))
         × AreFirst (64 * W) (G.contents b.graph).sets (accesses_of b.grants.items) };
 }
 
 impl<G: Graph<Base, W>, const W: usize> BaseLayer<G, W> {
     /// A layer without nodes and without access tokens.
     pub fn new(alloc: Global) -> Result<Self, Memory>
-        requires { (1 ≤ W) × (W ≤ 1024) }
+        requires { (1 ≤ W) × (W ≤ MAX_SET_WORDS) }
         ensures sets { IfOk result (λ layer. layer.graph.sets ≡ []) }
         ensures edges { IfOk result (λ layer. layer.graph.edges ≡ []) }
         ensures grants { IfOk result (λ layer. layer.grants ≡ []) }
@@ -83,7 +85,7 @@ impl<G: Graph<Base, W>, const W: usize> BaseLayer<G, W> {
 
     /// Adds a set as it was planned, with a token for each edge of its cover. It takes no memory.
     pub fn add(&mut self, set: &UserSet<W>, cover: Cover, tokens: Tokens)
-        requires nodes { length self.old.graph.sets < 4096 }
+        requires nodes { length self.old.graph.sets < MAX_LAYER_NODES }
         requires roots { IsRooted self.old.graph.sets set.now }
         requires cover { cover ≡ plan_of self.old.graph.sets set.now }
         requires fresh { IsTrue cover.fresh }
@@ -116,9 +118,9 @@ impl<G: Graph<Base, W>, const W: usize> BaseLayer<G, W> {
     pub fn plan_create(&self, alloc: Global, list: &UserSet<W>) -> Result<Cover, GraphRefusal>
         ensures cover { IfOk result (λ cover. cover ≡ plan_of self.now.graph.sets list.now) }
         ensures full { (result ≡ Err GraphRefusal.NodesFull)
-            ↔ ((length self.now.graph.sets ≡ 4096)
+            ↔ ((length self.now.graph.sets ≡ MAX_LAYER_NODES)
             × IsTrue (plan_of self.now.graph.sets list.now).fresh) }
-        ensures number { IfOk result (λ cover. cover.node < 4096) }
+        ensures number { IfOk result (λ cover. cover.node < MAX_LAYER_NODES) }
         ensures few { IfOk result (λ cover. length cover.from ≤ size list.now) }
         ensures none { size list.now ≤ 1 → IfOk result (λ cover. cover.from ≡ []) }
     {
@@ -164,9 +166,9 @@ impl<G: Graph<Base, W>, const W: usize> BaseLayer<G, W> {
     /// of its graph, and that each access token is to a node that is there and was published to a
     /// user below `64 * W` who wasn't a holder by the tokens before it.
     pub fn known(&self)
-        ensures width { (1 ≤ W) × (W ≤ 1024) }
+        ensures width { (1 ≤ W) × (W ≤ MAX_SET_WORDS) }
         ensures graph { IsGraph self.now.graph.sets self.now.graph.edges }
-        ensures few { length self.now.graph.sets ≤ 4096 }
+        ensures few { length self.now.graph.sets ≤ MAX_LAYER_NODES }
         ensures grants { AreFirst (64 * W) self.now.graph.sets (accesses_of self.now.grants) }
     {
         self.graph.known();

@@ -31,4 +31,5 @@ mod tests;
 pub use grant::Grant;
 pub use laws::{holders_grow, seals_lead};
 pub use layer::BaseLayer;
-pub use seal::{seal_access, seal_cover, seal_edges};
+pub use ov_graph::seal_edges;
+pub use seal::{seal_access, seal_cover};

@@ -4,23 +4,9 @@ ghost use Rattle.ov_tokens.specs.declared.label.Kind.TheVariants.{Derive};
 ghost use Rattle.ov_base_layer.specs.Seals.{access_token, cover_tokens};
 
 use ov_base::{Key, Memory};
-use ov_graph::Cover;
+use ov_graph::{Cover, seal_edges};
 use ov_tokens::{Base, Kind, Label, Layer, Token, Tokens, access_key, make};
 use std::alloc::Global;
-
-/// The tokens of the edges of a fresh cover in a layer, under the layer's master: each leads from
-/// the key of the edge's start to the key of the cover's node.
-pub fn seal_edges<L: Layer>(alloc: Global, master: &Key, cover: &Cover) -> Result<Tokens, Memory>
-    ensures { IfOk result (λ tokens. tokens ≡ cover_tokens L.label_kind master.now.bytes cover.now) }
-{
-    let label = L::label(cover.node);
-    let key = L::key_of(master, cover.node);
-    let mut tokens = Tokens::new(alloc);
-    for from in cover.from.as_slice() {
-        tokens.push(make(&L::key_of(master, *from), label, &key))?;
-    }
-    Ok(tokens)
-}
 
 /// The tokens of the edges of a fresh cover of the base layer, under the base master.
 pub fn seal_cover(alloc: Global, master: &Key, cover: &Cover) -> Result<Tokens, Memory>

@@ -1,13 +1,13 @@
 //! A base layer of three users over any graph, and tokens that another program gives.
-ghost use Rattle.std.specs.Prelude.{◌≡◌, ◌<◌, ◌≤◌, ◌*◌, length, Contains};
-ghost use Rattle.ov_base.specs.Sets.{single};
-ghost use Rattle.ov_graph.specs.Reach.{IsRooted};
+ghost use Rattle.std.specs.Prelude.{◌≤◌};
+ghost use Rattle.ov_base.specs.declared.limits.TheConstants.{MAX_SET_WORDS};
 
 mod vectors;
 
 use super::*;
+use ov_base::limits::MAX_LAYER_NODES;
 use ov_base::{Key, UserSet};
-use ov_graph::{Cover, Graph, ListGraph};
+use ov_graph::{Cover, Graph, ListGraph, has_roots};
 use ov_tokens::{Base, Kind, Label, Layer, Numbers, access_key, derive};
 use std::alloc::Global;
 use std::process::Abort;
@@ -43,30 +43,6 @@ fn tokens_of_another_program(rt: HostRuntime) -> Result<(), Fail> {
     Ok(())
 }
 
-/// Makes sure that the user has a node alone.
-fn expect_root<G: Graph<Base, W>, const W: usize>(rt: &impl Abort, graph: &G, user: u32)
-    requires width { (1 ≤ W) × (W ≤ 1024) }
-    requires user { user < 64 * W }
-    ensures { Contains (G.contents graph.now).sets (single user) }
-{
-    let alone = UserSet::empty().with(user);
-    let _node = graph.find(&alone).expect(rt, "a node of the user alone");
-}
-
-/// Makes sure that each user of a set of two or more has a node alone.
-fn expect_roots<G: Graph<Base, W>, const W: usize>(rt: &impl Abort, graph: &G, set: &UserSet<W>)
-    ensures { IsRooted (G.contents graph.now).sets set.now }
-{
-    if set.count() < 2 {
-        return;
-    }
-    for user in 0..64 * W as u32 {
-        if set.contains(user) {
-            expect_root(rt, graph, user);
-        }
-    }
-}
-
 /// Adds a set that is new, as the owner and the server do together.
 fn put<G: Graph<Base, W>, const W: usize>(
     rt: &impl Abort,
@@ -75,14 +51,12 @@ fn put<G: Graph<Base, W>, const W: usize>(
     master: &Key,
     set: &UserSet<W>,
 ) -> Result<(), Fail> {
-    assert!(rt; layer.graph().count() < 4096);
+    assert!(rt; layer.graph().count() < MAX_LAYER_NODES);
+    assert!(rt; has_roots::<Base, G, W>(layer.graph(), set));
     let cover = layer.plan_create(alloc, set)?;
     assert!(rt; cover.fresh);
-    expect_roots(rt, layer.graph(), set);
-    let edges = cover.from.as_slice().len();
-    assert!(rt; edges <= set.count() as usize);
     let tokens = seal_cover(alloc, master, &cover)?;
-    layer.reserve(1, edges as u32)?;
+    layer.reserve(1, set.count())?;
     layer.add(set, cover, tokens);
     Ok(())
 }
@@ -107,7 +81,7 @@ fn three_users<G: Graph<Base, W>, const W: usize>(
     alloc: Global,
     mut layer: BaseLayer<G, W>,
 ) -> Result<(), Fail>
-    requires { (1 ≤ W) × (W ≤ 1024) }
+    requires { (1 ≤ W) × (W ≤ MAX_SET_WORDS) }
 {
     let master = master_from(0);
     let pair = UserSet::empty().with(0).with(1);

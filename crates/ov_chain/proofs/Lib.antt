@@ -5,3 +5,4 @@ pub mod SealLaws
 pub mod WalkLaws
 pub mod EdgeLaws
 pub mod WayBack
+pub mod ShortestPaths

@@ -1,12 +1,12 @@
 -- Graphs whose tokens are those of their labels' keys.
-use Rattle.std.proofs.Common.{◌≡◌, ℕ, zero, suc, ◌+◌, ◌-◌, ◌<◌, ◌≤◌, List, [], ◌∷◌, ◌++◌, length, get_or, sym, ◌∙◌, ap, subst, arith, inl, inr}
-use Rattle.std.specs.Prelude.{Contains, slice_index_or}
+use Rattle.std.proofs.Common.{◌≡◌, ℕ, zero, suc, ◌+◌, ◌-◌, List, [], ◌∷◌, ◌++◌, length, get_or, sym, subst, arith, inl, inr}
+use Rattle.std.specs.Prelude.{slice_index_or}
 use Rattle.std.proofs.Math.ListN.{get_or-append}
 use Rattle.std.proofs.Math.Seq.{get_or-append_right}
 use Rattle.std.proofs.lemmas.Bool.{cases_lt}
 use Rattle.ov_tokens.specs.declared.label.Kind.{Kind}
 use Rattle.ov_tokens.specs.declared.edge.Edge.{Edge}
-use Rattle.ov_graph.specs.Contents.{Contents, edges_to}
+use Rattle.ov_graph.specs.Contents.{Contents}
 use Rattle.ov_chain.specs.Walk.{AreSealed, IsSealed}
 
 no_edges : (kind : Kind) (master : List ℕ) (node : ℕ) → AreSealed kind master node []

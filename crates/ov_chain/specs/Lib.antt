@@ -1,4 +1,4 @@
-pub mod Path
 pub mod Walk
+pub mod Path
 pub mod Marks
 pub mod Distances

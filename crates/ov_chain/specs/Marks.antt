@@ -1,8 +1,10 @@
--- Marks on nodes, kept in a list by node.
-use Rattle.std.specs.Prelude.{ℕ, ◌≡◌, Bool, true, false, List, [], ◌∷◌, slice_index_or, slice_set, Contains}
+-- Inner: no public contract needs this. Marks on nodes, kept in a list by node.
+use Rattle.std.specs.Prelude.{ℕ, ◌≡◌, Bool, true, false, List, [], ◌∷◌}
+use Rattle.std.specs.Prelude.{slice_index_or, slice_set, Contains}
 use Rattle.ov_tokens.specs.declared.edge.Edge.{Edge}
 use Rattle.ov_graph.specs.Reach.{starts}
 
+-- the node has a mark
 abbrev pub IsMarked : List Bool → ℕ → Type 0
 IsMarked marks node = slice_index_or marks node false ≡ true
 
@@ -13,4 +15,5 @@ starts_marked (edge ∷ edges) marks = starts_marked edges (slice_set marks edge
 
 -- with a node the start of each edge into it is marked
 abbrev pub IsClosed : List ℕ → List Bool → Type 0
-IsClosed sets marks = (node from : ℕ) → IsMarked marks node → Contains (starts sets node) from → IsMarked marks from
+IsClosed sets marks =
+    (node from : ℕ) → IsMarked marks node → Contains (starts sets node) from → IsMarked marks from

@@ -18,11 +18,13 @@ abbrev pub last_label : Label → List Step → Label
 last_label from [] = from
 last_label from (step ∷ steps) = last_label step.to steps
 
--- under the two masters each token is the one from the key of the label before it to the key of its own label
+-- under the two masters each token is the one from the key of the label before it to the key of its
+-- own label
 abbrev pub AreTrue : List ℕ → List ℕ → Label → List Step → Type 0
 AreTrue base surface from [] = Unit {0}
 AreTrue base surface from (step ∷ steps) =
-    (step.token.bytes ≡ token_of (key_of_label base surface from) step.to (key_of_label base surface step.to))
+    (step.token.bytes
+    ≡ token_of (key_of_label base surface from) step.to (key_of_label base surface step.to))
     × AreTrue base surface step.to steps
 
 -- the tokens of these edges, which lead to the node, are those from the keys of their starts to the
@@ -30,8 +32,9 @@ AreTrue base surface from (step ∷ steps) =
 abbrev pub AreSealed : Kind → List ℕ → ℕ → List Edge → Type 0
 AreSealed kind master node edges =
     (edge : Edge) → Contains edges edge
-    → edge.token.bytes ≡ token_of (node_key kind master edge.from) (label_of kind node) (node_key kind master node)
+    → edge.token.bytes
+    ≡ token_of (node_key kind master edge.from) (label_of kind node) (node_key kind master node)
 
--- so are the tokens of all edges of the graph
+-- the tokens of all edges of the graph are those from the keys of their starts to those of their ends
 abbrev pub IsSealed : Kind → List ℕ → Contents → Type 0
 IsSealed kind master graph = (node : ℕ) → AreSealed kind master node (edges_to graph node)

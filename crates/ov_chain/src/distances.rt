@@ -1,6 +1,7 @@
 //! How far nodes lie from a root.
 
 ghost use Rattle.std.specs.Prelude.{◌≡◌, ◌<◌, ◌≤◌, ◌+◌, ℕ, None, length, All, IfSome, Contains};
+ghost use Rattle.ov_base.specs.declared.limits.TheConstants.{MAX_LAYER_NODES};
 ghost use Rattle.ov_graph.specs.Contents.{HasNode};
 ghost use Rattle.ov_graph.specs.Reach.{starts};
 ghost use Rattle.ov_chain.specs.Marks.{IsClosed};
@@ -23,7 +24,8 @@ fn least_of(a: Option<u32>, b: Option<u32>) -> Option<u32>
 /// One edge more than the least distance of the edges' starts.
 fn beyond(edges: &[Edge], distances: &[Option<u32>]) -> Option<u32>
     requires inside { All (λ edge. edge.from < length distances.now) edges.now }
-    requires small { All (λ edge. IfSome (distance_at distances.now edge.from) (λ d. d < 4096)) edges.now }
+    requires small { All (λ edge. IfSome (distance_at distances.now edge.from)
+        (λ distance. distance < MAX_LAYER_NODES)) edges.now }
     ensures { result ≡ one_more (least_start distances.now None edges.now) }
 {
     let mut least = None;
@@ -56,7 +58,8 @@ fn distance_of<L: Layer, G: Graph<L, W>, const W: usize>(
     requires there { HasNode (G.contents graph.now) node }
     requires inside { node < length distances.now }
     requires starts { let sets = (G.contents graph.now).sets in
-        (from : ℕ) → Contains (starts sets node) from → IsFound sets root from (distance_at distances.now from) }
+        (from : ℕ) → Contains (starts sets node) from
+        → IsFound sets root from (distance_at distances.now from) }
     ensures { IsFound (G.contents graph.now).sets root node result }
 {
     graph.known();

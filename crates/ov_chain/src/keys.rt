@@ -9,11 +9,12 @@ ghost use Rattle.ov_chain.specs.Walk.{walked, last_label, AreTrue};
 use ov_base::Key;
 use ov_tokens::{Chain, derive};
 
-/// The key to which a chain leads from the key of its root: that of its last label where its tokens are true,
-/// and the root's where it has no step. It takes no memory.
+/// The key to which a chain leads from the key of its root: that of its last label where its tokens
+/// are true, and the root's where it has no step. It takes no memory.
 pub fn walk(root_key: &Key, chain: &Chain) -> Key
     ensures walked { result.bytes ≡ walked root_key.now.bytes chain.now.steps }
-    ensures keys { (base surface : List ℕ) (kind : Kind) → let from = label_of kind chain.now.root in
+    ensures keys { (base surface : List ℕ) (kind : Kind)
+        → let from = label_of kind chain.now.root in
         root_key.now.bytes ≡ key_of_label base surface from
         → AreTrue base surface from chain.now.steps
         → result.bytes ≡ key_of_label base surface (last_label from chain.now.steps) }

@@ -17,7 +17,8 @@ fn mark_starts(edges: &[Edge], marks: &mut [bool])
     }
 }
 
-/// Marks the node, and the start of each edge into a marked node. The marks are of the nodes up to this one.
+/// Marks the node, and the start of each edge into a marked node. The marks are of the nodes up to
+/// this one.
 pub fn mark_ancestors<L: Layer, G: Graph<L, W>, const W: usize>(
     graph: &G,
     node: u32,

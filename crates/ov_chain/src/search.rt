@@ -1,14 +1,12 @@
 //! The shortest chain from one node of a graph to another.
 
-ghost use Rattle.std.specs.Prelude.{[], ◌≡◌, ◌↔◌, ◌≤◌, ◌+◌, ℕ, List, length, slice_index, IfOk, IfSome, IsSome};
+ghost use Rattle.std.specs.Prelude.{◌≡◌, ◌↔◌, ◌+◌, ℕ, length, slice_index, IfOk, IfSome, IsSome};
 ghost use Rattle.ov_base.specs.Sets.{Has, single};
-ghost use Rattle.ov_tokens.specs.Keys.{node_key};
 ghost use Rattle.ov_graph.specs.Chain.{IsDistance, IsChosen, IsChain};
-ghost use Rattle.ov_graph.specs.Contents.{HasNode};
-ghost use Rattle.ov_graph.specs.Reach.{Walk, Leads};
+ghost use Rattle.ov_graph.specs.Contents.{FollowsCovers, HasNode};
+ghost use Rattle.ov_graph.specs.Reach.{Leads};
 ghost use Rattle.ov_chain.specs.Distances.{AreFound};
-ghost use Rattle.ov_chain.specs.Path.{IsPath};
-ghost use Rattle.ov_chain.specs.Walk.{walked, IsSealed};
+ghost use Rattle.ov_chain.specs.Path.{IsShortestPath};
 
 use crate::distances::{first_at, measure};
 use crate::marks::mark_ancestors;
@@ -17,8 +15,8 @@ use ov_graph::Graph;
 use ov_tokens::{Chain, Layer, Step, Steps};
 use std::alloc::Global;
 
-/// The distances from the root of the nodes that lead to `node`, by number. It takes its memory before it
-/// begins.
+/// The distances from the root of the nodes that lead to `node`, by number. It takes its memory
+/// before it begins.
 fn distances_to<L: Layer, G: Graph<L, W>, const W: usize>(
     alloc: Global,
     graph: &G,
@@ -39,16 +37,16 @@ fn distances_to<L: Layer, G: Graph<L, W>, const W: usize>(
     Ok(distances)
 }
 
-/// The steps to a node that lies so far from the root, found from their end; `steps` has room for them.
+/// The steps to a node that lies so far from the root, found from their end, with memory for just
+/// these.
 fn steps_back<L: Layer, G: Graph<L, W>, const W: usize>(
-    mut steps: Vec<Step>,
+    alloc: Global,
     graph: &G,
     distances: &[Option<u32>],
     root: u32,
     node: u32,
     far: u32,
 ) -> Result<Steps, Memory>
-    requires empty { steps.items ≡ [] }
     requires there { HasNode (G.contents graph.now) node }
     requires room { length distances.now ≡ node + 1 }
     requires found { AreFound (G.contents graph.now).sets root node distances.now }
@@ -57,6 +55,7 @@ fn steps_back<L: Layer, G: Graph<L, W>, const W: usize>(
         IsChosen L.label_kind (G.contents graph.now) root node far steps) }
 {
     graph.known();
+    let mut steps = Vec::with_capacity(alloc, far as usize)?;
     let mut here = node;
     for left in (0..far).rev() {
         let Some(edge) = first_at(graph.in_tokens(here), distances, left) else {
@@ -72,12 +71,12 @@ fn steps_back<L: Layer, G: Graph<L, W>, const W: usize>(
     Ok(Steps::from_vec(steps))
 }
 
-/// The chain from `root` to `node`: a shortest path over the edges, and among the shortest the one that goes,
-/// back from `node`, each time over the first edge into a node whose start lies one edge nearer to `root`. None
-/// exactly where the edges don't lead from `root` to `node`.
+/// The chain from `root` to `node`: a shortest path over the edges, and among the shortest the one
+/// that goes, back from `node`, each time over the first edge into a node whose start lies one edge
+/// nearer to `root`. None exactly where the edges don't lead from `root` to `node`.
 ///
-/// It takes all its memory before it begins: a chain to `node` has at most so many steps as its number, since each
-/// edge leads from a lower number to a higher.
+/// It takes memory for the search before it begins, and for the steps once it is known how many they
+/// are: the chain keeps no more.
 pub fn shortest<L: Layer, G: Graph<L, W>, const W: usize>(
     alloc: Global,
     graph: &G,
@@ -87,33 +86,30 @@ pub fn shortest<L: Layer, G: Graph<L, W>, const W: usize>(
     requires root { HasNode (G.contents graph.now) root }
     requires node { HasNode (G.contents graph.now) node }
 
-    // Which chain it is.
+    // Which chain it is, and which edges it is over: those of the graph itself.
     ensures root { IfOk result (λ answer. IfSome answer (λ chain. chain.root ≡ root)) }
     ensures chain { IfOk result (λ answer. IfSome answer (λ chain.
         IsChain L.label_kind (G.contents graph.now) root node chain.steps)) }
 
+    ensures edges { FollowsCovers (G.contents graph.now) }
+
     // What follows for any chain that is chosen so.
-    ensures path { IfOk result (λ answer. IfSome answer (λ chain.
-        IsPath L.label_kind (G.contents graph.now) root node chain.steps)) }
     ensures shortest { IfOk result (λ answer. IfSome answer (λ chain.
-        (edges : ℕ) → Walk (G.contents graph.now).sets root node edges → length chain.steps ≤ edges)) }
-    ensures keys { IfOk result (λ answer. IfSome answer (λ chain.
-        (master : List ℕ) → IsSealed L.label_kind master (G.contents graph.now)
-        → walked (node_key L.label_kind master root) chain.steps ≡ node_key L.label_kind master node)) }
+        IsShortestPath L.label_kind (G.contents graph.now) root node chain.steps)) }
 
     // When there is one.
-    ensures some { IfOk result (λ answer. IsSome answer ↔ Leads (G.contents graph.now).sets root node) }
+    ensures some { IfOk result (λ answer.
+        IsSome answer ↔ Leads (G.contents graph.now).sets root node) }
     ensures held { IfOk result (λ answer.
         (user : ℕ) → slice_index (G.contents graph.now).sets root ≡ single user
         → IsSome answer ↔ Has (slice_index (G.contents graph.now).sets node) user) }
 {
     graph.known();
-    let room = Vec::with_capacity(alloc, node as usize)?;
     let distances = distances_to::<L, G, W>(alloc, graph, root, node)?;
     match distances[node as usize] {
         None => Ok(None),
         Some(far) => {
-            let steps = steps_back::<L, G, W>(room, graph, &distances, root, node, far)?;
+            let steps = steps_back::<L, G, W>(alloc, graph, &distances, root, node, far)?;
             Ok(Some(Chain { root, steps }))
         }
     }

@@ -1,60 +1,19 @@
 //! Chains in small graphs whose tokens are those of their keys.
-ghost use Rattle.std.specs.Prelude.{◌≡◌, ◌<◌, ◌≤◌, ◌*◌, length, IfOk, Contains};
-ghost use Rattle.ov_base.specs.Sets.{single};
-ghost use Rattle.ov_graph.specs.Reach.{IsRooted};
+ghost use Rattle.std.specs.Prelude.{◌≤◌};
+ghost use Rattle.ov_base.specs.declared.limits.TheConstants.{MAX_SET_WORDS};
 
 mod vectors;
 
 use super::*;
 use ov_base::{Key, UserSet};
-use ov_graph::{Graph, ListGraph};
-use ov_tokens::{Base, Chain, Layer, Surface, Tokens, make};
+use ov_graph::{Graph, ListGraph, has_roots, plan_and_add};
+use ov_tokens::{Base, Chain, Layer, Surface};
 use std::alloc::Global;
 use std::process::Abort;
 use std::test::Fail;
 use vectors::{BEFORE, NODES, NOWHERE, SETS, USERS};
 
 const MASTER: Key = Key { bytes: [7; 32] };
-
-/// Makes sure that the user has a node alone.
-fn expect_root<L: Layer, G: Graph<L, W>, const W: usize>(rt: &impl Abort, graph: &G, user: u32)
-    requires width { (1 ≤ W) × (W ≤ 1024) }
-    requires user { user < 64 * W }
-    ensures { Contains (G.contents graph.now).sets (single user) }
-{
-    let alone = UserSet::empty().with(user);
-    let _node = graph.find(&alone).expect(rt, "a node of the user alone");
-}
-
-/// Makes sure that each user of a set of two or more has a node alone.
-fn expect_roots<L: Layer, G: Graph<L, W>, const W: usize>(
-    rt: &impl Abort,
-    graph: &G,
-    set: &UserSet<W>,
-)
-    ensures { IsRooted (G.contents graph.now).sets set.now }
-{
-    if set.count() < 2 {
-        return;
-    }
-    for user in 0..64 * W as u32 {
-        if set.contains(user) {
-            expect_root(rt, graph, user);
-        }
-    }
-}
-
-/// The tokens from the keys of these nodes to that of another.
-fn tokens_to<L: Layer>(alloc: Global, from: &[u32], node: u32) -> Result<Tokens, Fail>
-    ensures { IfOk result (λ tokens. length tokens ≡ length from.now) }
-{
-    let mut tokens = Tokens::new(alloc);
-    for n in 0..from.len() {
-        let start = L::key_of(&MASTER, from[n]);
-        tokens.push(make(&start, L::label(node), &L::key_of(&MASTER, node)))?;
-    }
-    Ok(tokens)
-}
 
 /// Adds a set that is new.
 fn put<L: Layer, G: Graph<L, W>, const W: usize>(
@@ -63,15 +22,8 @@ fn put<L: Layer, G: Graph<L, W>, const W: usize>(
     graph: &mut G,
     set: &UserSet<W>,
 ) -> Result<(), Fail> {
-    assert!(rt; graph.count() < 4096);
-    let cover = graph.plan(alloc, &[], set)?;
-    assert!(rt; cover.fresh);
-    expect_roots(rt, graph, set);
-    let edges = cover.from.as_slice().len();
-    assert!(rt; edges <= set.count() as usize);
-    let tokens = tokens_to::<L>(alloc, cover.from.as_slice(), cover.node)?;
-    graph.reserve(1, edges as u32)?;
-    graph.add(set, cover, tokens);
+    assert!(rt; has_roots::<L, G, W>(graph, set));
+    plan_and_add::<L, G, W>(alloc, graph, &MASTER, set)?;
     Ok(())
 }
 
@@ -113,7 +65,7 @@ fn four_users<L: Layer, G: Graph<L, W>, const W: usize>(
     rt: &impl Abort,
     alloc: Global,
 ) -> Result<(), Fail>
-    requires { (1 ≤ W) × (W ≤ 1024) }
+    requires { (1 ≤ W) × (W ≤ MAX_SET_WORDS) }
 {
     let mut graph = G::new(alloc)?;
     for user in 0..4 {

@@ -6,3 +6,4 @@ pub mod ReachLaws
 pub mod GraphLaws
 pub mod RowLaws
 pub mod CoverSteps
+pub mod RootLaws

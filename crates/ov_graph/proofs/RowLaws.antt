@@ -5,8 +5,9 @@ use Rattle.std.proofs.lemmas.List.{take-append-le, take_all, drop-append-le}
 use Rattle.std.proofs.Math.Seq.{drop-append_seam}
 use Rattle.ov_tokens.specs.declared.token.Token.{Token}
 use Rattle.ov_tokens.specs.declared.edge.Edge.{Edge}
-use Rattle.ov_graph.specs.declared.list.Span.{Span}
+use Rattle.ov_graph.specs.declared.rows.Span.{Span}
 use Rattle.ov_graph.specs.declared.cover.Cover.{Cover}
+use Rattle.ov_base.specs.declared.limits.TheConstants.{MAX_LAYER_NODES}
 use Rattle.ov_graph.specs.Reach.{IsRooted}
 use Rattle.ov_graph.specs.Contents.{joined, plan_of}
 use Rattle.ov_graph.specs.Rows.{row, rows, AreInside, IsListGraph}
@@ -72,7 +73,7 @@ pub record IsAdded (sets : List ℕ) (edges : List Edge) (spans : List Span) (se
   pub fresh : IsTrue cover.fresh
   pub roots : IsRooted sets set
   pub tokened : length tokens ≡ length cover.from
-  pub few : length sets < 4096
+  pub few : length sets < MAX_LAYER_NODES
 
 module _ (sets : List ℕ) (edges : List Edge) (spans : List Span) (set : ℕ) (cover : Cover) (tokens : List Token) (span : Span) where
   rows_added : IsAdded sets edges spans set cover tokens span

@@ -30,7 +30,8 @@ IsChosen kind graph root node (suc distance) steps =
     × (steps ≡ before ++ record { to = label_of kind node; token = edge.token } ∷ [])
 
 -- a shortest chain, and among the shortest the one that is chosen so
-pub record IsChain (kind : Kind) (graph : Contents) (root node : ℕ) (steps : List Step) : Type 0 where
-  pub edges : ℕ
-  pub distance : IsDistance graph.sets root node edges
-  pub chosen : IsChosen kind graph root node edges steps
+pub record IsChain (kind : Kind) (graph : Contents) (root node : ℕ) (steps : List Step) : Type 0
+  where
+    pub edges : ℕ
+    pub distance : IsDistance graph.sets root node edges
+    pub chosen : IsChosen kind graph root node edges steps

@@ -1,6 +1,7 @@
 -- The cover of a set by the sets before it. A list of sets gives each node's set at the node's
 -- number.
-use Rattle.std.specs.Prelude.{ℕ, zero, suc, ◌+◌, ◌==◌, ◌&&◌, not, Bool, true, false, List, [], ◌∷◌, ◌++◌, slice_index, filter}
+use Rattle.std.specs.Prelude.{ℕ, zero, suc, ◌+◌, ◌==◌, ◌&&◌, not, Bool, true, false}
+use Rattle.std.specs.Prelude.{List, [], ◌∷◌, ◌++◌, slice_index, filter}
 use Rattle.ov_base.specs.Sets.{empty, size, union, within}
 
 -- the item and then the list, where the test says so
@@ -15,7 +16,8 @@ is_candidate set earlier = not (earlier == empty) && within earlier set && not (
 -- the nodes of these sets, counted from a number on, whose sets are such subsets
 abbrev pub candidates_from : ℕ → ℕ → List ℕ → List ℕ
 candidates_from set node [] = []
-candidates_from set node (earlier ∷ sets) = put_if (is_candidate set earlier) node (candidates_from set (node + 1) sets)
+candidates_from set node (earlier ∷ sets) =
+    put_if (is_candidate set earlier) node (candidates_from set (node + 1) sets)
 
 -- whether a node's set has just so many users
 abbrev pub has_size : List ℕ → ℕ → ℕ → Bool
@@ -25,14 +27,16 @@ has_size sets users node = size (slice_index sets node) == users
 -- of the list
 abbrev pub larger_first : List ℕ → ℕ → List ℕ → List ℕ
 larger_first sets zero nodes = []
-larger_first sets (suc users) nodes = filter (has_size sets users) nodes ++ larger_first sets users nodes
+larger_first sets (suc users) nodes =
+    filter (has_size sets users) nodes ++ larger_first sets users nodes
 
 -- the nodes whose sets, each at its turn, have a user that neither `covered` nor a kept node's set
 -- has
 abbrev pub kept : List ℕ → ℕ → List ℕ → List ℕ
 kept sets covered [] = []
 kept sets covered (node ∷ nodes) =
-    put_if (not (within (slice_index sets node) covered)) node (kept sets (union covered (slice_index sets node)) nodes)
+    put_if (not (within (slice_index sets node) covered)) node
+    (kept sets (union covered (slice_index sets node)) nodes)
 
 -- the starts of the edges to a set that comes after these sets, in order
 abbrev pub cover_of : List ℕ → ℕ → List ℕ

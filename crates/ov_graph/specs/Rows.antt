@@ -1,7 +1,8 @@
 -- Edges that are kept in one list, with a span of it for each node.
 use Rattle.std.specs.Prelude.{ℕ, ◌+◌, ◌≤◌, List, [], ◌∷◌, length, take, drop}
 use Rattle.ov_tokens.specs.declared.edge.Edge.{Edge}
-use Rattle.ov_graph.specs.declared.list.Span.{Span}
+use Rattle.ov_graph.specs.declared.rows.Span.{Span}
+use Rattle.ov_base.specs.declared.limits.TheConstants.{MAX_LAYER_NODES}
 use Rattle.ov_graph.specs.Contents.{IsGraph}
 
 -- the edges in a span
@@ -22,4 +23,4 @@ AreInside long (span ∷ spans) = (span.first + span.many ≤ long) × AreInside
 pub record IsListGraph (sets : List ℕ) (edges : List Edge) (spans : List Span) : Type 0 where
   pub graph : IsGraph sets (rows edges spans)
   pub inside : AreInside (length edges) spans
-  pub few : length sets ≤ 4096
+  pub few : length sets ≤ MAX_LAYER_NODES

@@ -1,4 +1,5 @@
-//! The cover of a set by earlier sets: those of a graph, and then those of a second list.
+//! The cover of a set by earlier sets: those of a graph, and then those of a second list. A graph
+//! that finds its candidates in another way keeps those that [`keep`] keeps.
 ghost use Rattle.std.specs.Prelude.{◌≡◌, ◌<◌, ◌≤◌, ◌+◌, ◌++◌, ℕ, length, slice_index};
 ghost use Rattle.std.specs.Prelude.{All, IfOk, IfSome, OnOk};
 ghost use Rattle.std.specs.Ordering.{nat_cmp};
@@ -7,6 +8,7 @@ ghost use Rattle.ov_graph.specs.Cover.{is_candidate, candidates_from, cover_of, 
 ghost use Rattle.ov_graph.specs.Candidates.{entries, nodes_of};
 ghost use Rattle.ov_graph.specs.Contents.{node_of};
 ghost use Rattle.ov_base.specs.Sets.{empty};
+ghost use Rattle.ov_base.specs.declared.limits.TheConstants.{MAX_LAYER_NODES, MAX_SET_WORDS};
 
 use ov_base::{Memory, UserSet};
 use ov_tokens::Numbers;
@@ -16,11 +18,12 @@ use std::alloc::{AllocError, Global};
 /// lacks.
 #[derive(Clone, Copy)]
 pub struct Candidate {
-    node: u32,
-    lacks: u32,
+    pub node: u32,
+    pub lacks: u32,
 }
 
-fn is_candidate<const W: usize>(earlier: &UserSet<W>, set: &UserSet<W>) -> bool
+/// Whether a node's set is a nonempty strict subset of the set that is covered.
+pub fn is_candidate<const W: usize>(earlier: &UserSet<W>, set: &UserSet<W>) -> bool
     ensures { result ≡ is_candidate set.now earlier.now }
 {
     earlier.count() > 0 && earlier.within(set) && earlier != set
@@ -47,7 +50,7 @@ fn candidates<const W: usize>(
     before: &[UserSet<W>],
     set: &UserSet<W>,
 ) -> Result<Vec<Candidate>, Memory>
-    requires { length sets.now + length before.now ≤ 4096 }
+    requires { length sets.now + length before.now ≤ MAX_LAYER_NODES }
     ensures { let all = sets.now ++ before.now in
         IfOk result (λ found.
         found.items ≡ entries all set.now (candidates_from set.now 0 all)) }
@@ -66,7 +69,9 @@ fn candidates<const W: usize>(
     Ok(found)
 }
 
-fn sort(candidates: &mut Vec<Candidate>) -> Result<(), AllocError>
+/// Puts candidates in the order in which they are gone through: larger sets first, and those of one
+/// size as they stood.
+pub fn sort(candidates: &mut Vec<Candidate>) -> Result<(), AllocError>
     ensures same { OnOk result (IsPermutation candidates.old.items candidates.new.items) }
     ensures sorted { OnOk result (IsNonDecreasingBy (λ c. c.lacks) candidates.new.items) }
     ensures stable { OnOk result
@@ -76,13 +81,14 @@ fn sort(candidates: &mut Vec<Candidate>) -> Result<(), AllocError>
     Ok(())
 }
 
-fn keep<const W: usize>(
+/// The nodes of those candidates whose sets, each at its turn, have a user whom no kept one has.
+pub fn keep<const W: usize>(
     alloc: Global,
     sets: &[UserSet<W>],
     before: &[UserSet<W>],
     candidates: &[Candidate],
 ) -> Result<Numbers, Memory>
-    requires width { (1 ≤ W) × (W ≤ 1024) }
+    requires width { (1 ≤ W) × (W ≤ MAX_SET_WORDS) }
     requires nodes { All (λ c. c.node < length sets.now + length before.now) candidates.now }
     ensures { let all = sets.now ++ before.now in
         IfOk result (λ from. from ≡ kept all empty (nodes_of candidates.now)) }
@@ -106,7 +112,7 @@ pub fn cover<const W: usize>(
     before: &[UserSet<W>],
     set: &UserSet<W>,
 ) -> Result<Numbers, Memory>
-    requires { length sets.now + length before.now ≤ 4096 }
+    requires { length sets.now + length before.now ≤ MAX_LAYER_NODES }
     ensures { IfOk result (λ from. from ≡ cover_of (sets.now ++ before.now) set.now) }
 {
     if set.count() < 2 {
@@ -123,7 +129,7 @@ pub fn node_of<const W: usize>(
     before: &[UserSet<W>],
     set: &UserSet<W>,
 ) -> Option<u32>
-    requires { length sets.now + length before.now ≤ 4096 }
+    requires { length sets.now + length before.now ≤ MAX_LAYER_NODES }
     ensures node { result ≡ node_of (sets.now ++ before.now) set.now }
     ensures inside { IfSome result (λ node. node < length sets.now + length before.now) }
 {

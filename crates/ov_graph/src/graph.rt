@@ -2,8 +2,9 @@
 ghost use Rattle.std.specs.Prelude.{◌≡◌, ◌↔◌, ◌<◌, ◌≤◌, ◌+◌, ◌++◌, [], ◌∷◌, ℕ, length, slice_index};
 ghost use Rattle.std.specs.Prelude.{Err, IfOk, OnOk, IsTrue};
 ghost use Rattle.ov_base.specs.Sets.{size};
+ghost use Rattle.ov_base.specs.declared.limits.TheConstants.{MAX_LAYER_NODES};
 ghost use Rattle.ov_graph.specs.Contents.{Contents, edges_to, joined, node_of, plan_of};
-ghost use Rattle.ov_graph.specs.Contents.{HasNode, HasRoom, IsGraph};
+ghost use Rattle.ov_graph.specs.Contents.{FollowsCovers, HasNode, HasRoom, IsGraph};
 ghost use Rattle.ov_graph.specs.Reach.{IsEdge, IsRooted, LeadsByMembership};
 
 use crate::{Cover, GraphRefusal};
@@ -25,7 +26,7 @@ pub trait Graph<L: Layer, const W: usize>: Drop {
     /// How many nodes it has.
     fn count(&self) -> u32
         ensures nodes { result ≡ length (contents self.now).sets }
-        ensures few { result ≤ 4096 };
+        ensures few { result ≤ MAX_LAYER_NODES };
 
     /// The node that has this set.
     fn find(&self, set: &UserSet<W>) -> Option<u32>
@@ -48,18 +49,18 @@ pub trait Graph<L: Layer, const W: usize>: Drop {
         before: &[UserSet<W>],
         set: &UserSet<W>,
     ) -> Result<Cover, GraphRefusal>
-        requires { length (contents self.now).sets + length before.now ≤ 4096 }
+        requires { length (contents self.now).sets + length before.now ≤ MAX_LAYER_NODES }
         ensures cover { let sets = (contents self.now).sets ++ before.now in
             IfOk result (λ cover. cover ≡ plan_of sets set.now) }
         ensures full { let sets = (contents self.now).sets ++ before.now in
             (result ≡ Err GraphRefusal.NodesFull)
-            ↔ ((length sets ≡ 4096) × IsTrue (plan_of sets set.now).fresh) }
-        ensures number { IfOk result (λ cover. cover.node < 4096) }
+            ↔ ((length sets ≡ MAX_LAYER_NODES) × IsTrue (plan_of sets set.now).fresh) }
+        ensures number { IfOk result (λ cover. cover.node < MAX_LAYER_NODES) }
         ensures few { IfOk result (λ cover. length cover.from ≤ size set.now) }
         ensures none { size set.now ≤ 1 → IfOk result (λ cover. cover.from ≡ []) };
 
-    /// Makes room for so many more sets and so many more edges. No room is lost by it; where memory is refused,
-    /// some may have been gained.
+    /// Makes room for so many more sets and so many more edges. No room is lost by it; where memory
+    /// is refused, some may have been gained.
     fn reserve(&mut self, sets: u32, edges: u32) -> Result<(), Memory>
         ensures sets { (contents self.new).sets ≡ (contents self.old).sets }
         ensures edges { (contents self.new).edges ≡ (contents self.old).edges }
@@ -70,7 +71,7 @@ pub trait Graph<L: Layer, const W: usize>: Drop {
 
     /// Adds a set as it was planned, with a token for each edge of its cover. It takes no memory.
     fn add(&mut self, set: &UserSet<W>, cover: Cover, tokens: Tokens)
-        requires nodes { length (contents self.old).sets < 4096 }
+        requires nodes { length (contents self.old).sets < MAX_LAYER_NODES }
         requires roots { IsRooted (contents self.old).sets set.now }
         requires cover { cover ≡ plan_of (contents self.old).sets set.now }
         requires fresh { IsTrue cover.fresh }
@@ -87,15 +88,17 @@ pub trait Graph<L: Layer, const W: usize>: Drop {
     /// alone.
     fn known(&self)
         ensures graph { IsGraph (contents self.now).sets (contents self.now).edges }
-        ensures few { length (contents self.now).sets ≤ 4096 };
+        ensures few { length (contents self.now).sets ≤ MAX_LAYER_NODES };
 }
 
 /// Does nothing. Its contract is the theorem of the graph: the node of a user alone leads over the
-/// edges to exactly the nodes whose sets have the user. Edges go from lower numbers to higher; at
+/// edges to exactly the nodes whose sets have the user. These are the graph's own edges: those into
+/// a node start, in order, at the nodes of its cover. Edges go from lower numbers to higher; at
 /// most as many come into a node as its set has users, and none into the node of the empty set or
 /// of a user alone.
 pub fn leads_by_membership<L: Layer, G: Graph<L, W>, const W: usize>(graph: &G)
     ensures reach { LeadsByMembership (G.contents graph.now).sets }
+    ensures edges { FollowsCovers (G.contents graph.now) }
     ensures upward { (from to : ℕ) → IsEdge (G.contents graph.now).sets from to → from < to }
     ensures few { let graph = G.contents graph.now in
         (node : ℕ) → HasNode graph node

@@ -10,24 +10,33 @@
 //! A set that is added gets edges from its cover. The earlier nodes whose sets are nonempty strict
 //! subsets of it are gone through, larger sets first and then lower numbers first; a node is kept
 //! where its set has a user whom no kept one has. To add a set, [`Graph::plan`] gives its
-//! [`Cover`], the caller makes a token for each edge, [`Graph::reserve`] makes room, and
-//! [`Graph::add`], which takes no memory, can't fail.
+//! [`Cover`], [`seal_edges`] makes a token for each edge, [`Graph::reserve`] makes room, and
+//! [`Graph::add`], which takes no memory, can't fail. [`plan_and_add`] does all of it. [`root`] is
+//! the node of a user alone.
 //!
-//! [`ListGraph`] looks at every node to find a set.
+//! [`ListGraph`] looks at every node to find a set. Another graph may keep its edges by [`rows`],
+//! and take from [`covering`] which of its candidates make a cover.
 //!
 //! The definitions speak of lists of sets and know neither a width nor how a graph is kept:
 //! `specs/Cover` of covers, `specs/Reach` of edges, where they lead and which sets a graph may
-//! have, `specs/Chain` of the chosen shortest chain from one node to another, and `specs/Contents`
-//! of what contracts see of a graph.
+//! have, `specs/Chain` of the chosen shortest chain from one node to another, `specs/Contents` of
+//! what contracts see of a graph, and `specs/Seals` of the tokens of edges.
 #![tactic(auto)]
 
+mod adding;
 mod cover;
-mod covering;
+pub mod covering;
 mod graph;
 mod list;
+mod roots;
+pub mod rows;
+mod sealing;
 #[cfg(test)]
 mod tests;
 
+pub use adding::plan_and_add;
 pub use cover::{Cover, GraphRefusal};
 pub use graph::{Graph, leads_by_membership};
 pub use list::ListGraph;
+pub use roots::{has_roots, root};
+pub use sealing::seal_edges;

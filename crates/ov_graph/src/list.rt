@@ -1,24 +1,12 @@
 //! The plain graph: its sets in a list, and its edges in another, with a span for each node.
-ghost use Rattle.std.specs.Prelude.{◌≡◌, ◌<◌, ◌≤◌, ◌+◌, ◌++◌, ◌∷◌, [], length};
-ghost use Rattle.std.specs.Prelude.{vec_len, vec_capacity};
-ghost use Rattle.ov_graph.specs.Contents.{joined};
-ghost use Rattle.ov_graph.specs.Rows.{row};
-
 use crate::covering::{cover, node_of};
+use crate::rows::{Span, append, part, push_within};
 use crate::{Cover, Graph, GraphRefusal};
+use ov_base::limits::MAX_LAYER_NODES;
 use ov_base::{Memory, UserSet};
-use ov_tokens::{Edge, Layer, Numbers, Token, Tokens};
+use ov_tokens::{Edge, Layer, Numbers, Tokens};
 use std::alloc::Global;
 use std::marker::{Model, PhantomData};
-
-const MAX_NODES: usize = 4096;
-
-/// Where the edges into a node lie in the list of edges.
-#[derive(Clone, Copy)]
-pub struct Span {
-    first: usize,
-    many: usize,
-}
 
 /// A graph that looks at every node to find a set.
 #[derive(Drop)]
@@ -45,38 +33,6 @@ impl<L, const W: usize> Model for ListGraph<L, W> {
     } };
 
     ghost invariant = { λ g. IsListGraph g.sets.items g.edges.items g.spans.items };
-}
-
-fn push_within<T: Drop>(items: &mut Vec<T>, item: T)
-    requires { vec_len items.old < vec_capacity items.old }
-    ensures items { items.new.items ≡ items.old.items ++ item ∷ [] }
-    ensures len { vec_len items.new ≡ vec_len items.old + 1 }
-    ensures capacity { vec_capacity items.old ≤ vec_capacity items.new }
-{
-    let _ = items.push(item);
-}
-
-fn part(edges: &[Edge], span: Span) -> &[Edge]
-    requires { span.first + span.many ≤ length edges.now }
-    ensures { result.now ≡ row edges.now span }
-{
-    &edges[span.first..][..span.many]
-}
-
-fn append(edges: &mut Vec<Edge>, from: &[u32], tokens: &[Token])
-    requires same { length from.now ≡ length tokens.now }
-    requires room { vec_len edges.old + length tokens.now ≤ vec_capacity edges.old }
-    ensures items { edges.new.items ≡ edges.old.items ++ joined from.now tokens.now }
-    ensures len { vec_len edges.new ≡ vec_len edges.old + length tokens.now }
-    ensures capacity { vec_capacity edges.old ≤ vec_capacity edges.new }
-{
-    for n in 0..from.len() {
-        let edge = Edge {
-            from: from[n],
-            token: tokens[n],
-        };
-        push_within(edges, edge);
-    }
 }
 
 impl<L: Layer, const W: usize> Graph<L, W> for ListGraph<L, W> {
@@ -120,7 +76,7 @@ impl<L: Layer, const W: usize> Graph<L, W> for ListGraph<L, W> {
                 fresh: false,
                 from: Numbers::new(alloc),
             }),
-            None if next == MAX_NODES => Err(GraphRefusal::NodesFull),
+            None if next == MAX_LAYER_NODES as usize => Err(GraphRefusal::NodesFull),
             None => Ok(Cover {
                 node: next as u32,
                 fresh: true,

@@ -1,72 +1,26 @@
 //! Graphs of a few sets, at several widths, and a graph that is full.
-ghost use Rattle.std.specs.Prelude.{◌≡◌, ◌<◌, ◌≤◌, ◌+◌, ◌++◌, ◌∷◌, [], ◌*◌, length, IfOk, Contains};
-ghost use Rattle.ov_base.specs.Sets.{single, Has};
-ghost use Rattle.ov_graph.specs.Reach.{IsRooted};
+ghost use Rattle.std.specs.Prelude.{◌≤◌};
+ghost use Rattle.ov_base.specs.declared.limits.TheConstants.{MAX_SET_WORDS};
 
 use super::*;
-use ov_base::UserSet;
-use ov_tokens::{Base, Layer, Surface, Token, Tokens};
+use ov_base::limits::{MAX_LAYER_NODES, MAX_SET_WORDS};
+use ov_base::{Key, UserSet};
+use ov_tokens::{Base, Layer, Surface};
 use std::alloc::Global;
 use std::process::Abort;
 use std::test::Fail;
 
-/// Makes sure that the user has a node alone.
-fn expect_root<L: Layer, G: Graph<L, W>, const W: usize>(rt: &impl Abort, graph: &G, user: u32)
-    requires width { (1 ≤ W) × (W ≤ 1024) }
-    requires user { user < 64 * W }
-    ensures { Contains (G.contents graph.now).sets (single user) }
-{
-    let alone = UserSet::empty().with(user);
-    let _node = graph.find(&alone).expect(rt, "a node of the user alone");
-}
+const MASTER: Key = Key { bytes: [7; 32] };
 
-/// Makes sure that each user of a set of two or more has a node alone.
-fn expect_roots<L: Layer, G: Graph<L, W>, const W: usize>(
-    rt: &impl Abort,
-    graph: &G,
-    set: &UserSet<W>,
-)
-    ensures { IsRooted (G.contents graph.now).sets set.now }
-{
-    if set.count() < 2 {
-        return;
-    }
-    for user in 0..64 * W as u32 {
-        if set.contains(user) {
-            expect_root(rt, graph, user);
-        }
-    }
-}
-
-fn some_tokens(alloc: Global, count: usize) -> Result<Tokens, Fail>
-    ensures { IfOk result (λ tokens. length tokens ≡ count) }
-{
-    let mut tokens = Tokens::new(alloc);
-    for n in 0..count {
-        tokens.push(Token {
-            bytes: [(n % 256) as u8; 32],
-        })?;
-    }
-    Ok(tokens)
-}
-
-/// Adds a set that is new.
+/// Adds a set, where it is new.
 fn put<L: Layer, G: Graph<L, W>, const W: usize>(
     rt: &impl Abort,
     alloc: Global,
     graph: &mut G,
     set: &UserSet<W>,
-) -> Result<(), Fail> {
-    assert!(rt; graph.count() < 4096);
-    let cover = graph.plan(alloc, &[], set)?;
-    assert!(rt; cover.fresh);
-    expect_roots(rt, graph, set);
-    let edges = cover.from.as_slice().len();
-    assert!(rt; edges <= set.count() as usize);
-    let tokens = some_tokens(alloc, edges)?;
-    graph.reserve(1, edges as u32)?;
-    graph.add(set, cover, tokens);
-    Ok(())
+) -> Result<u32, Fail> {
+    assert!(rt; has_roots::<L, G, W>(graph, set));
+    Ok(plan_and_add::<L, G, W>(alloc, graph, &MASTER, set)?)
 }
 
 /// The starts of the edges to all four of users a to d, who have {a, b} and {b, c} besides their
@@ -75,11 +29,11 @@ fn four_users<L: Layer, G: Graph<L, W>, const W: usize>(
     rt: &impl Abort,
     alloc: Global,
 ) -> Result<(), Fail>
-    requires { (1 ≤ W) × (W ≤ 1024) }
+    requires { (1 ≤ W) × (W ≤ MAX_SET_WORDS) }
 {
     let mut graph = G::new(alloc)?;
     for user in 0..4 {
-        put(rt, alloc, &mut graph, &UserSet::empty().with(user))?;
+        put::<L, G, W>(rt, alloc, &mut graph, &UserSet::empty().with(user))?;
     }
     let ab = UserSet::empty().with(0).with(1);
     let bc = UserSet::empty().with(1).with(2);
@@ -90,7 +44,7 @@ fn four_users<L: Layer, G: Graph<L, W>, const W: usize>(
     assert_eq!(rt; (cover.node, cover.fresh), (6, true));
     assert_eq!(rt; cover.from.as_slice(), [4, 5, 3].as_slice());
     for set in [&ab, &bc, &all] {
-        put(rt, alloc, &mut graph, set)?;
+        put::<L, G, W>(rt, alloc, &mut graph, set)?;
     }
     assert_eq!(rt; graph.count(), 7);
     let edges = graph.in_tokens(6);
@@ -99,6 +53,8 @@ fn four_users<L: Layer, G: Graph<L, W>, const W: usize>(
     assert!(rt; graph.in_tokens(3).is_empty());
     assert!(rt; graph.set_of(5) == bc);
     assert_eq!(rt; graph.find(&all), Some(6));
+    let node = put::<L, G, W>(rt, alloc, &mut graph, &bc)?;
+    assert_eq!(rt; (node, graph.count()), (5, 7));
     assert!(rt; graph.find(&ab.with(3)).is_none());
     let again = graph.plan(alloc, &[], &bc)?;
     assert_eq!(rt; (again.node, again.fresh), (5, false));
@@ -114,9 +70,26 @@ fn four_users_at_each_width(rt: HostRuntime) -> Result<(), Fail> {
     Ok(())
 }
 
+/// The last user of the widest sets has a root, and a pair over it.
+#[test]
+fn the_widest_sets(rt: HostRuntime) -> Result<(), Fail> {
+    let mut graph: ListGraph<Base, MAX_SET_WORDS> = ListGraph::new(rt.alloc())?;
+    let first = UserSet::empty().with(0);
+    let pair = first.with(65_535);
+    assert!(rt; !has_roots(&graph, &pair));
+    for set in [&first, &pair.without(0), &pair] {
+        put(&rt, rt.alloc(), &mut graph, set)?;
+    }
+    assert_eq!(rt; graph.count(), 3);
+    let edges = graph.in_tokens(2);
+    assert_eq!(rt; edges.len(), 2);
+    assert_eq!(rt; [edges[0].from, edges[1].from], [0, 1]);
+    Ok(())
+}
+
 /// The set of those of the first twelve users whose bits are set.
 fn set_of_bits<const W: usize>(bits: u32) -> UserSet<W>
-    requires { (1 ≤ W) × (W ≤ 1024) }
+    requires { (1 ≤ W) × (W ≤ MAX_SET_WORDS) }
 {
     let mut set = UserSet::empty();
     for user in 0..12 {
@@ -133,14 +106,14 @@ fn fill<L: Layer, G: Graph<L, W>, const W: usize>(
     alloc: Global,
     graph: &mut G,
 ) -> Result<(), Fail>
-    requires { (1 ≤ W) × (W ≤ 1024) }
+    requires { (1 ≤ W) × (W ≤ MAX_SET_WORDS) }
 {
     for user in 0..12 {
-        put(rt, alloc, graph, &UserSet::empty().with(user))?;
+        put::<L, G, W>(rt, alloc, graph, &UserSet::empty().with(user))?;
     }
-    for bits in 0..4096u32 {
+    for bits in 0..MAX_LAYER_NODES {
         if bits.count_ones() != 1 {
-            put(rt, alloc, graph, &set_of_bits(bits))?;
+            put::<L, G, W>(rt, alloc, graph, &set_of_bits(bits))?;
         }
     }
     Ok(())
@@ -148,10 +121,10 @@ fn fill<L: Layer, G: Graph<L, W>, const W: usize>(
 
 #[test]
 fn a_full_graph_takes_no_new_set(rt: HostRuntime) -> Result<(), Fail> {
-    let mut graph: ListGraph<Base, 4> = ListGraph::new(rt.alloc())?;
+    let mut graph: ListGraph<Base, 1> = ListGraph::new(rt.alloc())?;
     fill(&rt, rt.alloc(), &mut graph)?;
     let count = graph.count();
-    assert_eq!(rt; count, 4096);
+    assert_eq!(rt; count, MAX_LAYER_NODES);
     let old = graph.plan(rt.alloc(), &[], &set_of_bits(0xfff))?;
     assert_eq!(rt; (old.node, old.fresh), (4095, false));
     match graph.plan(rt.alloc(), &[], &UserSet::empty().with(12)) {

@@ -1,5 +1,6 @@
 //! Coats and tags that another program gives, and the rule of both modes.
 ghost use Rattle.std.specs.Prelude.{◌≤◌};
+ghost use Rattle.ov_base.specs.declared.limits.TheConstants.{MAX_SET_WORDS};
 
 mod vectors;
 
@@ -47,7 +48,7 @@ fn coats_of_another_program(rt: HostRuntime) {
 
 /// The rule for a list of users 0 and 1, and for holders who are these or have another besides.
 fn wanted_surfaces<const W: usize>(rt: &impl Abort)
-    requires { (1 ≤ W) × (W ≤ 1024) }
+    requires { (1 ≤ W) × (W ≤ MAX_SET_WORDS) }
 {
     let list = UserSet::<W>::empty().with(0).with(1);
     let more = list.with(63);

@@ -13,3 +13,6 @@ returns-clause-few g c = edges-few _ _ c.known.ensures.graph
 
 pub returns-clause-none : goal.returns-clause-none
 returns-clause-none g c = edges-none _ _ c.known.ensures.graph
+
+pub returns-clause-edges : goal.returns-clause-edges
+returns-clause-edges g c = c.known.ensures.graph.covers

@@ -1,6 +1,7 @@
 use Rattle.std.proofs.Common.{◌<◌, ◌≡◌, ◌++◌, ◌∷◌, ◌∙◌, [], ℕ, List, length, arith, ap, subst, sym}
 use Rattle.ov_tokens.specs.declared.edge.Edge.{Edge}
-use Rattle.ov_graph.specs.declared.list.Span.{Span}
+use Rattle.ov_graph.specs.declared.rows.Span.{Span}
+use Rattle.ov_base.specs.declared.limits.TheConstants.{MAX_LAYER_NODES}
 use Rattle.ov_graph.specs.Reach.{IsRooted}
 use Rattle.ov_graph.specs.Contents.{joined, plan_of}
 use Rattle.ov_graph.specs.Rows.{rows, IsListGraph}
@@ -30,7 +31,7 @@ all_added g c =
       fresh = c.requires.fresh;
       roots = subst (λ s. IsRooted s c.args.set.now) same c.requires.roots;
       tokened = c.requires.tokens;
-      few = subst (λ (s : List ℕ). length s < 4096) same c.requires.nodes;
+      few = subst (λ (s : List ℕ). length s < MAX_LAYER_NODES) same c.requires.nodes;
     }
 
 pub invariant_of-self : goal.invariant_of-self
