@@ -9,15 +9,15 @@ use Rattle.ov_fields.specs.Reading.{Read, ◌>>=◌, made, byte_at, bytes_at, nu
 use Rattle.ov_fields.proofs.ReadingLaws.{AreBytes, AreBytes-front, bind_ok, bind_err, fails_first, fails_later, done, ok_is, Reads, made_of}
 
 -- a test that passed, and one that didn't
-test_ok : {A : Type 0} (b : Bool) (left : ℕ) (x y : A) → cond b (done x) (Err left) ≡ Ok y → IsTrue b × (x ≡ y)
+pub test_ok : {A : Type 0} (b : Bool) (left : ℕ) (x y : A) → cond b (done x) (Err left) ≡ Ok y → IsTrue b × (x ≡ y)
 test_ok true left x y e = (refl, cc)
 test_ok false left x y e = absurd cc
 
-test_err : {A : Type 0} (b : Bool) (n left : ℕ) (x : A) → cond b (done x) (Err n) ≡ Err left → n ≡ left
+pub test_err : {A : Type 0} (b : Bool) (n left : ℕ) (x : A) → cond b (done x) (Err n) ≡ Err left → n ≡ left
 test_err true n left x e = absurd cc
 test_err false n left x e = cc
 
-test_again : {A : Type 0} (b : Bool) (left : ℕ) (x : A) → IsTrue b → cond b (done x) (Err left) ≡ Ok x
+pub test_again : {A : Type 0} (b : Bool) (left : ℕ) (x : A) → IsTrue b → cond b (done x) (Err left) ≡ Ok x
 test_again true left x h = refl
 test_again false left x h = absurd cc
 

@@ -7,4 +7,5 @@ pub mod ReadingLaws
 pub mod RowLaws
 pub mod SetFields
 pub mod TagLaws
+pub mod TestLaws
 pub mod WholeLaws

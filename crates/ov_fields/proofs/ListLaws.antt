@@ -1,12 +1,13 @@
 -- Lists and options of fields.
-use Rattle.std.proofs.Common.{◌≡◌, ℕ, zero, suc, ◌+◌, ◌*◌, ◌^◌, ◌<◌, ◌≤◌, IsTrue, List, [], ◌∷◌, ◌++◌, length, Option, Some, None, Ok, Err, refl, sym, ap, subst, ◌∙◌, append_assoc, length-append, mul-le-mul_right, arith}
+use Rattle.std.proofs.Common.{◌≡◌, ℕ, zero, suc, ◌+◌, ◌*◌, ◌^◌, ◌<◌, ◌≤◌, Bool, true, false, IsTrue, List, [], ◌∷◌, ◌++◌, length, Option, Some, None, Ok, Err, refl, sym, ap, subst, ◌∙◌, append_assoc, length-append, mul-le-mul_right, arith}
 use Rattle.std.specs.Prelude.{IfSome}
 use Rattle.std.specs.List.{flat_map, AllByRecursion}
-use Rattle.std.proofs.lemmas.Bool.Decides.{nat_tests}
-use Rattle.ov_fields.specs.Spelling.{optional, counted, sized}
-use Rattle.ov_fields.specs.Reading.{Read, ◌>>=◌, made, at_most, bytes_at, many_at, counted_at, sized_at, optional_at}
+use Rattle.ov_fields.specs.Spelling.{optional, flag, counted, sized}
+use Rattle.ov_fields.specs.Reading.{Read, ◌>>=◌, made, at_most, bytes_at, many_at, counted_at, sized_at, one_of_at, flag_at, some_at, optional_at}
 use Rattle.ov_fields.proofs.ReadingLaws.{AreBytes, AreBytes-back, bind_ok, bind_err, fails_first, fails_later, done, ok_is, no_error, Reads, made_of, given_reads}
 use Rattle.ov_fields.proofs.FieldLaws.{bytes_reads, wide16, wide32, that_reads}
+use Rattle.ov_fields.proofs.TagLaws.{flag_reads}
+use Rattle.ov_fields.proofs.TestLaws.{le_of}
 
 -- ---- so many values
 
@@ -79,15 +80,12 @@ Reads-more R most le = record {
   short = λ a fits. omega (arith, R.short a fits);
 }
 
-at_most_le : (most n : ℕ) → IsTrue (at_most most n) → n ≤ most
-at_most_le most n h = grind (arith, nat_tests)
-
 pub counted_reads : {A : Type 0} {r : List ℕ → Read A} {s : A → List ℕ} {F : A → Type 0} {m : ℕ} → (most : ℕ) → Reads r s F m
     → Reads (counted_at most r) (counted s) (λ values. ((length values < 2 ^ 16) × IsTrue (at_most most (length values))) × AllByRecursion F values) (2 + most * m)
 unfolding counted_at
 counted_reads {r = r} {s = s} {F = F} {m = m} most R =
     given_reads (many_at r) (flat_map s) (AllByRecursion F) length (most * m) (that_reads wide16 (at_most most))
-    (λ n h. Reads-more (many_reads R n) (most * m) (mul-le-mul_right m (at_most_le most n h.1)))
+    (λ n h. Reads-more (many_reads R n) (most * m) (mul-le-mul_right m (le_of most n h.1)))
 
 -- ---- bytes behind their number
 
@@ -99,40 +97,56 @@ sized_reads most =
     (λ n h. record {
       takes = λ bytes x fits e. let t = (bytes_reads n).takes bytes x fits e in ((tt, t.0), t.1);
       again = λ bytes rest fits. (bytes_reads n).again bytes rest fits.1;
-      near = λ bytes left fits e. let k = (bytes_reads n).near bytes left fits e in (k.0, omega (arith, k.1, at_most_le most n h.1));
-      short = λ bytes fits. omega (arith, fits.1, at_most_le most n h.1);
+      near = λ bytes left fits e. let k = (bytes_reads n).near bytes left fits e in (k.0, omega (arith, k.1, le_of most n h.1));
+      short = λ bytes fits. omega (arith, fits.1, le_of most n h.1);
     })
 
 -- ---- what stands behind a flag
 
+some_takes : {A : Type 0} (r : List ℕ → Read A) (s : A → List ℕ) (F : A → Type 0) (m : ℕ) → Reads r s F m
+    → (b : Bool) (bytes : List ℕ) (x : Option A × List ℕ) → AreBytes bytes → some_at b r bytes ≡ Ok x → IfSome x.0 F × (flag b ∷ bytes ≡ optional s x.0 ++ x.1)
+some_takes {A = A} r s F m R true bytes x fits e =
+    let a = bind_ok (r bytes) (λ a. done (made_of Some a)) x e in
+    let t = R.takes bytes a.0 fits a.1 in
+    subst (λ (y : Option A × List ℕ). IfSome y.0 F × (1 ∷ bytes ≡ optional s y.0 ++ y.1)) (ok_is (made_of Some a.0) x a.2) (t.0, ap (λ (l : List ℕ). 1 ∷ l) t.1)
+some_takes {A = A} r s F m R false bytes x fits e =
+    subst (λ (y : Option A × List ℕ). IfSome y.0 F × (0 ∷ bytes ≡ optional s y.0 ++ y.1)) (ok_is (None, bytes) x e) (tt, refl)
+
+abbrev every_flag : List Bool
+every_flag = false ∷ true ∷ []
+
 optional_takes : {A : Type 0} (r : List ℕ → Read A) (s : A → List ℕ) (F : A → Type 0) (m : ℕ) → Reads r s F m
     → (bytes : List ℕ) (x : Option A × List ℕ) → AreBytes bytes → optional_at r bytes ≡ Ok x → IfSome x.0 F × (bytes ≡ optional s x.0 ++ x.1)
 unfolding optional_at
-optional_takes r s F m R [] x fits e = absurd cc
-optional_takes {A = A} r s F m R (zero ∷ bytes) x fits e =
-    subst (λ (y : Option A × List ℕ). IfSome y.0 F × (0 ∷ bytes ≡ optional s y.0 ++ y.1)) (ok_is (None, bytes) x e) (tt, refl)
-optional_takes {A = A} r s F m R (suc zero ∷ bytes) x fits e =
-    let a = bind_ok (r bytes) (λ a. done (made_of Some a)) x e in
-    let t = R.takes bytes a.0 (AreBytes-back (1 ∷ []) bytes fits) a.1 in
-    subst (λ (y : Option A × List ℕ). IfSome y.0 F × (1 ∷ bytes ≡ optional s y.0 ++ y.1)) (ok_is (made_of Some a.0) x a.2) (t.0, ap (λ (l : List ℕ). 1 ∷ l) t.1)
-optional_takes r s F m R (suc (suc byte) ∷ bytes) x fits e = absurd cc
+optional_takes r s F m R bytes x fits e =
+    let b = bind_ok (flag_at bytes) (λ there. some_at there.0 r there.1) x e in
+    let one = (flag_reads every_flag).takes bytes b.0 fits b.1 in
+    let two = some_takes r s F m R b.0.0 b.0.1 x (AreBytes-back (flag b.0.0 ∷ []) b.0.1 (subst AreBytes one.1 fits)) b.2 in
+    (two.0, one.1 ∙ two.1)
 
 optional_again : {A : Type 0} (r : List ℕ → Read A) (s : A → List ℕ) (F : A → Type 0) (m : ℕ) → Reads r s F m
     → (value : Option A) (rest : List ℕ) → IfSome value F → optional_at r (optional s value ++ rest) ≡ Ok (value, rest)
-unfolding optional_at
+unfolding optional_at one_of_at
 optional_again r s F m R None rest fits = refl
 optional_again r s F m R (Some a) rest fits = ap (made Some) (R.again a rest fits)
+
+some_near : {A : Type 0} (r : List ℕ → Read A) (s : A → List ℕ) (F : A → Type 0) (m : ℕ) → Reads r s F m
+    → (b : Bool) (bytes : List ℕ) (left : ℕ) → AreBytes bytes → some_at b r bytes ≡ Err left → (left ≤ length bytes) × (length bytes ≤ left + m)
+some_near r s F m R true bytes left fits e = R.near bytes left fits (no_error (r bytes) (made_of Some) left e)
+some_near r s F m R false bytes left fits e = absurd cc
 
 optional_near : {A : Type 0} (r : List ℕ → Read A) (s : A → List ℕ) (F : A → Type 0) (m : ℕ) → Reads r s F m
     → (bytes : List ℕ) (left : ℕ) → AreBytes bytes → optional_at r bytes ≡ Err left → (left ≤ length bytes) × (length bytes ≤ left + (1 + m))
 unfolding optional_at
-optional_near r s F m R [] left fits e = let is : 0 ≡ left = cc in (omega arith, omega arith)
-optional_near r s F m R (zero ∷ bytes) left fits e = absurd cc
-optional_near r s F m R (suc zero ∷ bytes) left fits e =
-    let k = R.near bytes left (AreBytes-back (1 ∷ []) bytes fits) (no_error (r bytes) (made_of Some) left e) in
-    (omega (arith, k.0), omega (arith, k.1))
-optional_near r s F m R (suc (suc byte) ∷ bytes) left fits e =
-    let is : length (suc (suc byte) ∷ bytes) ≡ left = cc in (omega arith, omega arith)
+optional_near r s F m R bytes left fits e =
+    elim (bind_err (flag_at bytes) (λ there. some_at there.0 r there.1) left e) [
+      | fails_first bad ↦ let k = (flag_reads every_flag).near bytes left fits bad in (k.0, omega (arith, k.1))
+      | fails_later b was more ↦
+          let one = (flag_reads every_flag).takes bytes b fits was in
+          let k = some_near r s F m R b.0 b.1 left (AreBytes-back (flag b.0 ∷ []) b.1 (subst AreBytes one.1 fits)) more in
+          let sum : length bytes ≡ suc (length b.1) = ap length one.1 in
+          (omega (arith, k.0), omega (arith, k.1))
+    ]
 
 optional_short : {A : Type 0} (r : List ℕ → Read A) (s : A → List ℕ) (F : A → Type 0) (m : ℕ) → Reads r s F m
     → (value : Option A) → IfSome value F → length (optional s value) ≤ 1 + m

@@ -8,7 +8,8 @@ use Rattle.ov_fields.specs.Reading.{Read, ◌>>=◌, many_at}
 abbrev pub with_front : {A : Type 0} → List A → Read (List A) → Read (List A)
 with_front front read = read >>= λ x. Ok (front ++ x.0, x.1)
 
-regroup : {A : Type 0} (front : List A) (a : A) (read : Read (List A)) → with_front front (read >>= λ x. Ok (a ∷ x.0, x.1)) ≡ with_front (front ++ a ∷ []) read
+-- one value more in front
+pub regroup : {A : Type 0} (front : List A) (a : A) (read : Read (List A)) → with_front front (read >>= λ x. Ok (a ∷ x.0, x.1)) ≡ with_front (front ++ a ∷ []) read
 regroup {A = A} front a (Ok x) = ap (λ (l : List A). Ok (l, x.1)) (simp append_assoc)
 regroup front a (Err left) = refl
 

@@ -4,12 +4,14 @@ use Rattle.std.specs.List.{flat_map, list_all, AllByRecursion}
 use Rattle.std.proofs.lemmas.Bool.Decides.{nat_tests}
 use Rattle.std.proofs.lemmas.List.{take_at}
 use Rattle.ov_base.specs.Names.{is_letter_or_digit, is_name_byte, IsName}
+use Rattle.ov_base.specs.declared.limits.TheConstants.{MAX_NAME_BYTES}
 use Rattle.ov_fields.specs.Spelling.{u8, name_field, token_field, IsToken}
 use Rattle.ov_fields.specs.Reading.{◌>>=◌, between, byte_at, many_at, text_at, name_at, token_at, token_of}
 use Rattle.ov_fields.proofs.ReadingLaws.{AreBytes, AreBytes-back, bind_ok, bind_err, fails_first, fails_later, done, ok_is, no_error, Reads, made_reads, given_reads, sized_by}
 use Rattle.ov_fields.proofs.FieldLaws.{byte_takes, byte_reads, bytes_reads}
 use Rattle.ov_fields.proofs.Loops.{with_front, goes_on, is_done}
 use Rattle.ov_fields.proofs.ListLaws.{many_reads}
+use Rattle.ov_fields.proofs.TestLaws.{between_of}
 
 -- ---- names
 
@@ -34,16 +36,16 @@ one_each [] = refl
 one_each (x ∷ xs) = ap (λ (l : List ℕ). x ∷ l) (one_each xs)
 
 -- a first byte, others, and what they are together
-is_text : (first : ℕ) (others : List ℕ) → IsTrue (is_letter_or_digit first) → length others < 64 → AllByRecursion (λ b. IsTrue (is_name_byte b)) others → IsName (first ∷ others)
+is_text : (first : ℕ) (others : List ℕ) → IsTrue (is_letter_or_digit first) → length others < MAX_NAME_BYTES → AllByRecursion (λ b. IsTrue (is_name_byte b)) others → IsName (first ∷ others)
 is_text first others h short all =
-    let few : IsTrue (nat_lt (length others) 64) = grind (arith, nat_tests) in
-    both_true (is_letter_or_digit first && nat_lt (length others) 64) (list_all is_name_byte others)
-    (both_true (is_letter_or_digit first) (nat_lt (length others) 64) h few) (all_are others all)
+    let few : IsTrue (nat_lt (length others) MAX_NAME_BYTES) = grind (arith, nat_tests) in
+    both_true (is_letter_or_digit first && nat_lt (length others) MAX_NAME_BYTES) (list_all is_name_byte others)
+    (both_true (is_letter_or_digit first) (nat_lt (length others) MAX_NAME_BYTES) h few) (all_are others all)
 
 abbrev first_and : ℕ → List ℕ × List ℕ → List ℕ × List ℕ
 first_and a others = (a ∷ others.0, others.1)
 
-text_takes : (more : ℕ) (bytes : List ℕ) (x : List ℕ × List ℕ) → more < 64 → AreBytes bytes → text_at more bytes ≡ Ok x
+text_takes : (more : ℕ) (bytes : List ℕ) (x : List ℕ × List ℕ) → more < MAX_NAME_BYTES → AreBytes bytes → text_at more bytes ≡ Ok x
     → (IsName x.0 × (length x.0 ≡ suc more)) × (bytes ≡ x.0 ++ x.1)
 text_takes more bytes x small fits e =
     let a = bind_ok (byte_at is_letter_or_digit bytes) (λ a. many_at (byte_at is_name_byte) more a.1 >>= λ others. done (first_and a.0 others)) x e in
@@ -52,22 +54,22 @@ text_takes more bytes x small fits e =
     let two = (many_reads (byte_reads is_name_byte) more).takes a.0.1 b.0 (AreBytes-back (a.0.0 ∷ []) a.0.1 (subst AreBytes one.1 fits)) b.1 in
     let text : bytes ≡ (a.0.0 ∷ b.0.0) ++ b.0.1 =
     one.1 ∙ ap (λ (l : List ℕ). a.0.0 ∷ l) (two.1 ∙ ap (λ (l : List ℕ). l ++ b.0.1) (one_each b.0.0)) in
-    let short : length b.0.0 < 64 = omega (arith, two.0.1) in
+    let short : length b.0.0 < MAX_NAME_BYTES = omega (arith, two.0.1) in
     subst (λ (y : List ℕ × List ℕ). (IsName y.0 × (length y.0 ≡ suc more)) × (bytes ≡ y.0 ++ y.1)) (ok_is (first_and a.0.0 b.0) x b.2)
     ((is_text a.0.0 b.0.0 one.0 short two.0.0, ap suc two.0.1), text)
 
 text_again : (more : ℕ) (text rest : List ℕ) → IsName text → length text ≡ suc more → text_at more (text ++ rest) ≡ Ok (text, rest)
 text_again more [] rest is len = absurd (omega (arith, len))
 text_again more (a ∷ others) rest is len =
-    let p = both_are (is_letter_or_digit a && nat_lt (length others) 64) (list_all is_name_byte others) is in
-    let q = both_are (is_letter_or_digit a) (nat_lt (length others) 64) p.0 in
+    let p = both_are (is_letter_or_digit a && nat_lt (length others) MAX_NAME_BYTES) (list_all is_name_byte others) is in
+    let q = both_are (is_letter_or_digit a) (nat_lt (length others) MAX_NAME_BYTES) p.0 in
     let n : length others ≡ more = omega (arith, len) in
     let two : many_at (byte_at is_name_byte) more (others ++ rest) ≡ Ok (others, rest) =
     ap (λ (l : List ℕ). many_at (byte_at is_name_byte) more (l ++ rest)) (sym (one_each others))
     ∙ (many_reads (byte_reads is_name_byte) more).again others rest (each_is others p.1, n) in
     rw ((byte_reads is_letter_or_digit).again a (others ++ rest) q.0, two) refl
 
-text_near : (more : ℕ) (bytes : List ℕ) (left : ℕ) → more < 64 → AreBytes bytes → text_at more bytes ≡ Err left → (left ≤ length bytes) × (length bytes ≤ left + 64)
+text_near : (more : ℕ) (bytes : List ℕ) (left : ℕ) → more < MAX_NAME_BYTES → AreBytes bytes → text_at more bytes ≡ Err left → (left ≤ length bytes) × (length bytes ≤ left + MAX_NAME_BYTES)
 text_near more bytes left small fits e =
     elim (bind_err (byte_at is_letter_or_digit bytes) (λ a. many_at (byte_at is_name_byte) more a.1 >>= λ others. done (first_and a.0 others)) left e) [
       | fails_first bad ↦ let k = (byte_reads is_letter_or_digit).near bytes left fits bad in (k.0, omega (arith, k.1))
@@ -78,14 +80,11 @@ text_near more bytes left small fits e =
           (omega (arith, k.0), omega (arith, k.1))
     ]
 
-between_is : (least most n : ℕ) → IsTrue (between least most n) → (least ≤ n) × (n ≤ most)
-between_is least most n h = (grind (arith, nat_tests), grind (arith, nat_tests))
-
-text_reads : (n : ℕ) → IsTrue (between 1 64 n) → Reads (text_at (n - 1)) (λ text. text) (sized_by IsName length n) 64
+text_reads : (n : ℕ) → IsTrue (between 1 MAX_NAME_BYTES n) → Reads (text_at (n - 1)) (λ text. text) (sized_by IsName length n) MAX_NAME_BYTES
 text_reads n h =
-    let b = between_is 1 64 n h in
+    let b = between_of 1 MAX_NAME_BYTES n h in
     let n-is : suc (n - 1) ≡ n = omega (arith, b.0) in
-    let small : n - 1 < 64 = omega (arith, b.1) in
+    let small : n - 1 < MAX_NAME_BYTES = omega (arith, b.1) in
     record {
       takes = λ bytes x fits e. let t = text_takes (n - 1) bytes x small fits e in ((t.0.0, t.0.1 ∙ n-is), t.1);
       again = λ text rest fits. text_again (n - 1) text rest fits.0 (fits.1 ∙ sym n-is);
@@ -93,16 +92,20 @@ text_reads n h =
       short = λ text fits. omega (arith, fits.1, b.1);
     }
 
-name_length : (name : List ℕ) → IsName name → IsTrue (between 1 64 (length name))
+name_length : (name : List ℕ) → IsName name → IsTrue (between 1 MAX_NAME_BYTES (length name))
 name_length [] is = absurd cc
 name_length (a ∷ others) is =
-    let p = both_are (is_letter_or_digit a && nat_lt (length others) 64) (list_all is_name_byte others) is in
-    let q = both_are (is_letter_or_digit a) (nat_lt (length others) 64) p.0 in grind (arith, nat_tests)
+    let p = both_are (is_letter_or_digit a && nat_lt (length others) MAX_NAME_BYTES) (list_all is_name_byte others) is in
+    let q = both_are (is_letter_or_digit a) (nat_lt (length others) MAX_NAME_BYTES) p.0 in grind (arith, nat_tests)
 
-pub name_reads : Reads name_at name_field IsName 65
+-- no name has more bytes with its length
+abbrev pub longest_name : ℕ
+longest_name = 1 + MAX_NAME_BYTES
+
+pub name_reads : Reads name_at name_field IsName longest_name
 unfolding name_at
 name_reads =
-    let R = given_reads (λ n. text_at (n - 1)) (λ text. text) IsName length 64 (byte_reads (between 1 64)) text_reads in
+    let R = given_reads (λ n. text_at (n - 1)) (λ text. text) IsName length MAX_NAME_BYTES (byte_reads (between 1 MAX_NAME_BYTES)) text_reads in
     record {
       takes = λ bytes x fits e. let t = R.takes bytes x fits e in (t.0.1, t.1);
       again = λ name rest is. R.again name rest (name_length name is, is);
@@ -158,7 +161,7 @@ pub record TextFound (more : ℕ) (bytes rest : List ℕ) : Type 0 where
   pub is_name : IsName (take (more + 1) bytes)
   pub read : text_at more bytes ≡ Ok (take (more + 1) bytes, rest)
 
-pub text_found : (more : ℕ) (bytes : List ℕ) (a : ℕ) (after others rest : List ℕ) → more < 64 → AreBytes bytes
+pub text_found : (more : ℕ) (bytes : List ℕ) (a : ℕ) (after others rest : List ℕ) → more < MAX_NAME_BYTES → AreBytes bytes
     → byte_at is_letter_or_digit bytes ≡ Ok (a, after) → many_at (byte_at is_name_byte) more after ≡ Ok (others, rest) → TextFound more bytes rest
 text_found more bytes a after others rest small fits one two =
     let read : text_at more bytes ≡ Ok (a ∷ others, rest) = rw (one, two) refl in

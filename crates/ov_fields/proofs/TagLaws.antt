@@ -2,7 +2,7 @@
 use Rattle.std.proofs.Common.{◌≡◌, ℕ, ◌+◌, ◌-◌, ◌≤◌, Bool, true, false, cond, eqb, List, [], ◌∷◌, ◌++◌, length, take, drop, Option, Some, None, Ok, Err, ◌⊎◌, inl, inr, refl, sym, ap, subst, ◌∙◌, length-append, eq-eqb, arith}
 use Rattle.std.proofs.lemmas.Bool.{eqb-true}
 use Rattle.std.proofs.lemmas.List.{take_at, drop_at}
-use Rattle.ov_fields.specs.Spelling.{IsOneOf}
+use Rattle.ov_fields.specs.Spelling.{u8, flag, IsOneOf}
 use Rattle.ov_fields.specs.Reading.{Read, ◌>>=◌, spanned, rest_of, tagged_by, one_of_at, ok_or_left, nothing_at}
 use Rattle.ov_fields.proofs.ReadingLaws.{AreBytes, bind_ok, done, ok_is, no_error, Reads}
 
@@ -78,6 +78,23 @@ one_of_reads tag values same = record {
   near = λ bytes left fits e. one_near tag values bytes left e;
   short = λ a is. omega arith;
 }
+
+-- ---- flags
+
+flag_back : ℕ → Bool
+flag_back n = eqb n 1
+
+back-flag : (b : Bool) → flag_back (flag b) ≡ b
+unfolding flag_back
+back-flag true = refl
+back-flag false = refl
+
+pub flag_reads : (values : List Bool) → Reads (one_of_at flag values) (λ b. u8 (flag b)) (λ b. IsOneOf b values) 1
+flag_reads values = one_of_reads flag values (λ a b e. sym (back-flag a) ∙ ap flag_back e ∙ back-flag b)
+
+pub each_flag : (b : Bool) → IsOneOf b (false ∷ true ∷ [])
+each_flag false = inl refl
+each_flag true = inr (inl refl)
 
 -- ---- nothing
 

@@ -3,24 +3,17 @@ use Rattle.std.proofs.Common.{◌≡◌, ℕ, ◌+◌, ◌≤◌, Bool, true, fa
 use Rattle.std.proofs.lemmas.Bool.{eqb-true}
 use Rattle.std.proofs.lemmas.List.{append-nil, nil_from_length}
 use Rattle.ov_fields.specs.Reading.{Read, all_of}
-use Rattle.ov_fields.proofs.ReadingLaws.{AreBytes, bind_ok, bind_err, fails_first, fails_later, done, ok_is, Reads}
+use Rattle.ov_fields.proofs.ReadingLaws.{AreBytes, bind_ok, bind_err, fails_first, fails_later, ok_is, Reads}
+use Rattle.ov_fields.proofs.FieldLaws.{test_ok, test_err}
 
 abbrev ended : {A : Type 0} → A × List ℕ → Result A ℕ
 ended a = cond (eqb (length a.1) 0) (Ok a.0) (Err (length a.1))
-
-ended_ok : {A : Type 0} (b : Bool) (left : ℕ) (x y : A) → cond b (done x) (Err left) ≡ Ok y → (b ≡ true) × (x ≡ y)
-ended_ok true left x y e = (refl, cc)
-ended_ok false left x y e = absurd cc
-
-ended_err : {A : Type 0} (b : Bool) (n left : ℕ) (x : A) → cond b (done x) (Err n) ≡ Err left → n ≡ left
-ended_err true n left x e = absurd cc
-ended_err false n left x e = cc
 
 pub all_takes : {A : Type 0} {read : List ℕ → Read A} {spell : A → List ℕ} {Fits : A → Type 0} {most : ℕ} → Reads read spell Fits most
     → (bytes : List ℕ) (a : A) → AreBytes bytes → all_of (read bytes) ≡ Ok a → Fits a × (bytes ≡ spell a)
 all_takes {read = read} {spell = spell} {Fits = Fits} R bytes a fits e =
     let x = bind_ok (read bytes) ended a e in
-    let end = ended_ok (eqb (length x.0.1) 0) (length x.0.1) x.0.0 a x.2 in
+    let end = test_ok (eqb (length x.0.1) 0) (length x.0.1) x.0.0 a x.2 in
     let t = R.takes bytes x.0 fits x.1 in
     let nothing : x.0.1 ≡ [] = nil_from_length x.0.1 (eqb-true _ _ end.0) in
     let whole : bytes ≡ spell x.0.0 = t.1 ∙ ap (λ (rest : List ℕ). spell x.0.0 ++ rest) nothing ∙ append-nil (spell x.0.0) in
@@ -38,7 +31,7 @@ all_near {read = read} {spell = spell} R bytes left fits e =
       | fails_first bad ↦ R.near bytes left fits bad
       | fails_later a was more ↦
           let t = R.takes bytes a fits was in
-          let is : length a.1 ≡ left = ended_err (eqb (length a.1) 0) (length a.1) left a.0 more in
+          let is : length a.1 ≡ left = test_err (eqb (length a.1) 0) (length a.1) left a.0 more in
           let sum : length bytes ≡ length (spell a.0) + length a.1 = ap length t.1 ∙ length-append (spell a.0) a.1 in
           (omega arith, omega (arith, R.short a.0 t.0))
     ]

@@ -16,5 +16,6 @@ left_of (Bad left) = Some left
 left_of Memory = None
 
 -- the same of a value and the bytes after it
-abbrev pub GivesField : {X Y : Type 0} → (X → Y) → Result (X × Bor (List ℕ)) FieldFault → Result (Y × List ℕ) ℕ → Type 0
+abbrev pub GivesField : {X Y : Type 0} → (X → Y) → Result (X × Bor (List ℕ)) FieldFault
+    → Result (Y × List ℕ) ℕ → Type 0
 GivesField view result read = Gives left_of (λ x. (view x.0, x.1.now)) result read

@@ -1,15 +1,18 @@
 -- Reading fields from left to right, each from the bytes that those before it left.
-use Rattle.std.specs.Prelude.{ℕ, zero, suc, ◌-◌, ◌==◌, ◌&&◌, nat_le, nat_lt, Bool, true, List, [], ◌∷◌, length, take, drop, Option, Some, None, Result, Ok, Err, if◌then◌else◌}
+use Rattle.std.specs.Prelude.{ℕ, zero, suc, ◌-◌, ◌==◌, ◌&&◌, nat_le, nat_lt, Bool, true, false, List, [], ◌∷◌, length, take, drop, Option, Some, None, Result, Ok, Err, if◌then◌else◌}
 use Rattle.std.specs.Int.{Width, w16, w32, byte_len, from_be_bytes}
 use Rattle.ov_base.specs.Sets.{set_of_bytes}
 use Rattle.ov_base.specs.Names.{is_letter_or_digit, is_name_byte}
+use Rattle.ov_base.specs.declared.limits.TheConstants.{MAX_NAME_BYTES}
 use Rattle.ov_tokens.specs.declared.token.Token.{Token}
+use Rattle.ov_fields.specs.Spelling.{flag}
 
 -- What is read: a value and the bytes after it; or how many bytes are left at the first one that is
 -- wrong, its own included, which are none where the bytes end too early.
 abbrev pub Read : Type 0 → Type 0
 Read A = Result (A × List ℕ) ℕ
 
+-- what is read next from the value, or the fault
 infixl 10 ◌>>=◌
 abbrev pub ◌>>=◌ : {A B : Type 0} → Result A ℕ → (A → Result B ℕ) → Result B ℕ
 (Ok x) >>= next = next x
@@ -51,7 +54,8 @@ all_of read = do
 abbrev pub making : {A B : Type 0} → (A → B) → (List ℕ → Read A) → List ℕ → Read B
 making make read bytes = made make (read bytes)
 
--- what stands behind a kind byte, by the rows of a table: a kind, and how the bytes behind it are read
+-- what stands behind a kind byte, by the rows of a table: a kind, and how the bytes behind it are
+-- read
 abbrev pub by_kind : {A : Type 0} → List (ℕ × (List ℕ → Read A)) → ℕ → List ℕ → Read A
 by_kind [] kind bytes = Err (length (kind ∷ bytes))
 by_kind (row ∷ rows) kind bytes = if kind == row.0 then row.1 bytes else by_kind rows kind bytes
@@ -73,6 +77,7 @@ unfoldable pub byte_at : (ℕ → Bool) → List ℕ → Read ℕ
 byte_at test [] = Err 0
 byte_at test (byte ∷ bytes) = if test byte then Ok (byte, bytes) else Err (length (byte ∷ bytes))
 
+-- the value and the bytes after it, or where there is none how many bytes are left
 abbrev pub ok_or_left : {A : Type 0} → Option A → List ℕ → ℕ → Read A
 ok_or_left (Some value) bytes left = Ok (value, bytes)
 ok_or_left None bytes left = Err left
@@ -80,12 +85,18 @@ ok_or_left None bytes left = Err left
 -- the first of these values that has this byte for its tag
 abbrev pub tagged_by : {A : Type 0} → (A → ℕ) → List A → ℕ → Option A
 tagged_by tag [] byte = None
-tagged_by tag (value ∷ values) byte = if tag value == byte then Some value else tagged_by tag values byte
+tagged_by tag (value ∷ values) byte =
+    if tag value == byte then Some value else tagged_by tag values byte
 
 -- one of these values, by its tag
 unfoldable pub one_of_at : {A : Type 0} → (A → ℕ) → List A → List ℕ → Read A
 one_of_at tag values [] = Err 0
-one_of_at tag values (byte ∷ bytes) = ok_or_left (tagged_by tag values byte) bytes (length (byte ∷ bytes))
+one_of_at tag values (byte ∷ bytes) =
+    ok_or_left (tagged_by tag values byte) bytes (length (byte ∷ bytes))
+
+-- a flag: 0 for no, and 1 for yes
+abbrev pub flag_at : List ℕ → Read Bool
+flag_at = one_of_at flag (false ∷ true ∷ [])
 
 -- nothing
 abbrev pub nothing_at : List ℕ → Read (Unit {0})
@@ -93,7 +104,8 @@ nothing_at bytes = Ok (tt, bytes)
 
 -- so many bytes
 unfoldable pub bytes_at : ℕ → List ℕ → Read (List ℕ)
-bytes_at count bytes = if nat_lt (length bytes) count then Err 0 else Ok (take count bytes, drop count bytes)
+bytes_at count bytes =
+    if nat_lt (length bytes) count then Err 0 else Ok (take count bytes, drop count bytes)
 
 -- a number of this width
 abbrev pub number_at : Width → List ℕ → Read ℕ
@@ -105,13 +117,19 @@ number_that width test bytes = do
   n ← number_at width bytes
   if test n.0 then Ok n else Err (length bytes)
 
--- the tests
+-- every number passes
 abbrev pub any : ℕ → Bool
 any n = true
 
+-- numbers up to this one pass
 abbrev pub at_most : ℕ → ℕ → Bool
 at_most most n = nat_le n most
 
+-- numbers below this one pass
+abbrev pub below : ℕ → ℕ → Bool
+below limit n = nat_lt n limit
+
+-- numbers from the one to the other pass
 abbrev pub between : ℕ → ℕ → ℕ → Bool
 between least most n = nat_le least n && nat_le n most
 
@@ -141,12 +159,16 @@ sized_at most bytes = do
   count ← number_that w32 (at_most most) bytes
   bytes_at count.0 count.1
 
+-- a value where there is one
+abbrev pub some_at : {A : Type 0} → Bool → (List ℕ → Read A) → List ℕ → Read (Option A)
+some_at true field bytes = made Some (field bytes)
+some_at false field bytes = Ok (None, bytes)
+
 -- what stands behind a flag
 unfoldable pub optional_at : {A : Type 0} → (List ℕ → Read A) → List ℕ → Read (Option A)
-optional_at field [] = Err 0
-optional_at field (zero ∷ bytes) = Ok (None, bytes)
-optional_at field (suc zero ∷ bytes) = made Some (field bytes)
-optional_at field (suc (suc byte) ∷ bytes) = Err (length (suc (suc byte) ∷ bytes))
+optional_at field bytes = do
+  there ← flag_at bytes
+  some_at there.0 field there.1
 
 -- ---- names and tokens
 
@@ -157,12 +179,13 @@ text_at more bytes = do
   others ← many_at (byte_at is_name_byte) more first.1
   Ok (first.0 ∷ others.0, others.1)
 
--- a length from 1 to 64, and a name of this length
+-- a length from 1 to MAX_NAME_BYTES, and a name of this length
 unfoldable pub name_at : List ℕ → Read (List ℕ)
 name_at bytes = do
-  count ← byte_at (between 1 64) bytes
+  count ← byte_at (between 1 MAX_NAME_BYTES) bytes
   text_at (count.0 - 1) count.1
 
+-- the token with these bytes
 abbrev pub token_of : List ℕ → Token
 token_of bytes = record { bytes = bytes }
 

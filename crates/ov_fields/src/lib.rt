@@ -9,22 +9,25 @@
 //!
 //! `proofs/ReadingLaws` has what each reader keeps (`Reads`): it reads exactly the spellings of its
 //! values, and a wrong byte is near. Laws put readers together: one after another, behind a number,
-//! behind a flag, by kind bytes. From it follows for whole lists of bytes that what is read is spelled so, what
-//! is spelled so is read, and no spelling is the front of another's (`proofs/WholeLaws`).
+//! behind a flag, by kind bytes. From it follows for whole lists of bytes that what is read is spelled
+//! so, what is spelled so is read, and no spelling is the front of another's (`proofs/WholeLaws`).
+//! `proofs/TestLaws` has what the tests of numbers say.
 #![tactic(auto)]
 
 mod fault;
 mod name;
 mod reading;
 mod set;
+#[cfg(test)]
+mod tests;
 mod writing;
 
 pub use fault::FieldFault;
 pub use name::take_name;
 pub use reading::{
-    take_byte, take_bytes, take_bytes_or_none, take_sized, take_tag, take_token,
+    take_byte, take_bytes, take_bytes_or_none, take_flag, take_sized, take_tag, take_token,
     take_token_or_none, take_u8, take_u16, take_u16_at_most, take_u32, take_u32_at_most,
-    take_u32_between,
+    take_u32_below, take_u32_between,
 };
 pub use set::{put_set, take_set};
 pub use writing::{append, put_name, put_token, put_token_or_none, put_two, put_u16, put_u32};

@@ -1,6 +1,7 @@
 //! Reading names.
 
 ghost use Rattle.std.specs.Prelude.{◌≡◌, ◌<◌, take};
+ghost use Rattle.ov_base.specs.declared.limits.TheConstants.{MAX_NAME_BYTES};
 ghost use Rattle.ov_base.specs.Names.{is_letter_or_digit, is_name_byte};
 ghost use Rattle.ov_fields.specs.Answers.{Gives, GivesField, left_of};
 ghost use Rattle.ov_fields.specs.Reading.{byte_at, many_at, name_at, text_at};
@@ -8,6 +9,7 @@ ghost use Rattle.ov_fields.specs.Reading.{byte_at, many_at, name_at, text_at};
 use crate::FieldFault;
 use crate::reading::take_byte;
 use ov_base::Name;
+use ov_base::limits::MAX_NAME_BYTES;
 
 fn is_letter_or_digit(byte: u8) -> bool
     ensures { result ≡ is_letter_or_digit byte }
@@ -56,7 +58,7 @@ fn take_others(count: u8, bytes: &[u8]) -> Result<(&[u8], &[u8]), FieldFault>
 
 /// A name of so many bytes and one more.
 fn take_text(more: u8, bytes: &[u8]) -> Result<(Name, &[u8]), FieldFault>
-    requires { more < 64 }
+    requires { more < MAX_NAME_BYTES }
     ensures { GivesField (λ n. n) result (text_at more bytes.now) }
 {
     let (_, rest) = take_first(bytes)?;
@@ -73,7 +75,7 @@ fn take_text(more: u8, bytes: &[u8]) -> Result<(Name, &[u8]), FieldFault>
 pub fn take_name(bytes: &[u8]) -> Result<(Name, &[u8]), FieldFault>
     ensures { GivesField (λ n. n) result (name_at bytes.now) }
 {
-    let (count, rest) = take_byte(1, 64, bytes)?;
+    let (count, rest) = take_byte(1, MAX_NAME_BYTES as u8, bytes)?;
     let (name, rest) = take_text(count - 1, rest)?;
     Ok((name, rest))
 }

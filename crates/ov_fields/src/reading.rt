@@ -4,10 +4,21 @@ ghost use Rattle.std.specs.Prelude.{◌≡◌, ◌≤◌, ℕ, List, length, IfO
 ghost use Rattle.std.specs.Borrow.{Bor};
 ghost use Rattle.std.specs.Int.{w16, w32};
 ghost use Rattle.ov_fields.specs.Answers.{GivesField};
-ghost use Rattle.ov_fields.specs.Reading.{any, at_most, between, byte_at, bytes_at, number_at, number_that, optional_at, sized_at, token_at};
+ghost use Rattle.ov_fields.specs.Reading.{any, at_most, below, between, byte_at, bytes_at, flag_at, number_at, number_that, optional_at, sized_at, token_at};
 
 use crate::FieldFault;
 use ov_tokens::Token;
+
+/// A byte.
+#[tactic(auto, unfolding(crate::specs::Reading::byte_at))]
+pub fn take_u8(bytes: &[u8]) -> Result<(u8, &[u8]), FieldFault>
+    ensures { GivesField (λ b. b) result (byte_at any bytes.now) }
+{
+    match bytes {
+        [] => Err(FieldFault::Bad { left: 0 }),
+        [byte, rest @ ..] => Ok((*byte, rest)),
+    }
+}
 
 /// A byte from `least` to `most`.
 #[tactic(auto, unfolding(crate::specs::Reading::byte_at))]
@@ -40,6 +51,15 @@ pub fn take_bytes(count: usize, bytes: &[u8]) -> Result<(&[u8], &[u8]), FieldFau
     Ok((front, rest))
 }
 
+/// A number of two bytes.
+pub fn take_u16(bytes: &[u8]) -> Result<(u16, &[u8]), FieldFault>
+    ensures { GivesField (λ n. n) result (number_at w16 bytes.now) }
+{
+    let (front, rest) = take_bytes(2, bytes)?;
+    let number = u16::from_be_bytes([front[0], front[1]]);
+    Ok((number, rest))
+}
+
 /// A number of four bytes.
 pub fn take_u32(bytes: &[u8]) -> Result<(u32, &[u8]), FieldFault>
     ensures { GivesField (λ n. n) result (number_at w32 bytes.now) }
@@ -70,6 +90,19 @@ pub fn take_u32_at_most(most: u32, bytes: &[u8]) -> Result<(u32, &[u8]), FieldFa
 {
     let (number, rest) = take_u32(bytes)?;
     if number <= most {
+        Ok((number, rest))
+    } else {
+        Err(FieldFault::Bad { left: bytes.len() })
+    }
+}
+
+/// A number of four bytes that is below `limit`.
+#[tactic(auto, unfolding(crate::specs::Reading::number_that))]
+pub fn take_u32_below(limit: u32, bytes: &[u8]) -> Result<(u32, &[u8]), FieldFault>
+    ensures { GivesField (λ n. n) result (number_that w32 (below limit) bytes.now) }
+{
+    let (number, rest) = take_u32(bytes)?;
+    if number < limit {
         Ok((number, rest))
     } else {
         Err(FieldFault::Bad { left: bytes.len() })
@@ -117,54 +150,43 @@ pub fn take_sized(most: u32, bytes: &[u8]) -> Result<(&[u8], &[u8]), FieldFault>
     Ok((text, rest))
 }
 
-/// What stands behind a flag, and the bytes after it or after the flag.
+/// A flag.
+#[tactic(auto, unfolding(crate::specs::Reading::one_of_at))]
+pub fn take_flag(bytes: &[u8]) -> Result<(bool, &[u8]), FieldFault>
+    ensures { GivesField (λ b. b) result (flag_at bytes.now) }
+{
+    match bytes {
+        [0, rest @ ..] => Ok((false, rest)),
+        [1, rest @ ..] => Ok((true, rest)),
+        _ => Err(FieldFault::Bad { left: bytes.len() }),
+    }
+}
+
+/// A flag, and a token where it is 1.
 #[tactic(auto, unfolding(crate::specs::Reading::optional_at))]
 pub fn take_token_or_none(bytes: &[u8]) -> Result<(Option<Token>, &[u8]), FieldFault>
     ensures { GivesField (λ t. t) result (optional_at token_at bytes.now) }
 {
-    match bytes {
-        [] => Err(FieldFault::Bad { left: 0 }),
-        [0, rest @ ..] => Ok((None, rest)),
-        [1, rest @ ..] => {
-            let (token, rest) = take_token(rest)?;
-            Ok((Some(token), rest))
-        }
-        [_, ..] => Err(FieldFault::Bad { left: bytes.len() }),
+    let (there, rest) = take_flag(bytes)?;
+    if there {
+        let (token, rest) = take_token(rest)?;
+        Ok((Some(token), rest))
+    } else {
+        Ok((None, rest))
     }
 }
 
 /// A flag, and so many bytes where it is 1.
 #[tactic(auto, unfolding(crate::specs::Reading::optional_at))]
 pub fn take_bytes_or_none(count: usize, bytes: &[u8]) -> Result<(Option<&[u8]>, &[u8]), FieldFault>
-    ensures { GivesField (λ o. option_map (λ (b : Bor (List ℕ)). b.now) o) result (optional_at (bytes_at count) bytes.now) }
+    ensures { GivesField (λ o. option_map (λ (b : Bor (List ℕ)). b.now) o) result
+        (optional_at (bytes_at count) bytes.now) }
 {
-    match bytes {
-        [] => Err(FieldFault::Bad { left: 0 }),
-        [0, rest @ ..] => Ok((None, rest)),
-        [1, rest @ ..] => {
-            let (text, rest) = take_bytes(count, rest)?;
-            Ok((Some(text), rest))
-        }
-        [_, ..] => Err(FieldFault::Bad { left: bytes.len() }),
+    let (there, rest) = take_flag(bytes)?;
+    if there {
+        let (text, rest) = take_bytes(count, rest)?;
+        Ok((Some(text), rest))
+    } else {
+        Ok((None, rest))
     }
-}
-
-/// A byte.
-#[tactic(auto, unfolding(crate::specs::Reading::byte_at))]
-pub fn take_u8(bytes: &[u8]) -> Result<(u8, &[u8]), FieldFault>
-    ensures { GivesField (λ b. b) result (byte_at any bytes.now) }
-{
-    match bytes {
-        [] => Err(FieldFault::Bad { left: 0 }),
-        [byte, rest @ ..] => Ok((*byte, rest)),
-    }
-}
-
-/// A number of two bytes.
-pub fn take_u16(bytes: &[u8]) -> Result<(u16, &[u8]), FieldFault>
-    ensures { GivesField (λ n. n) result (number_at w16 bytes.now) }
-{
-    let (front, rest) = take_bytes(2, bytes)?;
-    let number = u16::from_be_bytes([front[0], front[1]]);
-    Ok((number, rest))
 }

@@ -1,18 +1,18 @@
 -- The reader of updates reads exactly their spellings.
-use Rattle.std.proofs.Common.{◌≡◌, ℕ, zero, suc, ◌+◌, ◌*◌, ◌^◌, ◌<◌, ◌≤◌, IsTrue, List, [], ◌∷◌, ◌++◌, length, Option, Ok, Err, refl, arith}
+use Rattle.std.proofs.Common.{◌≡◌, ℕ, zero, suc, ◌+◌, ◌*◌, ◌^◌, ◌<◌, ◌≤◌, List, [], ◌∷◌, ◌++◌, length, Option, Ok, Err, refl, arith}
 use Rattle.std.specs.Prelude.{IfSome}
 use Rattle.std.specs.List.{AllByRecursion}
-use Rattle.std.proofs.lemmas.Bool.Decides.{nat_tests}
+use Rattle.ov_base.specs.declared.limits.TheConstants.{MAX_USERS, MAX_FILE_BYTES, MAX_SET_WORDS, MAX_RECORD_BYTES}
 use Rattle.ov_base.specs.Names.{IsName}
 use Rattle.ov_base.specs.Sets.{IsBelow, bytes_of}
 use Rattle.ov_tokens.specs.declared.token.Token.{Token}
 use Rattle.ov_fields.specs.Spelling.{u32, name_field, token_field, sized, optional, counted, IsToken}
-use Rattle.ov_fields.specs.Reading.{at_most}
 use Rattle.ov_fields.proofs.ReadingLaws.{AreBytes, Reads, then_reads}
 use Rattle.ov_fields.proofs.FieldLaws.{bytes_reads, number_reads, wide32}
 use Rattle.ov_fields.proofs.ListLaws.{counted_reads, sized_reads, optional_reads}
-use Rattle.ov_fields.proofs.NameLaws.{name_reads, token_reads}
+use Rattle.ov_fields.proofs.NameLaws.{longest_name, name_reads, token_reads}
 use Rattle.ov_fields.proofs.SetFields.{set_reads}
+use Rattle.ov_fields.proofs.TestLaws.{IsCount, count_is, is_count}
 use Rattle.ov_fields.proofs.KindLaws.{IsKind, kind_takes, kind_again, kind_near, kind_none}
 use Rattle.ov_record.specs.Updates.{SealedUpdate, SealedEnrol, SealedCreate, SealedGrant, SealedRevoke}
 use Rattle.ov_record.specs.Spelling.{spelling, HasForm, IsWithinLimits}
@@ -21,27 +21,17 @@ use Rattle.ov_record.specs.Reading.{creation, creation_at, grant, grant_at, revo
 abbrev creation_fields : ℕ → (((List ℕ × ℕ) × List Token) × List ℕ) × List ℕ → List ℕ
 creation_fields n f = name_field f.0.0.0.0 ++ bytes_of n f.0.0.0.1 ++ counted token_field f.0.0.1 ++ f.0.1 ++ sized f.1
 
--- a number of values, as its reader tests it
-abbrev IsCount : ℕ → ℕ → ℕ → Type 0
-IsCount limit most n = (n < limit) × IsTrue (at_most most n)
-
 abbrev CreationFits : ℕ → (((List ℕ × ℕ) × List Token) × List ℕ) × List ℕ → Type 0
 CreationFits n f =
-    (((IsName f.0.0.0.0 × IsBelow (8 * n) f.0.0.0.1) × (IsCount (2 ^ 16) 256 (length f.0.0.1) × AllByRecursion IsToken f.0.0.1)) × (length f.0.1 ≡ 32))
-    × (IsCount (2 ^ 32) 1048576 (length f.1) × Unit {0})
+    (((IsName f.0.0.0.0 × IsBelow (8 * n) f.0.0.0.1) × (IsCount (2 ^ 16) MAX_USERS (length f.0.0.1) × AllByRecursion IsToken f.0.0.1)) × (length f.0.1 ≡ 32))
+    × (IsCount (2 ^ 32) MAX_FILE_BYTES (length f.1) × Unit {0})
 
-creation_reads : (n : ℕ) → Reads (creation_at n) (creation_fields n) (CreationFits n) (65 + n + (2 + 256 * 32) + 32 + (4 + 1048576))
-creation_reads n = then_reads (then_reads (then_reads (then_reads name_reads (set_reads n)) (counted_reads 256 token_reads)) (bytes_reads 32)) (sized_reads 1048576)
-
-count_is : (limit most n : ℕ) → IsCount limit most n → n ≤ most
-count_is limit most n h = grind (arith, nat_tests)
-
-is_count : (limit most n : ℕ) → most < limit → n ≤ most → IsCount limit most n
-is_count limit most n lt le = (omega arith, grind (arith, nat_tests))
+creation_reads : (n : ℕ) → Reads (creation_at n) (creation_fields n) (CreationFits n) (longest_name + n + (2 + MAX_USERS * 32) + 32 + (4 + MAX_FILE_BYTES))
+creation_reads n = then_reads (then_reads (then_reads (then_reads name_reads (set_reads n)) (counted_reads MAX_USERS token_reads)) (bytes_reads 32)) (sized_reads MAX_FILE_BYTES)
 
 creation_kind : (n : ℕ) → IsKind (creation_fields n) (CreationFits n) (spelling n) (HasForm n) 2 creation
 creation_kind n = record {
-  form = λ f fits. (fits.0.0.0.0, fits.0.0.0.1, count_is (2 ^ 16) 256 (length f.0.0.1) fits.0.0.1.0, fits.0.0.1.1, fits.0.1, count_is (2 ^ 32) 1048576 (length f.1) fits.1.0);
+  form = λ f fits. (fits.0.0.0.0, fits.0.0.0.1, count_is (2 ^ 16) MAX_USERS (length f.0.0.1) fits.0.0.1.0, fits.0.0.1.1, fits.0.1, count_is (2 ^ 32) MAX_FILE_BYTES (length f.1) fits.1.0);
   spelled = λ f. refl;
 }
 
@@ -74,7 +64,7 @@ enrolment_kind n = record { form = λ name is. is; spelled = λ name. refl }
 
 -- no update has more bytes
 abbrev pub longest : ℕ → ℕ
-longest n = 1 + (65 + n + (2 + 256 * 32) + 32 + (4 + 1048576))
+longest n = 1 + (longest_name + n + (2 + MAX_USERS * 32) + 32 + (4 + MAX_FILE_BYTES))
 
 update_takes : (n : ℕ) (bytes : List ℕ) (x : SealedUpdate × List ℕ) → AreBytes bytes → update_at n bytes ≡ Ok x → HasForm n x.0 × (bytes ≡ spelling n x.0 ++ x.1)
 unfolding update_at
@@ -91,7 +81,7 @@ unfolding update_at
 update_again n (SealedEnrol name) rest fits = kind_again SealedEnrol name_reads name rest fits
 update_again n (SealedCreate name list tokens tag bytes) rest fits =
     kind_again creation (creation_reads n) ((((name, list), tokens), tag), bytes) rest
-    ((((fits.0, fits.1), (is_count (2 ^ 16) 256 (length tokens) (omega arith) fits.2, fits.3)), fits.4), (is_count (2 ^ 32) 1048576 (length bytes) (omega arith) fits.5, tt))
+    ((((fits.0, fits.1), (is_count (2 ^ 16) MAX_USERS (length tokens) (omega arith) fits.2, fits.3)), fits.4), (is_count (2 ^ 32) MAX_FILE_BYTES (length bytes) (omega arith) fits.5, tt))
 update_again n (SealedGrant user file token) rest fits = kind_again grant grant_reads ((user, file), token) rest ((fits.0, fits.1), fits.2)
 update_again n (SealedRevoke user file) rest fits = kind_again revocation revocation_reads (user, file) rest fits
 
@@ -109,7 +99,7 @@ update_short : (n : ℕ) (u : SealedUpdate) → HasForm n u → length (spelling
 update_short n (SealedEnrol name) fits = omega (arith, name_reads.short name fits)
 update_short n (SealedCreate name list tokens tag bytes) fits =
     let k = (creation_reads n).short ((((name, list), tokens), tag), bytes)
-    ((((fits.0, fits.1), (is_count (2 ^ 16) 256 (length tokens) (omega arith) fits.2, fits.3)), fits.4), (is_count (2 ^ 32) 1048576 (length bytes) (omega arith) fits.5, tt)) in
+    ((((fits.0, fits.1), (is_count (2 ^ 16) MAX_USERS (length tokens) (omega arith) fits.2, fits.3)), fits.4), (is_count (2 ^ 32) MAX_FILE_BYTES (length bytes) (omega arith) fits.5, tt)) in
     omega (arith, k)
 update_short n (SealedGrant user file token) fits =
     let k = grant_reads.short ((user, file), token) ((fits.0, fits.1), fits.2) in omega (arith, k)
@@ -129,3 +119,14 @@ within_limits n (SealedEnrol name) fits = tt
 within_limits n (SealedCreate name list tokens tag bytes) fits = (fits.2, fits.5)
 within_limits n (SealedGrant user file token) fits = tt
 within_limits n (SealedRevoke user file) fits = tt
+
+-- ---- how many bytes a spelling has
+
+pub some_bytes : (n : ℕ) (u : SealedUpdate) → 1 ≤ length (spelling n u)
+some_bytes n (SealedEnrol name) = omega arith
+some_bytes n (SealedCreate name list tokens tag bytes) = omega arith
+some_bytes n (SealedGrant user file token) = omega arith
+some_bytes n (SealedRevoke user file) = omega arith
+
+pub few_bytes : (n : ℕ) (u : SealedUpdate) → n ≤ 8 * MAX_SET_WORDS → HasForm n u → length (spelling n u) ≤ MAX_RECORD_BYTES
+few_bytes n u few fits = omega (arith, update_short n u fits)

@@ -8,7 +8,8 @@ use Rattle.ov_record.specs.declared.update.Update.TheVariants.{Enrol, Create, Gr
 -- the owner adds to it, which are the tokens, the file's tag, and its bytes in the base layer.
 pub data SealedUpdate : Type 0 where
   SealedEnrol : (name : List ℕ) → SealedUpdate
-  SealedCreate : (name : List ℕ) → (list : ℕ) → (tokens : List Token) → (tag bytes : List ℕ) → SealedUpdate
+  SealedCreate : (name : List ℕ) → (list : ℕ) → (tokens : List Token) → (tag bytes : List ℕ)
+      → SealedUpdate
   SealedGrant : (user file : ℕ) → (token : Option Token) → SealedUpdate
   SealedRevoke : (user file : ℕ) → SealedUpdate
 

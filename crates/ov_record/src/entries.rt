@@ -2,6 +2,7 @@
 
 ghost use Rattle.std.specs.Prelude.{◌≡◌, ◌≤◌, ◌*◌, ◌++◌, length, OnErr, OnOk};
 ghost use Rattle.std.specs.List.{flat_map};
+ghost use Rattle.ov_base.specs.declared.limits.TheConstants.{MAX_SET_WORDS};
 ghost use Rattle.ov_fields.specs.Entries.{access_entry, edge_field, file_entry, node_entry, user_entry};
 ghost use Rattle.ov_fields.specs.Spelling.{counted, optional, u32};
 
@@ -51,13 +52,13 @@ fn put_edge(edge: &Edge, out: &mut Vec<u8>) -> Result<(), Memory>
     put_token(&edge.token, out)
 }
 
-/// Appends the entry of a node of either layer, for a W from 1 to 1,024.
+/// Appends the entry of a node of either layer, for a W from 1 to `MAX_SET_WORDS`.
 pub fn node_entry<const W: usize>(
     set: &UserSet<W>,
     edges: &[Edge],
     out: &mut Vec<u8>,
 ) -> Result<(), Memory>
-    requires width { (1 ≤ W) × (W ≤ 1024) }
+    requires width { (1 ≤ W) × (W ≤ MAX_SET_WORDS) }
     requires edges { length edges.now ≤ 65535 }
     ensures ok { OnOk result (out.new.items
         ≡ out.old.items ++ node_entry (8 * W) set.now edges.now) }

@@ -2,6 +2,7 @@
 
 ghost use Rattle.std.specs.Prelude.{◌≡◌, ◌≤◌, ◌*◌, length, IfSome};
 ghost use Rattle.std.specs.List.{AllByRecursion};
+ghost use Rattle.ov_base.specs.declared.limits.TheConstants.{MAX_SET_WORDS};
 ghost use Rattle.ov_fields.specs.Spelling.{IsToken};
 ghost use Rattle.ov_base.specs.Sets.{IsBelow};
 ghost use Rattle.ov_base.specs.Names.{IsName};
@@ -43,7 +44,7 @@ fn is_token_or_none(token: &Option<Token>)
 
 /// What holds of each update within the limits: it has a spelling.
 pub fn has_form<const W: usize>(update: &Update<W>)
-    requires width { (1 ≤ W) × (W ≤ 1024) }
+    requires width { (1 ≤ W) × (W ≤ MAX_SET_WORDS) }
     requires limits { IsWithinLimits (sealed_update update.now) }
     ensures { HasForm (8 * W) (sealed_update update.now) }
 {

@@ -1,6 +1,7 @@
 //! Reading updates.
 
 ghost use Rattle.std.specs.Prelude.{◌≡◌, ◌≤◌, ◌*◌, length, IfOk, Ok};
+ghost use Rattle.ov_base.specs.declared.limits.TheConstants.{MAX_SET_WORDS, MAX_USERS};
 ghost use Rattle.ov_fields.specs.Answers.{Gives, GivesField, left_of};
 ghost use Rattle.ov_fields.specs.Reading.{all_of, counted_at, many_at, token_at, made};
 ghost use Rattle.ov_record.specs.Places.{place_of};
@@ -10,6 +11,7 @@ ghost use Rattle.ov_record.specs.Updates.{SealedUpdate, sealed_update};
 
 use crate::{RecordFault, Update};
 use ov_base::Octets;
+use ov_base::limits::{MAX_FILE_BYTES, MAX_USERS};
 use ov_fields::{
     FieldFault, take_name, take_set, take_sized, take_tag, take_token, take_token_or_none,
     take_u16_at_most, take_u32,
@@ -17,15 +19,11 @@ use ov_fields::{
 use ov_tokens::Tokens;
 use std::alloc::Global;
 
-const MAX_TOKENS: u16 = 256;
-
-const MAX_BYTES: u32 = 1_048_576;
-
 #[tactic(auto, unfolding(ov_fields::specs::Reading::counted_at))]
 fn take_tokens(alloc: Global, bytes: &[u8]) -> Result<(Tokens, &[u8]), FieldFault>
-    ensures { GivesField (λ t. t) result (counted_at 256 token_at bytes.now) }
+    ensures { GivesField (λ t. t) result (counted_at MAX_USERS token_at bytes.now) }
 {
-    let (count, rest) = take_u16_at_most(MAX_TOKENS, bytes)?;
+    let (count, rest) = take_u16_at_most(MAX_USERS as u16, bytes)?;
     take_all_tokens(alloc, count, rest)
 }
 
@@ -46,14 +44,14 @@ fn take_creation<const W: usize>(
     alloc: Global,
     bytes: &[u8],
 ) -> Result<(Update<W>, &[u8]), FieldFault>
-    requires { (1 ≤ W) × (W ≤ 1024) }
+    requires { (1 ≤ W) × (W ≤ MAX_SET_WORDS) }
     ensures { GivesField sealed_update result (made creation (creation_at (8 * W) bytes.now)) }
 {
     let (name, rest) = take_name(bytes)?;
     let (list, rest) = take_set(rest)?;
     let (tokens, rest) = take_tokens(alloc, rest)?;
     let (tag, rest) = take_tag(rest)?;
-    let (text, rest) = take_sized(MAX_BYTES, rest)?;
+    let (text, rest) = take_sized(MAX_FILE_BYTES, rest)?;
     let bytes = Octets::copy(alloc, text)?;
     let update = Update::Create {
         name,
@@ -87,7 +85,7 @@ fn take_update<const W: usize>(
     alloc: Global,
     bytes: &[u8],
 ) -> Result<(Update<W>, &[u8]), FieldFault>
-    requires { (1 ≤ W) × (W ≤ 1024) }
+    requires { (1 ≤ W) × (W ≤ MAX_SET_WORDS) }
     ensures { GivesField sealed_update result (update_at (8 * W) bytes.now) }
 {
     match bytes {
@@ -103,7 +101,7 @@ fn take_update<const W: usize>(
 }
 
 fn read_all<const W: usize>(alloc: Global, bytes: &[u8]) -> Result<Update<W>, FieldFault>
-    requires { (1 ≤ W) × (W ≤ 1024) }
+    requires { (1 ≤ W) × (W ≤ MAX_SET_WORDS) }
     ensures { Gives left_of sealed_update result (all_of (update_at (8 * W) bytes.now)) }
 {
     let (update, rest) = take_update(alloc, bytes)?;
@@ -113,9 +111,9 @@ fn read_all<const W: usize>(alloc: Global, bytes: &[u8]) -> Result<Update<W>, Fi
     Ok(update)
 }
 
-/// The update that the bytes spell, all of them, for a W from 1 to 1,024.
+/// The update that the bytes spell, all of them, for a W from 1 to `MAX_SET_WORDS`.
 pub fn read<const W: usize>(alloc: Global, bytes: &[u8]) -> Result<Update<W>, RecordFault>
-    requires { (1 ≤ W) × (W ≤ 1024) }
+    requires { (1 ≤ W) × (W ≤ MAX_SET_WORDS) }
     // What is read is spelled so.
     ensures found { IfOk result (λ u. HasForm (8 * W) (sealed_update u)
         × (bytes.now ≡ spelling (8 * W) (sealed_update u))) }

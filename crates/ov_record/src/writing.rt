@@ -2,6 +2,7 @@
 
 ghost use Rattle.std.specs.Prelude.{◌≡◌, ◌≤◌, ◌*◌, ◌++◌, length, OnErr, OnOk};
 ghost use Rattle.std.specs.List.{flat_map};
+ghost use Rattle.ov_base.specs.declared.limits.TheConstants.{MAX_SET_WORDS, MAX_USERS};
 ghost use Rattle.ov_fields.specs.Spelling.{counted, token_field};
 ghost use Rattle.ov_record.specs.Spelling.{spelling, body_of, HasForm, IsWithinLimits};
 ghost use Rattle.ov_record.specs.Updates.{sealed_update};
@@ -13,7 +14,7 @@ use ov_fields::{append, put_name, put_set, put_token, put_token_or_none, put_u16
 use ov_tokens::Token;
 
 fn put_tokens(tokens: &[Token], out: &mut Vec<u8>) -> Result<(), Memory>
-    requires { length tokens.now ≤ 256 }
+    requires { length tokens.now ≤ MAX_USERS }
     ensures { OnOk result (out.new.items ≡ out.old.items ++ counted token_field tokens.now) }
 {
     put_u16(tokens.len() as u16, out)?;
@@ -41,7 +42,7 @@ fn body<const W: usize>(update: &Update<W>) -> &[u8]
 
 /// Appends the spelling without the bytes of the file that is created.
 fn put_front<const W: usize>(update: &Update<W>, out: &mut Vec<u8>) -> Result<(), Memory>
-    requires width { (1 ≤ W) × (W ≤ 1024) }
+    requires width { (1 ≤ W) × (W ≤ MAX_SET_WORDS) }
     requires limits { IsWithinLimits (sealed_update update.now) }
     ensures { OnOk result (out.new.items ++ body_of (sealed_update update.now)
         ≡ out.old.items ++ spelling (8 * W) (sealed_update update.now)) }
@@ -80,9 +81,9 @@ fn put_front<const W: usize>(update: &Update<W>, out: &mut Vec<u8>) -> Result<()
     Ok(())
 }
 
-/// Appends the one spelling of the update, for a W from 1 to 1,024.
+/// Appends the one spelling of the update, for a W from 1 to `MAX_SET_WORDS`.
 pub fn write<const W: usize>(update: &Update<W>, out: &mut Vec<u8>) -> Result<(), Memory>
-    requires width { (1 ≤ W) × (W ≤ 1024) }
+    requires width { (1 ≤ W) × (W ≤ MAX_SET_WORDS) }
     requires limits { IsWithinLimits (sealed_update update.now) }
     ensures ok { OnOk result (out.new.items
         ≡ out.old.items ++ spelling (8 * W) (sealed_update update.now)) }

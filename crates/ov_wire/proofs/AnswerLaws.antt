@@ -1,105 +1,33 @@
 -- The reader of answers to a request reads exactly the spellings of those that are in its grammar.
-use Rattle.std.proofs.Common.{◌≡◌, ℕ, ◌+◌, ◌*◌, ◌^◌, ◌<◌, ◌≤◌, Bool, true, false, cond, IsTrue, List, [], ◌∷◌, ◌++◌, length, take, drop, Option, Some, None, Ok, Err, inl, inr, refl, sym, ap, subst, ◌∙◌, length-drop, eqb, eq-eqb, arith}
+use Rattle.std.proofs.Common.{◌≡◌, ℕ, ◌+◌, ◌^◌, ◌≤◌, List, [], ◌∷◌, length, take, drop, Option, Some, None, Ok, Err, refl, sym, ap, subst, ◌∙◌, length-drop, eqb, eq-eqb, arith}
 use Rattle.std.specs.Prelude.{IfSome}
 use Rattle.std.specs.List.{AllByRecursion}
 use Rattle.std.proofs.lemmas.Bool.{eqb-true}
 use Rattle.std.proofs.lemmas.List.{take_all}
-use Rattle.ov_base.specs.declared.mode.Mode.{Mode}
-use Rattle.ov_base.specs.declared.mode.Mode.TheVariants.{Full, Delta}
+use Rattle.ov_base.specs.declared.limits.TheConstants.{MAX_USERS, MAX_CHUNK_BYTES}
 use Rattle.ov_base.specs.declared.refusal.Refusal.{Refusal}
 use Rattle.ov_base.specs.declared.refusal.Refusal.TheVariants.{NoFile}
-use Rattle.ov_base.specs.Modes.{mode_byte}
-use Rattle.ov_base.specs.Sets.{IsBelow, bytes_of}
 use Rattle.ov_tokens.specs.declared.chain.Chain.{Chain}
-use Rattle.ov_fields.specs.Spelling.{u8, u32, flag, optional, counted, IsOneOf}
-use Rattle.ov_fields.specs.Reading.{making, all_of, by_rows, at_most}
-use Rattle.ov_fields.proofs.ReadingLaws.{AreBytes, done, Reads, then_reads}
-use Rattle.ov_fields.proofs.FieldLaws.{bytes_reads, number_reads, wide32}
-use Rattle.ov_fields.proofs.ListLaws.{counted_reads, optional_reads}
-use Rattle.ov_fields.proofs.SetFields.{set_reads}
-use Rattle.ov_fields.proofs.TagLaws.{nothing_reads}
+use Rattle.ov_fields.specs.Spelling.{IsOneOf}
+use Rattle.ov_fields.specs.Reading.{making, all_of, by_rows}
+use Rattle.ov_fields.proofs.ReadingLaws.{AreBytes, done}
+use Rattle.ov_fields.proofs.FieldLaws.{test_ok, test_err, test_again}
+use Rattle.ov_fields.proofs.TagLaws.{nothing_reads, each_flag}
+use Rattle.ov_fields.proofs.TestLaws.{count_is, is_count}
 use Rattle.ov_fields.proofs.RowLaws.{RowReads, row_reads, row_again, rows_take, rows_near}
 use Rattle.ov_wire.specs.declared.request.Request.{Request}
 use Rattle.ov_wire.specs.declared.request.Request.TheVariants as requests
 use Rattle.ov_wire.specs.declared.answer.Answer.{Answer}
 use Rattle.ov_wire.specs.declared.answer.Answer.TheVariants as answers
 use Rattle.ov_wire.specs.AnswerBytes.{answer_bytes, HasAnswerCounts}
-use Rattle.ov_wire.specs.AnswerReading.{bare, refused, welcome, welcome_at, known, known_at, plan, plan_at, chained, chained_at, up_to, answer_rows}
-use Rattle.ov_wire.specs.AnswersTo.{IsAnswer, create_refusals, read_refusals, ask_refusals, update_refusals, most_file, most_node, most_chunk, wants_of}
-use Rattle.ov_wire.specs.Chains.{chain_field, IsChain, base_kinds, surface_kinds}
-use Rattle.ov_wire.specs.Entries.{IsNode}
-use Rattle.ov_wire.specs.Requests.{names_file, AreNames}
-use Rattle.ov_wire.specs.Updates.{Has32}
-use Rattle.ov_wire.proofs.ChainLaws.{chain_reads}
+use Rattle.ov_wire.specs.AnswerReading.{bare, refused, welcome, known, plan, chained, up_to, answer_rows}
+use Rattle.ov_wire.specs.AnswersTo.{IsAnswer, create_refusals, read_refusals, ask_refusals, update_refusals, most_chunk}
+use Rattle.ov_wire.specs.Chains.{IsChain, surface_kinds}
+use Rattle.ov_wire.specs.Requests.{AreNames}
 use Rattle.ov_wire.proofs.EntryLaws.{entry_or_none_reads}
 use Rattle.ov_wire.proofs.NamesLaws.{AreFewNames, names_reads}
-use Rattle.ov_wire.proofs.NumberLaws.{at_most_reads, node_reads, greater_reads, next_reads, flag_reads, mode_reads, refusal_reads, le_of, of_le}
-
-welcome_reads : Reads welcome_at (λ f. u8 (mode_byte f.0.0) ++ u32 f.0.1 ++ f.1) (λ f. (IsOneOf f.0.0 (Full ∷ Delta ∷ []) × (f.0.1 < 2 ^ 32)) × Has32 f.1) (1 + 4 + 32)
-welcome_reads = then_reads (then_reads (mode_reads (Full ∷ Delta ∷ [])) (number_reads wide32)) (bytes_reads 32)
-
-each_mode : (m : Mode) → IsOneOf m (Full ∷ Delta ∷ [])
-each_mode Full = inl refl
-each_mode Delta = inr (inl refl)
-
-each_flag : (b : Bool) → IsOneOf b (false ∷ true ∷ [])
-each_flag false = inl refl
-each_flag true = inr (inl refl)
-
-either_small : (b : Bool) (n : ℕ) → n < 2 ^ 32 → cond b n 0 < 2 ^ 32
-either_small true n h = h
-either_small false n h = omega arith
-
-abbrev KnownFields : Type 0
-KnownFields = (((((ℕ × ℕ) × ℕ) × ℕ) × ℕ) × ℕ) × Bool
-
-abbrev known_fields : KnownFields → List ℕ
-known_fields f = u32 f.0.0.0.0.0.0 ++ u32 f.0.0.0.0.0.1 ++ u32 f.0.0.0.0.1 ++ u32 f.0.0.0.1 ++ u32 f.0.0.1 ++ u32 f.0.1 ++ u8 (flag f.1)
-
-abbrev KnownFits : ℕ → KnownFields → Type 0
-KnownFits verb f =
-    ((((((f.0.0.0.0.0.0 < 2 ^ 32) × (f.0.0.0.0.0.1 ≤ 255)) × IsNode f.0.0.0.0.1) × IsNode f.0.0.0.1) × (f.0.0.1 ≤ most_file verb)) × (f.0.1 ≤ most_node verb)) × IsOneOf f.1 (wants_of verb)
-
-known_reads : (verb : ℕ) → Reads (known_at verb) known_fields (KnownFits verb) (4 + 4 + 4 + 4 + 4 + 4 + 1)
-known_reads verb =
-    then_reads (then_reads (then_reads (then_reads (then_reads (then_reads (number_reads wide32) (at_most_reads 255 (omega arith))) node_reads) node_reads)
-    (at_most_reads (most_file verb) (either_small (names_file verb) 16383 (omega arith)))) (at_most_reads (most_node verb) (either_small (names_file verb) 4095 (omega arith)))) (flag_reads (wants_of verb))
-
-abbrev PlanFields : Type 0
-PlanFields = ((((ℕ × ℕ) × ℕ) × ℕ) × Bool) × List ℕ
-
-abbrev plan_fields : PlanFields → List ℕ
-plan_fields f = u32 f.0.0.0.0.0 ++ u32 f.0.0.0.0.1 ++ bytes_of 32 f.0.0.0.1 ++ u32 f.0.0.1 ++ u8 (flag f.0.1) ++ counted u32 f.1
-
-abbrev PlanFits : PlanFields → Type 0
-PlanFits f =
-    (((((f.0.0.0.0.0 < 2 ^ 32) × (f.0.0.0.0.1 ≤ 16383)) × IsBelow 256 f.0.0.0.1) × IsNode f.0.0.1) × IsOneOf f.0.1 (false ∷ true ∷ []))
-    × (((length f.1 < 2 ^ 16) × IsTrue (at_most 256 (length f.1))) × AllByRecursion IsNode f.1)
-
-plan_reads : Reads plan_at plan_fields PlanFits (4 + 4 + 32 + 4 + 1 + (2 + 256 * 4))
-plan_reads =
-    then_reads (then_reads (then_reads (then_reads (then_reads (number_reads wide32) (at_most_reads 16383 (omega arith))) (set_reads 32)) node_reads) (flag_reads (false ∷ true ∷ []))) (counted_reads 256 node_reads)
-
-abbrev ChainedFields : Type 0
-ChainedFields = (((((ℕ × ℕ) × ℕ) × ℕ) × List ℕ) × Chain) × Option Chain
-
-abbrev chained_fields : ChainedFields → List ℕ
-chained_fields f =
-    u32 f.0.0.0.0.0.0 ++ u32 f.0.0.0.0.0.1 ++ u32 f.0.0.0.0.1 ++ u32 f.0.0.0.1 ++ f.0.0.1 ++ chain_field f.0.1 ++ optional chain_field f.1
-
-abbrev ChainedFits : ChainedFields → Type 0
-ChainedFits f =
-    ((((((f.0.0.0.0.0.0 < 2 ^ 32) × (f.0.0.0.0.0.1 ≤ 16383)) × (f.0.0.0.0.1 ≤ 1048576)) × (f.0.0.0.1 < 2 ^ 32)) × Has32 f.0.0.1) × IsChain base_kinds f.0.1)
-    × IfSome f.1 (IsChain surface_kinds)
-
--- no chain has more bytes
-abbrev longest_chain : ℕ
-longest_chain = 4 + (2 + 65535 * 37)
-
-chained_reads : Reads chained_at chained_fields ChainedFits (4 + 4 + 4 + 4 + 32 + longest_chain + (1 + longest_chain))
-chained_reads =
-    then_reads (then_reads (then_reads (then_reads (then_reads (then_reads (number_reads wide32) (at_most_reads 16383 (omega arith))) (at_most_reads 1048576 (omega arith)))
-    (number_reads wide32)) (bytes_reads 32)) (chain_reads base_kinds)) (optional_reads (chain_reads surface_kinds))
+use Rattle.ov_wire.proofs.NumberLaws.{greater_reads, next_reads, refusal_reads}
+use Rattle.ov_wire.proofs.AnswerFields.{welcome_reads, each_mode, known_reads, plan_reads, chained_reads}
 
 -- ---- rows
 
@@ -113,38 +41,26 @@ bare_row request kind answer is spelled = row_reads kind (λ n. answer) most_byt
 refused_row : (request : Request) (refusals : List Refusal) → ((r : Refusal) → IsOneOf r refusals → IsAnswer request (answers.Refused r)) → RowReads answer_bytes (IsAnswer request) most_bytes (refused refusals)
 refused_row request refusals form = row_reads 0x88 answers.Refused most_bytes (refusal_reads refusals) (omega arith) (record { form = form; spelled = λ r. refl })
 
-ended_is : {A : Type 0} (b : Bool) (left : ℕ) (x y : A) → cond b (Ok x) (Err left) ≡ Ok y → (b ≡ true) × (x ≡ y)
-ended_is true left x y e = (refl, cc)
-ended_is false left x y e = absurd cc
-
-ended_not : {A : Type 0} (b : Bool) (n left : ℕ) (x : A) → cond b (Ok x) (Err n) ≡ Err left → n ≡ left
-ended_not true n left x e = absurd cc
-ended_not false n left x e = cc
-
-ended_so : {A : Type 0} (b : Bool) (left : ℕ) (x : A) → b ≡ true → cond b (done x) (Err left) ≡ Ok x
-ended_so true left x e = refl
-ended_so false left x e = absurd cc
-
-bytes_row : (request : Request) (n : ℕ) → n ≤ 65536 → ((bytes : List ℕ) → length bytes ≤ n → IsAnswer request (answers.Bytes bytes))
+bytes_row : (request : Request) (n : ℕ) → n ≤ MAX_CHUNK_BYTES → ((bytes : List ℕ) → length bytes ≤ n → IsAnswer request (answers.Bytes bytes))
     → RowReads answer_bytes (IsAnswer request) most_bytes (0x86, making answers.Bytes (up_to n))
 bytes_row request n small form = record {
   takes = λ bytes u fits e.
-      let end = ended_is (eqb (length (drop n bytes)) 0) (length (drop n bytes)) (answers.Bytes (take n bytes)) u e in
+      let end = test_ok (eqb (length (drop n bytes)) 0) (length (drop n bytes)) (answers.Bytes (take n bytes)) u e in
       let none : length (drop n bytes) ≡ 0 = eqb-true _ _ end.0 in
       let few : length bytes ≤ n = omega (arith, length-drop n bytes, none) in
       let all : take n bytes ≡ bytes = take_all n bytes few in
       subst (λ (v : Answer). IsAnswer request v × (0x86 ∷ bytes ≡ answer_bytes v)) (ap answers.Bytes (sym all) ∙ end.1) (form bytes few, refl);
   near = λ bytes left fits e.
-      let is : length (drop n bytes) ≡ left = ended_not (eqb (length (drop n bytes)) 0) (length (drop n bytes)) left (answers.Bytes (take n bytes)) e in
+      let is : length (drop n bytes) ≡ left = test_err (eqb (length (drop n bytes)) 0) (length (drop n bytes)) left (answers.Bytes (take n bytes)) e in
       (omega (arith, length-drop n bytes, is), omega (arith, length-drop n bytes, is));
 }
 
 bytes_again : (n : ℕ) (bytes : List ℕ) → length bytes ≤ n → all_of (making answers.Bytes (up_to n) bytes) ≡ Ok (answers.Bytes bytes)
 bytes_again n bytes few =
     let none : length (drop n bytes) ≡ 0 = omega (arith, length-drop n bytes) in
-    ended_so (eqb (length (drop n bytes)) 0) (length (drop n bytes)) (answers.Bytes (take n bytes)) (eq-eqb _ _ none) ∙ ap (λ (t : List ℕ). done (answers.Bytes t)) (take_all n bytes few)
+    test_again (eqb (length (drop n bytes)) 0) (length (drop n bytes)) (answers.Bytes (take n bytes)) (eq-eqb _ _ none) ∙ ap (λ (t : List ℕ). done (answers.Bytes t)) (take_all n bytes few)
 
-names_few : (names : List (List ℕ)) → AreFewNames 256 names → (length names ≤ 256) × AreNames names
+names_few : (names : List (List ℕ)) → AreFewNames MAX_USERS names → (length names ≤ MAX_USERS) × AreNames names
 names_few names fits = (fits.few, fits.are_names)
 
 rows_read : (request : Request) → AllByRecursion (RowReads answer_bytes (IsAnswer request) most_bytes) (answer_rows request)
@@ -152,17 +68,17 @@ rows_read requests.Hello = (
   row_reads 0x81 welcome most_bytes welcome_reads (omega arith) (record { form = λ f fits. (fits.0.1, fits.1); spelled = λ f. refl }),
   (bare_row requests.Hello 0x8e answers.NoMemory tt refl, tt),
 )
-rows_read (requests.Ask verb user file) = (
-  row_reads 0x82 known most_bytes (known_reads verb) (omega arith)
+rows_read (requests.Ask question) = (
+  row_reads 0x82 known most_bytes (known_reads question) (omega arith)
       (record { form = λ f fits. (fits.0.0.0.0.0.0, fits.0.0.0.0.0.1, fits.0.0.0.0.1, fits.0.0.0.1, fits.0.0.1, fits.0.1, fits.1); spelled = λ f. refl }),
   (
-    refused_row (requests.Ask verb user file) (ask_refusals verb) (λ r is. is),
-    (bare_row (requests.Ask verb user file) 0x8e answers.NoMemory tt refl, tt),
+    refused_row (requests.Ask question) (ask_refusals question) (λ r is. is),
+    (bare_row (requests.Ask question) 0x8e answers.NoMemory tt refl, tt),
   ),
 )
 rows_read (requests.Cover file len names) = (
   row_reads 0x83 plan most_bytes plan_reads (omega arith)
-      (record { form = λ f fits. (fits.0.0.0.0.0, fits.0.0.0.0.1, fits.0.0.0.1, fits.0.0.1, le_of 256 (length f.1) fits.1.0.1, fits.1.1); spelled = λ f. refl }),
+      (record { form = λ f fits. (fits.0.0.0.0.0, fits.0.0.0.0.1, fits.0.0.0.1, fits.0.0.1, count_is (2 ^ 16) MAX_USERS (length f.1) fits.1.0, fits.1.1); spelled = λ f. refl }),
   (
     refused_row (requests.Cover file len names) create_refusals (λ r is. is),
     (bare_row (requests.Cover file len names) 0x8e answers.NoMemory tt refl, tt),
@@ -210,7 +126,7 @@ rows_read (requests.Page part number) = (
   (bare_row (requests.Page part number) 0x8e answers.NoMemory tt refl, tt),
 )
 rows_read (requests.List file) = (
-  row_reads 0x8f answers.Listed most_bytes (names_reads 256 (omega arith)) (omega arith) (record { form = names_few; spelled = λ names. refl }),
+  row_reads 0x8f answers.Listed most_bytes (names_reads MAX_USERS (omega arith)) (omega arith) (record { form = names_few; spelled = λ names. refl }),
   (
     refused_row (requests.List file) (NoFile ∷ []) (λ r is. is),
     (bare_row (requests.List file) 0x8e answers.NoMemory tt refl, tt),
@@ -228,34 +144,35 @@ answer_near request = rows_near answer_bytes (IsAnswer request) most_bytes (answ
 -- what is spelled so is read
 pub answer_again : (request : Request) (answer : Answer) → IsAnswer request answer → all_of (by_rows (answer_rows request) (answer_bytes answer)) ≡ Ok answer
 answer_again requests.Hello answers.NoMemory is = refl
-answer_again (requests.Ask verb user file) answers.NoMemory is = refl
+answer_again (requests.Ask question) answers.NoMemory is = refl
 answer_again (requests.Cover file len names) answers.NoMemory is = refl
 answer_again (requests.Update epoch spelling tag) answers.NoMemory is = refl
 answer_again (requests.Chain user file) answers.NoMemory is = refl
 answer_again (requests.Chunk file generation start count) answers.NoMemory is = refl
 answer_again (requests.Page part number) answers.NoMemory is = refl
 answer_again (requests.List file) answers.NoMemory is = refl
-answer_again requests.Hello (answers.Welcome mode epoch check) is = row_again welcome welcome_reads ((mode, epoch), check) ((each_mode mode, is.0), is.1)
-answer_again (requests.Ask verb u f) (answers.Known epoch user base_root surface_root file node wants) is =
-    row_again known (known_reads verb) ((((((epoch, user), base_root), surface_root), file), node), wants) ((((((is.0, is.1), is.2), is.3), is.4), is.5), is.6)
-answer_again (requests.Ask verb u f) (answers.Refused refusal) is = row_again answers.Refused (refusal_reads (ask_refusals verb)) refusal is
-answer_again (requests.Cover f l ns) (answers.Plan epoch file list node fresh from) is =
-    row_again plan plan_reads (((((epoch, file), list), node), fresh), from) (((((is.0, is.1), is.2), is.3), each_flag fresh), ((omega (arith, is.4), of_le 256 (length from) is.4), is.5))
+answer_again requests.Hello (answers.Welcome w) is = row_again welcome welcome_reads ((w.mode, w.epoch), w.base_check) ((each_mode w.mode, is.0), is.1)
+answer_again (requests.Ask question) (answers.Known k) is =
+    row_again known (known_reads question) ((((((k.epoch, k.user), k.base_root), k.surface_root), k.file), k.node), k.wants) ((((((is.0, is.1), is.2), is.3), is.4), is.5), is.6)
+answer_again (requests.Ask question) (answers.Refused refusal) is = row_again answers.Refused (refusal_reads (ask_refusals question)) refusal is
+answer_again (requests.Cover f l ns) (answers.Plan p) is =
+    row_again plan plan_reads (((((p.epoch, p.file), p.list), p.node), p.fresh), p.from)
+    (((((is.0, is.1), is.2), is.3), each_flag p.fresh), (is_count (2 ^ 16) MAX_USERS (length p.from) (omega arith) is.4, is.5))
 answer_again (requests.Cover f l ns) (answers.Refused refusal) is = row_again answers.Refused (refusal_reads create_refusals) refusal is
 answer_again (requests.Update made_at spelling tag) (answers.Accepted epoch) is = row_again answers.Accepted (next_reads made_at) epoch is
 answer_again (requests.Update made_at spelling tag) (answers.Refused refusal) is = row_again answers.Refused (refusal_reads (update_refusals spelling)) refusal is
 answer_again (requests.Update made_at spelling tag) (answers.Stale epoch) is = row_again answers.Stale (greater_reads made_at) epoch is
 answer_again (requests.Update made_at spelling tag) answers.BadTag is = refl
 answer_again (requests.Update made_at spelling tag) answers.DeviceFault is = refl
-answer_again (requests.Chain u f) (answers.Chained epoch file len generation tag base surface) is =
-    row_again chained chained_reads ((((((epoch, file), len), generation), tag), base), surface) ((((((is.0, is.1), is.2), is.3), is.4), is.5), is.6)
+answer_again (requests.Chain u f) (answers.Chained c) is =
+    row_again chained chained_reads ((((((c.epoch, c.file), c.length), c.generation), c.tag), c.base), c.surface) ((((((is.0, is.1), is.2), is.3), is.4), is.5), is.6)
 answer_again (requests.Chain u f) (answers.Refused refusal) is = row_again answers.Refused (refusal_reads read_refusals) refusal is
 answer_again (requests.Chunk f asked start count) (answers.Bytes bytes) is = bytes_again (most_chunk count) bytes is
 answer_again (requests.Chunk f asked start count) (answers.Refused refusal) is = row_again answers.Refused (refusal_reads (NoFile ∷ [])) refusal is
 answer_again (requests.Chunk f asked start count) (answers.Moved generation) is = row_again answers.Moved (greater_reads asked) generation is
 answer_again (requests.Chunk f asked start count) answers.DeviceFault is = refl
 answer_again (requests.Page part number) (answers.PageOf entry) is = row_again answers.PageOf (entry_or_none_reads part) entry is
-answer_again (requests.List file) (answers.Listed names) is = row_again answers.Listed (names_reads 256 (omega arith)) names (record { few = is.0; are_names = is.1 })
+answer_again (requests.List file) (answers.Listed names) is = row_again answers.Listed (names_reads MAX_USERS (omega arith)) names (record { few = is.0; are_names = is.1 })
 answer_again (requests.List file) (answers.Refused refusal) is = row_again answers.Refused (refusal_reads (NoFile ∷ [])) refusal is
 answer_again request answer is = absurd is
 
@@ -266,11 +183,11 @@ few_steps None is = tt
 few_steps (Some chain) is = omega (arith, is.1.0)
 
 pub answer_counts : (request : Request) (answer : Answer) → IsAnswer request answer → HasAnswerCounts answer
-answer_counts (requests.Cover f l ns) (answers.Plan epoch file list node fresh from) is = omega (arith, is.4)
-answer_counts (requests.Chain u f) (answers.Chained epoch file len generation tag base surface) is = (omega (arith, is.5.1.0), few_steps surface is.6)
+answer_counts (requests.Cover f l ns) (answers.Plan plan) is = omega (arith, is.4)
+answer_counts (requests.Chain u f) (answers.Chained chained) is = (omega (arith, is.5.1.0), few_steps chained.surface is.6)
 answer_counts (requests.List file) (answers.Listed names) is = omega (arith, is.0)
-answer_counts request (answers.Welcome mode epoch check) is = tt
-answer_counts request (answers.Known epoch user base_root surface_root file node wants) is = tt
+answer_counts request (answers.Welcome welcome) is = tt
+answer_counts request (answers.Known known) is = tt
 answer_counts request (answers.Accepted epoch) is = tt
 answer_counts request (answers.Bytes bytes) is = tt
 answer_counts request (answers.PageOf entry) is = tt

@@ -16,7 +16,7 @@ use Rattle.ov_wire.proofs.NumberLaws.{node_reads, kind_reads}
 abbrev step_parts : Step → (Kind × ℕ) × Token
 step_parts s = ((s.to.kind, s.to.number), s.token)
 
-step_reads : (kinds : List Kind) → Reads (step_at kinds) step_field (IsStep kinds) (1 + 4 + 32)
+pub step_reads : (kinds : List Kind) → Reads (step_at kinds) step_field (IsStep kinds) (1 + 4 + 32)
 step_reads kinds =
     refit (IsStep kinds)
     (made_reads step step_parts (λ f. refl) (λ s. refl) (then_reads (then_reads (kind_reads kinds) node_reads) token_reads))

@@ -2,6 +2,7 @@
 use Rattle.std.proofs.Common.{◌≡◌, ℕ, zero, suc, ◌+◌, ◌*◌, ◌-◌, ◌^◌, ◌<◌, ◌≤◌, Bool, true, false, cond, IsTrue, List, [], ◌∷◌, ◌++◌, length, Option, Some, None, Result, Ok, Err, refl, sym, ap, ◌∙◌, arith}
 use Rattle.std.specs.Prelude.{IfSome}
 use Rattle.std.specs.List.{AllByRecursion}
+use Rattle.ov_base.specs.declared.limits.TheConstants.{MAX_USERS, MAX_FILE_BYTES}
 use Rattle.ov_base.specs.Names.{IsName}
 use Rattle.ov_base.specs.Sets.{IsBelow, bytes_of, set_of_bytes}
 use Rattle.ov_tokens.specs.declared.token.Token.{Token}
@@ -15,10 +16,11 @@ use Rattle.ov_fields.proofs.ListLaws.{counted_reads, optional_reads, Reads-more}
 use Rattle.ov_fields.proofs.NameLaws.{name_reads, token_reads}
 use Rattle.ov_fields.proofs.SetFields.{set_reads}
 use Rattle.ov_fields.proofs.TagLaws.{spanned_reads}
+use Rattle.ov_fields.proofs.TestLaws.{le_of, of_le, between_of, IsCount, count_is, is_count}
 use Rattle.ov_wire.specs.Updates.{plain}
-use Rattle.ov_wire.specs.Entries.{Entry, User, Node, Access, File, entry_bytes, IsNode, IsEdge, IsOfPart, IsEntry, user_entry_at, user, edge_at, edge, node_entry_at, node, access_entry_at, access, file_entry_at, file, entry_at}
+use Rattle.ov_wire.specs.Entries.{Entry, User, Node, Access, File, entry_bytes, IsNode, IsEdge, IsNodeEntry, IsOfPart, IsEntry, user_entry_at, user, edge_at, edge, node_entry_at, node, access_entry_at, access, file_entry_at, file, entry_at}
 use Rattle.ov_wire.specs.AnswerReading.{entry_or_none_at}
-use Rattle.ov_wire.proofs.NumberLaws.{node_reads, at_most_reads, le_of, of_le, between_of}
+use Rattle.ov_wire.proofs.NumberLaws.{node_reads, at_most_reads, below_reads}
 
 edge_reads : Reads edge_at edge_field IsEdge (4 + 32)
 edge_reads = made_reads edge (λ e. (e.from, e.token)) (λ f. refl) (λ e. refl) (then_reads node_reads token_reads)
@@ -50,46 +52,49 @@ abbrev NodeFields : Type 0
 NodeFields = ℕ × List Edge
 
 abbrev NodeFits : NodeFields → Type 0
-NodeFits f = IsBelow 256 f.0 × (((length f.1 < 2 ^ 16) × IsTrue (at_most 256 (length f.1))) × AllByRecursion IsEdge f.1)
+NodeFits f = IsBelow MAX_USERS f.0 × (IsCount (2 ^ 16) MAX_USERS (length f.1) × AllByRecursion IsEdge f.1)
 
-back_node : (set : ℕ) (edges : List Edge) → IsBelow 256 set → length edges ≤ 256 → AllByRecursion IsEdge edges → NodeFits (set, edges)
-back_node set edges below few all = (below, ((omega (arith, few), of_le 256 (length edges) few), all))
+back_node : (set : ℕ) (edges : List Edge) → IsNodeEntry set edges → NodeFits (set, edges)
+back_node set edges is = (is.0, (is_count (2 ^ 16) MAX_USERS (length edges) (omega arith) is.1, is.2))
+
+node_is : (f : NodeFields) → NodeFits f → IsNodeEntry f.0 f.1
+node_is f fits = (fits.0, count_is (2 ^ 16) MAX_USERS (length f.1) fits.1.0, fits.1.1)
 
 back_node_2 : (e : Entry) → IsOfPart 2 e → (f : NodeFields) × NodeFits f × (node f ≡ e)
 back_node_2 (User name base_root surface_root) is = absurd is
-back_node_2 (Node set edges) is = ((set, edges), back_node set edges is.0 is.1 is.2, refl)
+back_node_2 (Node set edges) is = ((set, edges), back_node set edges is, refl)
 back_node_2 (Access u n token) is = absurd is
 back_node_2 (File name n len generation tag surface) is = absurd is
 
 back_node_3 : (e : Entry) → IsOfPart 3 e → (f : NodeFields) × NodeFits f × (node f ≡ e)
 back_node_3 (User name base_root surface_root) is = absurd is
-back_node_3 (Node set edges) is = ((set, edges), back_node set edges is.0 is.1 is.2, refl)
+back_node_3 (Node set edges) is = ((set, edges), back_node set edges is, refl)
 back_node_3 (Access u n token) is = absurd is
 back_node_3 (File name n len generation tag surface) is = absurd is
 
 abbrev node_fields : NodeFields → List ℕ
 node_fields f = bytes_of 32 f.0 ++ counted edge_field f.1
 
-node_entry_reads : Reads node_entry_at node_fields NodeFits (32 + (2 + 256 * (4 + 32)))
-node_entry_reads = then_reads (set_reads 32) (counted_reads 256 edge_reads)
+node_entry_reads : Reads node_entry_at node_fields NodeFits (32 + (2 + MAX_USERS * (4 + 32)))
+node_entry_reads = then_reads (set_reads 32) (counted_reads MAX_USERS edge_reads)
 
 node_2_reads : Reads (making node node_entry_at) entry_bytes (IsOfPart 2) longest_entry
 node_2_reads =
     Reads-more
-    (made_into node entry_bytes (IsOfPart 2) node_entry_reads (λ f fits. (fits.0, le_of 256 (length f.1) fits.1.0.1, fits.1.1)) (λ f fits. refl) back_node_2)
+    (made_into node entry_bytes (IsOfPart 2) node_entry_reads node_is (λ f fits. refl) back_node_2)
     longest_entry (omega arith)
 
 node_3_reads : Reads (making node node_entry_at) entry_bytes (IsOfPart 3) longest_entry
 node_3_reads =
     Reads-more
-    (made_into node entry_bytes (IsOfPart 3) node_entry_reads (λ f fits. (fits.0, le_of 256 (length f.1) fits.1.0.1, fits.1.1)) (λ f fits. refl) back_node_3)
+    (made_into node entry_bytes (IsOfPart 3) node_entry_reads node_is (λ f fits. refl) back_node_3)
     longest_entry (omega arith)
 
 abbrev AccessFields : Type 0
 AccessFields = (ℕ × ℕ) × Token
 
 abbrev AccessFits : AccessFields → Type 0
-AccessFits f = ((f.0.0 ≤ 255) × IsNode f.0.1) × IsToken f.1
+AccessFits f = ((f.0.0 < MAX_USERS) × IsNode f.0.1) × IsToken f.1
 
 back_access : (e : Entry) → IsOfPart 4 e → (f : AccessFields) × AccessFits f × (access f ≡ e)
 back_access (User name base_root surface_root) is = absurd is
@@ -100,7 +105,7 @@ back_access (File name n len generation tag surface) is = absurd is
 access_reads : Reads (making access access_entry_at) entry_bytes (IsOfPart 4) longest_entry
 access_reads =
     Reads-more
-    (made_into access entry_bytes (IsOfPart 4) (then_reads (then_reads (at_most_reads 255 (omega arith)) node_reads) token_reads)
+    (made_into access entry_bytes (IsOfPart 4) (then_reads (then_reads (below_reads MAX_USERS (omega arith)) node_reads) token_reads)
     (λ f fits. (fits.0.0, fits.0.1, fits.1)) (λ f fits. refl) back_access)
     longest_entry (omega arith)
 
@@ -109,7 +114,7 @@ FileFields = ((((List ℕ × ℕ) × ℕ) × ℕ) × List ℕ) × Option ℕ
 
 abbrev FileFits : FileFields → Type 0
 FileFits f =
-    ((((IsName f.0.0.0.0.0 × IsNode f.0.0.0.0.1) × (f.0.0.0.1 ≤ 1048576)) × (f.0.0.1 < 2 ^ 32)) × (length f.0.1 ≡ 32)) × IfSome f.1 IsNode
+    ((((IsName f.0.0.0.0.0 × IsNode f.0.0.0.0.1) × (f.0.0.0.1 ≤ MAX_FILE_BYTES)) × (f.0.0.1 < 2 ^ 32)) × (length f.0.1 ≡ 32)) × IfSome f.1 IsNode
 
 back_file : (e : Entry) → IsOfPart 5 e → (f : FileFields) × FileFits f × (file f ≡ e)
 back_file (User name base_root surface_root) is = absurd is
@@ -122,7 +127,7 @@ file_reads : Reads (making file file_entry_at) entry_bytes (IsOfPart 5) longest_
 file_reads =
     Reads-more
     (made_into file entry_bytes (IsOfPart 5)
-    (then_reads (then_reads (then_reads (then_reads (then_reads name_reads node_reads) (at_most_reads 1048576 (omega arith))) (number_reads wide32)) (bytes_reads 32)) (optional_reads node_reads))
+    (then_reads (then_reads (then_reads (then_reads (then_reads name_reads node_reads) (at_most_reads MAX_FILE_BYTES (omega arith))) (number_reads wide32)) (bytes_reads 32)) (optional_reads node_reads))
     (λ f fits. (fits.0.0.0.0.0, fits.0.0.0.0.1, fits.0.0.0.1, fits.0.0.1, fits.0.1, fits.1)) (λ f fits. refl) back_file)
     longest_entry (omega arith)
 
@@ -246,5 +251,5 @@ twice set (Ok x) = refl
 twice set (Err left) = refl
 
 -- a node's edges stand behind its set
-pub rest-node : (bytes rest : List ℕ) (text : List ℕ) → bytes_at 32 bytes ≡ Ok (text, rest) → rest_of (making node node_entry_at bytes) ≡ rest_of (counted_at 256 edge_at rest)
-rest-node bytes rest text e = rw e (twice (set_of_bytes text) (counted_at 256 edge_at rest))
+pub rest-node : (bytes rest : List ℕ) (text : List ℕ) → bytes_at 32 bytes ≡ Ok (text, rest) → rest_of (making node node_entry_at bytes) ≡ rest_of (counted_at MAX_USERS edge_at rest)
+rest-node bytes rest text e = rw e (twice (set_of_bytes text) (counted_at MAX_USERS edge_at rest))

@@ -1,14 +1,15 @@
 -- The reader of an update's fields reads exactly their bytes.
-use Rattle.std.proofs.Common.{◌≡◌, ℕ, zero, suc, ◌+◌, ◌*◌, ◌/◌, ◌^◌, ◌<◌, ◌≤◌, IsTrue, List, [], ◌∷◌, ◌++◌, length, Option, Ok, Err, refl, arith}
+use Rattle.std.proofs.Common.{◌≡◌, ℕ, zero, suc, ◌+◌, ◌*◌, ◌/◌, ◌^◌, ◌<◌, ◌≤◌, List, [], ◌∷◌, ◌++◌, length, Option, Ok, Err, refl, arith}
 use Rattle.std.specs.Prelude.{IfSome}
-use Rattle.std.proofs.lemmas.Bool.Decides.{nat_tests}
+use Rattle.ov_base.specs.declared.limits.TheConstants.{MAX_USERS, MAX_FILE_BYTES}
 use Rattle.ov_base.specs.Names.{IsName}
 use Rattle.ov_fields.specs.Spelling.{u32, name_field, sized, optional}
 use Rattle.ov_fields.specs.Reading.{at_most, bytes_at}
 use Rattle.ov_fields.proofs.ReadingLaws.{AreBytes, Reads, then_reads, given_reads, sized_by}
 use Rattle.ov_fields.proofs.FieldLaws.{bytes_reads, number_reads, that_reads, wide16, wide32}
 use Rattle.ov_fields.proofs.ListLaws.{sized_reads, optional_reads, Reads-more}
-use Rattle.ov_fields.proofs.NameLaws.{name_reads}
+use Rattle.ov_fields.proofs.NameLaws.{longest_name, name_reads}
+use Rattle.ov_fields.proofs.TestLaws.{IsCount, count_is, is_count}
 use Rattle.ov_fields.proofs.TagLaws.{spanned_reads}
 use Rattle.ov_fields.proofs.KindLaws.{IsKind, kind_takes, kind_again, kind_near, kind_none}
 use Rattle.ov_wire.specs.Updates.{Fields, Enrolment, Creation, Grant, Revocation, plain, Has32, token_fields, AreTokens, tokens_at, fields_bytes, HasFields, IsSpelling, creation, creation_at, grant, grant_at, revocation, revocation_at, fields_at}
@@ -17,20 +18,10 @@ use Rattle.ov_wire.specs.RequestReading.{spelling_at}
 abbrev creation_fields : (((List ℕ × List ℕ) × List ℕ) × List ℕ) × List ℕ → List ℕ
 creation_fields f = name_field f.0.0.0.0 ++ f.0.0.0.1 ++ token_fields f.0.0.1 ++ f.0.1 ++ sized f.1
 
--- a number of values, as its reader tests it
-abbrev IsCount : ℕ → ℕ → ℕ → Type 0
-IsCount limit most n = (n < limit) × IsTrue (at_most most n)
-
 abbrev CreationFits : (((List ℕ × List ℕ) × List ℕ) × List ℕ) × List ℕ → Type 0
 CreationFits f =
-    (((IsName f.0.0.0.0 × Has32 f.0.0.0.1) × AreTokens 256 f.0.0.1) × Has32 f.0.1)
-    × (IsCount (2 ^ 32) 1048576 (length f.1) × Unit {0})
-
-count_is : (limit most n : ℕ) → IsCount limit most n → n ≤ most
-count_is limit most n h = grind (arith, nat_tests)
-
-is_count : (limit most n : ℕ) → most < limit → n ≤ most → IsCount limit most n
-is_count limit most n lt le = (omega arith, grind (arith, nat_tests))
+    (((IsName f.0.0.0.0 × Has32 f.0.0.0.1) × AreTokens MAX_USERS f.0.0.1) × Has32 f.0.1)
+    × (IsCount (2 ^ 32) MAX_FILE_BYTES (length f.1) × Unit {0})
 
 -- the bytes of so many tokens
 blocks_reads : (n : ℕ) → Reads (bytes_at (32 * n)) plain (sized_by (λ tokens. length tokens ≡ 32 * (length tokens / 32)) (λ tokens. length tokens / 32) n) (32 * n)
@@ -55,12 +46,12 @@ tokens_reads most small =
       short = λ tokens fits. R.short tokens (is_count (2 ^ 16) most (length tokens / 32) small fits.1, fits.0);
     }
 
-creation_reads : Reads creation_at creation_fields CreationFits (65 + 32 + (2 + 32 * 256) + 32 + (4 + 1048576))
-creation_reads = then_reads (then_reads (then_reads (then_reads name_reads (bytes_reads 32)) (tokens_reads 256 (omega arith))) (bytes_reads 32)) (sized_reads 1048576)
+creation_reads : Reads creation_at creation_fields CreationFits (longest_name + 32 + (2 + 32 * MAX_USERS) + 32 + (4 + MAX_FILE_BYTES))
+creation_reads = then_reads (then_reads (then_reads (then_reads name_reads (bytes_reads 32)) (tokens_reads MAX_USERS (omega arith))) (bytes_reads 32)) (sized_reads MAX_FILE_BYTES)
 
 creation_kind : IsKind creation_fields CreationFits fields_bytes HasFields 2 creation
 creation_kind = record {
-  form = λ f fits. (fits.0.0.0.0, fits.0.0.0.1, fits.0.0.1, fits.0.1, count_is (2 ^ 32) 1048576 (length f.1) fits.1.0);
+  form = λ f fits. (fits.0.0.0.0, fits.0.0.0.1, fits.0.0.1, fits.0.1, count_is (2 ^ 32) MAX_FILE_BYTES (length f.1) fits.1.0);
   spelled = λ f. refl;
 }
 
@@ -93,7 +84,7 @@ enrolment_kind = record { form = λ name is. is; spelled = λ name. refl }
 
 -- no update has more bytes
 abbrev pub longest : ℕ
-longest = 1056904
+longest = 1 + (longest_name + 32 + (2 + 32 * MAX_USERS) + 32 + (4 + MAX_FILE_BYTES))
 
 fields_takes : (bytes : List ℕ) (x : Fields × List ℕ) → AreBytes bytes → fields_at bytes ≡ Ok x → HasFields x.0 × (bytes ≡ fields_bytes x.0 ++ x.1)
 unfolding fields_at
@@ -110,7 +101,7 @@ creation_values name list tokens tag bytes = ((((name, list), tokens), tag), byt
 
 creation_fits : (name list tokens tag bytes : List ℕ) → HasFields (Creation name list tokens tag bytes) → CreationFits (creation_values name list tokens tag bytes)
 creation_fits name list tokens tag bytes fits =
-    ((((fits.0, fits.1), fits.2), fits.3), (is_count (2 ^ 32) 1048576 (length bytes) (omega arith) fits.4, tt))
+    ((((fits.0, fits.1), fits.2), fits.3), (is_count (2 ^ 32) MAX_FILE_BYTES (length bytes) (omega arith) fits.4, tt))
 
 fields_again : (f : Fields) (rest : List ℕ) → HasFields f → fields_at (fields_bytes f ++ rest) ≡ Ok (f, rest)
 unfolding fields_at

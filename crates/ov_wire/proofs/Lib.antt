@@ -1,9 +1,14 @@
+pub mod AnswerFields
+pub mod AnswerForms
 pub mod AnswerLaws
 pub mod ChainLaws
 pub mod EntryLaws
 pub mod FieldsLaws
 pub mod FrameLaws
+pub mod LongFrames
 pub mod NamesLaws
 pub mod NumberLaws
 pub mod Putting
+pub mod QuestionLaws
 pub mod RequestLaws
+pub mod StreamLaws

@@ -1,10 +1,10 @@
 -- Lists of names of which none comes twice.
-use Rattle.std.proofs.Common.{◌≡◌, ℕ, zero, suc, ◌+◌, ◌*◌, ◌^◌, ◌<◌, ◌≤◌, Bool, true, false, cond, ◌||◌, not, IsTrue, List, [], ◌∷◌, ◌++◌, length, ◌-◌, Option, Some, None, Ok, Err, refl, sym, ap, subst, ◌∙◌, append_assoc, length-append, mul-le-mul_right, arith}
+use Rattle.std.proofs.Common.{◌≡◌, ℕ, zero, suc, ◌+◌, ◌*◌, ◌^◌, ◌<◌, ◌≤◌, Bool, true, false, cond, ◌||◌, not, List, [], ◌∷◌, ◌++◌, length, ◌-◌, Option, Some, None, Ok, Err, refl, sym, ap, subst, ◌∙◌, append_assoc, length-append, mul-le-mul_right, arith}
 use Rattle.std.specs.List.{flat_map, AllByRecursion, IsDistinct}
 use Rattle.std.specs.Str.{bytes_eq}
 use Rattle.std.proofs.lemmas.List.Folds.{list_any-append}
 use Rattle.std.proofs.lemmas.Slice.Eq.{bytes_eq-Decides}
-use Rattle.std.proofs.lemmas.Bool.Decides.{nat_tests}
+use Rattle.std.proofs.lemmas.Bool.{or_parts, false_from_ne_true}
 use Rattle.std.specs.Prelude.{IfSome}
 use Rattle.std.proofs.lemmas.List.{append-nil}
 use Rattle.ov_base.specs.Names.{IsName}
@@ -12,10 +12,11 @@ use Rattle.ov_base.specs.NameLists.{is_among, appended, with_name}
 use Rattle.ov_fields.specs.Spelling.{name_field, counted}
 use Rattle.ov_fields.specs.Reading.{Read, ◌>>=◌, at_most, name_at}
 use Rattle.ov_fields.proofs.ReadingLaws.{AreBytes, AreBytes-back, bind_ok, bind_err, fails_first, fails_later, done, ok_is, no_error, Reads, given_reads, sized_by}
-use Rattle.ov_fields.proofs.Loops.{with_front}
+use Rattle.ov_fields.proofs.Loops.{with_front, regroup}
 use Rattle.ov_fields.proofs.FieldLaws.{wide16, that_reads}
 use Rattle.ov_fields.proofs.ListLaws.{Reads-more}
-use Rattle.ov_fields.proofs.NameLaws.{name_reads}
+use Rattle.ov_fields.proofs.NameLaws.{longest_name, name_reads}
+use Rattle.ov_fields.proofs.TestLaws.{le_of, of_le}
 use Rattle.ov_wire.specs.Requests.{AreNames}
 use Rattle.ov_wire.specs.RequestReading.{new_names_at, names_at}
 
@@ -65,7 +66,7 @@ seen_near true n left count seen bytes e P one two = one cc
 seen_near false n left count seen bytes e P one two = two e
 
 new_near : (count : ℕ) (seen : List (List ℕ)) (bytes : List ℕ) (left : ℕ) → AreBytes bytes → new_names_at count seen bytes ≡ Err left
-    → (left ≤ length bytes) × (length bytes ≤ left + count * 65)
+    → (left ≤ length bytes) × (length bytes ≤ left + count * longest_name)
 unfolding new_names_at
 new_near zero seen bytes left fits e = absurd cc
 new_near (suc count) seen bytes left fits e =
@@ -76,13 +77,13 @@ new_near (suc count) seen bytes left fits e =
           let sum : length bytes ≡ length (name_field a.0) + length a.1 = ap length one.1 ∙ length-append (name_field a.0) a.1 in
           let few = name_reads.short a.0 one.0 in
           let later = no_error (others_at (is_among a.0 seen) (length bytes) count (seen ++ a.0 ∷ []) a.1) (behind a.0) left more in
-          seen_near (is_among a.0 seen) (length bytes) left count (seen ++ a.0 ∷ []) a.1 later ((left ≤ length bytes) × (length bytes ≤ left + suc count * 65))
+          seen_near (is_among a.0 seen) (length bytes) left count (seen ++ a.0 ∷ []) a.1 later ((left ≤ length bytes) × (length bytes ≤ left + suc count * longest_name))
           (λ same. (omega arith, omega arith))
           (λ bad. let k = new_near count (seen ++ a.0 ∷ []) a.1 left (AreBytes-back (name_field a.0) a.1 (subst AreBytes one.1 fits)) bad in
           (omega (arith, k.0), omega (arith, k.1)))
     ]
 
-new_short : (seen names : List (List ℕ)) → AreNew seen names → length (flat_map name_field names) ≤ length names * 65
+new_short : (seen names : List (List ℕ)) → AreNew seen names → length (flat_map name_field names) ≤ length names * longest_name
 new_short seen [] new = omega arith
 new_short seen (name ∷ names) new =
     let k = new_short (seen ++ name ∷ []) names new.2 in
@@ -96,17 +97,9 @@ either_false : (a b : Bool) → a ≡ false → b ≡ false → (a || b) ≡ fal
 either_false true b p q = absurd cc
 either_false false b p q = q
 
-neither : (a b : Bool) → (a || b) ≡ false → (a ≡ false) × (b ≡ false)
-neither true b e = absurd cc
-neither false b e = (refl, e)
-
-never_true : (b : Bool) → (b ≡ true → ⊥) → b ≡ false
-never_true true h = absurd (h refl)
-never_true false h = refl
-
 other_way : (a b : List ℕ) → bytes_eq a b ≡ false → bytes_eq b a ≡ false
 other_way a b ne =
-    never_true (bytes_eq b a)
+    false_from_ne_true (bytes_eq b a)
     (λ is. let same : b ≡ a = (bytes_eq-Decides b a).0 is in let yes : bytes_eq a b ≡ true = (bytes_eq-Decides a b).1 (sym same) in cc)
 
 among_more : (y : List ℕ) (seen : List (List ℕ)) (name : List ℕ) → is_among y (seen ++ name ∷ []) ≡ (is_among y seen || (bytes_eq y name || false))
@@ -127,8 +120,8 @@ none_less : (seen : List (List ℕ)) (name : List ℕ) (names : List (List ℕ))
 none_less seen name [] none = (tt, tt)
 none_less seen name (y ∷ names) none =
     let more = none_less seen name names none.1 in
-    let both = neither (is_among y seen) (bytes_eq y name || false) (sym (among_more y seen name) ∙ none.0) in
-    let this = (neither (bytes_eq y name) false both.1).0 in
+    let both = or_parts (is_among y seen) (bytes_eq y name || false) (sym (among_more y seen name) ∙ none.0) in
+    let this = (or_parts (bytes_eq y name) false both.1).0 in
     ((both.0, more.0), (other_way y name this, more.1))
 
 are_new : (seen names : List (List ℕ)) → AllByRecursion IsName names → IsDistinct bytes_eq names → NoneSeen seen names → AreNew seen names
@@ -151,18 +144,12 @@ no_names_seen (name ∷ names) = (refl, no_names_seen names)
 
 -- ---- names behind their number
 
-at_most_le : (most n : ℕ) → IsTrue (at_most most n) → n ≤ most
-at_most_le most n h = grind (arith, nat_tests)
-
-is_at_most : (most n : ℕ) → n ≤ most → IsTrue (at_most most n)
-is_at_most most n h = grind (arith, nat_tests)
-
-new_reads : (n : ℕ) → Reads (new_names_at n []) (flat_map name_field) (sized_by (AreNew []) length n) (n * 65)
+new_reads : (n : ℕ) → Reads (new_names_at n []) (flat_map name_field) (sized_by (AreNew []) length n) (n * longest_name)
 new_reads n = record {
   takes = new_takes n [];
   again = λ names rest fits. subst (λ (k : ℕ). new_names_at k [] (flat_map name_field names ++ rest) ≡ Ok (names, rest)) fits.1 (new_again [] names rest fits.0);
   near = new_near n [];
-  short = λ names fits. subst (λ (k : ℕ). length (flat_map name_field names) ≤ k * 65) fits.1 (new_short [] names fits.0);
+  short = λ names fits. subst (λ (k : ℕ). length (flat_map name_field names) ≤ k * longest_name) fits.1 (new_short [] names fits.0);
 }
 
 -- at most so many names
@@ -170,28 +157,24 @@ pub record AreFewNames (most : ℕ) (names : List (List ℕ)) : Type 0 where
   pub few : length names ≤ most
   pub are_names : AreNames names
 
-pub names_reads : (most : ℕ) → most < 2 ^ 16 → Reads (names_at most) (counted name_field) (AreFewNames most) (2 + most * 65)
+pub names_reads : (most : ℕ) → most < 2 ^ 16 → Reads (names_at most) (counted name_field) (AreFewNames most) (2 + most * longest_name)
 unfolding names_at
 names_reads most small =
-    let R = given_reads (λ n. new_names_at n []) (flat_map name_field) (AreNew []) length (most * 65) (that_reads wide16 (at_most most))
-    (λ n h. Reads-more (new_reads n) (most * 65) (mul-le-mul_right 65 (at_most_le most n h.1))) in
+    let R = given_reads (λ n. new_names_at n []) (flat_map name_field) (AreNew []) length (most * longest_name) (that_reads wide16 (at_most most))
+    (λ n h. Reads-more (new_reads n) (most * longest_name) (mul-le-mul_right longest_name (le_of most n h.1))) in
     record {
       takes = λ bytes x fits e.
           let t = R.takes bytes x fits e in
           let n = new_are [] x.0 t.0.1 in
-          (record { few = at_most_le most (length x.0) t.0.0.1; are_names = (n.0, n.1) }, t.1);
+          (record { few = le_of most (length x.0) t.0.0.1; are_names = (n.0, n.1) }, t.1);
       again = λ names rest fits.
-          R.again names rest ((omega (arith, fits.few), is_at_most most (length names) fits.few), are_new [] names fits.are_names.0 fits.are_names.1 (no_names_seen names));
+          R.again names rest ((omega (arith, fits.few), of_le most (length names) fits.few), are_new [] names fits.are_names.0 fits.are_names.1 (no_names_seen names));
       near = R.near;
       short = λ names fits.
-          R.short names ((omega (arith, fits.few), is_at_most most (length names) fits.few), are_new [] names fits.are_names.0 fits.are_names.1 (no_names_seen names));
+          R.short names ((omega (arith, fits.few), of_le most (length names) fits.few), are_new [] names fits.are_names.0 fits.are_names.1 (no_names_seen names));
     }
 
 -- ---- reading names one after the other, as a loop does
-
-regroup : (front : List (List ℕ)) (name : List ℕ) (read : Read (List (List ℕ))) → with_front front (read >>= λ x. Ok (name ∷ x.0, x.1)) ≡ with_front (front ++ name ∷ []) read
-regroup front name (Ok x) = ap (λ (l : List (List ℕ)). Ok (l, x.1)) (simp append_assoc)
-regroup front name (Err left) = refl
 
 pub goes_on : (front : List (List ℕ)) (count i : ℕ) (bytes name after : List ℕ) (total : Read (List (List ℕ))) → i < count → name_at bytes ≡ Ok (name, after) → is_among name front ≡ false
     → with_front front (new_names_at (count - i) front bytes) ≡ total → with_front (front ++ name ∷ []) (new_names_at (count - (i + 1)) (front ++ name ∷ []) after) ≡ total

@@ -1,7 +1,7 @@
 -- Numbers within limits, and values that a byte tells.
-use Rattle.std.proofs.Common.{◌≡◌, ℕ, ◌+◌, ◌^◌, ◌<◌, ◌≤◌, Bool, true, false, cond, eqb, IsTrue, List, refl, sym, ap, ◌∙◌, arith}
+use Rattle.std.proofs.Common.{◌≡◌, ℕ, ◌+◌, ◌^◌, ◌<◌, ◌≤◌, cond, eqb, List, refl, sym, ap, ◌∙◌, arith}
 use Rattle.std.specs.Int.{w32}
-use Rattle.std.proofs.lemmas.Bool.Decides.{nat_tests}
+use Rattle.ov_base.specs.declared.limits.TheConstants.{MAX_LAYER_NODES}
 use Rattle.ov_base.specs.declared.mode.Mode.{Mode}
 use Rattle.ov_base.specs.declared.mode.Mode.TheVariants.{Full, Delta}
 use Rattle.ov_base.specs.declared.refusal.Refusal.{Refusal}
@@ -11,31 +11,23 @@ use Rattle.ov_base.specs.Refusals.{refusal_number}
 use Rattle.ov_tokens.specs.declared.label.Kind.{Kind}
 use Rattle.ov_tokens.specs.declared.label.Kind.TheVariants.{Derive, Access, Surface}
 use Rattle.ov_tokens.specs.Labels.{tag_of}
-use Rattle.ov_fields.specs.Spelling.{u8, u32, flag, IsOneOf}
-use Rattle.ov_fields.specs.Reading.{at_most, between, number_that, one_of_at}
+use Rattle.ov_fields.specs.Spelling.{u8, u32, IsOneOf}
+use Rattle.ov_fields.specs.Reading.{at_most, below, between, number_that, one_of_at}
 use Rattle.ov_fields.proofs.ReadingLaws.{Reads, refit}
 use Rattle.ov_fields.proofs.FieldLaws.{that_reads, wide32}
 use Rattle.ov_fields.proofs.TagLaws.{one_of_reads}
+use Rattle.ov_fields.proofs.TestLaws.{le_of, of_le, lt_of, of_lt, between_of, of_between}
 use Rattle.ov_wire.specs.Entries.{IsNode, node_at}
 use Rattle.ov_wire.specs.AnswerReading.{greater_at, next_at}
-
-pub le_of : (most n : ℕ) → IsTrue (at_most most n) → n ≤ most
-le_of most n h = grind (arith, nat_tests)
-
-pub of_le : (most n : ℕ) → n ≤ most → IsTrue (at_most most n)
-of_le most n h = grind (arith, nat_tests)
-
-pub between_of : (least most n : ℕ) → IsTrue (between least most n) → (least ≤ n) × (n ≤ most)
-between_of least most n h = (grind (arith, nat_tests), grind (arith, nat_tests))
-
-pub of_between : (least most n : ℕ) → least ≤ n → n ≤ most → IsTrue (between least most n)
-of_between least most n h k = grind (arith, nat_tests)
 
 pub at_most_reads : (most : ℕ) → most < 2 ^ 32 → Reads (number_that w32 (at_most most)) u32 (λ n. n ≤ most) 4
 at_most_reads most small = refit (λ n. n ≤ most) (that_reads wide32 (at_most most)) (λ n h. le_of most n h.1) (λ n le. (omega (arith, le), of_le most n le))
 
+pub below_reads : (limit : ℕ) → limit ≤ 2 ^ 32 → Reads (number_that w32 (below limit)) u32 (λ n. n < limit) 4
+below_reads limit small = refit (λ n. n < limit) (that_reads wide32 (below limit)) (λ n h. lt_of limit n h.1) (λ n lt. (omega (arith, lt), of_lt limit n lt))
+
 pub node_reads : Reads node_at u32 IsNode 4
-node_reads = at_most_reads 4095 (omega arith)
+node_reads = below_reads MAX_LAYER_NODES (omega arith)
 
 pub greater_reads : (n : ℕ) → Reads (greater_at n) u32 (λ k. (n < k) × (k < 2 ^ 32)) 4
 greater_reads n =
@@ -50,17 +42,6 @@ next_reads n =
     (λ k h. (h.1, of_between (n + 1) (n + 1) k (omega (arith, h.0)) (omega (arith, h.0))))
 
 -- ---- bytes that tell a value
-
-flag_back : ℕ → Bool
-flag_back n = eqb n 1
-
-back-flag : (b : Bool) → flag_back (flag b) ≡ b
-unfolding flag_back
-back-flag true = refl
-back-flag false = refl
-
-pub flag_reads : (values : List Bool) → Reads (one_of_at flag values) (λ b. u8 (flag b)) (λ b. IsOneOf b values) 1
-flag_reads values = one_of_reads flag values (λ a b e. sym (back-flag a) ∙ ap flag_back e ∙ back-flag b)
 
 mode_back : ℕ → Mode
 mode_back n = cond (eqb n 0) Full Delta

@@ -4,21 +4,44 @@ use Rattle.ov_base.specs.Modes.{mode_byte}
 use Rattle.ov_base.specs.Refusals.{refusal_number}
 use Rattle.ov_base.specs.Sets.{bytes_of}
 use Rattle.ov_fields.specs.Spelling.{u8, u32, flag, name_field, optional, counted}
+use Rattle.ov_wire.specs.declared.answer.Welcome.{Welcome}
+use Rattle.ov_wire.specs.declared.answer.Known.{Known}
+use Rattle.ov_wire.specs.declared.answer.Plan.{Plan}
+use Rattle.ov_wire.specs.declared.answer.Chained.{Chained}
 use Rattle.ov_wire.specs.declared.answer.Answer.{Answer}
 use Rattle.ov_wire.specs.declared.answer.Answer.TheVariants as answers
 use Rattle.ov_wire.specs.Updates.{plain}
 use Rattle.ov_wire.specs.Chains.{chain_field}
 
+-- mode, epoch and check value
+abbrev pub welcome_bytes : Welcome → List ℕ
+welcome_bytes welcome = u8 (mode_byte welcome.mode) ++ u32 welcome.epoch ++ welcome.base_check
+
+-- the numbers, and whether an access token is wanted
+abbrev pub known_bytes : Known → List ℕ
+known_bytes known =
+    u32 known.epoch ++ u32 known.user ++ u32 known.base_root ++ u32 known.surface_root
+    ++ u32 known.file ++ u32 known.node ++ u8 (flag known.wants)
+
+-- the set in 32 bytes, between numbers, and the starts of edges
+abbrev pub plan_bytes : Plan → List ℕ
+plan_bytes plan =
+    u32 plan.epoch ++ u32 plan.file ++ bytes_of 32 plan.list ++ u32 plan.node
+    ++ u8 (flag plan.fresh) ++ counted u32 plan.from
+
+-- the numbers, the tag, and the chains
+abbrev pub chained_bytes : Chained → List ℕ
+chained_bytes chained =
+    u32 chained.epoch ++ u32 chained.file ++ u32 chained.length ++ u32 chained.generation
+    ++ chained.tag ++ chain_field chained.base ++ optional chain_field chained.surface
+
 -- a kind byte, and the answer's fields in order
 abbrev pub answer_bytes : Answer → List ℕ
-answer_bytes (answers.Welcome mode epoch check) = 0x81 ∷ u8 (mode_byte mode) ++ u32 epoch ++ check
-answer_bytes (answers.Known epoch user base_root surface_root file node wants) =
-    0x82 ∷ u32 epoch ++ u32 user ++ u32 base_root ++ u32 surface_root ++ u32 file ++ u32 node ++ u8 (flag wants)
-answer_bytes (answers.Plan epoch file list node fresh from) =
-    0x83 ∷ u32 epoch ++ u32 file ++ bytes_of 32 list ++ u32 node ++ u8 (flag fresh) ++ counted u32 from
+answer_bytes (answers.Welcome welcome) = 0x81 ∷ welcome_bytes welcome
+answer_bytes (answers.Known known) = 0x82 ∷ known_bytes known
+answer_bytes (answers.Plan plan) = 0x83 ∷ plan_bytes plan
 answer_bytes (answers.Accepted epoch) = 0x84 ∷ u32 epoch
-answer_bytes (answers.Chained epoch file len generation tag base surface) =
-    0x85 ∷ u32 epoch ++ u32 file ++ u32 len ++ u32 generation ++ tag ++ chain_field base ++ optional chain_field surface
+answer_bytes (answers.Chained chained) = 0x85 ∷ chained_bytes chained
 answer_bytes (answers.Bytes bytes) = 0x86 ∷ bytes
 answer_bytes (answers.PageOf entry) = 0x87 ∷ optional plain entry
 answer_bytes (answers.Refused refusal) = 0x88 ∷ u8 (refusal_number refusal)
@@ -32,8 +55,10 @@ answer_bytes (answers.Listed names) = 0x8f ∷ counted name_field names
 
 -- what a caller sees to before it writes an answer: each number of values fits its field
 abbrev pub HasAnswerCounts : Answer → Type 0
-HasAnswerCounts (answers.Plan epoch file list node fresh from) = length from ≤ 65535
-HasAnswerCounts (answers.Chained epoch file len generation tag base surface) = (length base.steps ≤ 65535) × IfSome surface (λ chain. length chain.steps ≤ 65535)
+HasAnswerCounts (answers.Plan plan) = length plan.from ≤ 65535
+HasAnswerCounts (answers.Chained chained) =
+    (length chained.base.steps ≤ 65535)
+    × IfSome chained.surface (λ chain. length chain.steps ≤ 65535)
 HasAnswerCounts (answers.Listed names) = length names ≤ 65535
 HasAnswerCounts answer = Unit {0}
 

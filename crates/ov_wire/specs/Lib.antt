@@ -1,10 +1,12 @@
 pub mod AnswerBytes
+pub mod AnswerForm
 pub mod AnswerReading
 pub mod AnswersTo
 pub mod Chains
 pub mod Cutting
 pub mod Entries
 pub mod Frames
+pub mod Laws
 pub mod Places
 pub mod RequestReading
 pub mod Requests

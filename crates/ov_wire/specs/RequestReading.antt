@@ -1,35 +1,32 @@
 -- Reading requests from left to right.
-use Rattle.std.specs.Prelude.{ℕ, zero, suc, Bool, true, false, List, [], ◌∷◌, ◌++◌, length, Option, Some, None, Result, Ok, Err, if◌then◌else◌}
+use Rattle.std.specs.Prelude.{ℕ, zero, suc, List, [], ◌∷◌, ◌++◌, length, Result, Ok, Err, if◌then◌else◌}
 use Rattle.std.specs.Int.{w16, w32}
+use Rattle.ov_base.specs.declared.limits.TheConstants.{MAX_FILE_BYTES, MAX_CHUNK_BYTES}
 use Rattle.ov_base.specs.NameLists.{is_among}
 use Rattle.ov_fields.specs.Reading.{Read, ◌>>=◌, ◌>>◌, made, spanned, all_of, making, by_rows, placed, any, at_most, between, byte_at, bytes_at, number_at, number_that, name_at, nothing_at}
+use Rattle.ov_wire.specs.declared.request.Question.{Question}
+use Rattle.ov_wire.specs.declared.request.Question.TheVariants as questions
 use Rattle.ov_wire.specs.declared.request.Request.{Request}
 use Rattle.ov_wire.specs.declared.request.Request.TheVariants as requests
 use Rattle.ov_wire.specs.Updates.{fields_at}
-use Rattle.ov_wire.specs.Requests.{is_verb, names_file}
+use Rattle.ov_wire.specs.Places.{in_frame}
 
--- the verb of an Ask, and the names that it has
-abbrev pub AskFields : Type 0
-AskFields = (ℕ × Option (List ℕ)) × Option (List ℕ)
+-- the command of these names, by its verb
+abbrev pub grant : List ℕ × List ℕ → Question
+grant (user, file) = questions.Grant user file
 
-abbrev pub of_user : ℕ → List ℕ → AskFields
-of_user verb user = ((verb, Some user), None)
+-- the same of a revocation
+abbrev pub revoke : List ℕ × List ℕ → Question
+revoke (user, file) = questions.Revoke user file
 
-abbrev pub of_both : ℕ → List ℕ × List ℕ → AskFields
-of_both verb names = ((verb, Some names.0), Some names.1)
-
--- the names of an Ask with this verb, where it names a file and where it doesn't
-abbrev pub ask_names_at : Bool → ℕ → List ℕ → Read AskFields
-ask_names_at true verb bytes = made (of_both verb) ((name_at >> name_at) bytes)
-ask_names_at false verb bytes = made (of_user verb) (name_at bytes)
-
-unfoldable pub ask_at : List ℕ → Read AskFields
-ask_at bytes = do
-  verb ← byte_at is_verb bytes
-  ask_names_at (names_file verb.0) verb.0 verb.1
-
-abbrev pub ask : AskFields → Request
-ask f = requests.Ask f.0.0 f.0.1 f.1
+-- a verb, 1 enrol, 3 grant, 4 revoke or 5 key, and the names that the command has
+unfoldable pub question_at : List ℕ → Read Question
+question_at [] = Err 0
+question_at (suc zero ∷ bytes) = made questions.Enrol (name_at bytes)
+question_at (suc (suc (suc zero)) ∷ bytes) = made grant ((name_at >> name_at) bytes)
+question_at (suc (suc (suc (suc zero))) ∷ bytes) = made revoke ((name_at >> name_at) bytes)
+question_at (suc (suc (suc (suc (suc zero)))) ∷ bytes) = made questions.Key (name_at bytes)
+question_at (verb ∷ bytes) = Err (length (verb ∷ bytes))
 
 -- So many names of which none is among the ones that were seen or comes twice. One that does is
 -- wrong at its length byte.
@@ -37,7 +34,8 @@ unfoldable pub new_names_at : ℕ → List (List ℕ) → List ℕ → Read (Lis
 new_names_at zero seen bytes = Ok ([], bytes)
 new_names_at (suc count) seen bytes = do
   name ← name_at bytes
-  others ← if is_among name.0 seen then Err (length bytes) else new_names_at count (seen ++ name.0 ∷ []) name.1
+  others ← if is_among name.0 seen then Err (length bytes)
+      else new_names_at count (seen ++ name.0 ∷ []) name.1
   Ok (name.0 ∷ others.0, others.1)
 
 -- at most so many names behind their number
@@ -46,45 +44,57 @@ names_at most bytes = do
   count ← number_that w16 (at_most most) bytes
   new_names_at count.0 [] count.1
 
+-- name, length and names of a Cover
 abbrev pub cover_at : List ℕ → Read ((List ℕ × ℕ) × List (List ℕ))
-cover_at = name_at >> number_that w32 (at_most 1048576) >> names_at 65535
+cover_at = name_at >> number_that w32 (at_most MAX_FILE_BYTES) >> names_at 65535
 
+-- the Cover with these fields
 abbrev pub cover : (List ℕ × ℕ) × List (List ℕ) → Request
-cover f = requests.Cover f.0.0 f.0.1 f.1
+cover ((file, len), names) = requests.Cover file len names
 
 -- an update's spelling, as it stands
 abbrev pub spelling_at : List ℕ → Read (List ℕ)
 spelling_at = spanned fields_at
 
+-- epoch, spelling and tag of an Update
 abbrev pub update_at : List ℕ → Read ((ℕ × List ℕ) × List ℕ)
 update_at = number_at w32 >> spelling_at >> bytes_at 32
 
+-- the Update with these fields
 abbrev pub update : (ℕ × List ℕ) × List ℕ → Request
-update f = requests.Update f.0.0 f.0.1 f.1
+update ((epoch, spelling), tag) = requests.Update epoch spelling tag
 
+-- user and file of a Chain
 abbrev pub chain_at : List ℕ → Read (List ℕ × List ℕ)
 chain_at = name_at >> name_at
 
+-- the Chain with these fields
 abbrev pub chain : List ℕ × List ℕ → Request
-chain f = requests.Chain f.0 f.1
+chain (user, file) = requests.Chain user file
 
+-- file, generation, start and number of bytes of a Chunk
 abbrev pub chunk_at : List ℕ → Read (((ℕ × ℕ) × ℕ) × ℕ)
-chunk_at = number_at w32 >> number_at w32 >> number_at w32 >> number_that w32 (between 1 65536)
+chunk_at =
+    number_at w32 >> number_at w32 >> number_at w32
+    >> number_that w32 (between 1 MAX_CHUNK_BYTES)
 
+-- the Chunk with these fields
 abbrev pub chunk : ((ℕ × ℕ) × ℕ) × ℕ → Request
-chunk f = requests.Chunk f.0.0.0 f.0.0.1 f.0.1 f.1
+chunk (((file, generation), start), count) = requests.Chunk file generation start count
 
+-- part and number of a Page
 abbrev pub page_at : List ℕ → Read (ℕ × ℕ)
 page_at = byte_at any >> number_at w32
 
+-- the Page with these fields
 abbrev pub page : ℕ × ℕ → Request
-page f = requests.Page f.0 f.1
+page (part, number) = requests.Page part number
 
 -- each kind byte, and how what stands behind it is read
 abbrev pub request_rows : List (ℕ × (List ℕ → Read Request))
 request_rows =
     (1, making (λ f. requests.Hello) nothing_at)
-    ∷ (2, making ask ask_at)
+    ∷ (2, making requests.Ask question_at)
     ∷ (3, making cover cover_at)
     ∷ (4, making update update_at)
     ∷ (5, making chain chain_at)
@@ -95,4 +105,4 @@ request_rows =
 
 -- the request that the bytes are, or the place of the first wrong byte
 abbrev pub request_of : List ℕ → Result Request ℕ
-request_of bytes = placed (length bytes) (all_of (by_rows request_rows bytes))
+request_of bytes = in_frame bytes (placed (length bytes) (all_of (by_rows request_rows bytes)))

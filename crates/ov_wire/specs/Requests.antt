@@ -1,77 +1,77 @@
 -- The one spelling of each request, without its length field.
-use Rattle.std.specs.Prelude.{ℕ, ◌≤◌, ◌<◌, ◌^◌, ◌==◌, ◌||◌, Bool, true, false, IsTrue, List, [], ◌∷◌, ◌++◌, length, Option, Some, None}
+use Rattle.std.specs.Prelude.{ℕ, ◌≤◌, ◌<◌, ◌^◌, List, [], ◌∷◌, ◌++◌, length}
 use Rattle.std.specs.List.{AllByRecursion}
+use Rattle.ov_base.specs.declared.limits.TheConstants.{MAX_FILE_BYTES, MAX_CHUNK_BYTES, MAX_FRAME_BYTES}
 use Rattle.ov_base.specs.Names.{IsName}
 use Rattle.ov_base.specs.NameLists.{AreDistinct}
 use Rattle.ov_fields.specs.Spelling.{u8, u32, name_field, counted}
+use Rattle.ov_wire.specs.declared.request.Question.{Question}
+use Rattle.ov_wire.specs.declared.request.Question.TheVariants as questions
 use Rattle.ov_wire.specs.declared.request.Request.{Request}
 use Rattle.ov_wire.specs.declared.request.Request.TheVariants as requests
 use Rattle.ov_wire.specs.Updates.{Has32, IsSpelling}
 
--- the verbs of Ask: 1 enrol, 3 grant, 4 revoke, 5 key
-abbrev pub is_verb : ℕ → Bool
-is_verb verb = verb == 1 || verb == 3 || verb == 4 || verb == 5
-
--- the verbs that name a file besides
-abbrev pub names_file : ℕ → Bool
-names_file verb = verb == 3 || verb == 4
-
--- nothing for a name that isn't there
-abbrev pub name_or_nothing : Option (List ℕ) → List ℕ
-name_or_nothing None = []
-name_or_nothing (Some name) = name_field name
+-- a verb, and the names that the command has
+abbrev pub question_bytes : Question → List ℕ
+question_bytes (questions.Enrol user) = 1 ∷ name_field user
+question_bytes (questions.Grant user file) = 3 ∷ name_field user ++ name_field file
+question_bytes (questions.Revoke user file) = 4 ∷ name_field user ++ name_field file
+question_bytes (questions.Key user) = 5 ∷ name_field user
 
 -- a kind byte, and the request's fields in order
 abbrev pub request_bytes : Request → List ℕ
 request_bytes requests.Hello = 1 ∷ []
-request_bytes (requests.Ask verb user file) = 2 ∷ u8 verb ++ name_or_nothing user ++ name_or_nothing file
-request_bytes (requests.Cover file len names) = 3 ∷ name_field file ++ u32 len ++ counted name_field names
+request_bytes (requests.Ask question) = 2 ∷ question_bytes question
+request_bytes (requests.Cover file len names) =
+    3 ∷ name_field file ++ u32 len ++ counted name_field names
 request_bytes (requests.Update epoch spelling tag) = 4 ∷ u32 epoch ++ spelling ++ tag
 request_bytes (requests.Chain user file) = 5 ∷ name_field user ++ name_field file
-request_bytes (requests.Chunk file generation start count) = 6 ∷ u32 file ++ u32 generation ++ u32 start ++ u32 count
+request_bytes (requests.Chunk file generation start count) =
+    6 ∷ u32 file ++ u32 generation ++ u32 start ++ u32 count
 request_bytes (requests.Page part number) = 7 ∷ u8 part ++ u32 number
 request_bytes (requests.List file) = 8 ∷ name_field file
-
--- the names of an Ask, where it names a file and where it doesn't
-abbrev pub AreAskNames : Bool → Option (List ℕ) → Option (List ℕ) → Type 0
-AreAskNames true (Some user) (Some file) = IsName user × IsName file
-AreAskNames false (Some user) None = IsName user
-AreAskNames names_file user file = ⊥
 
 -- names of which none comes twice
 abbrev pub AreNames : List (List ℕ) → Type 0
 AreNames names = AllByRecursion IsName names × AreDistinct names
 
--- which requests have a spelling
-abbrev pub HasRequestForm : Request → Type 0
-HasRequestForm requests.Hello = Unit {0}
-HasRequestForm (requests.Ask verb user file) = IsTrue (is_verb verb) × AreAskNames (names_file verb) user file
-HasRequestForm (requests.Cover file len names) = IsName file × (len ≤ 1048576) × (length names < 2 ^ 16) × AreNames names
-HasRequestForm (requests.Update epoch spelling tag) = (epoch < 2 ^ 32) × IsSpelling spelling × Has32 tag
-HasRequestForm (requests.Chain user file) = IsName user × IsName file
-HasRequestForm (requests.Chunk file generation start count) =
-    (file < 2 ^ 32) × (generation < 2 ^ 32) × (start < 2 ^ 32) × (1 ≤ count) × (count ≤ 65536)
-HasRequestForm (requests.Page part number) = number < 2 ^ 32
-HasRequestForm (requests.List file) = IsName file
+-- which commands have a spelling
+abbrev pub HasQuestionForm : Question → Type 0
+HasQuestionForm (questions.Enrol user) = IsName user
+HasQuestionForm (questions.Grant user file) = IsName user × IsName file
+HasQuestionForm (questions.Revoke user file) = IsName user × IsName file
+HasQuestionForm (questions.Key user) = IsName user
 
--- what a caller sees to before it writes a request: the number of names fits its field
-abbrev pub HasRequestCounts : Request → Type 0
-HasRequestCounts requests.Hello = Unit {0}
-HasRequestCounts (requests.Ask verb user file) = Unit {0}
-HasRequestCounts (requests.Cover file len names) = length names ≤ 65535
-HasRequestCounts (requests.Update epoch spelling tag) = Unit {0}
-HasRequestCounts (requests.Chain user file) = Unit {0}
-HasRequestCounts (requests.Chunk file generation start count) = Unit {0}
-HasRequestCounts (requests.Page part number) = Unit {0}
-HasRequestCounts (requests.List file) = Unit {0}
+-- which requests are in the grammar, however long
+abbrev pub IsRequest : Request → Type 0
+IsRequest requests.Hello = Unit {0}
+IsRequest (requests.Ask question) = HasQuestionForm question
+IsRequest (requests.Cover file len names) =
+    IsName file × (len ≤ MAX_FILE_BYTES) × (length names < 2 ^ 16) × AreNames names
+IsRequest (requests.Update epoch spelling tag) = (epoch < 2 ^ 32) × IsSpelling spelling × Has32 tag
+IsRequest (requests.Chain user file) = IsName user × IsName file
+IsRequest (requests.Chunk file generation start count) =
+    (file < 2 ^ 32) × (generation < 2 ^ 32) × (start < 2 ^ 32)
+    × (1 ≤ count) × (count ≤ MAX_CHUNK_BYTES)
+IsRequest (requests.Page part number) = number < 2 ^ 32
+IsRequest (requests.List file) = IsName file
+
+-- which requests can be sent: a frame has room for them
+pub record HasRequestForm (request : Request) : Type 0 where
+  pub is_request : IsRequest request
+  pub fits : length (request_bytes request) ≤ MAX_FRAME_BYTES
+
+-- what a caller sees to before it writes a request, since its type doesn't
+abbrev pub HasRequestLimits : Request → Type 0
+HasRequestLimits (requests.Cover file len names) =
+    (len ≤ MAX_FILE_BYTES) × (length names < 2 ^ 16)
+    × (length (request_bytes (requests.Cover file len names)) ≤ MAX_FRAME_BYTES)
+HasRequestLimits (requests.Update epoch spelling tag) = IsSpelling spelling
+HasRequestLimits (requests.Chunk file generation start count) =
+    (1 ≤ count) × (count ≤ MAX_CHUNK_BYTES)
+HasRequestLimits request = Unit {0}
 
 -- the update's spelling and the owner's tag, with which an Update ends
 abbrev pub request_body : Request → List ℕ
-request_body requests.Hello = []
-request_body (requests.Ask verb user file) = []
-request_body (requests.Cover file len names) = []
 request_body (requests.Update epoch spelling tag) = spelling ++ tag
-request_body (requests.Chain user file) = []
-request_body (requests.Chunk file generation start count) = []
-request_body (requests.Page part number) = []
-request_body (requests.List file) = []
+request_body request = []

@@ -1,6 +1,7 @@
 -- How the spelling of an update is cut into fields, whatever they mean.
 use Rattle.std.specs.Prelude.{ℕ, zero, suc, ◌≡◌, ◌<◌, ◌≤◌, ◌*◌, ◌/◌, ◌^◌, List, [], ◌∷◌, ◌++◌, length, Option, IfSome, Err}
 use Rattle.std.specs.Int.{w16, w32}
+use Rattle.ov_base.specs.declared.limits.TheConstants.{MAX_USERS, MAX_FILE_BYTES}
 use Rattle.ov_base.specs.Names.{IsName}
 use Rattle.ov_fields.specs.Spelling.{u16, u32, name_field, sized, optional}
 use Rattle.ov_fields.specs.Reading.{Read, ◌>>=◌, ◌>>◌, made, at_most, bytes_at, number_at, number_that, sized_at, optional_at, name_at}
@@ -16,6 +17,7 @@ pub data Fields : Type 0 where
 abbrev pub plain : List ℕ → List ℕ
 plain bytes = bytes
 
+-- a tag, a check value, a token or a set has 32 bytes
 abbrev pub Has32 : List ℕ → Type 0
 Has32 bytes = length bytes ≡ 32
 
@@ -25,12 +27,14 @@ token_fields tokens = u16 (length tokens / 32) ++ tokens
 
 -- so many whole tokens
 abbrev pub AreTokens : ℕ → List ℕ → Type 0
-AreTokens most tokens = (length tokens ≡ 32 * (length tokens / 32)) × (length tokens / 32 ≤ most)
+AreTokens most tokens =
+    (length tokens ≡ 32 * (length tokens / 32)) × (length tokens / 32 ≤ most)
 
 -- the fields in order, behind their kind byte
 abbrev pub fields_bytes : Fields → List ℕ
 fields_bytes (Enrolment name) = 1 ∷ name_field name
-fields_bytes (Creation name list tokens tag bytes) = 2 ∷ name_field name ++ list ++ token_fields tokens ++ tag ++ sized bytes
+fields_bytes (Creation name list tokens tag bytes) =
+    2 ∷ name_field name ++ list ++ token_fields tokens ++ tag ++ sized bytes
 fields_bytes (Grant user file token) = 3 ∷ u32 user ++ u32 file ++ optional plain token
 fields_bytes (Revocation user file) = 4 ∷ u32 user ++ u32 file
 
@@ -38,7 +42,8 @@ fields_bytes (Revocation user file) = 4 ∷ u32 user ++ u32 file
 abbrev pub HasFields : Fields → Type 0
 HasFields (Enrolment name) = IsName name
 HasFields (Creation name list tokens tag bytes) =
-    IsName name × Has32 list × AreTokens 256 tokens × Has32 tag × (length bytes ≤ 1048576)
+    IsName name × Has32 list × AreTokens MAX_USERS tokens × Has32 tag
+    × (length bytes ≤ MAX_FILE_BYTES)
 HasFields (Grant user file token) = (user < 2 ^ 32) × (file < 2 ^ 32) × IfSome token Has32
 HasFields (Revocation user file) = (user < 2 ^ 32) × (file < 2 ^ 32)
 
@@ -56,23 +61,30 @@ tokens_at most bytes = do
   count ← number_that w16 (at_most most) bytes
   bytes_at (32 * count.0) count.1
 
+-- name, list, tokens, tag and bytes of a creation
 abbrev pub creation_at : List ℕ → Read ((((List ℕ × List ℕ) × List ℕ) × List ℕ) × List ℕ)
-creation_at = name_at >> bytes_at 32 >> tokens_at 256 >> bytes_at 32 >> sized_at 1048576
+creation_at =
+    name_at >> bytes_at 32 >> tokens_at MAX_USERS >> bytes_at 32 >> sized_at MAX_FILE_BYTES
 
+-- the creation with these fields
 abbrev pub creation : (((List ℕ × List ℕ) × List ℕ) × List ℕ) × List ℕ → Fields
-creation f = Creation f.0.0.0.0 f.0.0.0.1 f.0.0.1 f.0.1 f.1
+creation ((((name, list), tokens), tag), bytes) = Creation name list tokens tag bytes
 
+-- user, file and token of a grant
 abbrev pub grant_at : List ℕ → Read ((ℕ × ℕ) × Option (List ℕ))
 grant_at = number_at w32 >> number_at w32 >> optional_at (bytes_at 32)
 
+-- the grant with these fields
 abbrev pub grant : (ℕ × ℕ) × Option (List ℕ) → Fields
-grant f = Grant f.0.0 f.0.1 f.1
+grant ((user, file), token) = Grant user file token
 
+-- user and file of a revocation
 abbrev pub revocation_at : List ℕ → Read (ℕ × ℕ)
 revocation_at = number_at w32 >> number_at w32
 
+-- the revocation with these fields
 abbrev pub revocation : ℕ × ℕ → Fields
-revocation f = Revocation f.0 f.1
+revocation (user, file) = Revocation user file
 
 -- the kind byte, from 1 to 4, and the fields of this kind
 unfoldable pub fields_at : List ℕ → Read Fields

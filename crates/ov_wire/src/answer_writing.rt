@@ -2,18 +2,17 @@
 
 ghost use Rattle.std.specs.Prelude.{◌≡◌, ◌≤◌, ◌∷◌, ◌++◌, length, OnErr, OnOk, IfSome};
 ghost use Rattle.std.specs.List.{flat_map};
-ghost use Rattle.ov_base.specs.Sets.{bytes_of};
-ghost use Rattle.ov_fields.specs.Spelling.{counted, flag, optional, u8, u32};
-ghost use Rattle.ov_wire.specs.AnswerBytes.{answer_body, answer_bytes, HasAnswerCounts};
-ghost use Rattle.ov_wire.specs.Chains.{chain_field};
+ghost use Rattle.ov_fields.specs.Spelling.{counted, flag, u32};
+ghost use Rattle.ov_wire.specs.AnswerBytes.{answer_body, answer_bytes, chained_bytes, known_bytes, plan_bytes, welcome_bytes, HasAnswerCounts};
 
-use crate::Answer;
 use crate::chains::{put_chain, put_chain_or_none};
 use crate::names::put_names;
-use ov_base::{Memory, Users};
+use crate::{Answer, Chained, Known, Plan, Welcome};
+use ov_base::Memory;
 use ov_fields::{append, put_set, put_u16, put_u32};
-use ov_tokens::{Chain, Numbers};
+use ov_tokens::Numbers;
 
+/// The flag of a truth.
 fn flag(value: bool) -> u8
     ensures { result ≡ flag value }
 {
@@ -28,6 +27,7 @@ fn put_kind(kind: u8, numbers: &[u32], out: &mut Vec<u8>) -> Result<(), Memory>
     put_each_number(numbers, out)
 }
 
+/// Appends numbers, one after the other.
 fn put_each_number(numbers: &[u32], out: &mut Vec<u8>) -> Result<(), Memory>
     ensures { OnOk result (out.new.items ≡ out.old.items ++ flat_map u32 numbers.now) }
 {
@@ -37,6 +37,7 @@ fn put_each_number(numbers: &[u32], out: &mut Vec<u8>) -> Result<(), Memory>
     Ok(())
 }
 
+/// Appends numbers behind their number.
 fn put_numbers(numbers: &Numbers, out: &mut Vec<u8>) -> Result<(), Memory>
     requires { length numbers.now ≤ 65535 }
     ensures { OnOk result (out.new.items ≡ out.old.items ++ counted u32 numbers.now) }
@@ -46,39 +47,64 @@ fn put_numbers(numbers: &Numbers, out: &mut Vec<u8>) -> Result<(), Memory>
     put_each_number(numbers, out)
 }
 
-/// The set, the base node, whether it is new, and the starts of a Plan.
-fn put_node(
-    list: &Users,
-    node: u32,
-    fresh: bool,
-    from: &Numbers,
-    out: &mut Vec<u8>,
-) -> Result<(), Memory>
-    requires { length from.now ≤ 65535 }
-    ensures { OnOk result (out.new.items ≡ out.old.items
-        ++ (bytes_of 32 list.now ++ (u32 node ++ (u8 (flag fresh) ++ counted u32 from.now)))) }
+/// Appends a Welcome.
+fn put_welcome(welcome: &Welcome, out: &mut Vec<u8>) -> Result<(), Memory>
+    ensures { OnOk result (out.new.items
+        ≡ out.old.items ++ (0x81 ∷ welcome_bytes welcome.now)) }
 {
-    put_set(list, out)?;
-    put_u32(node, out)?;
-    out.push(flag(fresh))?;
-    put_numbers(from, out)
+    out.push(0x81)?;
+    out.push(welcome.mode.byte())?;
+    put_u32(welcome.epoch, out)?;
+    out.extend_from_slice(&welcome.base_check)?;
+    Ok(())
 }
 
-/// The tag and the two chains of a Chained.
-fn put_chains(
-    tag: &[u8; 32],
-    base: &Chain,
-    surface: &Option<Chain>,
-    out: &mut Vec<u8>,
-) -> Result<(), Memory>
-    requires base { length base.now.steps ≤ 65535 }
-    requires surface { IfSome surface.now (λ c. length c.steps ≤ 65535) }
-    ensures { OnOk result (out.new.items ≡ out.old.items
-        ++ (tag.now ++ (chain_field base.now ++ optional chain_field surface.now))) }
+/// Appends a Known.
+fn put_known(known: &Known, out: &mut Vec<u8>) -> Result<(), Memory>
+    ensures { OnOk result (out.new.items ≡ out.old.items ++ (0x82 ∷ known_bytes known.now)) }
 {
-    out.extend_from_slice(tag)?;
-    put_chain(base, out)?;
-    put_chain_or_none(surface, out)
+    let numbers = [
+        known.epoch,
+        known.user,
+        known.base_root,
+        known.surface_root,
+        known.file,
+        known.node,
+    ];
+    put_kind(0x82, &numbers, out)?;
+    out.push(flag(known.wants))?;
+    Ok(())
+}
+
+/// Appends a Plan.
+fn put_plan(plan: &Plan, out: &mut Vec<u8>) -> Result<(), Memory>
+    requires { length plan.now.from ≤ 65535 }
+    ensures { OnOk result (out.new.items ≡ out.old.items ++ (0x83 ∷ plan_bytes plan.now)) }
+{
+    put_kind(0x83, &[plan.epoch, plan.file], out)?;
+    put_set(&plan.list, out)?;
+    put_u32(plan.node, out)?;
+    out.push(flag(plan.fresh))?;
+    put_numbers(&plan.from, out)
+}
+
+/// Appends a Chained.
+fn put_chained(chained: &Chained, out: &mut Vec<u8>) -> Result<(), Memory>
+    requires base { length chained.now.base.steps ≤ 65535 }
+    requires surface { IfSome chained.now.surface (λ c. length c.steps ≤ 65535) }
+    ensures { OnOk result (out.new.items
+        ≡ out.old.items ++ (0x85 ∷ chained_bytes chained.now)) }
+{
+    let numbers = [
+        chained.epoch,
+        chained.file,
+        chained.length,
+        chained.generation,
+    ];
+    put_kind(0x85, &numbers, out)?;
+    out.extend_from_slice(&chained.tag)?;
+    put_chain(&chained.base, out)?;
+    put_chain_or_none(&chained.surface, out)
 }
 
 /// The bytes as they stand with which the answer ends.
@@ -99,53 +125,11 @@ fn put_front(answer: &Answer, out: &mut Vec<u8>) -> Result<(), Memory>
         ≡ out.old.items ++ answer_bytes answer.now) }
 {
     match answer {
-        Answer::Welcome {
-            mode,
-            epoch,
-            base_check,
-        } => {
-            out.push(0x81)?;
-            out.push(mode.byte())?;
-            put_u32(*epoch, out)?;
-            out.extend_from_slice(base_check)?;
-        }
-        Answer::Known {
-            epoch,
-            user,
-            base_root,
-            surface_root,
-            file,
-            node,
-            wants,
-        } => {
-            let numbers = [*epoch, *user, *base_root, *surface_root, *file, *node];
-            put_kind(0x82, &numbers, out)?;
-            out.push(flag(*wants))?;
-        }
-        Answer::Plan {
-            epoch,
-            file,
-            list,
-            node,
-            fresh,
-            from,
-        } => {
-            put_kind(0x83, &[*epoch, *file], out)?;
-            put_node(list, *node, *fresh, from, out)?;
-        }
+        Answer::Welcome(welcome) => put_welcome(welcome, out)?,
+        Answer::Known(known) => put_known(known, out)?,
+        Answer::Plan(plan) => put_plan(plan, out)?,
         Answer::Accepted { epoch } => put_kind(0x84, &[*epoch], out)?,
-        Answer::Chained {
-            epoch,
-            file,
-            length,
-            generation,
-            tag,
-            base,
-            surface,
-        } => {
-            put_kind(0x85, &[*epoch, *file, *length, *generation], out)?;
-            put_chains(tag, base, surface, out)?;
-        }
+        Answer::Chained(chained) => put_chained(chained, out)?,
         Answer::Bytes { .. } => out.push(0x86)?,
         Answer::PageOf { entry } => {
             out.push(0x87)?;

@@ -9,11 +9,12 @@ ghost use Rattle.ov_fields.specs.Spelling.{counted, optional};
 ghost use Rattle.ov_wire.specs.Chains.{chain_at, chain_field, kinds_of, surface_kinds, step_at, step_field, steps_at};
 
 use ov_base::Memory;
-use ov_fields::{FieldFault, put_token, put_u16, put_u32, take_token, take_u16, take_u32_at_most};
+use ov_base::limits::MAX_LAYER_NODES;
+use ov_fields::{
+    FieldFault, put_token, put_u16, put_u32, take_flag, take_token, take_u16, take_u32_below,
+};
 use ov_tokens::{Chain, Kind, Label, Step, Steps};
 use std::alloc::Global;
-
-const LAST_NODE: u32 = 4095;
 
 /// The layer that a chain lies in.
 #[derive(Clone, Copy, Debug, PartialEq, Eq)]
@@ -35,16 +36,18 @@ fn take_kind(side: Side, count: u16, bytes: &[u8]) -> Result<(Kind, &[u8]), Fiel
     }
 }
 
+/// A step of a chain of so many.
 fn take_step(side: Side, count: u16, bytes: &[u8]) -> Result<(Step, &[u8]), FieldFault>
     ensures { GivesField (λ s. s) result (step_at (kinds_of side count) bytes.now) }
 {
     let (kind, rest) = take_kind(side, count, bytes)?;
-    let (number, rest) = take_u32_at_most(LAST_NODE, rest)?;
+    let (number, rest) = take_u32_below(MAX_LAYER_NODES, rest)?;
     let (token, rest) = take_token(rest)?;
     let to = Label { kind, number };
     Ok((Step { to, token }, rest))
 }
 
+/// So many steps, one after the other.
 fn take_each_step(
     alloc: Global,
     side: Side,
@@ -63,6 +66,7 @@ fn take_each_step(
     Ok((steps, rest))
 }
 
+/// Steps behind their number.
 #[tactic(auto, unfolding(crate::specs::Chains::steps_at))]
 fn take_steps(alloc: Global, side: Side, bytes: &[u8]) -> Result<(Steps, &[u8]), FieldFault>
     ensures { GivesField (λ s. s) result (steps_at (kinds_of side) bytes.now) }
@@ -76,7 +80,7 @@ fn take_steps(alloc: Global, side: Side, bytes: &[u8]) -> Result<(Steps, &[u8]),
 pub fn take_chain(alloc: Global, side: Side, bytes: &[u8]) -> Result<(Chain, &[u8]), FieldFault>
     ensures { GivesField (λ c. c) result (chain_at (kinds_of side) bytes.now) }
 {
-    let (root, rest) = take_u32_at_most(LAST_NODE, bytes)?;
+    let (root, rest) = take_u32_below(MAX_LAYER_NODES, bytes)?;
     let (steps, rest) = take_steps(alloc, side, rest)?;
     Ok((Chain { root, steps }, rest))
 }
@@ -86,17 +90,16 @@ pub fn take_chain(alloc: Global, side: Side, bytes: &[u8]) -> Result<(Chain, &[u
 pub fn take_chain_or_none(alloc: Global, bytes: &[u8]) -> Result<(Option<Chain>, &[u8]), FieldFault>
     ensures { GivesField (λ c. c) result (optional_at (chain_at surface_kinds) bytes.now) }
 {
-    match bytes {
-        [] => Err(FieldFault::Bad { left: 0 }),
-        [0, rest @ ..] => Ok((None, rest)),
-        [1, rest @ ..] => {
-            let (chain, rest) = take_chain(alloc, Side::Surface, rest)?;
-            Ok((Some(chain), rest))
-        }
-        [_, ..] => Err(FieldFault::Bad { left: bytes.len() }),
+    let (there, rest) = take_flag(bytes)?;
+    if there {
+        let (chain, rest) = take_chain(alloc, Side::Surface, rest)?;
+        Ok((Some(chain), rest))
+    } else {
+        Ok((None, rest))
     }
 }
 
+/// Appends a step.
 fn put_step(step: &Step, out: &mut Vec<u8>) -> Result<(), Memory>
     ensures { OnOk result (out.new.items ≡ out.old.items ++ step_field step.now) }
 {
@@ -104,6 +107,7 @@ fn put_step(step: &Step, out: &mut Vec<u8>) -> Result<(), Memory>
     put_token(&step.token, out)
 }
 
+/// Appends steps, one after the other.
 fn put_each_step(steps: &[Step], out: &mut Vec<u8>) -> Result<(), Memory>
     ensures { OnOk result (out.new.items ≡ out.old.items ++ flat_map step_field steps.now) }
 {

@@ -4,10 +4,9 @@ ghost use Rattle.std.specs.Prelude.{◌≡◌, ◌+◌, ◌≤◌, ◌<◌, ◌+
 ghost use Rattle.ov_wire.specs.Cutting.{IsFound, IsCutting};
 
 use crate::state::State;
+use ov_base::limits::MAX_FRAME_BYTES;
 use ov_base::{Memory, Octets};
 use std::alloc::Global;
-
-const MAX_FRAME: usize = 1_114_112;
 
 /// What stands at the front of bytes.
 pub enum Found<'a> {
@@ -54,7 +53,7 @@ fn find_behind(head: [u8; 4], bytes: &[u8]) -> Found<'_>
     let wanted = u32::from_be_bytes(head) as usize;
     if wanted == 0 {
         Found::BadLength
-    } else if MAX_FRAME < wanted {
+    } else if wanted > MAX_FRAME_BYTES as usize {
         Found::BadLength
     } else if bytes.len() < wanted {
         Found::InFrame {
@@ -70,7 +69,7 @@ fn find_behind(head: [u8; 4], bytes: &[u8]) -> Found<'_>
 /// Frames, how many bytes they and their length fields have, and what comes after them.
 pub struct Cut {
     pub frames: Vec<Octets>,
-    pub used: u64,
+    pub len: u64,
     pub state: State,
 }
 
@@ -78,10 +77,10 @@ pub struct Cut {
 pub fn cut_all(alloc: Global, head: [u8; 4], filled: usize, bytes: &[u8]) -> Result<Cut, Memory>
     requires { filled < 4 }
     ensures { IfOk result (λ cut. IsCutting (take filled head ++ bytes.now) cut.frames.items
-        cut.used cut.state) }
+        cut.len cut.state) }
 {
     let mut frames = Vec::new(alloc);
-    let mut used = 0u64;
+    let mut len = 0u64;
     let mut head = head;
     let mut filled = filled;
     let mut rest = bytes;
@@ -89,35 +88,23 @@ pub fn cut_all(alloc: Global, head: [u8; 4], filled: usize, bytes: &[u8]) -> Res
         match find(head, filled, rest) {
             Found::Whole { frame, rest: after } => {
                 frames.push(Octets::copy(alloc, frame)?)?;
-                used += 4 + frame.len() as u64;
+                len += 4 + frame.len() as u64;
                 head = [0; 4];
                 filled = 0;
                 rest = after;
             }
             Found::InLength { head, filled } => {
                 let state = State::Length { head, filled };
-                return Ok(Cut {
-                    frames,
-                    used,
-                    state,
-                });
+                return Ok(Cut { frames, len, state });
             }
             Found::InFrame { wanted, body } => {
                 let body = body.to_vec(alloc)?;
                 let state = State::Frame { wanted, body };
-                return Ok(Cut {
-                    frames,
-                    used,
-                    state,
-                });
+                return Ok(Cut { frames, len, state });
             }
             Found::BadLength => {
                 let state = State::Bad;
-                return Ok(Cut {
-                    frames,
-                    used,
-                    state,
-                });
+                return Ok(Cut { frames, len, state });
             }
         }
     }

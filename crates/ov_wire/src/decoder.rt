@@ -1,12 +1,11 @@
 //! Frames from pieces of a stream.
 
-ghost use Rattle.std.specs.Prelude.{◌≡◌, ◌+◌, ◌≤◌, ◌++◌, ◌∷◌, [], false, length, IfOk, OnErr, OnOk, MatchResult};
-ghost use Rattle.ov_fields.specs.Spelling.{u32};
-ghost use Rattle.ov_wire.specs.Cutting.{Advances, IsCutting, Keeps};
-ghost use Rattle.ov_wire.specs.Frames.{Decoding, Feeds, IsState, is_bad, state_rest, verdict};
+ghost use Rattle.std.specs.Prelude.{◌≡◌, ◌+◌, ◌≤◌, [], false, true, length, IfOk};
+ghost use Rattle.ov_base.specs.declared.limits.TheConstants.{MAX_FRAME_BYTES};
+ghost use Rattle.ov_wire.specs.Frames.{Decoding, Feeds, FeedsAll, IsState, is_bad, state_rest, verdict};
 
 use crate::FeedFault;
-use crate::cutting::{Cut, cut_all};
+use crate::advancing::advance;
 use crate::state::State;
 use ov_base::{Memory, Octets};
 use std::alloc::Global;
@@ -26,149 +25,10 @@ pub struct Decoder {
 impl Model for Decoder {
     ghost Value = { Decoding };
 
-    ghost view = { λ d. record { start = d.start; rest = state_rest d.state; bad = is_bad d.state } };
+    ghost view = { λ d.
+        record { start = d.start; rest = state_rest d.state; bad = is_bad d.state } };
 
     ghost invariant = { λ d. IsState d.state };
-}
-
-/// Appends an empty frame and these, or nothing.
-fn append_behind(
-    alloc: Global,
-    frames: &mut Vec<Octets>,
-    fresh: &mut Vec<Octets>,
-) -> Result<(), Memory>
-    ensures ok { OnOk result (frames.new.items ≡ frames.old.items ++ ([] ∷ fresh.old.items)) }
-    ensures err { OnErr result (frames.new.items ≡ frames.old.items) }
-{
-    let len = frames.len();
-    frames.push(Octets::new(alloc))?;
-    match frames.append(fresh) {
-        Ok(()) => Ok(()),
-        Err(_) => {
-            frames.truncate(len);
-            Err(Memory)
-        }
-    }
-}
-
-/// The frame that is whole now, and those behind it: `cut` is what `rest` holds.
-fn complete(
-    alloc: Global,
-    wanted: usize,
-    body: Vec<u8>,
-    front: &[u8],
-    rest: &[u8],
-    cut: Cut,
-    frames: &mut Vec<Octets>,
-) -> (State, Result<u64, Memory>)
-    requires state { IsState (State.Frame wanted body) }
-    requires whole { length body.items + length front.now ≡ wanted }
-    requires cut { IsCutting rest.now cut.frames.items cut.used cut.state }
-    requires room { cut.used ≤ length rest.now + 3 }
-    ensures { MatchResult result.1
-        (λ used. Advances (State.Frame wanted body) result.0 (front.now ++ rest.now)
-        frames.old.items frames.new.items used)
-        (λ _. Keeps (State.Frame wanted body) result.0 frames.old.items frames.new.items) }
-{
-    let mut body = body;
-    let len = body.len();
-    let at = frames.len();
-    let Cut {
-        frames: mut fresh,
-        used,
-        state,
-    } = cut;
-    match body.extend_from_slice(front) {
-        Err(_) => (State::Frame { wanted, body }, Err(Memory)),
-        Ok(()) => match append_behind(alloc, frames, &mut fresh) {
-            Err(_) => {
-                body.truncate(len);
-                (State::Frame { wanted, body }, Err(Memory))
-            }
-            Ok(()) => {
-                frames[at] = Octets::from_vec(body);
-                (state, Ok(used + 4 + wanted as u64))
-            }
-        },
-    }
-}
-
-/// More of the frame that isn't whole, and what is behind it.
-fn advance_frame(
-    alloc: Global,
-    wanted: usize,
-    body: Vec<u8>,
-    piece: &[u8],
-    frames: &mut Vec<Octets>,
-) -> (State, Result<u64, Memory>)
-    requires { IsState (State.Frame wanted body) }
-    ensures { MatchResult result.1
-        (λ used. Advances (State.Frame wanted body) result.0 piece.now
-        frames.old.items frames.new.items used)
-        (λ _. Keeps (State.Frame wanted body) result.0 frames.old.items frames.new.items) }
-{
-    let mut body = body;
-    let missing = wanted - body.len();
-    if piece.len() < missing {
-        return match body.extend_from_slice(piece) {
-            Ok(()) => (State::Frame { wanted, body }, Ok(0)),
-            Err(_) => (State::Frame { wanted, body }, Err(Memory)),
-        };
-    }
-    let (front, rest) = piece.split_at(missing);
-    match cut_all(alloc, [0; 4], 0, rest) {
-        Ok(cut) => complete(alloc, wanted, body, front, rest, cut, frames),
-        Err(memory) => (State::Frame { wanted, body }, Err(memory)),
-    }
-}
-
-/// More of a length field, and what is behind it.
-fn advance_length(
-    alloc: Global,
-    head: [u8; 4],
-    filled: usize,
-    piece: &[u8],
-    frames: &mut Vec<Octets>,
-) -> (State, Result<u64, Memory>)
-    requires { IsState (State.Length head filled) }
-    ensures { MatchResult result.1
-        (λ used. Advances (State.Length head filled) result.0 piece.now
-        frames.old.items frames.new.items used)
-        (λ _. Keeps (State.Length head filled) result.0 frames.old.items frames.new.items) }
-{
-    match cut_all(alloc, head, filled, piece) {
-        Ok(cut) => {
-            let Cut {
-                frames: mut fresh,
-                used,
-                state,
-            } = cut;
-            match frames.append(&mut fresh) {
-                Ok(()) => (state, Ok(used)),
-                Err(_) => (State::Length { head, filled }, Err(Memory)),
-            }
-        }
-        Err(memory) => (State::Length { head, filled }, Err(memory)),
-    }
-}
-
-fn advance(
-    alloc: Global,
-    state: State,
-    piece: &[u8],
-    frames: &mut Vec<Octets>,
-) -> (State, Result<u64, Memory>)
-    requires state { IsState state }
-    requires good { is_bad state ≡ false }
-    ensures { MatchResult result.1
-        (λ used. Advances state result.0 piece.now frames.old.items frames.new.items used)
-        (λ _. Keeps state result.0 frames.old.items frames.new.items) }
-{
-    match state {
-        State::Length { head, filled } => advance_length(alloc, head, filled, piece, frames),
-        State::Frame { wanted, body } => advance_frame(alloc, wanted, body, piece, frames),
-        State::Bad => (State::Bad, Err(Memory)),
-    }
 }
 
 impl Decoder {
@@ -186,10 +46,12 @@ impl Decoder {
         })
     }
 
-    /// How many bytes were taken of a frame that isn't whole, its length field included.
+    /// How many bytes were taken of a frame that isn't whole, its length field included; none
+    /// after a length field outside its limits.
     pub fn pending(&self) -> u64
         ensures count { result ≡ length self.now.rest }
-        ensures most { result ≤ 1114115 }
+        ensures bad { self.now.bad ≡ true → result ≡ 0 }
+        ensures most { result ≤ MAX_FRAME_BYTES + 3 }
     {
         match &self.state {
             State::Length { filled, .. } => *filled as u64,
@@ -234,5 +96,17 @@ impl Decoder {
                 self.verdict()
             }
         }
+    }
+    /// Takes pieces of the stream, one after the other. Want of memory comes between two of them:
+    /// those before it were taken.
+    pub fn feed_all(&mut self, pieces: &[Octets], frames: &mut Vec<Octets>) -> Result<(), FeedFault>
+        ensures { FeedsAll self.old self.new pieces.now frames.old.items frames.new.items result }
+    {
+        // Of no pieces a decoder says too whether it met a bad length field.
+        self.feed(&[], frames)?;
+        for piece in pieces {
+            self.feed(piece.as_slice(), frames)?;
+        }
+        Ok(())
     }
 }

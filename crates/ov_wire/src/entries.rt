@@ -1,42 +1,40 @@
 //! Catalogue entries in frames: where one ends, or what is wrong with it.
 
 ghost use Rattle.std.specs.Prelude.{◌≡◌, ◌≤◌};
+ghost use Rattle.ov_base.specs.declared.limits.TheConstants.{MAX_USERS};
 ghost use Rattle.ov_fields.specs.Answers.{Gives, GivesField, left_of};
 ghost use Rattle.ov_fields.specs.Reading.{at_most, byte_at, counted_at, making, many_at, optional_at, rest_of, spanned};
 ghost use Rattle.ov_wire.specs.AnswerReading.{entry_or_none_at};
 ghost use Rattle.ov_wire.specs.Entries.{access, access_entry_at, edge_at, entry_at, file, file_entry_at, node, node_at, node_entry_at, user, user_entry_at};
 
 use ov_base::Octets;
+use ov_base::limits::{MAX_FILE_BYTES, MAX_LAYER_NODES, MAX_USERS};
 use ov_fields::{
-    FieldFault, take_bytes, take_name, take_token, take_u16_at_most, take_u32, take_u32_at_most,
+    FieldFault, take_bytes, take_flag, take_name, take_token, take_u16_at_most, take_u32,
+    take_u32_at_most, take_u32_below,
 };
 use std::alloc::Global;
 
-const LAST_USER: u32 = 255;
-
-const LAST_NODE: u32 = 4095;
-
-const MAX_EDGES: u16 = 256;
-
-const MAX_BYTES: u32 = 1_048_576;
-
+/// The bytes after a user's entry.
 fn skip_user(bytes: &[u8]) -> Result<&[u8], FieldFault>
     ensures { Gives left_of (λ r. r.now) result (rest_of (making user user_entry_at bytes.now)) }
 {
     let (_, rest) = take_name(bytes)?;
-    let (_, rest) = take_u32_at_most(LAST_NODE, rest)?;
-    let (_, rest) = take_u32_at_most(LAST_NODE, rest)?;
+    let (_, rest) = take_u32_below(MAX_LAYER_NODES, rest)?;
+    let (_, rest) = take_u32_below(MAX_LAYER_NODES, rest)?;
     Ok(rest)
 }
 
+/// The bytes after an edge.
 fn skip_edge(bytes: &[u8]) -> Result<&[u8], FieldFault>
     ensures { Gives left_of (λ r. r.now) result (rest_of (edge_at bytes.now)) }
 {
-    let (_, rest) = take_u32_at_most(LAST_NODE, bytes)?;
+    let (_, rest) = take_u32_below(MAX_LAYER_NODES, bytes)?;
     let (_, rest) = take_token(rest)?;
     Ok(rest)
 }
 
+/// The bytes after so many edges.
 fn skip_each_edge(count: u16, bytes: &[u8]) -> Result<&[u8], FieldFault>
     ensures { Gives left_of (λ r. r.now) result (rest_of (many_at edge_at count bytes.now)) }
 {
@@ -47,15 +45,17 @@ fn skip_each_edge(count: u16, bytes: &[u8]) -> Result<&[u8], FieldFault>
     Ok(rest)
 }
 
+/// The bytes after edges behind their number.
 #[tactic(auto, unfolding(ov_fields::specs::Reading::counted_at))]
 fn skip_edges(bytes: &[u8]) -> Result<&[u8], FieldFault>
-    ensures { Gives left_of (λ r. r.now) result (rest_of (counted_at 256 edge_at bytes.now)) }
+    ensures { Gives left_of (λ r. r.now) result (rest_of (counted_at MAX_USERS edge_at bytes.now)) }
 {
-    let (count, rest) = take_u16_at_most(MAX_EDGES, bytes)?;
+    let (count, rest) = take_u16_at_most(MAX_USERS as u16, bytes)?;
     let rest = skip_each_edge(count, rest)?;
     Ok(rest)
 }
 
+/// The bytes after a node's entry.
 fn skip_node(bytes: &[u8]) -> Result<&[u8], FieldFault>
     ensures { Gives left_of (λ r. r.now) result (rest_of (making node node_entry_at bytes.now)) }
 {
@@ -63,43 +63,45 @@ fn skip_node(bytes: &[u8]) -> Result<&[u8], FieldFault>
     skip_edges(rest)
 }
 
+/// The bytes after the entry of an access token.
 fn skip_access(bytes: &[u8]) -> Result<&[u8], FieldFault>
     ensures { Gives left_of (λ r. r.now) result
         (rest_of (making access access_entry_at bytes.now)) }
 {
-    let (_, rest) = take_u32_at_most(LAST_USER, bytes)?;
-    let (_, rest) = take_u32_at_most(LAST_NODE, rest)?;
+    let (_, rest) = take_u32_below(MAX_USERS, bytes)?;
+    let (_, rest) = take_u32_below(MAX_LAYER_NODES, rest)?;
     let (_, rest) = take_token(rest)?;
     Ok(rest)
 }
 
+/// A flag, and a node where it is 1.
 #[tactic(auto, unfolding(ov_fields::specs::Reading::optional_at))]
 fn take_node_or_none(bytes: &[u8]) -> Result<(Option<u32>, &[u8]), FieldFault>
     ensures { GivesField (λ n. n) result (optional_at node_at bytes.now) }
 {
-    match bytes {
-        [] => Err(FieldFault::Bad { left: 0 }),
-        [0, rest @ ..] => Ok((None, rest)),
-        [1, rest @ ..] => {
-            let (node, rest) = take_u32_at_most(LAST_NODE, rest)?;
-            Ok((Some(node), rest))
-        }
-        [_, ..] => Err(FieldFault::Bad { left: bytes.len() }),
+    let (there, rest) = take_flag(bytes)?;
+    if there {
+        let (node, rest) = take_u32_below(MAX_LAYER_NODES, rest)?;
+        Ok((Some(node), rest))
+    } else {
+        Ok((None, rest))
     }
 }
 
+/// The bytes after a file's entry.
 fn skip_file(bytes: &[u8]) -> Result<&[u8], FieldFault>
     ensures { Gives left_of (λ r. r.now) result (rest_of (making file file_entry_at bytes.now)) }
 {
     let (_, rest) = take_name(bytes)?;
-    let (_, rest) = take_u32_at_most(LAST_NODE, rest)?;
-    let (_, rest) = take_u32_at_most(MAX_BYTES, rest)?;
+    let (_, rest) = take_u32_below(MAX_LAYER_NODES, rest)?;
+    let (_, rest) = take_u32_at_most(MAX_FILE_BYTES, rest)?;
     let (_, rest) = take_u32(rest)?;
     let (_, rest) = take_bytes(32, rest)?;
     let (_, rest) = take_node_or_none(rest)?;
     Ok(rest)
 }
 
+/// The bytes after an entry of this part.
 #[tactic(auto, unfolding(crate::specs::Entries::entry_at))]
 fn skip_entry(part: u8, bytes: &[u8]) -> Result<&[u8], FieldFault>
     requires { (1 ≤ part) × (part ≤ 5) }
@@ -123,6 +125,7 @@ fn take_entry(part: u8, bytes: &[u8]) -> Result<(&[u8], &[u8]), FieldFault>
     Ok((entry, rest))
 }
 
+/// A flag, and an entry of a part that there is where it is 1.
 #[tactic(auto, unfolding(ov_fields::specs::Reading::optional_at))]
 fn take_some_entry(
     alloc: Global,
@@ -132,15 +135,13 @@ fn take_some_entry(
     requires { (1 ≤ part) × (part ≤ 5) }
     ensures { GivesField (λ e. e) result (optional_at (spanned (entry_at part)) bytes.now) }
 {
-    match bytes {
-        [] => Err(FieldFault::Bad { left: 0 }),
-        [0, rest @ ..] => Ok((None, rest)),
-        [1, rest @ ..] => {
-            let (entry, rest) = take_entry(part, rest)?;
-            let entry = Octets::copy(alloc, entry)?;
-            Ok((Some(entry), rest))
-        }
-        [_, ..] => Err(FieldFault::Bad { left: bytes.len() }),
+    let (there, rest) = take_flag(bytes)?;
+    if there {
+        let (entry, rest) = take_entry(part, rest)?;
+        let entry = Octets::copy(alloc, entry)?;
+        Ok((Some(entry), rest))
+    } else {
+        Ok((None, rest))
     }
 }
 

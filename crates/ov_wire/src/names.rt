@@ -20,6 +20,7 @@ pub fn take_names(alloc: Global, most: u16, bytes: &[u8]) -> Result<(Names, &[u8
     Ok((names, rest))
 }
 
+/// So many names, one after the other.
 fn take_each_name(alloc: Global, count: u16, bytes: &[u8]) -> Result<(Names, &[u8]), FieldFault>
     ensures { GivesField (λ n. n) result (new_names_at count [] bytes.now) }
 {
@@ -46,6 +47,7 @@ pub fn put_names(names: &Names, out: &mut Vec<u8>) -> Result<(), Memory>
     put_each_name(names, out)
 }
 
+/// Appends names, one after the other.
 fn put_each_name(names: &[Name], out: &mut Vec<u8>) -> Result<(), Memory>
     ensures { OnOk result (out.new.items ≡ out.old.items ++ flat_map name_field names.now) }
 {

@@ -6,9 +6,11 @@ ghost use Rattle.ov_fields.specs.Answers.{GivesField};
 ghost use Rattle.ov_fields.specs.Reading.{one_of_at, tagged_by};
 ghost use Rattle.ov_wire.specs.AnswersTo.{ask_refusals, create_refusals, enrol_refusals, grant_refusals, read_refusals, revoke_refusals, update_refusals};
 
+use crate::Question;
 use ov_base::Refusal;
 use ov_fields::FieldFault;
 
+/// The refusals of an enrolment.
 fn enrol_refusals() -> &'static [Refusal]
     ensures { result.now ≡ enrol_refusals }
 {
@@ -20,6 +22,7 @@ fn enrol_refusals() -> &'static [Refusal]
     ]
 }
 
+/// The refusals of a creation.
 pub fn create_refusals() -> &'static [Refusal]
     ensures { result.now ≡ create_refusals }
 {
@@ -33,6 +36,7 @@ pub fn create_refusals() -> &'static [Refusal]
     ]
 }
 
+/// The refusals of a grant.
 fn grant_refusals() -> &'static [Refusal]
     ensures { result.now ≡ grant_refusals }
 {
@@ -45,6 +49,7 @@ fn grant_refusals() -> &'static [Refusal]
     ]
 }
 
+/// The refusals of a revocation.
 fn revoke_refusals() -> &'static [Refusal]
     ensures { result.now ≡ revoke_refusals }
 {
@@ -57,21 +62,22 @@ fn revoke_refusals() -> &'static [Refusal]
     ]
 }
 
+/// The refusals of a reading.
 pub fn read_refusals() -> &'static [Refusal]
     ensures { result.now ≡ read_refusals }
 {
     &[Refusal::NoUser, Refusal::NoFile, Refusal::NoPath]
 }
 
-/// The refusals of an Ask with this verb.
-pub fn ask_refusals(verb: u8) -> &'static [Refusal]
-    ensures { result.now ≡ ask_refusals verb }
+/// The refusals of a command whose numbers are asked for.
+pub fn ask_refusals(question: &Question) -> &'static [Refusal]
+    ensures { result.now ≡ ask_refusals question.now }
 {
-    match verb {
-        1 => enrol_refusals(),
-        3 => grant_refusals(),
-        4 => revoke_refusals(),
-        _ => &[Refusal::NoUser],
+    match question {
+        Question::Enrol { .. } => enrol_refusals(),
+        Question::Grant { .. } => grant_refusals(),
+        Question::Revoke { .. } => revoke_refusals(),
+        Question::Key { .. } => &[Refusal::NoUser],
     }
 }
 
@@ -90,6 +96,7 @@ pub fn update_refusals(spelling: &[u8]) -> &'static [Refusal]
     }
 }
 
+/// The first of these refusals that has this number.
 fn with_number(refusals: &[Refusal], number: u8) -> Option<Refusal>
     ensures { result ≡ tagged_by refusal_number refusals.now number }
 {

@@ -2,17 +2,27 @@
 
 use ov_base::{Name, Names, Octets};
 
+/// A command whose numbers are asked for, by its names.
+#[derive(Drop)]
+pub enum Question {
+    /// To enrol this user.
+    Enrol { user: Name },
+    /// To put the user onto the file's list.
+    Grant { user: Name, file: Name },
+    /// To take the user off the file's list.
+    Revoke { user: Name, file: Name },
+    /// To make the user's keys.
+    Key { user: Name },
+}
+
 /// What an owner or a reader asks of a server.
 #[derive(Drop)]
 pub enum Request {
     /// Asks for the store's mode, epoch and check value.
     Hello,
-    /// Asks for the numbers that a command needs: verb 1 enrol, 3 grant, 4 revoke and 5 key. Each
-    /// names a user, and verbs 3 and 4 a file besides.
+    /// Asks for the numbers that a command needs.
     Ask {
-        verb: u8,
-        user: Option<Name>,
-        file: Option<Name>,
+        question: Question,
     },
     /// Asks where the list of a file of this length would stand in the base layer.
     Cover {

@@ -2,77 +2,72 @@
 
 ghost use Rattle.std.specs.Prelude.{◌≡◌, ◌≤◌, length, IfOk, Ok};
 ghost use Rattle.ov_fields.specs.Answers.{Gives, GivesField, left_of};
-ghost use Rattle.ov_fields.specs.Reading.{all_of, byte_at, by_rows, made, making, name_at};
+ghost use Rattle.ov_fields.specs.Reading.{all_of, by_rows, making, name_at};
 ghost use Rattle.ov_wire.specs.declared.request.Request.{Request};
 ghost use Rattle.ov_wire.specs.declared.request.Request.TheVariants as requests;
 ghost use Rattle.ov_wire.specs.Places.{place_of};
-ghost use Rattle.ov_wire.specs.RequestReading.{ask, ask_at, ask_names_at, chain, chain_at, chunk, chunk_at, cover, cover_at, page, page_at, request_of, request_rows, update, update_at};
-ghost use Rattle.ov_wire.specs.Requests.{is_verb, names_file, request_bytes, HasRequestCounts, HasRequestForm};
+ghost use Rattle.ov_wire.specs.RequestReading.{chain, chain_at, chunk, chunk_at, cover, cover_at, page, page_at, question_at, request_of, request_rows, update, update_at};
+ghost use Rattle.ov_wire.specs.Requests.{request_bytes, HasRequestForm, HasRequestLimits};
 
 use crate::names::take_names;
 use crate::update::take_spelling;
-use crate::{Request, WireFault};
-use ov_base::Octets;
+use crate::{Question, Request, WireFault};
+use ov_base::limits::{MAX_CHUNK_BYTES, MAX_FILE_BYTES, MAX_FRAME_BYTES};
+use ov_base::{Name, Octets};
 use ov_fields::{
     FieldFault, take_name, take_tag, take_u8, take_u32, take_u32_at_most, take_u32_between,
 };
 use std::alloc::Global;
 
-const MAX_BYTES: u32 = 1_048_576;
-
-const MAX_CHUNK: u64 = 65_536;
-
-fn is_verb(verb: u8) -> bool
-    ensures { result ≡ is_verb verb }
+/// The names of a user and of a file.
+fn take_two_names(bytes: &[u8]) -> Result<((Name, Name), &[u8]), FieldFault>
+    ensures { GivesField (λ n. n) result (chain_at bytes.now) }
 {
-    verb == 1 || verb == 3 || verb == 4 || verb == 5
+    let (user, rest) = take_name(bytes)?;
+    let (file, rest) = take_name(rest)?;
+    Ok(((user, file), rest))
 }
 
-fn names_file(verb: u8) -> bool
-    ensures { result ≡ names_file verb }
-{
-    verb == 3 || verb == 4
-}
-
-#[tactic(auto, unfolding(ov_fields::specs::Reading::byte_at))]
-fn take_verb(bytes: &[u8]) -> Result<(u8, &[u8]), FieldFault>
-    ensures { GivesField (λ v. v) result (byte_at is_verb bytes.now) }
+/// A verb, 1 enrol, 3 grant, 4 revoke or 5 key, and the names that the command has.
+#[tactic(auto, unfolding(crate::specs::RequestReading::question_at))]
+fn take_question(bytes: &[u8]) -> Result<(Question, &[u8]), FieldFault>
+    ensures { GivesField (λ q. q) result (question_at bytes.now) }
 {
     match bytes {
-        [verb, rest @ ..] if is_verb(*verb) => Ok((*verb, rest)),
+        [1, rest @ ..] => {
+            let (user, rest) = take_name(rest)?;
+            Ok((Question::Enrol { user }, rest))
+        }
+        [3, rest @ ..] => {
+            let ((user, file), rest) = take_two_names(rest)?;
+            Ok((Question::Grant { user, file }, rest))
+        }
+        [4, rest @ ..] => {
+            let ((user, file), rest) = take_two_names(rest)?;
+            Ok((Question::Revoke { user, file }, rest))
+        }
+        [5, rest @ ..] => {
+            let (user, rest) = take_name(rest)?;
+            Ok((Question::Key { user }, rest))
+        }
         _ => Err(FieldFault::Bad { left: bytes.len() }),
     }
 }
 
-fn take_ask_names(verb: u8, bytes: &[u8]) -> Result<(Request, &[u8]), FieldFault>
-    ensures { GivesField (λ r. r) result (made ask (ask_names_at (names_file verb) verb bytes.now)) }
-{
-    let (user, rest) = take_name(bytes)?;
-    let user = Some(user);
-    if names_file(verb) {
-        let (file, rest) = take_name(rest)?;
-        let file = Some(file);
-        Ok((Request::Ask { verb, user, file }, rest))
-    } else {
-        let file = None;
-        Ok((Request::Ask { verb, user, file }, rest))
-    }
-}
-
-#[tactic(auto, unfolding(crate::specs::RequestReading::ask_at))]
+/// What stands behind the kind byte of an Ask.
 fn take_ask(bytes: &[u8]) -> Result<(Request, &[u8]), FieldFault>
-    ensures { GivesField (λ r. r) result (making ask ask_at bytes.now) }
+    ensures { GivesField (λ r. r) result (making requests.Ask question_at bytes.now) }
 {
-    let (verb, rest) = take_verb(bytes)?;
-    let (request, rest) = take_ask_names(verb, rest)?;
-    Ok((request, rest))
+    let (question, rest) = take_question(bytes)?;
+    Ok((Request::Ask { question }, rest))
 }
 
+/// What stands behind the kind byte of a Cover.
 fn take_cover(alloc: Global, bytes: &[u8]) -> Result<(Request, &[u8]), FieldFault>
     ensures { GivesField (λ r. r) result (making cover cover_at bytes.now) }
 {
     let (file, rest) = take_name(bytes)?;
-    let (length, rest) = take_u32_at_most(MAX_BYTES, rest)?;
+    let (length, rest) = take_u32_at_most(MAX_FILE_BYTES, rest)?;
     let (names, rest) = take_names(alloc, u16::MAX, rest)?;
     let request = Request::Cover {
         file,
@@ -82,6 +77,7 @@ fn take_cover(alloc: Global, bytes: &[u8]) -> Result<(Request, &[u8]), FieldFaul
     Ok((request, rest))
 }
 
+/// What stands behind the kind byte of an Update.
 fn take_update(alloc: Global, bytes: &[u8]) -> Result<(Request, &[u8]), FieldFault>
     ensures { GivesField (λ r. r) result (making update update_at bytes.now) }
 {
@@ -96,6 +92,7 @@ fn take_update(alloc: Global, bytes: &[u8]) -> Result<(Request, &[u8]), FieldFau
     Ok((request, rest))
 }
 
+/// What stands behind the kind byte of a Chain.
 fn take_chain(bytes: &[u8]) -> Result<(Request, &[u8]), FieldFault>
     ensures { GivesField (λ r. r) result (making chain chain_at bytes.now) }
 {
@@ -104,13 +101,14 @@ fn take_chain(bytes: &[u8]) -> Result<(Request, &[u8]), FieldFault>
     Ok((Request::Chain { user, file }, rest))
 }
 
+/// What stands behind the kind byte of a Chunk.
 fn take_chunk(bytes: &[u8]) -> Result<(Request, &[u8]), FieldFault>
     ensures { GivesField (λ r. r) result (making chunk chunk_at bytes.now) }
 {
     let (file, rest) = take_u32(bytes)?;
     let (generation, rest) = take_u32(rest)?;
     let (start, rest) = take_u32(rest)?;
-    let (count, rest) = take_u32_between(1, MAX_CHUNK, rest)?;
+    let (count, rest) = take_u32_between(1, MAX_CHUNK_BYTES as u64, rest)?;
     let request = Request::Chunk {
         file,
         generation,
@@ -120,6 +118,7 @@ fn take_chunk(bytes: &[u8]) -> Result<(Request, &[u8]), FieldFault>
     Ok((request, rest))
 }
 
+/// What stands behind the kind byte of a Page.
 fn take_page(bytes: &[u8]) -> Result<(Request, &[u8]), FieldFault>
     ensures { GivesField (λ r. r) result (making page page_at bytes.now) }
 {
@@ -128,6 +127,7 @@ fn take_page(bytes: &[u8]) -> Result<(Request, &[u8]), FieldFault>
     Ok((Request::Page { part, number }, rest))
 }
 
+/// What stands behind the kind byte of a List.
 fn take_list(bytes: &[u8]) -> Result<(Request, &[u8]), FieldFault>
     ensures { GivesField (λ r. r) result (making requests.List name_at bytes.now) }
 {
@@ -135,6 +135,7 @@ fn take_list(bytes: &[u8]) -> Result<(Request, &[u8]), FieldFault>
     Ok((Request::List { file }, rest))
 }
 
+/// A request.
 fn take_request(alloc: Global, bytes: &[u8]) -> Result<(Request, &[u8]), FieldFault>
     ensures { GivesField (λ r. r) result (by_rows request_rows bytes.now) }
 {
@@ -154,6 +155,7 @@ fn take_request(alloc: Global, bytes: &[u8]) -> Result<(Request, &[u8]), FieldFa
     }
 }
 
+/// The request that all of the bytes are.
 fn read_all(alloc: Global, bytes: &[u8]) -> Result<Request, FieldFault>
     ensures { Gives left_of (λ r. r) result (all_of (by_rows request_rows bytes.now)) }
 {
@@ -164,18 +166,24 @@ fn read_all(alloc: Global, bytes: &[u8]) -> Result<Request, FieldFault>
     Ok(request)
 }
 
-/// The request that a frame is. The frame is without its length field.
+/// The request that a frame is. The frame is without its length field; in one that is longer than a
+/// frame may be, the first byte too many is wrong.
 pub fn read_request(alloc: Global, frame: &[u8]) -> Result<Request, WireFault>
     // What is read is spelled so.
     ensures found { IfOk result (λ r. HasRequestForm r × (frame.now ≡ request_bytes r)) }
     // It can be written again.
-    ensures counts { IfOk result HasRequestCounts }
+    ensures limits { IfOk result HasRequestLimits }
     // What is spelled so is read, unless memory runs out.
     ensures only { (r : Request) → HasRequestForm r → frame.now ≡ request_bytes r
         → Gives place_of (λ x. x) result (Ok r) }
     // Which place it is.
     ensures exact { Gives place_of (λ r. r) result (request_of frame.now) }
 {
+    if frame.len() > MAX_FRAME_BYTES as usize {
+        return Err(WireFault::Bad {
+            at: MAX_FRAME_BYTES,
+        });
+    }
     match read_all(alloc, frame) {
         Ok(request) => Ok(request),
         Err(FieldFault::Bad { left }) => Err(WireFault::Bad {

@@ -1,20 +1,51 @@
 //! Writing requests.
 
-ghost use Rattle.std.specs.Prelude.{◌≡◌, ◌++◌, OnErr, OnOk};
-ghost use Rattle.ov_wire.specs.Requests.{request_bytes, request_body, name_or_nothing, HasRequestCounts};
+ghost use Rattle.std.specs.Prelude.{◌≡◌, ◌≤◌, ◌∷◌, ◌++◌, length, OnErr, OnOk};
+ghost use Rattle.ov_fields.specs.Spelling.{counted, name_field, u32};
+ghost use Rattle.ov_wire.specs.Requests.{question_bytes, request_bytes, request_body, HasRequestForm, HasRequestLimits};
 
-use crate::Request;
+use crate::form::has_request_form;
 use crate::names::put_names;
-use ov_base::{Memory, Name};
+use crate::{Question, Request};
+use ov_base::{Memory, Name, Names};
 use ov_fields::{append, put_name, put_two, put_u32};
 
-fn put_name_or_nothing(name: &Option<Name>, out: &mut Vec<u8>) -> Result<(), Memory>
-    ensures { OnOk result (out.new.items ≡ out.old.items ++ name_or_nothing name.now) }
+/// Appends a byte and a name.
+fn put_byte_and_name(byte: u8, name: &Name, out: &mut Vec<u8>) -> Result<(), Memory>
+    ensures { OnOk result (out.new.items ≡ out.old.items ++ (byte ∷ name_field name.now)) }
 {
-    match name {
-        None => Ok(()),
-        Some(name) => put_name(name, out),
+    out.push(byte)?;
+    put_name(name, out)
+}
+
+/// Appends a verb, and the names that the command has.
+fn put_question(question: &Question, out: &mut Vec<u8>) -> Result<(), Memory>
+    ensures { OnOk result (out.new.items ≡ out.old.items ++ question_bytes question.now) }
+{
+    match question {
+        Question::Enrol { user } => put_byte_and_name(1, user, out)?,
+        Question::Grant { user, file } => {
+            put_byte_and_name(3, user, out)?;
+            put_name(file, out)?;
+        }
+        Question::Revoke { user, file } => {
+            put_byte_and_name(4, user, out)?;
+            put_name(file, out)?;
+        }
+        Question::Key { user } => put_byte_and_name(5, user, out)?,
     }
+    Ok(())
+}
+
+/// Appends a Cover.
+fn put_cover(file: &Name, len: u32, names: &Names, out: &mut Vec<u8>) -> Result<(), Memory>
+    requires { length names.now ≤ 65535 }
+    ensures { OnOk result (out.new.items ≡ out.old.items
+        ++ (3 ∷ name_field file.now ++ u32 len ++ counted name_field names.now)) }
+{
+    put_byte_and_name(3, file, out)?;
+    put_u32(len, out)?;
+    put_names(names, out)
 }
 
 /// The update's spelling, and the owner's tag.
@@ -29,35 +60,27 @@ fn body(request: &Request) -> (&[u8], &[u8])
 
 /// Appends the spelling without an update's spelling and tag.
 fn put_front(request: &Request, out: &mut Vec<u8>) -> Result<(), Memory>
-    requires { HasRequestCounts request.now }
+    requires { HasRequestLimits request.now }
     ensures { OnOk result (out.new.items ++ request_body request.now
         ≡ out.old.items ++ request_bytes request.now) }
 {
     match request {
         Request::Hello => out.push(1)?,
-        Request::Ask { verb, user, file } => {
+        Request::Ask { question } => {
             out.push(2)?;
-            out.push(*verb)?;
-            put_name_or_nothing(user, out)?;
-            put_name_or_nothing(file, out)?;
+            put_question(question, out)?;
         }
         Request::Cover {
             file,
             length,
             names,
-        } => {
-            out.push(3)?;
-            put_name(file, out)?;
-            put_u32(*length, out)?;
-            put_names(names, out)?;
-        }
+        } => put_cover(file, *length, names, out)?,
         Request::Update { epoch, .. } => {
             out.push(4)?;
             put_u32(*epoch, out)?;
         }
         Request::Chain { user, file } => {
-            out.push(5)?;
-            put_name(user, out)?;
+            put_byte_and_name(5, user, out)?;
             put_name(file, out)?;
         }
         Request::Chunk {
@@ -71,24 +94,23 @@ fn put_front(request: &Request, out: &mut Vec<u8>) -> Result<(), Memory>
             put_two(*start, *count, out)?;
         }
         Request::Page { part, number } => {
-            out.push(7)?;
-            out.push(*part)?;
+            out.extend_from_slice(&[7, *part])?;
             put_u32(*number, out)?;
         }
-        Request::List { file } => {
-            out.push(8)?;
-            put_name(file, out)?;
-        }
+        Request::List { file } => put_byte_and_name(8, file, out)?,
     }
     Ok(())
 }
 
 /// Appends the request's one spelling, without its length field.
 pub fn write_request(request: &Request, out: &mut Vec<u8>) -> Result<(), Memory>
-    requires { HasRequestCounts request.now }
+    requires { HasRequestLimits request.now }
     ensures ok { OnOk result (out.new.items ≡ out.old.items ++ request_bytes request.now) }
     ensures err { OnErr result (out.new.items ≡ out.old.items) }
+    // So what is written is read again.
+    ensures form { HasRequestForm request.now }
 {
+    has_request_form(request);
     let mut front = Vec::new(*out.allocator());
     put_front(request, &mut front)?;
     let (body, end) = body(request);

@@ -125,6 +125,14 @@ fn the_first_wrong_byte_is_named(rt: HostRuntime) -> Result<(), Fail> {
     Ok(())
 }
 
+#[test]
+fn a_bad_request_is_answered(rt: HostRuntime) -> Result<(), Fail> {
+    let mut out = Vec::new(rt.alloc());
+    write_answer(&Answer::BadRequest { at: 258 }, &mut out)?;
+    assert_eq!(rt; out.as_slice(), b"\x8b\0\0\x01\x02".as_slice());
+    Ok(())
+}
+
 /// The frames of the trace, fed in pieces of this size.
 fn frames_in_pieces(rt: &impl Abort, alloc: Global, size: usize) -> Result<Vec<Octets>, Fail>
     requires { 1 ≤ size }
@@ -157,7 +165,13 @@ fn pieces_of_any_size_give_the_same_frames(rt: HostRuntime) -> Result<(), Fail> 
 
 #[test]
 fn frames_of_a_trace_are_read_and_written_again(rt: HostRuntime) -> Result<(), Fail> {
-    let frames = frames_in_pieces(&rt, rt.alloc(), 653)?;
+    let mut pieces = Vec::new(rt.alloc());
+    for piece in TRACE.chunks(653) {
+        pieces.push(Octets::copy(rt.alloc(), piece)?)?;
+    }
+    let mut decoder = Decoder::new(rt.alloc())?;
+    let mut frames = Vec::new(rt.alloc());
+    assert_eq!(rt; decoder.feed_all(&pieces, &mut frames), Ok(()));
     for pair in frames.chunks(2) {
         assert_eq!(rt; pair.len(), 2);
         let (request, answer) = (pair[0].as_slice(), pair[1].as_slice());

@@ -8,7 +8,7 @@ returns-then-wanted-eq0 c =
     let begins : c.args.head ++ c.args.bytes.now ≡ u32 c.from_be_bytes-wanted.result ++ c.args.bytes.now = grind (arith, common_steps) in
     record { n = c.from_be_bytes-wanted.result; more = c.args.bytes.now; field = omega arith; outside = inl c.if-wanted-eq0.true; begins = begins }
 
-pub returns-then-wanted-gt-MAX_FRAME : goal.returns-then-wanted-gt-MAX_FRAME
-returns-then-wanted-gt-MAX_FRAME c =
+pub returns-then-wanted : goal.returns-then-wanted
+returns-then-wanted c =
     let begins : c.args.head ++ c.args.bytes.now ≡ u32 c.from_be_bytes-wanted.result ++ c.args.bytes.now = grind (arith, common_steps) in
-    record { n = c.from_be_bytes-wanted.result; more = c.args.bytes.now; field = omega arith; outside = inr c.if-wanted-gt-MAX_FRAME.true; begins = begins }
+    record { n = c.from_be_bytes-wanted.result; more = c.args.bytes.now; field = omega arith; outside = inr c.if-wanted.true; begins = begins }

@@ -1,6 +1,6 @@
 use Rattle.std.proofs.Common.{arith}
 use Rattle.ov_fields.proofs.TagLaws.{span_found}
-use Rattle.ov_wire.proofs.NumberLaws.{of_between}
+use Rattle.ov_fields.proofs.TestLaws.{of_between}
 use Rattle.ov_wire.proofs.EntryLaws.{entry_reads}
 use Rattle.ov_wire.proofs.entries.take_entry.Goals as goal
 

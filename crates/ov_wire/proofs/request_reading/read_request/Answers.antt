@@ -1,28 +1,40 @@
-use Rattle.std.proofs.Common.{◌∙◌, ap, sym, List, ℕ, arith}
-use Rattle.ov_fields.specs.Reading.{all_of, by_rows}
+use Rattle.std.proofs.Common.{◌≤◌, List, ℕ, length, sym, ap, ◌∙◌, arith}
+use Rattle.std.proofs.lemmas.Grind.{common_steps}
+use Rattle.ov_base.specs.declared.limits.TheConstants.{MAX_FRAME_BYTES}
+use Rattle.ov_fields.specs.Reading.{all_of, by_rows, placed}
 use Rattle.ov_wire.specs.RequestReading.{request_rows}
-use Rattle.ov_wire.proofs.RequestLaws.{request_takes, request_again, request_near, request_counts}
+use Rattle.ov_wire.proofs.RequestLaws.{request_takes, request_near, request_again, request_limits}
+use Rattle.ov_wire.proofs.LongFrames.{too_long, not_long}
 use Rattle.ov_wire.proofs.request_reading.read_request.Goals as goal
 
 pub overflow_sub-result : goal.overflow_sub-result
 overflow_sub-result c =
     (request_near c.args.frame.now c.in-Err-Bad.left (record { each = λ i. omega (arith, c.type_inv.frame i) }) (rw c.in-Err-Bad.field-0-is at c.in-Err-Bad.ensures)).0
 
-pub overflow_cast-result : goal.overflow_cast-result
-overflow_cast-result c =
-    let near = (request_near c.args.frame.now c.in-Err-Bad.left (record { each = λ i. omega (arith, c.type_inv.frame i) }) (rw c.in-Err-Bad.field-0-is at c.in-Err-Bad.ensures)).1 in
-    omega (arith, near)
+pub returns-then-frame-clause-only : goal.returns-then-frame-clause-only
+returns-then-frame-clause-only c = λ r form e. absurd (omega (arith, form.fits, ap length e))
+
+pub returns-then-frame-clause-exact : goal.returns-then-frame-clause-exact
+returns-then-frame-clause-exact c = too_long c.args.frame.now _ (omega arith)
 
 pub returns-in-Ok-clause-found : goal.returns-in-Ok-clause-found
-returns-in-Ok-clause-found c = request_takes c.args.frame.now c.in-Ok.request (record { each = λ i. omega (arith, c.type_inv.frame i) }) c.in-Ok.ensures
+returns-in-Ok-clause-found c = request_takes c.args.frame.now c.in-Ok.request (record { each = λ i. omega (arith, c.type_inv.frame i) }) (omega arith) c.in-Ok.ensures
+
+pub returns-in-Ok-clause-limits : goal.returns-in-Ok-clause-limits
+returns-in-Ok-clause-limits c =
+    request_limits c.in-Ok.request (request_takes c.args.frame.now c.in-Ok.request (record { each = λ i. omega (arith, c.type_inv.frame i) }) (omega arith) c.in-Ok.ensures).0
 
 pub returns-in-Ok-clause-only : goal.returns-in-Ok-clause-only
-returns-in-Ok-clause-only c = λ r fits e. sym (request_again r fits) ∙ ap (λ (bytes : List ℕ). all_of (by_rows request_rows bytes)) (sym e) ∙ c.in-Ok.ensures
+returns-in-Ok-clause-only c = λ r form e. sym (request_again r form.is_request) ∙ ap (λ (bytes : List ℕ). all_of (by_rows request_rows bytes)) (sym e) ∙ c.in-Ok.ensures
+
+pub returns-in-Ok-clause-exact : goal.returns-in-Ok-clause-exact
+returns-in-Ok-clause-exact c = not_long c.args.frame.now _ (omega arith) ∙ ap (placed (length c.args.frame.now)) c.in-Ok.ensures
 
 pub returns-in-Err-Bad-clause-only : goal.returns-in-Err-Bad-clause-only
-returns-in-Err-Bad-clause-only c = λ r fits e.
-    let none = sym (request_again r fits) ∙ ap (λ (bytes : List ℕ). all_of (by_rows request_rows bytes)) (sym e) ∙ (rw c.in-Err-Bad.field-0-is at c.in-Err-Bad.ensures) in cc
+returns-in-Err-Bad-clause-only c = λ r form e.
+    let none = sym (request_again r form.is_request) ∙ ap (λ (bytes : List ℕ). all_of (by_rows request_rows bytes)) (sym e) ∙ (rw c.in-Err-Bad.field-0-is at c.in-Err-Bad.ensures) in cc
 
-pub returns-in-Ok-clause-counts : goal.returns-in-Ok-clause-counts
-returns-in-Ok-clause-counts c =
-    request_counts c.in-Ok.request (request_takes c.args.frame.now c.in-Ok.request (record { each = λ i. omega (arith, c.type_inv.frame i) }) c.in-Ok.ensures).0
+pub returns-in-Err-Bad-clause-exact : goal.returns-in-Err-Bad-clause-exact
+returns-in-Err-Bad-clause-exact c =
+    let few : length c.args.frame.now ≤ MAX_FRAME_BYTES = omega arith in
+    rw (not_long c.args.frame.now (placed (length c.args.frame.now) (all_of (by_rows request_rows c.args.frame.now))) few) (grind (arith, common_steps))

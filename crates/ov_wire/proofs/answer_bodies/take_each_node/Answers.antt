@@ -3,7 +3,7 @@ use Rattle.ov_fields.specs.Answers.{left_of}
 use Rattle.ov_fields.specs.Reading.{many_at}
 use Rattle.ov_wire.specs.Entries.{node_at}
 use Rattle.ov_fields.proofs.Loops.{goes_on, ends, is_done}
-use Rattle.ov_wire.proofs.answer_reading.take_each_node.Goals as goal
+use Rattle.ov_wire.proofs.answer_bodies.take_each_node.Goals as goal
 
 pub returns-in_err-node : goal.returns-in_err-node
 returns-in_err-node c =

@@ -1,0 +1,24 @@
+//! What holds of all frames.
+
+ghost use Rattle.ov_wire.specs.AnswerForm.{AnswersAreReadAlike, AnswersFitFrames};
+ghost use Rattle.ov_wire.specs.Laws.{FramesAreToldApart, RequestsFitFrames};
+
+/// The law of frames: none behind its length field is the front of another's.
+pub fn frames_are_told_apart()
+    ensures { FramesAreToldApart }
+{}
+
+/// The law of requests: each with form fits a frame.
+pub fn requests_fit_frames()
+    ensures { RequestsFitFrames }
+{}
+
+/// The law of answers: each with form fits a frame.
+pub fn answers_fit_frames()
+    ensures { AnswersFitFrames }
+{}
+
+/// The law of reading answers: one with form is read as itself or not at all, whatever was asked.
+pub fn answers_are_read_alike()
+    ensures { AnswersAreReadAlike }
+{}
