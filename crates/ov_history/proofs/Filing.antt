@@ -1,182 +1,251 @@
--- The files of a store that keeps a history are kept in their coats and with their tags.
-use Rattle.std.proofs.Common.{◌≡◌, ℕ, zero, suc, ◌+◌, Bool, true, false, List, [], ◌∷◌, ◌++◌, length, refl, sym, ◌∙◌, ap, subst, arith}
+-- The files of a history that its owner seals are kept in their coats and with their tags.
+use Rattle.std.proofs.Common.{◌≡◌, ◌<◌, ◌+◌, ℕ, zero, suc, Bool, true, false, List, [], ◌∷◌, ◌++◌}
+use Rattle.std.proofs.Common.{length, refl, sym, ◌∙◌, ap, subst, arith, inl, inr, length-append}
 use Rattle.std.specs.Prelude.{Option, Some, None, slice_get, slice_index_or}
+use Rattle.std.proofs.lemmas.Bool.{cases_lt}
+use Rattle.std.proofs.lemmas.List.{get_or_append_left}
+use Rattle.std.proofs.lemmas.Option.{get_or_from_slice_get, slice_get_within}
+use Rattle.ov_graph.proofs.GraphLaws.{last_item}
+use Rattle.ov_record.specs.Updates.{SealedUpdate}
+use Rattle.ov_tokens.specs.declared.label.Kind.TheVariants.{Access}
+use Rattle.ov_tokens.specs.Labels.{label_of}
 use Rattle.ov_surface.specs.Coats.{base_text, stored_under}
 use Rattle.ov_surface.specs.Tags.{tag_of_file}
-use Rattle.ov_surface.proofs.CoatLaws.{both_come_off, recoated}
-use Rattle.ov_history.specs.Places.{change_at}
-use Rattle.ov_history.specs.History.{Update, Enrolled, Created, Granted, Revoked, File, Matrix, History, listed, delisted, changed, matrix_of, with_update}
-use Rattle.ov_history.specs.Lists.{no_file, file_at}
-use Rattle.ov_history.specs.Layers.{Layers, node_for, lists_of, lists_after, wants_of, with_wants, surface_at, same_surface, layers_of}
-use Rattle.ov_history.specs.Shown.{Filed, Shown, outer, outline, places, grown_shown, refiled, settled_files, surface_key, shown_after}
-use Rattle.ov_history.specs.Sealed.{Masters, SealedHistory, access_key, sealed, sealed_update, shown}
-use Rattle.ov_history.specs.Kept.{IsFiledAs, opened}
-use Rattle.ov_history.specs.Laws.{FilesAreFiled, ReadersGetBytes}
-use Rattle.ov_history.proofs.GoingOn.{shown-push}
+use Rattle.ov_surface.proofs.CoatLaws.{both_come_off}
+use Rattle.ov_history.specs.Plain.{PlainCreate, PlainEnrol, PlainGrant, PlainHistory, PlainRevoke}
+use Rattle.ov_history.specs.Plain.{PlainUpdate, bytes_of, history_of, texts_after, texts_of}
+use Rattle.ov_history.specs.Plain.{with_plain}
+use Rattle.ov_history.specs.Layers.{Layers, layers_of, lists_after, lists_of, node_for}
+use Rattle.ov_history.specs.Layers.{same_surface, surface_at, wants_of, with_wants}
+use Rattle.ov_history.specs.Briefs.{brief, outer, text_of}
+use Rattle.ov_history.specs.Catalogue.{Catalogue, Filed, catalogue_after, grown_catalogue, no_filed}
+use Rattle.ov_history.specs.Catalogue.{outline, places, refiled, settled_files}
+use Rattle.ov_history.specs.Rewrites.{surface_key, with_text}
+use Rattle.ov_history.specs.Masters.{Masters, access_key}
+use Rattle.ov_history.specs.Sealed.{SealedHistory, catalogue_of, sent_of}
+use Rattle.ov_history.specs.Sealing.{sealed, sealed_update}
+use Rattle.ov_history.specs.Kept.{opened, padded}
+use Rattle.ov_history.specs.Closure.{surface_label}
+use Rattle.ov_history.specs.KeptLaws.{BytesLieUnderPads, EachIsStored, FilesAreFiled}
+use Rattle.ov_history.specs.KeptLaws.{ReadersGetBytes}
+use Rattle.ov_history.proofs.GoingOn.{sent-push}
+use Rattle.ov_history.proofs.Keeping.{catalogue-sealed, kept_stands_for, layers-sealed}
 use Rattle.ov_history.proofs.Outlining.{length-places}
-use Rattle.ov_history.proofs.Pushing.{each_history, matrix_of-push}
+use Rattle.ov_history.proofs.PlainLaws.{each_plain, texts_of-push}
 use Rattle.ov_history.proofs.Sealing.{sealing_goes_on}
-use Rattle.ov_history.proofs.TrueAfterHistories.{outlines_go_on}
+use Rattle.ov_history.proofs.Storing.{length-settled_files, stored_is_coated}
 
--- each file is kept as the file of the matrix that has its number, from this number on
-abbrev pub AreFiled : Masters → ℕ → List File → List Filed → Type 0
-AreFiled k number [] [] = Unit {0}
-AreFiled k number [] (f ∷ kept) = ⊥
-AreFiled k number (file ∷ files) [] = ⊥
-AreFiled k number (file ∷ files) (f ∷ kept) = IsFiledAs k number file f × AreFiled k (number + 1) files kept
+-- ---- one file
 
--- ---- surfaces
+-- a file came as it should: its text is its bytes in the coat of its base node, and its tag is
+-- theirs
+record IsSentAs (k : Masters) (number : ℕ) (f : Filed) (bytes text : List ℕ) : Type 0 where
+  base : text ≡ base_text (access_key k.base f.node) number bytes
+  tag : f.tag ≡ tag_of_file (access_key k.base f.node) number bytes
 
--- a new surface takes the coat of the old one off and lays its own
-refiled_as : (k : Masters) (b : Bool) (epoch : ℕ) (surface : Option ℕ) (number : ℕ) (file : File) (f : Filed)
-    → IsFiledAs k number file f → IsFiledAs k number file (refiled b k.surface epoch surface number f)
-refiled_as k true epoch surface number file f filed = filed
-refiled_as k false epoch surface number file f filed = record {
-  name = filed.name;
-  bytes = recoated (surface_key k.surface f.surface) (surface_key k.surface surface) number 0 f.bytes
-      (stored_under (surface_key k.surface f.surface) number f.bytes)
-      (stored_under (surface_key k.surface surface) number (stored_under (surface_key k.surface f.surface) number f.bytes))
-      (base_text (access_key k.base f.node) number file.bytes)
-      refl refl filed.bytes;
-  tag = filed.tag;
-}
+refiled_sent : (k : Masters) (b : Bool) (epoch : ℕ) (surface : Option ℕ) (number : ℕ) (f : Filed)
+    (bytes text : List ℕ)
+    → IsSentAs k number f bytes text → IsSentAs k number (refiled b epoch surface f) bytes text
+refiled_sent k true epoch surface number f bytes text sent = sent
+refiled_sent k false epoch surface number f bytes text sent =
+    record { base = sent.base; tag = sent.tag }
 
-settled_as : (k : Masters) (epoch : ℕ) (sets : List ℕ) (number : ℕ) (wants : List (Option ℕ)) (files : List File) (kept : List Filed)
-    → AreFiled k number files kept → AreFiled k number files (settled_files k.surface epoch sets number wants kept)
-settled_as k epoch sets number [] files kept filed = filed
-settled_as k epoch sets number (want ∷ wants) [] [] filed = tt
-settled_as k epoch sets number (want ∷ wants) [] (f ∷ kept) filed = absurd filed
-settled_as k epoch sets number (want ∷ wants) (file ∷ files) [] filed = absurd filed
-settled_as k epoch sets number (want ∷ wants) (file ∷ files) (f ∷ kept) filed = (
-  refiled_as k (same_surface f.surface (surface_at sets want)) epoch (surface_at sets want) number file f filed.0,
-  settled_as k epoch sets (number + 1) wants files kept filed.1,
-)
+-- a new surface is no change of either
+settled_sent : (k : Masters) (epoch : ℕ) (sets : List ℕ) (wants : List (Option ℕ))
+    (files : List Filed) (place number : ℕ)
+    (bytes text : List ℕ)
+    → IsSentAs k number (slice_index_or files place no_filed) bytes text
+    → IsSentAs k number (slice_index_or (settled_files epoch sets wants files) place no_filed) bytes
+    text
+settled_sent k epoch sets [] files place number bytes text sent = sent
+settled_sent k epoch sets (want ∷ wants) [] place number bytes text sent = sent
+settled_sent k epoch sets (want ∷ wants) (f ∷ files) zero number bytes text sent =
+    refiled_sent k (same_surface f.surface (surface_at sets want)) epoch (surface_at sets want)
+    number f bytes text sent
+settled_sent k epoch sets (want ∷ wants) (f ∷ files) (suc place) number bytes text sent =
+    settled_sent k epoch sets wants files place number bytes text sent
 
--- ---- the matrix
+-- ---- all files
 
--- a change of a file's list is no change of its name and bytes
-changed_as : (k : Masters) (change : File → File)
-    → ((number : ℕ) (file : File) (f : Filed) → IsFiledAs k number file f → IsFiledAs k number (change file) f)
-    → (number place : ℕ) (files : List File) (kept : List Filed)
-    → AreFiled k number files kept → AreFiled k number (change_at change place files) kept
-changed_as k change one number place [] kept filed = filed
-changed_as k change one number zero (file ∷ files) [] filed = absurd filed
-changed_as k change one number zero (file ∷ files) (f ∷ kept) filed = (one number file f filed.0, filed.1)
-changed_as k change one number (suc place) (file ∷ files) [] filed = absurd filed
-changed_as k change one number (suc place) (file ∷ files) (f ∷ kept) filed =
-    (filed.0, changed_as k change one (number + 1) place files kept filed.1)
+-- each file came so
+record AllSent (k : Masters) (files : List Filed) (bytes texts : List (List ℕ)) : Type 0 where
+  bytes_many : length bytes ≡ length files
+  texts_many : length texts ≡ length files
+  each : (n : ℕ) → n < length files
+      → IsSentAs k n (slice_index_or files n no_filed) (slice_index_or bytes n [])
+      (slice_index_or texts n [])
 
--- one more file
-pushed_as : (k : Masters) (number : ℕ) (files : List File) (kept : List Filed) (file : File) (f : Filed)
-    → AreFiled k number files kept → IsFiledAs k (number + length kept) file f
-    → AreFiled k number (files ++ file ∷ []) (kept ++ f ∷ [])
-pushed_as k number [] [] file f filed one = (subst (λ n. IsFiledAs k n file f) (omega arith) one, tt)
-pushed_as k number [] (g ∷ kept) file f filed one = absurd filed
-pushed_as k number (first ∷ files) [] file f filed one = absurd filed
-pushed_as k number (first ∷ files) (g ∷ kept) file f filed one = (
-  filed.0,
-  pushed_as k (number + 1) files kept file f filed.1 (subst (λ n. IsFiledAs k n file f) (omega arith) one),
-)
+module _ (k : Masters) (files : List Filed) (bytes texts : List (List ℕ)) (f : Filed)
+    (plain text : List ℕ) where
+  more_sent : AllSent k files bytes texts → IsSentAs k (length files) f plain text
+      → AllSent k (files ++ f ∷ []) (bytes ++ plain ∷ []) (texts ++ text ∷ [])
+  more_sent all one = record {
+    bytes_many =
+        omega (arith, all.bytes_many, length-append bytes (plain ∷ []), length-append files (f ∷ []));
+    texts_many =
+        omega (arith, all.texts_many, length-append texts (text ∷ []), length-append files (f ∷ []));
+    each = λ n below. elim (cases_lt n (length files)) [
+      | inl old ↦
+          sent_by n (sym (get_or_append_left files (f ∷ []) no_filed n old))
+          (sym (get_or_append_left bytes (plain ∷ []) [] n (omega (arith, all.bytes_many))))
+          (sym (get_or_append_left texts (text ∷ []) [] n (omega (arith, all.texts_many))))
+          (all.each n old)
+      | inr past ↦
+          let here : n ≡ length files = omega (arith, length-append files (f ∷ [])) in
+          sent_by n (sym (last_item files f n no_filed here))
+          (sym (last_item bytes plain n [] (here ∙ sym all.bytes_many)))
+          (sym (last_item texts text n [] (here ∙ sym all.texts_many)))
+          (subst (λ m. IsSentAs k m f plain text) (sym here) one)
+    ];
+  } where
+    sent_by : (n : ℕ) {g h : Filed} {these those : List ℕ} {one other : List ℕ} → g ≡ h
+        → these ≡ those → one ≡ other
+        → IsSentAs k n g these one → IsSentAs k n h those other
+    sent_by n {g = g} {h = h} {these = these} {those = those} {one = one} {other = other} file
+        plains texts sent =
+        subst (λ (x : List ℕ). IsSentAs k n h those x) texts
+        (subst (λ (x : List ℕ). IsSentAs k n h x one) plains
+        (subst (λ (x : Filed). IsSentAs k n x these one) file sent))
 
--- ---- one update
-
--- a file that was just created has the coat of its base node alone
-grown_as : (k : Masters) (s : Shown) (m : Matrix) (u : Update) → AreFiled k 0 m.files s.files
-    → AreFiled k 0 (changed m u).files (grown_shown s (sealed_update k (outline s) u)).files
-grown_as k s m (Enrolled user) filed = filed
-grown_as k s m (Created name list bytes) filed =
-    let access = access_key k.base (node_for s.base.sets list) in
-    let number = length (places s.files) in
-    let file : File = record { name = name; bytes = bytes; list = list } in
+-- a file that was just created has the coat of its base node
+grown_sent : (k : Masters) (c : Catalogue) (bytes texts : List (List ℕ)) (u : PlainUpdate)
+    → AllSent k c.files bytes texts
+    → let sent = sealed_update k (outline c) u in
+    AllSent k (grown_catalogue c (brief sent)).files (texts_after bytes u)
+    (with_text texts (text_of sent))
+grown_sent k c bytes texts (PlainEnrol user) all = all
+grown_sent k c bytes texts (PlainCreate file list plain) all =
+    let access = access_key k.base (node_for c.base.sets list) in
+    let number = length (places c.files) in
+    let text : List ℕ = base_text access number plain in
     let f : Filed = record {
-      name = name;
-      node = node_for s.base.sets list;
+      name = file;
+      node = node_for c.base.sets list;
       surface = None;
-      generation = s.epoch + 1;
-      tag = tag_of_file access number bytes;
-      bytes = base_text access number bytes;
+      generation = c.epoch + 1;
+      tag = tag_of_file access number plain;
+      length = length text;
     } in
-    let one : IsFiledAs k number file f = record { name = refl; bytes = refl; tag = refl } in
-    let last : number ≡ 0 + length s.files = omega (arith, length-places s.files) in
-    pushed_as k 0 m.files s.files file f filed (subst (λ n. IsFiledAs k n file f) last one)
-grown_as k s m (Granted user place) filed =
-    changed_as k (listed user) (λ n file f one. record { name = one.name; bytes = one.bytes; tag = one.tag })
-    0 place m.files s.files filed
-grown_as k s m (Revoked user place) filed =
-    changed_as k (delisted user) (λ n file f one. record { name = one.name; bytes = one.bytes; tag = one.tag })
-    0 place m.files s.files filed
+    let one : IsSentAs k number f plain text = record { base = refl; tag = refl } in
+    more_sent k c.files bytes texts f plain text all
+    (subst (λ n. IsSentAs k n f plain text) (length-places c.files) one)
+grown_sent k c bytes texts (PlainGrant user file) all = all
+grown_sent k c bytes texts (PlainRevoke user file) all = all
 
-after_as : (k : Masters) (s : Shown) (m : Matrix) (u : Update) → AreFiled k 0 m.files s.files
-    → AreFiled k 0 (changed m u).files (shown_after k.surface s (sealed_update k (outline s) u)).files
-after_as k s m u filed =
-    let next : Shown = grown_shown s (sealed_update k (outline s) u) in
-    let wants = wants_of (outline next) (lists_after (lists_of (outline s)) (outer (sealed_update k (outline s) u))) in
-    settled_as k next.epoch (with_wants next.surface.sets wants) 0 wants (changed m u).files next.files (grown_as k s m u filed)
+sent_after : (k : Masters) (c : Catalogue) (bytes texts : List (List ℕ)) (u : PlainUpdate)
+    → AllSent k c.files bytes texts
+    → let sent = sealed_update k (outline c) u in
+    AllSent k (catalogue_after k.surface c (brief sent)).files (texts_after bytes u)
+    (with_text texts (text_of sent))
+sent_after k c bytes texts u all =
+    let sent : SealedUpdate = sealed_update k (outline c) u in
+    let next : Catalogue = grown_catalogue c (brief sent) in
+    let wants : List (Option ℕ) =
+    wants_of (outline next) (lists_after (lists_of (outline c)) (outer (brief sent))) in
+    let sets : List ℕ = with_wants next.surface.sets wants in
+    let now = grown_sent k c bytes texts u all in
+    let many = length-settled_files next.epoch sets wants next.files in record {
+      bytes_many = now.bytes_many ∙ sym many;
+      texts_many = now.texts_many ∙ sym many;
+      each = λ n below.
+          settled_sent k next.epoch sets wants next.files n n
+          (slice_index_or (texts_after bytes u) n [])
+          (slice_index_or (with_text texts (text_of sent)) n [])
+          (now.each n (omega (arith, many)));
+    }
 
 -- ---- histories
 
--- a store stands in the layers of the history, and its files are kept as in the matrix
-pub record KeepsFiles (k : Masters) (h : History) (s : Shown) : Type 0 where
-  pub layers : outline s ≡ layers_of h
-  pub files : AreFiled k 0 (matrix_of h).files s.files
+abbrev KeepsFiles : Masters → PlainHistory → Type 0
+KeepsFiles k p =
+    AllSent k (catalogue_of k.surface (sealed k p)).files (texts_of p) (sent_of (sealed k p))
 
-after_history : (k : Masters) (h : History) (u : Update) (s : Shown) → KeepsFiles k h s
-    → KeepsFiles k (with_update h u) (shown_after k.surface s (sealed_update k (layers_of h) u))
-after_history k h u s keeps = record {
-  layers = outlines_go_on k s h u keeps.layers;
-  files = subst (λ (m : Matrix). AreFiled k 0 m.files (shown_after k.surface s (sealed_update k (layers_of h) u)).files)
-      (sym (matrix_of-push h u))
-      (subst (λ (y : Layers). AreFiled k 0 (changed (matrix_of h) u).files (shown_after k.surface s (sealed_update k y u)).files)
-      keeps.layers (after_as k s (matrix_of h) u keeps.files));
-}
+-- the texts after one more update that is sealed
+sent-sealed : (k : Masters) (p : PlainHistory) (u : PlainUpdate)
+    → sent_of (sealed k (with_plain p u))
+    ≡ with_text (sent_of (sealed k p)) (text_of (sealed_update k (layers_of (history_of p)) u))
+sent-sealed k p u =
+    ap (λ (g : SealedHistory). sent_of g) (sealing_goes_on k p u)
+    ∙ sent-push (sealed k p) (sealed_update k (layers_of (history_of p)) u)
 
--- what is shown after one more update that is sealed
-pub shown-sealed : (k : Masters) (h : History) (u : Update)
-    → shown k.surface (sealed k (with_update h u))
-    ≡ shown_after k.surface (shown k.surface (sealed k h)) (sealed_update k (layers_of h) u)
-shown-sealed k h u =
-    ap (λ (g : SealedHistory). shown k.surface g) (sealing_goes_on k h u)
-    ∙ shown-push k.surface (sealed k h) (sealed_update k (layers_of h) u)
+keeps_more : (k : Masters) (p : PlainHistory) (u : PlainUpdate) → KeepsFiles k p
+    → KeepsFiles k (with_plain p u)
+keeps_more k p u keeps =
+    let c : Catalogue = catalogue_of k.surface (sealed k p) in
+    let sent : SealedUpdate = sealed_update k (layers_of (history_of p)) u in
+    let after : AllSent k (catalogue_after k.surface c (brief sent)).files
+    (texts_after (texts_of p) u)
+    (with_text (sent_of (sealed k p)) (text_of sent)) =
+    subst
+    (λ (y : Layers). AllSent k (catalogue_after k.surface c (brief (sealed_update k y u))).files
+    (texts_after (texts_of p) u) (with_text (sent_of (sealed k p)) (text_of (sealed_update k y u))))
+    (layers-sealed k p) (sent_after k c (texts_of p) (sent_of (sealed k p)) u keeps) in
+    subst
+    (λ (d : Catalogue). AllSent k d.files (texts_of (with_plain p u))
+    (sent_of (sealed k (with_plain p u))))
+    (sym (catalogue-sealed k p u))
+    (subst
+    (λ (bytes : List (List ℕ)). AllSent k (catalogue_after k.surface c (brief sent)).files bytes
+    (sent_of (sealed k (with_plain p u))))
+    (sym (texts_of-push p u))
+    (subst
+    (λ (texts : List (List ℕ)). AllSent k (catalogue_after k.surface c (brief sent)).files
+    (texts_after (texts_of p) u) texts)
+    (sym (sent-sealed k p u)) after))
 
-files_kept : (k : Masters) (h : History) → KeepsFiles k h (shown k.surface (sealed k h))
-files_kept k = each_history (λ (h : History). KeepsFiles k h (shown k.surface (sealed k h)))
-    (λ h. record { layers = refl; files = tt })
-    (λ h u keeps.
-    subst (λ (s : Shown). KeepsFiles k (with_update h u) s) (sym (shown-sealed k h u))
-    (after_history k h u (shown k.surface (sealed k h)) keeps))
+files_kept : (k : Masters) (p : PlainHistory) → KeepsFiles k p
+files_kept k = each_plain (λ (p : PlainHistory). KeepsFiles k p)
+    (λ p. record { bytes_many = refl; texts_many = refl; each = λ n below. absurd (omega arith) })
+    (λ p u keeps. keeps_more k p u keeps)
 
 -- ---- the laws
 
-one_filed : (k : Masters) (number place : ℕ) (files : List File) (kept : List Filed) (f : Filed) → AreFiled k number files kept
-    → slice_get kept place ≡ Some f
-    → IsFiledAs k (number + place) (slice_index_or files place no_file) f
-one_filed k number place files [] f filed is = absurd (cc)
-one_filed k number place [] (first ∷ kept) f filed is = absurd filed
-one_filed k number zero (file ∷ files) (first ∷ kept) f filed is =
-    let same : first ≡ f = cc in
-    subst (λ (g : Filed). IsFiledAs k (number + 0) file g) same (subst (λ n. IsFiledAs k n file first) (omega arith) filed.0)
-one_filed k number (suc place) (file ∷ files) (first ∷ kept) f filed is =
-    subst (λ n. IsFiledAs k n (slice_index_or files place no_file) f) (omega arith)
-    (one_filed k (number + 1) place files kept f filed.1 is)
+pub each_is_stored : EachIsStored
+each_is_stored k p c stored kept bytes =
+    (stored_is_coated k.surface c stored (sealed k p) (kept_stands_for k p c kept) bytes).each
+
+sent_as : (k : Masters) (p : PlainHistory) (file : ℕ) (f : Filed)
+    → slice_get (catalogue_of k.surface (sealed k p)).files file ≡ Some f
+    → IsSentAs k file f (bytes_of p file) (slice_index_or (sent_of (sealed k p)) file [])
+sent_as k p file f is =
+    let files : List Filed = (catalogue_of k.surface (sealed k p)).files in
+    subst
+    (λ (g : Filed). IsSentAs k file g (bytes_of p file)
+    (slice_index_or (sent_of (sealed k p)) file []))
+    (get_or_from_slice_get files file f no_filed is)
+    ((files_kept k p).each file (slice_get_within files file f is))
 
 pub files_are_filed : FilesAreFiled
-files_are_filed k h s number f (legal, is) there =
-    subst (λ n. IsFiledAs k n (file_at (matrix_of h) number) f) (omega arith)
-    (one_filed k 0 number (matrix_of h).files s.files f
-    (subst (λ (t : Shown). AreFiled k 0 (matrix_of h).files t.files) (sym is) (files_kept k h).files) there)
+files_are_filed k p c stored file f (legal, same) bytes is =
+    let coats =
+    stored_is_coated k.surface c stored (sealed k p) (kept_stands_for k p c (legal, same)) bytes in
+    let sent =
+    sent_as k p file f (ap (λ (d : Catalogue). slice_get d.files file) (sym same) ∙ is) in record {
+      coats =
+          coats.coats file f is
+          ∙ ap (λ text. stored_under (surface_key k.surface f.surface) file text) sent.base;
+      tag = sent.tag;
+    }
 
--- under the two coats of a file as it is kept are its bytes
-opened_as : (k : Masters) (number : ℕ) (file : File) (f : Filed) → IsFiledAs k number file f
-    → opened (access_key k.base f.node) (surface_key k.surface f.surface) number f.bytes ≡ file.bytes
-opened_as k number file f filed =
-    let access = access_key k.base f.node in
-    let surface = surface_key k.surface f.surface in
-    ap (λ stored. opened access surface number stored) filed.bytes ∙ both_come_off access surface number 0 file.bytes
+-- the two coats are the pads of the labels that protect the file
+coats_are_pads : (k : Masters) (surface : Option ℕ) (node number : ℕ) (bytes : List ℕ)
+    → stored_under (surface_key k.surface surface) number
+    (base_text (access_key k.base node) number bytes)
+    ≡ padded k number (label_of Access node ∷ surface_label surface) bytes
+coats_are_pads k None node number bytes = refl
+coats_are_pads k (Some to) node number bytes = refl
+
+pub bytes_lie_under_pads : BytesLieUnderPads
+bytes_lie_under_pads k p c stored file f kept bytes is =
+    (files_are_filed k p c stored file f kept bytes is).coats
+    ∙ coats_are_pads k f.surface f.node file (bytes_of p file)
 
 pub readers_get_bytes : ReadersGetBytes
-readers_get_bytes k h s number f kept there =
-    let filed = files_are_filed k h s number f kept there in
-    let bytes = opened_as k number (file_at (matrix_of h) number) f filed in (
-      bytes,
-      filed.tag ∙ ap (λ plain. tag_of_file (access_key k.base f.node) number plain) (sym bytes),
-    )
+readers_get_bytes k p c stored file f kept bytes is =
+    let access = access_key k.base f.node in
+    let surface = surface_key k.surface f.surface in
+    let filed = files_are_filed k p c stored file f kept bytes is in
+    let plain : opened access surface file (slice_index_or stored file []) ≡ bytes_of p file =
+    ap (λ text. opened access surface file text) filed.coats
+    ∙ both_come_off access surface file 0 (bytes_of p file) in
+    (plain, filed.tag ∙ ap (λ these. tag_of_file access file these) (sym plain))

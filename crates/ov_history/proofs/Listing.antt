@@ -1,5 +1,6 @@
 -- The lists that are read off the layers are those that the updates make.
-use Rattle.std.proofs.Common.{◌≡◌, ℕ, suc, ◌+◌, Bool, true, false, ◌==◌, List, [], ◌∷◌, length, refl, sym, ◌∙◌, ap, arith, eqb-true, length-append}
+use Rattle.std.proofs.Common.{◌≡◌, ◌≢◌, ℕ, suc, ◌+◌, Bool, true, false, ◌==◌, List, [], ◌∷◌, length}
+use Rattle.std.proofs.Common.{refl, sym, ◌∙◌, ap, arith, eq-eqb, eqb-true, length-append}
 use Rattle.std.specs.Prelude.{Contains, Option, Some, None, slice_index}
 use Rattle.std.proofs.lemmas.Bool.{false≢true}
 use Rattle.ov_base.specs.Sets.{with, without}
@@ -7,10 +8,13 @@ use Rattle.ov_base.specs.declared.mode.Mode.{Mode}
 use Rattle.ov_base.specs.declared.mode.Mode.TheVariants.{Full, Delta}
 use Rattle.ov_surface.specs.Wanted.{none_where, wanted_surface}
 use Rattle.ov_graph.proofs.ListLaws.{Contains-first, Contains-later}
-use Rattle.ov_history.specs.History.{Update, Enrolled, Created, Granted, Revoked}
-use Rattle.ov_history.specs.Layers.{Place, Layers, node_for, holders, set_or, lists_at, lists_of, lists_after, grown, wants_at, wants_of, with_wants, surface_at, same_surface, moved, settled_at, settled_all, settled, layers_after}
-use Rattle.ov_history.proofs.PlanLaws.{with_wants-has}
+use Rattle.ov_history.specs.History.{Created, Enrolled, Granted, Revoked, Update}
+use Rattle.ov_history.specs.Layers.{Layers, Place, grown, holders, layers_after, lists_after}
+use Rattle.ov_history.specs.Layers.{lists_at, lists_of, moved, node_for, same_surface, set_or}
+use Rattle.ov_history.specs.Layers.{settled, settled_all, settled_at, surface_at, wants_at}
+use Rattle.ov_history.specs.Layers.{wants_of, with_wants}
 use Rattle.ov_history.proofs.ChangeLaws.{length-change_at}
+use Rattle.ov_history.proofs.PlanLaws.{with_wants-has}
 
 -- ---- surfaces
 
@@ -21,8 +25,20 @@ same_surface-is None (Some node) e = absurd (false≢true e)
 same_surface-is (Some other) None e = absurd (false≢true e)
 same_surface-is (Some other) (Some node) e = ap Some (eqb-true other node e)
 
+pub same_surface-refl : (surface : Option ℕ) → same_surface surface surface ≡ true
+same_surface-refl None = refl
+same_surface-refl (Some node) = eq-eqb node node refl
+
+-- and two that aren't
+pub same_surface-not : (one other : Option ℕ) → same_surface one other ≡ false → one ≢ other
+same_surface-not one other e same =
+    absurd
+    (false≢true (sym e ∙ ap (λ (o : Option ℕ). same_surface o other) same
+    ∙ same_surface-refl other))
+
 -- the surface of a place that was settled is the wanted one
-moved_surface : (b : Bool) (epoch : ℕ) (surface : Option ℕ) (p : Place) → same_surface p.surface surface ≡ b
+moved_surface : (b : Bool) (epoch : ℕ) (surface : Option ℕ) (p : Place)
+    → same_surface p.surface surface ≡ b
     → (moved b epoch surface p).surface ≡ surface
 moved_surface true epoch surface p same = same_surface-is p.surface surface same
 moved_surface false epoch surface p same = refl
@@ -30,16 +46,19 @@ moved_surface false epoch surface p same = refl
 pub settled_at-surface : (epoch : ℕ) (sets : List ℕ) (want : Option ℕ) (p : Place)
     → (settled_at epoch sets want p).surface ≡ surface_at sets want
 settled_at-surface epoch sets want p =
-    moved_surface (same_surface p.surface (surface_at sets want)) epoch (surface_at sets want) p refl
+    moved_surface (same_surface p.surface (surface_at sets want)) epoch (surface_at sets want) p
+    refl
 
 -- and its base node stays
-moved_node : (b : Bool) (epoch : ℕ) (surface : Option ℕ) (p : Place) → (moved b epoch surface p).node ≡ p.node
+moved_node : (b : Bool) (epoch : ℕ) (surface : Option ℕ) (p : Place)
+    → (moved b epoch surface p).node ≡ p.node
 moved_node true epoch surface p = refl
 moved_node false epoch surface p = refl
 
 pub settled_at-node : (epoch : ℕ) (sets : List ℕ) (want : Option ℕ) (p : Place)
     → (settled_at epoch sets want p).node ≡ p.node
-settled_at-node epoch sets want p = moved_node (same_surface p.surface (surface_at sets want)) epoch (surface_at sets want) p
+settled_at-node epoch sets want p =
+    moved_node (same_surface p.surface (surface_at sets want)) epoch (surface_at sets want) p
 
 -- ---- the list of one file
 
@@ -48,12 +67,14 @@ abbrev pub IsFound : List ℕ → Option ℕ → Type 0
 IsFound sets None = Unit {0}
 IsFound sets (Some set) = slice_index sets (node_for sets set) ≡ set
 
-bare_list : (b : Bool) (sets : List ℕ) (list held : ℕ) → (list == held) ≡ b → IsFound sets (none_where b list)
+bare_list : (b : Bool) (sets : List ℕ) (list held : ℕ) → (list == held) ≡ b
+    → IsFound sets (none_where b list)
     → set_or sets (surface_at sets (none_where b list)) held ≡ list
 bare_list true sets list held e found = sym (eqb-true list held e)
 bare_list false sets list held e found = found
 
-wanted_list : (mode : Mode) (sets : List ℕ) (list held : ℕ) → IsFound sets (wanted_surface mode list held)
+wanted_list : (mode : Mode) (sets : List ℕ) (list held : ℕ)
+    → IsFound sets (wanted_surface mode list held)
     → set_or sets (surface_at sets (wanted_surface mode list held)) held ≡ list
 wanted_list Full sets list held found = found
 wanted_list Delta sets list held found = bare_list (list == held) sets list held refl found
@@ -69,9 +90,11 @@ abbrev AllFound : List ℕ → List (Option ℕ) → Type 0
 AllFound sets [] = Unit {0}
 AllFound sets (want ∷ wants) = IsFound sets want × AllFound sets wants
 
-lists_settled : (y : Layers) (sets : List ℕ) (files : List Place) (lists : List ℕ) (places : List Place)
+lists_settled : (y : Layers) (sets : List ℕ) (files : List Place) (lists : List ℕ)
+    (places : List Place)
     → length lists ≡ length places → AllFound sets (wants_at y lists places)
-    → lists_at (resurfaced y sets files) (settled_all y.epoch sets (wants_at y lists places) places) ≡ lists
+    → lists_at (resurfaced y sets files) (settled_all y.epoch sets (wants_at y lists places) places)
+    ≡ lists
 lists_settled y sets files [] [] many found = refl
 lists_settled y sets files [] (p ∷ places) many found = absurd (omega arith)
 lists_settled y sets files (list ∷ lists) [] many found = absurd (omega arith)
@@ -80,16 +103,20 @@ lists_settled y sets files (list ∷ lists) (p ∷ places) many found =
     let place : Place = settled_at y.epoch sets want p in
     let one : set_or sets place.surface (holders y place.node) ≡ list =
     ap (λ s. set_or sets s (holders y place.node)) (settled_at-surface y.epoch sets want p)
-    ∙ ap (λ n. set_or sets (surface_at sets want) (holders y n)) (settled_at-node y.epoch sets want p)
+    ∙ ap (λ n. set_or sets (surface_at sets want) (holders y n))
+    (settled_at-node y.epoch sets want p)
     ∙ wanted_list y.mode sets list (holders y p.node) found.0 in
-    ap (λ l. l ∷ lists_at (resurfaced y sets files) (settled_all y.epoch sets (wants_at y lists places) places)) one
+    ap (λ l. l ∷ lists_at (resurfaced y sets files)
+    (settled_all y.epoch sets (wants_at y lists places) places)) one
     ∙ ap (λ ls. list ∷ ls) (lists_settled y sets files lists places (omega arith) found.1)
 
-found_one : (wants : List (Option ℕ)) (sets : List ℕ) (want : Option ℕ) → Contains wants want → IsFound (with_wants sets wants) want
+found_one : (wants : List (Option ℕ)) (sets : List ℕ) (want : Option ℕ) → Contains wants want
+    → IsFound (with_wants sets wants) want
 found_one wants sets None wanted = tt
 found_one wants sets (Some set) wanted = (with_wants-has wants sets set wanted).1
 
-found_all : (sets : List ℕ) (wants : List (Option ℕ)) → ((want : Option ℕ) → Contains wants want → IsFound sets want)
+found_all : (sets : List ℕ) (wants : List (Option ℕ))
+    → ((want : Option ℕ) → Contains wants want → IsFound sets want)
     → AllFound sets wants
 found_all sets [] each = tt
 found_all sets (want ∷ wants) each = (
@@ -98,7 +125,8 @@ found_all sets (want ∷ wants) each = (
 )
 
 -- layers that were settled for some lists, one for each file, have these lists
-pub lists_of-settled : (y : Layers) (lists : List ℕ) → length lists ≡ length y.files → lists_of (settled y lists) ≡ lists
+pub lists_of-settled : (y : Layers) (lists : List ℕ) → length lists ≡ length y.files
+    → lists_of (settled y lists) ≡ lists
 lists_of-settled y lists many =
     let wants : List (Option ℕ) = wants_of y lists in
     let sets : List ℕ = with_wants y.surface wants in
@@ -107,7 +135,8 @@ lists_of-settled y lists many =
 
 -- ---- one update
 
-pub length-lists_at : (y : Layers) (places : List Place) → length (lists_at y places) ≡ length places
+pub length-lists_at : (y : Layers) (places : List Place)
+    → length (lists_at y places) ≡ length places
 length-lists_at y [] = refl
 length-lists_at y (p ∷ places) = ap suc (length-lists_at y places)
 
@@ -115,13 +144,24 @@ pub length-lists_of : (y : Layers) → length (lists_of y) ≡ length y.files
 length-lists_of y = length-lists_at y y.files
 
 -- there is a list for each file
-pub length-lists_after : (y : Layers) (u : Update) → length (lists_after (lists_of y) u) ≡ length (grown y u).files
+pub length-lists_after : (y : Layers) (u : Update)
+    → length (lists_after (lists_of y) u) ≡ length (grown y u).files
 length-lists_after y (Enrolled user) = length-lists_of y
-length-lists_after y (Created file list bytes) =
-    omega (arith, length-append (lists_of y) (list ∷ []), length-append y.files (record { node = node_for y.base list; surface = None; generation = y.epoch + 1 } ∷ []), length-lists_of y)
-length-lists_after y (Granted user file) = length-change_at (λ list. with list user) file (lists_of y) ∙ length-lists_of y
-length-lists_after y (Revoked user file) = length-change_at (λ list. without list user) file (lists_of y) ∙ length-lists_of y
+length-lists_after y (Created file list size) =
+    omega (
+      arith,
+      length-append (lists_of y) (list ∷ []),
+      length-append y.files
+          (record { node = node_for y.base list; surface = None; generation = y.epoch + 1 } ∷ []),
+      length-lists_of y,
+    )
+length-lists_after y (Granted user file) =
+    length-change_at (λ list. with list user) file (lists_of y) ∙ length-lists_of y
+length-lists_after y (Revoked user file) =
+    length-change_at (λ list. without list user) file (lists_of y) ∙ length-lists_of y
 
 -- the lists of the layers after an update are the lists after it
-pub lists_of-layers_after : (y : Layers) (u : Update) → lists_of (layers_after y u) ≡ lists_after (lists_of y) u
-lists_of-layers_after y u = lists_of-settled (grown y u) (lists_after (lists_of y) u) (length-lists_after y u)
+pub lists_of-layers_after : (y : Layers) (u : Update)
+    → lists_of (layers_after y u) ≡ lists_after (lists_of y) u
+lists_of-layers_after y u =
+    lists_of-settled (grown y u) (lists_after (lists_of y) u) (length-lists_after y u)

@@ -1,15 +1,17 @@
 -- The matrix of a history and its layers are about the same users and files.
-use Rattle.std.proofs.Common.{◌≡◌, ℕ, ◌+◌, List, [], ◌∷◌, length, map, refl, sym, ◌∙◌, ap, arith, length-append}
+use Rattle.std.proofs.Common.{◌≡◌, ℕ, ◌+◌, List, [], ◌∷◌, length, map, refl, sym, ◌∙◌, ap, arith}
+use Rattle.std.proofs.Common.{length-append}
 use Rattle.std.specs.Prelude.{slice_index}
 use Rattle.std.proofs.lemmas.List.{length-map, map-append}
 use Rattle.std.proofs.Math.ListN.{get_or-map}
 use Rattle.ov_base.specs.Sets.{has, with, without}
-use Rattle.ov_history.specs.History.{Update, Enrolled, Created, Granted, Revoked, History, File, Matrix, listed, delisted, changed, matrix_of, epoch_of}
+use Rattle.ov_history.specs.History.{Created, Enrolled, File, Granted, History, Matrix, Revoked}
+use Rattle.ov_history.specs.History.{Update, changed, delisted, epoch_of, listed, matrix_of}
 use Rattle.ov_history.specs.Lists.{file_at, is_listed, no_file}
-use Rattle.ov_history.specs.Layers.{Layers, lists_of, lists_after, layers_after, layers_of}
+use Rattle.ov_history.specs.Layers.{Layers, layers_after, layers_of, lists_after, lists_of}
 use Rattle.ov_history.proofs.ChangeLaws.{map-change_at}
-use Rattle.ov_history.proofs.Listing.{lists_of-layers_after, length-lists_of}
-use Rattle.ov_history.proofs.Pushing.{matrix_of-push, layers_of-push, epoch_of-push, each_history}
+use Rattle.ov_history.proofs.Listing.{length-lists_of, lists_of-layers_after}
+use Rattle.ov_history.proofs.Pushing.{each_history, epoch_of-push, layers_of-push, matrix_of-push}
 
 -- ---- lists of files
 
@@ -18,24 +20,32 @@ abbrev pub file_lists : List File → List ℕ
 file_lists files = map (λ (file : File). file.list) files
 
 -- the list of the file of a number
-pub file_at-list : (m : Matrix) (file : ℕ) → (file_at m file).list ≡ slice_index (file_lists m.files) file
+pub file_at-list : (m : Matrix) (file : ℕ)
+    → (file_at m file).list ≡ slice_index (file_lists m.files) file
 file_at-list m file = sym (get_or-map (λ (file : File). file.list) m.files file no_file)
 
-pub is_listed-list : (m : Matrix) (user file : ℕ) → is_listed m user file ≡ has (slice_index (file_lists m.files) file) user
+pub is_listed-list : (m : Matrix) (user file : ℕ)
+    → is_listed m user file ≡ has (slice_index (file_lists m.files) file) user
 is_listed-list m user file = ap (λ list. has list user) (file_at-list m file)
 
-pub file_lists-changed : (m : Matrix) (u : Update) → file_lists (changed m u).files ≡ lists_after (file_lists m.files) u
+pub file_lists-changed : (m : Matrix) (u : Update)
+    → file_lists (changed m u).files ≡ lists_after (file_lists m.files) u
 file_lists-changed m (Enrolled user) = refl
-file_lists-changed m (Created file list bytes) =
-    map-append (λ (file : File). file.list) m.files (record { name = file; bytes = bytes; list = list } ∷ [])
+file_lists-changed m (Created file list size) =
+    map-append (λ (file : File). file.list) m.files
+    (record { name = file; length = size; list = list } ∷ [])
 file_lists-changed m (Granted user file) =
-    map-change_at (λ (file : File). file.list) (listed user) (λ list. with list user) (λ file. refl) file m.files
+    map-change_at (λ (file : File). file.list) (listed user) (λ list. with list user) (λ file. refl)
+    file m.files
 file_lists-changed m (Revoked user file) =
-    map-change_at (λ (file : File). file.list) (delisted user) (λ list. without list user) (λ file. refl) file m.files
+    map-change_at (λ (file : File). file.list) (delisted user) (λ list. without list user)
+    (λ file. refl) file m.files
 
 -- the layers of a history have the lists of its matrix
 pub lists_of-layers_of : (h : History) → lists_of (layers_of h) ≡ file_lists (matrix_of h).files
-lists_of-layers_of = each_history (λ (h : History). lists_of (layers_of h) ≡ file_lists (matrix_of h).files) (λ h. refl)
+lists_of-layers_of =
+    each_history (λ (h : History). lists_of (layers_of h) ≡ file_lists (matrix_of h).files)
+    (λ h. refl)
     (λ h u same.
     ap (λ (y : Layers). lists_of y) (layers_of-push h u) ∙ lists_of-layers_after (layers_of h) u
     ∙ ap (λ lists. lists_after lists u) same ∙ sym (file_lists-changed (matrix_of h) u)
@@ -51,22 +61,24 @@ files_of-layers_of h =
 
 mode_after : (y : Layers) (u : Update) → (layers_after y u).mode ≡ y.mode
 mode_after y (Enrolled user) = refl
-mode_after y (Created file list bytes) = refl
+mode_after y (Created file list size) = refl
 mode_after y (Granted user file) = refl
 mode_after y (Revoked user file) = refl
 
 pub mode_of-layers_of : (h : History) → (layers_of h).mode ≡ h.mode
 mode_of-layers_of = each_history (λ (h : History). (layers_of h).mode ≡ h.mode) (λ h. refl)
-    (λ h u same. ap (λ (y : Layers). y.mode) (layers_of-push h u) ∙ mode_after (layers_of h) u ∙ same)
+    (λ h u same. ap (λ (y : Layers). y.mode) (layers_of-push h u) ∙ mode_after (layers_of h) u
+    ∙ same)
 
 epoch_after : (y : Layers) (u : Update) → (layers_after y u).epoch ≡ y.epoch + 1
 epoch_after y (Enrolled user) = refl
-epoch_after y (Created file list bytes) = refl
+epoch_after y (Created file list size) = refl
 epoch_after y (Granted user file) = refl
 epoch_after y (Revoked user file) = refl
 
 pub epoch_of-layers_of : (h : History) → (layers_of h).epoch ≡ epoch_of h
-epoch_of-layers_of = each_history (λ (h : History). (layers_of h).epoch ≡ epoch_of h) (λ h. omega arith)
+epoch_of-layers_of =
+    each_history (λ (h : History). (layers_of h).epoch ≡ epoch_of h) (λ h. omega arith)
     (λ h u same.
     ap (λ (y : Layers). y.epoch) (layers_of-push h u) ∙ epoch_after (layers_of h) u
     ∙ ap (λ epoch. epoch + 1) same ∙ sym (epoch_of-push h u))
@@ -74,12 +86,14 @@ epoch_of-layers_of = each_history (λ (h : History). (layers_of h).epoch ≡ epo
 users_after : (y : Layers) (m : Matrix) (u : Update) → y.users ≡ length m.users
     → (layers_after y u).users ≡ length (changed m u).users
 users_after y m (Enrolled user) same = omega (arith, length-append m.users (user ∷ []))
-users_after y m (Created file list bytes) same = same
+users_after y m (Created file list size) same = same
 users_after y m (Granted user file) same = same
 users_after y m (Revoked user file) same = same
 
 pub users_of-layers_of : (h : History) → (layers_of h).users ≡ length (matrix_of h).users
-users_of-layers_of = each_history (λ (h : History). (layers_of h).users ≡ length (matrix_of h).users) (λ h. refl)
+users_of-layers_of =
+    each_history (λ (h : History). (layers_of h).users ≡ length (matrix_of h).users) (λ h. refl)
     (λ h u same.
-    ap (λ (y : Layers). y.users) (layers_of-push h u) ∙ users_after (layers_of h) (matrix_of h) u same
+    ap (λ (y : Layers). y.users) (layers_of-push h u)
+    ∙ users_after (layers_of h) (matrix_of h) u same
     ∙ ap (λ (m : Matrix). length m.users) (sym (matrix_of-push h u)))

@@ -10,15 +10,16 @@ abbrev bare : ℕ → ℕ → Place
 bare node generation = record { node = node; surface = None; generation = generation }
 
 abbrev under : ℕ → ℕ → ℕ → Place
-under surface node generation = record { node = node; surface = Some surface; generation = generation }
+under surface node generation =
+    record { node = node; surface = Some surface; generation = generation }
 
 -- ---- two files of one base node
 
 -- three users, two files for the first two of them, and a grant of the first file to the third
 abbrev shared : List Update
 shared =
-    Enrolled (97 ∷ []) ∷ Enrolled (98 ∷ []) ∷ Enrolled (99 ∷ []) ∷ Created (102 ∷ 49 ∷ []) 3 []
-    ∷ Created (102 ∷ 50 ∷ []) 3 [] ∷ Granted 2 0 ∷ []
+    Enrolled (97 ∷ []) ∷ Enrolled (98 ∷ []) ∷ Enrolled (99 ∷ []) ∷ Created (102 ∷ 49 ∷ []) 3 0
+    ∷ Created (102 ∷ 50 ∷ []) 3 0 ∷ Granted 2 0 ∷ []
 
 abbrev in_delta : List Update → Layers
 in_delta updates = layers_of (record { mode = Delta; first = 0; updates = updates })
@@ -43,7 +44,8 @@ revoked : in_delta (shared ++ Revoked 2 0 ∷ []) ≡ three_users 7 (under 3 3 7
 revoked = refl
 
 -- and the grant again takes it off, without another access token
-granted_again : in_delta (shared ++ Revoked 2 0 ∷ Granted 2 0 ∷ []) ≡ three_users 8 (bare 3 8 ∷ under 3 3 6 ∷ [])
+granted_again : in_delta (shared ++ Revoked 2 0 ∷ Granted 2 0 ∷ [])
+    ≡ three_users 8 (bare 3 8 ∷ under 3 3 6 ∷ [])
 granted_again = refl
 
 -- ---- a file for no one
@@ -52,7 +54,7 @@ abbrev emptied : History
 emptied = record {
   mode = Full;
   first = 0;
-  updates = Enrolled (97 ∷ []) ∷ Created (102 ∷ []) 1 [] ∷ Revoked 0 0 ∷ [];
+  updates = Enrolled (97 ∷ []) ∷ Created (102 ∷ []) 1 0 ∷ Revoked 0 0 ∷ [];
 }
 
 -- in Full each file has a surface, here that of the empty set
@@ -66,3 +68,31 @@ emptied_layers : layers_of emptied ≡ record {
   files = under 1 0 3 ∷ [];
 }
 emptied_layers = refl
+
+-- a file that is created for no one
+abbrev for_nobody : List Update
+for_nobody = Enrolled (97 ∷ []) ∷ Created (102 ∷ []) 0 0 ∷ []
+
+-- in Full the empty set is node 1 of both layers
+nobody_in_full : layers_of (record { mode = Full; first = 0; updates = for_nobody }) ≡ record {
+  mode = Full;
+  epoch = 2;
+  users = 1;
+  base = 1 ∷ 0 ∷ [];
+  surface = 1 ∷ 0 ∷ [];
+  accesses = [];
+  files = under 1 1 2 ∷ [];
+}
+nobody_in_full = refl
+
+-- in Delta the base node's own list needs no surface
+nobody_in_delta : layers_of (record { mode = Delta; first = 0; updates = for_nobody }) ≡ record {
+  mode = Delta;
+  epoch = 2;
+  users = 1;
+  base = 1 ∷ 0 ∷ [];
+  surface = 1 ∷ [];
+  accesses = [];
+  files = bare 1 2 ∷ [];
+}
+nobody_in_delta = refl

@@ -1,172 +1,193 @@
--- A store shows the names, lists and sizes of its history, and so refuses what the history refuses.
-use Rattle.std.proofs.Common.{◌≡◌, ℕ, ◌+◌, Bool, true, false, List, [], ◌∷◌, ◌++◌, length, map, refl, sym, ◌∙◌, ap, subst}
+-- A catalogue shows the matrix of its history, and so refuses what the history refuses.
+use Rattle.std.proofs.Common.{◌≡◌, ℕ, zero, suc, ◌+◌, Bool, true, false, List, [], ◌∷◌, ◌++◌}
+use Rattle.std.proofs.Common.{length, refl, sym, ◌∙◌, ap, subst, arith}
 use Rattle.std.specs.Prelude.{Option, None}
-use Rattle.std.proofs.lemmas.List.{map-append}
-use Rattle.ov_record.specs.Updates.{SealedUpdate, SealedEnrol, SealedCreate, SealedGrant, SealedRevoke}
-use Rattle.ov_surface.proofs.CoatLaws.{length-coated}
-use Rattle.ov_surface.specs.Coats.{stored_under}
-use Rattle.ov_history.specs.History.{History, matrix_of, epoch_of, start_of, with_update}
-use Rattle.ov_history.specs.Lists.{file_names}
-use Rattle.ov_history.specs.Layers.{Layers, node_for, with_wants, surface_at, same_surface, wants_of, list_at, lists_at, lists_of, lists_after, layers_after, layers_of}
-use Rattle.ov_history.specs.Refusals.{first_of_tests, tests_of, refusal_of}
-use Rattle.ov_history.specs.Shown.{Filed, Shown, nothing, place_of_file, places, files_shown, matrix_shown, outline, outer, grown_shown, surface_key, restored, refiled, settled_files, shown_after, shown_all}
-use Rattle.ov_history.specs.Sealed.{SealedHistory, HasParts, AllFit, IsSealed, StandsFor, refusal_shown, shown, outer_all, outer_of}
-use Rattle.ov_history.proofs.MatrixLaws.{file_lists, epoch_of-layers_of}
-use Rattle.ov_history.proofs.Listing.{lists_of-layers_after}
-use Rattle.ov_history.proofs.Pushing.{matrix_of-push, layers_of-push, with_updates, with_updates-all}
-use Rattle.ov_history.proofs.Outlining.{outline-after, outline-shown}
-use Rattle.ov_history.proofs.Seen.{Seen, file_sizes, seen_of, seen_after, seen_after-lists, seen_by, seen_of-changed, tests-seen}
+use Rattle.ov_base.specs.Sets.{with, without}
+use Rattle.ov_record.specs.Updates.{SealedUpdate}
+use Rattle.ov_history.specs.Places.{change_at}
+use Rattle.ov_history.specs.History.{File, History, Matrix, changed, delisted, epoch_of, listed}
+use Rattle.ov_history.specs.History.{matrix_of, start_of, with_update}
+use Rattle.ov_history.specs.Layers.{Layers, layers_of, lists_after, lists_at, lists_of, node_for}
+use Rattle.ov_history.specs.Layers.{same_surface, surface_at, wants_of, with_wants}
+use Rattle.ov_history.specs.Refusals.{first_of_tests, tests_of}
+use Rattle.ov_history.specs.Briefs.{Brief, BriefCreate, BriefEnrol, BriefGrant, BriefRevoke, brief}
+use Rattle.ov_history.specs.Briefs.{outer}
+use Rattle.ov_history.specs.Catalogue.{Catalogue, Filed, catalogue_after, empty_catalogue}
+use Rattle.ov_history.specs.Catalogue.{file_shown, files_shown, grown_catalogue, matrix_shown}
+use Rattle.ov_history.specs.Catalogue.{outline, places, refiled, settled_files}
+use Rattle.ov_history.specs.Sealed.{AllFit, HasParts, IsSealed, SealedHistory, catalogue_all}
+use Rattle.ov_history.specs.Sealed.{catalogue_of, outer_all, outer_of}
+use Rattle.ov_history.specs.Laws.{HistoryIsShown, RefusalsAreShown}
+use Rattle.ov_history.proofs.Listing.{length-lists_of, lists_of-layers_after}
+use Rattle.ov_history.proofs.MatrixLaws.{epoch_of-layers_of, file_lists, mode_of-layers_of}
+use Rattle.ov_history.proofs.Outlining.{length-places, outline-after, outline-next, outline-shown}
+use Rattle.ov_history.proofs.Pushing.{matrix_of-push, with_updates, with_updates-all}
 
--- ---- the files that are shown
+-- ---- files with their lists
 
-abbrev names_of : List Filed → List (List ℕ)
-names_of files = map (λ (f : Filed). f.name) files
+-- the file of the matrix with this list
+abbrev row : Filed → ℕ → File
+row f list = record { name = f.name; length = f.length; list = list }
 
-abbrev sizes_of : List Filed → List ℕ
-sizes_of files = map (λ (f : Filed). length f.bytes) files
+-- so each of the files
+abbrev rows : List Filed → List ℕ → List File
+rows [] lists = []
+rows (f ∷ files) [] = []
+rows (f ∷ files) (list ∷ lists) = row f list ∷ rows files lists
 
-names_shown : (y : Layers) (files : List Filed) → file_names (files_shown y files) ≡ names_of files
-names_shown y [] = refl
-names_shown y (f ∷ files) = ap (λ names. f.name ∷ names) (names_shown y files)
+shown_rows : (y : Layers) (files : List Filed)
+    → files_shown y files ≡ rows files (lists_at y (places files))
+shown_rows y [] = refl
+shown_rows y (f ∷ files) = ap (λ (rest : List File). file_shown y f ∷ rest) (shown_rows y files)
 
-sizes_shown : (y : Layers) (files : List Filed) → file_sizes (files_shown y files) ≡ sizes_of files
-sizes_shown y [] = refl
-sizes_shown y (f ∷ files) = ap (λ sizes. length f.bytes ∷ sizes) (sizes_shown y files)
-
-lists_shown : (y : Layers) (files : List Filed) → file_lists (files_shown y files) ≡ lists_at y (places files)
+lists_shown : (y : Layers) (files : List Filed)
+    → file_lists (files_shown y files) ≡ lists_at y (places files)
 lists_shown y [] = refl
-lists_shown y (f ∷ files) = ap (λ lists. list_at y (place_of_file f) ∷ lists) (lists_shown y files)
+lists_shown y (f ∷ files) =
+    ap (λ (lists : List ℕ). (file_shown y f).list ∷ lists) (lists_shown y files)
 
 -- the lists that are shown are those of the outline
-pub lists_of-shown : (s : Shown) → file_lists (matrix_shown s).files ≡ lists_of (outline s)
-lists_of-shown s = lists_shown (outline s) s.files
+pub lists_of-shown : (c : Catalogue) → file_lists (matrix_shown c).files ≡ lists_of (outline c)
+lists_of-shown c = lists_shown (outline c) c.files
 
--- ---- surfaces
+-- a new surface is no change of a file's name and length
+refiled_row : (b : Bool) (epoch : ℕ) (surface : Option ℕ) (f : Filed) (list : ℕ)
+    → row (refiled b epoch surface f) list ≡ row f list
+refiled_row true epoch surface f list = refl
+refiled_row false epoch surface f list = refl
 
-pub length-restored : (master : List ℕ) (from to : Option ℕ) (number : ℕ) (bytes : List ℕ)
-    → length (restored master from to number bytes) ≡ length bytes
-length-restored master from to number bytes =
-    length-coated (surface_key master to) number 0 (stored_under (surface_key master from) number bytes)
-    ∙ length-coated (surface_key master from) number 0 bytes
-
-pub refiled_name : (b : Bool) (master : List ℕ) (epoch : ℕ) (surface : Option ℕ) (number : ℕ) (f : Filed)
-    → (refiled b master epoch surface number f).name ≡ f.name
-refiled_name true master epoch surface number f = refl
-refiled_name false master epoch surface number f = refl
-
-pub refiled_size : (b : Bool) (master : List ℕ) (epoch : ℕ) (surface : Option ℕ) (number : ℕ) (f : Filed)
-    → length (refiled b master epoch surface number f).bytes ≡ length f.bytes
-refiled_size true master epoch surface number f = refl
-refiled_size false master epoch surface number f = length-restored master f.surface surface number f.bytes
-
-module _ (master : List ℕ) (epoch : ℕ) (sets : List ℕ) where
-  names_settled : (number : ℕ) (wants : List (Option ℕ)) (files : List Filed)
-      → names_of (settled_files master epoch sets number wants files) ≡ names_of files
-  names_settled number [] files = refl
-  names_settled number (want ∷ wants) [] = refl
-  names_settled number (want ∷ wants) (f ∷ files) =
-      ap (λ name. name ∷ names_of (settled_files master epoch sets (number + 1) wants files))
-      (refiled_name (same_surface f.surface (surface_at sets want)) master epoch (surface_at sets want) number f)
-      ∙ ap (λ names. f.name ∷ names) (names_settled (number + 1) wants files)
-
-  sizes_settled : (number : ℕ) (wants : List (Option ℕ)) (files : List Filed)
-      → sizes_of (settled_files master epoch sets number wants files) ≡ sizes_of files
-  sizes_settled number [] files = refl
-  sizes_settled number (want ∷ wants) [] = refl
-  sizes_settled number (want ∷ wants) (f ∷ files) =
-      ap (λ size. size ∷ sizes_of (settled_files master epoch sets (number + 1) wants files))
-      (refiled_size (same_surface f.surface (surface_at sets want)) master epoch (surface_at sets want) number f)
-      ∙ ap (λ sizes. length f.bytes ∷ sizes) (sizes_settled (number + 1) wants files)
+rows_settled : (epoch : ℕ) (sets : List ℕ) (wants : List (Option ℕ)) (files : List Filed)
+    (lists : List ℕ)
+    → rows (settled_files epoch sets wants files) lists ≡ rows files lists
+rows_settled epoch sets [] files lists = refl
+rows_settled epoch sets (want ∷ wants) [] lists = refl
+rows_settled epoch sets (want ∷ wants) (f ∷ files) [] = refl
+rows_settled epoch sets (want ∷ wants) (f ∷ files) (list ∷ lists) =
+    ap (λ (first : File). first ∷ rows (settled_files epoch sets wants files) lists)
+    (refiled_row (same_surface f.surface (surface_at sets want)) epoch
+    (surface_at sets want) f list)
+    ∙ ap (λ (rest : List File). row f list ∷ rest) (rows_settled epoch sets wants files lists)
 
 -- ---- what an update adds
 
--- a file that was just created
-abbrev filed_new : Shown → List ℕ → ℕ → List ℕ → List ℕ → Filed
-filed_new s file list tag text = record {
-  name = file;
-  node = node_for s.base.sets list;
-  surface = None;
-  generation = s.epoch + 1;
-  tag = tag;
-  bytes = text;
-}
+rows-append : (files : List Filed) (lists : List ℕ) (f : Filed) (list : ℕ)
+    → length lists ≡ length files
+    → rows (files ++ f ∷ []) (lists ++ list ∷ []) ≡ rows files lists ++ row f list ∷ []
+rows-append [] [] f list many = refl
+rows-append [] (other ∷ lists) f list many = absurd (omega arith)
+rows-append (first ∷ files) [] f list many = absurd (omega arith)
+rows-append (first ∷ files) (other ∷ lists) f list many =
+    ap (λ (rest : List File). row first other ∷ rest) (rows-append files lists f list (omega arith))
 
-names_grown : (s : Shown) (seen : Seen) (u : SealedUpdate) → names_of s.files ≡ seen.names
-    → names_of (grown_shown s u).files ≡ (seen_after seen (outer u)).names
-names_grown s seen (SealedEnrol user) same = same
-names_grown s seen (SealedCreate file list tokens tag text) same =
-    map-append (λ (f : Filed). f.name) s.files (filed_new s file list tag text ∷ []) ∙ ap (λ names. names ++ file ∷ []) same
-names_grown s seen (SealedGrant user file token) same = same
-names_grown s seen (SealedRevoke user file) same = same
+-- a change of one list is the change of its file
+rows-change : (on_list : ℕ → ℕ) (on_file : File → File)
+    → ((f : Filed) (list : ℕ) → row f (on_list list) ≡ on_file (row f list))
+    → (place : ℕ) (files : List Filed) (lists : List ℕ)
+    → rows files (change_at on_list place lists) ≡ change_at on_file place (rows files lists)
+rows-change on_list on_file same place [] lists = refl
+rows-change on_list on_file same place (f ∷ files) [] = refl
+rows-change on_list on_file same zero (f ∷ files) (list ∷ lists) =
+    ap (λ (first : File). first ∷ rows files lists) (same f list)
+rows-change on_list on_file same (suc place) (f ∷ files) (list ∷ lists) =
+    ap (λ (rest : List File). row f list ∷ rest)
+    (rows-change on_list on_file same place files lists)
 
-sizes_grown : (s : Shown) (seen : Seen) (u : SealedUpdate) → sizes_of s.files ≡ seen.sizes
-    → sizes_of (grown_shown s u).files ≡ (seen_after seen (outer u)).sizes
-sizes_grown s seen (SealedEnrol user) same = same
-sizes_grown s seen (SealedCreate file list tokens tag text) same =
-    map-append (λ (f : Filed). length f.bytes) s.files (filed_new s file list tag text ∷ [])
-    ∙ ap (λ sizes. sizes ++ length text ∷ []) same
-sizes_grown s seen (SealedGrant user file token) same = same
-sizes_grown s seen (SealedRevoke user file) same = same
+-- the matrix with these lists
+abbrev matrix_with : Catalogue → List ℕ → Matrix
+matrix_with c lists = record { users = c.users; files = rows c.files lists }
 
-users_grown : (s : Shown) (u : SealedUpdate) → (grown_shown s u).users ≡ (seen_after (seen_of (matrix_shown s)) (outer u)).users
-users_grown s (SealedEnrol user) = refl
-users_grown s (SealedCreate file list tokens tag text) = refl
-users_grown s (SealedGrant user file token) = refl
-users_grown s (SealedRevoke user file) = refl
+rows_grown : (c : Catalogue) (b : Brief) (lists : List ℕ) → length lists ≡ length c.files
+    → matrix_with (grown_catalogue c b) (lists_after lists (outer b))
+    ≡ changed (matrix_with c lists) (outer b)
+rows_grown c (BriefEnrol user) lists many = refl
+rows_grown c (BriefCreate file list tokens tag size) lists many =
+    let f : Filed = record {
+      name = file;
+      node = node_for c.base.sets list;
+      surface = None;
+      generation = c.epoch + 1;
+      tag = tag;
+      length = size;
+    } in
+    ap (λ (files : List File). record { users = c.users; files = files })
+    (rows-append c.files lists f list many)
+rows_grown c (BriefGrant user file token) lists many =
+    ap (λ (files : List File). record { users = c.users; files = files })
+    (rows-change (λ list. with list user) (listed user) (λ f list. refl) file c.files lists)
+rows_grown c (BriefRevoke user file) lists many =
+    ap (λ (files : List File). record { users = c.users; files = files })
+    (rows-change (λ list. without list user) (delisted user) (λ f list. refl) file c.files lists)
 
 -- ---- one update
 
--- what is seen of a store after an update is what is seen after it
-pub seen-after : (master : List ℕ) (s : Shown) (u : SealedUpdate) → HasParts (outline s) u
-    → seen_of (matrix_shown (shown_after master s u)) ≡ seen_after (seen_of (matrix_shown s)) (outer u)
-seen-after master s u parts =
-    let next : Shown = grown_shown s u in
-    let wants : List (Option ℕ) = wants_of (outline next) (lists_after (lists_of (outline s)) (outer u)) in
-    let sets : List ℕ = with_wants next.surface.sets wants in
-    let after : Shown = shown_after master s u in
-    let seen : Seen = seen_of (matrix_shown s) in
-    seen_by (seen_of (matrix_shown after)) (seen_after seen (outer u))
-    (users_grown s u)
-    (names_shown (outline after) after.files ∙ names_settled master next.epoch sets 0 wants next.files
-    ∙ names_grown s seen u (sym (names_shown (outline s) s.files)))
-    (lists_of-shown after ∙ ap lists_of (outline-after master s u parts) ∙ lists_of-layers_after (outline s) (outer u)
-    ∙ ap (λ lists. lists_after lists (outer u)) (sym (lists_of-shown s)) ∙ sym (seen_after-lists seen (outer u)))
-    (sizes_shown (outline after) after.files ∙ sizes_settled master next.epoch sets 0 wants next.files
-    ∙ sizes_grown s seen u (sym (sizes_shown (outline s) s.files)))
+shown_with : (c : Catalogue) → matrix_shown c ≡ matrix_with c (lists_of (outline c))
+shown_with c =
+    ap (λ (files : List File). record { users = c.users; files = files })
+    (shown_rows (outline c) c.files)
+
+-- the matrix that is shown after an update is what the update makes of the one before
+pub matrix-after : (master : List ℕ) (c : Catalogue) (b : Brief) → HasParts (outline c) b
+    → matrix_shown (catalogue_after master c b) ≡ changed (matrix_shown c) (outer b)
+matrix-after master c b parts =
+    let next : Catalogue = grown_catalogue c b in
+    let lists : List ℕ = lists_after (lists_of (outline c)) (outer b) in
+    let wants : List (Option ℕ) = wants_of (outline next) lists in
+    let after : Catalogue = catalogue_after master c b in
+    shown_with after
+    ∙ ap (λ lists. matrix_with after lists)
+    (ap lists_of (outline-after master c b parts) ∙ lists_of-layers_after (outline c) (outer b))
+    ∙ ap (λ (files : List File). record { users = next.users; files = files })
+    (rows_settled next.epoch (with_wants next.surface.sets wants) wants next.files lists)
+    ∙ rows_grown c b (lists_of (outline c)) (length-lists_of (outline c) ∙ length-places c.files)
+    ∙ ap (λ (m : Matrix). changed m (outer b)) (sym (shown_with c))
 
 -- ---- histories
 
-seen-all : (master : List ℕ) (s : Shown) (h : History) (updates : List SealedUpdate) → outline s ≡ layers_of h
-    → seen_of (matrix_shown s) ≡ seen_of (matrix_of h) → AllFit h updates
-    → seen_of (matrix_shown (shown_all master s updates)) ≡ seen_of (matrix_of (with_updates h (outer_all updates)))
-seen-all master s h [] is same fit = same
-seen-all master s h (u ∷ updates) is same fit =
-    let parts : HasParts (outline s) u = subst (λ (y : Layers). HasParts y u) (sym is) fit.1 in
-    seen-all master (shown_after master s u) (with_update h (outer u)) updates
-    (outline-after master s u parts ∙ ap (λ (y : Layers). layers_after y (outer u)) is ∙ sym (layers_of-push h (outer u)))
-    (seen-after master s u parts ∙ ap (λ (seen : Seen). seen_after seen (outer u)) same
-    ∙ sym (seen_of-changed (matrix_of h) (outer u))
-    ∙ ap seen_of (sym (matrix_of-push h (outer u))))
+matrix-all : (master : List ℕ) (c : Catalogue) (h : History) (updates : List SealedUpdate)
+    → outline c ≡ layers_of h → matrix_shown c ≡ matrix_of h → AllFit h updates
+    → matrix_shown (catalogue_all master c updates) ≡ matrix_of (with_updates h (outer_all updates))
+matrix-all master c h [] is same fit = same
+matrix-all master c h (u ∷ updates) is same fit =
+    let b : Brief = brief u in
+    matrix-all master (catalogue_after master c b) (with_update h (outer b)) updates
+    (outline-next master c h b is fit.1)
+    (matrix-after master c b (subst (λ (y : Layers). HasParts y b) (sym is) fit.1)
+    ∙ ap (λ (m : Matrix). changed m (outer b)) same
+    ∙ sym (matrix_of-push h (outer b)))
     fit.2
 
--- in what is shown after a sealed history the same is seen as in the plain one
-pub seen-shown : (master : List ℕ) (g : SealedHistory) → IsSealed g
-    → seen_of (matrix_shown (shown master g)) ≡ seen_of (matrix_of (outer_of g))
-seen-shown master g fit =
-    seen-all master (nothing g.mode g.first) (start_of (outer_of g)) g.updates refl refl fit
-    ∙ ap (λ (h : History). seen_of (matrix_of h)) (with_updates-all (outer_of g))
+-- the catalogue after a sealed history shows its matrix
+pub matrix-shown : (master : List ℕ) (g : SealedHistory) → IsSealed g
+    → matrix_shown (catalogue_of master g) ≡ matrix_of (outer_of g)
+matrix-shown master g fit =
+    matrix-all master (empty_catalogue g.mode g.first) (start_of (outer_of g)) g.updates refl refl
+    fit
+    ∙ ap (λ (h : History). matrix_of h) (with_updates-all (outer_of g))
 
 -- and its epoch is the history's
-pub epoch-shown : (master : List ℕ) (g : SealedHistory) → IsSealed g → (shown master g).epoch ≡ epoch_of (outer_of g)
+pub epoch-shown : (master : List ℕ) (g : SealedHistory) → IsSealed g
+    → (catalogue_of master g).epoch ≡ epoch_of (outer_of g)
 epoch-shown master g fit =
     ap (λ (y : Layers). y.epoch) (outline-shown master g fit) ∙ epoch_of-layers_of (outer_of g)
 
+-- ---- the laws
+
+pub history_is_shown : HistoryIsShown
+history_is_shown master c g (fit, is) = record {
+  layers = ap outline is ∙ outline-shown master g fit;
+  matrix = ap matrix_shown is ∙ matrix-shown master g fit;
+  epoch = ap (λ (d : Catalogue). d.epoch) is ∙ epoch-shown master g fit;
+  mode = ap (λ (d : Catalogue). d.mode) is
+      ∙ ap (λ (y : Layers). y.mode) (outline-shown master g fit)
+      ∙ mode_of-layers_of (outer_of g);
+}
+
 -- so a store refuses what its history refuses
-pub refusals_shown : (master : List ℕ) (s : Shown) (g : SealedHistory) (u : SealedUpdate) → StandsFor master s g
-    → refusal_shown s u ≡ refusal_of (outer_of g) (outer u)
-refusals_shown master s g u (fit, is) =
+pub refusals_shown : RefusalsAreShown
+refusals_shown master c g b stands =
     let h : History = outer_of g in
-    ap (λ (t : Shown). refusal_shown t u) is
-    ∙ ap first_of_tests (tests-seen (matrix_shown (shown master g)) (matrix_of h) (outline (shown master g)) (shown master g).epoch (outer u) (seen-shown master g fit))
-    ∙ ap (λ (y : Layers). first_of_tests (tests_of (matrix_of h) y (shown master g).epoch (outer u))) (outline-shown master g fit)
-    ∙ ap (λ epoch. first_of_tests (tests_of (matrix_of h) (layers_of h) epoch (outer u))) (epoch-shown master g fit)
+    let shows = history_is_shown master c g stands in
+    ap (λ (m : Matrix). first_of_tests (tests_of m (outline c) c.epoch (outer b))) shows.matrix
+    ∙ ap (λ (y : Layers). first_of_tests (tests_of (matrix_of h) y c.epoch (outer b))) shows.layers
+    ∙ ap (λ epoch. first_of_tests (tests_of (matrix_of h) (layers_of h) epoch (outer b)))
+    shows.epoch

@@ -1,5 +1,7 @@
 -- The lists of files lie within the holders of their base nodes.
-use Rattle.std.proofs.Common.{◌≡◌, ℕ, zero, suc, ◌+◌, ◌<◌, ◌==◌, Bool, true, false, List, [], ◌∷◌, ◌++◌, length, get_or, refl, sym, subst, arith, inl, inr, length-append}
+use Rattle.std.proofs.Common.{◌≡◌, ℕ, zero, suc, ◌+◌, ◌<◌, ◌==◌, Bool, true, false, List, [], ◌∷◌}
+use Rattle.std.proofs.Common.{◌++◌, length, get_or, refl, sym, subst, arith, inl, inr}
+use Rattle.std.proofs.Common.{length-append}
 use Rattle.std.specs.Prelude.{Contains, Some, None, slice_get}
 use Rattle.std.proofs.lemmas.List.{get_or_append_left}
 use Rattle.std.proofs.lemmas.List.Elements.{Contains-append_left, Contains-append_right}
@@ -12,10 +14,11 @@ use Rattle.ov_base_layer.specs.Holders.{Access, with_accesses, AreFirst}
 use Rattle.ov_base_layer.proofs.HolderLaws.{holders_are}
 use Rattle.ov_surface.specs.Wanted.{none_where, wanted_surface}
 use Rattle.ov_history.specs.Places.{change_at}
-use Rattle.ov_history.specs.History.{Update, Enrolled, Created, Granted, Revoked}
-use Rattle.ov_history.specs.Layers.{Place, Layers, no_place, node_for, node_of, holders, list_at, lists_at, lists_after, given, grown, wants_at}
-use Rattle.ov_history.specs.Shown.{Filed, place_of_file, places}
-use Rattle.ov_history.proofs.SoundSets.{with_set-at, with_set-own}
+use Rattle.ov_history.specs.History.{Created, Enrolled, Granted, Revoked, Update}
+use Rattle.ov_history.specs.Layers.{Layers, Place, given, grown, holders, list_at, lists_after}
+use Rattle.ov_history.specs.Layers.{lists_at, no_place, node_for, node_of, wants_at}
+use Rattle.ov_history.specs.Catalogue.{Filed, place_of_file, places}
+use Rattle.ov_history.proofs.PlanLaws.{with_set-has, with_set-keeps}
 
 -- each place's base node is there, and its holders have each user of the list
 abbrev pub AreHeld : Layers → List ℕ → List Place → Type 0
@@ -27,9 +30,11 @@ AreHeld y (list ∷ lists) (p ∷ placed) =
 
 -- each base node stays, with its holders and perhaps more
 abbrev pub Grows : Layers → Layers → Type 0
-Grows y z = (node : ℕ) → node < length y.base → (node < length z.base) × Within (holders y node) (holders z node)
+Grows y z = (node : ℕ) → node < length y.base
+    → (node < length z.base) × Within (holders y node) (holders z node)
 
-pub still_held : (y z : Layers) (lists : List ℕ) (placed : List Place) → Grows y z → AreHeld y lists placed
+pub still_held : (y z : Layers) (lists : List ℕ) (placed : List Place) → Grows y z
+    → AreHeld y lists placed
     → AreHeld z lists placed
 still_held y z [] [] more h = tt
 still_held y z [] (p ∷ placed) more h = absurd h
@@ -43,30 +48,38 @@ still_held y z (list ∷ lists) (p ∷ placed) more (there, held, rest) =
 enrol_grows : (y : Layers) (user : List ℕ) → Grows y (grown y (Enrolled user))
 enrol_grows y user node there = (
   omega (arith, length-append y.base (single y.users ∷ [])),
-  λ u held. subst (λ set. Has (with_accesses y.accesses node set) u) (sym (get_or_append_left y.base (single y.users ∷ []) 0 node there)) held,
+  λ u held. subst (λ set. Has (with_accesses y.accesses node set) u)
+      (sym (get_or_append_left y.base (single y.users ∷ []) 0 node there)) held,
 )
 
-create_grows : (y : Layers) (file : List ℕ) (list : ℕ) (bytes : List ℕ) → Grows y (grown y (Created file list bytes))
-create_grows y file list bytes node there =
-    let kept = with_set-at y.base list node there in
+create_grows : (y : Layers) (file : List ℕ) (list size : ℕ)
+    → Grows y (grown y (Created file list size))
+create_grows y file list size node there =
+    let kept = with_set-keeps y.base list node there in
     (kept.0, λ u held. subst (λ set. Has (with_accesses y.accesses node set) u) (sym kept.1) held)
 
 grant_grows : (y : Layers) (user file : ℕ) → Grows y (grown y (Granted user file))
 grant_grows y user file node there = (there, by_test (has (holders y (node_of y file)) user)) where
-  by_test : (b : Bool) → Within (holders y node) (with_accesses (given b y.accesses user (node_of y file)) node (get_or y.base node 0))
+  by_test : (b : Bool)
+      → Within (holders y node)
+      (with_accesses (given b y.accesses user (node_of y file)) node (get_or y.base node 0))
   by_test true u held = held
   by_test false u held =
       let more : List Access = y.accesses ++ record { user = user; node = node_of y file } ∷ [] in
       elim ((holders_are y.base y.accesses node u).0 held) [
         | inl member ↦ (holders_are y.base more node u).1 (inl member)
-        | inr access ↦ (holders_are y.base more node u).1 (inr (Contains-append_left y.accesses _ _ access))
+        | inr access ↦ (holders_are y.base more node u).1
+            (inr (Contains-append_left y.accesses _ _ access))
       ]
 
 -- the user of a grant holds the node of its file
-grant_holds : (y : Layers) (user file : ℕ) → Has (holders (grown y (Granted user file)) (node_of y file)) user
+grant_holds : (y : Layers) (user file : ℕ)
+    → Has (holders (grown y (Granted user file)) (node_of y file)) user
 grant_holds y user file = by_test (has (holders y (node_of y file)) user) refl where
   by_test : (b : Bool) → has (holders y (node_of y file)) user ≡ b
-      → Has (with_accesses (given b y.accesses user (node_of y file)) (node_of y file) (get_or y.base (node_of y file) 0)) user
+      → Has
+      (with_accesses (given b y.accesses user (node_of y file)) (node_of y file)
+      (get_or y.base (node_of y file) 0)) user
   by_test true e = e
   by_test false e =
       let new : Access = record { user = user; node = node_of y file } in
@@ -109,19 +122,23 @@ pub held_after : (y : Layers) (lists : List ℕ) (u : Update) → AreHeld y list
     → AreHeld (grown y u) (lists_after lists u) (grown y u).files
 held_after y lists (Enrolled user) h =
     still_held y (grown y (Enrolled user)) lists y.files (enrol_grows y user) h
-held_after y lists (Created file list bytes) h =
-    let z : Layers = grown y (Created file list bytes) in
+held_after y lists (Created file list size) h =
+    let z : Layers = grown y (Created file list size) in
     let node : ℕ = node_for y.base list in
-    let own = with_set-own y.base list in
-    more_held z list (record { node = node; surface = None; generation = y.epoch + 1 }) lists y.files own.0
-    (λ u one. (holders_are z.base y.accesses node u).1 (inl (subst (λ set. Has set u) (sym own.1) one)))
-    (still_held y z lists y.files (create_grows y file list bytes) h)
+    let own = with_set-has y.base list in
+    more_held z list (record { node = node; surface = None; generation = y.epoch + 1 }) lists
+    y.files own.0
+    (λ u one. (holders_are z.base y.accesses node u).1
+    (inl (subst (λ set. Has set u) (sym own.1) one)))
+    (still_held y z lists y.files (create_grows y file list size) h)
 held_after y lists (Granted user file) h =
     let z : Layers = grown y (Granted user file) in
     listed_held z user file lists y.files (grant_holds y user file)
     (still_held y z lists y.files (grant_grows y user file) h)
-held_after y lists (Revoked user file) h = delisted_held (grown y (Revoked user file)) user file lists y.files
-    (still_held y (grown y (Revoked user file)) lists y.files (λ node there. (there, λ u held. held)) h)
+held_after y lists (Revoked user file) h =
+    delisted_held (grown y (Revoked user file)) user file lists y.files
+    (still_held y (grown y (Revoked user file)) lists y.files
+    (λ node there. (there, λ u held. held)) h)
 
 -- ---- files that are placed
 
@@ -137,11 +154,14 @@ held_files y (f ∷ files) each =
 -- ---- holders are users
 
 pub holders_below : (users : ℕ) (y : Layers) → ((set : ℕ) → Contains y.base set → IsBelow users set)
-    → AreFirst users y.base y.accesses → (node : ℕ) → node < length y.base → IsBelow users (holders y node)
-holders_below users y below first node there user held = elim ((holders_are y.base y.accesses node user).0 held) [
-  | inl member ↦ below (get_or y.base node 0) (place-Contains y.base node (get_or y.base node 0) there refl) user member
-  | inr access ↦ first.users (record { user = user; node = node }) access
-]
+    → AreFirst users y.base y.accesses → (node : ℕ) → node < length y.base
+    → IsBelow users (holders y node)
+holders_below users y below first node there user held =
+    elim ((holders_are y.base y.accesses node user).0 held) [
+      | inl member ↦ below (get_or y.base node 0)
+          (place-Contains y.base node (get_or y.base node 0) there refl) user member
+      | inr access ↦ first.users (record { user = user; node = node }) access
+    ]
 
 -- ---- wanted sets
 
@@ -150,17 +170,21 @@ none_where-is true list set e = absurd (cc)
 none_where-is false list set e = cc
 
 -- a wanted set is the list
-pub wanted-is : (mode : Mode) (list held set : ℕ) → wanted_surface mode list held ≡ Some set → list ≡ set
+pub wanted-is : (mode : Mode) (list held set : ℕ) → wanted_surface mode list held ≡ Some set
+    → list ≡ set
 wanted-is Full list held set e = cc
 wanted-is Delta list held set e = none_where-is (list == held) list set e
 
-pub wants_below : (users : ℕ) (y : Layers) (lists : List ℕ) (placed : List Place) → AreHeld y lists placed
+pub wants_below : (users : ℕ) (y : Layers) (lists : List ℕ) (placed : List Place)
+    → AreHeld y lists placed
     → ((node : ℕ) → node < length y.base → IsBelow users (holders y node))
     → (set : ℕ) → Contains (wants_at y lists placed) (Some set) → IsBelow users set
 wants_below users y [] placed h below set there = absurd (Contains-none (Some set) there)
 wants_below users y (list ∷ lists) [] h below set there = absurd h
 wants_below users y (list ∷ lists) (p ∷ placed) (node, held, rest) below set there =
-    elim (Contains-cases (wanted_surface y.mode list (holders y p.node)) (wants_at y lists placed) (Some set) there) [
+    elim
+    (Contains-cases (wanted_surface y.mode list (holders y p.node)) (wants_at y lists placed)
+    (Some set) there) [
       | inl is ↦ subst (λ s. IsBelow users s) (wanted-is y.mode list (holders y p.node) set is)
           (IsBelow-Within users list (holders y p.node) held (below p.node node))
       | inr later ↦ wants_below users y lists placed rest below set later

@@ -4,11 +4,11 @@ use Rattle.ov_base.specs.Sets.{with, without}
 use Rattle.ov_base.specs.declared.mode.Mode.{Mode}
 use Rattle.ov_history.specs.Places.{change_at}
 
--- An update that was accepted. A name is a list of bytes, an access list is a set of users, and users
--- and files are their numbers.
+-- An update that was accepted, without the bytes of a file: their number alone. A name is a list of
+-- bytes, an access list is a set of users, and users and files are their numbers.
 pub data Update : Type 0 where
   Enrolled : (user : List ℕ) → Update
-  Created : (file : List ℕ) → (list : ℕ) → (bytes : List ℕ) → Update
+  Created : (file : List ℕ) → (list size : ℕ) → Update
   Granted : (user file : ℕ) → Update
   Revoked : (user file : ℕ) → Update
 
@@ -18,10 +18,10 @@ pub record History : Type 0 where
   pub first : ℕ
   pub updates : List Update
 
--- a file as its owner sees it: its name, its bytes, and the set of the users who may read it
+-- a file of the matrix: its name, how many bytes it has, and the set of the users who may read it
 pub record File : Type 0 where
   pub name : List ℕ
-  pub bytes : List ℕ
+  pub length : ℕ
   pub list : ℕ
 
 -- the names of the users and the files, each by number
@@ -29,24 +29,28 @@ pub record Matrix : Type 0 where
   pub users : List (List ℕ)
   pub files : List File
 
--- the file with the user in its list, and without
+-- the file with the user in its list
 abbrev pub listed : ℕ → File → File
 listed user file = record file { list = with file.list user }
 
+-- the file without the user in its list
 abbrev pub delisted : ℕ → File → File
 delisted user file = record file { list = without file.list user }
 
 -- what an update makes of the matrix
 abbrev pub changed : Matrix → Update → Matrix
 changed m (Enrolled user) = record m { users = m.users ++ user ∷ [] }
-changed m (Created file list bytes) = record m { files = m.files ++ record { name = file; bytes = bytes; list = list } ∷ [] }
+changed m (Created file list size) =
+    record m { files = m.files ++ record { name = file; length = size; list = list } ∷ [] }
 changed m (Granted user file) = record m { files = change_at (listed user) file m.files }
 changed m (Revoked user file) = record m { files = change_at (delisted user) file m.files }
 
+-- what all these updates make of it, in order
 abbrev pub changed_all : Matrix → List Update → Matrix
 changed_all m [] = m
 changed_all m (u ∷ updates) = changed_all (changed m u) updates
 
+-- the matrix without users and files
 abbrev pub no_one : Matrix
 no_one = record { users = []; files = [] }
 

@@ -1,5 +1,6 @@
 -- The two layers of sets that a history makes, and where each file stands in them.
-use Rattle.std.specs.Prelude.{ℕ, ◌+◌, ◌==◌, Bool, true, false, List, [], ◌∷◌, ◌++◌, slice_index, slice_index_or, Option, Some, None}
+use Rattle.std.specs.Prelude.{ℕ, ◌+◌, ◌==◌, Bool, true, false, List, [], ◌∷◌, ◌++◌, slice_index}
+use Rattle.std.specs.Prelude.{slice_index_or, Option, Some, None}
 use Rattle.ov_base.specs.Sets.{single, has, with, without}
 use Rattle.ov_base.specs.declared.mode.Mode.{Mode}
 use Rattle.ov_base_layer.specs.Holders.{Access, holders_in}
@@ -14,11 +15,16 @@ use Rattle.ov_history.specs.History.{Update, Enrolled, Created, Granted, Revoked
 abbrev pub node_for : List ℕ → ℕ → ℕ
 node_for sets set = (plan_of sets set).node
 
+-- the node of a user alone
+abbrev pub root_of : List ℕ → ℕ → ℕ
+root_of sets user = node_for sets (single user)
+
 -- the sets, and the set at their end where it is a fresh one
 abbrev pub appended : Bool → List ℕ → ℕ → List ℕ
 appended true sets set = sets ++ set ∷ []
 appended false sets set = sets
 
+-- the sets, and the set at their end where they don't have it
 abbrev pub with_set : List ℕ → ℕ → List ℕ
 with_set sets set = appended (plan_of sets set).fresh sets set
 
@@ -31,8 +37,8 @@ pub record Place : Type 0 where
   pub surface : Option ℕ
   pub generation : ℕ
 
--- The mode and the epoch, how many users there are, the sets of each layer by node, the accesses that
--- were given besides, in order, and the files by number.
+-- The mode and the epoch, how many users there are, the sets of each layer by node, the accesses
+-- that were given besides, in order, and the files by number.
 pub record Layers : Type 0 where
   pub mode : Mode
   pub epoch : ℕ
@@ -42,13 +48,23 @@ pub record Layers : Type 0 where
   pub accesses : List Access
   pub files : List Place
 
+-- the layers of a store that begins empty
 abbrev pub no_layers : Mode → ℕ → Layers
-no_layers mode first = record { mode = mode; epoch = first; users = 0; base = []; surface = []; accesses = []; files = [] }
+no_layers mode first = record {
+  mode = mode;
+  epoch = first;
+  users = 0;
+  base = [];
+  surface = [];
+  accesses = [];
+  files = [];
+}
 
 -- the holders of a base node
 abbrev pub holders : Layers → ℕ → ℕ
 holders y node = holders_in y.base y.accesses node
 
+-- what stands for the place of a file that isn't there
 abbrev pub no_place : Place
 no_place = record { node = 0; surface = None; generation = 0 }
 
@@ -67,6 +83,7 @@ set_or sets (Some node) held = slice_index sets node
 abbrev pub list_at : Layers → Place → ℕ
 list_at y p = set_or y.surface p.surface (holders y p.node)
 
+-- the lists of the files that stand so
 abbrev pub lists_at : Layers → List Place → List ℕ
 lists_at y [] = []
 lists_at y (p ∷ places) = list_at y p ∷ lists_at y places
@@ -78,7 +95,7 @@ lists_of y = lists_at y y.files
 -- the lists after an update
 abbrev pub lists_after : List ℕ → Update → List ℕ
 lists_after lists (Enrolled user) = lists
-lists_after lists (Created file list bytes) = lists ++ list ∷ []
+lists_after lists (Created file list size) = lists ++ list ∷ []
 lists_after lists (Granted user file) = change_at (λ list. with list user) file lists
 lists_after lists (Revoked user file) = change_at (λ list. without list user) file lists
 
@@ -89,8 +106,8 @@ abbrev pub given : Bool → List Access → ℕ → ℕ → List Access
 given true accesses user node = accesses
 given false accesses user node = accesses ++ record { user = user; node = node } ∷ []
 
--- A new user has a node alone in each layer, a new file has the base node of its list, and a user who
--- is granted a file and doesn't hold its base node is given access to that.
+-- A new user has a node alone in each layer, a new file has the base node of its list, and a user
+-- who is granted a file and doesn't hold its base node is given access to that.
 abbrev pub grown : Layers → Update → Layers
 grown y (Enrolled user) = record y {
   epoch = y.epoch + 1;
@@ -98,10 +115,11 @@ grown y (Enrolled user) = record y {
   base = y.base ++ single y.users ∷ [];
   surface = y.surface ++ single y.users ∷ [];
 }
-grown y (Created file list bytes) = record y {
+grown y (Created file list size) = record y {
   epoch = y.epoch + 1;
   base = with_set y.base list;
-  files = y.files ++ record { node = node_for y.base list; surface = None; generation = y.epoch + 1 } ∷ [];
+  files = y.files
+      ++ record { node = node_for y.base list; surface = None; generation = y.epoch + 1 } ∷ [];
 }
 grown y (Granted user file) = record y {
   epoch = y.epoch + 1;
@@ -115,8 +133,10 @@ grown y (Revoked user file) = record y { epoch = y.epoch + 1 }
 abbrev pub wants_at : Layers → List ℕ → List Place → List (Option ℕ)
 wants_at y [] places = []
 wants_at y (list ∷ lists) [] = []
-wants_at y (list ∷ lists) (p ∷ places) = wanted_surface y.mode list (holders y p.node) ∷ wants_at y lists places
+wants_at y (list ∷ lists) (p ∷ places) =
+    wanted_surface y.mode list (holders y p.node) ∷ wants_at y lists places
 
+-- the surface set that each file should have, for these lists
 abbrev pub wants_of : Layers → List ℕ → List (Option ℕ)
 wants_of y lists = wants_at y lists y.files
 
@@ -131,6 +151,7 @@ abbrev pub surface_at : List ℕ → Option ℕ → Option ℕ
 surface_at sets None = None
 surface_at sets (Some set) = Some (node_for sets set)
 
+-- whether two surfaces are the same, or there is neither
 abbrev pub same_surface : Option ℕ → Option ℕ → Bool
 same_surface None None = true
 same_surface None (Some node) = false
@@ -142,14 +163,19 @@ abbrev pub moved : Bool → ℕ → Option ℕ → Place → Place
 moved true epoch surface p = p
 moved false epoch surface p = record p { surface = surface; generation = epoch }
 
+-- the place with the surface of its wanted set
 abbrev pub settled_at : ℕ → List ℕ → Option ℕ → Place → Place
-settled_at epoch sets want p = moved (same_surface p.surface (surface_at sets want)) epoch (surface_at sets want) p
+settled_at epoch sets want p =
+    moved (same_surface p.surface (surface_at sets want)) epoch (surface_at sets want) p
 
+-- so each of the places
 abbrev pub settled_all : ℕ → List ℕ → List (Option ℕ) → List Place → List Place
 settled_all epoch sets [] places = places
 settled_all epoch sets (want ∷ wants) [] = []
-settled_all epoch sets (want ∷ wants) (p ∷ places) = settled_at epoch sets want p ∷ settled_all epoch sets wants places
+settled_all epoch sets (want ∷ wants) (p ∷ places) =
+    settled_at epoch sets want p ∷ settled_all epoch sets wants places
 
+-- the layers, where each file has the surface of its wanted set
 abbrev pub settled_by : Layers → List (Option ℕ) → Layers
 settled_by y wants = record y {
   surface = with_wants y.surface wants;
@@ -166,6 +192,7 @@ settled y lists = settled_by y (wants_of y lists)
 abbrev pub layers_after : Layers → Update → Layers
 layers_after y u = settled (grown y u) (lists_after (lists_of y) u)
 
+-- the layers after all these updates, in order
 abbrev pub layers_all : Layers → List Update → Layers
 layers_all y [] = y
 layers_all y (u ∷ updates) = layers_all (layers_after y u) updates

@@ -1,9 +1,11 @@
 -- The users, files and access lists of the matrix, by number and by name.
-use Rattle.std.specs.Prelude.{ℕ, ◌+◌, ◌-◌, ◌^◌, Bool, true, false, nat_lt, List, [], ◌∷◌, ◌++◌, length, slice_index_or}
+use Rattle.std.specs.Prelude.{ℕ, ◌+◌, ◌-◌, ◌^◌, Bool, true, false, nat_lt, List, [], ◌∷◌, ◌++◌}
+use Rattle.std.specs.Prelude.{length, slice_index_or}
 use Rattle.ov_base.specs.Sets.{empty as nobody, has, with}
 use Rattle.ov_history.specs.History.{File, Matrix}
 use Rattle.ov_history.specs.Places.{place_of}
 
+-- the names of these files
 abbrev pub file_names : List File → List (List ℕ)
 file_names [] = []
 file_names (file ∷ files) = file.name ∷ file_names files
@@ -12,18 +14,23 @@ file_names (file ∷ files) = file.name ∷ file_names files
 abbrev pub user_number : Matrix → List ℕ → ℕ
 user_number m name = place_of name m.users
 
+-- The number of a file by name. Of a name that isn't there it is one past the last number.
 abbrev pub file_number : Matrix → List ℕ → ℕ
 file_number m name = place_of name (file_names m.files)
 
+-- whether there is a user of this number
 abbrev pub is_user : Matrix → ℕ → Bool
 is_user m user = nat_lt user (length m.users)
 
+-- whether there is a file of this number
 abbrev pub is_file : Matrix → ℕ → Bool
 is_file m file = nat_lt file (length m.files)
 
+-- what stands for a file that isn't there
 abbrev pub no_file : File
-no_file = record { name = []; bytes = []; list = nobody }
+no_file = record { name = []; length = 0; list = nobody }
 
+-- the file of this number
 abbrev pub file_at : Matrix → ℕ → File
 file_at m file = slice_index_or m.files file no_file
 
@@ -52,12 +59,14 @@ name_if false name = []
 -- the names of the users in the set, in order of number; the first of these names has this number
 abbrev pub names_from : ℕ → ℕ → List (List ℕ) → List (List ℕ)
 names_from set number [] = []
-names_from set number (name ∷ names) = name_if (has set number) name ++ names_from set (number + 1) names
+names_from set number (name ∷ names) =
+    name_if (has set number) name ++ names_from set (number + 1) names
 
+-- the names of the users in the set, in order of number
 abbrev pub names_in : ℕ → List (List ℕ) → List (List ℕ)
 names_in set users = names_from set 0 users
 
 -- the bytes of all files together
 abbrev pub byte_sum : List File → ℕ
 byte_sum [] = 0
-byte_sum (file ∷ files) = length file.bytes + byte_sum files
+byte_sum (file ∷ files) = file.length + byte_sum files

@@ -1,11 +1,19 @@
 -- Why the access-matrix machine refuses an update or a question.
-use Rattle.std.specs.Prelude.{◌≡◌, ℕ, ◌+◌, Bool, true, false, not, ◌||◌, nat_le, nat_lt, List, [], ◌∷◌, length, Option, Some, None}
+use Rattle.std.specs.Prelude.{◌≡◌, ℕ, ◌+◌, Bool, true, false, not, ◌||◌, nat_le, nat_lt, List, []}
+use Rattle.std.specs.Prelude.{◌∷◌, length, Option, Some, None}
 use Rattle.ov_base.specs.Sets.{within}
+use Rattle.ov_base.specs.declared.limits.TheConstants.{LAST_EPOCH, MAX_FILES, MAX_LAYER_NODES}
+use Rattle.ov_base.specs.declared.limits.TheConstants.{MAX_STORE_BYTES, MAX_USERS}
 use Rattle.ov_base.specs.declared.refusal.Refusal.{Refusal}
-use Rattle.ov_base.specs.declared.refusal.Refusal.TheVariants.{Taken, NoUser, NoFile, NoPath, Listed, NotListed, UsersFull, FilesFull, BytesFull, NodesFull, Spent}
-use Rattle.ov_history.specs.History.{Update, Enrolled, Created, Granted, Revoked, History, Matrix, matrix_of, epoch_of, with_update, start_of}
+use Rattle.ov_base.specs.declared.refusal.Refusal.TheVariants.{Taken, NoUser, NoFile, NoPath}
+use Rattle.ov_base.specs.declared.refusal.Refusal.TheVariants.{Listed, NotListed, UsersFull}
+use Rattle.ov_base.specs.declared.refusal.Refusal.TheVariants.{FilesFull, BytesFull, NodesFull}
+use Rattle.ov_base.specs.declared.refusal.Refusal.TheVariants.{Spent}
+use Rattle.ov_history.specs.History.{Update, Enrolled, Created, Granted, Revoked, History, Matrix}
+use Rattle.ov_history.specs.History.{matrix_of, epoch_of, with_update, start_of}
 use Rattle.ov_history.specs.Layers.{Layers, layers_of, layers_after}
-use Rattle.ov_history.specs.Lists.{user_number, file_number, is_user, is_file, is_listed, everyone, byte_sum}
+use Rattle.ov_history.specs.Lists.{user_number, file_number, is_user, is_file, is_listed, everyone}
+use Rattle.ov_history.specs.Lists.{byte_sum}
 
 -- a refusal, and whether it applies
 abbrev pub Test : Type 0
@@ -17,33 +25,39 @@ first_of_tests [] = None
 first_of_tests ((why, true) ∷ tests) = Some why
 first_of_tests ((why, false) ∷ tests) = first_of_tests tests
 
--- a layer has more than 4,096 nodes
+-- a layer has more nodes than it may have
 abbrev pub is_past_nodes : Layers → Bool
-is_past_nodes y = nat_lt 4096 (length y.base) || nat_lt 4096 (length y.surface)
+is_past_nodes y =
+    nat_lt MAX_LAYER_NODES (length y.base) || nat_lt MAX_LAYER_NODES (length y.surface)
 
 -- no epoch comes after this one
 abbrev pub is_last : ℕ → Bool
-is_last epoch = nat_le 4294967295 epoch
+is_last epoch = nat_le LAST_EPOCH epoch
 
 -- the refusals of an update that come after its own: it needs too many nodes, or no epoch is left
 abbrev pub tests_of_room : Layers → ℕ → Update → List Test
-tests_of_room y epoch u = (NodesFull, is_past_nodes (layers_after y u)) ∷ (Spent, is_last epoch) ∷ []
+tests_of_room y epoch u =
+    (NodesFull, is_past_nodes (layers_after y u)) ∷ (Spent, is_last epoch) ∷ []
 
 -- The refusals of an update, in the order of their numbers. A number that is no user's or no file's
 -- counts as a name that isn't there.
 abbrev pub tests_of : Matrix → Layers → ℕ → Update → List Test
 tests_of m y epoch (Enrolled user) =
-    (Taken, is_user m (user_number m user)) ∷ (UsersFull, nat_le 256 (length m.users))
+    (Taken, is_user m (user_number m user)) ∷ (UsersFull, nat_le MAX_USERS (length m.users))
     ∷ tests_of_room y epoch (Enrolled user)
-tests_of m y epoch (Created file list bytes) =
-    (Taken, is_file m (file_number m file)) ∷ (NoUser, not (within list (everyone (length m.users))))
-    ∷ (FilesFull, nat_le 16384 (length m.files)) ∷ (BytesFull, nat_lt 67108864 (byte_sum m.files + length bytes))
-    ∷ tests_of_room y epoch (Created file list bytes)
+tests_of m y epoch (Created file list size) =
+    (Taken, is_file m (file_number m file))
+    ∷ (NoUser, not (within list (everyone (length m.users))))
+    ∷ (FilesFull, nat_le MAX_FILES (length m.files))
+    ∷ (BytesFull, nat_lt MAX_STORE_BYTES (byte_sum m.files + size))
+    ∷ tests_of_room y epoch (Created file list size)
 tests_of m y epoch (Granted user file) =
-    (NoUser, not (is_user m user)) ∷ (NoFile, not (is_file m file)) ∷ (Listed, is_listed m user file)
+    (NoUser, not (is_user m user)) ∷ (NoFile, not (is_file m file))
+    ∷ (Listed, is_listed m user file)
     ∷ tests_of_room y epoch (Granted user file)
 tests_of m y epoch (Revoked user file) =
-    (NoUser, not (is_user m user)) ∷ (NoFile, not (is_file m file)) ∷ (NotListed, not (is_listed m user file))
+    (NoUser, not (is_user m user)) ∷ (NoFile, not (is_file m file))
+    ∷ (NotListed, not (is_listed m user file))
     ∷ tests_of_room y epoch (Revoked user file)
 
 -- why the update is refused at this history, if it is
@@ -54,7 +68,8 @@ refusal_of h u = first_of_tests (tests_of (matrix_of h) (layers_of h) (epoch_of 
 abbrev pub read_refusal : Matrix → ℕ → ℕ → Option Refusal
 read_refusal m user file =
     first_of_tests
-    ((NoUser, not (is_user m user)) ∷ (NoFile, not (is_file m file)) ∷ (NoPath, not (is_listed m user file)) ∷ [])
+    ((NoUser, not (is_user m user)) ∷ (NoFile, not (is_file m file))
+    ∷ (NoPath, not (is_listed m user file)) ∷ [])
 
 -- why a list isn't given
 abbrev pub list_refusal : Matrix → ℕ → Option Refusal

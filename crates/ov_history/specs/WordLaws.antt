@@ -1,27 +1,33 @@
 -- The laws that say what the layers of a history are, in the words of its updates.
-use Rattle.std.specs.Prelude.{◌≡◌, ◌≢◌, ◌⊎◌, ◌↔◌, ℕ, ◌<◌, ◌^◌, List, length, slice_index, Contains, Some}
+use Rattle.std.specs.Prelude.{◌≡◌, ◌≢◌, ◌⊎◌, ◌↔◌, ℕ, ◌<◌, ◌^◌, List, length, slice_get, slice_index}
+use Rattle.std.specs.Prelude.{Contains, Some}
 use Rattle.ov_base.specs.Sets.{Has}
 use Rattle.ov_ctr.specs.Ctr.{counter_block}
 use Rattle.ov_tokens.specs.declared.label.Label.{Label}
 use Rattle.ov_history.specs.History.{Update, Created, History, epoch_of, matrix_of, with_update}
 use Rattle.ov_history.specs.Layers.{holders, surface_at, layers_of}
 use Rattle.ov_history.specs.Refusals.{IsLegal}
-use Rattle.ov_history.specs.Sealed.{Masters}
-use Rattle.ov_history.specs.Words.{AreDistinct, HasFile, IsPadded, WasGranted, longer, place_in, wanted_of}
+use Rattle.ov_history.specs.Masters.{Masters}
+use Rattle.ov_history.specs.Plain.{PlainHistory, PlainUpdate, history_of}
+use Rattle.ov_history.specs.Words.{AreDistinct, HasFile, IsPadded, WasGranted, longer, longer_plain}
+use Rattle.ov_history.specs.Words.{place_in, wanted_of}
 
--- the holders of a base node are the users of its set, and those who were granted a file of this node
+-- the holders of a base node are the users of its set, and those who were granted a file of this
+-- node
 abbrev pub HoldersAreGranted : Type 0
 HoldersAreGranted =
     (h : History) (node user : ℕ)
-    → Has (holders (layers_of h) node) user ↔ (Has (slice_index (layers_of h).base node) user ⊎ WasGranted h node user)
+    → Has (holders (layers_of h) node) user
+    ↔ (Has (slice_index (layers_of h).base node) user ⊎ WasGranted h node user)
 
 -- each file has the surface node of its wanted set, and none where none is wanted
 abbrev pub SurfaceIsWanted : Type 0
 SurfaceIsWanted =
     (h : History) (file : ℕ)
-    → HasFile h file → (place_in h file).surface ≡ surface_at (layers_of h).surface (wanted_of h file)
+    → HasFile h file
+    → (place_in h file).surface ≡ surface_at (layers_of h).surface (wanted_of h file)
 
--- which is there
+-- the wanted set of a file is the set of some surface node
 abbrev pub WantedIsThere : Type 0
 WantedIsThere =
     (h : History) (file set : ℕ)
@@ -36,33 +42,55 @@ GenerationsStay =
     → HasFile h file → wanted_of (with_update h u) file ≡ wanted_of h file
     → (place_in (with_update h u) file).generation ≡ (place_in h file).generation
 
--- and else has the epoch after the update for one
+-- with one more update a file that has another wanted set has the epoch after the update for its
+-- generation
 abbrev pub GenerationsMove : Type 0
 GenerationsMove =
     (h : History) (u : Update) (file : ℕ)
     → HasFile h file → wanted_of (with_update h u) file ≢ wanted_of h file
     → (place_in (with_update h u) file).generation ≡ epoch_of (with_update h u)
 
--- and so has a new file
+-- a new file has the epoch after its creation for its generation
 abbrev pub GenerationsBegin : Type 0
 GenerationsBegin =
-    (h : History) (name : List ℕ) (list : ℕ) (bytes : List ℕ)
-    → let next = with_update h (Created name list bytes) in
+    (h : History) (name : List ℕ) (list size : ℕ)
+    → let next = with_update h (Created name list size) in
     (place_in next (length (matrix_of h).files)).generation ≡ epoch_of next
 
 -- ---- sets
 
 -- after a legal history the sets of each layer are distinct
 abbrev pub SetsAreDistinct : Type 0
-SetsAreDistinct = (h : History) → IsLegal h → AreDistinct (layers_of h).base × AreDistinct (layers_of h).surface
+SetsAreDistinct =
+    (h : History)
+    → IsLegal h → AreDistinct (layers_of h).base × AreDistinct (layers_of h).surface
+
+-- a node once added keeps its number and its set, after any further updates
+abbrev pub NodesStay : Type 0
+NodesStay =
+    (h : History) (more : List Update) (node set : ℕ)
+    → (slice_get (layers_of h).base node ≡ Some set
+    → slice_get (layers_of (longer h more)).base node ≡ Some set)
+    × (slice_get (layers_of h).surface node ≡ Some set
+    → slice_get (layers_of (longer h more)).surface node ≡ Some set)
+
+-- the base node of a file is the node of the list that it was created for, after any further
+-- updates
+abbrev pub BaseNodeIsOfList : Type 0
+BaseNodeIsOfList =
+    (h : History) (name : List ℕ) (list size : ℕ) (more : List Update)
+    → let after = longer (with_update h (Created name list size)) more in
+    slice_get (layers_of after).base (place_in after (length (matrix_of h).files)).node ≡ Some list
 
 -- ---- pads
 
 -- over all of a history the pad of one key for one file lies over one text alone
 abbrev pub NoPadTwice : Type 0
 NoPadTwice =
-    (k : Masters) (h : History) (more : List Update) (label : Label) (file : ℕ) (text other : List ℕ)
-    → IsPadded k h label file text → IsPadded k (longer h more) label file other → text ≡ other
+    (k : Masters) (p : PlainHistory) (more : List PlainUpdate) (label : Label) (file : ℕ)
+    (text other : List ℕ)
+    → IsPadded k p label file text → IsPadded k (longer_plain p more) label file other
+    → text ≡ other
 
 -- two tag bytes, two files and two blocks of a file have different counter blocks
 abbrev pub CounterBlocksDiffer : Type 0
@@ -72,13 +100,14 @@ CounterBlocksDiffer =
     → counter_block tag file block ≡ counter_block other second next
     → (tag ≡ other) × (file ≡ second) × (block ≡ next)
 
--- so over all of a legal history no counter block under the key of one label is used for two texts, or
+-- over all of a legal history no counter block under the key of one label is used for two texts, or
 -- for two blocks of one
 abbrev pub NoBlockTwice : Type 0
 NoBlockTwice =
-    (k : Masters) (h : History) (more : List Update) (label : Label) (file second : ℕ) (text other : List ℕ) (tag block next : ℕ)
-    → IsLegal (longer h more)
-    → IsPadded k h label file text → IsPadded k (longer h more) label second other
+    (k : Masters) (p : PlainHistory) (more : List PlainUpdate) (label : Label) (file second : ℕ)
+    (text other : List ℕ) (tag block next : ℕ)
+    → IsLegal (history_of (longer_plain p more))
+    → IsPadded k p label file text → IsPadded k (longer_plain p more) label second other
     → block < 2 ^ 64 → next < 2 ^ 64
     → counter_block tag file block ≡ counter_block tag second next
     → (text ≡ other) × (block ≡ next)

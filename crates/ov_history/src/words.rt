@@ -1,10 +1,12 @@
-//! The laws that say what the layers of a history are, in the words of its updates, for the proofs of
-//! callers. The functions do nothing.
-ghost use Rattle.ov_history.specs.WordLaws.{CounterBlocksDiffer, GenerationsBegin, GenerationsMove};
-ghost use Rattle.ov_history.specs.WordLaws.{GenerationsStay, HoldersAreGranted, NoBlockTwice, NoPadTwice};
+//! The laws that say what the layers of a history are, in the words of its updates, for the proofs
+//! of callers. The functions do nothing.
+ghost use Rattle.ov_history.specs.WordLaws.{BaseNodeIsOfList, CounterBlocksDiffer, NodesStay};
+ghost use Rattle.ov_history.specs.WordLaws.{GenerationsBegin, GenerationsMove, GenerationsStay};
+ghost use Rattle.ov_history.specs.WordLaws.{HoldersAreGranted, NoBlockTwice, NoPadTwice};
 ghost use Rattle.ov_history.specs.WordLaws.{SetsAreDistinct, SurfaceIsWanted, WantedIsThere};
 
-/// The holders of a base node are the users of its set, and those who were granted a file of this node.
+/// The holders of a base node are the users of its set, and those who were granted a file of this
+/// node.
 pub fn holders_are_granted()
     ensures { HoldersAreGranted }
 {}
@@ -28,9 +30,17 @@ pub fn sets_are_distinct()
     ensures { SetsAreDistinct }
 {}
 
+/// A node once added keeps its number and its set, and a file's base node stays the node of the
+/// list that the file was created for.
+pub fn base_nodes_are_of_lists()
+    ensures nodes { NodesStay }
+    ensures list { BaseNodeIsOfList }
+{}
+
 /// Over all of a history the pad of one key for one file lies over one text alone. Two layers, two
-/// files and two blocks of a file have different counter blocks, so that under the key of one label no
-/// counter block is used for two texts, or for two blocks of one.
+/// files and two blocks of a file have different counter blocks, so that over all of a legal
+/// history no counter block is used under the key of one label for two texts, or for two blocks of
+/// one.
 pub fn no_pad_is_used_twice()
     ensures texts { NoPadTwice }
     ensures blocks { CounterBlocksDiffer }

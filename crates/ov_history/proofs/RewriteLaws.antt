@@ -1,0 +1,214 @@
+-- The rewrites of an update are those of the files that have another surface and of a new one, in
+-- order.
+use Rattle.std.proofs.Common.{◌≡◌, ◌≢◌, ◌⊎◌, ◌<◌, ◌≤◌, ◌+◌, ℕ, zero, suc, Bool, true, false, List}
+use Rattle.std.proofs.Common.{[], ◌∷◌, ◌++◌, length, refl, sym, ◌∙◌, ap, subst, arith, inl, inr}
+use Rattle.std.specs.Prelude.{Contains, Some, None, slice_get}
+use Rattle.std.proofs.lemmas.List.Elements.{Contains-append_right}
+use Rattle.std.proofs.lemmas.Option.{get_or_from_slice_get, slice_get_within}
+use Rattle.ov_graph.proofs.ListLaws.{Contains-cases, Contains-first, Contains-later, Contains-none}
+use Rattle.ov_history.specs.Layers.{same_surface}
+use Rattle.ov_history.specs.Catalogue.{Filed}
+use Rattle.ov_history.specs.Rewrites.{Rewrite, files_after, rewrite_unless, rewrites_from}
+use Rattle.ov_history.specs.Laws.{FilesAreThoseAfter, RewritesAreExact, RewritesAreInOrder}
+use Rattle.ov_history.proofs.Listing.{same_surface-is, same_surface-not}
+
+pub files_are_those_after : FilesAreThoseAfter
+files_are_those_after master c b = refl
+
+-- ---- what a rewrite is of
+
+-- the rewrite of a file that has another surface afterwards
+abbrev moved_to : ℕ → Filed → Filed → Rewrite
+moved_to number f now =
+    record { file = number; length = now.length; old = f.surface; new = now.surface }
+
+-- and of a new one
+abbrev new_at : ℕ → Filed → Rewrite
+new_at number now = record { file = number; length = now.length; old = None; new = now.surface }
+
+-- it is of the file at this place, which has another surface afterwards
+abbrev IsMoved : List Filed → List Filed → ℕ → Rewrite → Type 0
+IsMoved files after place r =
+    (f now : Filed) × (slice_get files place ≡ Some f) × (slice_get after place ≡ Some now)
+    × (f.surface ≢ now.surface) × (r ≡ moved_to r.file f now)
+
+-- it is of the new file at this place
+abbrev IsAdded : List Filed → List Filed → ℕ → Rewrite → Type 0
+IsAdded files after place r =
+    (now : Filed) × (length files ≤ place) × (slice_get after place ≡ Some now)
+    × (r ≡ new_at r.file now)
+
+-- it is of some file of these, of which the first has this number
+abbrev IsOfSome : ℕ → List Filed → List Filed → Rewrite → Type 0
+IsOfSome first files after r =
+    (place : ℕ) × (r.file ≡ first + place)
+    × (IsMoved files after place r ⊎ IsAdded files after place r)
+
+-- ---- each rewrite is of some file
+
+further : (first : ℕ) (f now : Filed) (files after : List Filed) (r : Rewrite)
+    → IsOfSome (first + 1) files after r
+    → IsOfSome first (f ∷ files) (now ∷ after) r
+further first f now files after r (place, is, inl (old, new, was, then_is, other, same)) =
+    (suc place, omega arith, inl (old, new, was, then_is, other, same))
+further first f now files after r (place, is, inr (new, past, then_is, same)) =
+    (suc place, omega arith, inr (new, omega arith, then_is, same))
+
+further_new : (first : ℕ) (now : Filed) (after : List Filed) (r : Rewrite)
+    → IsOfSome (first + 1) [] after r
+    → IsOfSome first [] (now ∷ after) r
+further_new first now after r (place, is, inl (old, new, was, then_is, other, same)) = absurd (cc)
+further_new first now after r (place, is, inr (new, past, then_is, same)) =
+    (suc place, omega arith, inr (new, omega arith, then_is, same))
+
+-- the rewrite of the first file, where there is one, or one of those behind it
+first_or : (first : ℕ) (f now : Filed) (files after : List Filed) (r : Rewrite)
+    → (Contains (rewrites_from (first + 1) files after) r → IsOfSome (first + 1) files after r)
+    → (b : Bool) → same_surface f.surface now.surface ≡ b
+    → Contains (rewrite_unless b first f now ++ rewrites_from (first + 1) files after) r
+    → IsOfSome first (f ∷ files) (now ∷ after) r
+first_or first f now files after r behind true e there =
+    further first f now files after r (behind there)
+first_or first f now files after r behind false e there =
+    elim (Contains-cases (moved_to first f now) (rewrites_from (first + 1) files after) r there) [
+      | inl is ↦ subst (λ (s : Rewrite). IsOfSome first (f ∷ files) (now ∷ after) s) is
+          (0, omega arith, inl (f, now, refl, refl, same_surface-not f.surface now.surface e, refl))
+      | inr later ↦ further first f now files after r (behind later)
+    ]
+
+of_some : (first : ℕ) (files after : List Filed) (r : Rewrite)
+    → Contains (rewrites_from first files after) r
+    → IsOfSome first files after r
+of_some first files [] r there = absurd (Contains-none r there)
+of_some first [] (now ∷ after) r there =
+    elim (Contains-cases (new_at first now) (rewrites_from (first + 1) [] after) r there) [
+      | inl is ↦ subst (λ (s : Rewrite). IsOfSome first [] (now ∷ after) s) is
+          (0, omega arith, inr (now, omega arith, refl, refl))
+      | inr later ↦ further_new first now after r (of_some (first + 1) [] after r later)
+    ]
+of_some first (f ∷ files) (now ∷ after) r there =
+    first_or first f now files after r (λ later. of_some (first + 1) files after r later)
+    (same_surface f.surface now.surface) refl there
+
+-- ---- each such file has its rewrite
+
+moved_there : (first : ℕ) (files after : List Filed) (place : ℕ) (r : Rewrite)
+    → r.file ≡ first + place
+    → IsMoved files after place r → Contains (rewrites_from first files after) r
+moved_there first files [] place r at_place (f, now, was, then_is, other, is) = absurd (cc)
+moved_there first [] (new ∷ after) place r at_place (f, now, was, then_is, other, is) = absurd (cc)
+moved_there first (old ∷ files) (new ∷ after) zero r at_place (f, now, was, then_is, other, is) =
+    by_test (same_surface old.surface new.surface) refl where
+      same_old : old ≡ f
+      same_old = cc
+
+      same_new : new ≡ now
+      same_new = cc
+
+      here : r ≡ moved_to first old new
+      here =
+          is ∙ ap (λ n. moved_to n f now) (omega arith)
+          ∙ ap (λ (g : Filed). moved_to first g now) (sym same_old)
+          ∙ ap (λ (g : Filed). moved_to first old g) (sym same_new)
+
+      by_test : (b : Bool) → same_surface old.surface new.surface ≡ b
+          → Contains (rewrite_unless b first old new ++ rewrites_from (first + 1) files after) r
+      by_test true e = absurd (other
+          (ap (λ (g : Filed). g.surface) (sym same_old) ∙ same_surface-is old.surface new.surface e
+          ∙ ap (λ (g : Filed). g.surface) same_new))
+      by_test false e =
+          subst
+          (λ (s : Rewrite). Contains
+          (moved_to first old new ∷ rewrites_from (first + 1) files after) s) (sym here)
+          (Contains-first (moved_to first old new) (rewrites_from (first + 1) files after))
+moved_there first (old ∷ files) (new ∷ after) (suc place) r at_place moved =
+    Contains-append_right (rewrite_unless (same_surface old.surface new.surface) first old new)
+    (rewrites_from (first + 1) files after) r
+    (moved_there (first + 1) files after place r (omega arith) moved)
+
+added_there : (first : ℕ) (files after : List Filed) (place : ℕ) (r : Rewrite)
+    → r.file ≡ first + place
+    → IsAdded files after place r → Contains (rewrites_from first files after) r
+added_there first files [] place r at_place (now, past, then_is, is) = absurd (cc)
+added_there first [] (new ∷ after) zero r at_place (now, past, then_is, is) =
+    let same : new ≡ now = cc in
+    let here : r ≡ new_at first new =
+    is ∙ ap (λ n. new_at n now) (omega arith) ∙ ap (λ (g : Filed). new_at first g) (sym same) in
+    subst (λ (s : Rewrite). Contains (new_at first new ∷ rewrites_from (first + 1) [] after) s)
+    (sym here)
+    (Contains-first (new_at first new) (rewrites_from (first + 1) [] after))
+added_there first [] (new ∷ after) (suc place) r at_place (now, past, then_is, is) =
+    Contains-later (new_at first new) (rewrites_from (first + 1) [] after) r
+    (added_there (first + 1) [] after place r (omega arith) (now, omega arith, then_is, is))
+added_there first (old ∷ files) (new ∷ after) zero r at_place (now, past, then_is, is) =
+    absurd (omega arith)
+added_there first (old ∷ files) (new ∷ after) (suc place) r at_place (now, past, then_is, is) =
+    Contains-append_right (rewrite_unless (same_surface old.surface new.surface) first old new)
+    (rewrites_from (first + 1) files after) r
+    (added_there (first + 1) files after place r (omega arith) (now, omega arith, then_is, is))
+
+at_file : (r : Rewrite) (place : ℕ) (P : ℕ → Type 0) → r.file ≡ 0 + place → P place → P r.file
+at_file r place P is p = subst P (omega arith) p
+
+pub rewrites_are_exact : RewritesAreExact
+rewrites_are_exact c b r =
+    let after : List Filed = files_after c b in (
+      λ there.
+          let (place, is, how) = of_some 0 c.files after r there in
+          at_file r place (λ n. IsMoved c.files after n r ⊎ IsAdded c.files after n r) is how,
+      elim [
+        | inl moved ↦ moved_there 0 c.files after r.file r (omega arith) moved
+        | inr added ↦ added_there 0 c.files after r.file r (omega arith) added
+      ],
+    )
+
+-- ---- their order
+
+-- each stands before those of higher numbers
+abbrev AreOrdered : List Rewrite → Type 0
+AreOrdered rewrites =
+    (m n : ℕ) (r other : Rewrite)
+    → m < n → slice_get rewrites m ≡ Some r → slice_get rewrites n ≡ Some other
+    → r.file < other.file
+
+got : (rewrites : List Rewrite) (n : ℕ) (r : Rewrite) → slice_get rewrites n ≡ Some r
+    → Contains rewrites r
+got rewrites n r is = (n, slice_get_within rewrites n r is, get_or_from_slice_get rewrites n r r is)
+
+ordered_first : (first : Rewrite) (rewrites : List Rewrite) → AreOrdered rewrites
+    → ((r : Rewrite) → Contains rewrites r → first.file < r.file)
+    → AreOrdered (first ∷ rewrites)
+ordered_first first rewrites ordered before m zero r other low one two = absurd (omega arith)
+ordered_first first rewrites ordered before zero (suc n) r other low one two =
+    let is : first ≡ r = cc in
+    subst (λ (s : Rewrite). s.file < other.file) is (before other (got rewrites n other two))
+ordered_first first rewrites ordered before (suc m) (suc n) r other low one two =
+    ordered m n r other (omega arith) one two
+
+-- all that begin with a number are of files from there on
+from_first : (first : ℕ) (files after : List Filed) (number : ℕ) → number < first
+    → (r : Rewrite) → Contains (rewrites_from first files after) r → number < r.file
+from_first first files after number low r there =
+    let found = of_some first files after r there in
+    omega (arith, low, found.1)
+
+ordered_unless : (b : Bool) (first : ℕ) (f now : Filed) (files after : List Filed)
+    → AreOrdered (rewrites_from (first + 1) files after)
+    → AreOrdered (rewrite_unless b first f now ++ rewrites_from (first + 1) files after)
+ordered_unless true first f now files after behind = behind
+ordered_unless false first f now files after behind =
+    ordered_first (moved_to first f now) (rewrites_from (first + 1) files after) behind
+    (from_first (first + 1) files after first (omega arith))
+
+ordered : (first : ℕ) (files after : List Filed) → AreOrdered (rewrites_from first files after)
+ordered first files [] = λ m n r other low one two. absurd (cc)
+ordered first [] (now ∷ after) =
+    ordered_first (new_at first now) (rewrites_from (first + 1) [] after)
+    (ordered (first + 1) [] after)
+    (from_first (first + 1) [] after first (omega arith))
+ordered first (f ∷ files) (now ∷ after) =
+    ordered_unless (same_surface f.surface now.surface) first f now files after
+    (ordered (first + 1) files after)
+
+pub rewrites_are_in_order : RewritesAreInOrder
+rewrites_are_in_order c b = ordered 0 c.files (files_after c b)

@@ -1,0 +1,195 @@
+-- What stays over further updates: the nodes of each layer with their sets, and the base node of a
+-- file.
+use Rattle.std.proofs.Common.{◌≡◌, ◌<◌, ◌+◌, ℕ, zero, suc, Bool, true, false, List, [], ◌∷◌, ◌++◌}
+use Rattle.std.proofs.Common.{length, refl, sym, ◌∙◌, ap, subst, arith, length-append}
+use Rattle.std.specs.Prelude.{Option, Some, None, slice_get}
+use Rattle.std.proofs.lemmas.Option.{slice_get-get_or}
+use Rattle.ov_base.specs.Sets.{single}
+use Rattle.ov_graph.specs.Contents.{plan_of}
+use Rattle.ov_graph.proofs.GraphLaws.{last_item}
+use Rattle.ov_history.specs.History.{Created, Enrolled, Granted, History, Matrix, Revoked, Update}
+use Rattle.ov_history.specs.History.{changed, delisted, listed, matrix_of, with_update}
+use Rattle.ov_history.specs.Layers.{Layers, Place, appended, grown, layers_after, layers_of}
+use Rattle.ov_history.specs.Layers.{lists_after, lists_of, no_place, node_for, wants_of, with_set}
+use Rattle.ov_history.specs.Layers.{with_wants}
+use Rattle.ov_history.specs.Words.{HasFile, longer, place_in}
+use Rattle.ov_history.specs.WordLaws.{BaseNodeIsOfList, NodesStay}
+use Rattle.ov_history.proofs.ChangeLaws.{length-change_at}
+use Rattle.ov_history.proofs.Generations.{grown_file}
+use Rattle.ov_history.proofs.Listing.{settled_at-node}
+use Rattle.ov_history.proofs.MatrixLaws.{files_of-layers_of}
+use Rattle.ov_history.proofs.PlanLaws.{with_set-has}
+use Rattle.ov_history.proofs.Pushing.{layers_of-push, matrix_of-push, with_updates, with_updates-is}
+use Rattle.ov_history.proofs.Wanting.{file_below, place_at, settled_after, wanted_in}
+
+-- ---- sets
+
+-- each node keeps its number and its set
+abbrev pub SetsStay : List ℕ → List ℕ → Type 0
+SetsStay sets more = (node set : ℕ) → slice_get sets node ≡ Some set
+    → slice_get more node ≡ Some set
+
+append_stays : (sets more : List ℕ) → SetsStay sets (sets ++ more)
+append_stays [] more node set is = absurd (cc)
+append_stays (first ∷ sets) more zero set is = is
+append_stays (first ∷ sets) more (suc node) set is = append_stays sets more node set is
+
+appended_stays : (b : Bool) (sets : List ℕ) (set : ℕ) → SetsStay sets (appended b sets set)
+appended_stays true sets set = append_stays sets (set ∷ [])
+appended_stays false sets set = λ node other is. is
+
+with_wants_stays : (wants : List (Option ℕ)) (sets : List ℕ) → SetsStay sets (with_wants sets wants)
+with_wants_stays [] sets node set is = is
+with_wants_stays (None ∷ wants) sets node set is = with_wants_stays wants sets node set is
+with_wants_stays (Some new ∷ wants) sets node set is =
+    with_wants_stays wants (with_set sets new) node set
+    (appended_stays (plan_of sets new).fresh sets new node set is)
+
+-- both layers keep their sets
+abbrev LayersStay : Layers → Layers → Type 0
+LayersStay y z = SetsStay y.base z.base × SetsStay y.surface z.surface
+
+grown_stays : (y : Layers) (u : Update) → LayersStay y (grown y u)
+grown_stays y (Enrolled name) =
+    (append_stays y.base (single y.users ∷ []), append_stays y.surface (single y.users ∷ []))
+grown_stays y (Created name list size) =
+    (appended_stays (plan_of y.base list).fresh y.base list, λ node set is. is)
+grown_stays y (Granted user file) = (λ node set is. is, λ node set is. is)
+grown_stays y (Revoked user file) = (λ node set is. is, λ node set is. is)
+
+after_stays : (y : Layers) (u : Update) → LayersStay y (layers_after y u)
+after_stays y u =
+    let next = grown_stays y u in (
+      next.0,
+      λ node set is.
+          with_wants_stays (wants_of (grown y u) (lists_after (lists_of y) u)) (grown y u).surface
+          node set
+          (next.1 node set is),
+    )
+
+updates_stay : (h : History) (more : List Update)
+    → LayersStay (layers_of h) (layers_of (with_updates h more))
+updates_stay h [] = (λ node set is. is, λ node set is. is)
+updates_stay h (u ∷ more) =
+    let one =
+    subst (λ (y : Layers). LayersStay (layers_of h) y) (sym (layers_of-push h u))
+    (after_stays (layers_of h) u) in
+    let all = updates_stay (with_update h u) more in (
+      λ node set is. all.0 node set (one.0 node set is),
+      λ node set is. all.1 node set (one.1 node set is),
+    )
+
+longer_stays : (h : History) (more : List Update)
+    → LayersStay (layers_of h) (layers_of (longer h more))
+longer_stays h more =
+    subst (λ (g : History). LayersStay (layers_of h) (layers_of g)) (with_updates-is h more)
+    (updates_stay h more)
+
+pub nodes_stay : NodesStay
+nodes_stay h more node set = let both = longer_stays h more in (both.0 node set, both.1 node set)
+
+-- ---- files
+
+files_stay : (m : Matrix) (u : Update) (file : ℕ) → file < length m.files
+    → file < length (changed m u).files
+files_stay m (Enrolled name) file below = below
+files_stay m (Created name list size) file below =
+    omega (arith, length-append m.files (record { name = name; length = size; list = list } ∷ []))
+files_stay m (Granted user place) file below =
+    omega (arith, length-change_at (listed user) place m.files)
+files_stay m (Revoked user place) file below =
+    omega (arith, length-change_at (delisted user) place m.files)
+
+node_stays : (y : Layers) (u : Update) (file : ℕ) → file < length y.files
+    → (place_at (layers_after y u).files file).node ≡ (place_at y.files file).node
+node_stays y u file below =
+    let there = grown_file y u file below in
+    ap (λ (p : Place). p.node) (settled_after y u file there.0)
+    ∙ settled_at-node (grown y u).epoch (layers_after y u).surface
+    (wanted_in (layers_after y u) file) (place_at (grown y u).files file)
+    ∙ ap (λ (p : Place). p.node) there.1
+
+-- a file is there still, and has its base node
+pub record IsStill (h next : History) (file : ℕ) : Type 0 where
+  pub there : HasFile next file
+  pub node : (place_in next file).node ≡ (place_in h file).node
+
+still-push : (h : History) (u : Update) (file : ℕ) → HasFile h file
+    → IsStill h (with_update h u) file
+still-push h u file there = record {
+  there =
+      subst (λ (m : Matrix). file < length m.files) (sym (matrix_of-push h u))
+      (files_stay (matrix_of h) u file there);
+  node =
+      subst (λ (y : Layers). (place_at y.files file).node ≡ (place_in h file).node)
+      (sym (layers_of-push h u))
+      (node_stays (layers_of h) u file (file_below h file there));
+}
+
+still-all : (h : History) (more : List Update) (file : ℕ) → HasFile h file
+    → IsStill h (with_updates h more) file
+still-all h [] file there = record { there = there; node = refl }
+still-all h (u ∷ more) file there =
+    let one = still-push h u file there in
+    let all = still-all (with_update h u) more file one.there in
+    record { there = all.there; node = all.node ∙ one.node }
+
+pub file_stays : (h : History) (more : List Update) (file : ℕ) → HasFile h file
+    → IsStill h (longer h more) file
+file_stays h more file there =
+    subst (λ (next : History). IsStill h next file) (with_updates-is h more)
+    (still-all h more file there)
+
+-- ---- the node of a list
+
+-- a new file stands at the node of its list
+created_at : (y : Layers) (name : List ℕ) (list size : ℕ)
+    → (place_at (layers_after y (Created name list size)).files (length y.files)).node
+    ≡ node_for y.base list
+created_at y name list size =
+    let u : Update = Created name list size in
+    let n : ℕ = length y.files in
+    let new : Place =
+    record { node = node_for y.base list; surface = None; generation = y.epoch + 1 } in
+    let below : n < length (y.files ++ new ∷ []) =
+    omega (arith, length-append y.files (new ∷ [])) in
+    ap (λ (p : Place). p.node) (settled_after y u n below)
+    ∙ settled_at-node (grown y u).epoch (layers_after y u).surface (wanted_in (layers_after y u) n)
+    (place_at (grown y u).files n)
+    ∙ ap (λ (p : Place). p.node) (last_item y.files new n no_place refl)
+
+-- which has that list
+created_list : (h : History) (name : List ℕ) (list size : ℕ)
+    → let next = with_update h (Created name list size) in
+    slice_get (layers_of next).base (place_in next (length (matrix_of h).files)).node ≡ Some list
+created_list h name list size =
+    let y : Layers = layers_of h in
+    let has = with_set-has y.base list in
+    let found : slice_get (with_set y.base list) (node_for y.base list) ≡ Some list =
+    slice_get-get_or (with_set y.base list) (node_for y.base list) 0 has.0
+    ∙ ap (λ set. Some set) has.1 in
+    subst
+    (λ (z : Layers). slice_get z.base (place_at z.files (length (matrix_of h).files)).node
+    ≡ Some list)
+    (sym (layers_of-push h (Created name list size)))
+    (subst
+    (λ n. slice_get (with_set y.base list)
+    (place_at (layers_after y (Created name list size)).files n).node ≡ Some list)
+    (files_of-layers_of h)
+    (subst (λ node. slice_get (with_set y.base list) node ≡ Some list)
+    (sym (created_at y name list size)) found))
+
+pub base_node_is_of_list : BaseNodeIsOfList
+base_node_is_of_list h name list size more =
+    let next : History = with_update h (Created name list size) in
+    let n : ℕ = length (matrix_of h).files in
+    let there : HasFile next n =
+    subst (λ (m : Matrix). n < length m.files) (sym (matrix_of-push h (Created name list size)))
+    (omega (
+      arith,
+      length-append (matrix_of h).files
+          (record { name = name; length = size; list = list } ∷ []),
+    )) in
+    subst (λ node. slice_get (layers_of (longer next more)).base node ≡ Some list)
+    (sym (file_stays next more n there).node)
+    ((longer_stays next more).0 (place_in next n).node list (created_list h name list size))
