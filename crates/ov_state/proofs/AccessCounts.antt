@@ -10,8 +10,9 @@ use Rattle.ov_base.proofs.SetSizes.{size-with}
 use Rattle.ov_graph.proofs.ListLaws.{Contains-first, Contains-later}
 use Rattle.ov_base_layer.specs.Holders.{Access, access_of, accesses_of, holders_in, with_accesses, with_if}
 use Rattle.ov_base_layer.proofs.HolderLaws.{holders_are}
-use Rattle.ov_history.specs.Shown.{Shown}
+use Rattle.ov_history.specs.Catalogue.{Catalogue}
 use Rattle.ov_history.specs.Sound.{IsSound}
+use Rattle.ov_base.specs.declared.limits.TheConstants.{MAX_ACCESS_TOKENS, MAX_LAYER_NODES, MAX_USERS}
 
 -- ---- by node
 
@@ -95,9 +96,9 @@ each_holds node (access ∷ accesses) set first =
     each_holds node accesses more (λ n other is at. first (suc n) other is at) in
     omega (arith, one, rest)
 
--- ---- of what is shown
+-- ---- of the catalogue
 
-module _ (s : Shown) (sound : IsSound s) (users : length s.users ≤ 256) where
+module _ (s : Catalogue) (sound : IsSound s) (users : length s.users ≤ MAX_USERS) where
   abbrev sets : List ℕ
   sets = s.base.sets
 
@@ -109,31 +110,31 @@ module _ (s : Shown) (sound : IsSound s) (users : length s.users ≤ 256) where
   set_at (x ∷ xs) zero low = Contains-first x xs
   set_at (x ∷ xs) (suc n) low = Contains-later x xs (slice_index xs n) (set_at xs n (omega arith))
 
-  holders_below : (node : ℕ) → node < length sets → IsBelow 256 (holders_in sets accesses node)
+  holders_below : (node : ℕ) → node < length sets → IsBelow MAX_USERS (holders_in sets accesses node)
   holders_below node low user held = elim ((holders_are sets accesses node user).0 held) [
     | inl member ↦ omega (arith, users, sound.base.below (slice_index sets node) (set_at sets node low) user member)
     | inr given ↦ omega (arith, users, sound.accesses.users (record { user = user; node = node }) given)
   ]
 
-  few_at : (node : ℕ) → node < length sets → count_at node accesses ≤ 256
+  few_at : (node : ℕ) → node < length sets → count_at node accesses ≤ MAX_USERS
   few_at node low =
       let held : ℕ = holders_in sets accesses node in
-      let most : size held ≤ 256 = ones-le 256 held (IsBelow-small 256 held (holders_below node low)) in
+      let most : size held ≤ MAX_USERS = ones-le MAX_USERS held (IsBelow-small MAX_USERS held (holders_below node low)) in
       let each : size (slice_index sets node) + count_at node accesses ≡ size held =
       each_holds node accesses (slice_index sets node)
       (λ n access is at. subst (λ m. ¬ Has (holders_in sets (take n accesses) m) access.user) at (sound.accesses.first n access is)) in
       omega (arith, most, each)
 
-  few_below : (node : ℕ) → node ≤ length sets → count_below node accesses ≤ node * 256
+  few_below : (node : ℕ) → node ≤ length sets → count_below node accesses ≤ node * MAX_USERS
   few_below zero low = omega arith
   few_below (suc node) low =
-      let before : count_below node accesses ≤ node * 256 = few_below node (omega arith) in
-      let here : count_at node accesses ≤ 256 = few_at node (omega arith) in
+      let before : count_below node accesses ≤ node * MAX_USERS = few_below node (omega arith) in
+      let here : count_at node accesses ≤ MAX_USERS = few_at node (omega arith) in
       omega (arith, before, here)
 
-  pub few_grants : length s.grants ≤ 1048576
+  pub few_grants : length s.grants ≤ MAX_ACCESS_TOKENS
   few_grants =
       let all : count_below (length sets) accesses ≡ length accesses = all_below (length sets) accesses sound.accesses.nodes in
-      let most : count_below (length sets) accesses ≤ length sets * 256 = few_below (length sets) (omega arith) in
-      let few : length sets ≤ 4096 = sound.base.few in
+      let most : count_below (length sets) accesses ≤ length sets * MAX_USERS = few_below (length sets) (omega arith) in
+      let few : length sets ≤ MAX_LAYER_NODES = sound.base.few in
       omega (arith, all, most, few, length-map s.grants access_of)

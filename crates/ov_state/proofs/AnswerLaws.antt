@@ -8,7 +8,7 @@ use Rattle.ov_history.specs.Layers.{list_at}
 use Rattle.ov_history.specs.Lists.{file_at, file_names, is_file, is_listed, is_user}
 use Rattle.ov_history.specs.Places.{IsNumber}
 use Rattle.ov_history.specs.Refusals.{first_of_tests, list_refusal, read_refusal}
-use Rattle.ov_history.specs.Shown.{Shown, filed_at, matrix_shown, outline, place_of_file}
+use Rattle.ov_history.specs.Catalogue.{Catalogue, filed_at, matrix_shown, outline, place_of_file}
 use Rattle.ov_state.specs.Queries.{file_named, user_named, AnswersList, AnswersReader}
 use Rattle.ov_state.proofs.QueryLaws.{file_low, file_there, file_within, list_shown, no_file_there, no_user, user_low, user_there}
 
@@ -44,7 +44,7 @@ none_applies true true false e = absurd (cc)
 none_applies true true true e = (refl, refl, refl)
 
 -- who may read a file is a user in its list
-pub may_read : (s : Shown) (user file : ℕ) → read_refusal (matrix_shown s) user file ≡ None
+pub may_read : (s : Catalogue) (user file : ℕ) → read_refusal (matrix_shown s) user file ≡ None
     → (user < length s.users) × (file < length s.files) × Has (list_at (outline s) (place_of_file (filed_at s file))) user
 may_read s user file read =
     let passed = none_applies (is_user (matrix_shown s) user) (is_file (matrix_shown s) file) (is_listed (matrix_shown s) user file) read in
@@ -53,7 +53,7 @@ may_read s user file read =
 
 -- ---- answers
 
-module _ (s : Shown) where
+module _ (s : Catalogue) where
   -- the list of the file of a number
   pub listing : (name : List ℕ) (number list : ℕ) → IsNumber (file_names (matrix_shown s).files) name (Some number)
       → list ≡ list_at (outline s) (place_of_file (filed_at s number)) → AnswersList s name (Ok list)

@@ -25,8 +25,9 @@ use Rattle.ov_base_layer.specs.Seals.{access_token}
 use Rattle.ov_base_layer.proofs.HolderLaws.{holders_are}
 use Rattle.ov_base_layer.proofs.SealLaws.{access_leads}
 use Rattle.ov_history.specs.Keys.{AreTrueEdges, AreTrueTokens}
-use Rattle.ov_history.specs.Sealed.{Masters, access_key, root_of}
-use Rattle.ov_history.specs.Shown.{Nodes, Shown}
+use Rattle.ov_history.specs.Masters.{Masters, access_key}
+use Rattle.ov_history.specs.Layers.{root_of}
+use Rattle.ov_history.specs.Catalogue.{Nodes, Catalogue}
 use Rattle.ov_state.specs.Contents.{nodes_of}
 use Rattle.ov_state.specs.Chains.{graph_of, access_along, access_from, IsAccessChain, IsBaseChain, IsBaseChainIf, IsEdgeChain, IsSurfaceChain, LeadsToAccess, LeadsToSurface}
 
@@ -116,7 +117,7 @@ edge_chain_leads kind master nodes user node chain edges is =
     walked-path kind master (graph_of nodes) chain.root node chain.steps (sealed_edges kind master nodes edges)
     (chosen_path kind (graph_of nodes) chain.root node is.1.edges chain.steps is.1.chosen)
 
-access_by_edges : (k : Masters) (s : Shown) (user node : ℕ) (chain : Chain) → AreTrueTokens k s
+access_by_edges : (k : Masters) (s : Catalogue) (user node : ℕ) (chain : Chain) → AreTrueTokens k s
     → IsEdgeChain Derive s.base user node chain
     → access_along (node_key Derive k.base chain.root) chain ≡ access_key k.base node
 access_by_edges k s user node chain tokens is =
@@ -126,7 +127,7 @@ access_by_edges k s user node chain tokens is =
     ap (λ (l : Label). access_from l.kind (walked (node_key Derive k.base chain.root) chain.steps)) end
     ∙ ap access_key_of (edge_chain_leads Derive k.base s.base user node chain tokens.base is)
 
-access_by_token : (k : Masters) (s : Shown) (user node : ℕ) (chain : Chain) → AreTrueTokens k s
+access_by_token : (k : Masters) (s : Catalogue) (user node : ℕ) (chain : Chain) → AreTrueTokens k s
     → IsAccessChain s.base s.grants user node chain
     → access_along (node_key Derive k.base chain.root) chain ≡ access_key k.base node
 access_by_token k s user node chain tokens (token, there, is) =
@@ -138,7 +139,7 @@ access_by_token k s user node chain tokens (token, there, is) =
     ∙ access_leads k.base k.surface root node
 
 -- over true tokens every base chain leads to the access key of its node
-pub base_chain_leads : (k : Masters) (s : Shown) (user node : ℕ) (chain : Chain) → AreTrueTokens k s
+pub base_chain_leads : (k : Masters) (s : Catalogue) (user node : ℕ) (chain : Chain) → AreTrueTokens k s
     → IsBaseChain s.base s.grants user node chain
     → access_along (node_key Derive k.base chain.root) chain ≡ access_key k.base node
 base_chain_leads k s user node chain tokens is = by_set (has (slice_index s.base.sets node) user) is where
@@ -159,7 +160,7 @@ access_leads_by root_key chain key same k s user node tokens is root =
     same ∙ ap (λ r. access_along r chain) root ∙ base_chain_leads k s user node chain tokens is
 
 -- and every surface chain to the key of its node
-pub surface_chain_leads : (k : Masters) (s : Shown) (user : ℕ) (surface : Option ℕ) (chain : Option Chain)
+pub surface_chain_leads : (k : Masters) (s : Catalogue) (user : ℕ) (surface : Option ℕ) (chain : Option Chain)
     → AreTrueTokens k s → IsSurfaceChain s.surface user surface chain → LeadsToSurface k.surface surface chain
 surface_chain_leads k s user None chain tokens is = tt
 surface_chain_leads k s user (Some node) None tokens is = absurd is

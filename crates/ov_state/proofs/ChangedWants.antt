@@ -12,26 +12,27 @@ use Rattle.ov_base.proofs.SetLaws.{each_within}
 use Rattle.ov_graph.specs.Contents.{plan_of}
 use Rattle.ov_surface.specs.Wanted.{none_where, wanted_surface}
 use Rattle.ov_history.specs.Layers.{Place, Layers, holders, list_at, surface_at, same_surface, appended, with_set, with_wants}
-use Rattle.ov_history.specs.Shown.{Filed as ShownFile, Shown, outline, place_of_file, places}
+use Rattle.ov_history.specs.Catalogue.{Filed, Catalogue, outline, place_of_file, places}
 use Rattle.ov_history.proofs.Listing.{same_surface-is}
 use Rattle.ov_history.proofs.Outlining.{length-places}
 use Rattle.ov_state.specs.declared.fault.PrepareFault.{PrepareFault}
 use Rattle.ov_state.specs.declared.fault.PrepareFault.TheVariants.{Refused, BadPlan, Memory}
-use Rattle.ov_state.specs.declared.filed.Filed.{Filed}
-use Rattle.ov_state.specs.declared.relist.Relisting.{Relisting}
-use Rattle.ov_state.specs.declared.turn.Resurfacing.{Resurfacing}
-use Rattle.ov_state.specs.Contents.{shown_file, IsWell}
-use Rattle.ov_state.specs.Resurfacing.{nodes_planned, list_if, want_if, want_after, wants_after, with_want, IsFull, IsRelisting, IsResurfaced, IsTurned}
-use Rattle.ov_state.proofs.Turning.{resurfaced-turned, resurfaced-same, full-turned}
+use Rattle.ov_state.specs.declared.files.FileEntry.{FileEntry}
+use Rattle.ov_state.specs.declared.relisting.Relisting.{Relisting}
+use Rattle.ov_state.specs.declared.rewrites.Rewrites.{Rewrites}
+use Rattle.ov_state.specs.Contents.{IsWell}
+use Rattle.ov_state.specs.Entries.{plain_file}
+use Rattle.ov_state.specs.Relistings.{nodes_planned, list_if, want_if, want_after, wants_after, with_want, IsFull, IsRelisting, AreSettled, IsSettled}
+use Rattle.ov_state.proofs.SettledFiles.{settled-next_file, settled-same_file, full-next_file}
 
 -- ---- by number
 
-pub place-at : (files : List ShownFile) (file : ℕ) (f : ShownFile) → slice_get files file ≡ Some f
+pub place-at : (files : List Filed) (file : ℕ) (f : Filed) → slice_get files file ≡ Some f
     → slice_get (places files) file ≡ Some (place_of_file f)
 place-at [] file f is = absurd (cc)
 place-at (first ∷ files) zero f is =
     let e : first ≡ f = cc in
-    ap (λ (g : ShownFile). Some (place_of_file g)) e
+    ap (λ (g : Filed). Some (place_of_file g)) e
 place-at (first ∷ files) (suc file) f is = place-at files file f is
 
 pub length-wants_after : {W : ℕ} (y : Layers) (r : Relisting W) (placed : List Place) (number : ℕ)
@@ -73,10 +74,10 @@ want-grown sets Delta list held more there within grows = by_tests (list == held
 
 -- ---- the next file
 
-module _ {W : ℕ} (s : Shown) (r : Relisting W) (file : ℕ) (name : List ℕ) (f : Filed)
-    (here : slice_get s.files file ≡ Some (shown_file (name, f))) where
+module _ {W : ℕ} (s : Catalogue) (r : Relisting W) (file : ℕ) (f : FileEntry)
+    (here : slice_get s.files file ≡ Some (plain_file f)) where
   abbrev own : Place
-  own = place_of_file (shown_file (name, f))
+  own = place_of_file (plain_file f)
 
   abbrev wants : List (Option ℕ)
   wants = wants_after (outline s) r 0 (places s.files)
@@ -88,45 +89,45 @@ module _ {W : ℕ} (s : Shown) (r : Relisting W) (file : ℕ) (name : List ℕ) 
   next =
       let same : 0 + file ≡ file = omega arith in
       take-next wants file want
-      (want-at (outline s) r (places s.files) 0 file own (place-at s.files file (shown_file (name, f)) here)
+      (want-at (outline s) r (places s.files) 0 file own (place-at s.files file (plain_file f) here)
       ∙ ap (λ n. Some (want_after (outline s) r n own)) same)
 
   many : file ≡ length (take file wants)
   many =
-      let low : file < length s.files = slice_get_within s.files file (shown_file (name, f)) here in
+      let low : file < length s.files = slice_get_within s.files file (plain_file f) here in
       let all : length wants ≡ length s.files = length-wants_after (outline s) r (places s.files) 0 ∙ length-places s.files in
       sym (length-take-le file wants (omega arith))
 
-  module _ (master : List ℕ) (old : Resurfacing W) (done : IsResurfaced master s (take file wants) old) where
+  module _ (master : List ℕ) (old : Rewrites W) (done : AreSettled master s (take file wants) old) where
     -- it has another base node
-    pub other-node : (limit : ℕ) → IsWell limit s → f.node ≢ r.node → IsResurfaced master s (take (file + 1) wants) old
+    pub other-node : (limit : ℕ) → IsWell limit s → f.node ≢ r.node → AreSettled master s (take (file + 1) wants) old
     other-node limit well other =
         let test : (f.node == r.node) ≡ false = grind (arith, nat_tests) in
         let is : want ≡ wanted_surface s.mode (list_at (outline s) own) (holders (outline s) f.node) =
         ap (λ b. want_if b (outline s) r file own) test in
-        subst (λ (ws : List (Option ℕ)). IsResurfaced master s ws old) (sym next)
-        (resurfaced-same master s (take file wants) want file name f many here old done (well.sound.files file _ here).surface
+        subst (λ (ws : List (Option ℕ)). AreSettled master s ws old) (sym next)
+        (settled-same_file master s (take file wants) want file f many here old done (well.sound.files file _ here).surface
         (subst (λ (o : Option ℕ). same_surface f.surface (surface_at s.surface.sets o) ≡ true) (sym is) (well.settled file _ here)))
 
     -- or a surface of its own, and isn't the file whose list changed
     pub surface-stays : (limit : ℕ) → IsWell limit s → IsRelisting s r → f.node ≡ r.node → file ≢ r.file → is_some f.surface ≡ true
-        → IsResurfaced master s (take (file + 1) wants) old
-    surface-stays limit well relisting same other coat =
+        → AreSettled master s (take (file + 1) wants) old
+    surface-stays limit well relisting same other there =
         let y = outline s in
         let settled : f.surface ≡ surface_at s.surface.sets (wanted_surface s.mode (list_at y own) (holders y f.node)) =
         same_surface-is f.surface _ (well.settled file _ here) in
-        let coated : is_some (surface_at s.surface.sets (wanted_surface s.mode (list_at y own) (holders y f.node))) ≡ true =
-        ap is_some (sym settled) ∙ coat in
+        let wanted : is_some (surface_at s.surface.sets (wanted_surface s.mode (list_at y own) (holders y f.node))) ≡ true =
+        ap is_some (sym settled) ∙ there in
         let before : holders y f.node ≡ r.before = ap (λ n. holders y n) same ∙ sym relisting.before in
         let grown : wanted_surface s.mode (list_at y own) r.after ≡ wanted_surface s.mode (list_at y own) (holders y f.node) =
-        want-grown s.surface.sets s.mode (list_at y own) (holders y f.node) r.after coated
+        want-grown s.surface.sets s.mode (list_at y own) (holders y f.node) r.after wanted
         (well.sound.files file _ here).list (subst (λ set. Within set r.after) (sym before) relisting.grows) in
         let test : (f.node == r.node) ≡ true = grind (arith, nat_tests) in
         let else : (file == r.file) ≡ false = grind (arith, nat_tests) in
         let is : want ≡ wanted_surface s.mode (list_at y own) (holders y f.node) =
         ap (λ b. want_if b y r file own) test ∙ ap (λ b. wanted_surface s.mode (list_if b r.list (list_at y own)) r.after) else ∙ grown in
-        subst (λ (ws : List (Option ℕ)). IsResurfaced master s ws old) (sym next)
-        (resurfaced-same master s (take file wants) want file name f many here old done (well.sound.files file _ here).surface
+        subst (λ (ws : List (Option ℕ)). AreSettled master s ws old) (sym next)
+        (settled-same_file master s (take file wants) want file f many here old done (well.sound.files file _ here).surface
         (subst (λ (o : Option ℕ). same_surface f.surface (surface_at s.surface.sets o) ≡ true) (sym is) (well.settled file _ here)))
 
     module _ (same : f.node ≡ r.node) (wanted : Option ℕ) (is : wanted ≡ want_if true (outline s) r file own) where
@@ -135,20 +136,20 @@ module _ {W : ℕ} (s : Shown) (r : Relisting W) (file : ℕ) (name : List ℕ) 
           let test : (f.node == r.node) ≡ true = grind (arith, nat_tests) in
           is ∙ ap (λ b. want_if b (outline s) r file own) (sym test)
 
-      -- or the same, and is turned
-      pub same-node : (new : Resurfacing W) → IsTurned master s.surface file f wanted old new
-          → IsResurfaced master s (take (file + 1) wants) new
-      same-node new turned =
-          subst (λ (ws : List (Option ℕ)). IsResurfaced master s ws new) (sym next)
-          (resurfaced-turned master s (take file wants) want file name f many here old new done
-          (subst (λ (o : Option ℕ). IsTurned master s.surface file f o old new) wanted_is turned))
+      -- or the same, and is settled
+      pub same-node : (new : Rewrites W) → IsSettled master s.surface file f wanted old new
+          → AreSettled master s (take (file + 1) wants) new
+      same-node new settled =
+          subst (λ (ws : List (Option ℕ)). AreSettled master s ws new) (sym next)
+          (settled-next_file master s (take file wants) want file f many here old new done
+          (subst (λ (o : Option ℕ). IsSettled master s.surface file f o old new) wanted_is settled))
 
-      pub same-node-full : (fault : PrepareFault) → IsFull (with_want master (nodes_planned s.surface old.surfaces) wanted).sets fault
+      pub same-node-full : (fault : PrepareFault) → IsFull (with_want master (nodes_planned s.surface old.nodes) wanted).sets fault
           → IsFull (with_wants s.surface.sets (take (file + 1) wants)) fault
       same-node-full fault full =
           subst (λ (ws : List (Option ℕ)). IsFull (with_wants s.surface.sets ws) fault) (sym next)
-          (full-turned master s (take file wants) want file name f many here old fault done
-          (subst (λ (o : Option ℕ). IsFull (with_want master (nodes_planned s.surface old.surfaces) o).sets fault) wanted_is full))
+          (full-next_file master s (take file wants) want file f many here old fault done
+          (subst (λ (o : Option ℕ). IsFull (with_want master (nodes_planned s.surface old.nodes) o).sets fault) wanted_is full))
 
 -- ---- all files
 
@@ -181,7 +182,7 @@ full-all sets wants n fault full =
     (subst (λ (more : List ℕ). length (with_wants sets (take n wants)) ≤ length more) all (longer (drop n wants) (with_wants sets (take n wants)))) full
 
 -- all wanted sets are those of all files
-pub take-all : {W : ℕ} (s : Shown) (r : Relisting W) (n : ℕ) → n ≡ length s.files
+pub take-all : {W : ℕ} (s : Catalogue) (r : Relisting W) (n : ℕ) → n ≡ length s.files
     → take n (wants_after (outline s) r 0 (places s.files)) ≡ wants_after (outline s) r 0 (places s.files)
 take-all s r n is =
     let all : length (wants_after (outline s) r 0 (places s.files)) ≡ length s.files =

@@ -1,25 +1,28 @@
 -- A change as it is made, part by part.
-use Rattle.std.proofs.Common.{◌≡◌, ℕ, ◌+◌, List, sym, ◌∙◌, ap, subst}
+use Rattle.std.proofs.Common.{◌≡◌, ℕ, ◌+◌, ◌≤◌, List, [], ◌∷◌, length, refl, sym, ◌∙◌, ap, subst, arith}
+use Rattle.ov_base.specs.declared.limits.TheConstants.{MAX_FILES}
+use Rattle.ov_history.specs.Places.{change_at}
+use Rattle.ov_history.proofs.ChangeLaws.{length-change_at}
+use Rattle.ov_state.specs.declared.change.Rewrite.{Rewrite}
 use Rattle.ov_base.specs.declared.mode.Mode.{Mode}
 use Rattle.ov_base_layer.specs.BaseContents.{BaseContents}
 use Rattle.ov_graph.specs.Contents.{Contents}
-use Rattle.ov_history.specs.Shown.{Shown}
-use Rattle.ov_state.specs.Contents.{IsWhole, nodes_of, shown_by, shown_files}
-use Rattle.ov_state.specs.Changes.{applied, users_grown, files_grown, grants_grown, node_added_if, nodes_added, all_recoated, Suits}
-use Rattle.ov_state.specs.declared.filed.Filed.{Filed}
+use Rattle.ov_history.specs.Catalogue.{Filed, Catalogue}
+use Rattle.ov_state.specs.Contents.{IsWhole, nodes_of, catalogue_by}
+use Rattle.ov_state.specs.Changes.{applied, users_grown, files_grown, grants_grown, node_added_if, nodes_added, all_rewritten, rewritten, Suits}
 use Rattle.ov_state.specs.declared.change.Change.{Change}
 
--- what the parts show after a change, where each part was changed as it says
-pub made_is_applied : {W : ℕ} (old : Shown) (c : Change W) (mode : Mode) (epoch : ℕ) (users new_users : List (List ℕ)) (base new_base : BaseContents)
-    (surface new_surface : Contents) (files grown new_files : List (List ℕ × Filed))
-    → shown_by mode epoch users base surface files ≡ old
+-- the catalogue of the parts after a change, where each part was changed as it says
+pub made_is_applied : {W : ℕ} (old : Catalogue) (c : Change W) (mode : Mode) (epoch : ℕ) (users new_users : List (List ℕ)) (base new_base : BaseContents)
+    (surface new_surface : Contents) (files grown new_files : List Filed)
+    → catalogue_by mode epoch users base surface files ≡ old
     → new_users ≡ users_grown users c.growth
     → nodes_of new_base.graph ≡ node_added_if (nodes_of base.graph) c.base
     → new_base.grants ≡ grants_grown base.grants c.growth
     → nodes_of new_surface ≡ nodes_added (nodes_of surface) c.surface.items
-    → shown_files grown ≡ files_grown (shown_files files) c.growth
-    → shown_files new_files ≡ all_recoated (epoch + 1) c.coats.items (shown_files grown)
-    → shown_by mode (epoch + 1) new_users new_base new_surface new_files ≡ applied old c
+    → grown ≡ files_grown files c.growth
+    → new_files ≡ all_rewritten (epoch + 1) c.rewrites.items grown
+    → catalogue_by mode (epoch + 1) new_users new_base new_surface new_files ≡ applied old c
 made_is_applied {W} old c mode epoch users new_users base new_base surface new_surface files grown new_files view u n g s f r =
     (λ i. record {
       mode = mode;
@@ -28,10 +31,26 @@ made_is_applied {W} old c mode epoch users new_users base new_base surface new_s
       base = n i;
       surface = s i;
       grants = g i;
-      files = (r ∙ ap (all_recoated (epoch + 1) c.coats.items) f) i;
+      files = (r ∙ ap (all_rewritten (epoch + 1) c.rewrites.items) f) i;
     })
-    ∙ ap (λ (x : Shown). applied x c) view
+    ∙ ap (λ (x : Catalogue). applied x c) view
 
 -- so the state that is made is whole
-pub made_is_whole : {W : ℕ} (limit : ℕ) (old new : Shown) (c : Change W) → new ≡ applied old c → Suits limit old c → IsWhole limit new c.size
-made_is_whole {W} limit old new c is suits = subst (λ (s : Shown). IsWhole limit s c.size) (sym is) (suits.well, suits.size)
+pub made_is_whole : {W : ℕ} (limit : ℕ) (old new : Catalogue) (c : Change W) → new ≡ applied old c → Suits limit old c → IsWhole limit new c.size
+made_is_whole {W} limit old new c is suits = subst (λ (s : Catalogue). IsWhole limit s c.size) (sym is) (suits.well, suits.size)
+
+length-rewritten : (epoch : ℕ) (rewrites : List Rewrite) (files : List Filed) → length (all_rewritten epoch rewrites files) ≡ length files
+length-rewritten epoch [] files = refl
+length-rewritten epoch (r ∷ rewrites) files =
+    length-rewritten epoch rewrites (change_at (rewritten epoch r) r.file files) ∙ length-change_at (rewritten epoch r) r.file files
+
+-- the files that grow are no more than a store may have
+pub grown_few : {W : ℕ} (limit : ℕ) (old : Catalogue) (c : Change W) → Suits limit old c → (files : List Filed) → files ≡ old.files
+    → length (files_grown files c.growth) ≤ MAX_FILES
+grown_few limit old c suits files is =
+    omega (
+      arith,
+      ap (λ (fs : List Filed). length (files_grown fs c.growth)) is,
+      length-rewritten (old.epoch + 1) c.rewrites.items (files_grown old.files c.growth),
+      suits.well.files,
+    )

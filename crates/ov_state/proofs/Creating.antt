@@ -11,39 +11,41 @@ use Rattle.ov_base.specs.declared.refusal.Refusal.TheVariants.{NodesFull, Spent}
 use Rattle.ov_tokens.specs.declared.token.Token.{Token}
 use Rattle.ov_base_layer.specs.Holders.{accesses_of, holders_in, with_accesses}
 use Rattle.ov_surface.specs.Wanted.{wanted_surface}
-use Rattle.ov_record.specs.Updates.{SealedUpdate, SealedCreate}
+use Rattle.ov_history.specs.Briefs.{Brief, BriefCreate}
 use Rattle.ov_history.specs.History.{Created}
 use Rattle.ov_history.specs.Layers.{Layers, Place, grown, node_for, with_set, layers_after, lists_of, wants_at, wants_of, with_wants, holders, surface_at, same_surface}
 use Rattle.ov_history.specs.Lists.{everyone}
 use Rattle.ov_history.specs.Refusals.{first_of_tests, is_past_nodes, is_last}
-use Rattle.ov_history.specs.Shown.{Nodes, Filed, Shown, outline, places, grown_shown, shown_after, restored, refiled, settled_files, with_surfaces}
+use Rattle.ov_history.specs.Catalogue.{Nodes, Filed, Catalogue, outline, places, grown_catalogue, catalogue_after, refiled, settled_files, with_surfaces}
+use Rattle.ov_history.specs.Rewrites.{files_after, rewrites_from, rewrites_of}
 use Rattle.ov_history.specs.Sealed.{refusal_shown}
 use Rattle.ov_history.proofs.Listing.{length-lists_of}
-use Rattle.ov_history.proofs.Outlining.{with_node-sets, with_surfaces-sets, length-places}
-use Rattle.ov_history.proofs.SoundGrowth.{places-append}
-use Rattle.ov_history.proofs.SoundSets.{with_set-at}
+use Rattle.ov_history.proofs.Outlining.{with_node-sets, with_surfaces-sets, length-places, places-append}
+use Rattle.ov_history.proofs.PlanLaws.{with_set-keeps}
 use Rattle.ov_state.specs.Contents.{IsWell}
 use Rattle.ov_state.specs.NewFiles.{tests_before, want_then, surface_then, is_past_then, HasNoSite}
 use Rattle.ov_state.specs.Plans.{IsFaultOf}
 use Rattle.ov_state.specs.declared.fault.PrepareFault.{PrepareFault}
 use Rattle.ov_state.specs.declared.fault.PrepareFault.TheVariants.{Refused, BadPlan, Memory}
 use Rattle.ov_state.proofs.NewTests.{first_here, first_later, first_among, first_after}
+use Rattle.ov_state.proofs.SettledMore.{rewrites-appended}
 use Rattle.ov_state.proofs.Staying.{AreKept, kept-with_wants, surfaces-kept, wants-kept, files-kept}
 use Rattle.ov_state.proofs.StayingFiles.{HasHolders, files_kept, files_below, wants-stay, wants-append}
+use Rattle.ov_base.specs.declared.limits.TheConstants.{LAST_EPOCH, MAX_LAYER_NODES}
 
 -- ---- what is made
 
-module _ (limit : ℕ) (master : List ℕ) (s : Shown) (name : List ℕ) (list : ℕ) (tokens : List Token) (tag text : List ℕ)
+module _ (limit : ℕ) (master : List ℕ) (s : Catalogue) (name : List ℕ) (list : ℕ) (tokens : List Token) (tag : List ℕ) (size : ℕ)
     (well : IsWell limit s) where
-  abbrev update : SealedUpdate
-  update = SealedCreate name list tokens tag text
+  abbrev update : Brief
+  update = BriefCreate name list tokens tag size
 
-  abbrev next : Shown
-  next = grown_shown s update
+  abbrev next : Catalogue
+  next = grown_catalogue s update
 
   -- the file before it has its surface
   abbrev new : Filed
-  new = record { name = name; node = node_for s.base.sets list; surface = None; generation = s.epoch + 1; tag = tag; bytes = text }
+  new = record { name = name; node = node_for s.base.sets list; surface = None; generation = s.epoch + 1; tag = tag; length = size }
 
   abbrev lists : List ℕ
   lists = lists_of (outline s)
@@ -62,7 +64,7 @@ module _ (limit : ℕ) (master : List ℕ) (s : Shown) (name : List ℕ) (list :
     same_holders : HasHolders (outline s) z
     same_holders node low =
         holders_are node
-        ∙ ap (λ set. with_accesses (accesses_of s.grants) node set) (with_set-at s.base.sets list node low).1
+        ∙ ap (λ set. with_accesses (accesses_of s.grants) node set) (with_set-keeps s.base.sets list node low).1
 
     new_want : wanted_surface z.mode list (holders z new.node) ≡ want_then s list
     new_want = λ i. wanted_surface (mode i) list (holders_are new.node i)
@@ -99,77 +101,86 @@ module _ (limit : ℕ) (master : List ℕ) (s : Shown) (name : List ℕ) (list :
 
   -- the new file with its surface
   abbrev pub filed_then : Option ℕ → Filed
-  filed_then to = record new { surface = to; bytes = restored master None to (length s.files) text }
+  filed_then to = record new { surface = to }
 
-  new_settled : (to : Option ℕ) (number : ℕ) → number ≡ length s.files
-      → refiled (same_surface None to) master (s.epoch + 1) to number new ≡ filed_then to
-  new_settled None number e = refl
-  new_settled (Some node) number e =
-      ap (λ n. record new { surface = Some node; bytes = restored master None (Some node) n text }) e
+  new_settled : (to : Option ℕ) → refiled (same_surface None to) (s.epoch + 1) to new ≡ filed_then to
+  new_settled None = refl
+  new_settled (Some node) = refl
 
-  files_are : settled_files master (s.epoch + 1) sets_then 0 wants next.files
+  files_are : settled_files (s.epoch + 1) sets_then wants next.files
       ≡ s.files ++ filed_then (surface_at sets_then (want_then s list)) ∷ []
   files_are =
-      ap (λ ws. settled_files master (s.epoch + 1) sets_then 0 ws next.files) wants_are
-      ∙ files-kept master (s.epoch + 1) sets_then 0 wants_before (want_then s list ∷ []) s.files (new ∷ [])
+      ap (λ ws. settled_files (s.epoch + 1) sets_then ws next.files) wants_are
+      ∙ files-kept (s.epoch + 1) sets_then wants_before (want_then s list ∷ []) s.files (new ∷ [])
       (kept-with_wants s.surface.sets (want_then s list ∷ []) wants_before s.files kept)
-      ∙ ap (λ f. s.files ++ f ∷ []) (new_settled (surface_at sets_then (want_then s list)) (0 + length s.files) (omega arith))
+      ∙ ap (λ f. s.files ++ f ∷ []) (new_settled (surface_at sets_then (want_then s list)))
 
-  -- what is shown after a creation
-  abbrev pub created : Option ℕ → Shown
+  -- the catalogue after a creation
+  abbrev pub created : Option ℕ → Catalogue
   created to = record next { surface = surface_then master s list; files = s.files ++ filed_then to ∷ [] }
 
   pub created_is : (to : Option ℕ) → to ≡ surface_at (surface_then master s list).sets (want_then s list)
-      → shown_after master s update ≡ created to
+      → catalogue_after master s update ≡ created to
   created_is to is =
       ap (λ (nodes : Nodes). record next {
         surface = nodes;
-        files = settled_files master (s.epoch + 1) (with_wants s.surface.sets wants) 0 wants next.files;
+        files = settled_files (s.epoch + 1) (with_wants s.surface.sets wants) wants next.files;
       }) surfaces_are
       ∙ ap (λ sets. record next {
         surface = surface_then master s list;
-        files = settled_files master (s.epoch + 1) sets 0 wants next.files;
+        files = settled_files (s.epoch + 1) sets wants next.files;
       }) sets_are
       ∙ ap (λ (files : List Filed). record next { surface = surface_then master s list; files = files }) files_are
       ∙ ap (λ o. created o) (ap (λ sets. surface_at sets (want_then s list)) sets_then-is ∙ sym is)
 
+  -- its files, and the rewrite of the new one
+  pub files_created : files_after s update ≡ s.files ++ filed_then (surface_at (surface_then master s list).sets (want_then s list)) ∷ []
+  files_created =
+      ap (λ sets. settled_files (s.epoch + 1) sets wants next.files) sets_are
+      ∙ files_are
+      ∙ ap (λ sets. s.files ++ filed_then (surface_at sets (want_then s list)) ∷ []) sets_then-is
+
+  pub rewrites_created : (to : Option ℕ) → to ≡ surface_at (surface_then master s list).sets (want_then s list)
+      → rewrites_of s update ≡ record { file = length s.files; length = size; old = None; new = to } ∷ []
+  rewrites_created to is =
+      let n : 0 + length s.files ≡ length s.files = omega arith in
+      ap (rewrites_from 0 s.files) files_created
+      ∙ rewrites-appended 0 s.files (filed_then (surface_at (surface_then master s list).sets (want_then s list)))
+      ∙ ap (λ n. record { file = n; length = size; old = None; new = surface_at (surface_then master s list).sets (want_then s list) } ∷ []) n
+      ∙ ap (λ (o : Option ℕ). record { file = length s.files; length = size; old = None; new = o } ∷ []) (sym is)
+
   -- ---- why it is refused
 
-  surface_sets : (layers_after (outline s) (Created name list text)).surface ≡ sets_then
+  surface_sets : (layers_after (outline s) (Created name list size)).surface ≡ sets_then
   surface_sets =
       ap (λ (ps : List Place). with_wants s.surface.sets (wants_at z (lists ++ list ∷ []) ps)) (sym (places-append s.files new))
       ∙ ap (λ ws. with_wants s.surface.sets ws) (wants_then z refl refl refl)
       ∙ wants-kept s.surface.sets wants_before (want_then s list ∷ []) s.files kept where
         z : Layers
-        z = grown (outline s) (Created name list text)
+        z = grown (outline s) (Created name list size)
 
-  past_nodes : is_past_nodes (layers_after (outline s) (Created name list text)) ≡ is_past_then master s list
+  past_nodes : is_past_nodes (layers_after (outline s) (Created name list size)) ≡ is_past_then master s list
   past_nodes =
-      ap (λ sets. nat_lt 4096 (length (with_set s.base.sets list)) || nat_lt 4096 (length sets)) (surface_sets ∙ sets_then-is)
+      ap (λ sets. nat_lt MAX_LAYER_NODES (length (with_set s.base.sets list)) || nat_lt MAX_LAYER_NODES (length sets)) (surface_sets ∙ sets_then-is)
 
   pub refusal_create : refusal_shown s update
-      ≡ first_of_tests (tests_before s name list (length text) ++ (NodesFull, is_past_then master s list) ∷ (Spent, is_last s.epoch) ∷ [])
+      ≡ first_of_tests (tests_before s name list size ++ (NodesFull, is_past_then master s list) ∷ (Spent, is_last s.epoch) ∷ [])
   refusal_create =
-      ap (λ b. first_of_tests (tests_before s name list (length text) ++ (NodesFull, b) ∷ (Spent, is_last s.epoch) ∷ [])) past_nodes
+      ap (λ b. first_of_tests (tests_before s name list size ++ (NodesFull, b) ∷ (Spent, is_last s.epoch) ∷ [])) past_nodes
 
   -- by the tests that come first
-  pub refused_before : (bytes : ℕ) (why : Refusal) → bytes ≡ length text
-      → first_of_tests (tests_before s name list bytes) ≡ Some why → refusal_shown s update ≡ Some why
-  refused_before bytes why same is =
-      refusal_create
-      ∙ first_among (tests_before s name list (length text)) _ why (ap (λ n. first_of_tests (tests_before s name list n)) (sym same) ∙ is)
+  pub refused_before : (why : Refusal) → first_of_tests (tests_before s name list size) ≡ Some why → refusal_shown s update ≡ Some why
+  refused_before why is = refusal_create ∙ first_among (tests_before s name list size) _ why is
 
-  module _ (bytes : ℕ) (same : bytes ≡ length text) (passed : first_of_tests (tests_before s name list bytes) ≡ None) where
+  module _ (passed : first_of_tests (tests_before s name list size) ≡ None) where
     then_room : refusal_shown s update ≡ first_of_tests ((NodesFull, is_past_then master s list) ∷ (Spent, is_last s.epoch) ∷ [])
-    then_room =
-        refusal_create
-        ∙ first_after (tests_before s name list (length text)) _ (ap (λ n. first_of_tests (tests_before s name list n)) (sym same) ∙ passed)
+    then_room = refusal_create ∙ first_after (tests_before s name list size) _ passed
 
     -- since there is no place for the file
-    pub refused_site : (fault : PrepareFault) → HasNoSite master s list fault → IsFaultOf s update fault
-    refused_site (Refused why) (is, past) = then_room ∙ first_here NodesFull _ _ past ∙ ap Some (sym is)
-    refused_site (BadPlan place) none = absurd none
-    refused_site Memory none = tt
+    pub refused_site : (words : ℕ) (fault : PrepareFault) → HasNoSite master s list fault → IsFaultOf words s update fault
+    refused_site words (Refused why) (is, past) = then_room ∙ first_here NodesFull _ _ past ∙ ap Some (sym is)
+    refused_site words (BadPlan place) none = absurd none
+    refused_site words Memory none = tt
 
     module _ (few : is_past_then master s list ≡ false) where
       pub refused_spent : is_last s.epoch ≡ true → refusal_shown s update ≡ Some Spent
@@ -181,15 +192,15 @@ module _ (limit : ℕ) (master : List ℕ) (s : Shown) (name : List ℕ) (list :
 -- ---- what the tests leave
 
 -- the users of the list are there
-pub users_there : (s : Shown) (name : List ℕ) (list bytes : ℕ) → first_of_tests (tests_before s name list bytes) ≡ None
+pub users_there : (s : Catalogue) (name : List ℕ) (list size : ℕ) → first_of_tests (tests_before s name list size) ≡ None
     → IsBelow (length s.users) list
-users_there s name list bytes none user one =
-    let passed : NoneApplies (tests_before s name list bytes) = none_applies (tests_before s name list bytes) none in
+users_there s name list size none user one =
+    let passed : NoneApplies (tests_before s name list size) = none_applies (tests_before s name list size) none in
     everyone-below (length s.users) user (within-Within list (everyone (length s.users)) (not_false (within list (everyone (length s.users))) passed.1.0) user one)
   where
     not_false : (b : Bool) → not b ≡ false → b ≡ true
     not_false true e = refl
     not_false false e = absurd (true≢false e)
 
-pub epoch_left : (epoch : ℕ) → is_last epoch ≡ false → epoch < 4294967295
+pub epoch_left : (epoch : ℕ) → is_last epoch ≡ false → epoch < LAST_EPOCH
 epoch_left epoch e = grind (arith, nat_tests)

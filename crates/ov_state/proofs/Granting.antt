@@ -8,26 +8,26 @@ use Rattle.ov_base.specs.Sets.{has, with}
 use Rattle.ov_base.specs.declared.refusal.Refusal.{Refusal}
 use Rattle.ov_base.specs.declared.refusal.Refusal.TheVariants.{Listed}
 use Rattle.ov_tokens.specs.declared.token.Token.{Token}
-use Rattle.ov_record.specs.Updates.{SealedUpdate, SealedGrant}
+use Rattle.ov_history.specs.Briefs.{Brief, BriefGrant}
 use Rattle.ov_history.specs.History.{Granted}
 use Rattle.ov_history.specs.Lists.{byte_sum, is_listed}
 use Rattle.ov_history.specs.Layers.{Layers, node_of, holders, lists_of, lists_after, grown, wants_of, with_wants}
 use Rattle.ov_history.specs.Refusals.{is_last}
-use Rattle.ov_history.specs.Shown.{Shown, no_filed, filed_at, outline, matrix_shown, places, granted}
+use Rattle.ov_history.specs.Catalogue.{Catalogue, no_filed, filed_at, outline, matrix_shown, places, granted}
 use Rattle.ov_history.specs.Sealed.{HasParts, refusal_shown}
-use Rattle.ov_history.proofs.SoundGrowth.{outline-grown}
+use Rattle.ov_history.proofs.Outlining.{outline-grown}
 use Rattle.ov_state.specs.declared.fault.PrepareFault.{PrepareFault}
 use Rattle.ov_state.specs.declared.fault.PrepareFault.TheVariants.{BadPlan}
-use Rattle.ov_state.specs.declared.relist.Relisting.{Relisting}
-use Rattle.ov_state.specs.declared.turn.Resurfacing.{Resurfacing}
+use Rattle.ov_state.specs.declared.relisting.Relisting.{Relisting}
+use Rattle.ov_state.specs.declared.rewrites.Rewrites.{Rewrites}
 use Rattle.ov_state.specs.Contents.{IsWell}
 use Rattle.ov_state.specs.Changes.{Fits}
 use Rattle.ov_state.specs.Plans.{IsChange, IsFaultOf}
-use Rattle.ov_state.specs.Resurfacing.{access_of, change_with, wants_after, IsListing, IsMissing, IsNoRoom, IsResurfaced}
+use Rattle.ov_state.specs.Relistings.{access_of, change_with, wants_after, IsListing, IsMissing, IsNoRoom, AreSettled}
 use Rattle.ov_state.proofs.ListChanges.{at_next, list-change}
 use Rattle.ov_state.proofs.ListTests.{listed-is, grant_tests, missing-first, list-first, list-passed, none-first, room-fault}
 use Rattle.ov_state.proofs.Relistings.{wants-granted, granted_node}
-use Rattle.ov_state.proofs.Turning.{resurfaced-few}
+use Rattle.ov_state.proofs.SettledFiles.{settled-few}
 
 -- tests that were compared
 pub same-test : (a b : Bool) → beq a b ≡ true → a ≡ b
@@ -55,9 +55,9 @@ not_opposite true false same other = true≢false same
 not_opposite false true same other = false≢true same
 not_opposite false false same other = false≢true other
 
-module _ (limit : ℕ) (s : Shown) (user file : ℕ) (token : Option Token) (well : IsWell limit s) where
-  abbrev update : SealedUpdate
-  update = SealedGrant user file token
+module _ (limit : ℕ) (s : Catalogue) (user file : ℕ) (token : Option Token) (well : IsWell limit s) where
+  abbrev update : Brief
+  update = BriefGrant user file token
 
   abbrev wants : List (Option ℕ)
   wants = wants_of (grown (outline s) (Granted user file)) (lists_after (lists_of (outline s)) (Granted user file))
@@ -88,26 +88,26 @@ module _ (limit : ℕ) (s : Shown) (user file : ℕ) (token : Option Token) (wel
 
       -- there is no room
       pub grant-full : (fault : PrepareFault)
-          → IsNoRoom (with_wants s.surface.sets (wants_after (outline s) next 0 (places s.files))) s.epoch fault → IsFaultOf s update fault
+          → IsNoRoom (with_wants s.surface.sets (wants_after (outline s) next 0 (places s.files))) s.epoch fault → IsFaultOf W s update fault
       grant-full fault found =
-          room-fault s update (with_wants s.surface.sets wants) fault
+          room-fault W s update (with_wants s.surface.sets wants) fault
           (grant_tests s well.sound.base.few user file token
           ∙ list-passed s user file listing.enrolled listing.there Listed (length (with_wants s.surface.sets wants)) _ (listed_is false unlisted))
           (subst (λ (ws : List (Option ℕ)). IsNoRoom (with_wants s.surface.sets ws) s.epoch fault) wants_are found)
 
-      module _ (master : List ℕ) (plan : Resurfacing W) (h : IsResurfaced master s (wants_after (outline s) next 0 (places s.files)) plan)
+      module _ (master : List ℕ) (plan : Rewrites W) (h : AreSettled master s (wants_after (outline s) next 0 (places s.files)) plan)
           (more : is_last s.epoch ≡ false) where
-        planned : IsResurfaced master s wants plan
-        planned = subst (λ (ws : List (Option ℕ)). IsResurfaced master s ws plan) wants_are h
+        planned : AreSettled master s wants plan
+        planned = subst (λ (ws : List (Option ℕ)). AreSettled master s ws plan) wants_are h
 
         accepted : refusal_shown s update ≡ None
         accepted =
             grant_tests s well.sound.base.few user file token
             ∙ none-first s user file listing.enrolled listing.there Listed (length (with_wants s.surface.sets wants)) _ (listed_is false unlisted)
-            (resurfaced-few master s wants plan planned) more
+            (settled-few master s wants plan planned) more
 
         -- the access token is there although it isn't wanted, or the other way round
-        pub grant-parts : is_some token ≡ has r.before user → IsFaultOf s update (BadPlan 9)
+        pub grant-parts : is_some token ≡ has r.before user → IsFaultOf W s update (BadPlan 9)
         grant-parts same = (accepted, not_opposite (is_some token) _ (same ∙ sym held_is), refl)
 
         fits : (t : Option Token) → is_some t ≡ not (has (holders (outline s) r.node) user) → user < limit
@@ -130,5 +130,5 @@ module _ (limit : ℕ) (s : Shown) (user file : ℕ) (token : Option Token) (wel
             list-change master s user r.node plan limit update token
             (ap (λ n. at_next s (granted s.grants user n token)) (sym listing.node))
             accepted has_parts tt well (fits token own below)
-            (subst (λ (y : Layers). IsResurfaced master s (wants_of y (lists_after (lists_of (outline s)) (Granted user file))) plan)
+            (subst (λ (y : Layers). AreSettled master s (wants_of y (lists_after (lists_of (outline s)) (Granted user file))) plan)
             (sym (outline-grown s update has_parts)) planned)

@@ -1,6 +1,5 @@
-pub mod Filing
 pub mod Adding
-pub mod Coating
+pub mod RewrittenFiles
 pub mod Committing
 pub mod Beginning
 pub mod HistoryLaws
@@ -24,8 +23,8 @@ pub mod FilesByNumber
 pub mod StayingNodes
 pub mod PlannedNodes
 pub mod WantedSets
-pub mod Settling
-pub mod Turning
+pub mod SettledMore
+pub mod SettledFiles
 pub mod ChangedWants
 pub mod RoomTests
 pub mod Relistings
@@ -33,3 +32,4 @@ pub mod ListTests
 pub mod ListChanges
 pub mod Revoking
 pub mod Granting
+pub mod WithinLimits

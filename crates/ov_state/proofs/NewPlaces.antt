@@ -6,7 +6,7 @@ use Rattle.ov_graph.proofs.GraphLaws.{last_item}
 use Rattle.ov_graph.proofs.ListLaws.{Contains-first, Contains-later}
 use Rattle.ov_base_layer.specs.Holders.{Access, accesses_of, holders_in, with_accesses, with_if}
 use Rattle.ov_history.specs.Layers.{appended, node_for}
-use Rattle.ov_history.specs.Shown.{Shown}
+use Rattle.ov_history.specs.Catalogue.{Catalogue}
 use Rattle.ov_history.proofs.PlanLaws.{plan-fresh}
 use Rattle.ov_state.specs.Contents.{IsWell}
 use Rattle.ov_state.specs.NewFiles.{holders_then}
@@ -27,7 +27,7 @@ no_access (access ∷ accesses) nodes node set past there =
           absurd (omega arith)
 
 -- so the holders of a fresh node are its users
-pub fresh_holders : (limit : ℕ) (s : Shown) (list : ℕ) → IsWell limit s → (plan_of s.base.sets list).fresh ≡ true
+pub fresh_holders : (limit : ℕ) (s : Catalogue) (list : ℕ) → IsWell limit s → (plan_of s.base.sets list).fresh ≡ true
     → holders_then s list ≡ list
 fresh_holders limit s list well fresh =
     let next : node_for s.base.sets list ≡ length s.base.sets = (plan-fresh s.base.sets list fresh).0 in

@@ -1,7 +1,6 @@
 -- The tests of an enrolment and of a creation, as a state makes them.
 use Rattle.std.proofs.Common.{◌≡◌, ℕ, suc, ◌<◌, ◌≤◌, Bool, true, false, List, [], ◌∷◌, ◌++◌, length, refl, sym, ◌∙◌, ap, arith}
-use Rattle.std.specs.Prelude.{◌||◌, nat_le, nat_lt, Some, None}
-use Rattle.std.specs.List.{list_any}
+use Rattle.std.specs.Prelude.{◌||◌, nat_le, nat_lt, is_some, Option, Some, None}
 use Rattle.std.specs.Str.{bytes_eq}
 use Rattle.std.proofs.lemmas.Bool.Decides.{nat_tests}
 use Rattle.ov_base.specs.Sets.{within, Has}
@@ -10,15 +9,14 @@ use Rattle.ov_base.proofs.SetLaws.{within-Within, Within-within}
 use Rattle.ov_base.specs.declared.refusal.Refusal.{Refusal}
 use Rattle.ov_history.specs.Layers.{Layers}
 use Rattle.ov_history.specs.Lists.{everyone, file_names, is_file, file_number}
-use Rattle.ov_history.specs.Places.{here_or_after, place_of}
+use Rattle.ov_history.specs.Places.{here_or_after, place_of, IsNumber}
 use Rattle.ov_history.specs.Refusals.{Test, first_of_tests}
-use Rattle.ov_history.specs.Shown.{Filed as ShownFile, Shown, outline, files_shown, matrix_shown}
+use Rattle.ov_history.specs.Catalogue.{Filed, Catalogue, outline, files_shown, matrix_shown}
 use Rattle.ov_history.proofs.PlaceLaws.{everyone-Has, everyone-below}
-use Rattle.std.specs.Map.{keys_of}
 use Rattle.ov_history.proofs.SoundTests.{files_shown-length}
-use Rattle.ov_state.specs.Contents.{shown_files}
-use Rattle.ov_state.specs.declared.filed.Filed.{Filed}
-use Rattle.ov_state.specs.Changes.{file_names as names_of}
+use Rattle.ov_state.specs.Entries.{filed_names as names_of}
+use Rattle.ov_base.specs.declared.limits.TheConstants.{MAX_FILES}
+use Rattle.ov_base.proofs.Tests.{lt_is_true, lt_is_false}
 
 -- ---- names
 
@@ -36,7 +34,7 @@ has_place name [] = refl
 has_place name (first ∷ names) =
     has_step (bytes_eq name first) (is_among name names) (place_of name names) (length names) (has_place name names)
 
-pub names_shown : (y : Layers) (files : List ShownFile) → file_names (files_shown y files) ≡ names_of files
+pub names_shown : (y : Layers) (files : List Filed) → file_names (files_shown y files) ≡ names_of files
 names_shown y [] = refl
 names_shown y (f ∷ files) = ap (λ names. f.name ∷ names) (names_shown y files)
 
@@ -76,22 +74,22 @@ first_after ((first, false) ∷ tests) more e = first_after tests more e
 
 -- ---- files by name
 
-length-names : (files : List ShownFile) → length (names_of files) ≡ length files
+length-names : (files : List Filed) → length (names_of files) ≡ length files
 length-names [] = refl
 length-names (f ∷ files) = ap suc (length-names files)
 
 -- whether a file has this name
-pub file_test : (s : Shown) (name : List ℕ) → is_file (matrix_shown s) (file_number (matrix_shown s) name) ≡ is_among name (names_of s.files)
+pub file_test : (s : Catalogue) (name : List ℕ) → is_file (matrix_shown s) (file_number (matrix_shown s) name) ≡ is_among name (names_of s.files)
 file_test s name =
     ap (λ names. nat_lt (place_of name names) (length (files_shown (outline s) s.files))) (names_shown (outline s) s.files)
     ∙ ap (λ n. nat_lt (place_of name (names_of s.files)) n) (files_shown-length (outline s) s.files ∙ sym (length-names s.files))
     ∙ has_place name (names_of s.files)
 
-pub files_test : (s : Shown) → nat_le 16384 (length (matrix_shown s).files) ≡ nat_le 16384 (length s.files)
-files_test s = ap (λ n. nat_le 16384 n) (files_shown-length (outline s) s.files)
+pub files_test : (s : Catalogue) → nat_le MAX_FILES (length (matrix_shown s).files) ≡ nat_le MAX_FILES (length s.files)
+files_test s = ap (λ n. nat_le MAX_FILES n) (files_shown-length (outline s) s.files)
 
 -- a file is looked up by its name
-pub among_shown : (name : List ℕ) (entries : List (List ℕ × Filed)) → list_any (bytes_eq name) (keys_of entries)
-    ≡ is_among name (names_of (shown_files entries))
-among_shown name [] = refl
-among_shown name (entry ∷ entries) = ap (λ b. bytes_eq name entry.0 || b) (among_shown name entries)
+pub number_there : (name : List ℕ) (names : List (List ℕ)) (r : Option ℕ) → IsNumber names name r → is_some r ≡ is_among name names
+number_there name names None is = sym (lt_is_false (place_of name names) (length names) (omega (arith, is))) ∙ has_place name names
+number_there name names (Some number) (is, low) =
+    sym (lt_is_true (place_of name names) (length names) (omega (arith, is, low))) ∙ has_place name names

@@ -1,23 +1,23 @@
 -- A reader who is in a file's list: both chains are there.
 use Rattle.std.proofs.Common.{◌≡◌, ℕ, ◌<◌, length, sym, ◌∙◌, ap, subst, arith}
 use Rattle.std.specs.Option.{ForSome}
-use Rattle.std.specs.Prelude.{Contains, IfSome, Option, slice_index}
+use Rattle.std.specs.Prelude.{Contains, IfSome, Option, Some, slice_get, slice_index}
 use Rattle.ov_base.specs.Sets.{Has, single}
 use Rattle.ov_history.specs.Layers.{holders, list_at, set_or}
-use Rattle.ov_history.specs.Shown.{Filed as ShownFile, Shown, filed_at, outline, place_of_file}
+use Rattle.ov_history.specs.Catalogue.{Filed, Catalogue, filed_at, outline, place_of_file}
 use Rattle.ov_history.specs.Sound.{IsPlaced}
 use Rattle.ov_history.specs.Keys.{AreTrueTokens}
-use Rattle.ov_history.specs.Sealed.{Masters}
+use Rattle.ov_history.specs.Masters.{Masters}
 use Rattle.ov_state.specs.Chains.{IsBaseChain, IsChained, IsSurfaceChain, LeadsToKeys}
-use Rattle.ov_state.specs.Contents.{shown_file, IsWell}
-use Rattle.ov_state.specs.Queries.{place_of, IsKept}
+use Rattle.ov_state.specs.Contents.{IsWell}
+use Rattle.ov_state.specs.Entries.{plain_file}
 use Rattle.ov_state.specs.declared.chained.Chained.{Chained}
-use Rattle.ov_state.specs.declared.filed.Filed.{Filed}
+use Rattle.ov_state.specs.declared.files.FileEntry.{FileEntry}
 use Rattle.ov_state.proofs.ChainLaws.{base_chain_leads, surface_chain_leads}
-use Rattle.ov_state.proofs.QueryLaws.{kept-filed_at, kept-list}
+use Rattle.ov_state.proofs.FilesByNumber.{filed-at}
 
 -- the user has a root in both layers, holds the base node of the file, and is in the set of its surface
-pub record IsReader (limit : ℕ) (s : Shown) (user : ℕ) (f : Filed) : Type 0 where
+pub record IsReader (limit : ℕ) (s : Catalogue) (user : ℕ) (f : FileEntry) : Type 0 where
   pub low : user < limit
   pub base : Contains s.base.sets (single user)
   pub surface : Contains s.surface.sets (single user)
@@ -27,11 +27,12 @@ pub record IsReader (limit : ℕ) (s : Shown) (user : ℕ) (f : Filed) : Type 0 
   pub member : ForSome f.surface (λ n. Has (slice_index s.surface.sets n) user)
 
 -- so it is of each user who is in the list
-pub listed_reads : (limit : ℕ) (s : Shown) (user file : ℕ) (f : Filed) → IsWell limit s → IsKept s file f
+pub listed_reads : (limit : ℕ) (s : Catalogue) (user file : ℕ) (f : FileEntry) → IsWell limit s → slice_get s.files file ≡ Some (plain_file f)
     → user < length s.users → Has (list_at (outline s) (place_of_file (filed_at s file))) user → IsReader limit s user f
 listed_reads limit s user file f well kept there listed =
-    let placed : IsPlaced s (shown_file (kept.name, f)) = well.sound.files file (shown_file (kept.name, f)) kept.shown in
-    let member : Has (list_at (outline s) (place_of f)) user = subst (λ list. Has list user) (sym (kept-list s file f kept)) listed in
+    let placed : IsPlaced s (plain_file f) = well.sound.files file (plain_file f) kept in
+    let member : Has (list_at (outline s) (place_of_file (plain_file f))) user =
+    subst (λ (g : Filed). Has (list_at (outline s) (place_of_file g)) user) (filed-at s file (plain_file f) kept) listed in
     record {
       low = omega (arith, there, well.users, well.width.0);
       base = well.sound.base.rooted user there;
@@ -43,27 +44,27 @@ listed_reads limit s user file f well kept there listed =
     }
 
 -- the chains to what is kept of a file, and the rest of it, are those of the file
-pub chained_of : (s : Shown) (user file : ℕ) (f : Filed) (c : Chained) → IsKept s file f
-    → c.epoch ≡ s.epoch → c.file ≡ file → c.length ≡ length f.bytes → c.generation ≡ f.generation → c.tag ≡ f.tag
+pub chained_of : (s : Catalogue) (user file : ℕ) (f : FileEntry) (c : Chained) → slice_get s.files file ≡ Some (plain_file f)
+    → c.epoch ≡ s.epoch → c.file ≡ file → c.length ≡ f.length → c.generation ≡ f.generation → c.tag ≡ f.tag
     → IsBaseChain s.base s.grants user f.node c.base → IsSurfaceChain s.surface user f.surface c.surface
     → IsChained s user file c
 chained_of s user file f c kept epoch number long generation tag base surface =
-    let at : shown_file (kept.name, f) ≡ filed_at s file = sym (kept-filed_at s file f kept) in
+    let at : plain_file f ≡ filed_at s file = sym (filed-at s file (plain_file f) kept) in
     record {
       epoch = epoch;
       file = number;
-      length = long ∙ ap (λ (g : ShownFile). length g.bytes) at;
-      generation = generation ∙ ap (λ (g : ShownFile). g.generation) at;
-      tag = tag ∙ ap (λ (g : ShownFile). g.tag) at;
-      base = subst (λ (g : ShownFile). IsBaseChain s.base s.grants user g.node c.base) at base;
-      surface = subst (λ (g : ShownFile). IsSurfaceChain s.surface user g.surface c.surface) at surface;
+      length = long ∙ ap (λ (g : Filed). g.length) at;
+      generation = generation ∙ ap (λ (g : Filed). g.generation) at;
+      tag = tag ∙ ap (λ (g : Filed). g.tag) at;
+      base = subst (λ (g : Filed). IsBaseChain s.base s.grants user g.node c.base) at base;
+      surface = subst (λ (g : Filed). IsSurfaceChain s.surface user g.surface c.surface) at surface;
     }
 
 -- and over true tokens they lead to its keys
-pub chained_leads : (k : Masters) (s : Shown) (user file : ℕ) (c : Chained) → AreTrueTokens k s → IsChained s user file c
+pub chained_leads : (k : Masters) (s : Catalogue) (user file : ℕ) (c : Chained) → AreTrueTokens k s → IsChained s user file c
     → LeadsToKeys k (filed_at s c.file) c
 chained_leads k s user file c tokens is =
-    let f : ShownFile = filed_at s file in
+    let f : Filed = filed_at s file in
     subst (λ n. LeadsToKeys k (filed_at s n) c) (sym is.file)
     (record {
       base = base_chain_leads k s user f.node c.base tokens is.base;

@@ -11,13 +11,13 @@ use Rattle.ov_surface.specs.Wanted.{wanted_surface}
 use Rattle.ov_history.specs.History.{Granted, Revoked}
 use Rattle.ov_history.specs.Places.{change_at}
 use Rattle.ov_history.specs.Layers.{Place, Layers, no_place, node_of, holders, given, grown, list_at, lists_at, lists_of, lists_after, wants_at, wants_of}
-use Rattle.ov_history.specs.Shown.{Shown, no_filed, outline, filed_at, place_of_file, places}
+use Rattle.ov_history.specs.Catalogue.{Catalogue, no_filed, outline, filed_at, place_of_file, places}
 use Rattle.ov_history.specs.Sound.{IsSound}
 use Rattle.ov_history.proofs.ChangeLaws.{length-change_at}
 use Rattle.ov_history.proofs.Listing.{length-lists_at}
-use Rattle.ov_history.proofs.SoundGrowth.{places-at, node-shown}
-use Rattle.ov_state.specs.declared.relist.Relisting.{Relisting}
-use Rattle.ov_state.specs.Resurfacing.{list_if, want_if, want_after, wants_after, IsListing, IsRelisting}
+use Rattle.ov_history.proofs.Outlining.{places-at, node-shown}
+use Rattle.ov_state.specs.declared.relisting.Relisting.{Relisting}
+use Rattle.ov_state.specs.Relistings.{list_if, want_if, want_after, wants_after, IsListing, IsRelisting}
 use Rattle.ov_state.proofs.WantedSets.{list_below}
 
 -- ---- lists by number
@@ -61,7 +61,7 @@ wants-alike y z r (list ∷ lists) number (p ∷ placed) many each =
 
 -- ---- the change of one list
 
-module _ {W : ℕ} (s : Shown) (z : Layers) (r : Relisting W) (change : ℕ → ℕ)
+module _ {W : ℕ} (s : Catalogue) (z : Layers) (r : Relisting W) (change : ℕ → ℕ)
     (mode : z.mode ≡ s.mode)
     (node : r.node ≡ (filed_at s r.file).node)
     (list : r.list ≡ change (list_at (outline s) (place_of_file (filed_at s r.file))))
@@ -126,7 +126,7 @@ holders_granted y user file n = by_test (has (holders y (node_of y file)) user) 
 
 -- ---- the wanted sets of both updates
 
-module _ {W : ℕ} (s : Shown) (user file : ℕ) (r : Relisting W) (listing : IsListing s user file r) where
+module _ {W : ℕ} (s : Catalogue) (user file : ℕ) (r : Relisting W) (listing : IsListing s user file r) where
   node_is : r.node ≡ (filed_at s r.file).node
   node_is = listing.node ∙ ap (λ n. (filed_at s n).node) (sym listing.number)
 

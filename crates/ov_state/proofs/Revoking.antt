@@ -4,28 +4,28 @@ use Rattle.std.specs.Prelude.{not, Option, Some, None}
 use Rattle.ov_base.specs.Sets.{has, without}
 use Rattle.ov_base.specs.declared.refusal.Refusal.{Refusal}
 use Rattle.ov_base.specs.declared.refusal.Refusal.TheVariants.{NotListed}
-use Rattle.ov_record.specs.Updates.{SealedUpdate, SealedRevoke}
+use Rattle.ov_history.specs.Briefs.{Brief, BriefRevoke}
 use Rattle.ov_history.specs.History.{Revoked}
 use Rattle.ov_history.specs.Lists.{byte_sum, is_listed}
 use Rattle.ov_history.specs.Layers.{lists_of, lists_after, grown, wants_of, with_wants}
 use Rattle.ov_history.specs.Refusals.{is_last}
-use Rattle.ov_history.specs.Shown.{Shown, outline, matrix_shown, places}
+use Rattle.ov_history.specs.Catalogue.{Catalogue, outline, matrix_shown, places}
 use Rattle.ov_history.specs.Sealed.{refusal_shown}
 use Rattle.ov_state.specs.declared.fault.PrepareFault.{PrepareFault}
 use Rattle.ov_state.specs.declared.change.Growth.TheVariants.{Nothing}
-use Rattle.ov_state.specs.declared.relist.Relisting.{Relisting}
-use Rattle.ov_state.specs.declared.turn.Resurfacing.{Resurfacing}
+use Rattle.ov_state.specs.declared.relisting.Relisting.{Relisting}
+use Rattle.ov_state.specs.declared.rewrites.Rewrites.{Rewrites}
 use Rattle.ov_state.specs.Contents.{IsWell}
 use Rattle.ov_state.specs.Plans.{IsChange, IsFaultOf}
-use Rattle.ov_state.specs.Resurfacing.{change_with, wants_after, IsListing, IsMissing, IsNoRoom, IsResurfaced}
+use Rattle.ov_state.specs.Relistings.{change_with, wants_after, IsListing, IsMissing, IsNoRoom, AreSettled}
 use Rattle.ov_state.proofs.ListChanges.{list-change}
 use Rattle.ov_state.proofs.ListTests.{listed-is, revoke_tests, missing-first, list-first, list-passed, none-first, room-fault}
 use Rattle.ov_state.proofs.Relistings.{wants-revoked}
-use Rattle.ov_state.proofs.Turning.{resurfaced-few}
+use Rattle.ov_state.proofs.SettledFiles.{settled-few}
 
-module _ (limit : ℕ) (s : Shown) (user file : ℕ) (well : IsWell limit s) where
-  abbrev update : SealedUpdate
-  update = SealedRevoke user file
+module _ (limit : ℕ) (s : Catalogue) (user file : ℕ) (well : IsWell limit s) where
+  abbrev update : Brief
+  update = BriefRevoke user file
 
   abbrev wants : List (Option ℕ)
   wants = wants_of (grown (outline s) (Revoked user file)) (lists_after (lists_of (outline s)) (Revoked user file))
@@ -52,21 +52,21 @@ module _ (limit : ℕ) (s : Shown) (user file : ℕ) (well : IsWell limit s) whe
 
       -- there is no room
       pub revoke-full : (fault : PrepareFault)
-          → IsNoRoom (with_wants s.surface.sets (wants_after (outline s) next 0 (places s.files))) s.epoch fault → IsFaultOf s update fault
+          → IsNoRoom (with_wants s.surface.sets (wants_after (outline s) next 0 (places s.files))) s.epoch fault → IsFaultOf W s update fault
       revoke-full fault found =
-          room-fault s update (with_wants s.surface.sets wants) fault
+          room-fault W s update (with_wants s.surface.sets wants) fault
           (revoke_tests s well.sound.base.few user file
           ∙ list-passed s user file listing.enrolled listing.there NotListed (length (with_wants s.surface.sets wants)) _ (unlisted true listed))
           (subst (λ (ws : List (Option ℕ)). IsNoRoom (with_wants s.surface.sets ws) s.epoch fault) wants_are found)
 
       -- it is planned
-      pub revoke-change : (master : List ℕ) (plan : Resurfacing W)
-          → IsResurfaced master s (wants_after (outline s) next 0 (places s.files)) plan → is_last s.epoch ≡ false
+      pub revoke-change : (master : List ℕ) (plan : Rewrites W)
+          → AreSettled master s (wants_after (outline s) next 0 (places s.files)) plan → is_last s.epoch ≡ false
           → IsChange limit master s update (change_with (byte_sum (matrix_shown s).files) Nothing plan)
       revoke-change master plan h more =
-          let planned : IsResurfaced master s wants plan = subst (λ (ws : List (Option ℕ)). IsResurfaced master s ws plan) wants_are h in
+          let planned : AreSettled master s wants plan = subst (λ (ws : List (Option ℕ)). AreSettled master s ws plan) wants_are h in
           list-change master s user r.node plan limit update None refl
           (revoke_tests s well.sound.base.few user file
           ∙ none-first s user file listing.enrolled listing.there NotListed (length (with_wants s.surface.sets wants)) _ (unlisted true listed)
-          (resurfaced-few master s wants plan planned) more)
+          (settled-few master s wants plan planned) more)
           tt tt well tt planned

@@ -1,41 +1,16 @@
 -- Sets that stand among those of a layer, and files that have their wanted surfaces: they stay.
-use Rattle.std.proofs.Common.{◌≡◌, ℕ, ◌+◌, ◌==◌, Bool, true, false, List, [], ◌∷◌, ◌++◌, length, get_or, refl, sym, ◌∙◌, ap, arith, eq-eqb, length-append, true≢false}
+use Rattle.std.proofs.Common.{◌≡◌, ℕ, Bool, true, false, List, [], ◌∷◌, ◌++◌, refl, sym, ◌∙◌, ap}
 use Rattle.std.specs.Prelude.{Contains, Option, Some, None}
-use Rattle.std.proofs.lemmas.List.{get_or_append_left, append-nil}
+use Rattle.std.proofs.lemmas.List.{append-nil}
 use Rattle.std.proofs.lemmas.List.Elements.{Contains-append_left}
-use Rattle.std.proofs.lemmas.List.Quantifiers.{position-Some}
-use Rattle.ov_graph.specs.Contents.{node_of, joined, planned, plan_of}
-use Rattle.ov_graph.proofs.ListLaws.{first_is, node_some}
+use Rattle.ov_graph.specs.Contents.{joined, plan_of}
 use Rattle.ov_tokens.specs.declared.label.Kind.TheVariants.{Surface}
 use Rattle.ov_base_layer.specs.Seals.{cover_tokens}
-use Rattle.ov_history.specs.Layers.{node_for, appended, with_set, with_wants, surface_at}
-use Rattle.ov_history.specs.Shown.{Nodes, Filed, Shown, added_if, with_surface, with_surfaces, refiled, settled_file, settled_files, settled_under}
+use Rattle.ov_history.specs.Layers.{appended, with_set, with_wants, surface_at}
+use Rattle.ov_history.specs.Catalogue.{Nodes, Filed, Catalogue, added_if, with_surface, with_surfaces, refiled, settled_file, settled_files, settled_under}
 use Rattle.ov_history.proofs.PlanLaws.{plan-there}
+use Rattle.ov_state.proofs.StayingNodes.{node_for-append}
 use Rattle.ov_state.proofs.WellSettled.{same_surface-true}
-
--- ---- the node of a set
-
-node_of-more : (sets more : List ℕ) (set : ℕ) (o : Option ℕ) → node_of sets set ≡ o → Contains sets set
-    → node_of (sets ++ more) set ≡ o
-node_of-more sets more set None is there =
-    absurd (true≢false (sym (ap (λ (o : Option ℕ). (planned o sets set).fresh) is) ∙ plan-there sets set there))
-node_of-more sets more set (Some node) is there =
-    let found = position-Some (λ s. s == set) sets node 0 is in
-    let own = node_some sets set node is in
-    first_is (sets ++ more) set node (omega (arith, own.0, length-append sets more))
-    (get_or_append_left sets more 0 node own.0 ∙ own.1)
-    (λ k low same. true≢false
-    (sym (eq-eqb (get_or sets k 0) set (sym (get_or_append_left sets more 0 k (omega (arith, low, own.0))) ∙ same)) ∙ found.2 k low))
-
--- a set that is there keeps its node as more sets come
-pub node_for-more : (sets more : List ℕ) (set : ℕ) → Contains sets set → node_for (sets ++ more) set ≡ node_for sets set
-node_for-more sets more set there = by_node (node_of sets set) refl where
-  by_node : (o : Option ℕ) → node_of sets set ≡ o → node_for (sets ++ more) set ≡ node_for sets set
-  by_node None is =
-      absurd (true≢false (sym (ap (λ (o : Option ℕ). (planned o sets set).fresh) is) ∙ plan-there sets set there))
-  by_node (Some node) is =
-      ap (λ (o : Option ℕ). (planned o (sets ++ more) set).node) (node_of-more sets more set (Some node) is there)
-      ∙ sym (ap (λ (o : Option ℕ). (planned o sets set).node) is)
 
 -- ---- wanted sets that are there
 
@@ -50,7 +25,7 @@ among-more sets more (Some set) among = Contains-append_left sets more set among
 pub surface_at-more : (sets more : List ℕ) (want : Option ℕ) → IsAmong sets want
     → surface_at (sets ++ more) want ≡ surface_at sets want
 surface_at-more sets more None among = refl
-surface_at-more sets more (Some set) among = ap Some (node_for-more sets more set among)
+surface_at-more sets more (Some set) among = ap Some (node_for-append sets more set among)
 
 -- each file has its wanted surface among these sets
 abbrev pub AreKept : List ℕ → List (Option ℕ) → List Filed → Type 0
@@ -113,27 +88,24 @@ wants-kept sets (Some set ∷ wants) more (f ∷ files) (among, own, rest) =
     ap (λ b. with_wants (appended b sets set) (wants ++ more)) (plan-there sets set among)
     ∙ wants-kept sets wants more files rest
 
-module _ (master : List ℕ) (epoch : ℕ) (sets : List ℕ) where
-  file_stays : (want : Option ℕ) (number : ℕ) (f : Filed) → f.surface ≡ surface_at sets want
-      → settled_file master epoch sets want number f ≡ f
-  file_stays want number f own =
-      ap (λ b. refiled b master epoch (surface_at sets want) number f) (same_surface-true f.surface (surface_at sets want) own)
+module _ (epoch : ℕ) (sets : List ℕ) where
+  file_stays : (want : Option ℕ) (f : Filed) → f.surface ≡ surface_at sets want → settled_file epoch sets want f ≡ f
+  file_stays want f own =
+      ap (λ b. refiled b epoch (surface_at sets want) f) (same_surface-true f.surface (surface_at sets want) own)
 
   -- kept files stay as they are
-  pub files-kept : (number : ℕ) (wants more : List (Option ℕ)) (files new : List Filed) → AreKept sets wants files
-      → settled_files master epoch sets number (wants ++ more) (files ++ new)
-      ≡ files ++ settled_files master epoch sets (number + length files) more new
-  files-kept number [] more [] new kept = ap (λ n. settled_files master epoch sets n more new) (omega arith)
-  files-kept number [] more (f ∷ files) new kept = absurd kept
-  files-kept number (want ∷ wants) more [] new kept = absurd kept
-  files-kept number (want ∷ wants) more (f ∷ files) new (among, own, rest) =
-      ap (λ (g : Filed). g ∷ settled_files master epoch sets (number + 1) (wants ++ more) (files ++ new)) (file_stays want number f own)
-      ∙ ap (λ (gs : List Filed). f ∷ gs) (files-kept (number + 1) wants more files new rest)
-      ∙ ap (λ n. f ∷ files ++ settled_files master epoch sets n more new) (omega arith)
+  pub files-kept : (wants more : List (Option ℕ)) (files new : List Filed) → AreKept sets wants files
+      → settled_files epoch sets (wants ++ more) (files ++ new) ≡ files ++ settled_files epoch sets more new
+  files-kept [] more [] new kept = refl
+  files-kept [] more (f ∷ files) new kept = absurd kept
+  files-kept (want ∷ wants) more [] new kept = absurd kept
+  files-kept (want ∷ wants) more (f ∷ files) new (among, own, rest) =
+      ap (λ (g : Filed). g ∷ settled_files epoch sets (wants ++ more) (files ++ new)) (file_stays want f own)
+      ∙ ap (λ (gs : List Filed). f ∷ gs) (files-kept wants more files new rest)
 
--- ---- what is shown
+-- ---- the catalogue
 
-module _ (master : List ℕ) (s : Shown) (wants : List (Option ℕ)) (kept : AreKept s.surface.sets wants s.files) where
+module _ (master : List ℕ) (s : Catalogue) (wants : List (Option ℕ)) (kept : AreKept s.surface.sets wants s.files) where
   pub no_more : with_wants s.surface.sets wants ≡ s.surface.sets
   no_more =
       ap (λ ws. with_wants s.surface.sets ws) (sym (append-nil wants)) ∙ wants-kept s.surface.sets wants [] s.files kept
@@ -143,19 +115,19 @@ module _ (master : List ℕ) (s : Shown) (wants : List (Option ℕ)) (kept : Are
       ap (λ ws. with_surfaces master s.surface ws) (sym (append-nil wants))
       ∙ surfaces-kept master s.surface wants [] s.files kept
 
-  files_stay : settled_files master s.epoch s.surface.sets 0 wants s.files ≡ s.files
+  files_stay : settled_files s.epoch s.surface.sets wants s.files ≡ s.files
   files_stay =
-      ap (λ ws. settled_files master s.epoch s.surface.sets 0 ws s.files) (sym (append-nil wants))
-      ∙ ap (λ (fs : List Filed). settled_files master s.epoch s.surface.sets 0 (wants ++ []) fs) (sym (append-nil s.files))
-      ∙ files-kept master s.epoch s.surface.sets 0 wants [] s.files [] kept
+      ap (λ ws. settled_files s.epoch s.surface.sets ws s.files) (sym (append-nil wants))
+      ∙ ap (λ (fs : List Filed). settled_files s.epoch s.surface.sets (wants ++ []) fs) (sym (append-nil s.files))
+      ∙ files-kept s.epoch s.surface.sets wants [] s.files [] kept
       ∙ append-nil s.files
 
-  -- what is shown stays where each file has its wanted surface
+  -- the catalogue stays where each file has its wanted surface
   pub settled_stays : settled_under master s wants ≡ s
   settled_stays =
       ap (λ (nodes : Nodes). record s {
         surface = nodes;
-        files = settled_files master s.epoch (with_wants s.surface.sets wants) 0 wants s.files;
+        files = settled_files s.epoch (with_wants s.surface.sets wants) wants s.files;
       }) surfaces_stay
-      ∙ ap (λ sets. record s { files = settled_files master s.epoch sets 0 wants s.files }) no_more
+      ∙ ap (λ sets. record s { files = settled_files s.epoch sets wants s.files }) no_more
       ∙ ap (λ (files : List Filed). record s { files = files }) files_stay

@@ -5,7 +5,7 @@ use Rattle.ov_surface.specs.Wanted.{wanted_surface}
 use Rattle.ov_graph.specs.Contents.{plan_of}
 use Rattle.ov_graph.proofs.ListLaws.{place-Contains}
 use Rattle.ov_history.specs.Layers.{Layers, Place, node_for, holders, list_at, lists_at, lists_of, surface_at, wants_at, wants_of}
-use Rattle.ov_history.specs.Shown.{Filed, Shown, outline, place_of_file, places}
+use Rattle.ov_history.specs.Catalogue.{Filed, Catalogue, outline, place_of_file, places}
 use Rattle.ov_history.proofs.Listing.{same_surface-is}
 use Rattle.ov_history.proofs.PlanLaws.{plan-held, plan-fresh}
 use Rattle.ov_state.specs.Contents.{IsWell}
@@ -40,7 +40,7 @@ kept_files y (f ∷ files) (first, rest) there =
     )
 
 -- each file of a state has its wanted surface among the surface sets
-pub files_kept : (limit : ℕ) (s : Shown) → IsWell limit s
+pub files_kept : (limit : ℕ) (s : Catalogue) → IsWell limit s
     → AreKept s.surface.sets (wants_of (outline s) (lists_of (outline s))) s.files
 files_kept limit s well =
     kept_files (outline s) s.files (each-settled (outline s) s.files well.settled)
@@ -58,7 +58,7 @@ pub each-below : (nodes : ℕ) (files : List Filed) → ((file : ℕ) (f : Filed
 each-below nodes [] each = tt
 each-below nodes (f ∷ files) each = (each 0 f refl, each-below nodes files (λ file g is. each (suc file) g is))
 
-pub files_below : (limit : ℕ) (s : Shown) → IsWell limit s → AreBelow (length s.base.sets) s.files
+pub files_below : (limit : ℕ) (s : Catalogue) → IsWell limit s → AreBelow (length s.base.sets) s.files
 files_below limit s well = each-below (length s.base.sets) s.files (λ file f is. (well.sound.files file f is).base)
 
 -- layers in which the nodes of the one have the same holders

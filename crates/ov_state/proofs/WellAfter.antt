@@ -1,13 +1,14 @@
 -- What holds of every state holds after each update that isn't refused and has its parts.
-use Rattle.std.proofs.Common.{◌≡◌, ℕ, ◌+◌, ◌<◌, ◌≤◌, ◌^◌, List, [], ◌∷◌, length, sym, ◌∙◌, subst, arith, length-append, false}
-use Rattle.std.specs.Prelude.{Option, None, nat_le, nat_lt}
+use Rattle.std.proofs.Common.{◌≡◌, ℕ, ◌+◌, ◌≤◌, ◌*◌, List, [], ◌∷◌, length, sym, ◌∙◌, subst, arith, length-append, false}
+use Rattle.std.specs.Prelude.{Option, None, nat_le}
 use Rattle.std.proofs.lemmas.Bool.Decides.{nat_tests}
 use Rattle.ov_base.specs.declared.mode.Mode.{Mode}
-use Rattle.ov_record.specs.Updates.{SealedUpdate, SealedEnrol, SealedCreate, SealedGrant, SealedRevoke}
+use Rattle.ov_history.specs.Briefs.{Brief, BriefEnrol, BriefCreate, BriefGrant, BriefRevoke}
 use Rattle.ov_history.specs.Layers.{node_for, with_wants, wants_of, lists_of, lists_after}
 use Rattle.ov_history.specs.Lists.{byte_sum}
 use Rattle.ov_history.specs.Refusals.{tests_of, is_last}
-use Rattle.ov_history.specs.Shown.{Filed, Shown, nothing, outline, outer, matrix_shown, grown_shown, shown_after}
+use Rattle.ov_history.specs.Catalogue.{Filed, Catalogue, empty_catalogue, outline, matrix_shown, grown_catalogue, catalogue_after}
+use Rattle.ov_history.specs.Briefs.{outer}
 use Rattle.ov_history.specs.Sealed.{HasParts, refusal_shown}
 use Rattle.ov_history.proofs.SoundSteps.{sound_after, nothing_is_sound}
 use Rattle.ov_history.proofs.SoundTests.{NoneApplies, none_applies, files_shown-length}
@@ -15,61 +16,60 @@ use Rattle.ov_state.specs.Contents.{IsWell}
 use Rattle.ov_state.specs.Plans.{IsFitting}
 use Rattle.ov_state.proofs.WellFiles.{bytes_in, byte_sum-shown, bytes_in-append, AllWithin, within-each, each-within, within-append, length-settled, bytes_in-settled, within-settled}
 use Rattle.ov_state.proofs.WellSettled.{settled-each, settled_after}
+use Rattle.ov_base.specs.declared.limits.TheConstants.{LAST_EPOCH, MAX_FILES, MAX_FILE_BYTES, MAX_SET_WORDS, MAX_STORE_BYTES, MAX_USERS}
+use Rattle.ov_base.proofs.Tests.{ge_of_false}
 
 -- ---- before the files are settled
 
 -- no limit is passed, apart from those of nodes
-pub record IsWithin (s : Shown) : Type 0 where
-  pub users : length s.users ≤ 256
-  pub files : length s.files ≤ 16384
-  pub bytes : bytes_in s.files ≤ 67108864
-  pub each : AllWithin 1048576 s.files
-  pub epoch : s.epoch < 2 ^ 32
+pub record IsWithin (s : Catalogue) : Type 0 where
+  pub users : length s.users ≤ MAX_USERS
+  pub files : length s.files ≤ MAX_FILES
+  pub bytes : bytes_in s.files ≤ MAX_STORE_BYTES
+  pub each : AllWithin MAX_FILE_BYTES s.files
+  pub epoch : s.epoch ≤ LAST_EPOCH
 
-within_before : (limit : ℕ) (s : Shown) → IsWell limit s → IsWithin s
+within_before : (limit : ℕ) (s : Catalogue) → IsWell limit s → IsWithin s
 within_before limit s well = record {
   users = well.users;
   files = well.files;
-  bytes = subst (λ n. n ≤ 67108864) (byte_sum-shown s) well.bytes;
-  each = each-within 1048576 s.files well.each;
+  bytes = subst (λ n. n ≤ MAX_STORE_BYTES) (byte_sum-shown s) well.bytes;
+  each = each-within MAX_FILE_BYTES s.files well.each;
   epoch = well.epoch;
 }
 
-next_epoch : (epoch : ℕ) → is_last epoch ≡ false → epoch + 1 < 2 ^ 32
+next_epoch : (epoch : ℕ) → is_last epoch ≡ false → epoch + 1 ≤ LAST_EPOCH
 next_epoch epoch e = grind (arith, nat_tests)
 
 one_more : (most n : ℕ) → nat_le most n ≡ false → n + 1 ≤ most
 one_more most n e = grind (arith, nat_tests)
 
-not_past : (most n : ℕ) → nat_lt most n ≡ false → n ≤ most
-not_past most n e = grind (arith, nat_tests)
-
-within_grown : (s : Shown) (u : SealedUpdate) → IsWithin s → NoneApplies (tests_of (matrix_shown s) (outline s) s.epoch (outer u))
-    → IsFitting u → IsWithin (grown_shown s u)
-within_grown s (SealedEnrol user) within (taken, (full, (room, (spent, none)))) fits = record {
-  users = subst (λ n. n ≤ 256) (sym (length-append s.users (user ∷ []))) (one_more 256 (length s.users) full);
+within_grown : (s : Catalogue) (u : Brief) → IsWithin s → NoneApplies (tests_of (matrix_shown s) (outline s) s.epoch (outer u))
+    → IsFitting u → IsWithin (grown_catalogue s u)
+within_grown s (BriefEnrol user) within (taken, (full, (room, (spent, none)))) fits = record {
+  users = subst (λ n. n ≤ MAX_USERS) (sym (length-append s.users (user ∷ []))) (one_more MAX_USERS (length s.users) full);
   files = within.files;
   bytes = within.bytes;
   each = within.each;
   epoch = next_epoch s.epoch spent;
 }
-within_grown s (SealedCreate file list tokens tag text) within (taken, (outside, (files, (bytes, (room, (spent, none)))))) fits = record {
+within_grown s (BriefCreate file list tokens tag size) within (taken, (outside, (files, (bytes, (room, (spent, none)))))) fits = record {
   users = within.users;
-  files = omega (arith, length-append s.files (new ∷ []), files_shown-length (outline s) s.files, one_more 16384 (length (matrix_shown s).files) files);
-  bytes = omega (arith, bytes_in-append s.files new, byte_sum-shown s, not_past 67108864 (byte_sum (matrix_shown s).files + length text) bytes);
-  each = within-append 1048576 s.files new within.each fits;
+  files = omega (arith, length-append s.files (new ∷ []), files_shown-length (outline s) s.files, one_more MAX_FILES (length (matrix_shown s).files) files);
+  bytes = omega (arith, bytes_in-append s.files new, byte_sum-shown s, ge_of_false MAX_STORE_BYTES (byte_sum (matrix_shown s).files + size) bytes);
+  each = within-append MAX_FILE_BYTES s.files new within.each fits;
   epoch = next_epoch s.epoch spent;
 } where
   new : Filed
-  new = record { name = file; node = node_for s.base.sets list; surface = None; generation = s.epoch + 1; tag = tag; bytes = text }
-within_grown s (SealedGrant user file token) within (no_user, (no_file, (listed, (room, (spent, none))))) fits = record {
+  new = record { name = file; node = node_for s.base.sets list; surface = None; generation = s.epoch + 1; tag = tag; length = size }
+within_grown s (BriefGrant user file token) within (no_user, (no_file, (listed, (room, (spent, none))))) fits = record {
   users = within.users;
   files = within.files;
   bytes = within.bytes;
   each = within.each;
   epoch = next_epoch s.epoch spent;
 }
-within_grown s (SealedRevoke user file) within (no_user, (no_file, (listed, (room, (spent, none))))) fits = record {
+within_grown s (BriefRevoke user file) within (no_user, (no_file, (listed, (room, (spent, none))))) fits = record {
   users = within.users;
   files = within.files;
   bytes = within.bytes;
@@ -79,24 +79,24 @@ within_grown s (SealedRevoke user file) within (no_user, (no_file, (listed, (roo
 
 -- ---- one update
 
-pub well_after : (limit : ℕ) (master : List ℕ) (s : Shown) (u : SealedUpdate) → IsWell limit s → refusal_shown s u ≡ None
-    → HasParts (outline s) u → IsFitting u → IsWell limit (shown_after master s u)
+pub well_after : (limit : ℕ) (master : List ℕ) (s : Catalogue) (u : Brief) → IsWell limit s → refusal_shown s u ≡ None
+    → HasParts (outline s) u → IsFitting u → IsWell limit (catalogue_after master s u)
 well_after limit master s u well refused parts fits = record {
   sound = sound_after master s u well.sound refused parts;
   settled = settled-each (outline after) after.files (settled_after master s u parts);
   users = within.users;
   width = well.width;
-  files = subst (λ n. n ≤ 16384) (sym (length-settled master next.epoch sets 0 wants next.files)) within.files;
-  bytes = subst (λ n. n ≤ 67108864)
-      (sym (byte_sum-shown after ∙ bytes_in-settled master next.epoch sets 0 wants next.files)) within.bytes;
-  each = within-each 1048576 after.files (within-settled master next.epoch sets 1048576 0 wants next.files within.each);
+  files = subst (λ n. n ≤ MAX_FILES) (sym (length-settled next.epoch sets wants next.files)) within.files;
+  bytes = subst (λ n. n ≤ MAX_STORE_BYTES)
+      (sym (byte_sum-shown after ∙ bytes_in-settled next.epoch sets wants next.files)) within.bytes;
+  each = within-each MAX_FILE_BYTES after.files (within-settled next.epoch sets MAX_FILE_BYTES wants next.files within.each);
   epoch = within.epoch;
 } where
-  next : Shown
-  next = grown_shown s u
+  next : Catalogue
+  next = grown_catalogue s u
 
-  after : Shown
-  after = shown_after master s u
+  after : Catalogue
+  after = catalogue_after master s u
 
   wants : List (Option ℕ)
   wants = wants_of (outline next) (lists_after (lists_of (outline s)) (outer u))
@@ -110,8 +110,8 @@ well_after limit master s u well refused parts fits = record {
 
 -- ---- the beginning
 
-pub well_nothing : (limit : ℕ) → 256 ≤ limit → limit ≤ 65536 → (mode : Mode) (first : ℕ) → first < 2 ^ 32
-    → IsWell limit (nothing mode first)
+pub well_nothing : (limit : ℕ) → MAX_USERS ≤ limit → limit ≤ 64 * MAX_SET_WORDS → (mode : Mode) (first : ℕ) → first ≤ LAST_EPOCH
+    → IsWell limit (empty_catalogue mode first)
 well_nothing limit wide narrow mode first low = record {
   sound = nothing_is_sound mode first;
   settled = λ file f is. absurd (cc);

@@ -1,26 +1,25 @@
--- The bytes of the files that are shown, and how many they are after an update.
-use Rattle.std.proofs.Common.{◌≡◌, ℕ, zero, suc, ◌+◌, ◌≤◌, List, [], ◌∷◌, ◌++◌, length, refl, sym, ◌∙◌, ap, subst, arith}
+-- The bytes of the files, and how many they are after an update.
+use Rattle.std.proofs.Common.{Bool, true, false, ◌≡◌, ℕ, zero, suc, ◌+◌, ◌≤◌, List, [], ◌∷◌, ◌++◌, length, refl, sym, ◌∙◌, ap, subst, arith}
 use Rattle.std.specs.Prelude.{Option, Some, slice_get}
 use Rattle.ov_history.specs.Layers.{Layers, surface_at, same_surface}
 use Rattle.ov_history.specs.Lists.{byte_sum}
-use Rattle.ov_history.specs.Shown.{Filed, Shown, outline, files_shown, matrix_shown, settled_files}
-use Rattle.ov_history.proofs.Showing.{refiled_size}
+use Rattle.ov_history.specs.Catalogue.{Filed, Catalogue, outline, files_shown, matrix_shown, refiled, settled_file, settled_files}
 
 -- ---- the bytes of all files
 
 -- the bytes of these files together
 abbrev pub bytes_in : List Filed → ℕ
 bytes_in [] = 0
-bytes_in (f ∷ files) = length f.bytes + bytes_in files
+bytes_in (f ∷ files) = f.length + bytes_in files
 
 shown_bytes : (y : Layers) (files : List Filed) → byte_sum (files_shown y files) ≡ bytes_in files
 shown_bytes y [] = refl
-shown_bytes y (f ∷ files) = ap (λ n. length f.bytes + n) (shown_bytes y files)
+shown_bytes y (f ∷ files) = ap (λ n. f.length + n) (shown_bytes y files)
 
-pub byte_sum-shown : (s : Shown) → byte_sum (matrix_shown s).files ≡ bytes_in s.files
+pub byte_sum-shown : (s : Catalogue) → byte_sum (matrix_shown s).files ≡ bytes_in s.files
 byte_sum-shown s = shown_bytes (outline s) s.files
 
-pub bytes_in-append : (files : List Filed) (f : Filed) → bytes_in (files ++ f ∷ []) ≡ bytes_in files + length f.bytes
+pub bytes_in-append : (files : List Filed) (f : Filed) → bytes_in (files ++ f ∷ []) ≡ bytes_in files + f.length
 bytes_in-append [] f = omega arith
 bytes_in-append (first ∷ files) f = omega (arith, bytes_in-append files f)
 
@@ -29,51 +28,51 @@ bytes_in-append (first ∷ files) f = omega (arith, bytes_in-append files f)
 -- each of these files has at most so many bytes
 abbrev pub AllWithin : ℕ → List Filed → Type 0
 AllWithin most [] = Unit {0}
-AllWithin most (f ∷ files) = (length f.bytes ≤ most) × AllWithin most files
+AllWithin most (f ∷ files) = (f.length ≤ most) × AllWithin most files
 
 pub within-each : (most : ℕ) (files : List Filed) → AllWithin most files
-    → (file : ℕ) (f : Filed) → slice_get files file ≡ Some f → length f.bytes ≤ most
+    → (file : ℕ) (f : Filed) → slice_get files file ≡ Some f → f.length ≤ most
 within-each most [] all file f is = absurd (cc)
 within-each most (first ∷ files) all zero f is =
     let same : first ≡ f = cc in
-    subst (λ (g : Filed). length g.bytes ≤ most) same all.0
+    subst (λ (g : Filed). g.length ≤ most) same all.0
 within-each most (first ∷ files) all (suc file) f is = within-each most files all.1 file f is
 
 pub each-within : (most : ℕ) (files : List Filed)
-    → ((file : ℕ) (f : Filed) → slice_get files file ≡ Some f → length f.bytes ≤ most) → AllWithin most files
+    → ((file : ℕ) (f : Filed) → slice_get files file ≡ Some f → f.length ≤ most) → AllWithin most files
 each-within most [] each = tt
 each-within most (f ∷ files) each = (each 0 f refl, each-within most files (λ file g is. each (suc file) g is))
 
-pub within-append : (most : ℕ) (files : List Filed) (f : Filed) → AllWithin most files → length f.bytes ≤ most
+pub within-append : (most : ℕ) (files : List Filed) (f : Filed) → AllWithin most files → f.length ≤ most
     → AllWithin most (files ++ f ∷ [])
 within-append most [] f all last = (last, tt)
 within-append most (first ∷ files) f all last = (all.0, within-append most files f all.1 last)
 
 -- ---- files that are settled
 
-module _ (master : List ℕ) (epoch : ℕ) (sets : List ℕ) where
-  pub length-settled : (number : ℕ) (wants : List (Option ℕ)) (files : List Filed)
-      → length (settled_files master epoch sets number wants files) ≡ length files
-  length-settled number [] files = refl
-  length-settled number (want ∷ wants) [] = refl
-  length-settled number (want ∷ wants) (f ∷ files) = ap suc (length-settled (number + 1) wants files)
+refiled_length : (b : Bool) (epoch : ℕ) (surface : Option ℕ) (f : Filed) → (refiled b epoch surface f).length ≡ f.length
+refiled_length true epoch surface f = refl
+refiled_length false epoch surface f = refl
 
-  pub bytes_in-settled : (number : ℕ) (wants : List (Option ℕ)) (files : List Filed)
-      → bytes_in (settled_files master epoch sets number wants files) ≡ bytes_in files
-  bytes_in-settled number [] files = refl
-  bytes_in-settled number (want ∷ wants) [] = refl
-  bytes_in-settled number (want ∷ wants) (f ∷ files) =
-      ap (λ n. n + bytes_in (settled_files master epoch sets (number + 1) wants files))
-      (refiled_size (same_surface f.surface (surface_at sets want)) master epoch (surface_at sets want) number f)
-      ∙ ap (λ n. length f.bytes + n) (bytes_in-settled (number + 1) wants files)
+module _ (epoch : ℕ) (sets : List ℕ) where
+  pub length-settled : (wants : List (Option ℕ)) (files : List Filed) → length (settled_files epoch sets wants files) ≡ length files
+  length-settled [] files = refl
+  length-settled (want ∷ wants) [] = refl
+  length-settled (want ∷ wants) (f ∷ files) = ap suc (length-settled wants files)
 
-  pub within-settled : (most number : ℕ) (wants : List (Option ℕ)) (files : List Filed) → AllWithin most files
-      → AllWithin most (settled_files master epoch sets number wants files)
-  within-settled most number [] files all = all
-  within-settled most number (want ∷ wants) [] all = tt
-  within-settled most number (want ∷ wants) (f ∷ files) all = (
-    subst (λ n. n ≤ most)
-        (sym (refiled_size (same_surface f.surface (surface_at sets want)) master epoch (surface_at sets want) number f))
-        all.0,
-    within-settled most (number + 1) wants files all.1,
-  )
+  same_length : (want : Option ℕ) (f : Filed) → (settled_file epoch sets want f).length ≡ f.length
+  same_length want f = refiled_length (same_surface f.surface (surface_at sets want)) epoch (surface_at sets want) f
+
+  pub bytes_in-settled : (wants : List (Option ℕ)) (files : List Filed) → bytes_in (settled_files epoch sets wants files) ≡ bytes_in files
+  bytes_in-settled [] files = refl
+  bytes_in-settled (want ∷ wants) [] = refl
+  bytes_in-settled (want ∷ wants) (f ∷ files) =
+      ap (λ n. n + bytes_in (settled_files epoch sets wants files)) (same_length want f)
+      ∙ ap (λ n. f.length + n) (bytes_in-settled wants files)
+
+  pub within-settled : (most : ℕ) (wants : List (Option ℕ)) (files : List Filed) → AllWithin most files
+      → AllWithin most (settled_files epoch sets wants files)
+  within-settled most [] files all = all
+  within-settled most (want ∷ wants) [] all = tt
+  within-settled most (want ∷ wants) (f ∷ files) all =
+      (subst (λ n. n ≤ most) (sym (same_length want f)) all.0, within-settled most wants files all.1)

@@ -2,13 +2,14 @@
 use Rattle.std.proofs.Common.{◌≡◌, ℕ, zero, suc, List, [], ◌∷◌, length, refl, sym, ◌∙◌, ap, subst, eq-eqb}
 use Rattle.std.specs.Prelude.{Option, Some, None, slice_get, IsTrue}
 use Rattle.ov_surface.specs.Wanted.{wanted_surface}
-use Rattle.ov_record.specs.Updates.{SealedUpdate}
+use Rattle.ov_history.specs.Briefs.{Brief}
 use Rattle.ov_history.specs.Layers.{Layers, Place, holders, list_at, lists_at, lists_of, lists_after, grown, same_surface, surface_at, wants_at, wants_of, with_wants, settled_at, settled_all, settled}
-use Rattle.ov_history.specs.Shown.{Filed, place_of_file, places, outline, outer, Shown, shown_after}
+use Rattle.ov_history.specs.Catalogue.{Filed, place_of_file, places, outline, Catalogue, catalogue_after}
+use Rattle.ov_history.specs.Briefs.{outer}
 use Rattle.ov_history.specs.Sealed.{HasParts}
 use Rattle.ov_history.proofs.Listing.{settled_at-surface, settled_at-node, lists_of-settled, length-lists_after}
 use Rattle.ov_history.proofs.Outlining.{outline-after}
-use Rattle.ov_state.specs.Contents.{IsSettled}
+use Rattle.ov_state.specs.Contents.{HasItsSurface}
 
 -- ---- one place
 
@@ -21,7 +22,7 @@ same_surface-true one other e = subst (λ (o : Option ℕ). IsTrue (same_surface
 -- each of these places has the surface that it should have, in the layers
 abbrev pub AllSettled : Layers → List Place → Type 0
 AllSettled y [] = Unit {0}
-AllSettled y (p ∷ places) = IsSettled y p × AllSettled y places
+AllSettled y (p ∷ places) = HasItsSurface y p × AllSettled y places
 
 first_same : {A : Type 0} (x y : A) (xs ys : List A) → x ∷ xs ≡ y ∷ ys → (x ≡ y) × (xs ≡ ys)
 first_same x y xs ys e = (cc, cc)
@@ -31,7 +32,7 @@ module _ (y : Layers) (sets : List ℕ) (files : List Place) where
   after = record y { surface = sets; files = files }
 
   one_settled : (list : ℕ) (p : Place) (q : Place) → q ≡ settled_at y.epoch sets (wanted_surface y.mode list (holders y p.node)) p
-      → list_at after q ≡ list → IsSettled after q
+      → list_at after q ≡ list → HasItsSurface after q
   one_settled list p q made same =
       let want : Option ℕ = wanted_surface y.mode list (holders y p.node) in
       let surface : q.surface ≡ surface_at sets want =
@@ -64,22 +65,22 @@ layers_settled y lists many =
     all_settled y sets (settled_all y.epoch sets wants y.files) lists y.files (lists_of-settled y lists many)
 
 pub settled-each : (y : Layers) (files : List Filed) → AllSettled y (places files)
-    → (file : ℕ) (f : Filed) → slice_get files file ≡ Some f → IsSettled y (place_of_file f)
+    → (file : ℕ) (f : Filed) → slice_get files file ≡ Some f → HasItsSurface y (place_of_file f)
 settled-each y [] all file f is = absurd (cc)
 settled-each y (first ∷ files) all zero f is =
     let same : first ≡ f = cc in
-    subst (λ (g : Filed). IsSettled y (place_of_file g)) same all.0
+    subst (λ (g : Filed). HasItsSurface y (place_of_file g)) same all.0
 settled-each y (first ∷ files) all (suc file) f is = settled-each y files all.1 file f is
 
 pub each-settled : (y : Layers) (files : List Filed)
-    → ((file : ℕ) (f : Filed) → slice_get files file ≡ Some f → IsSettled y (place_of_file f))
+    → ((file : ℕ) (f : Filed) → slice_get files file ≡ Some f → HasItsSurface y (place_of_file f))
     → AllSettled y (places files)
 each-settled y [] each = tt
 each-settled y (f ∷ files) each = (each 0 f refl, each-settled y files (λ file g is. each (suc file) g is))
 
 -- after an update each file has the surface that it should have
-pub settled_after : (master : List ℕ) (s : Shown) (u : SealedUpdate) → HasParts (outline s) u
-    → AllSettled (outline (shown_after master s u)) (places (shown_after master s u).files)
+pub settled_after : (master : List ℕ) (s : Catalogue) (u : Brief) → HasParts (outline s) u
+    → AllSettled (outline (catalogue_after master s u)) (places (catalogue_after master s u).files)
 settled_after master s u parts =
     subst (λ (y : Layers). AllSettled y y.files) (sym (outline-after master s u parts))
     (layers_settled (grown (outline s) (outer u)) (lists_after (lists_of (outline s)) (outer u)) (length-lists_after (outline s) (outer u)))

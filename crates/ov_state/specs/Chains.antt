@@ -1,5 +1,6 @@
 -- The chains by which a reader derives the keys of a file, and where they lead.
-use Rattle.std.specs.Prelude.{◌≡◌, ℕ, Bool, true, false, List, [], ◌∷◌, length, slice_index, Contains, Option, Some, None, Result, Ok, Err}
+use Rattle.std.specs.Prelude.{◌≡◌, ℕ, Bool, true, false, List, [], ◌∷◌, slice_index}
+use Rattle.std.specs.Prelude.{Contains, Option, Some, None, Result, Ok, Err}
 use Rattle.ov_base.specs.Sets.{has}
 use Rattle.ov_tokens.specs.declared.chain.Chain.{Chain}
 use Rattle.ov_tokens.specs.declared.label.Kind.{Kind}
@@ -13,8 +14,9 @@ use Rattle.ov_chain.specs.Walk.{walked, last_label}
 use Rattle.ov_base_layer.specs.declared.grant.Grant.{Grant}
 use Rattle.ov_history.specs.Keys.{AreTrueTokens}
 use Rattle.ov_history.specs.Refusals.{read_refusal}
-use Rattle.ov_history.specs.Sealed.{Masters, access_key, root_of}
-use Rattle.ov_history.specs.Shown.{Nodes, Filed as ShownFile, Shown, filed_at, matrix_shown}
+use Rattle.ov_history.specs.Layers.{root_of}
+use Rattle.ov_history.specs.Masters.{Masters, access_key}
+use Rattle.ov_history.specs.Catalogue.{Nodes, Filed, Catalogue, filed_at, matrix_shown}
 use Rattle.ov_state.specs.declared.chained.Chained.{Chained}
 use Rattle.ov_state.specs.declared.fault.ChainFault.{ChainFault}
 use Rattle.ov_state.specs.declared.fault.ChainFault.TheVariants.{Refused, Memory}
@@ -28,13 +30,17 @@ graph_of nodes = record { sets = nodes.sets; edges = nodes.edges; spare_sets = 0
 -- the chosen chain over the edges of a layer, from the root of the user to the node
 abbrev pub IsEdgeChain : Kind → Nodes → ℕ → ℕ → Chain → Type 0
 IsEdgeChain kind nodes user node chain =
-    (chain.root ≡ root_of nodes.sets user) × IsChain kind (graph_of nodes) chain.root node chain.steps
+    (chain.root ≡ root_of nodes.sets user)
+    × IsChain kind (graph_of nodes) chain.root node chain.steps
 
 -- the one step from the root of the user over an access token of the user to the node
 abbrev pub IsAccessChain : Nodes → List Grant → ℕ → ℕ → Chain → Type 0
 IsAccessChain nodes grants user node chain =
     (token : Token) × Contains grants (record { user = user; node = node; token = token })
-    × (chain ≡ record { root = root_of nodes.sets user; steps = record { to = label_of Access node; token = token } ∷ [] })
+    × (chain ≡ record {
+      root = root_of nodes.sets user;
+      steps = record { to = label_of Access node; token = token } ∷ [];
+    })
 
 -- the first of these where the user is in the node's set, and the other where not
 abbrev pub IsBaseChainIf : Bool → Nodes → List Grant → ℕ → ℕ → Chain → Type 0
@@ -43,7 +49,8 @@ IsBaseChainIf false nodes grants user node chain = IsAccessChain nodes grants us
 
 -- the base chain of a user to a base node
 abbrev pub IsBaseChain : Nodes → List Grant → ℕ → ℕ → Chain → Type 0
-IsBaseChain nodes grants user node chain = IsBaseChainIf (has (slice_index nodes.sets node) user) nodes grants user node chain
+IsBaseChain nodes grants user node chain =
+    IsBaseChainIf (has (slice_index nodes.sets node) user) nodes grants user node chain
 
 -- the surface chain of a user to a file's surface, where it has one
 abbrev pub IsSurfaceChain : Nodes → ℕ → Option ℕ → Option Chain → Type 0
@@ -53,18 +60,19 @@ IsSurfaceChain nodes user (Some node) None = ⊥
 IsSurfaceChain nodes user (Some node) (Some chain) = IsEdgeChain Surface nodes user node chain
 
 -- both chains of a user to a file, with what else a reader needs of it
-pub record IsChained (s : Shown) (user number : ℕ) (c : Chained) : Type 0 where
+pub record IsChained (s : Catalogue) (user number : ℕ) (c : Chained) : Type 0 where
   pub epoch : c.epoch ≡ s.epoch
   pub file : c.file ≡ number
-  pub length : c.length ≡ length (filed_at s number).bytes
+  pub length : c.length ≡ (filed_at s number).length
   pub generation : c.generation ≡ (filed_at s number).generation
   pub tag : c.tag ≡ (filed_at s number).tag
   pub base : IsBaseChain s.base s.grants user (filed_at s number).node c.base
   pub surface : IsSurfaceChain s.surface user (filed_at s number).surface c.surface
 
 -- so it is where the user may read the file, and otherwise it says why not; memory is free
-abbrev pub AnswersChain : Shown → ℕ → ℕ → Result Chained ChainFault → Type 0
-AnswersChain s user file (Ok c) = (read_refusal (matrix_shown s) user file ≡ None) × IsChained s user file c
+abbrev pub AnswersChain : Catalogue → ℕ → ℕ → Result Chained ChainFault → Type 0
+AnswersChain s user file (Ok c) =
+    (read_refusal (matrix_shown s) user file ≡ None) × IsChained s user file c
 AnswersChain s user file (Err (Refused why)) = read_refusal (matrix_shown s) user file ≡ Some why
 AnswersChain s user file (Err Memory) = Unit {0}
 
@@ -78,9 +86,11 @@ access_from Surface key = key
 
 -- the access key to which a base chain leads, from the derivation key of its root
 abbrev pub access_along : List ℕ → Chain → List ℕ
-access_along key chain = access_from (last_label (label_of Derive chain.root) chain.steps).kind (walked key chain.steps)
+access_along key chain =
+    access_from (last_label (label_of Derive chain.root) chain.steps).kind (walked key chain.steps)
 
--- from the key of its root a surface chain leads to the key of the surface, under the surface master
+-- from the key of its root a surface chain leads to the key of the surface, under the surface
+-- master
 abbrev pub LeadsToSurface : List ℕ → Option ℕ → Option Chain → Type 0
 LeadsToSurface master None chain = Unit {0}
 LeadsToSurface master (Some node) None = ⊥
@@ -88,7 +98,7 @@ LeadsToSurface master (Some node) (Some chain) =
     walked (node_key Surface master chain.root) chain.steps ≡ node_key Surface master node
 
 -- from the keys of their roots both chains lead to the keys of the file, under the two masters
-pub record LeadsToKeys (k : Masters) (f : ShownFile) (c : Chained) : Type 0 where
+pub record LeadsToKeys (k : Masters) (f : Filed) (c : Chained) : Type 0 where
   pub base : access_along (node_key Derive k.base c.base.root) c.base ≡ access_key k.base f.node
   pub surface : LeadsToSurface k.surface f.surface c.surface
 
@@ -96,6 +106,7 @@ pub record LeadsToKeys (k : Masters) (f : ShownFile) (c : Chained) : Type 0 wher
 -- node that the chain is a base chain to.
 abbrev pub LeadsToAccess : List ℕ → Chain → List ℕ → Type 0
 LeadsToAccess root_key chain key =
-    (k : Masters) (s : Shown) (user node : ℕ)
-    → AreTrueTokens k s → IsBaseChain s.base s.grants user node chain → root_key ≡ node_key Derive k.base chain.root
+    (k : Masters) (s : Catalogue) (user node : ℕ)
+    → AreTrueTokens k s → IsBaseChain s.base s.grants user node chain
+    → root_key ≡ node_key Derive k.base chain.root
     → key ≡ access_key k.base node

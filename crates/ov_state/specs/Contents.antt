@@ -1,14 +1,16 @@
--- What a state contains: what it shows, and the room that it has.
-use Rattle.std.specs.Prelude.{◌≡◌, ℕ, ◌<◌, ◌≤◌, ◌^◌, List, [], ◌∷◌, length, slice_get, Some, IsTrue}
+-- What a state contains: its catalogue, and the room that it has.
+use Rattle.std.specs.Prelude.{◌≡◌, ℕ, ◌*◌, ◌≤◌, List, length, slice_get, Some, IsTrue}
+use Rattle.ov_base.specs.declared.limits.TheConstants.{LAST_EPOCH, MAX_FILES, MAX_FILE_BYTES}
+use Rattle.ov_base.specs.declared.limits.TheConstants.{MAX_SET_WORDS, MAX_STORE_BYTES, MAX_USERS}
 use Rattle.ov_base.specs.declared.mode.Mode.{Mode}
 use Rattle.ov_base_layer.specs.BaseContents.{BaseContents}
 use Rattle.ov_graph.specs.Contents.{Contents}
 use Rattle.ov_surface.specs.Wanted.{wanted_surface}
 use Rattle.ov_history.specs.Layers.{Layers, Place, holders, list_at, same_surface, surface_at}
 use Rattle.ov_history.specs.Lists.{byte_sum}
-use Rattle.ov_history.specs.Shown.{Nodes, Filed as ShownFile, Shown, outline, matrix_shown, place_of_file}
+use Rattle.ov_history.specs.Catalogue.{Nodes, Filed, Catalogue, outline, matrix_shown}
+use Rattle.ov_history.specs.Catalogue.{place_of_file}
 use Rattle.ov_history.specs.Sound.{IsSound}
-use Rattle.ov_state.specs.declared.filed.Filed.{Filed}
 
 -- for how many more of each there is room
 pub record Room : Type 0 where
@@ -20,50 +22,47 @@ pub record Room : Type 0 where
   pub surface_sets : ℕ
   pub surface_edges : ℕ
 
+-- all that a contract sees of a state
 pub record Held : Type 0 where
-  pub shown : Shown
+  pub catalogue : Catalogue
   pub room : Room
-
--- a file by name, as it is shown
-abbrev pub shown_file : List ℕ × Filed → ShownFile
-shown_file (name, f) = record { name = name; node = f.node; surface = f.surface; generation = f.generation; tag = f.tag; bytes = f.bytes }
-
-abbrev pub shown_files : List (List ℕ × Filed) → List ShownFile
-shown_files [] = []
-shown_files (file ∷ files) = shown_file file ∷ shown_files files
 
 -- the nodes of a graph
 abbrev pub nodes_of : Contents → Nodes
 nodes_of graph = record { sets = graph.sets; edges = graph.edges }
 
--- what is shown by these parts
-abbrev pub shown_by : Mode → ℕ → List (List ℕ) → BaseContents → Contents → List (List ℕ × Filed) → Shown
-shown_by mode epoch users base surface files = record {
+-- the catalogue that these parts make
+abbrev pub catalogue_by : Mode → ℕ → List (List ℕ) → BaseContents → Contents → List Filed
+    → Catalogue
+catalogue_by mode epoch users base surface files = record {
   mode = mode;
   epoch = epoch;
   users = users;
   base = nodes_of base.graph;
   surface = nodes_of surface;
   grants = base.grants;
-  files = shown_files files;
+  files = files;
 }
 
--- the file has the surface that it should have, in its layers
-abbrev pub IsSettled : Layers → Place → Type 0
-IsSettled y p = IsTrue (same_surface p.surface (surface_at y.surface (wanted_surface y.mode (list_at y p) (holders y p.node))))
+-- a file that stands so has the surface that it should have, in its layers
+abbrev pub HasItsSurface : Layers → Place → Type 0
+HasItsSurface y p =
+    let want = wanted_surface y.mode (list_at y p) (holders y p.node) in
+    IsTrue (same_surface p.surface (surface_at y.surface want))
 
--- what holds of every state, whose sets have users below `limit`: it is sound, each file has its
--- wanted surface, and no limit is passed
-pub record IsWell (limit : ℕ) (s : Shown) : Type 0 where
-  pub sound : IsSound s
-  pub settled : (file : ℕ) (f : ShownFile) → slice_get s.files file ≡ Some f → IsSettled (outline s) (place_of_file f)
-  pub users : length s.users ≤ 256
-  pub width : (256 ≤ limit) × (limit ≤ 65536)
-  pub files : length s.files ≤ 16384
-  pub bytes : byte_sum (matrix_shown s).files ≤ 67108864
-  pub each : (file : ℕ) (f : ShownFile) → slice_get s.files file ≡ Some f → length f.bytes ≤ 1048576
-  pub epoch : s.epoch < 2 ^ 32
+-- what holds of the catalogue of every state, whose sets have users below `limit`: it is sound,
+-- each file has its wanted surface, and no limit is passed
+pub record IsWell (limit : ℕ) (c : Catalogue) : Type 0 where
+  pub sound : IsSound c
+  pub settled : (file : ℕ) (f : Filed) → slice_get c.files file ≡ Some f
+      → HasItsSurface (outline c) (place_of_file f)
+  pub users : length c.users ≤ MAX_USERS
+  pub width : (MAX_USERS ≤ limit) × (limit ≤ 64 * MAX_SET_WORDS)
+  pub files : length c.files ≤ MAX_FILES
+  pub bytes : byte_sum (matrix_shown c).files ≤ MAX_STORE_BYTES
+  pub each : (file : ℕ) (f : Filed) → slice_get c.files file ≡ Some f → f.length ≤ MAX_FILE_BYTES
+  pub epoch : c.epoch ≤ LAST_EPOCH
 
--- so it is of a state with these parts, which keeps count of the bytes
-abbrev pub IsWhole : ℕ → Shown → ℕ → Type 0
-IsWhole limit s size = IsWell limit s × (size ≡ byte_sum (matrix_shown s).files)
+-- so it is of a state with this catalogue, which keeps count of the bytes
+abbrev pub IsWhole : ℕ → Catalogue → ℕ → Type 0
+IsWhole limit c size = IsWell limit c × (size ≡ byte_sum (matrix_shown c).files)

@@ -1,12 +1,15 @@
+pub mod Entries
 pub mod Contents
 pub mod Changes
 pub mod Plans
 pub mod Faults
-pub mod Resurfacing
+pub mod Relistings
 pub mod NewFiles
 pub mod Creations
 pub mod Standing
 pub mod Queries
 pub mod Chains
-pub use Rattle.ov_history.specs.Shown
+pub use Rattle.ov_history.specs.Briefs
+pub use Rattle.ov_history.specs.Catalogue
+pub use Rattle.ov_history.specs.Rewrites
 pub use Rattle.ov_history.specs.Sealed

@@ -1,43 +1,74 @@
 -- What a change is planned to make, or why an update isn't taken.
-use Rattle.std.specs.Prelude.{◌≡◌, ℕ, ◌+◌, ◌≤◌, List, length, Some, None, Result, Ok, Err}
-use Rattle.ov_record.specs.Updates.{SealedUpdate, SealedEnrol, SealedCreate, SealedGrant, SealedRevoke}
-use Rattle.ov_history.specs.Shown.{Shown, outline, shown_after}
+use Rattle.std.specs.Prelude.{◌≡◌, ℕ, ◌+◌, ◌*◌, ◌<◌, ◌≤◌, List, length, Some, None, Result, Ok, Err}
+use Rattle.ov_base.specs.declared.limits.TheConstants.{MAX_FILES, MAX_FILE_BYTES, MAX_USERS}
+use Rattle.ov_history.specs.Briefs.{Brief as PlainBrief, BriefEnrol, BriefCreate, BriefGrant}
+use Rattle.ov_history.specs.Briefs.{BriefRevoke}
+use Rattle.ov_history.specs.Catalogue.{Catalogue, outline, catalogue_after}
+use Rattle.ov_history.specs.Rewrites.{rewrites_of}
 use Rattle.ov_history.specs.Sealed.{HasParts, refusal_shown}
 use Rattle.ov_state.specs.Changes.{applied, Suits}
+use Rattle.ov_state.specs.Entries.{plain_rewrites}
+use Rattle.ov_state.specs.declared.brief.Brief.{Brief}
+use Rattle.ov_state.specs.declared.brief.Brief.TheVariants.{Enrol, Create, Grant, Revoke}
 use Rattle.ov_state.specs.declared.change.Change.{Change}
 use Rattle.ov_state.specs.declared.fault.PrepareFault.{PrepareFault}
 use Rattle.ov_state.specs.declared.fault.PrepareFault.TheVariants.{Refused, BadPlan, Memory}
 
--- the place in an update's spelling of the number of its tokens, or of the flag of its access token
-abbrev pub part_place : SealedUpdate → ℕ
-part_place (SealedEnrol name) = 0
-part_place (SealedCreate name list tokens tag text) = 1 + (1 + length name) + 32
-part_place (SealedGrant user file token) = 1 + 4 + 4
-part_place (SealedRevoke user file) = 0
+-- ---- briefs
 
--- a file that is created has at most 1,048,576 bytes
-abbrev pub IsFitting : SealedUpdate → Type 0
-IsFitting (SealedEnrol name) = Unit {0}
-IsFitting (SealedCreate name list tokens tag text) = length text ≤ 1048576
-IsFitting (SealedGrant user file token) = Unit {0}
-IsFitting (SealedRevoke user file) = Unit {0}
+-- a brief in the words of histories, without the width of its set
+abbrev pub plain_brief : {W : ℕ} → Brief W → PlainBrief
+plain_brief (Enrol name) = BriefEnrol name
+plain_brief (Create name list tokens tag size) = BriefCreate name list tokens tag size
+plain_brief (Grant user file token) = BriefGrant user file token
+plain_brief (Revoke user file) = BriefRevoke user file
+
+-- a file that is created has no more bytes than a file may have
+abbrev pub IsFitting : PlainBrief → Type 0
+IsFitting (BriefEnrol name) = Unit {0}
+IsFitting (BriefCreate name list tokens tag size) = size ≤ MAX_FILE_BYTES
+IsFitting (BriefGrant user file token) = Unit {0}
+IsFitting (BriefRevoke user file) = Unit {0}
+
+-- all numbers of the brief are within the limits of its spelling
+abbrev pub IsWithinLimits : PlainBrief → Type 0
+IsWithinLimits (BriefEnrol name) = Unit {0}
+IsWithinLimits (BriefCreate name list tokens tag size) =
+    (length tokens ≤ MAX_USERS) × (size ≤ MAX_FILE_BYTES)
+IsWithinLimits (BriefGrant user file token) = (user < MAX_USERS) × (file < MAX_FILES)
+IsWithinLimits (BriefRevoke user file) = (user < MAX_USERS) × (file < MAX_FILES)
+
+-- The place, in the spelling of an update whose set has so many words, of the number of its tokens
+-- or of the flag of its access token.
+abbrev pub part_place : ℕ → PlainBrief → ℕ
+part_place words (BriefEnrol name) = 0
+part_place words (BriefCreate name list tokens tag size) = 1 + (1 + length name) + 8 * words
+part_place words (BriefGrant user file token) = 1 + 4 + 4
+part_place words (BriefRevoke user file) = 0
+
+-- ---- what is answered
 
 -- the update isn't refused and has its parts
-abbrev pub IsTaken : Shown → SealedUpdate → Type 0
-IsTaken s u = (refusal_shown s u ≡ None) × HasParts (outline s) u
+abbrev pub IsTaken : Catalogue → PlainBrief → Type 0
+IsTaken c b = (refusal_shown c b ≡ None) × HasParts (outline c) b
 
 -- the change is the one of this update, under the surface master
-pub record IsChange {W : ℕ} (limit : ℕ) (master : List ℕ) (s : Shown) (u : SealedUpdate) (c : Change W) : Type 0 where
-  pub taken : IsTaken s u
-  pub made : applied s c ≡ shown_after master s u
-  pub suits : Suits limit s c
+pub record IsChange {W : ℕ} (limit : ℕ) (master : List ℕ) (c : Catalogue) (b : PlainBrief)
+    (change : Change W) : Type 0 where
+  pub taken : IsTaken c b
+  pub made : applied c change ≡ catalogue_after master c b
+  pub rewrites : plain_rewrites change.rewrites.items ≡ rewrites_of c b
+  pub suits : Suits limit c change
 
--- why no change is made: the update is refused, or has other parts than it needs; memory is free
-abbrev pub IsFaultOf : Shown → SealedUpdate → PrepareFault → Type 0
-IsFaultOf s u (Refused why) = refusal_shown s u ≡ Some why
-IsFaultOf s u (BadPlan place) = (refusal_shown s u ≡ None) × (HasParts (outline s) u → ⊥) × (place ≡ part_place u)
-IsFaultOf s u Memory = Unit {0}
+-- Why no change is made: the update is refused, or has other parts than it needs. Memory is free.
+abbrev pub IsFaultOf : ℕ → Catalogue → PlainBrief → PrepareFault → Type 0
+IsFaultOf words c b (Refused why) = refusal_shown c b ≡ Some why
+IsFaultOf words c b (BadPlan place) =
+    (refusal_shown c b ≡ None) × (HasParts (outline c) b → ⊥) × (place ≡ part_place words b)
+IsFaultOf words c b Memory = Unit {0}
 
-abbrev pub Prepares : {W : ℕ} → ℕ → List ℕ → Shown → SealedUpdate → Result (Change W) PrepareFault → Type 0
-Prepares limit master s u (Ok c) = IsChange limit master s u c
-Prepares limit master s u (Err fault) = IsFaultOf s u fault
+-- what is answered to an update, of which sets have W words and users below `limit`
+abbrev pub Prepares : {W : ℕ} → ℕ → List ℕ → Catalogue → PlainBrief
+    → Result (Change W) PrepareFault → Type 0
+Prepares {W} limit master c b (Ok change) = IsChange limit master c b change
+Prepares {W} limit master c b (Err fault) = IsFaultOf W c b fault

@@ -3,8 +3,8 @@ ghost use Rattle.std.specs.Prelude.{◌<◌, length, IfOk};
 ghost use Rattle.ov_base.specs.Sets.{Has};
 ghost use Rattle.ov_history.specs.Keys.{AreTrueTokens};
 ghost use Rattle.ov_history.specs.Layers.{list_at};
-ghost use Rattle.ov_history.specs.Sealed.{Masters};
-ghost use Rattle.ov_history.specs.Shown.{filed_at, outline, place_of_file};
+ghost use Rattle.ov_history.specs.Masters.{Masters};
+ghost use Rattle.ov_history.specs.Catalogue.{filed_at, outline, place_of_file};
 ghost use Rattle.ov_state.specs.Queries.{file_named, user_named, AnswersReader};
 ghost use Rattle.ov_state.specs.Chains.{AnswersChain, IsChained, LeadsToKeys};
 
@@ -33,7 +33,7 @@ pub struct Chained {
 impl<B: Graph<Base, W>, S: Graph<Surface, W>, const W: usize> State<B, S, W> {
     /// The numbers of a user and a file, where the user may read the file.
     fn reader(&self, user: &Name, file: &Name) -> Result<(u32, u32), Refusal>
-        ensures { AnswersReader self.now.shown user.now file.now result }
+        ensures { AnswersReader self.now.catalogue user.now file.now result }
     {
         self.known();
         let Some(user) = self.user_number(user) else {
@@ -51,24 +51,22 @@ impl<B: Graph<Base, W>, S: Graph<Surface, W>, const W: usize> State<B, S, W> {
 
     /// The chains of a user who is in the file's list.
     fn chained(&self, alloc: Global, user: u32, file: u32) -> Result<Chained, Memory>
-        requires user { user < length self.now.shown.users }
-        requires file { file < length self.now.shown.files }
-        requires listed { Has (list_at (outline self.now.shown)
-            (place_of_file (filed_at self.now.shown file))) user }
-        ensures { IfOk result (λ chained. IsChained self.now.shown user file chained) }
+        requires user { user < length self.now.catalogue.users }
+        requires file { file < length self.now.catalogue.files }
+        requires listed { Has (list_at (outline self.now.catalogue)
+            (place_of_file (filed_at self.now.catalogue file))) user }
+        ensures { IfOk result (λ chained. IsChained self.now.catalogue user file chained) }
     {
         self.known();
-        let Some(filed) = self.filed(file) else {
-            unreachable!()
-        };
-        let base = base_chain(alloc, &self.base, user, filed.node)?;
-        let surface = surface_chain(alloc, &self.surface, user, filed.surface)?;
+        let entry = self.entry(file);
+        let base = base_chain(alloc, &self.base, user, entry.node)?;
+        let surface = surface_chain(alloc, &self.surface, user, entry.surface)?;
         Ok(Chained {
             epoch: self.epoch,
             file,
-            length: filed.bytes.as_slice().len() as u32,
-            generation: filed.generation,
-            tag: filed.tag,
+            length: entry.length,
+            generation: entry.generation,
+            tag: entry.tag,
             base,
             surface,
         })
@@ -77,11 +75,11 @@ impl<B: Graph<Base, W>, S: Graph<Surface, W>, const W: usize> State<B, S, W> {
     /// The chains of a user to a file. It is refused exactly where a read is: with NoUser or NoFile
     /// where the one or the other isn't there, and with NoPath where the user isn't in the list.
     pub fn chain(&self, alloc: Global, user: &Name, file: &Name) -> Result<Chained, ChainFault>
-        ensures chain { AnswersChain self.now.shown (user_named self.now.shown user.now)
-            (file_named self.now.shown file.now) result }
-        ensures keys { (k : Masters) → AreTrueTokens k self.now.shown
+        ensures chain { AnswersChain self.now.catalogue (user_named self.now.catalogue user.now)
+            (file_named self.now.catalogue file.now) result }
+        ensures keys { (k : Masters) → AreTrueTokens k self.now.catalogue
             → IfOk result (λ chained.
-            LeadsToKeys k (filed_at self.now.shown chained.file) chained) }
+            LeadsToKeys k (filed_at self.now.catalogue chained.file) chained) }
     {
         let (user, file) = self.reader(user, file)?;
         Ok(self.chained(alloc, user, file)?)

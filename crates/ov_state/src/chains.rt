@@ -2,13 +2,14 @@
 ghost use Rattle.std.specs.Prelude.{◌≡◌, ◌<◌, ◌≤◌, ◌*◌, slice_index, Contains, IfOk};
 ghost use Rattle.std.specs.Option.{ForSome};
 ghost use Rattle.ov_base.specs.Sets.{Has, single};
+ghost use Rattle.ov_base.specs.declared.limits.TheConstants.{MAX_SET_WORDS};
 ghost use Rattle.ov_graph.specs.Contents.{HasNode};
 ghost use Rattle.ov_tokens.specs.Labels.{label_of};
 ghost use Rattle.ov_tokens.specs.declared.label.Kind.TheVariants.{Derive};
 ghost use Rattle.ov_base_layer.specs.BaseContents.{holders_of};
 ghost use Rattle.ov_base_layer.specs.Holders.{accesses_of};
 ghost use Rattle.ov_chain.specs.Walk.{last_label};
-ghost use Rattle.ov_history.specs.Sealed.{root_of};
+ghost use Rattle.ov_history.specs.Layers.{root_of};
 ghost use Rattle.ov_state.specs.Contents.{nodes_of};
 ghost use Rattle.ov_state.specs.Chains.{access_along, LeadsToAccess};
 ghost use Rattle.ov_state.specs.Chains.{IsAccessChain, IsBaseChain, IsEdgeChain, IsSurfaceChain};
@@ -22,7 +23,7 @@ use std::alloc::Global;
 
 /// The root of a user: the node of the user alone.
 fn root<L: Layer, G: Graph<L, W>, const W: usize>(graph: &G, user: u32) -> u32
-    requires width { (1 ≤ W) × (W ≤ 1024) }
+    requires width { (1 ≤ W) × (W ≤ MAX_SET_WORDS) }
     requires user { user < 64 * W }
     requires there { Contains (G.contents graph.now).sets (single user) }
     ensures root { result ≡ root_of (G.contents graph.now).sets user }
@@ -43,7 +44,7 @@ fn edge_chain<L: Layer, G: Graph<L, W>, const W: usize>(
     user: u32,
     node: u32,
 ) -> Result<Chain, Memory>
-    requires width { (1 ≤ W) × (W ≤ 1024) }
+    requires width { (1 ≤ W) × (W ≤ MAX_SET_WORDS) }
     requires user { user < 64 * W }
     requires rooted { Contains (G.contents graph.now).sets (single user) }
     requires node { HasNode (G.contents graph.now) node }
@@ -128,7 +129,7 @@ pub fn surface_chain<S: Graph<Surface, W>, const W: usize>(
     user: u32,
     surface: Option<u32>,
 ) -> Result<Option<Chain>, Memory>
-    requires width { (1 ≤ W) × (W ≤ 1024) }
+    requires width { (1 ≤ W) × (W ≤ MAX_SET_WORDS) }
     requires user { user < 64 * W }
     requires rooted { Contains (S.contents graph.now).sets (single user) }
     requires node { ForSome surface (λ node. HasNode (S.contents graph.now) node) }

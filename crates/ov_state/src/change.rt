@@ -1,25 +1,28 @@
 //! Changes that are prepared and not yet made.
+ghost use Rattle.std.specs.Prelude.{◌≡◌};
 
-use crate::filed::Filed;
-use ov_base::{Name, Octets, UserSet};
+use crate::files::FileEntry;
+use ov_base::{Name, UserSet};
 use ov_base_layer::Grant;
 use ov_graph::Cover;
 use ov_tokens::Tokens;
 
 /// A node that a layer is to get: its set, its cover, and the tokens of the cover's edges.
 #[derive(Drop)]
-pub struct Fresh<const W: usize> {
+pub struct NewNode<const W: usize> {
     pub set: UserSet<W>,
     pub cover: Cover,
     pub tokens: Tokens,
 }
 
-/// A file that is to have another surface, and its bytes under that.
-#[derive(Drop)]
-pub struct Coat {
+/// A file whose stored bytes are to be new: its number, how many they are, and the surfaces under
+/// which they are and are to be. A new file has none yet, and its bytes come with its update.
+#[derive(Clone, Copy, Debug, PartialEq, Eq)]
+pub struct Rewrite {
     pub file: u32,
-    pub surface: Option<u32>,
-    pub bytes: Octets,
+    pub length: u32,
+    pub old: Option<u32>,
+    pub new: Option<u32>,
 }
 
 /// What a catalogue is to have one more of.
@@ -27,21 +30,30 @@ pub struct Coat {
 pub enum Growth {
     /// A user.
     User(Name),
-    /// A file.
-    File(Name, Filed),
+    /// A file, which gets its surface by its rewrite.
+    File(FileEntry),
     /// An access token.
     Access(Grant),
     /// Nothing.
     Nothing,
 }
 
-/// An update with all that it makes: what grows, the nodes that each layer gets, and the files whose
-/// surface changes, and the bytes of all files afterwards.
+/// All that an update makes: what grows, the nodes that each layer gets, the rewrites by file
+/// number, and the bytes of all files afterwards.
 #[derive(Drop)]
 pub struct Change<const W: usize> {
-    pub growth: Growth,
-    pub base: Option<Fresh<W>>,
-    pub surface: Vec<Fresh<W>>,
-    pub coats: Vec<Coat>,
-    pub size: u64,
+    pub(crate) growth: Growth,
+    pub(crate) base: Option<NewNode<W>>,
+    pub(crate) surface: Vec<NewNode<W>>,
+    pub(crate) rewrites: Vec<Rewrite>,
+    pub(crate) size: u64,
+}
+
+impl<const W: usize> Change<W> {
+    /// The files whose stored bytes are to be new, by number, each once.
+    pub fn rewrites(&self) -> &[Rewrite]
+        ensures { result.now ≡ self.now.rewrites.items }
+    {
+        self.rewrites.as_slice()
+    }
 }

@@ -1,8 +1,10 @@
 //! Why a state answers no change, or no chain.
 ghost use Rattle.std.specs.Prelude.{◌≡◌};
 ghost use Rattle.ov_state.specs.Faults.{fault_of};
-ghost use Rattle.ov_state.specs.declared.fault.PrepareFault.TheVariants.{Memory as NoMemory, Refused};
-ghost use Rattle.ov_state.specs.declared.fault.ChainFault.TheVariants.{Memory as NoChainMemory, Refused as NoChain};
+ghost use Rattle.ov_state.specs.declared.fault.PrepareFault.TheVariants.{Memory as NoMemory};
+ghost use Rattle.ov_state.specs.declared.fault.PrepareFault.TheVariants.{Refused};
+ghost use Rattle.ov_state.specs.declared.fault.ChainFault.TheVariants.{Memory as NoChainMemory};
+ghost use Rattle.ov_state.specs.declared.fault.ChainFault.TheVariants.{Refused as NoChain};
 
 use ov_base::{Memory, Refusal};
 use ov_graph::GraphRefusal;
@@ -13,7 +15,8 @@ pub enum PrepareFault {
     /// The access-matrix machine refuses the update.
     Refused(Refusal),
     /// The update isn't refused, but the number of its tokens, or whether it has an access token,
-    /// isn't what the layers want; this is the place of that number or flag in the update's spelling.
+    /// isn't what the layers want; this is the place of that number or flag in the update's
+    /// spelling.
     BadPlan { at: u32 },
     /// Memory was refused.
     Memory,

@@ -1,26 +1,30 @@
-//! Grants and revocations, planned.
-ghost use Rattle.std.specs.Prelude.{◌≡◌, ◌<◌, ◌*◌, length, false, nat_lt, IfErr, IfOk};
-ghost use Rattle.ov_base.specs.Sets.{with, without};
-ghost use Rattle.ov_record.specs.Updates.{SealedGrant, SealedRevoke};
-ghost use Rattle.ov_history.specs.Layers.{list_at, with_wants};
-ghost use Rattle.ov_history.specs.Refusals.{is_last};
+//! Grants and revocations as changes.
+ghost use Rattle.std.specs.Prelude.{◌≡◌, ◌<◌, ◌*◌, false, IfErr, IfOk};
+ghost use Rattle.ov_history.specs.Briefs.{BriefGrant, BriefRevoke};
+ghost use Rattle.ov_history.specs.Layers.{with_wants};
 ghost use Rattle.ov_history.specs.Lists.{byte_sum};
-ghost use Rattle.ov_history.specs.Shown.{filed_at, matrix_shown, outline, place_of_file};
+ghost use Rattle.ov_history.specs.Refusals.{is_last};
+ghost use Rattle.ov_history.specs.Catalogue.{matrix_shown, outline};
 ghost use Rattle.ov_state.specs.Plans.{Prepares};
-ghost use Rattle.ov_state.specs.Resurfacing.{access_of, change_with, wants_after, IsListing, IsMissing, IsNoRoom};
-ghost use Rattle.ov_state.specs.Resurfacing.{IsRelisting, IsResurfaced};
+ghost use Rattle.ov_state.specs.Relistings.{access_of, change_with, wants_after};
+ghost use Rattle.ov_state.specs.Relistings.{AreSettled, IsListing, IsMissing, IsNoRoom};
+ghost use Rattle.ov_state.specs.Relistings.{IsRelisting};
 
 use crate::change::{Change, Growth};
 use crate::fault::PrepareFault;
-use crate::relist::Relisting;
-use crate::resurface::Surfaces;
+use crate::new_nodes::NewNodes;
+use crate::relisting::Relisting;
+use crate::rewrites::Rewrites;
 use crate::state::State;
-use crate::turn::Resurfacing;
-use ov_base::{Key, Refusal, UserSet};
+use ov_base::{Key, Refusal};
 use ov_base_layer::Grant;
 use ov_graph::Graph;
 use ov_tokens::{Base, Surface, Token};
 use std::alloc::Global;
+
+/// The place of the access token's flag in the spelling of a grant: behind the kind and both
+/// numbers.
+const ACCESS_PLACE: u32 = 1 + 4 + 4;
 
 /// What grows by a grant: an access token, where there is one.
 fn access(user: u32, node: u32, token: Option<Token>) -> Growth
@@ -35,9 +39,9 @@ fn access(user: u32, node: u32, token: Option<Token>) -> Growth
 impl<B: Graph<Base, W>, S: Graph<Surface, W>, const W: usize> State<B, S, W> {
     /// A file, where it and a user are there, with its list and its holders as they are.
     fn listing(&self, user: u32, file: u32) -> Result<Relisting<W>, Refusal>
-        ensures ok { IfOk result (IsListing self.now.shown user file) }
+        ensures ok { IfOk result (IsListing self.now.catalogue user file) }
         ensures wide { IfOk result (λ _. user < 64 * W) }
-        ensures err { IfErr result (IsMissing self.now.shown user file) }
+        ensures err { IfErr result (IsMissing self.now.catalogue user file) }
     {
         self.known();
         if !self.is_user(user) {
@@ -46,60 +50,61 @@ impl<B: Graph<Base, W>, S: Graph<Surface, W>, const W: usize> State<B, S, W> {
         if !self.is_file(file) {
             return Err(Refusal::NoFile);
         }
-        let filed = self.kept_file(file);
-        let before = self.holders(filed);
-        let list = self.list_or(filed, &before);
+        let entry = self.entry(file);
+        let before = self.holders(entry);
+        let list = self.list_or(entry, &before);
         let after = before.copy();
         Ok(Relisting {
             file,
-            node: filed.node,
+            node: entry.node,
             list,
             before,
             after,
         })
     }
 
-    /// Plans the surfaces of all files after the change of one file's list, where there is room for
-    /// the nodes and an epoch comes after this one.
-    fn resurface_in_room(
+    /// Plans the surfaces of all files after a relisting, where there is room for the nodes and an
+    /// epoch comes after this one.
+    fn rewrites_in_room(
         &self,
         alloc: Global,
         master: &Key,
         relisting: &Relisting<W>,
-    ) -> Result<Resurfacing<W>, PrepareFault>
-        requires { IsRelisting self.now.shown relisting.now }
-        ensures ok { let y = outline self.now.shown in
-            IfOk result (IsResurfaced master.now.bytes self.now.shown (wants_after y relisting.now 0 y.files)) }
-        ensures epoch { IfOk result (λ _. is_last self.now.shown.epoch ≡ false) }
-        ensures err { let y = outline self.now.shown in
-            IfErr result (IsNoRoom (with_wants y.surface (wants_after y relisting.now 0 y.files)) y.epoch) }
+    ) -> Result<Rewrites<W>, PrepareFault>
+        requires { IsRelisting self.now.catalogue relisting.now }
+        ensures ok { let y = outline self.now.catalogue in IfOk result (AreSettled master.now.bytes
+            self.now.catalogue (wants_after y relisting.now 0 y.files)) }
+        ensures epoch { IfOk result (λ _. is_last self.now.catalogue.epoch ≡ false) }
+        ensures err { let y = outline self.now.catalogue in IfErr result
+            (IsNoRoom (with_wants y.surface (wants_after y relisting.now 0 y.files)) y.epoch) }
     {
         self.known();
-        let plan = self.resurface(alloc, master, relisting)?;
-        if self.epoch == u32::MAX {
+        let plan = self.rewrites(alloc, master, relisting)?;
+        if self.is_spent() {
             return Err(PrepareFault::Refused(Refusal::Spent));
         }
         Ok(plan)
     }
 
-    /// The change with these surface nodes and these coats, in which no file's length changes.
-    fn relisted(&self, growth: Growth, plan: Resurfacing<W>) -> Change<W>
-        ensures { result ≡ change_with (byte_sum (matrix_shown self.now.shown).files) growth plan.entry }
+    /// The change with these surface nodes and these rewrites, in which no file's length changes.
+    fn relisted(&self, growth: Growth, plan: Rewrites<W>) -> Change<W>
+        ensures { let size = byte_sum (matrix_shown self.now.catalogue).files in
+            result ≡ change_with size growth plan.entry }
     {
-        let Resurfacing { surfaces, coats } = plan;
-        let Surfaces { fresh, sets: _ } = surfaces;
+        let Rewrites { nodes, list } = plan;
+        let NewNodes { nodes, sets: _ } = nodes;
         Change {
             growth,
             base: None,
-            surface: fresh,
-            coats,
+            surface: nodes,
+            rewrites: list,
             size: self.size,
         }
     }
 
-    /// Plans a grant of a file to a user, under the surface master. The access token has to be there
-    /// exactly where the user isn't a holder of the file's base node.
-    pub fn plan_grant(
+    /// The grant of a file to a user as a change, under the surface master. The access token has to
+    /// be there exactly where the user isn't a holder of the file's base node.
+    pub(crate) fn plan_grant(
         &self,
         alloc: Global,
         surface: &Key,
@@ -107,7 +112,8 @@ impl<B: Graph<Base, W>, S: Graph<Surface, W>, const W: usize> State<B, S, W> {
         file: u32,
         token: Option<Token>,
     ) -> Result<Change<W>, PrepareFault>
-        ensures { Prepares (64 * W) surface.now.bytes self.now.shown (SealedGrant user file token) result }
+        ensures { Prepares (64 * W) surface.now.bytes self.now.catalogue
+            (BriefGrant user file token) result }
     {
         self.known();
         let listing = self.listing(user, file)?;
@@ -116,29 +122,30 @@ impl<B: Graph<Base, W>, S: Graph<Surface, W>, const W: usize> State<B, S, W> {
         }
         let is_holder = listing.before.contains(user);
         let relisting = listing.granted(user);
-        let plan = self.resurface_in_room(alloc, surface, &relisting)?;
+        let plan = self.rewrites_in_room(alloc, surface, &relisting)?;
         if token.is_some() == is_holder {
-            return Err(PrepareFault::BadPlan { at: 9 });
+            return Err(PrepareFault::BadPlan { at: ACCESS_PLACE });
         }
         Ok(self.relisted(access(user, relisting.node, token), plan))
     }
 
-    /// Plans a revocation of a file from a user, under the surface master.
-    pub fn plan_revoke(
+    /// The revocation of a file from a user as a change, under the surface master.
+    pub(crate) fn plan_revoke(
         &self,
         alloc: Global,
         surface: &Key,
         user: u32,
         file: u32,
     ) -> Result<Change<W>, PrepareFault>
-        ensures { Prepares (64 * W) surface.now.bytes self.now.shown (SealedRevoke user file) result }
+        ensures { Prepares (64 * W) surface.now.bytes self.now.catalogue
+            (BriefRevoke user file) result }
     {
         self.known();
         let listing = self.listing(user, file)?;
         if !listing.list.contains(user) {
             return Err(PrepareFault::Refused(Refusal::NotListed));
         }
-        let plan = self.resurface_in_room(alloc, surface, &listing.revoked(user))?;
+        let plan = self.rewrites_in_room(alloc, surface, &listing.revoked(user))?;
         Ok(self.relisted(Growth::Nothing, plan))
     }
 }

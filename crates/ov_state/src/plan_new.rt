@@ -1,29 +1,31 @@
 //! Enrolments and creations as changes.
 ghost use Rattle.std.specs.Prelude.{◌≡◌, ◌≤◌, ◌<◌, ◌+◌, ◌*◌, ℕ, List, [], ◌∷◌, length, IfOk};
-ghost use Rattle.ov_record.specs.Updates.{SealedCreate, SealedEnrol};
-ghost use Rattle.ov_history.specs.Shown.{restored};
+ghost use Rattle.ov_base.specs.declared.limits.TheConstants.{LAST_EPOCH, MAX_FILE_BYTES};
+ghost use Rattle.ov_base.specs.declared.limits.TheConstants.{MAX_SET_WORDS, MAX_USERS};
+ghost use Rattle.ov_history.specs.Briefs.{BriefCreate, BriefEnrol};
+ghost use Rattle.ov_history.specs.Refusals.{first_of_tests};
+ghost use Rattle.ov_history.specs.Sealed.{refusal_shown};
 ghost use Rattle.ov_state.specs.Plans.{Prepares};
-ghost use Rattle.ov_state.specs.NewFiles.{IsSite};
+ghost use Rattle.ov_state.specs.NewFiles.{tests_before};
 ghost use Rattle.ov_state.specs.Creations.{alone, IsCreation, IsEnrolment};
 
-use crate::change::{Change, Fresh, Growth};
+use crate::change::{Change, Growth, NewNode, Rewrite};
 use crate::fault::PrepareFault;
-use crate::filed::Filed;
-use crate::site::{Site, fresh_node};
+use crate::files::FileEntry;
+use crate::site::{Site, new_node};
 use crate::state::State;
-use ov_base::{Key, Memory, Name, Octets, Refusal, UserSet};
+use ov_base::{Key, Memory, Name, Refusal, UserSet};
 use ov_graph::{Cover, Graph};
-use ov_surface::over_encrypt;
-use ov_tokens::{Base, Layer, Numbers, Surface, Tokens};
+use ov_tokens::{Base, Numbers, Surface, Tokens};
 use std::alloc::Global;
 
 /// The node of a new user alone, after so many nodes. It takes no memory.
-fn alone<const W: usize>(alloc: Global, nodes: u32, user: u32) -> Fresh<W>
-    requires width { (1 ≤ W) × (W ≤ 1024) }
+fn alone<const W: usize>(alloc: Global, nodes: u32, user: u32) -> NewNode<W>
+    requires width { (1 ≤ W) × (W ≤ MAX_SET_WORDS) }
     requires user { user < 64 * W }
     ensures { result ≡ alone nodes user }
 {
-    Fresh {
+    NewNode {
         set: UserSet::empty().with(user),
         cover: Cover {
             node: nodes,
@@ -34,54 +36,47 @@ fn alone<const W: usize>(alloc: Global, nodes: u32, user: u32) -> Fresh<W>
     }
 }
 
-/// The list of one node.
-fn only<const W: usize>(alloc: Global, fresh: Fresh<W>) -> Result<Vec<Fresh<W>>, Memory>
-    ensures { IfOk result (λ nodes. nodes.items ≡ fresh.entry ∷ []) }
+/// The list of one node, or of one rewrite.
+fn only<T: Drop>(alloc: Global, item: T) -> Result<Vec<T>, Memory>
+    ensures { IfOk result (λ list. list.items ≡ item ∷ []) }
 {
-    let mut nodes = Vec::new(alloc);
-    nodes.push(fresh)?;
-    Ok(nodes)
+    let mut list = Vec::new(alloc);
+    list.push(item)?;
+    Ok(list)
 }
 
-/// The bytes of a new file of this number under its surface. It takes no memory.
-fn coated(master: &Key, to: Option<u32>, number: u32, bytes: Octets) -> Octets
-    requires { length bytes ≤ 1048576 }
-    ensures { result ≡ restored master.now.bytes None to number bytes }
+/// The place of the number of tokens in the spelling of a creation of a file of this name, whose
+/// list has so many words.
+fn tokens_place(name: &Name, words: usize) -> u32
+    requires { words ≤ MAX_SET_WORDS }
+    ensures { result ≡ 1 + (1 + length name.now) + 8 * words }
 {
-    match to {
-        Some(node) => {
-            let mut bytes = bytes.into_vec();
-            over_encrypt(&Surface::key_of(master, node), number, 0, &mut bytes);
-            Octets::from_vec(bytes)
-        }
-        None => bytes,
-    }
-}
-
-/// The place of the number of tokens in the spelling of a creation of a file of this name.
-fn tokens_place(name: &Name) -> u32
-    ensures { result ≡ 1 + (1 + length name.now) + 32 }
-{
-    34 + name.as_bytes().len() as u32
+    (2 + name.as_bytes().len() + 8 * words) as u32
 }
 
 impl<B: Graph<Base, W>, S: Graph<Surface, W>, const W: usize> State<B, S, W> {
-    /// The enrolment of a user as a change.
-    pub(crate) fn plan_enrol(&self, alloc: Global, name: Name) -> Result<Change<W>, PrepareFault>
-        ensures { (master : List ℕ)
-            → Prepares (64 * W) master self.now.shown (SealedEnrol name) result }
+    /// Why an enrolment is refused, if it is.
+    fn refusal_enrol(&self, name: &Name) -> Option<Refusal>
+        ensures { result ≡ refusal_shown self.now.catalogue (BriefEnrol name.now) }
     {
         self.known();
-        if let Some(why) = self.refusal_enrol(&name) {
-            return Err(PrepareFault::Refused(why));
+        if self.has_user(name) {
+            Some(Refusal::Taken)
+        } else if self.is_full_of_users() {
+            Some(Refusal::UsersFull)
+        } else if self.is_full_of_nodes() {
+            Some(Refusal::NodesFull)
+        } else if self.is_spent() {
+            Some(Refusal::Spent)
+        } else {
+            None
         }
-        Ok(self.enrolment(alloc, name)?)
     }
 
     /// The change that enrols a user, for whom there is room.
     fn enrolment(&self, alloc: Global, name: Name) -> Result<Change<W>, Memory>
-        requires { length self.now.shown.users < 256 }
-        ensures { IfOk result (IsEnrolment self.now.shown name) }
+        requires { length self.now.catalogue.users < MAX_USERS }
+        ensures { IfOk result (IsEnrolment self.now.catalogue name) }
     {
         self.known();
         let user = self.users.len() as u32;
@@ -91,48 +86,84 @@ impl<B: Graph<Base, W>, S: Graph<Surface, W>, const W: usize> State<B, S, W> {
             growth: Growth::User(name),
             base: Some(base),
             surface,
-            coats: Vec::new(alloc),
+            rewrites: Vec::new(alloc),
             size: self.size,
         })
+    }
+
+    /// The enrolment of a user as a change.
+    pub(crate) fn plan_enrol(&self, alloc: Global, name: Name) -> Result<Change<W>, PrepareFault>
+        ensures { (master : List ℕ)
+            → Prepares (64 * W) master self.now.catalogue (BriefEnrol name) result }
+    {
+        self.known();
+        if let Some(why) = self.refusal_enrol(&name) {
+            return Err(PrepareFault::Refused(why));
+        }
+        Ok(self.enrolment(alloc, name)?)
+    }
+
+    /// Why a creation of a file of so many bytes is refused, if it is before its nodes and its
+    /// epoch are looked at.
+    fn refusal_create(&self, name: &Name, list: &UserSet<W>, size: u32) -> Option<Refusal>
+        requires { size ≤ MAX_FILE_BYTES }
+        ensures { result ≡ first_of_tests (tests_before self.now.catalogue name.now list.now size) }
+    {
+        if self.has_file(name) {
+            Some(Refusal::Taken)
+        } else if !self.has_all(list) {
+            Some(Refusal::NoUser)
+        } else if self.is_full_of_files() {
+            Some(Refusal::FilesFull)
+        } else if self.is_full_of_bytes(size) {
+            Some(Refusal::BytesFull)
+        } else {
+            None
+        }
     }
 
     /// The change that files a new file at its place.
     fn creation(
         &self,
         alloc: Global,
-        master: &Key,
         site: Site<W>,
         name: Name,
         list: UserSet<W>,
         tokens: Tokens,
         tag: [u8; 32],
-        bytes: Octets,
-    ) -> Change<W>
-        requires bytes { length bytes ≤ 1048576 }
-        requires epoch { self.now.shown.epoch < 4294967295 }
-        ensures { IsCreation master.now.bytes self.now.shown site.entry
-            name list.entry tokens tag bytes result }
+        size: u32,
+    ) -> Result<Change<W>, Memory>
+        requires size { size ≤ MAX_FILE_BYTES }
+        requires epoch { self.now.catalogue.epoch < LAST_EPOCH }
+        ensures { IfOk result (IsCreation self.now.catalogue site.entry
+            name list.entry tokens tag size) }
     {
         self.known();
         let Site { cover, surface, to } = site;
-        let size = self.size + bytes.as_slice().len() as u64;
-        let filed = Filed {
+        let rewrite = Rewrite {
+            file: self.files.count(),
+            length: size,
+            old: None,
+            new: to,
+        };
+        let entry = FileEntry {
+            name,
             node: cover.node,
-            surface: to,
+            surface: None,
             generation: self.epoch + 1,
             tag,
-            bytes: coated(master, to, self.files.len() as u32, bytes),
+            length: size,
         };
-        Change {
-            growth: Growth::File(name, filed),
-            base: fresh_node(list, cover, tokens),
+        Ok(Change {
+            growth: Growth::File(entry),
+            base: new_node(list, cover, tokens),
             surface,
-            coats: Vec::new(alloc),
-            size,
-        }
+            rewrites: only(alloc, rewrite)?,
+            size: self.size + u64::from(size),
+        })
     }
 
-    /// The creation of a file as a change, whose bytes get their surface under the surface master.
+    /// The creation of a file as a change, which gets its surface under the surface master.
     pub(crate) fn plan_create(
         &self,
         alloc: Global,
@@ -141,14 +172,14 @@ impl<B: Graph<Base, W>, S: Graph<Surface, W>, const W: usize> State<B, S, W> {
         list: UserSet<W>,
         tokens: Tokens,
         tag: [u8; 32],
-        bytes: Octets,
+        size: u32,
     ) -> Result<Change<W>, PrepareFault>
-        requires { length bytes ≤ 1048576 }
-        ensures { Prepares (64 * W) surface.now.bytes self.now.shown
-            (SealedCreate name list.entry tokens tag bytes) result }
+        requires { size ≤ MAX_FILE_BYTES }
+        ensures { Prepares (64 * W) surface.now.bytes self.now.catalogue
+            (BriefCreate name list.entry tokens tag size) result }
     {
         self.known();
-        if let Some(why) = self.refusal_create(&name, &list, bytes.as_slice().len() as u64) {
+        if let Some(why) = self.refusal_create(&name, &list, size) {
             return Err(PrepareFault::Refused(why));
         }
         let site = self.site(alloc, surface, &list)?;
@@ -157,9 +188,9 @@ impl<B: Graph<Base, W>, S: Graph<Surface, W>, const W: usize> State<B, S, W> {
         }
         if tokens.as_slice().len() != site.cover.from.as_slice().len() {
             return Err(PrepareFault::BadPlan {
-                at: tokens_place(&name),
+                at: tokens_place(&name, W),
             });
         }
-        Ok(self.creation(alloc, surface, site, name, list, tokens, tag, bytes))
+        Ok(self.creation(alloc, site, name, list, tokens, tag, size)?)
     }
 }

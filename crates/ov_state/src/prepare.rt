@@ -1,63 +1,60 @@
 //! Changes that are prepared.
 ghost use Rattle.std.specs.Prelude.{◌≡◌, ◌*◌, IfOk};
-ghost use Rattle.ov_record.specs.Updates.{sealed_update};
 ghost use Rattle.ov_state.specs.Changes.{HasRoomFor};
-ghost use Rattle.ov_state.specs.Plans.{IsFitting, Prepares};
-ghost use Rattle.ov_state.specs.Standing.{IsRefusedAsItsHistory};
+ghost use Rattle.ov_state.specs.Plans.{plain_brief, IsFitting, IsWithinLimits, Prepares};
+ghost use Rattle.ov_state.specs.Standing.{IsAnsweredAsItsHistory};
 
+use crate::brief::Brief;
 use crate::change::Change;
 use crate::fault::PrepareFault;
 use crate::state::State;
 use ov_base::{Key, Memory};
 use ov_graph::Graph;
-use ov_record::Update;
 use ov_tokens::{Base, Surface};
 use std::alloc::Global;
 
 impl<B: Graph<Base, W>, S: Graph<Surface, W>, const W: usize> State<B, S, W> {
     /// The change of an update, or why there is none.
-    fn plan(
-        &self,
-        alloc: Global,
-        surface: &Key,
-        update: Update<W>,
-    ) -> Result<Change<W>, PrepareFault>
-        requires { IsFitting (sealed_update update) }
-        ensures { let u = sealed_update update.entry in
-            Prepares (64 * W) surface.now.bytes self.now.shown u result }
+    fn plan(&self, alloc: Global, surface: &Key, brief: Brief<W>) -> Result<Change<W>, PrepareFault>
+        requires { IsFitting (plain_brief brief) }
+        ensures { let b = plain_brief brief.entry in
+            Prepares (64 * W) surface.now.bytes self.now.catalogue b result }
     {
-        match update {
-            Update::Enrol { name } => self.plan_enrol(alloc, name),
-            Update::Create {
+        match brief {
+            Brief::Enrol { name } => self.plan_enrol(alloc, name),
+            Brief::Create {
                 name,
                 list,
                 tokens,
                 tag,
-                bytes,
-            } => self.plan_create(alloc, surface, name, list, tokens, tag, bytes),
-            Update::Grant { user, file, token } => {
+                length,
+            } => self.plan_create(alloc, surface, name, list, tokens, tag, length),
+            Brief::Grant { user, file, token } => {
                 self.plan_grant(alloc, surface, user, file, token)
             }
-            Update::Revoke { user, file } => self.plan_revoke(alloc, surface, user, file),
+            Brief::Revoke { user, file } => self.plan_revoke(alloc, surface, user, file),
         }
     }
 
     /// Takes all the memory of an update, and answers the change that it makes under the surface
-    /// master, for [`State::commit`]. Whatever it answers, the state shows what it showed.
+    /// master, for [`State::commit`]. Whatever it answers, the catalogue is as it was.
     pub fn prepare(
         &mut self,
         alloc: Global,
         surface: &Key,
-        update: Update<W>,
+        brief: Brief<W>,
     ) -> Result<Change<W>, PrepareFault>
-        requires { IsFitting (sealed_update update) }
-        ensures shown { self.new.shown ≡ self.old.shown }
-        ensures change { let u = sealed_update update.entry in
-            Prepares (64 * W) surface.now.bytes self.old.shown u result }
+        requires { IsFitting (plain_brief brief) }
+        ensures same { self.new.catalogue ≡ self.old.catalogue }
+        ensures change { let b = plain_brief brief.entry in
+            Prepares (64 * W) surface.now.bytes self.old.catalogue b result }
+        ensures limits { IfOk result (λ _. IsWithinLimits (plain_brief brief.entry)) }
         ensures room { IfOk result (λ change. HasRoomFor self.new.room change) }
-        ensures refused { IsRefusedAsItsHistory self.old.shown (sealed_update update.entry) result }
+        ensures history { let b = plain_brief brief.entry in
+            IsAnsweredAsItsHistory self.old.catalogue b result }
     {
-        match self.plan(alloc, surface, update) {
+        self.known();
+        match self.plan(alloc, surface, brief) {
             Ok(change) => match self.make_room(&change) {
                 Ok(()) => Ok(change),
                 Err(Memory) => Err(PrepareFault::Memory),

@@ -2,11 +2,11 @@
 ghost use Rattle.std.specs.Prelude.{◌≡◌, length, IfErr, IfOk};
 ghost use Rattle.ov_base.specs.Sets.{IsBelow};
 ghost use Rattle.ov_graph.specs.Contents.{plan_of};
-ghost use Rattle.ov_state.specs.NewFiles.{fresh_if, holders_then, HasNoSite, IsSite};
+ghost use Rattle.ov_state.specs.NewFiles.{holders_then, new_node_if, HasNoSite, IsSite};
 
-use crate::change::Fresh;
+use crate::change::NewNode;
 use crate::fault::PrepareFault;
-use crate::resurface::Surfaces;
+use crate::new_nodes::NewNodes;
 use crate::state::State;
 use ov_base::{Key, UserSet};
 use ov_graph::{Cover, Graph};
@@ -19,17 +19,17 @@ use std::alloc::Global;
 #[derive(Drop)]
 pub struct Site<const W: usize> {
     pub cover: Cover,
-    pub surface: Vec<Fresh<W>>,
+    pub surface: Vec<NewNode<W>>,
     pub to: Option<u32>,
 }
 
-/// The node of the cover, where it is a fresh one.
-pub fn fresh_node<const W: usize>(set: UserSet<W>, cover: Cover, tokens: Tokens) -> Option<Fresh<W>>
-    ensures { result ≡ fresh_if cover.fresh
+/// The node of the cover, where it is a new one.
+pub fn new_node<const W: usize>(set: UserSet<W>, cover: Cover, tokens: Tokens) -> Option<NewNode<W>>
+    ensures { result ≡ new_node_if cover.fresh
         (record { set = set.entry; cover = cover; tokens = tokens }) }
 {
     if cover.fresh {
-        Some(Fresh { set, cover, tokens })
+        Some(NewNode { set, cover, tokens })
     } else {
         None
     }
@@ -38,8 +38,8 @@ pub fn fresh_node<const W: usize>(set: UserSet<W>, cover: Cover, tokens: Tokens)
 impl<B: Graph<Base, W>, S: Graph<Surface, W>, const W: usize> State<B, S, W> {
     /// The holders of the base node that is planned for these users. It takes no memory.
     fn holders_then(&self, cover: &Cover, list: &UserSet<W>) -> UserSet<W>
-        requires { cover.now ≡ plan_of self.now.shown.base.sets list.now }
-        ensures { result ≡ holders_then self.now.shown list.now }
+        requires { cover.now ≡ plan_of self.now.catalogue.base.sets list.now }
+        ensures { result ≡ holders_then self.now.catalogue list.now }
     {
         self.known();
         if cover.fresh {
@@ -56,20 +56,20 @@ impl<B: Graph<Base, W>, S: Graph<Surface, W>, const W: usize> State<B, S, W> {
         master: &Key,
         list: &UserSet<W>,
     ) -> Result<Site<W>, PrepareFault>
-        requires { IsBelow (length self.now.shown.users) list.now }
-        ensures ok { IfOk result (IsSite master.now.bytes self.now.shown list.now) }
-        ensures err { IfErr result (HasNoSite master.now.bytes self.now.shown list.now) }
+        requires { IsBelow (length self.now.catalogue.users) list.now }
+        ensures ok { IfOk result (IsSite master.now.bytes self.now.catalogue list.now) }
+        ensures err { IfErr result (HasNoSite master.now.bytes self.now.catalogue list.now) }
     {
         self.known();
         let cover = self.base.plan_create(alloc, list)?;
         let holders = self.holders_then(&cover, list);
         let want = wanted(self.mode, list, &holders);
-        let mut surfaces = Surfaces::new(alloc);
-        let to = surfaces.target(alloc, &self.surface, master, want)?;
-        let Surfaces { fresh, sets: _ } = surfaces;
+        let mut new = NewNodes::new(alloc);
+        let to = new.surface_for(alloc, &self.surface, master, want)?;
+        let NewNodes { nodes, sets: _ } = new;
         Ok(Site {
             cover,
-            surface: fresh,
+            surface: nodes,
             to,
         })
     }

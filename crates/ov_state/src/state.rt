@@ -1,19 +1,25 @@
-//! The catalogue, and the stored bytes of its files.
-ghost use Rattle.std.specs.Prelude.{◌≡◌, ◌≤◌, ◌*◌, ◌<◌, ◌^◌, IfOk};
-ghost use Rattle.ov_history.specs.Shown.{nothing};
+//! The catalogue.
+ghost use Rattle.std.specs.Prelude.{◌≡◌, ◌≤◌, ◌*◌, IfOk};
+ghost use Rattle.ov_base.specs.declared.limits.TheConstants.{MAX_SET_WORDS, MAX_USERS};
+ghost use Rattle.ov_history.specs.Catalogue.{empty_catalogue};
 ghost use Rattle.ov_state.specs.Contents.{IsWell};
 
-use crate::filed::Filed;
-use indexmap::{IndexMap, IndexSet};
+use crate::files::Files;
+use indexmap::IndexSet;
 use ov_base::{Memory, Mode, Name};
 use ov_base_layer::BaseLayer;
-use ov_graph::Graph;
+use ov_graph::{Graph, ListGraph};
 use ov_tokens::{Base, Surface};
 use std::alloc::Global;
 use std::marker::Model;
 
-/// The catalogue over two graphs: the users and the files by number and by name, both layers, and
-/// the stored bytes.
+/// The words of a set of users, each of 64: so wide is the set of all users of a store.
+pub const WIDTH: usize = 4;
+
+/// The catalogue over graphs that are lists.
+pub type Catalogue = State<ListGraph<Base, WIDTH>, ListGraph<Surface, WIDTH>, WIDTH>;
+
+/// The catalogue over two graphs: the users and the files by number and by name, and both layers.
 #[derive(Drop)]
 pub struct State<B: Graph<Base, W>, S: Graph<Surface, W>, const W: usize> {
     pub(crate) mode: Mode,
@@ -21,23 +27,23 @@ pub struct State<B: Graph<Base, W>, S: Graph<Surface, W>, const W: usize> {
     pub(crate) users: IndexSet<Name>,
     pub(crate) base: BaseLayer<B, W>,
     pub(crate) surface: S,
-    pub(crate) files: IndexMap<Name, Filed>,
+    pub(crate) files: Files,
     pub(crate) size: u64,
 }
 
 impl<B: Graph<Base, W>, S: Graph<Surface, W>, const W: usize> Model for State<B, S, W> {
     ghost use Rattle.std.specs.Prelude.{◌*◌};
     ghost use Rattle.indexmap.specs.IndexSet.{spare as spare_values};
-    ghost use Rattle.indexmap.specs.IndexMap.{spare as spare_entries};
-    ghost use Rattle.ov_state.specs.Contents.{Held, IsWhole, shown_by};
+    ghost use Rattle.ov_state.specs.Contents.{catalogue_by, Held, IsWhole};
 
     ghost Value = { Held };
 
     ghost view = { λ s. record {
-      shown = shown_by s.mode s.epoch s.users.keys s.base (S.contents s.surface) s.files.entries;
+      catalogue = catalogue_by
+          s.mode s.epoch s.users.keys s.base (S.contents s.surface) s.files.files;
       room = record {
         users = spare_values s.users;
-        files = spare_entries s.files;
+        files = s.files.spare;
         grants = s.base.spare_grants;
         base_sets = s.base.graph.spare_sets;
         base_edges = s.base.graph.spare_edges;
@@ -47,14 +53,16 @@ impl<B: Graph<Base, W>, S: Graph<Surface, W>, const W: usize> Model for State<B,
     } };
 
     ghost invariant = { λ s. IsWhole (64 * W)
-        (shown_by s.mode s.epoch s.users.keys s.base (S.contents s.surface) s.files.entries) s.size };
+        (catalogue_by s.mode s.epoch s.users.keys s.base (S.contents s.surface) s.files.files)
+        s.size };
 }
 
 impl<B: Graph<Base, W>, S: Graph<Surface, W>, const W: usize> State<B, S, W> {
-    /// No users and no files, at this epoch. W is at least 4, since a store has up to 256 users.
+    /// No users and no files, at this epoch. A set is wide enough for all users that a store may
+    /// have.
     pub fn new(alloc: Global, mode: Mode, first: u32) -> Result<Self, Memory>
-        requires { (4 ≤ W) × (W ≤ 1024) }
-        ensures { IfOk result (λ state. state.shown ≡ nothing mode first) }
+        requires { (MAX_USERS ≤ 64 * W) × (W ≤ MAX_SET_WORDS) }
+        ensures { IfOk result (λ state. state.catalogue ≡ empty_catalogue mode first) }
     {
         Ok(State {
             mode,
@@ -62,7 +70,7 @@ impl<B: Graph<Base, W>, S: Graph<Surface, W>, const W: usize> State<B, S, W> {
             users: IndexSet::new(alloc),
             base: BaseLayer::new(alloc)?,
             surface: S::new(alloc)?,
-            files: IndexMap::new(alloc),
+            files: Files::new(alloc),
             size: 0,
         })
     }

@@ -1,34 +1,44 @@
-//! A history of three users and two files in both modes, and updates that make no change.
-ghost use Rattle.ov_record.specs.Updates.{sealed_update};
-ghost use Rattle.ov_state.specs.Plans.{IsFitting};
+//! A history in both modes with the updates that it refuses, chains over its tokens, a small team's
+//! day, and the last epoch.
+ghost use Rattle.ov_state.specs.Plans.{plain_brief, IsFitting};
+
+mod rows;
+mod team;
 
 use super::*;
+use ov_base::limits::{LAST_EPOCH, MAX_USERS};
 use ov_base::{Key, Mode, Name, Octets, Refusal, UserSet};
-use ov_graph::ListGraph;
+use ov_graph::Graph;
 use ov_record::Update;
-use ov_tokens::{Base, Surface, Token, Tokens};
+use ov_tokens::{Token, Tokens};
+use rows::{FAULTS, READINGS, ROWS, Reading, Rewritten, Step};
 use std::alloc::Global;
 use std::process::Abort;
 
-type Catalogue = State<ListGraph<Base, 4>, ListGraph<Surface, 4>, 4>;
-
 const MASTER: Key = Key { bytes: [7; 32] };
 
-/// A state doesn't look into the tokens that it is given, but only at how many there are.
+/// A catalogue doesn't look into the tokens that it is given, but only at how many there are.
 const TOKEN: Token = Token { bytes: [0; 32] };
 
-const TEXT: &[u8] = b"hello";
+/// The bytes of each file.
+const LENGTH: u32 = 5;
 
 fn name(rt: &impl Abort, text: &[u8]) -> Name {
     Name::read(text).expect(rt, "a name")
 }
 
-fn pair() -> UserSet<4> {
-    UserSet::empty().with(0).with(1)
+/// The set of these users.
+fn set_of(rt: &impl Abort, users: &[u32]) -> UserSet<WIDTH> {
+    let mut set = UserSet::empty();
+    for user in users {
+        assert!(rt; *user < MAX_USERS);
+        set = set.with(*user);
+    }
+    set
 }
 
 /// So many tokens.
-fn tokens(rt: &impl Abort, alloc: Global, count: u32) -> Tokens {
+fn tokens(rt: &impl Abort, alloc: Global, count: usize) -> Tokens {
     let mut tokens = Tokens::new(alloc);
     for _ in 0..count {
         tokens.push(TOKEN).expect(rt, "memory");
@@ -36,213 +46,153 @@ fn tokens(rt: &impl Abort, alloc: Global, count: u32) -> Tokens {
     tokens
 }
 
-/// Makes an update, which makes a change.
-fn make(rt: &impl Abort, alloc: Global, state: &mut Catalogue, update: Update<4>)
-    requires { IsFitting (sealed_update update) }
+/// The update of a table.
+fn brief(rt: &impl Abort, alloc: Global, step: Step) -> Brief<WIDTH>
+    ensures { IsFitting (plain_brief result) }
 {
-    let change = state.prepare(alloc, &MASTER, update);
-    state.commit(change.expect(rt, "a change"));
+    match step {
+        Step::Enrol(text) => Brief::Enrol {
+            name: name(rt, text),
+        },
+        Step::Create(text, users, count) => Brief::Create {
+            name: name(rt, text),
+            list: set_of(rt, users),
+            tokens: tokens(rt, alloc, count),
+            tag: [0; 32],
+            length: LENGTH,
+        },
+        Step::Grant(user, file, has_token) => Brief::Grant {
+            user,
+            file,
+            token: if has_token { Some(TOKEN) } else { None },
+        },
+        Step::Revoke(user, file) => Brief::Revoke { user, file },
+    }
+}
+
+/// Makes sure that these are the rewrites.
+fn expect_rewrites(rt: &impl Abort, rewrites: &[Rewrite], expected: &[Rewritten]) {
+    assert_eq!(rt; rewrites.len(), expected.len());
+    for (rewrite, row) in rewrites.iter().zip(expected) {
+        assert_eq!(rt; (rewrite.file, rewrite.old, rewrite.new), *row);
+        assert_eq!(rt; rewrite.length, LENGTH);
+    }
+}
+
+/// Makes an update, which makes a change with these rewrites.
+fn make(
+    rt: &impl Abort,
+    alloc: Global,
+    catalogue: &mut Catalogue,
+    step: Step,
+    expected: &[Rewritten],
+) {
+    let change = catalogue.prepare(alloc, &MASTER, brief(rt, alloc, step));
+    let change = change.expect(rt, "a change");
+    expect_rewrites(rt, change.rewrites(), expected);
+    catalogue.commit(change);
 }
 
 /// Makes sure that an update makes no change, for this reason.
 fn expect_fault(
     rt: &impl Abort,
     alloc: Global,
-    state: &mut Catalogue,
-    update: Update<4>,
+    catalogue: &mut Catalogue,
+    step: Step,
     fault: PrepareFault,
-)
-    requires { IsFitting (sealed_update update) }
-{
-    let answer = state.prepare(alloc, &MASTER, update);
+) {
+    let answer = catalogue.prepare(alloc, &MASTER, brief(rt, alloc, step));
     assert_eq!(rt; answer.err(), Some(fault));
 }
 
-/// Makes sure that an update is refused so.
-fn expect_refused(
-    rt: &impl Abort,
-    alloc: Global,
-    state: &mut Catalogue,
-    update: Update<4>,
-    why: Refusal,
-)
-    requires { IsFitting (sealed_update update) }
-{
-    expect_fault(rt, alloc, state, update, PrepareFault::Refused(why));
-}
-
-/// The creation of a file, with so many tokens.
-fn create(rt: &impl Abort, alloc: Global, text: &[u8], list: UserSet<4>, count: u32) -> Update<4>
-    ensures { IsFitting (sealed_update result) }
-{
-    Update::Create {
-        name: name(rt, text),
-        list,
-        tokens: tokens(rt, alloc, count),
-        tag: [0; 32],
-        bytes: Octets::copy(alloc, TEXT).expect(rt, "memory"),
+/// The catalogue after all of the rows.
+fn after_rows(rt: &impl Abort, alloc: Global, mode: Mode) -> Catalogue {
+    let mut catalogue: Catalogue = State::new(alloc, mode, 0).expect(rt, "memory");
+    for row in &ROWS {
+        let expected = match mode {
+            Mode::Delta => row.delta,
+            Mode::Full => row.full,
+        };
+        make(rt, alloc, &mut catalogue, row.step, expected);
     }
+    catalogue
 }
 
-fn enrol(rt: &impl Abort, alloc: Global, state: &mut Catalogue, text: &[u8]) {
-    let name = name(rt, text);
-    make(rt, alloc, state, Update::Enrol { name });
-}
-
-/// Makes sure that a file has this list, surface and generation. Only a file with no surface shows
-/// the bytes that came with its creation.
-fn expect_file(
-    rt: &impl Abort,
-    state: &Catalogue,
-    file: u32,
-    list: &UserSet<4>,
-    stands: (Option<u32>, u32),
-) {
-    let (name, filed) = state.file_at(file).expect(rt, "a file");
-    assert!(rt; state.list(name).expect(rt, "a list") == *list);
-    assert_eq!(rt; (filed.surface, filed.generation), stands);
-    assert_eq!(rt; filed.bytes.as_slice() == TEXT, filed.surface.is_none());
-}
-
-/// Where the files stand in a mode: the first after it is granted, revoked and granted again, and
-/// the second after the first grant.
-struct Row {
-    mode: Mode,
-    surface_nodes: u32,
-    granted: (Option<u32>, u32),
-    revoked: (Option<u32>, u32),
-    again: (Option<u32>, u32),
-    sibling: (Option<u32>, u32),
-}
-
-const ROWS: [Row; 2] = [
-    Row {
-        mode: Mode::Delta,
-        surface_nodes: 4,
-        granted: (None, 4),
-        revoked: (Some(3), 7),
-        again: (None, 8),
-        sibling: (Some(3), 6),
-    },
-    Row {
-        mode: Mode::Full,
-        surface_nodes: 5,
-        granted: (Some(4), 6),
-        revoked: (Some(3), 7),
-        again: (Some(4), 8),
-        sibling: (Some(3), 5),
-    },
-];
-
-/// Users a, b and c, and two files for a and b.
-fn two_files(rt: &impl Abort, alloc: Global, state: &mut Catalogue) {
-    for text in [b"a", b"b", b"c"] {
-        enrol(rt, alloc, state, text);
-    }
-    make(rt, alloc, state, create(rt, alloc, b"f1", pair(), 2));
-    make(rt, alloc, state, create(rt, alloc, b"f2", pair(), 0));
-}
-
-/// Grants the first file to c.
-fn grant(
-    rt: &impl Abort,
-    alloc: Global,
-    state: &mut Catalogue,
-    token: Option<Token>,
-    row: &Row,
-    stands: (Option<u32>, u32),
-) {
-    let (user, file) = (2, 0);
-    make(rt, alloc, state, Update::Grant { user, file, token });
-    expect_file(rt, state, 0, &pair().with(2), stands);
-    expect_file(rt, state, 1, &pair(), row.sibling);
-}
-
-/// Revokes the first file from c.
-fn revoke(rt: &impl Abort, alloc: Global, state: &mut Catalogue, row: &Row) {
-    make(rt, alloc, state, Update::Revoke { user: 2, file: 0 });
-    expect_file(rt, state, 0, &pair(), row.revoked);
-    expect_file(rt, state, 1, &pair(), row.sibling);
-}
-
-fn expect_sizes(rt: &impl Abort, state: &Catalogue, surface_nodes: u32) {
+fn expect_sizes(rt: &impl Abort, catalogue: &Catalogue, surface_nodes: u32) {
     let sizes = Sizes {
         users: 3,
-        files: 2,
-        base_nodes: 4,
+        files: 5,
+        base_nodes: 5,
         surface_nodes,
         grants: 1,
-        bytes: 10,
+        bytes: 25,
     };
-    assert_eq!(rt; state.sizes(), sizes);
-}
-
-fn grants_of_one_file(rt: &impl Abort, alloc: Global, row: &Row) {
-    let mut state = State::new(alloc, row.mode, 0).expect(rt, "memory");
-    two_files(rt, alloc, &mut state);
-    grant(rt, alloc, &mut state, Some(TOKEN), row, row.granted);
-    revoke(rt, alloc, &mut state, row);
-    grant(rt, alloc, &mut state, None, row, row.again);
-    expect_sizes(rt, &state, row.surface_nodes);
+    assert_eq!(rt; catalogue.sizes(), sizes);
 }
 
 #[test]
-fn grants_of_one_file_in_both_modes(rt: HostRuntime) {
-    for row in &ROWS {
-        grants_of_one_file(&rt, rt.alloc(), row);
+fn a_history_in_both_modes(rt: HostRuntime) {
+    for (mode, surface_nodes) in [(Mode::Delta, 4), (Mode::Full, 6)] {
+        let mut catalogue = after_rows(&rt, rt.alloc(), mode);
+        for (step, fault) in &FAULTS {
+            expect_fault(&rt, rt.alloc(), &mut catalogue, *step, *fault);
+        }
+        assert_eq!(rt; (catalogue.mode(), catalogue.epoch()), (mode, 11));
+        expect_sizes(&rt, &catalogue, surface_nodes);
     }
 }
 
-/// Refusals after two files for a and b, of three users.
-fn refusals(rt: &impl Abort, alloc: Global, state: &mut Catalogue) {
-    let rows = [
-        (3, 2, Refusal::NoUser),
-        (0, 2, Refusal::NoFile),
-        (0, 0, Refusal::Listed),
-    ];
-    for (user, file, why) in rows {
-        let token = None;
-        let update = Update::Grant { user, file, token };
-        expect_refused(rt, alloc, state, update, why);
-    }
-    let update = Update::Revoke { user: 2, file: 0 };
-    expect_refused(rt, alloc, state, update, Refusal::NotListed);
-    let update = create(rt, alloc, b"f2", pair(), 7);
-    expect_refused(rt, alloc, state, update, Refusal::Taken);
-}
-
-/// Updates after two files for a and b, of three users, that have a token too many or too few.
-fn wrong_parts(rt: &impl Abort, alloc: Global, state: &mut Catalogue) {
-    let tokens = PrepareFault::BadPlan {
-        at: 1 + (1 + 2) + 32,
-    };
-    let more = create(rt, alloc, b"f3", pair(), 1);
-    expect_fault(rt, alloc, state, more, tokens);
-    let fewer = create(rt, alloc, b"f3", pair().with(2), 1);
-    expect_fault(rt, alloc, state, fewer, tokens);
-    let access = PrepareFault::BadPlan { at: 9 };
-    let (user, file, token) = (2, 0, None);
-    let update = Update::Grant { user, file, token };
-    expect_fault(rt, alloc, state, update, access);
+/// Makes sure that a reader gets these chains.
+fn expect_reading(rt: &impl Abort, alloc: Global, catalogue: &Catalogue, row: &Reading) {
+    let (user, file) = (name(rt, row.user), name(rt, row.file));
+    let chained = catalogue.chain(alloc, &user, &file).expect(rt, "chains");
+    let stands = (chained.file, chained.generation, chained.length);
+    assert_eq!(rt; stands, (row.number, row.generation, LENGTH));
+    assert_eq!(rt; (chained.epoch, chained.base.root), (11, row.root));
+    assert_eq!(rt; chained.surface.is_some(), row.has_surface);
+    assert_eq!(rt; access_key_by(&MASTER, &chained.base).bytes, row.access_key);
 }
 
 #[test]
-fn updates_that_make_no_change(rt: HostRuntime) {
-    let alloc = rt.alloc();
-    let mut state = State::new(alloc, Mode::Delta, 0).expect(&rt, "memory");
-    two_files(&rt, alloc, &mut state);
-    refusals(&rt, alloc, &mut state);
-    wrong_parts(&rt, alloc, &mut state);
-    assert_eq!(rt; state.epoch(), 5);
+fn chains_of_readers(rt: HostRuntime) {
+    let catalogue = after_rows(&rt, rt.alloc(), Mode::Delta);
+    for row in &READINGS {
+        expect_reading(&rt, rt.alloc(), &catalogue, row);
+    }
+    let (user, file) = (name(&rt, b"c"), name(&rt, b"f2"));
+    let none = catalogue.chain(rt.alloc(), &user, &file);
+    assert_eq!(rt; none.err(), Some(ChainFault::Refused(Refusal::NoPath)));
+    assert_eq!(rt; catalogue.user_number(&user), Some(2));
+    assert!(rt; *catalogue.user_at(2).expect(&rt, "a user") == user);
+    assert_eq!(rt; catalogue.surface().count(), 4);
+}
+
+/// The update that creates a file for nobody, whose bytes are handed out again beside its brief.
+#[test]
+fn the_brief_of_an_update(rt: HostRuntime) {
+    let update: Update<WIDTH> = Update::Create {
+        name: name(&rt, b"f"),
+        list: UserSet::empty(),
+        tokens: Tokens::new(rt.alloc()),
+        tag: [0; 32],
+        bytes: Octets::copy(rt.alloc(), b"hello").expect(&rt, "memory"),
+    };
+    let (brief, bytes) = Brief::of(update);
+    assert!(rt; bytes.expect(&rt, "bytes").as_slice() == b"hello".as_slice());
+    assert!(rt; matches!(brief, Brief::Create { length: LENGTH, .. }));
 }
 
 #[test]
 fn the_last_epoch(rt: HostRuntime) {
-    let alloc = rt.alloc();
-    let mut state = State::new(alloc, Mode::Full, 4294967294).expect(&rt, "memory");
-    enrol(&rt, alloc, &mut state, b"a");
-    for (text, why) in [(b"b", Refusal::Spent), (b"a", Refusal::Taken)] {
-        let name = name(&rt, text);
-        expect_refused(&rt, alloc, &mut state, Update::Enrol { name }, why);
+    let (alloc, first) = (rt.alloc(), LAST_EPOCH - 1);
+    let mut catalogue: Catalogue = State::new(alloc, Mode::Full, first).expect(&rt, "memory");
+    make(&rt, alloc, &mut catalogue, Step::Enrol(b"a"), &[]);
+    let rows = [
+        (Step::Enrol(b"b"), Refusal::Spent),
+        (Step::Enrol(b"a"), Refusal::Taken),
+        (Step::Create(b"f", &[], 1), Refusal::Spent),
+    ];
+    for (step, why) in rows {
+        expect_fault(&rt, alloc, &mut catalogue, step, PrepareFault::Refused(why));
     }
 }

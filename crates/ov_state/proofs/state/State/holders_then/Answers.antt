@@ -6,5 +6,5 @@ use Rattle.ov_state.proofs.state.State.holders_then.Goals as goal
 pub returns-then-cover : goal.returns-then-cover
 returns-then-cover g c =
     c.copy.ensures
-    ∙ sym (fresh_holders (64 * g.row.W) c.args.self.now.shown c.args.list.now c.known.ensures
+    ∙ sym (fresh_holders (64 * g.row.W) c.args.self.now.catalogue c.args.list.now c.known.ensures
     (sym (ap (λ (cover : Cover). cover.fresh) c.requires) ∙ c.if-cover.true))

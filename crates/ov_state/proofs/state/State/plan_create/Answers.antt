@@ -6,48 +6,48 @@ use Rattle.ov_state.proofs.state.State.plan_create.Goals as goal
 
 pub returns-in-Some : goal.returns-in-Some
 returns-in-Some g c =
-    refused_before (64 * g.row.W) c.args.surface.now.bytes c.args.self.now.shown c.args.name c.args.list c.args.tokens c.args.tag c.args.bytes
-    c.known.ensures (length c.as_slice.result.now) c.in-Some.why (ap length c.as_slice.ensures)
+    refused_before (64 * g.row.W) c.args.surface.now.bytes c.args.self.now.catalogue c.args.name c.args.list c.args.tokens c.args.tag c.args.size
+    c.known.ensures c.in-Some.why
     (sym c.refusal_create.ensures ∙ c.in-Some.is)
 
 pub site-requires : goal.site-requires
 site-requires g c =
-    let below = users_there c.args.self.now.shown c.args.name c.args.list (length c.as_slice.result.now)
+    let below = users_there c.args.self.now.catalogue c.args.name c.args.list c.args.size
     (sym c.refusal_create.ensures ∙ c.in_default.is) in
     search rules
 
 pub returns-in_err-site : goal.returns-in_err-site
 returns-in_err-site g c =
-    let none = refused_site (64 * g.row.W) c.args.surface.now.bytes c.args.self.now.shown c.args.name c.args.list c.args.tokens c.args.tag c.args.bytes
-    c.known.ensures (length c.as_slice.result.now) (ap length c.as_slice.ensures)
-    (sym c.refusal_create.ensures ∙ c.in_default.is) c.in_err-site.field-0.0 c.in_err-site.ensures.err in
+    let none = refused_site (64 * g.row.W) c.args.surface.now.bytes c.args.self.now.catalogue c.args.name c.args.list c.args.tokens c.args.tag c.args.size
+    c.known.ensures
+    (sym c.refusal_create.ensures ∙ c.in_default.is) g.row.W c.in_err-site.field-0.0 c.in_err-site.ensures.err in
     search rules
 
 pub returns-then-is_spent : goal.returns-then-is_spent
 returns-then-is_spent g c =
-    refused_spent (64 * g.row.W) c.args.surface.now.bytes c.args.self.now.shown c.args.name c.args.list c.args.tokens c.args.tag c.args.bytes
-    c.known.ensures (length c.as_slice.result.now) (ap length c.as_slice.ensures)
+    refused_spent (64 * g.row.W) c.args.surface.now.bytes c.args.self.now.catalogue c.args.name c.args.list c.args.tokens c.args.tag c.args.size
+    c.known.ensures
     (sym c.refusal_create.ensures ∙ c.in_default.is) c.in_ok-site.ensures.ok.few (sym c.is_spent.ensures ∙ c.if-is_spent.true)
 
 pub returns-then-as_slice : goal.returns-then-as_slice
 returns-then-as_slice g c = (
-  not_refused (64 * g.row.W) c.args.surface.now.bytes c.args.self.now.shown c.args.name c.args.list c.args.tokens c.args.tag c.args.bytes
-      c.known.ensures (length c.as_slice.result.now) (ap length c.as_slice.ensures)
+  not_refused (64 * g.row.W) c.args.surface.now.bytes c.args.self.now.catalogue c.args.name c.args.list c.args.tokens c.args.tag c.args.size
+      c.known.ensures
       (sym c.refusal_create.ensures ∙ c.in_default.is) c.in_ok-site.ensures.ok.few (sym c.is_spent.ensures ∙ c.if-is_spent.false),
   λ parts.
       c.if-as_slice.true
-      (ap length c.as_slice-2.ensures ∙ parts
-      ∙ ap (λ (cover : Cover). length cover.from) (sym c.in_ok-site.ensures.ok.cover) ∙ sym (ap length c.as_slice-3.ensures)),
+      (ap length c.as_slice.ensures ∙ parts
+      ∙ ap (λ (cover : Cover). length cover.from) (sym c.in_ok-site.ensures.ok.cover) ∙ sym (ap length c.as_slice-2.ensures)),
   c.tokens_place.ensures,
 )
 
 pub returns : goal.returns
 returns g c =
-    creation (64 * g.row.W) c.args.surface.now.bytes c.args.self.now.shown c.args.name c.args.list c.args.tokens c.args.tag c.args.bytes
-    c.in_ok-site.site c.creation.result c.known.ensures c.in_ok-site.ensures.ok c.creation.ensures
-    (not_refused (64 * g.row.W) c.args.surface.now.bytes c.args.self.now.shown c.args.name c.args.list c.args.tokens c.args.tag c.args.bytes
-    c.known.ensures (length c.as_slice.result.now) (ap length c.as_slice.ensures)
+    creation (64 * g.row.W) c.args.surface.now.bytes c.args.self.now.catalogue c.args.name c.args.list c.args.tokens c.args.tag c.args.size
+    c.in_ok-site.site c.in_ok-creation.field-0 c.known.ensures c.in_ok-site.ensures.ok c.in_ok-creation.ensures
+    (not_refused (64 * g.row.W) c.args.surface.now.bytes c.args.self.now.catalogue c.args.name c.args.list c.args.tokens c.args.tag c.args.size
+    c.known.ensures
     (sym c.refusal_create.ensures ∙ c.in_default.is) c.in_ok-site.ensures.ok.few (sym c.is_spent.ensures ∙ c.if-is_spent.false))
-    (sym (ap length c.as_slice-2.ensures) ∙ c.if-as_slice.false ∙ ap length c.as_slice-3.ensures
+    (sym (ap length c.as_slice.ensures) ∙ c.if-as_slice.false ∙ ap length c.as_slice-2.ensures
     ∙ ap (λ (cover : Cover). length cover.from) c.in_ok-site.ensures.ok.cover)
     c.requires

@@ -5,44 +5,46 @@ use Rattle.ov_graph.specs.Reach.{IsRooted}
 use Rattle.ov_surface.specs.Wanted.{wanted_surface}
 use Rattle.ov_state.specs.Contents.{Held}
 use Rattle.ov_state.specs.NewFiles.{want_then, HasNoSite}
-use Rattle.ov_state.specs.Resurfacing.{nodes_planned, with_want, IsFull, IsTarget}
-use Rattle.ov_state.proofs.Sites.{none_planned, wanted_rooted, site_is, surface_full}
+use Rattle.ov_state.specs.Relistings.{nodes_planned, with_want, IsFull, IsSurfaceFor}
+use Rattle.ov_state.proofs.PlannedNodes.{none-planned}
+use Rattle.ov_state.proofs.Sites.{wanted_rooted, site_is, surface_full}
 use Rattle.ov_state.proofs.state.State.site.Goals as goal
+use Rattle.ov_base.specs.declared.limits.TheConstants.{MAX_LAYER_NODES}
 
-pub target-requires : goal.target-requires
-target-requires g c =
-    let few = subst (λ (held : Held). length held.shown.surface.sets ≤ 4096) (sym c.self.view_is) c.known.ensures.sound.surface.few in
-    let planned = none_planned (g.S.Graph.contents c.self.inside.surface).sets c.new-surfaces.result few c.new-surfaces.ensures.fresh c.new-surfaces.ensures.sets in
-    let rooted = subst (λ (held : Held). IfSome c.wanted-want.result (IsRooted held.shown.surface.sets)) (sym c.self.view_is)
-    (wanted_rooted (length c.args.self.now.shown.users) c.args.self.now.shown.surface c.self.inside.mode c.args.list.now
+pub surface_for-requires : goal.surface_for-requires
+surface_for-requires g c =
+    let few = subst (λ (held : Held). length held.catalogue.surface.sets ≤ MAX_LAYER_NODES) (sym c.self.view_is) c.known.ensures.sound.surface.few in
+    let planned = none-planned (g.S.Graph.contents c.self.inside.surface).sets c.new-new.result few c.new-new.ensures.nodes c.new-new.ensures.sets in
+    let rooted = subst (λ (held : Held). IfSome c.wanted-want.result (IsRooted held.catalogue.surface.sets)) (sym c.self.view_is)
+    (wanted_rooted (length c.args.self.now.catalogue.users) c.args.self.now.catalogue.surface c.self.inside.mode c.args.list.now
     c.holders_then-holders.result c.wanted-want.result c.known.ensures.sound.surface c.requires c.wanted-want.ensures) in
     (search rules, (search rules, (planned, rooted)))
 
 pub returns-in_err-to-clause-err : goal.returns-in_err-to-clause-err
 returns-in_err-to-clause-err g c =
-    let wanted : c.wanted-want.result ≡ want_then c.args.self.now.shown c.args.list.now =
+    let wanted : c.wanted-want.result ≡ want_then c.args.self.now.catalogue c.args.list.now =
     c.wanted-want.ensures
-    ∙ (λ i. wanted_surface (ap (λ (held : Held). held.shown.mode) c.self.view_is i) c.args.list.now (c.holders_then-holders.ensures i)) in
-    let full = subst (λ (held : Held). IsFull (with_want c.args.master.now.bytes (nodes_planned held.shown.surface c.new-surfaces.result) c.wanted-want.result).sets c.in_err-to.field-0.0)
+    ∙ (λ i. wanted_surface (ap (λ (held : Held). held.catalogue.mode) c.self.view_is i) c.args.list.now (c.holders_then-holders.ensures i)) in
+    let full = subst (λ (held : Held). IsFull (with_want c.args.master.now.bytes (nodes_planned held.catalogue.surface c.new-new.result) c.wanted-want.result).sets c.in_err-to.field-0.0)
     c.self.view_is c.in_err-to.ensures.err in
-    let none : HasNoSite c.args.master.now.bytes c.args.self.now.shown c.args.list.now c.in_err-to.field-0.0 =
-    surface_full c.args.master.now.bytes c.args.self.now.shown c.args.list.now c.wanted-want.result c.new-surfaces.result c.in_err-to.field-0.0
-    c.new-surfaces.ensures.fresh wanted full in
+    let none : HasNoSite c.args.master.now.bytes c.args.self.now.catalogue c.args.list.now c.in_err-to.field-0.0 =
+    surface_full c.args.master.now.bytes c.args.self.now.catalogue c.args.list.now c.wanted-want.result c.new-new.result c.in_err-to.field-0.0
+    c.new-new.ensures.nodes wanted full in
     search rules
 
 pub returns-clause-ok : goal.returns-clause-ok
 returns-clause-ok g c =
-    let wanted : c.wanted-want.result ≡ want_then c.args.self.now.shown c.args.list.now =
+    let wanted : c.wanted-want.result ≡ want_then c.args.self.now.catalogue c.args.list.now =
     c.wanted-want.ensures
-    ∙ (λ i. wanted_surface (ap (λ (held : Held). held.shown.mode) c.self.view_is i) c.args.list.now (c.holders_then-holders.ensures i)) in
-    let base : c.self.inside.base.graph.sets ≡ c.args.self.now.shown.base.sets = ap (λ (held : Held). held.shown.base.sets) c.self.view_is in
-    site_is c.args.master.now.bytes c.args.self.now.shown c.args.list.now c.in_ok-cover.cover c.wanted-want.result c.in_ok-to.to
-    c.new-surfaces.result c.target.new.self
+    ∙ (λ i. wanted_surface (ap (λ (held : Held). held.catalogue.mode) c.self.view_is i) c.args.list.now (c.holders_then-holders.ensures i)) in
+    let base : c.self.inside.base.graph.sets ≡ c.args.self.now.catalogue.base.sets = ap (λ (held : Held). held.catalogue.base.sets) c.self.view_is in
+    site_is c.args.master.now.bytes c.args.self.now.catalogue c.args.list.now c.in_ok-cover.cover c.wanted-want.result c.in_ok-to.to
+    c.new-new.result c.surface_for.new.self
     (c.in_ok-cover.ensures.cover ∙ ap (λ sets. plan_of sets c.args.list.now) base)
     c.known.ensures.sound.base.few
     (λ many fresh.
     let e = c.in_ok-cover.ensures.full.1 (ap length base ∙ many, ap (λ sets. (plan_of sets c.args.list.now).fresh) base ∙ fresh) in
     cc)
-    c.new-surfaces.ensures.fresh wanted
-    (subst (λ (held : Held). IsTarget c.args.master.now.bytes held.shown.surface c.wanted-want.result c.new-surfaces.result c.target.new.self c.in_ok-to.to)
+    c.new-new.ensures.nodes wanted
+    (subst (λ (held : Held). IsSurfaceFor c.args.master.now.bytes held.catalogue.surface c.wanted-want.result c.new-new.result c.surface_for.new.self c.in_ok-to.to)
     c.self.view_is c.in_ok-to.ensures.ok)

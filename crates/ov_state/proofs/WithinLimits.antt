@@ -1,0 +1,44 @@
+-- An update that isn't refused and has its parts is within the limits of its spelling.
+use Rattle.std.proofs.Common.{◌≡◌, ℕ, ◌<◌, ◌≤◌, Bool, true, false, not, length, refl, arith}
+use Rattle.std.specs.Prelude.{nat_lt}
+use Rattle.std.proofs.lemmas.Bool.Decides.{nat_tests}
+use Rattle.std.proofs.lemmas.Nat.{ones-le}
+use Rattle.ov_base.specs.Sets.{IsBelow, size}
+use Rattle.ov_base.proofs.SetLaws.{IsBelow-small}
+use Rattle.ov_graph.proofs.GraphLaws.{plan-few}
+use Rattle.ov_history.specs.Briefs.{Brief, BriefEnrol, BriefCreate, BriefGrant, BriefRevoke, outer}
+use Rattle.ov_history.specs.Catalogue.{Catalogue, outline, matrix_shown}
+use Rattle.ov_history.specs.Refusals.{tests_of}
+use Rattle.ov_history.proofs.SoundTests.{files_shown-length, NoneApplies, none_applies, accepted}
+use Rattle.ov_state.specs.Contents.{IsWell}
+use Rattle.ov_state.specs.Plans.{IsFitting, IsTaken, IsWithinLimits}
+use Rattle.ov_base.specs.declared.limits.TheConstants.{MAX_FILES, MAX_USERS}
+
+-- a number that is there
+there : (m n most : ℕ) → not (nat_lt m n) ≡ false → n ≤ most → m < most
+there m n most e few = by_test (nat_lt m n) refl e where
+  by_test : (b : Bool) → nat_lt m n ≡ b → not b ≡ false → m < most
+  by_test true is e = grind (arith, nat_tests)
+  by_test false is e = absurd (cc)
+
+-- the users of a set below some number are no more than that
+few_users : (users list : ℕ) → IsBelow users list → size list ≤ users
+few_users users list below = ones-le users list (IsBelow-small users list below)
+
+module _ (limit : ℕ) (s : Catalogue) where
+  pub within_limits : (b : Brief) → IsWell limit s → IsFitting b → IsTaken s b → IsWithinLimits b
+  within_limits (BriefEnrol name) well fits taken = tt
+  within_limits (BriefCreate name list tokens tag bytes) well fits (accepts, parts) = (
+    omega (arith, parts, plan-few s.base.sets list, few_users (length s.users) list (accepted s (BriefCreate name list tokens tag bytes) accepts).0, well.users),
+    fits,
+  )
+  within_limits (BriefGrant user file token) well fits (accepts, parts) =
+      let passed : NoneApplies (tests_of (matrix_shown s) (outline s) s.epoch (outer (BriefGrant user file token))) = none_applies (tests_of (matrix_shown s) (outline s) s.epoch (outer (BriefGrant user file token))) accepts in (
+        there user (length s.users) MAX_USERS passed.0 well.users,
+        there file (length (matrix_shown s).files) MAX_FILES passed.1.0 (omega (arith, files_shown-length (outline s) s.files, well.files)),
+      )
+  within_limits (BriefRevoke user file) well fits (accepts, parts) =
+      let passed : NoneApplies (tests_of (matrix_shown s) (outline s) s.epoch (outer (BriefRevoke user file))) = none_applies (tests_of (matrix_shown s) (outline s) s.epoch (outer (BriefRevoke user file))) accepts in (
+        there user (length s.users) MAX_USERS passed.0 well.users,
+        there file (length (matrix_shown s).files) MAX_FILES passed.1.0 (omega (arith, files_shown-length (outline s) s.files, well.files)),
+      )

@@ -1,0 +1,113 @@
+//! Files by number, and by name.
+ghost use Rattle.std.specs.Prelude.{◌≡◌, ◌<◌, ◌≤◌, ◌++◌, ◌∷◌, [], false, length, option_map};
+ghost use Rattle.std.specs.Prelude.{slice_get, OnOk};
+ghost use Rattle.ov_base.specs.NameLists.{is_among};
+ghost use Rattle.ov_base.specs.declared.limits.TheConstants.{MAX_FILES};
+ghost use Rattle.ov_history.specs.Places.{change_at, IsNumber};
+ghost use Rattle.ov_state.specs.Entries.{filed_names, plain_file};
+ghost use Rattle.ov_state.specs.Changes.{rewritten};
+
+use crate::change::Rewrite;
+use indexmap::IndexMap;
+use ov_base::{Memory, Name};
+use std::alloc::Global;
+use std::marker::Model;
+
+/// A file as the catalogue has it: its name, where it stands in the layers, the tag of its
+/// plaintext, and how many bytes it has.
+#[derive(Drop)]
+pub struct FileEntry {
+    pub name: Name,
+    pub node: u32,
+    pub surface: Option<u32>,
+    pub generation: u32,
+    pub tag: [u8; 32],
+    pub length: u32,
+}
+
+/// The files: a file's number is its place in the list, and the names lead to numbers.
+#[derive(Drop)]
+pub(crate) struct Files {
+    list: Vec<FileEntry>,
+    numbers: IndexMap<Name, u32>,
+}
+
+impl Model for Files {
+    ghost use Rattle.std.specs.Prelude.{◌-◌, min, vec_capacity, vec_len};
+    ghost use Rattle.indexmap.specs.IndexMap.{spare as spare_entries};
+    ghost use Rattle.ov_state.specs.Entries.{plain_files, AreNumbered, FileList};
+
+    ghost Value = { FileList };
+
+    ghost view = { λ f. record {
+      files = plain_files f.list.items;
+      spare = min (vec_capacity f.list - vec_len f.list) (spare_entries f.numbers);
+    } };
+
+    ghost invariant = { λ f. AreNumbered (plain_files f.list.items) f.numbers.entries };
+}
+
+impl Files {
+    /// No files.
+    pub fn new(alloc: Global) -> Self
+        ensures { result.files ≡ [] }
+    {
+        Files {
+            list: Vec::new(alloc),
+            numbers: IndexMap::new(alloc),
+        }
+    }
+
+    /// How many there are.
+    pub fn count(&self) -> u32
+        ensures { result ≡ length self.now.files }
+    {
+        self.list.len() as u32
+    }
+
+    /// The file of this number.
+    pub fn get(&self, file: u32) -> Option<&FileEntry>
+        ensures { option_map (λ f. plain_file f.now) result ≡ slice_get self.now.files file }
+    {
+        self.list.get(file as usize)
+    }
+
+    /// The number of the file of this name.
+    pub fn number_of(&self, name: &Name) -> Option<u32>
+        ensures { IsNumber (filed_names self.now.files) name.now result }
+    {
+        self.numbers.get(name).copied()
+    }
+
+    /// Makes room for one more.
+    pub fn reserve(&mut self) -> Result<(), Memory>
+        ensures files { self.new.files ≡ self.old.files }
+        ensures room { OnOk result (1 ≤ self.new.spare) }
+    {
+        self.list.reserve(1)?;
+        self.numbers.reserve(1)?;
+        Ok(())
+    }
+
+    /// Appends a file, for which there is room. It takes no memory.
+    pub fn push(&mut self, file: FileEntry)
+        requires fresh { is_among file.name (filed_names self.old.files) ≡ false }
+        requires few { length self.old.files < MAX_FILES }
+        requires room { 1 ≤ self.old.spare }
+        ensures { self.new.files ≡ self.old.files ++ plain_file file ∷ [] }
+    {
+        let number = self.list.len() as u32;
+        let _ = self.numbers.insert(file.name.copy(), number);
+        let _ = self.list.push(file);
+    }
+
+    /// Gives a file its new surface, from this epoch on.
+    pub fn rewrite(&mut self, rewrite: Rewrite, epoch: u32)
+        requires { rewrite.file < length self.old.files }
+        ensures { self.new.files ≡ change_at (rewritten epoch rewrite) rewrite.file self.old.files }
+    {
+        let file = &mut self.list[rewrite.file as usize];
+        file.surface = rewrite.new;
+        file.generation = epoch;
+    }
+}

@@ -1,0 +1,157 @@
+//! What plans look up in a state.
+ghost use Rattle.std.specs.Prelude.{◌≡◌, ◌<◌, ◌≤◌, ◌+◌, ◌*◌, ◌||◌, Some, length, nat_le, nat_lt};
+ghost use Rattle.std.specs.Prelude.{slice_get, IfSome};
+ghost use Rattle.ov_base.specs.NameLists.{is_among};
+ghost use Rattle.ov_base.specs.Sets.{within};
+ghost use Rattle.ov_base.specs.declared.limits.TheConstants.{MAX_FILES, MAX_FILE_BYTES};
+ghost use Rattle.ov_base.specs.declared.limits.TheConstants.{MAX_LAYER_NODES, MAX_SET_WORDS};
+ghost use Rattle.ov_base.specs.declared.limits.TheConstants.{MAX_STORE_BYTES, MAX_USERS};
+ghost use Rattle.ov_history.specs.Layers.{holders, list_at, set_or};
+ghost use Rattle.ov_history.specs.Lists.{byte_sum, everyone};
+ghost use Rattle.ov_history.specs.Refusals.{is_last};
+ghost use Rattle.ov_history.specs.Catalogue.{matrix_shown, outline, place_of_file};
+ghost use Rattle.ov_history.specs.Sound.{IsPlaced};
+ghost use Rattle.ov_state.specs.Entries.{filed_names, plain_file};
+
+use crate::files::FileEntry;
+use crate::state::State;
+use ov_base::limits::{LAST_EPOCH, MAX_FILES, MAX_LAYER_NODES, MAX_STORE_BYTES, MAX_USERS};
+use ov_base::{Name, UserSet};
+use ov_graph::Graph;
+use ov_tokens::{Base, Surface};
+
+/// Whether each user of the set is one of so many.
+fn are_users<const W: usize>(users: u32, set: &UserSet<W>) -> bool
+    requires { (1 ≤ W) × (W ≤ MAX_SET_WORDS) }
+    ensures { result ≡ within set.now (everyone users) }
+{
+    for user in 0..64 * W as u32 {
+        if set.contains(user) && user >= users {
+            return false;
+        }
+    }
+    true
+}
+
+impl<B: Graph<Base, W>, S: Graph<Surface, W>, const W: usize> State<B, S, W> {
+    /// Whether there is a user of this number.
+    pub(crate) fn is_user(&self, user: u32) -> bool
+        ensures { result ≡ nat_lt user (length self.now.catalogue.users) }
+    {
+        (user as usize) < self.users.len()
+    }
+
+    /// Whether there is a file of this number.
+    pub(crate) fn is_file(&self, file: u32) -> bool
+        ensures { result ≡ nat_lt file (length self.now.catalogue.files) }
+    {
+        file < self.files.count()
+    }
+
+    /// Whether a user has this name.
+    pub(crate) fn has_user(&self, name: &Name) -> bool
+        ensures { result ≡ is_among name.now self.now.catalogue.users }
+    {
+        self.users.contains(name)
+    }
+
+    /// Whether a file has this name.
+    pub(crate) fn has_file(&self, name: &Name) -> bool
+        ensures { result ≡ is_among name.now (filed_names self.now.catalogue.files) }
+    {
+        self.files.number_of(name).is_some()
+    }
+
+    /// Whether each user of the set is enrolled.
+    pub(crate) fn has_all(&self, set: &UserSet<W>) -> bool
+        ensures { result ≡ within set.now (everyone (length self.now.catalogue.users)) }
+    {
+        self.known();
+        are_users(self.users.len() as u32, set)
+    }
+
+    /// The file of a number.
+    pub(crate) fn entry(&self, file: u32) -> &FileEntry
+        requires { file < length self.now.catalogue.files }
+        ensures kept { slice_get self.now.catalogue.files file ≡ Some (plain_file result.now) }
+        ensures placed { IsPlaced self.now.catalogue (plain_file result.now) }
+    {
+        self.known();
+        match self.files.get(file) {
+            Some(entry) => entry,
+            None => unreachable!(),
+        }
+    }
+
+    /// The holders of a file's base node.
+    pub(crate) fn holders(&self, entry: &FileEntry) -> UserSet<W>
+        requires { entry.now.node < length self.now.catalogue.base.sets }
+        ensures { result ≡ holders (outline self.now.catalogue) entry.now.node }
+    {
+        self.base.holders(entry.node)
+    }
+
+    /// The list of a file: the set of its surface node, or these holders of its base node where it
+    /// has no surface.
+    pub(crate) fn list_or(&self, entry: &FileEntry, held: &UserSet<W>) -> UserSet<W>
+        requires { IfSome entry.now.surface (λ node.
+            node < length self.now.catalogue.surface.sets) }
+        ensures { result ≡ set_or self.now.catalogue.surface.sets entry.now.surface held.now }
+    {
+        match entry.surface {
+            Some(node) => self.surface.set_of(node),
+            None => held.copy(),
+        }
+    }
+
+    /// The list of a file, whose holders are looked up only where it has no surface.
+    pub(crate) fn list_by(&self, entry: &FileEntry) -> UserSet<W>
+        requires { IsPlaced self.now.catalogue (plain_file entry.now) }
+        ensures { result ≡ list_at (outline self.now.catalogue)
+            (place_of_file (plain_file entry.now)) }
+    {
+        match entry.surface {
+            Some(node) => self.surface.set_of(node),
+            None => self.holders(entry),
+        }
+    }
+
+    /// Whether there are as many users as a store holds.
+    pub(crate) fn is_full_of_users(&self) -> bool
+        ensures { result ≡ nat_le MAX_USERS (length self.now.catalogue.users) }
+    {
+        self.users.len() >= MAX_USERS as usize
+    }
+
+    /// Whether there are as many files as a store holds.
+    pub(crate) fn is_full_of_files(&self) -> bool
+        ensures { result ≡ nat_le MAX_FILES (length self.now.catalogue.files) }
+    {
+        self.files.count() >= MAX_FILES
+    }
+
+    /// Whether the files would have more bytes than a store holds, with so many more.
+    pub(crate) fn is_full_of_bytes(&self, more: u32) -> bool
+        requires { more ≤ MAX_FILE_BYTES }
+        ensures { result ≡ nat_lt MAX_STORE_BYTES
+            (byte_sum (matrix_shown self.now.catalogue).files + more) }
+    {
+        self.known();
+        self.size + u64::from(more) > MAX_STORE_BYTES
+    }
+
+    /// Whether a layer has as many nodes as a store holds.
+    pub(crate) fn is_full_of_nodes(&self) -> bool
+        ensures { result ≡ (nat_le MAX_LAYER_NODES (length self.now.catalogue.base.sets)
+            || nat_le MAX_LAYER_NODES (length self.now.catalogue.surface.sets)) }
+    {
+        self.base.graph().count() >= MAX_LAYER_NODES || self.surface.count() >= MAX_LAYER_NODES
+    }
+
+    /// Whether no epoch is left.
+    pub(crate) fn is_spent(&self) -> bool
+        ensures { result ≡ is_last self.now.catalogue.epoch }
+    {
+        self.epoch >= LAST_EPOCH
+    }
+}

@@ -1,0 +1,4 @@
+pub mod Rewritten
+pub mod Vaults
+pub mod Prepared
+pub mod Standing

@@ -1,0 +1,28 @@
+-- What a vault contains: both halves of a store.
+use Rattle.std.specs.Prelude.{◌≡◌, ℕ, ◌<◌, ◌≤◌, List, [], ◌∷◌, length, slice_index_or}
+use Rattle.ov_base.specs.declared.limits.TheConstants.{MAX_FILE_BYTES}
+use Rattle.ov_history.specs.Catalogue.{Catalogue, Filed, no_filed}
+use Rattle.ov_state.specs.Contents.{Room}
+use Rattle.ov_state.specs.declared.change.Rewrite.{Rewrite}
+
+-- the catalogue and the room that it has, the stored bytes by file number, and for how many more files'
+-- bytes there is room
+pub record Store : Type 0 where
+  pub catalogue : Catalogue
+  pub room : Room
+  pub stored : List (List ℕ)
+  pub spare : ℕ
+
+-- there are stored bytes for each file of the catalogue, as many as it says
+pub record AreStored (files : List Filed) (stored : List (List ℕ)) : Type 0 where
+  pub many : length stored ≡ length files
+  pub lengths : (file : ℕ) → length (slice_index_or stored file []) ≡ (slice_index_or files file no_filed).length
+
+-- no file has more bytes than a file may have
+abbrev pub AreShort : List (List ℕ) → Type 0
+AreShort stored = (file : ℕ) → length (slice_index_or stored file []) ≤ MAX_FILE_BYTES
+
+-- each of these rewrites is of one of so many files
+abbrev pub AreRewritesOf : ℕ → List Rewrite → Type 0
+AreRewritesOf files [] = Unit {0}
+AreRewritesOf files (r ∷ rewrites) = (r.file < files) × AreRewritesOf files rewrites
