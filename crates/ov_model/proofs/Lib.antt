@@ -1,3 +1,6 @@
-pub mod Steps
-pub mod Runs
+pub mod Agreement
 mod Rows
+pub mod Runs
+pub mod Spellings
+pub mod Steps
+pub mod Streams

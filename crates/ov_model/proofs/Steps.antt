@@ -1,24 +1,34 @@
 -- Laws of one step.
-use Rattle.std.proofs.Common.{◌≡◌, ℕ, ◌+◌, List, refl, sym, ◌∙◌, Option, Some, None}
+use Rattle.std.proofs.Common.{◌≡◌, ℕ, ◌+◌, List, [], ◌∷◌, ◌++◌, length, refl, sym, ap, arith, ◌∙◌, Option, Some, None}
 use Rattle.ov_base.specs.declared.refusal.Refusal.{Refusal}
 use Rattle.ov_script.specs.declared.command.Command.{Command}
 use Rattle.ov_script.specs.declared.command.Command.TheVariants.{Enrol, Create, Grant, Revoke, Read, List as ListNames, Epoch as AskEpoch}
 use Rattle.ov_script.specs.declared.reply.Reply.TheVariants.{Accepted, Bytes, List as Listed, Refused}
-use Rattle.ov_history.specs.History.{Update, Enrolled, Created, Granted, Revoked, History, Matrix, matrix_of, epoch_of}
+use Rattle.ov_history.specs.History.{Matrix, matrix_of, epoch_of}
+use Rattle.ov_history.specs.Plain.{PlainUpdate, PlainEnrol, PlainCreate, PlainGrant, PlainRevoke, PlainHistory, history_of, measured, measured_all, with_plain}
 use Rattle.ov_history.specs.Lists.{user_number, file_number, set_named}
 use Rattle.ov_history.specs.Refusals.{refusal_of, read_refusal, list_refusal}
-use Rattle.ov_history.proofs.Pushing.{epoch_of-push}
 use Rattle.ov_model.specs.Step.{update_step, reply_or, reply_to, after}
+
+-- ---- one more update
+
+measured_all-push : (updates : List PlainUpdate) (u : PlainUpdate)
+    → length (measured_all (updates ++ u ∷ [])) ≡ length (measured_all updates) + 1
+measured_all-push [] u = refl
+measured_all-push (first ∷ updates) u = omega (arith, measured_all-push updates u)
+
+epoch-push : (h : PlainHistory) (u : PlainUpdate) → epoch_of (history_of (with_plain h u)) ≡ epoch_of (history_of h) + 1
+epoch-push h u = omega (arith, measured_all-push h.updates u)
 
 -- ---- what a reply says
 
-refused : (h : History) (u : Update) (found : Option Refusal) (why : Refusal) → (update_step h u found).0 ≡ Refused why → (update_step h u found).1 ≡ h
+refused : (h : PlainHistory) (u : PlainUpdate) (found : Option Refusal) (why : Refusal) → (update_step h u found).0 ≡ Refused why → (update_step h u found).1 ≡ h
 refused h u None why e = cc
 refused h u (Some other) why e = refl
 
-accepted : (h : History) (u : Update) (found : Option Refusal) (epoch : ℕ) → (update_step h u found).0 ≡ Accepted epoch
-    → (epoch ≡ epoch_of h + 1) × (epoch_of (update_step h u found).1 ≡ epoch)
-accepted h u None epoch e = let same : epoch_of h + 1 ≡ epoch = cc in (sym same, epoch_of-push h u ∙ same)
+accepted : (h : PlainHistory) (u : PlainUpdate) (found : Option Refusal) (epoch : ℕ) → (update_step h u found).0 ≡ Accepted epoch
+    → (epoch ≡ epoch_of (history_of h) + 1) × (epoch_of (history_of (update_step h u found).1) ≡ epoch)
+accepted h u None epoch e = let same : epoch_of (history_of h) + 1 ≡ epoch = cc in (sym same, epoch-push h u ∙ same)
 accepted h u (Some other) epoch e = cc
 
 -- a question is never answered as an update
@@ -30,47 +40,47 @@ not_names : (file : List ℕ) (names : List (List ℕ)) (found : Option Refusal)
 not_names file names None epoch e = cc
 not_names file names (Some why) epoch e = cc
 
-pub a_refusal_changes_nothing : (h : History) (command : Command) (why : Refusal) → reply_to h command ≡ Refused why → after h command ≡ h
-a_refusal_changes_nothing h (Enrol user) why e = let u : Update = Enrolled user in refused h u (refusal_of h u) why e
+pub a_refusal_changes_nothing : (h : PlainHistory) (command : Command) (why : Refusal) → reply_to h command ≡ Refused why → after h command ≡ h
+a_refusal_changes_nothing h (Enrol user) why e = let u : PlainUpdate = PlainEnrol user in refused h u (refusal_of (history_of h) (measured u)) why e
 a_refusal_changes_nothing h (Create file list bytes) why e =
-    let u : Update = Created file (set_named (matrix_of h).users list) bytes in refused h u (refusal_of h u) why e
+    let u : PlainUpdate = PlainCreate file (set_named (matrix_of (history_of h)).users list) bytes in refused h u (refusal_of (history_of h) (measured u)) why e
 a_refusal_changes_nothing h (Grant user file) why e =
-    let u : Update = Granted (user_number (matrix_of h) user) (file_number (matrix_of h) file) in refused h u (refusal_of h u) why e
+    let u : PlainUpdate = PlainGrant (user_number (matrix_of (history_of h)) user) (file_number (matrix_of (history_of h)) file) in refused h u (refusal_of (history_of h) (measured u)) why e
 a_refusal_changes_nothing h (Revoke user file) why e =
-    let u : Update = Revoked (user_number (matrix_of h) user) (file_number (matrix_of h) file) in refused h u (refusal_of h u) why e
+    let u : PlainUpdate = PlainRevoke (user_number (matrix_of (history_of h)) user) (file_number (matrix_of (history_of h)) file) in refused h u (refusal_of (history_of h) (measured u)) why e
 a_refusal_changes_nothing h (Read user file) why e = refl
 a_refusal_changes_nothing h (ListNames file) why e = refl
 a_refusal_changes_nothing h AskEpoch why e = refl
 
-pub an_update_raises_the_epoch : (h : History) (command : Command) (epoch : ℕ) → reply_to h command ≡ Accepted epoch
-    → (epoch ≡ epoch_of h + 1) × (epoch_of (after h command) ≡ epoch)
-an_update_raises_the_epoch h (Enrol user) epoch e = let u : Update = Enrolled user in accepted h u (refusal_of h u) epoch e
+pub an_update_raises_the_epoch : (h : PlainHistory) (command : Command) (epoch : ℕ) → reply_to h command ≡ Accepted epoch
+    → (epoch ≡ epoch_of (history_of h) + 1) × (epoch_of (history_of (after h command)) ≡ epoch)
+an_update_raises_the_epoch h (Enrol user) epoch e = let u : PlainUpdate = PlainEnrol user in accepted h u (refusal_of (history_of h) (measured u)) epoch e
 an_update_raises_the_epoch h (Create file list bytes) epoch e =
-    let u : Update = Created file (set_named (matrix_of h).users list) bytes in accepted h u (refusal_of h u) epoch e
+    let u : PlainUpdate = PlainCreate file (set_named (matrix_of (history_of h)).users list) bytes in accepted h u (refusal_of (history_of h) (measured u)) epoch e
 an_update_raises_the_epoch h (Grant user file) epoch e =
-    let u : Update = Granted (user_number (matrix_of h) user) (file_number (matrix_of h) file) in accepted h u (refusal_of h u) epoch e
+    let u : PlainUpdate = PlainGrant (user_number (matrix_of (history_of h)) user) (file_number (matrix_of (history_of h)) file) in accepted h u (refusal_of (history_of h) (measured u)) epoch e
 an_update_raises_the_epoch h (Revoke user file) epoch e =
-    let u : Update = Revoked (user_number (matrix_of h) user) (file_number (matrix_of h) file) in accepted h u (refusal_of h u) epoch e
+    let u : PlainUpdate = PlainRevoke (user_number (matrix_of (history_of h)) user) (file_number (matrix_of (history_of h)) file) in accepted h u (refusal_of (history_of h) (measured u)) epoch e
 an_update_raises_the_epoch h (Read user file) epoch e =
-    let m : Matrix = matrix_of h in
+    let m : Matrix = matrix_of (history_of h) in
     absurd (not_bytes user file _ (read_refusal m (user_number m user) (file_number m file)) epoch e)
 an_update_raises_the_epoch h (ListNames file) epoch e =
-    let m : Matrix = matrix_of h in absurd (not_names file _ (list_refusal m (file_number m file)) epoch e)
+    let m : Matrix = matrix_of (history_of h) in absurd (not_names file _ (list_refusal m (file_number m file)) epoch e)
 an_update_raises_the_epoch h AskEpoch epoch e = cc
 
 -- ---- the first epoch and the mode stay
 
-first-update : (h : History) (u : Update) (found : Option Refusal) → (update_step h u found).1.first ≡ h.first
+first-update : (h : PlainHistory) (u : PlainUpdate) (found : Option Refusal) → (update_step h u found).1.first ≡ h.first
 first-update h u None = refl
 first-update h u (Some why) = refl
 
-pub first-after : (h : History) (command : Command) → (after h command).first ≡ h.first
-first-after h (Enrol user) = let u : Update = Enrolled user in first-update h u (refusal_of h u)
-first-after h (Create file list bytes) = let u : Update = Created file (set_named (matrix_of h).users list) bytes in first-update h u (refusal_of h u)
+pub first-after : (h : PlainHistory) (command : Command) → (after h command).first ≡ h.first
+first-after h (Enrol user) = let u : PlainUpdate = PlainEnrol user in first-update h u (refusal_of (history_of h) (measured u))
+first-after h (Create file list bytes) = let u : PlainUpdate = PlainCreate file (set_named (matrix_of (history_of h)).users list) bytes in first-update h u (refusal_of (history_of h) (measured u))
 first-after h (Grant user file) =
-    let u : Update = Granted (user_number (matrix_of h) user) (file_number (matrix_of h) file) in first-update h u (refusal_of h u)
+    let u : PlainUpdate = PlainGrant (user_number (matrix_of (history_of h)) user) (file_number (matrix_of (history_of h)) file) in first-update h u (refusal_of (history_of h) (measured u))
 first-after h (Revoke user file) =
-    let u : Update = Revoked (user_number (matrix_of h) user) (file_number (matrix_of h) file) in first-update h u (refusal_of h u)
+    let u : PlainUpdate = PlainRevoke (user_number (matrix_of (history_of h)) user) (file_number (matrix_of (history_of h)) file) in first-update h u (refusal_of (history_of h) (measured u))
 first-after h (Read user file) = refl
 first-after h (ListNames file) = refl
 first-after h AskEpoch = refl

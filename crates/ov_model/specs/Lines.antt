@@ -2,10 +2,10 @@
 use Rattle.std.specs.Prelude.{ℕ, List, [], ◌∷◌, ◌++◌}
 use Rattle.ov_script.specs.Lines.{reply_line}
 use Rattle.ov_script.specs.declared.command.Command.{Command}
-use Rattle.ov_history.specs.History.{History}
+use Rattle.ov_history.specs.Plain.{PlainHistory}
 use Rattle.ov_model.specs.Step.{reply_to, after}
 
 -- the reply line of each command, at the history that the earlier ones leave
-abbrev pub lines : History → List Command → List ℕ
+abbrev pub lines : PlainHistory → List Command → List ℕ
 lines h [] = []
 lines h (command ∷ commands) = reply_line (reply_to h command) ++ lines (after h command) commands

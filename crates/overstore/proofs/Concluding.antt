@@ -4,14 +4,16 @@ use Rattle.std.specs.Prelude.{IfSome}
 use Rattle.std.proofs.Math.Seq.{take-append-add, take-append_seam}
 use Rattle.std.specs.Io.KnownBytes.{Appends, Keeps, prepend_known}
 use Rattle.std.proofs.KnownBytes.{Appends-trans, Appends-kept, Appends-nil}
+use Rattle.ov_base.specs.declared.limits.TheConstants.{MAX_SCRIPT_BYTES}
 use Rattle.ov_base.specs.declared.mode.Mode.{Mode}
 use Rattle.ov_script.specs.declared.command.Command.{Command}
 use Rattle.ov_script.specs.declared.reply.Reply.TheVariants.{End as EndReply}
 use Rattle.ov_script.specs.Lines.{reply_line}
-use Rattle.ov_script.specs.Reading.{IsScript, BeginsScript, limit, Ending, AtEnd, BadAt, TooLong}
+use Rattle.ov_script.specs.Reading.{IsScript, BeginsScript, Ending, AtEnd, BadAt, TooLong}
 use Rattle.ov_script.proofs.Readings.{one_reading, Reads-begins}
 use Rattle.ov_history.specs.History.{epoch_of}
-use Rattle.ov_history.proofs.Keeping.{kept_is_shown}
+use Rattle.ov_history.specs.Plain.{history_of}
+use Rattle.overstore.proofs.Stepping.{shows}
 use Rattle.ov_model.specs.Lines.{lines}
 use Rattle.ov_model.specs.Step.{after_all}
 use Rattle.overstore.specs.Answering.{Stops, AnsweredAll, AnsweredPart, EndsIn, Finishes, Concluded, StandsAtEnd, whole, part}
@@ -31,7 +33,7 @@ then_last mode text first last outcome code old mid new status is e p (inr q) =
 
 -- the commands of a reading are its first
 first_of : (text : List ℕ) (commands : List Command) (ending : Ending) → IsScript text commands ending → BeginsScript text commands
-first_of text commands ending reads = Reads-begins 1 limit text commands ending reads
+first_of text commands ending reads = Reads-begins 1 MAX_SCRIPT_BYTES text commands ending reads
 
 ends_or_memory : (mode : Mode) → (text last : List ℕ) (ending : Ending) (old mid new : Option (List ℕ)) (kept : Kept) (status : ℕ) (a : AnsweredAll mode text ending old mid kept)
     → last ≡ last_line (after_all (new_store mode) a.0) ending → EndsIn last (status_of (Answered ending)) mid new status ⊎ EndsIn memory_line 7 mid new status
@@ -52,9 +54,9 @@ part_of mode text old mid new status (commands, begins, (n, p)) six kept =
     part six (ReadFault, all ++ read_line, (commands, begins, refl), (length (take n all), subst (Appends old new) (sym front) (Appends-kept old mid new (take n all) p kept)))
 
 concluded_at : (mode : Mode) → (text : List ℕ) (stop : Stop) (old mid new : Option (List ℕ)) (kept : Kept) (n status : ℕ)
-    → Stops mode text stop old mid kept → Finishes stop n mid new status → n ≡ kept.shown.epoch → Concluded mode text old new status
+    → Stops mode text stop old mid kept → Finishes stop n mid new status → n ≡ kept.catalogue.epoch → Concluded mode text old new status
 concluded_at mode text End old mid new kept n status a f count =
-    let same : n ≡ epoch_of (after_all (new_store mode) a.0) = count ∙ (kept_is_shown kept.masters (after_all (new_store mode) a.0) kept.shown a.3).epoch in
+    let same : n ≡ epoch_of (history_of (after_all (new_store mode) a.0)) = count ∙ (shows kept (after_all (new_store mode) a.0) a.3).epoch in
     ends_or_memory mode text (reply_line (EndReply n)) AtEnd old mid new kept status a (ap (λ m. reply_line (EndReply m)) same) f
 concluded_at mode text (BadLine m) old mid new kept n status a f count = ends_or_memory mode text (last_line (new_store mode) (BadAt m)) (BadAt m) old mid new kept status a refl f
 concluded_at mode text Long old mid new kept n status a f count = ends_or_memory mode text (last_line (new_store mode) TooLong) TooLong old mid new kept status a refl (inl f)
@@ -66,7 +68,7 @@ concluded_at mode text Write old mid new kept n status a f count = part_of mode 
 
 -- where nothing of the script was taken before
 pub concluded : (mode : Mode) → (input : Option (List ℕ)) (stop : Stop) (old mid new : Option (List ℕ)) (kept : Kept) (n status : ℕ)
-    → IfSome (prepend_known [] input) (λ text. Stops mode text stop old mid kept) → Finishes stop n mid new status → n ≡ kept.shown.epoch
+    → IfSome (prepend_known [] input) (λ text. Stops mode text stop old mid kept) → Finishes stop n mid new status → n ≡ kept.catalogue.epoch
     → IfSome input (λ text. Concluded mode text old new status)
 concluded mode None stop old mid new kept n status s f count = tt
 concluded mode (Some text) stop old mid new kept n status s f count = concluded_at mode text stop old mid new kept n status s f count
@@ -75,7 +77,7 @@ concluded mode (Some text) stop old mid new kept n status s f count = concluded_
 pub refused_at_once : (mode : Mode) → (input old new : Option (List ℕ)) (status : ℕ) → EndsIn memory_line 7 old new status → IfSome input (λ text. Concluded mode text old new status)
 refused_at_once mode None old new status e = tt
 refused_at_once mode (Some text) old new status e =
-    then_last mode text [] memory_line OutOfMemory 7 old old new status ([], (1, limit, text, (refl, refl, refl)), refl) refl (Appends-nil old) e
+    then_last mode text [] memory_line OutOfMemory 7 old old new status ([], (1, MAX_SCRIPT_BYTES, text, (refl, refl, refl)), refl) refl (Appends-nil old) e
 
 -- the key file is none, or its read failed
 pub before_the_script : (mode : Mode) → (input old new : Option (List ℕ)) (status code : ℕ) (line : List ℕ) (outcome : Outcome) → ((text : List ℕ) → IsPrinted mode text outcome line)
@@ -88,7 +90,7 @@ pub keys_printed : (mode : Mode) → (text : List ℕ) → IsPrinted mode text B
 keys_printed mode text = refl
 
 pub read_printed : (mode : Mode) → (text : List ℕ) → IsPrinted mode text ReadFault read_line
-read_printed mode text = ([], (1, limit, text, (refl, refl, refl)), refl)
+read_printed mode text = ([], (1, MAX_SCRIPT_BYTES, text, (refl, refl, refl)), refl)
 
 -- ---- by status
 
@@ -159,7 +161,7 @@ is_write mode text old new status e (part s p) = p
 pub exact : (mode : Mode) → (text : List ℕ) (old new : Option (List ℕ)) (status : ℕ) → (status ≡ 10 → ⊥) → Concluded mode text old new status → (commands : List Command) (ending : Ending) → IsScript text commands ending
     → (status ≡ status_of (Answered ending)) ⊎ IsFault status
 exact mode text old new status keys (whole (Answered other) s p) commands ending reads =
-    let same : other ≡ ending = (one_reading 1 limit text p.1.0 commands other ending p.1.1 reads).1 in
+    let same : other ≡ ending = (one_reading 1 MAX_SCRIPT_BYTES text p.1.0 commands other ending p.1.1 reads).1 in
     inl (s ∙ ap (λ e. status_of (Answered e)) same)
 exact mode text old new status keys (whole BadKeys s p) commands ending reads = absurd (keys s)
 exact mode text old new status keys (whole ReadFault s p) commands ending reads = inr (inl s)

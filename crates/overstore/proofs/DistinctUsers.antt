@@ -39,7 +39,7 @@ step_distinct m name distinct free =
 one_more : (h : History) (u : Update) → AreDistinct (matrix_of h).users → refusal_of h u ≡ None → AreDistinct (matrix_of (with_update h u)).users
 one_more h (Enrolled name) distinct none =
     subst (λ (m : Matrix). AreDistinct m.users) (sym (matrix_of-push h (Enrolled name))) (step_distinct (matrix_of h) name distinct (not_taken _ _ none))
-one_more h (Created file list bytes) distinct none = subst (λ (m : Matrix). AreDistinct m.users) (sym (matrix_of-push h (Created file list bytes))) distinct
+one_more h (Created file list size) distinct none = subst (λ (m : Matrix). AreDistinct m.users) (sym (matrix_of-push h (Created file list size))) distinct
 one_more h (Granted user file) distinct none = subst (λ (m : Matrix). AreDistinct m.users) (sym (matrix_of-push h (Granted user file))) distinct
 one_more h (Revoked user file) distinct none = subst (λ (m : Matrix). AreDistinct m.users) (sym (matrix_of-push h (Revoked user file))) distinct
 

@@ -3,17 +3,17 @@ use Rattle.std.proofs.Common.{◌≡◌, ◌⊎◌, inl, inr, ℕ, List, sym, �
 use Rattle.std.specs.Prelude.{Option, Some, None, IfSome}
 use Rattle.ov_base.specs.declared.mode.Mode.{Mode}
 use Rattle.ov_keyfile.specs.KeyFile.{IsKeyFile}
-use Rattle.ov_history.specs.Sealed.{Masters}
+use Rattle.ov_history.specs.Masters.{Masters}
 use Rattle.overstore.specs.Answering.{EndsIn, StandsAtEnd, LeavesUnder, LeavesWith}
 use Rattle.overstore.specs.Machine.{Kept, nothing}
 use Rattle.overstore.specs.Printing.{IsAnswered}
 
 pub left_with : (k : Masters) (mode : Mode) (input : Option (List ℕ)) (status : ℕ) (old new : Kept) → old ≡ nothing k mode → new.masters ≡ old.masters
-    → IfSome input (λ text. StandsAtEnd old.shown.mode text status new) → IfSome input (λ text. LeavesWith k mode text status (Some new))
+    → IfSome input (λ text. StandsAtEnd old.catalogue.mode text status new) → IfSome input (λ text. LeavesWith k mode text status (Some new))
 left_with k mode None status old new is same stands = tt
 left_with k mode (Some text) status old new is same stands = (
   same ∙ ap (λ (o : Kept). o.masters) is,
-  subst (λ m. StandsAtEnd m text status new) (ap (λ (o : Kept). o.shown.mode) is) stands,
+  subst (λ m. StandsAtEnd m text status new) (ap (λ (o : Kept). o.catalogue.mode) is) stands,
 )
 
 -- another status than those of a script that was answered

@@ -2,10 +2,13 @@ pub mod Answering
 pub mod Concluding
 pub mod Creating
 pub mod Finding
+pub mod Granting
 pub mod NamesIn
 pub mod Reading
 pub mod Stepping
+pub mod Stored
 pub mod TwoWords
 pub mod DistinctUsers
 pub mod Owning
 pub mod Leaving
+pub mod Running

@@ -1,63 +1,49 @@
 -- Updates of an owner, by the numbers that were found.
 use Rattle.std.proofs.Common.{◌≡◌, ℕ, zero, suc, ◌<◌, ◌≤◌, Bool, true, false, List, [], ◌∷◌, length, drop, get_or, refl, sym, ◌∙◌, ap, subst, arith}
-use Rattle.std.specs.Prelude.{Some, None, Result, Ok, Err, IfOk}
+use Rattle.std.specs.Prelude.{Result, Ok, Err, IfOk}
 use Rattle.ov_base.specs.Sets.{Has, with, within}
 use Rattle.ov_base.proofs.SetLaws.{with-Has, within-Within, within_with}
 use Rattle.ov_record.specs.Updates.{SealedUpdate, SealedRevoke}
 use Rattle.ov_script.specs.declared.reply.Reply.{Reply}
 use Rattle.ov_script.specs.declared.command.Command.TheVariants.{Grant, Revoke}
-use Rattle.ov_history.specs.History.{Granted, Revoked, matrix_of}
-use Rattle.ov_history.specs.Lists.{everyone, file_names, user_number, file_number, set_named, set_with}
-use Rattle.ov_history.specs.Places.{place_of, IsNumber}
-use Rattle.ov_history.specs.Sealed.{sealed_update}
-use Rattle.ov_history.specs.Shown.{Shown, matrix_shown, outline}
+use Rattle.ov_history.specs.Catalogue.{matrix_shown, outline}
+use Rattle.ov_history.specs.History.{Matrix, matrix_of}
+use Rattle.ov_history.specs.Lists.{everyone, user_number, file_number, set_named, set_with}
+use Rattle.ov_history.specs.Places.{place_of}
+use Rattle.ov_history.specs.Plain.{PlainGrant, PlainRevoke, PlainHistory, history_of}
+use Rattle.ov_history.specs.Sealing.{sealed_update}
 use Rattle.ov_history.proofs.PlaceLaws.{everyone-below}
-use Rattle.ov_history.proofs.SoundTests.{files_shown-length}
-use Rattle.overstore.specs.Machine.{Kept, Applies, Steps}
+use Rattle.overstore.specs.Machine.{Kept, StandsFor, Applies, Steps}
 use Rattle.overstore.specs.Owner.{FindsBoth}
-use Rattle.overstore.proofs.Finding.{length-names, same_user, same_file}
-use Rattle.overstore.proofs.Stepping.{sealed_step}
+use Rattle.overstore.proofs.Stepping.{sealed_step, shows}
 
 -- what holds of a value that may be there
 pub told_reply : {T E : Type 0} (r : Result T E) (P Q : T → Type 0) → IfOk r P → ((x : T) → P x → Q x) → IfOk r Q
 told_reply (Ok x) P Q p f = f x p
 told_reply (Err e) P Q p f = tt
 
--- ---- numbers by name
-
-pub find_user : (s t : Shown) (name : List ℕ) (n : ℕ) → s ≡ t → IsNumber s.users name (Some n)
-    → (n ≡ user_number (matrix_shown t) name) × (n < length t.users)
-find_user s t name n same found = subst (λ (x : Shown). (n ≡ user_number (matrix_shown x) name) × (n < length x.users)) same found
-
-files_named : (s : Shown) → length (file_names (matrix_shown s).files) ≡ length s.files
-files_named s = length-names (matrix_shown s).files ∙ files_shown-length (outline s) s.files
-
-pub find_file : (s t : Shown) (name : List ℕ) (n : ℕ) → s ≡ t → IsNumber (file_names (matrix_shown s).files) name (Some n)
-    → (n ≡ file_number (matrix_shown t) name) × (n < length t.files)
-find_file s t name n same found =
-    subst (λ (x : Shown). (n ≡ file_number (matrix_shown x) name) × (n < length x.files)) same
-    (found.0, subst (λ count. n < count) (files_named s) found.1)
-
-pub no_file_found : (s t : Shown) (name : List ℕ) → s ≡ t → IsNumber (file_names (matrix_shown s).files) name None
-    → file_number (matrix_shown t) name ≡ length t.files
-no_file_found s t name same found = subst (λ (x : Shown). file_number (matrix_shown x) name ≡ length x.files) same (found ∙ files_named s)
-
-pub no_user_found : (s t : Shown) (name : List ℕ) → s ≡ t → IsNumber s.users name None → user_number (matrix_shown t) name ≡ length t.users
-no_user_found s t name same found = subst (λ (x : Shown). user_number (matrix_shown x) name ≡ length x.users) same found
-
 -- ---- updates of what was found
 
-pub revoked_step : (old new : Kept) (user file : List ℕ) (u f : ℕ) (reply : Reply) → FindsBoth old.shown user file (Ok (u, f))
-    → Applies old (SealedRevoke u f) reply new → Steps old (Revoke user file) reply new
-revoked_step old new user file u f reply (ui, ulow, fi, flow) applies h stands =
-    sealed_step old new (Revoked (user_number (matrix_of h) user) (file_number (matrix_of h) file)) (SealedRevoke u f) reply
-    (λ i. SealedRevoke ((ui ∙ same_user old h stands user) i) ((fi ∙ same_file old h stands file) i)) applies h stands
+module _ (old new : Kept) (user file : List ℕ) (u f : ℕ) (reply : Reply) (found : FindsBoth (matrix_shown old.catalogue) user file (Ok (u, f))) where
+  -- the numbers are those of the history's matrix
+  found_so : (p : PlainHistory) → StandsFor old p
+      → (u ≡ user_number (matrix_of (history_of p)) user) × (f ≡ file_number (matrix_of (history_of p)) file)
+  found_so p stands = let m = (shows old p stands).matrix in (found.0 ∙ ap (λ (m : Matrix). user_number m user) m, found.2 ∙ ap (λ (m : Matrix). file_number m file) m)
 
-pub granted_step : (old new : Kept) (user file : List ℕ) (u f : ℕ) (sealed : SealedUpdate) (reply : Reply) → FindsBoth old.shown user file (Ok (u, f))
-    → sealed ≡ sealed_update old.masters (outline old.shown) (Granted u f) → Applies old sealed reply new → Steps old (Grant user file) reply new
-granted_step old new user file u f sealed reply (ui, ulow, fi, flow) is applies h stands =
-    sealed_step old new (Granted (user_number (matrix_of h) user) (file_number (matrix_of h) file)) sealed reply
-    (is ∙ (λ i. sealed_update old.masters (outline old.shown) (Granted ((ui ∙ same_user old h stands user) i) ((fi ∙ same_file old h stands file) i)))) applies h stands
+  pub revoked_step : Applies old (SealedRevoke u f) reply new → Steps old (Revoke user file) reply new
+  revoked_step applies p stands =
+      let m = matrix_of (history_of p) in
+      let numbers = found_so p stands in
+      sealed_step old new (PlainRevoke (user_number m user) (file_number m file)) (SealedRevoke u f) reply
+      (λ i. SealedRevoke (numbers.0 i) (numbers.1 i)) applies p stands
+
+  pub granted_step : (sent : SealedUpdate) → sent ≡ sealed_update old.masters (outline old.catalogue) (PlainGrant u f)
+      → Applies old sent reply new → Steps old (Grant user file) reply new
+  granted_step sent is applies p stands =
+      let m = matrix_of (history_of p) in
+      let numbers = found_so p stands in
+      sealed_step old new (PlainGrant (user_number m user) (file_number m file)) sent reply
+      (is ∙ (λ i. sealed_update old.masters (outline old.catalogue) (PlainGrant (numbers.0 i) (numbers.1 i)))) applies p stands
 
 -- ---- sets of users by name
 

@@ -3,5 +3,7 @@ pub mod Machine
 pub mod Opening
 pub mod Owner
 pub mod Printing
+pub mod Running
+pub mod Sealing
 pub mod Status
 pub mod Words

@@ -1,45 +1,44 @@
 -- What the owner finds and seals.
 use Rattle.std.specs.Prelude.{◌≡◌, ◌⊎◌, ℕ, ◌<◌, List, length, nat_lt, true, Result, Ok, Err}
+use Rattle.ov_base.specs.declared.limits.TheConstants.{MAX_LAYER_NODES}
 use Rattle.ov_base.specs.declared.refusal.Refusal.{Refusal}
-use Rattle.ov_base.specs.declared.refusal.Refusal.TheVariants.{Taken, NoUser, NoFile, NoPath, Listed, NotListed, UsersFull, FilesFull, BytesFull, NodesFull, Spent}
+use Rattle.ov_base.specs.declared.refusal.Refusal.TheVariants.{NoUser, NoFile}
 use Rattle.ov_tokens.specs.declared.token.Token.{Token}
 use Rattle.ov_record.specs.Updates.{SealedUpdate, SealedCreate}
-use Rattle.ov_history.specs.History.{Created}
+use Rattle.ov_history.specs.Catalogue.{Catalogue, matrix_shown, outline}
+use Rattle.ov_history.specs.History.{Matrix}
 use Rattle.ov_history.specs.Layers.{with_set}
 use Rattle.ov_history.specs.Lists.{user_number, file_number}
-use Rattle.ov_history.specs.Sealed.{sealed_update}
-use Rattle.ov_history.specs.Shown.{Shown, matrix_shown, outline}
+use Rattle.ov_history.specs.Plain.{PlainCreate}
+use Rattle.ov_history.specs.Sealing.{sealed_update}
 use Rattle.overstore.specs.Machine.{Kept}
 
 -- there is no room for the base node of this list
-abbrev pub HasNoRoom : Shown → ℕ → Type 0
-HasNoRoom s list = nat_lt 4096 (length (with_set s.base.sets list)) ≡ true
+abbrev pub HasNoRoom : Catalogue → ℕ → Type 0
+HasNoRoom c list = nat_lt MAX_LAYER_NODES (length (with_set c.base.sets list)) ≡ true
 
 -- some creation of this file for this list, with so many bytes
 abbrev pub IsSomeCreation : List ℕ → ℕ → ℕ → SealedUpdate → Type 0
 IsSomeCreation file list size u =
-    (tokens : List Token) × (tag text : List ℕ) × (u ≡ SealedCreate file list tokens tag text) × (length text ≡ size)
+    (tokens : List Token) × (tag text : List ℕ)
+    × (u ≡ SealedCreate file list tokens tag text) × (length text ≡ size)
 
 -- the creation as its owner seals it, or some creation where there is no room for its base node
 abbrev pub IsCreation : Kept → List ℕ → ℕ → List ℕ → SealedUpdate → Type 0
 IsCreation kept file list bytes u =
-    (u ≡ sealed_update kept.masters (outline kept.shown) (Created file list bytes))
-    ⊎ (HasNoRoom kept.shown list × IsSomeCreation file list (length bytes) u)
+    (u ≡ sealed_update kept.masters (outline kept.catalogue) (PlainCreate file list bytes))
+    ⊎ (HasNoRoom kept.catalogue list × IsSomeCreation file list (length bytes) u)
+
+-- the user isn't there, or the user is and the file isn't
+abbrev pub IsMissing : Matrix → List ℕ → List ℕ → Refusal → Type 0
+IsMissing m user file why =
+    ((why ≡ NoUser) × (user_number m user ≡ length m.users))
+    ⊎ ((why ≡ NoFile) × (user_number m user < length m.users)
+    × (file_number m file ≡ length m.files))
 
 -- the numbers of a user and a file that are there, or the first of them that isn't
-abbrev pub FindsBoth : Shown → List ℕ → List ℕ → Result (ℕ × ℕ) Refusal → Type 0
-FindsBoth s user file (Ok (reader, number)) =
-    (reader ≡ user_number (matrix_shown s) user) × (reader < length s.users)
-    × (number ≡ file_number (matrix_shown s) file) × (number < length s.files)
-FindsBoth s user file (Err NoUser) = user_number (matrix_shown s) user ≡ length s.users
-FindsBoth s user file (Err NoFile) =
-    (user_number (matrix_shown s) user < length s.users) × (file_number (matrix_shown s) file ≡ length s.files)
-FindsBoth s user file (Err Taken) = ⊥
-FindsBoth s user file (Err NoPath) = ⊥
-FindsBoth s user file (Err Listed) = ⊥
-FindsBoth s user file (Err NotListed) = ⊥
-FindsBoth s user file (Err UsersFull) = ⊥
-FindsBoth s user file (Err FilesFull) = ⊥
-FindsBoth s user file (Err BytesFull) = ⊥
-FindsBoth s user file (Err NodesFull) = ⊥
-FindsBoth s user file (Err Spent) = ⊥
+abbrev pub FindsBoth : Matrix → List ℕ → List ℕ → Result (ℕ × ℕ) Refusal → Type 0
+FindsBoth m user file (Ok (reader, number)) =
+    (reader ≡ user_number m user) × (reader < length m.users)
+    × (number ≡ file_number m file) × (number < length m.files)
+FindsBoth m user file (Err why) = IsMissing m user file why

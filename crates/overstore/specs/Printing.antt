@@ -7,13 +7,14 @@ use Rattle.ov_script.specs.declared.reply.Reply.TheVariants.{End}
 use Rattle.ov_script.specs.Lines.{reply_line}
 use Rattle.ov_script.specs.Reading.{IsScript, BeginsScript, Ending, AtEnd, BadAt, TooLong}
 use Rattle.ov_base.specs.declared.mode.Mode.{Mode}
-use Rattle.ov_history.specs.History.{History, empty, epoch_of}
+use Rattle.ov_history.specs.History.{epoch_of}
+use Rattle.ov_history.specs.Plain.{PlainHistory, empty_plain, history_of}
 use Rattle.ov_model.specs.Lines.{lines}
 use Rattle.ov_model.specs.Step.{after_all}
 
 -- the history of a store of this mode that begins with the run
-abbrev pub new_store : Mode → History
-new_store mode = empty mode 0
+abbrev pub new_store : Mode → PlainHistory
+new_store mode = empty_plain mode 0
 
 -- How a run ends: its key file is none, or the script was read to its ending and answered, a read
 -- failed, or memory was refused.
@@ -23,6 +24,7 @@ pub data Outcome : Type 0 where
   ReadFault : Outcome
   OutOfMemory : Outcome
 
+-- the status with which a run ends so
 abbrev pub status_of : Outcome → ℕ
 status_of BadKeys = 10
 status_of (Answered AtEnd) = 0
@@ -31,29 +33,35 @@ status_of (Answered TooLong) = 11
 status_of ReadFault = 5
 status_of OutOfMemory = 7
 
+-- the line on words that aren't known
 abbrev pub usage_line : List ℕ
 usage_line = codes "error usage" ++ 10 ∷ []
 
+-- the line on a key file that is none
 abbrev pub keys_line : List ℕ
 keys_line = codes "error keys" ++ 10 ∷ []
 
+-- the line on a read that failed
 abbrev pub read_line : List ℕ
 read_line = codes "error read" ++ 10 ∷ []
 
+-- the line on memory that was refused
 abbrev pub memory_line : List ℕ
 memory_line = codes "error memory" ++ 10 ∷ []
 
+-- the line that names a bad line of the script
 abbrev pub bad_line : ℕ → List ℕ
 bad_line n = codes "error line " ++ decimal n ++ 10 ∷ []
 
+-- the line on a script that is too long
 abbrev pub long_line : List ℕ
 long_line = codes "error long" ++ 10 ∷ []
 
 -- the last line at this history, by how the reading of the script ended
-abbrev pub last_line : History → Ending → List ℕ
-last_line h AtEnd = reply_line (End (epoch_of h))
-last_line h (BadAt n) = bad_line n
-last_line h TooLong = long_line
+abbrev pub last_line : PlainHistory → Ending → List ℕ
+last_line p AtEnd = reply_line (End (epoch_of (history_of p)))
+last_line p (BadAt n) = bad_line n
+last_line p TooLong = long_line
 
 -- What a run over this script that ends so prints: the machine's lines to its commands, or to the
 -- first of them, and then the last line; or the line on the key file alone.
@@ -61,7 +69,8 @@ abbrev pub IsPrinted : Mode → List ℕ → Outcome → List ℕ → Type 0
 IsPrinted mode text BadKeys printed = printed ≡ keys_line
 IsPrinted mode text (Answered ending) printed =
     (commands : List Command) × IsScript text commands ending
-    × (printed ≡ lines (new_store mode) commands ++ last_line (after_all (new_store mode) commands) ending)
+    × (printed
+    ≡ lines (new_store mode) commands ++ last_line (after_all (new_store mode) commands) ending)
 IsPrinted mode text ReadFault printed =
     (commands : List Command) × BeginsScript text commands
     × (printed ≡ lines (new_store mode) commands ++ read_line)
@@ -94,10 +103,20 @@ IsMemory status = status ≡ 7
 abbrev pub IsFault : ℕ → Type 0
 IsFault status = (status ≡ 5) ⊎ ((status ≡ 6) ⊎ (status ≡ 7))
 
--- there are no others
-abbrev pub IsStatus : ℕ → Type 0
-IsStatus status = (status ≡ 0) ⊎ ((status ≡ 2) ⊎ ((status ≡ 3) ⊎ ((status ≡ 10) ⊎ ((status ≡ 11) ⊎ IsFault status))))
-
 -- the script was answered, to its end or to what ended it
 abbrev pub IsAnswered : ℕ → Type 0
 IsAnswered status = (status ≡ 0) ⊎ ((status ≡ 3) ⊎ (status ≡ 11))
+
+-- a run that read its key file has one of these statuses
+abbrev pub IsScriptStatus : ℕ → Type 0
+IsScriptStatus status = IsAnswered status ⊎ IsFault status
+
+-- a run that looked at its key file has one of these statuses
+abbrev pub IsKeysStatus : ℕ → Type 0
+IsKeysStatus status = (status ≡ 10) ⊎ IsScriptStatus status
+
+-- a run has one of these statuses
+abbrev pub IsStatus : ℕ → Type 0
+IsStatus status =
+    (status ≡ 0)
+    ⊎ ((status ≡ 2) ⊎ ((status ≡ 3) ⊎ ((status ≡ 10) ⊎ ((status ≡ 11) ⊎ IsFault status))))

@@ -1,8 +1,11 @@
 -- The exit statuses.
 use Rattle.std.specs.Prelude.{ℕ}
 use Rattle.overstore.specs.declared.status.Status.{Status}
-use Rattle.overstore.specs.declared.status.Status.TheVariants.{Done, Usage, BadLine, ReadFault, WriteFault, OutOfMemory, BadKeys, Long}
+use Rattle.overstore.specs.declared.status.Status.TheVariants.{Done, Usage, BadLine, ReadFault}
+use Rattle.overstore.specs.declared.status.Status.TheVariants.{WriteFault, OutOfMemory, BadKeys}
+use Rattle.overstore.specs.declared.status.Status.TheVariants.{Long}
 
+-- the number with which a run ends
 abbrev pub status_code : Status → ℕ
 status_code Done = 0
 status_code Usage = 2

@@ -1,10 +1,10 @@
 //! A script, answered command by command.
 ghost use Rattle.std.specs.Prelude.{◌≡◌, ◌≤◌, IfSome, None, Some};
 ghost use Rattle.ov_base.specs.Causes.{Rose};
-ghost use Rattle.ov_history.specs.History.{History};
+ghost use Rattle.ov_io.specs.Calls.{IsCallOf};
+ghost use Rattle.ov_history.specs.Plain.{PlainHistory};
 ghost use Rattle.ov_script.specs.Lines.{reply_line};
-ghost use Rattle.ov_script.specs.Place.{text_left};
-ghost use Rattle.ov_script.specs.Reading.{limit};
+ghost use Rattle.ov_script.specs.Place.{start, text_left};
 ghost use Rattle.overstore.specs.Machine.{nothing, IsCommand, StandsFor};
 ghost use Rattle.overstore.specs.Answering.{PutsOr, Answers, Stops};
 
@@ -33,7 +33,6 @@ pub enum Stop {
 // Puts a reply line, for which `buffer` is used, or says what stopped it.
 fn put_reply<O: Sink>(reply: &Reply, buffer: &mut Vec<u8>, out: &mut O) -> Option<Stop>
     ensures put { PutsOr result (O.written out.old) (O.written out.new) (reply_line reply.now) }
-    ensures same { O.borrow out.new ≡ O.borrow out.old }
     ensures later { O.faults out.old ≤ O.faults out.new }
     ensures write { result ≡ Some Stop.Write → Rose (O.faults out.old) (O.faults out.new) }
     ensures never_read { result ≡ Some Stop.Read → ⊥ }
@@ -56,11 +55,10 @@ fn answer<O: Sink>(
     out: &mut O,
 ) -> Option<Stop>
     requires command { IsCommand command }
-    requires stands { (h : History) × StandsFor machine.old h }
-    ensures answer { (h : History) → StandsFor machine.old h →
-        Answers h command result (O.written out.old) (O.written out.new) machine.new }
+    requires stands { (p : PlainHistory) × StandsFor machine.old p }
+    ensures answer { (p : PlainHistory) → StandsFor machine.old p →
+        Answers p command result (O.written out.old) (O.written out.new) machine.new }
     ensures masters { machine.new.masters ≡ machine.old.masters }
-    ensures same { O.borrow out.new ≡ O.borrow out.old }
     ensures later { O.faults out.old ≤ O.faults out.new }
     ensures write { result ≡ Some Stop.Write → Rose (O.faults out.old) (O.faults out.new) }
     ensures never_read { result ≡ Some Stop.Read → ⊥ }
@@ -79,16 +77,14 @@ pub fn answer_all<S: Source + Drop, O: Sink>(
     machine: &mut Machine,
     out: &mut O,
 ) -> Stop
-    requires line { script.old.line ≡ 1 }
-    requires room { script.old.room ≡ limit }
-    requires fresh { script.old.ended ≡ None }
-    requires nothing { machine.old ≡ nothing machine.old.masters machine.old.shown.mode }
-    ensures stop { let mode = machine.old.shown.mode in
+    requires start { script.old ≡ start script.old.source }
+    requires nothing { machine.old ≡ nothing machine.old.masters machine.old.catalogue.mode }
+    ensures stop { let mode = machine.old.catalogue.mode in
         IfSome (text_left S.left script.old) (λ text.
         Stops mode text result (O.written out.old) (O.written out.new) machine.new) }
     ensures masters { machine.new.masters ≡ machine.old.masters }
-    ensures same { S.borrow script.new.source ≡ S.borrow script.old.source }
-    ensures read { result ≡ Stop.Read → Rose (S.faults script.old.source) (S.faults script.new.source) }
+    ensures source { IsCallOf S.borrow S.faults (result ≡ Stop.Read)
+        script.old.source script.new.source }
     ensures later { O.faults out.old ≤ O.faults out.new }
     ensures write { result ≡ Stop.Write → Rose (O.faults out.old) (O.faults out.new) }
 {

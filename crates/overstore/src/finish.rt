@@ -15,9 +15,11 @@ use std::alloc::Global;
 
 /// Puts the last line, and gives its status where that succeeds.
 pub fn put_last<O: Sink>(out: &mut O, bytes: &[u8], status: Status) -> u8
-    ensures ends { EndsIn bytes.now (status_code status) (O.written out.old) (O.written out.new) result }
+    ensures ends { EndsIn bytes.now (status_code status)
+        (O.written out.old) (O.written out.new) result }
     ensures later { O.faults out.old ≤ O.faults out.new }
-    ensures write { status ≢ Status.WriteFault → result ≡ 6 → Rose (O.faults out.old) (O.faults out.new) }
+    ensures write { status ≢ Status.WriteFault → result ≡ 6
+        → Rose (O.faults out.old) (O.faults out.new) }
 {
     match out.put(bytes) {
         Ok(()) => status.code(),
@@ -34,6 +36,7 @@ fn put_memory<O: Sink>(out: &mut O) -> u8
     put_last(out, b"error memory\n", Status::OutOfMemory)
 }
 
+// Puts the end line, or the one that says that memory was refused for it.
 fn put_end<O: Sink>(alloc: Global, out: &mut O, epoch: u32) -> u8
     ensures ends { EndsIn (reply_line (EndReply epoch)) 0 (O.written out.old) (O.written out.new) result
         ⊎ EndsIn memory_line 7 (O.written out.old) (O.written out.new) result }
@@ -47,6 +50,7 @@ fn put_end<O: Sink>(alloc: Global, out: &mut O, epoch: u32) -> u8
     }
 }
 
+// Puts the line that names a bad line, or the one that says that memory was refused for it.
 fn put_bad_line<O: Sink>(alloc: Global, out: &mut O, number: u64) -> u8
     ensures ends { EndsIn (bad_line number) 3 (O.written out.old) (O.written out.new) result
         ⊎ EndsIn memory_line 7 (O.written out.old) (O.written out.new) result }

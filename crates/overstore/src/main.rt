@@ -1,9 +1,9 @@
 //! The program `overstore`: a script comes in on standard input, and its reply lines go out.
 //!
-//! `overstore run full` and `overstore run delta` answer a script of commands, line by line, from a
-//! store that begins empty, under the masters of the key file in its folder. The contract of [`run`] says what it prints for
-//! every script; `main` makes the real sources and the sink, calls it, and ends with the status that
-//! it gives.
+//! `overstore run full` and `overstore run delta` answer a script of commands, line by line, from
+//! a store that begins empty, under the masters of the key file in its folder. The contract of
+//! [`run`] says what it prints for every script; `main` makes the real sources and the sink, calls
+//! it, and ends with the status that it gives.
 //!
 //! | module | what it does |
 //! |---|---|
@@ -11,17 +11,21 @@
 //! | `answer` | the loop over the script's commands |
 //! | `finish` | the last line |
 //! | `machine` | the access-matrix machine over a catalogue |
-//! | `owner` | updates, as their owner seals them |
+//! | `owner` | updates, as their owner finds and sends them |
+//! | `sealing` | what an owner seals, from plain values |
 //! | `reader` | files and lists, as readers are given them |
+//! | `opening` | what a reader opens, with plain keys |
 //! | `status` | the exit statuses |
 #![tactic(auto)]
 
 mod answer;
 mod finish;
 mod machine;
+mod opening;
 mod owner;
 mod reader;
 mod run;
+mod sealing;
 mod status;
 #[cfg(test)]
 mod tests;

@@ -1,16 +1,13 @@
 //! The top call.
-ghost use Rattle.std.specs.Prelude.{◌≡◌, ◌≢◌, ◌↔◌, ◌⊎◌, ℕ, IfNone, IfSome, None};
-ghost use Rattle.std.specs.Io.KnownBytes.{Appends};
+ghost use Rattle.std.specs.Prelude.{◌≡◌, ◌≢◌, ◌⊎◌, IfNone, IfSome, None};
 ghost use Rattle.ov_base.specs.Causes.{Rose};
-ghost use Rattle.ov_keyfile.specs.KeyFile.{HasMasters};
 ghost use Rattle.ov_base.specs.declared.mode.Mode.{Mode};
 ghost use Rattle.ov_state.specs.Standing.{ClosuresAreMatrix};
-ghost use Rattle.ov_script.specs.Reading.{AtEnd, BadAt, TooLong};
-ghost use Rattle.overstore.specs.Answering.{Concluded, EndsIn, StandsAtEnd, LeavesUnder, LeavesWith};
+ghost use Rattle.overstore.specs.Answering.{Concluded, StandsAtEnd, LeavesUnder, LeavesWith};
 ghost use Rattle.overstore.specs.Machine.{nothing};
-ghost use Rattle.overstore.specs.Printing.{Answered, ReadFault, OutOfMemory, Prints, PrintsFront};
-ghost use Rattle.overstore.specs.Printing.{keys_line, read_line, usage_line, IsAnswered, StatusIsOf};
-ghost use Rattle.overstore.specs.Printing.{IsFault, IsMemory, IsStatus};
+ghost use Rattle.overstore.specs.Printing.{IsKeysStatus, IsScriptStatus, IsStatus};
+ghost use Rattle.overstore.specs.Running.{FailsForFaults, IsDecided};
+ghost use Rattle.overstore.specs.Running.{JudgesKeys, PrintsAs, RefusesWords};
 ghost use Rattle.overstore.specs.Words.{mode_word, AreOther, IsRun};
 
 use crate::answer::answer_all;
@@ -46,27 +43,25 @@ fn mode_of(words: &[String]) -> Option<Mode>
     }
 }
 
-// Answers the script with a machine that has answered nothing yet. Whatever history it stands for at
-// the end, the closures over its published tokens are the matrix.
+// Answers the script with a machine that has answered nothing yet. Whatever history it stands for
+// at the end, the closures over its published tokens are the matrix.
 fn answer_script<I: Source, O: Sink>(
     alloc: Global,
     machine: &mut Machine,
     input: &mut I,
     out: &mut O,
 ) -> u8
-    requires nothing { machine.old ≡ nothing machine.old.masters machine.old.shown.mode }
+    requires nothing { machine.old ≡ nothing machine.old.masters machine.old.catalogue.mode }
     ensures masters { machine.new.masters ≡ machine.old.masters }
-    ensures closure { ClosuresAreMatrix machine.new.shown }
-    ensures stands { let mode = machine.old.shown.mode in
+    ensures closure { ClosuresAreMatrix machine.new.catalogue }
+    ensures stands { let mode = machine.old.catalogue.mode in
         IfSome (I.left input.old) (λ text. StandsAtEnd mode text result machine.new) }
-    ensures concluded { let mode = machine.old.shown.mode in
+    ensures concluded { let mode = machine.old.catalogue.mode in
         IfSome (I.left input.old) (λ text.
         Concluded mode text (O.written out.old) (O.written out.new) result) }
-    ensures read_cause { result ≡ 5 → Rose (I.faults input.old) (I.faults input.new) }
-    ensures write_cause { result ≡ 6 → Rose (O.faults out.old) (O.faults out.new) }
-    ensures status { IsStatus result }
-    ensures not_usage { result ≢ 2 }
-    ensures not_keys { result ≢ 10 }
+    ensures causes { FailsForFaults result (Rose (I.faults input.old) (I.faults input.new))
+        (Rose (O.faults out.old) (O.faults out.new)) }
+    ensures status { IsScriptStatus result }
 {
     let mut script = match Script::new(alloc, input) {
         Ok(script) => script,
@@ -93,11 +88,9 @@ fn answer_under<I: Source, O: Sink>(
         mode text result left.new) }
     ensures concluded { IfSome (I.left input.old) (λ text.
         Concluded mode text (O.written out.old) (O.written out.new) result) }
-    ensures read_cause { result ≡ 5 → Rose (I.faults input.old) (I.faults input.new) }
-    ensures write_cause { result ≡ 6 → Rose (O.faults out.old) (O.faults out.new) }
-    ensures status { IsStatus result }
-    ensures not_usage { result ≢ 2 }
-    ensures not_keys { result ≢ 10 }
+    ensures causes { FailsForFaults result (Rose (I.faults input.old) (I.faults input.new))
+        (Rose (O.faults out.old) (O.faults out.new)) }
+    ensures status { IsScriptStatus result }
 {
     match Machine::new(alloc, masters, mode) {
         Ok(mut machine) => {
@@ -124,19 +117,13 @@ fn answer_with_keys<K: Source, I: Source, O: Sink>(
         LeavesUnder file mode text result left.new)) }
     ensures concluded { IfSome (I.left input.old) (λ text.
         Concluded mode text (O.written out.old) (O.written out.new) result) }
-    ensures keys { IsAnswered result → IfSome (K.left keys.old) HasMasters }
-    ensures bad_keys { result ≡ 10 → IfSome (K.left keys.old) (λ file. HasMasters file → ⊥) }
-    ensures keys_line { result ≡ 10 → Appends (O.written out.old) (O.written out.new) keys_line }
-    ensures unread { IfSome (K.left keys.old) (λ file.
-        (HasMasters file → ⊥) → input.new ≡ input.old) }
-    ensures other_keys { IfSome (K.left keys.old) (λ file. (HasMasters file → ⊥)
-        → EndsIn keys_line 10 (O.written out.old) (O.written out.new) result
-        ⊎ EndsIn read_line 5 (O.written out.old) (O.written out.new) result) }
-    ensures read_cause { result ≡ 5 → Rose (K.faults keys.old) (K.faults keys.new)
-        ⊎ Rose (I.faults input.old) (I.faults input.new) }
-    ensures write_cause { result ≡ 6 → Rose (O.faults out.old) (O.faults out.new) }
-    ensures status { IsStatus result }
-    ensures not_usage { result ≢ 2 }
+    ensures keys { JudgesKeys (Unit {0}) (K.left keys.old) result
+        (O.written out.old) (O.written out.new) (input.new ≡ input.old) }
+    ensures causes { FailsForFaults result
+        (Rose (K.faults keys.old) (K.faults keys.new)
+        ⊎ Rose (I.faults input.old) (I.faults input.new))
+        (Rose (O.faults out.old) (O.faults out.new)) }
+    ensures status { IsKeysStatus result }
 {
     match read_masters(keys) {
         Ok(Some(masters)) => answer_under(alloc, mode, masters, input, out, left),
@@ -158,61 +145,27 @@ pub fn run<K: Source, I: Source, O: Sink>(
     input: &mut I,
     out: &mut O,
 ) -> u8
-    // In the mode of the words: the access-matrix machine's lines to the whole script and the end
-    // line, and nothing else.
-    ensures done { (mode : Mode) → IsRun mode words.now → result ≡ 0
+    // In the mode of the words the access-matrix machine's lines are printed.
+    ensures printed { (mode : Mode) → IsRun mode words.now
         → IfSome (I.left input.old) (λ text.
-        Prints mode text (Answered AtEnd) (O.written out.old) (O.written out.new)) }
-    // The same lines to the commands before, and then the error line.
-    ensures bad_line { (mode : Mode) → IsRun mode words.now → result ≡ 3
-        → IfSome (I.left input.old) (λ text. (n : ℕ)
-        × Prints mode text (Answered (BadAt n)) (O.written out.old) (O.written out.new)) }
-    ensures long { (mode : Mode) → IsRun mode words.now → result ≡ 11
-        → IfSome (I.left input.old) (λ text.
-        Prints mode text (Answered TooLong) (O.written out.old) (O.written out.new)) }
-    // The lines to the first commands, and then the error line.
-    ensures read { (mode : Mode) → IsRun mode words.now → result ≡ 5
-        → IfSome (I.left input.old) (λ text.
-        Prints mode text ReadFault (O.written out.old) (O.written out.new)) }
-    ensures memory { (mode : Mode) → IsRun mode words.now → result ≡ 7
-        → IfSome (I.left input.old) (λ text.
-        Prints mode text OutOfMemory (O.written out.old) (O.written out.new)) }
-    // A front of what some run over this script prints.
-    ensures write { (mode : Mode) → IsRun mode words.now → result ≡ 6
-        → IfSome (I.left input.old) (λ text.
-        PrintsFront mode text (O.written out.old) (O.written out.new)) }
-
+        PrintsAs mode text result (O.written out.old) (O.written out.new)) }
     // Without a key file the script is left as it is.
-    ensures keys { IsAnswered result → IfSome (K.left keys.old) HasMasters }
-    ensures bad_keys { result ≡ 10 → IfSome (K.left keys.old) (λ file. HasMasters file → ⊥) }
-    ensures keys_line { result ≡ 10 → Appends (O.written out.old) (O.written out.new) keys_line }
-    ensures other_keys { (mode : Mode) → IsRun mode words.now
-        → IfSome (K.left keys.old) (λ file. (HasMasters file → ⊥)
-        → EndsIn keys_line 10 (O.written out.old) (O.written out.new) result
-        ⊎ EndsIn read_line 5 (O.written out.old) (O.written out.new) result) }
-    ensures unread { IfSome (K.left keys.old) (λ file.
-        (HasMasters file → ⊥) → input.new ≡ input.old) }
-
+    ensures keys { JudgesKeys ((mode : Mode) × IsRun mode words.now) (K.left keys.old) result
+        (O.written out.old) (O.written out.new) (input.new ≡ input.old) }
     // Other words are refused, and both files are left as they are.
-    ensures usage { result ≡ 2
-        → AreOther words.now × Appends (O.written out.old) (O.written out.new) usage_line }
-    ensures other_words { AreOther words.now
-        → EndsIn usage_line 2 (O.written out.old) (O.written out.new) result }
-    ensures untouched { AreOther words.now → (keys.new ≡ keys.old) × (input.new ≡ input.old) }
-
+    ensures words { RefusesWords (AreOther words.now) result (O.written out.old) (O.written out.new)
+        ((keys.new ≡ keys.old) × (input.new ≡ input.old)) }
     // A failed read or write is answered only where the count of faults rose.
-    ensures read_cause { result ≡ 5 → Rose (K.faults keys.old) (K.faults keys.new)
-        ⊎ Rose (I.faults input.old) (I.faults input.new) }
-    ensures write_cause { result ≡ 6 → Rose (O.faults out.old) (O.faults out.new) }
+    ensures causes { FailsForFaults result
+        (Rose (K.faults keys.old) (K.faults keys.new)
+        ⊎ Rose (I.faults input.old) (I.faults input.new))
+        (Rose (O.faults out.old) (O.faults out.new)) }
     // With a key file the script alone decides between the other statuses.
-    ensures exact { (mode : Mode) → IsRun mode words.now → result ≢ 10
-        → IfSome (I.left input.old) (λ text. StatusIsOf text result IsFault) }
-    // Where no count rose, it is answered, unless memory was refused.
-    ensures complete { (mode : Mode) → IsRun mode words.now → result ≢ 10
-        → (Rose (K.faults keys.old) (K.faults keys.new) → ⊥)
-        → (Rose (I.faults input.old) (I.faults input.new) → ⊥)
-        → (Rose (O.faults out.old) (O.faults out.new) → ⊥)
-        → IfSome (I.left input.old) (λ text. StatusIsOf text result IsMemory) }
+    ensures decided { (mode : Mode) → IsRun mode words.now → result ≢ 10
+        → IfSome (I.left input.old) (λ text. IsDecided text result
+        (Rose (K.faults keys.old) (K.faults keys.new))
+        (Rose (I.faults input.old) (I.faults input.new))
+        (Rose (O.faults out.old) (O.faults out.new))) }
     ensures status { IsStatus result }
 {
     match mode_of(words) {

@@ -5,6 +5,7 @@ mod faults;
 
 use crate::run::run;
 use ov_base::Octets;
+use ov_base::limits::{MAX_FILE_BYTES, MAX_FILES, MAX_USERS};
 use ov_io::{MemSink, MemSource};
 use std::alloc::{AllocError, Global};
 use std::test::Fail;
@@ -115,6 +116,11 @@ fn scripts_and_their_lines(rt: HostRuntime) -> Result<(), Fail> {
             3,
             b"error line 1\n",
         ),
+        (
+            b"enrol a\ncreate f a 2\nxx\ncreate g a 1048577\nxxxxxxxx",
+            3,
+            b"ok 1\nok 2\nerror line 4\n",
+        ),
     ];
     for (script, status, lines) in rows {
         for mode in ["full", "delta"] {
@@ -198,7 +204,7 @@ fn users_are_full(rt: HostRuntime) -> Result<(), Fail> {
     let alloc = rt.alloc();
     let mut script = Vec::new(alloc);
     let mut lines = Vec::new(alloc);
-    for user in 0..256u32 {
+    for user in 0..MAX_USERS {
         script.extend_from_slice(format!(in alloc; "enrol u{user}\n")?.as_bytes())?;
         let epoch = user.saturating_add(1);
         lines.extend_from_slice(format!(in alloc; "ok {epoch}\n")?.as_bytes())?;
@@ -233,7 +239,7 @@ fn file_of(alloc: Global, size: usize) -> Result<(Vec<u8>, Vec<u8>), Fail> {
 #[test]
 fn files_of_many_lengths(rt: HostRuntime) -> Result<(), Fail> {
     let alloc = rt.alloc();
-    for size in [0usize, 15, 16, 17, 4096, 1_048_576] {
+    for size in [0usize, 15, 16, 17, 4096, MAX_FILE_BYTES as usize] {
         let (script, lines) = file_of(alloc, size)?;
         let mut out = sink(alloc, b"")?;
         assert_eq!(rt; ran(alloc, &script, 1000, b"", &mut out)?, 0);
@@ -243,21 +249,10 @@ fn files_of_many_lengths(rt: HostRuntime) -> Result<(), Fail> {
 }
 
 #[test]
-fn one_byte_more_is_a_bad_line(rt: HostRuntime) -> Result<(), Fail> {
-    let alloc = rt.alloc();
-    let mut script = b"enrol a\ncreate f a 2\nxx\ncreate g a 1048577\n".to_vec(alloc)?;
-    script.extend_from_slice(&[b'x'; 100])?;
-    let mut out = sink(alloc, b"")?;
-    assert_eq!(rt; ran(alloc, &script, 1000, b"", &mut out)?, 3);
-    assert_eq!(rt; out.written(), b"ok 1\nok 2\nerror line 4\n".as_slice());
-    Ok(())
-}
-
-#[test]
 fn files_are_full(rt: HostRuntime) -> Result<(), Fail> {
     let alloc = rt.alloc();
     let mut script = b"enrol a\n".to_vec(alloc)?;
-    for file in 0..16_385u32 {
+    for file in 0..MAX_FILES + 1 {
         script.extend_from_slice(format!(in alloc; "create f{file} a 0\n\n")?.as_bytes())?;
     }
     let mut out = sink(alloc, b"")?;

@@ -1,11 +1,13 @@
 //! What `docs/PERFORMANCE.md` times: `speed` and one of these words:
-//! `pad`, `tag`, `graph`, `chain`, `journal`, `wire` and `copy`.
+//! `pad`, `tag`, `graph`, `chain`, `journal`, `wire`, `copy`, and `lengths`, which
+//! `tools/announced_lengths.sh` runs.
 //!
 //! Each does one piece of work and prints one line that shows that it was done. It is timed from outside.
 #![tactic(auto)]
 
 mod graph;
 mod journal;
+mod lengths;
 mod wire;
 
 use ov_ctr::apply_at;
@@ -58,6 +60,12 @@ fn main(rt: HostRuntime) -> Result<(), Fail> {
             "journal" => journal::appends(rt)?,
             "wire" => wire::reads(alloc)?,
             "copy" => wire::copies(alloc)?,
+            "lengths" => {
+                let frames = lengths::frames(alloc, 10_000)?;
+                let scripts = lengths::scripts(alloc, 100)?;
+                println!(rt; "{frames} bytes of frames, {scripts} scripts")?;
+                0
+            }
             _ => 0,
         };
         println!(rt; "{word} {answer}")?;

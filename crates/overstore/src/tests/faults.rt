@@ -3,6 +3,7 @@ ghost use Rattle.std.specs.Prelude.{None};
 
 use super::{key_file, ran, sink, source, words};
 use crate::run::run;
+use ov_base::limits::MAX_SCRIPT_BYTES;
 use ov_io::{Fault, Sink, Source};
 use std::test::Fail;
 
@@ -60,6 +61,8 @@ impl Source for Repeats {
 
     ghost borrow = { λ _. 0 };
 
+    ghost takes = { λ _ _. Unit {0} };
+
     fn take(&mut self, buf: &mut [u8]) -> Result<usize, Fault> {
         let (_, rest) = self.line.split_at((64 - self.left % 64) as usize % 64);
         let count = rest.len().min(buf.len()).min(self.left as usize);
@@ -83,6 +86,8 @@ impl Sink for Last {
 
     ghost borrow = { λ _. 0 };
 
+    ghost puts = { λ _ _. Unit {0} };
+
     fn put(&mut self, bytes: &[u8]) -> Result<(), Fault> {
         self.bytes.clear();
         if self.bytes.extend_from_slice(bytes).is_err() {
@@ -98,10 +103,11 @@ fn the_limit_of_a_script(rt: HostRuntime) -> Result<(), Fail> {
     let alloc = rt.alloc();
     let line = *b"enrol aaaaaaaaaaaaaaaaaaaaaaaaaaaaaaaaaaaaaaaaaaaaaaaaaaaaaaaaa\n";
     let rows = [
-        (268_435_456u64, 0u8, b"end epoch 1\n".as_slice()),
-        (268_435_456 + 64, 11, b"error long\n"),
+        (0, 0u8, b"end epoch 1\n".as_slice()),
+        (64, 11, b"error long\n"),
     ];
-    for (left, status, last) in rows {
+    for (more, status, last) in rows {
+        let left = u64::from(MAX_SCRIPT_BYTES) + more;
         let mut input = Repeats { line, left };
         let mut out = Last {
             bytes: Vec::new(alloc),

@@ -1,19 +1,22 @@
 use Rattle.std.proofs.Common.{arith}
 use Rattle.std.proofs.lemmas.Grind.{common_steps}
 use Rattle.ov_script.specs.Reading.{AtEnd, BadAt, TooLong}
-use Rattle.overstore.proofs.Answering.{answered, answered_more, answer_stops, begins_so, stands_after, stands_so}
+use Rattle.overstore.proofs.Answering.{answered, answered_more, commands_come, goes_on, read_first, answer_stops, begins_so, stands_after, stands_so, starts_fresh}
 use Rattle.overstore.proofs.answer.answer_all.Goals as goal
 
 pub items-init : goal.items-init
 items-init g c = record {
-  so_far = begins_so _ _ _ _ _ c.requires.line c.requires.room c.requires.nothing;
+  so_far = begins_so _ _ _ _ _ (starts_fresh _ c.requires.start).0 (starts_fresh _ c.requires.start).1 c.requires.nothing;
   stands = stands_so _ c.requires.nothing;
   masters = grind (arith, common_steps);
-  ended = c.requires.fresh;
+  ended = (starts_fresh _ c.requires.start).2;
   same = grind (arith, common_steps);
   read_later = grind (arith, common_steps);
   write_later = grind (arith, common_steps);
 }
+
+pub answer-requires-clause-command : goal.answer-requires-clause-command
+answer-requires-clause-command g c = commands_come _ c.in-Ok-Command.command c.in-Ok-Command.ensures.item c.in-Ok-Command.field-0-is
 
 pub returns-in-Some-clause-stop : goal.returns-in-Some-clause-stop
 returns-in-Some-clause-stop g c =
@@ -24,7 +27,7 @@ items-preserved g c = record {
   so_far = answered_more _ _ _ _ _ _ _ _ _ _ _ _ _ _ c.items.invariant.so_far (rw c.in-Ok-Command.field-0-is at (c.in-Ok-Command.ensures.says c.items.invariant.ended)) c.in-None.ensures.answer;
   stands = stands_after _ _ _ _ _ c.items.invariant.stands c.in-None.ensures.answer;
   masters = grind (arith, common_steps);
-  ended = grind (arith, common_steps);
+  ended = goes_on _ _ _ c.in-Ok-Command.command c.items.invariant.ended c.in-Ok-Command.ensures.ended c.in-Ok-Command.field-0-is;
   same = grind (arith, common_steps);
   read_later = grind (arith, common_steps);
   write_later = grind (arith, common_steps);
@@ -38,3 +41,6 @@ returns-in-Ok-BadLine-clause-stop g c = answered _ _ _ _ _ _ _ _ (BadAt c.in-Ok-
 
 pub returns-in-Ok-Long-clause-stop : goal.returns-in-Ok-Long-clause-stop
 returns-in-Ok-Long-clause-stop g c = answered _ _ _ _ _ _ _ _ TooLong c.items.invariant.so_far (rw c.in-Ok-Long.field-0-is at (c.in-Ok-Long.ensures.says c.items.invariant.ended))
+
+pub returns-in-Err-Read-clause-stop : goal.returns-in-Err-Read-clause-stop
+returns-in-Err-Read-clause-stop g c = read_first _ _ _ _ _ _ _ _ c.items.invariant.so_far

@@ -1,9 +1,13 @@
 use Rattle.std.proofs.Common.{inl, inr, refl}
-use Rattle.ov_history.specs.Sealed.{Masters}
+use Rattle.ov_history.specs.Masters.{Masters}
 use Rattle.overstore.specs.Printing.{memory_line}
 use Rattle.overstore.proofs.Concluding.{refused_at_once}
 use Rattle.overstore.proofs.Leaving.{left_with, none_with}
+use Rattle.overstore.proofs.Running.{ends_so}
 use Rattle.overstore.proofs.run.answer_under.Goals as goal
+
+pub returns-in-Err-clause-status : goal.returns-in-Err-clause-status
+returns-in-Err-clause-status g c = ends_so _ 7 _ _ _ c.put_last.ensures.ends (inr (inr (inr refl)))
 
 pub returns-in-Ok-clause-left : goal.returns-in-Ok-clause-left
 returns-in-Ok-clause-left g c =

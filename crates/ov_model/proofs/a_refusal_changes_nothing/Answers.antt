@@ -1,5 +1,0 @@
-use Rattle.ov_model.proofs.Steps.{a_refusal_changes_nothing}
-use Rattle.ov_model.proofs.a_refusal_changes_nothing.Goals as goal
-
-pub returns : goal.returns
-returns c = a_refusal_changes_nothing

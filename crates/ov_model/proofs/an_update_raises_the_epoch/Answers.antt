@@ -1,5 +1,0 @@
-use Rattle.ov_model.proofs.Steps.{an_update_raises_the_epoch}
-use Rattle.ov_model.proofs.an_update_raises_the_epoch.Goals as goal
-
-pub returns : goal.returns
-returns c = an_update_raises_the_epoch

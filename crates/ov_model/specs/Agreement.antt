@@ -1,0 +1,17 @@
+-- How the reader of a frame stands to the reader of updates.
+use Rattle.std.specs.Prelude.{ℕ, ◌≡◌, List}
+use Rattle.ov_fields.specs.Reading.{spanned}
+use Rattle.ov_record.specs.Reading.{update_at}
+use Rattle.ov_record.specs.Updates.{SealedUpdate}
+use Rattle.ov_record.specs.Spelling.{spelling, HasForm}
+use Rattle.ov_wire.specs.RequestReading.{spelling_at}
+use Rattle.ov_wire.specs.Updates.{IsSpelling}
+
+-- a frame's reader takes just the bytes that an update is read from, with sets in 32 bytes, or
+-- fails at the same byte
+abbrev pub FramesHoldSpellings : Type 0
+FramesHoldSpellings = (bytes : List ℕ) → spelling_at bytes ≡ spanned (update_at 32) bytes
+
+-- a frame can have the spelling of each update with form, with sets in 32 bytes
+abbrev pub FramesTakeUpdates : Type 0
+FramesTakeUpdates = (u : SealedUpdate) → HasForm 32 u → IsSpelling (spelling 32 u)

@@ -1,0 +1,21 @@
+//! The laws of the machine's step. The functions do nothing.
+ghost use Rattle.std.specs.Prelude.{◌≡◌, ℕ, ◌+◌};
+ghost use Rattle.ov_base.specs.declared.refusal.Refusal.{Refusal};
+ghost use Rattle.ov_script.specs.declared.command.Command.{Command};
+ghost use Rattle.ov_script.specs.declared.reply.Reply.TheVariants.{Accepted, Refused};
+ghost use Rattle.ov_history.specs.History.{epoch_of};
+ghost use Rattle.ov_history.specs.Plain.{PlainHistory, history_of};
+ghost use Rattle.ov_model.specs.Step.{reply_to, after};
+
+/// A command that is refused changes nothing.
+pub fn a_refusal_changes_nothing()
+    ensures { (h : PlainHistory) (command : Command) (why : Refusal)
+        → reply_to h command ≡ Refused why → after h command ≡ h }
+{}
+
+/// An update that is accepted raises the epoch by one, and the reply is the new epoch.
+pub fn an_update_raises_the_epoch()
+    ensures { (h : PlainHistory) (command : Command) (epoch : ℕ) → reply_to h command ≡ Accepted epoch
+        → (epoch ≡ epoch_of (history_of h) + 1)
+        × (epoch_of (history_of (after h command)) ≡ epoch) }
+{}

@@ -1,0 +1,48 @@
+//! Files as readers open them, with the keys that they have.
+ghost use Rattle.std.specs.Prelude.{◌≡◌, ◌≤◌, length, IfOk};
+ghost use Rattle.std.specs.Option.{option_copied};
+ghost use Rattle.ov_base.specs.declared.limits.TheConstants.{MAX_FILE_BYTES};
+ghost use Rattle.ov_surface.specs.Coats.{key_bytes};
+ghost use Rattle.overstore.specs.Opening.{surface_along, IsOpenedAs};
+
+use ov_base::{Key, Memory, Octets};
+use ov_chain::walk;
+use ov_keyed::same;
+use ov_surface::{base_encrypt, file_tag, reencrypt};
+use ov_tokens::{Chain, Layer, Surface};
+use std::alloc::Global;
+
+/// The bytes of file `number` for a reader with these keys, or None where the stored tag isn't
+/// theirs. Both coats come off a copy of what is stored.
+pub fn open(
+    alloc: Global,
+    access: &Key,
+    surface: Option<&Key>,
+    number: u32,
+    tag: &[u8; 32],
+    stored: &[u8],
+) -> Result<Option<Octets>, Memory>
+    requires { length stored.now ≤ MAX_FILE_BYTES }
+    ensures { IfOk result (IsOpenedAs access.now.bytes
+        (key_bytes (option_copied surface.entry)) number tag.now stored.now) }
+{
+    let mut bytes = stored.to_vec(alloc)?;
+    reencrypt(surface, None, number, 0, &mut bytes);
+    base_encrypt(access, number, 0, &mut bytes);
+    let octets = Octets::from_vec(bytes);
+    if same(&file_tag(access, number, octets.as_slice()), tag) {
+        Ok(Some(octets))
+    } else {
+        Ok(None)
+    }
+}
+
+/// The key of a surface, over a chain from the key of its root, where there is one.
+pub fn surface_key(master: &Key, chain: &Option<Chain>) -> Option<Key>
+    ensures { key_bytes result ≡ surface_along master.now.bytes chain.now }
+{
+    match chain {
+        Some(chain) => Some(walk(&Surface::key_of(master, chain.root), chain)),
+        None => None,
+    }
+}
