@@ -239,6 +239,8 @@ prepared_for {W} limit master s b u change p text has was same texts made =
     record {
       change = subst (λ (c : Change W). IsChange limit master s.catalogue (brief u) c) (sym made.change) is;
       bytes = made_is master s.catalogue u s.stored change.rewrites.items text p.rewritten.items p.new has.many is.rewrites texts made.bytes;
+      made = subst (λ (c : Change W). IsMadeBy master s.stored (text_of u) c p) (sym made.change)
+          (subst (λ (x : Option (List ℕ)). IsMadeBy master s.stored x change p) texts made);
     }
 
 has_room : (spare : ℕ) (new : Option (List ℕ)) → 1 ≤ spare → HasRoomForNew spare new

@@ -30,10 +30,12 @@ pub record MayBeMade {W : ℕ} (limit : ℕ) (s : Store) (p : Prepared W) : Type
   pub space : HasRoomForNew s.spare p.new
   pub whole : AreStored (applied s.catalogue p.change).files (stored_with s.stored p)
 
--- it is what this update makes of both halves, under the surface master
+-- it is what this update makes of both halves, under the surface master: new stored bytes are of just the
+-- files whose bytes the update rewrites, so that no other file is copied
 pub record IsPreparedFor {W : ℕ} (limit : ℕ) (master : List ℕ) (s : Store) (u : SealedUpdate) (p : Prepared W) : Type 0 where
   pub change : IsChange limit master s.catalogue (brief u) p.change
   pub bytes : stored_with s.stored p ≡ stored_after master (rewrites_of s.catalogue (brief u)) (text_of u) s.stored
+  pub made : IsMadeBy master s.stored (text_of u) p.change p
 
 -- what is answered to an update: what it makes, or why it isn't taken, as its catalogue says
 abbrev pub Prepares : {W : ℕ} → ℕ → List ℕ → Store → SealedUpdate → Result (Prepared W) PrepareFault → Type 0

@@ -11,7 +11,8 @@
 //! file number, and the room of both.
 //!
 //! * `prepare` answers as the catalogue does. What it prepares makes of the catalogue what the definition
-//!   of one update makes, and of the stored bytes too (`stored_after`).
+//!   of one update makes, and of the stored bytes too (`stored_after`); of the files that were there it
+//!   copies just those whose bytes the update rewrites.
 //! * `commit`: of whatever sealed history the old store was, the new one is that of the history with the
 //!   update, in both halves.
 //! * [`Vault::known`] does nothing; its contract is what holds of every vault: that of its catalogue, and
