@@ -14,4 +14,5 @@ pub record HasCause {T E : Type 0} (before now : ℕ) (result : Result T E) : Ty
 
 -- the count stays at Ok, and rises by one at an error; at its last value it stands still
 abbrev pub Counts : {T E : Type 0} → ℕ → ℕ → Result T E → Type 0
-Counts before now result = MatchResult result (λ _. now ≡ before) (λ _. now ≡ min (before + 1) (2 ^ 64 - 1))
+Counts before now result =
+    MatchResult result (λ _. now ≡ before) (λ _. now ≡ min (before + 1) (2 ^ 64 - 1))

@@ -14,7 +14,9 @@ is_name_byte b = is_letter_or_digit b || b == 46 || b == 95 || b == 45
 -- a letter or a digit, and then fewer than MAX_NAME_BYTES bytes that may stand in a name
 abbrev pub is_name : List ℕ → Bool
 is_name [] = false
-is_name (first ∷ rest) = is_letter_or_digit first && nat_lt (length rest) MAX_NAME_BYTES && list_all is_name_byte rest
+is_name (first ∷ rest) =
+    is_letter_or_digit first && nat_lt (length rest) MAX_NAME_BYTES && list_all is_name_byte rest
 
+-- the bytes are a name
 abbrev pub IsName : List ℕ → Type 0
 IsName bytes = IsTrue (is_name bytes)

@@ -16,6 +16,7 @@ single user = 2 ^ user
 abbrev pub has : ℕ → ℕ → Bool
 has set user = bit_at set user == 1
 
+-- the user is in the set
 abbrev pub Has : ℕ → ℕ → Type 0
 Has set user = IsTrue (has set user)
 
@@ -35,6 +36,7 @@ without set user = bit_xor set (bit_and set (single user))
 abbrev pub within : ℕ → ℕ → Bool
 within a b = bit_and a b == a
 
+-- each user of the one set is in the other, told user by user
 abbrev pub Within : ℕ → ℕ → Type 0
 Within a b = (user : ℕ) → Has a user → Has b user
 

@@ -12,14 +12,14 @@ use Rattle.ov_fields.specs.Spelling.{flag}
 abbrev pub Read : Type 0 → Type 0
 Read A = Result (A × List ℕ) ℕ
 
--- what is read next from the value, or the fault
 infixl 10 ◌>>=◌
+-- what is read next from the value, or the fault
 abbrev pub ◌>>=◌ : {A B : Type 0} → Result A ℕ → (A → Result B ℕ) → Result B ℕ
 (Ok x) >>= next = next x
 (Err left) >>= next = Err left
 
--- one field and then another
 infixl 20 ◌>>◌
+-- one field and then another
 abbrev pub ◌>>◌ : {A B : Type 0} → (List ℕ → Read A) → (List ℕ → Read B) → List ℕ → Read (A × B)
 (first >> second) bytes = do
   a ← first bytes
