@@ -3,19 +3,21 @@
 use Rattle.std.specs.Prelude.{◌≡◌, ◌≢◌, ◌⊎◌, ◌↔◌, ℕ, ◌<◌, ◌≤◌, List, length, slice_get, Contains}
 use Rattle.std.specs.Prelude.{Some, None, Bool, true, IsTrue}
 use Rattle.ov_base.specs.declared.mode.Mode.{Mode}
+use Rattle.ov_base.specs.declared.refusal.Refusal.{Refusal}
+use Rattle.ov_base.specs.Refusals.{refusal_number}
 use Rattle.ov_record.specs.Updates.{SealedUpdate}
 use Rattle.ov_tokens.specs.declared.label.Kind.TheVariants.{Surface}
 use Rattle.ov_tokens.specs.declared.label.Label.{Label}
-use Rattle.ov_history.specs.History.{History, epoch_of, matrix_of}
+use Rattle.ov_history.specs.History.{History, Matrix, Update, epoch_of, matrix_of}
 use Rattle.ov_history.specs.Lists.{is_listed}
 use Rattle.ov_history.specs.Layers.{layers_of}
-use Rattle.ov_history.specs.Refusals.{refusal_of}
+use Rattle.ov_history.specs.Refusals.{read_refusal, read_tests, refusal_of, tests_of}
 use Rattle.ov_history.specs.Briefs.{Brief, brief, outer}
 use Rattle.ov_history.specs.Catalogue.{Filed, Catalogue, catalogue_after, empty_catalogue}
 use Rattle.ov_history.specs.Catalogue.{matrix_shown, outline}
 use Rattle.ov_history.specs.Rewrites.{Rewrite, files_after, rewrites_of}
 use Rattle.ov_history.specs.Sealed.{SealedHistory, IsSealed, HasParts, StandsFor, catalogue_of}
-use Rattle.ov_history.specs.Sealed.{outer_of, with_sealed, refusal_shown}
+use Rattle.ov_history.specs.Sealed.{blank, outer_of, with_sealed, refusal_shown}
 use Rattle.ov_history.specs.Closure.{Reaches, ReachesAll, Holds, HoldsFile, IsClosed, IsRootOf}
 use Rattle.ov_history.specs.Closure.{IsRootOfSome, protecting}
 use Rattle.ov_history.specs.Sound.{IsSound}
@@ -64,6 +66,12 @@ ClosureIsLeast =
 
 -- ---- histories
 
+-- a catalogue that begins empty stands for the history without updates
+abbrev pub HistoriesBegin : Type 0
+HistoriesBegin =
+    (master : List ℕ) (mode : Mode) (first : ℕ)
+    → StandsFor master (empty_catalogue mode first) (blank mode first)
+
 -- a sealed history goes on with each update that isn't refused and has its parts, and a catalogue
 -- that stands for the first stands after the update for the longer one
 abbrev pub HistoriesGoOn : Type 0
@@ -77,6 +85,21 @@ abbrev pub RefusalsAreShown : Type 0
 RefusalsAreShown =
     (master : List ℕ) (c : Catalogue) (g : SealedHistory) (b : Brief)
     → StandsFor master c g → refusal_shown c b ≡ refusal_of (outer_of g) (outer b)
+
+-- where several refusals apply to an update, the one with the lowest number is answered
+abbrev pub LowestIsAnswered : Type 0
+LowestIsAnswered =
+    (h : History) (u : Update) (why other : Refusal)
+    → refusal_of h u ≡ Some why
+    → Contains (tests_of (matrix_of h) (layers_of h) (epoch_of h) u) (other, true)
+    → refusal_number why ≤ refusal_number other
+
+-- .. and where several apply to a read
+abbrev pub LowestIsAnsweredToReads : Type 0
+LowestIsAnsweredToReads =
+    (m : Matrix) (user file : ℕ) (why other : Refusal)
+    → read_refusal m user file ≡ Some why → Contains (read_tests m user file) (other, true)
+    → refusal_number why ≤ refusal_number other
 
 -- a catalogue shows the layers, the matrix and the epoch of this history
 pub record ShowsHistory (h : History) (c : Catalogue) : Type 0 where
@@ -103,6 +126,11 @@ SoundGoesOn =
 -- a catalogue that begins empty is sound
 abbrev pub NothingIsSound : Type 0
 NothingIsSound = (mode : Mode) (first : ℕ) → IsSound (empty_catalogue mode first)
+
+-- a catalogue that stands for a sealed history is sound
+abbrev pub HistoriesAreSound : Type 0
+HistoriesAreSound =
+    (master : List ℕ) (c : Catalogue) (g : SealedHistory) → StandsFor master c g → IsSound c
 
 -- ---- rewrites
 

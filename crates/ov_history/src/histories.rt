@@ -2,17 +2,24 @@
 //! nothing.
 ghost use Rattle.ov_history.specs.KeptLaws.{OwnersHistories, SealedComesOfOne, SealedIsSealed};
 ghost use Rattle.ov_history.specs.KeptLaws.{SealingGoesOn, SealingIsOuter};
-ghost use Rattle.ov_history.specs.Laws.{FilesAreThoseAfter, HistoriesGoOn, HistoryIsShown};
-ghost use Rattle.ov_history.specs.Laws.{RefusalsAreShown, RewritesAreExact, RewritesAreInOrder};
+ghost use Rattle.ov_history.specs.Laws.{FilesAreThoseAfter, HistoriesBegin, HistoriesGoOn};
+ghost use Rattle.ov_history.specs.Laws.{HistoryIsShown, LowestIsAnswered};
+ghost use Rattle.ov_history.specs.Laws.{LowestIsAnsweredToReads, RefusalsAreShown};
+ghost use Rattle.ov_history.specs.Laws.{RewritesAreExact, RewritesAreInOrder};
 
-/// A store refuses what its history refuses.
+/// A store refuses what its history refuses. Where several refusals apply, the one with the lowest
+/// number is answered, to an update and to a read.
 pub fn refusals_are_shown()
-    ensures { RefusalsAreShown }
+    ensures shown { RefusalsAreShown }
+    ensures lowest { LowestIsAnswered }
+    ensures reads { LowestIsAnsweredToReads }
 {}
 
-/// A sealed history goes on with each update that isn't refused and has its parts.
+/// A sealed history begins empty, and goes on with each update that isn't refused and has its
+/// parts.
 pub fn histories_go_on()
-    ensures { HistoriesGoOn }
+    ensures begins { HistoriesBegin }
+    ensures goes_on { HistoriesGoOn }
 {}
 
 /// A catalogue that stands for a sealed history shows its layers, its matrix and its epoch.
