@@ -8,7 +8,8 @@ use Rattle.std.proofs.lemmas.Option.{get_or_from_slice_get, slice_get_within}
 use Rattle.std.proofs.Math.ListN.{get_or-append}
 use Rattle.std.proofs.Math.Seq.{drop-cons, take-append_seam}
 use Rattle.ov_base.specs.Sets.{Has, single, with}
-use Rattle.ov_base.proofs.SetLaws.{each_within, Has-single, union-Has, with-Has, with_within, within_with}
+use Rattle.ov_base.proofs.SetLaws.{Has-single, union-Has, with-Has, within_with}
+use Rattle.ov_base.proofs.SetSizes.{with_member}
 use Rattle.ov_graph.proofs.ListLaws.{Contains-cases, Contains-first, Contains-later, Contains-none}
 use Rattle.ov_base_layer.specs.declared.grant.Grant.{Grant}
 use Rattle.ov_base_layer.specs.BaseContents.{BaseContents, holders_of}
@@ -138,13 +139,8 @@ found_holders layer sets grants found node set held user held_is found_is set_is
     subst (λ users. Has users user ↔ IsHolder layer.graph.sets (accesses_of layer.grants) node user) (sym is)
     (holders_are layer.graph.sets (accesses_of layer.grants) node user)
 
--- a user who is in the set is there already
-with_held : (set user : ℕ) → Has set user → with set user ≡ set
-with_held set user held =
-    each_within (with set user) set (with_within set user set (λ n there. there) held) (within_with set user)
-
 still_if : (b : Bool) (set user : ℕ) → (b ≡ true → Has set user) → with_if b set user ≡ set
-still_if true set user held = with_held set user (held refl)
+still_if true set user held = with_member set user (held refl)
 still_if false set user held = refl
 
 -- access for who holds the node changes nothing

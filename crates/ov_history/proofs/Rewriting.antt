@@ -3,6 +3,7 @@
 use Rattle.std.proofs.Common.{◌≡◌, ◌≢◌, ◌<◌, ◌+◌, ℕ, zero, suc, Bool, true, false, List, [], ◌∷◌}
 use Rattle.std.proofs.Common.{◌++◌, length, refl, sym, ◌∙◌, ap, subst, arith}
 use Rattle.std.specs.Prelude.{Option, None, slice_index_or}
+use Rattle.std.proofs.lemmas.List.{nil_from_length}
 use Rattle.ov_surface.specs.Coats.{stored_under}
 use Rattle.ov_surface.proofs.CoatLaws.{coated-coated, length-coated}
 use Rattle.ov_history.specs.Places.{change_at}
@@ -22,15 +23,11 @@ length-restored master from to number bytes =
     (stored_under (surface_key master from) number bytes)
     ∙ length-coated (surface_key master from) number 0 bytes
 
-none_of : (bytes : List ℕ) → length bytes ≡ 0 → bytes ≡ []
-none_of [] many = refl
-none_of (b ∷ bytes) many = absurd (omega arith)
-
 -- no bytes stay none
 restored-none : (master : List ℕ) (from to : Option ℕ) (number : ℕ)
     → restored master from to number [] ≡ []
 restored-none master from to number =
-    none_of (restored master from to number []) (length-restored master from to number [])
+    nil_from_length (restored master from to number []) (length-restored master from to number [])
 
 -- the same surface changes nothing
 restored-same : (master : List ℕ) (surface : Option ℕ) (number : ℕ) (bytes : List ℕ)

@@ -59,7 +59,7 @@ pub files_shown-length : (y : Layers) (files : List Filed)
 files_shown-length y [] = refl
 files_shown-length y (f ∷ files) = ap suc (files_shown-length y files)
 
-is_below : (n many : ℕ) → not (nat_lt n many) ≡ false → n < many
+pub is_below : (n many : ℕ) → not (nat_lt n many) ≡ false → n < many
 is_below n many e = lt_of_true n many (true_of_not (nat_lt n many) e)
 
 file_is : (file : ℕ) (c : Catalogue)

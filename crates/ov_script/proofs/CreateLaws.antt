@@ -4,6 +4,7 @@ use Rattle.std.specs.Prelude.{codes}
 use Rattle.std.specs.Fmt.{decimal}
 use Rattle.std.specs.List.{list_any, AllByRecursion}
 use Rattle.std.specs.Str.{bytes_eq}
+use Rattle.std.proofs.lemmas.Bool.{or_parts}
 use Rattle.std.proofs.lemmas.Map.Keys.{IsDistinct-head, IsDistinct-tail, IsDistinct-cons}
 use Rattle.std.proofs.lemmas.Map.Made.{IsDistinct-from_AllPairs}
 use Rattle.std.proofs.lemmas.Slice.Eq.{bytes_eq-Decides}
@@ -30,10 +31,6 @@ list_names text names (said, are, e, once) = subst AreNames (sym once) (with_nam
 
 -- ---- none comes twice
 
-both_false : (a b : Bool) → (a || b) ≡ false → (a ≡ false) × (b ≡ false)
-both_false true b e = absurd (cc)
-both_false false b e = (refl, e)
-
 flipped : (a b : List ℕ) (test : Bool) → bytes_eq b a ≡ test → bytes_eq a b ≡ false → bytes_eq b a ≡ false
 flipped a b false e p = e
 flipped a b true e p =
@@ -48,10 +45,10 @@ all_differ n name (m ∷ names) all differs = (all.0, all_differ n name names al
 none_distinct : AreDistinct []
 none_distinct = IsDistinct-from_AllPairs bytes_eq-Decides [] (λ i j d before none. absurd (omega arith))
 
-distinct_last : (names : List (List ℕ)) (name : List ℕ) → AreDistinct names → is_among name names ≡ false → AreDistinct (names ++ name ∷ [])
+pub distinct_last : (names : List (List ℕ)) (name : List ℕ) → AreDistinct names → is_among name names ≡ false → AreDistinct (names ++ name ∷ [])
 distinct_last [] name d none = IsDistinct-cons bytes_eq name [] tt none_distinct
 distinct_last (n ∷ names) name d none =
-    let both = both_false (bytes_eq name n) (list_any (bytes_eq name) names) none in
+    let both = or_parts (bytes_eq name n) (list_any (bytes_eq name) names) none in
     let differs = all_differ n name names (IsDistinct-head bytes_eq n names d) (flipped name n (bytes_eq n name) refl both.0) in
     IsDistinct-cons bytes_eq n (names ++ name ∷ []) differs (distinct_last names name (IsDistinct-tail bytes_eq n names d) both.1)
 

@@ -3,6 +3,7 @@ use Rattle.std.proofs.Common.{◌≡◌, ℕ, zero, suc, ◌+◌, ◌*◌, ◌-�
 use Rattle.std.specs.Prelude.{nat_lt, nat_le}
 use Rattle.std.proofs.lemmas.Bool.{and_parts}
 use Rattle.std.proofs.lemmas.Bool.Decides.{nat_tests}
+use Rattle.std.proofs.lemmas.List.{nil_from_length}
 use Rattle.ov_base.specs.declared.limits.TheConstants.{MAX_FILE_BYTES, MAX_LINE_BYTES}
 use Rattle.ov_base.specs.Names.{is_letter_or_digit}
 use Rattle.ov_script.specs.LineEnds.{fewest_more, has_room, may_go_on}
@@ -117,10 +118,7 @@ sound_run front (b ∷ bytes) s = sound_run (step front b) bytes (sound_step fro
 
 none_or_not : (front : Front) (fewest : Option ℕ) → fewest_more front ≡ fewest → IfSoMany fewest (Fits front) → Decided (Fits front [])
 none_or_not front None e some = no' (λ p. subst (λ f. AtLeast f 0) e (fits_needs front [] p))
-none_or_not front (Some zero) e (text, p, size) = yes (subst (Fits front) (no_bytes text size) p) where
-  no_bytes : (text : List ℕ) → length text ≡ 0 → text ≡ []
-  no_bytes [] n = refl
-  no_bytes (b ∷ text) n = absurd (omega arith)
+none_or_not front (Some zero) e (text, p, size) = yes (subst (Fits front) (nil_from_length text size) p)
 none_or_not front (Some (suc n)) e some = no' (λ p. let more : suc n ≤ 0 = subst (λ f. AtLeast f 0) e (fits_needs front [] p) in absurd (omega arith))
 
 pub line_or_not : (bytes : List ℕ) → Decided (Fits Start bytes)

@@ -65,7 +65,3 @@ why_kept left room a b more ended taken why = why_at room (text_of left a) (text
 pub none_taken : (old new more : List ℕ) → new ≡ old ++ more → length more ≡ 0 → new ≡ old
 none_taken old new [] e none = e ∙ append-nil old
 none_taken old new (b ∷ more) e none = absurd (omega arith)
-
-pub none_more : (more : List ℕ) → length more ≡ 0 → more ≡ []
-none_more [] none = refl
-none_more (b ∷ more) none = absurd (omega arith)

@@ -1,13 +1,14 @@
 use Rattle.std.proofs.Common.{◌≡◌, length, arith, ap, sym, refl, ◌∙◌}
 use Rattle.std.proofs.lemmas.Bool.Decides.{nat_tests}
 use Rattle.std.proofs.lemmas.Grind.{common_steps}
+use Rattle.std.proofs.lemmas.List.{nil_from_length}
 use Rattle.std.proofs.lemmas.Result.{err_from_is_err_and}
 use Rattle.std.proofs.KnownBytes.{Consumes-nil, Consumes-kept}
 use Rattle.ov_script.specs.Feed.{Takes}
 use Rattle.ov_script.specs.declared.front.Front.TheVariants.{Start}
 use Rattle.ov_script.specs.LineFronts.{run}
 use Rattle.ov_script.proofs.Needing.{needs_more, while_as}
-use Rattle.ov_script.proofs.Taking.{seen_again, Takes-trans, seen_behind, none_taken, none_more}
+use Rattle.ov_script.proofs.Taking.{seen_again, Takes-trans, seen_behind, none_taken}
 use Rattle.ov_script.proofs.find.find.Goals as goal
 
 pub returns-in_err-line-clause-found : goal.returns-in_err-line-clause-found
@@ -56,7 +57,7 @@ returns-then-branch-eq0-clause-needed g c =
     let unsettled = rw c.pending-bytes.ensures at opened.1.unsettled in
     let more = c.in_ok-fill-in-Open.ensures.taken in
     let zero : c.in_ok-fill-in-Open.field-0 ≡ 0 = c.if-branch-eq0.true in
-    needs_more g.S.Source.takes g.S.Source.left c.args.room _ c.args.feed.now c.pieces.feed c.fill.new.self _ more.0 c.pieces.invariant.taken.1 unsettled c.in_ok-fill-in-Open.ensures.step more.3 (λ f. none_more more.0 (more.2 ∙ zero))
+    needs_more g.S.Source.takes g.S.Source.left c.args.room _ c.args.feed.now c.pieces.feed c.fill.new.self _ more.0 c.pieces.invariant.taken.1 unsettled c.in_ok-fill-in-Open.ensures.step more.3 (λ f. nil_from_length more.0 (more.2 ∙ zero))
 
 pub pieces-preserved : goal.pieces-preserved
 pieces-preserved g c =
