@@ -33,3 +33,4 @@ pub mod ListChanges
 pub mod Revoking
 pub mod Granting
 pub mod WithinLimits
+pub mod PartPlaces

@@ -4,15 +4,14 @@ use Rattle.std.specs.Prelude.{slice_get, Contains, Option, Some, None, IfSome}
 use Rattle.std.proofs.lemmas.List.{append-nil}
 use Rattle.std.proofs.lemmas.Option.{slice_get_within}
 use Rattle.ov_graph.specs.Contents.{joined, plan_of}
-use Rattle.ov_graph.proofs.ListLaws.{place-Contains}
 use Rattle.ov_base_layer.specs.Seals.{cover_tokens}
 use Rattle.ov_tokens.specs.declared.label.Kind.TheVariants.{Surface as SurfaceLabels}
 use Rattle.ov_history.specs.Places.{change_at}
-use Rattle.ov_history.specs.Layers.{node_for, with_wants, surface_at, same_surface}
+use Rattle.ov_history.specs.Layers.{with_wants, surface_at, same_surface}
 use Rattle.ov_history.specs.Catalogue.{Filed, Nodes, Catalogue, added_if, refiled, settled_file, settled_files, with_surfaces}
 use Rattle.ov_history.specs.Rewrites.{Rewrite as PlainRewrite, rewrite_unless, rewrites_from}
 use Rattle.ov_history.proofs.Listing.{same_surface-is, same_surface-refl}
-use Rattle.ov_history.proofs.PlanLaws.{plan-fresh, plan-held, plan-there, with_wants-still}
+use Rattle.ov_history.proofs.PlanLaws.{plan-there, with_wants-still}
 use Rattle.ov_history.proofs.Outlining.{with_surfaces-sets}
 use Rattle.ov_state.specs.declared.change.Rewrite.{Rewrite}
 use Rattle.ov_state.specs.declared.change.NewNode.{NewNode}
@@ -23,7 +22,7 @@ use Rattle.ov_state.specs.Entries.{plain_file, plain_rewrite, plain_rewrites}
 use Rattle.ov_state.specs.Changes.{nodes_added, rewritten, all_rewritten, AreOfFiles}
 use Rattle.ov_state.specs.Relistings.{sets_in, nodes_planned, with_want, with_rewrite, rewrite_if, IsSettled, AreSettled, IsFull}
 use Rattle.ov_state.proofs.PlannedNodes.{length-sets_in, nodes_added-sets, none-planned}
-use Rattle.ov_state.proofs.StayingNodes.{node_for-with_wants}
+use Rattle.ov_state.proofs.StayingNodes.{low_there, node_for-with_wants}
 use Rattle.ov_state.proofs.SettledMore.{change-same, change-alike, all_rewritten-append, AreOfFiles-append, with_surfaces-append, plain_rewrites-append, rewrites-none, rewrites-settled, settled-more, settled-next}
 use Rattle.ov_base.specs.declared.limits.TheConstants.{MAX_LAYER_NODES}
 
@@ -32,14 +31,10 @@ use Rattle.ov_base.specs.declared.limits.TheConstants.{MAX_LAYER_NODES}
 -- the wanted set of a file that has its wanted surface is there
 pub wanted_there : (sets : List ℕ) (surface want : Option ℕ) → IfSome surface (λ node. node < length sets)
     → same_surface surface (surface_at sets want) ≡ true → (set : ℕ) → want ≡ Some set → Contains sets set
-wanted_there sets surface want low same set is = by_fresh (plan_of sets set).fresh refl where
-  node_low : node_for sets set < length sets
-  node_low = subst (λ (o : Option ℕ). IfSome o (λ node. node < length sets))
-      (same_surface-is surface (surface_at sets want) same ∙ ap (surface_at sets) is) low
-
-  by_fresh : (b : Bool) → (plan_of sets set).fresh ≡ b → Contains sets set
-  by_fresh true fresh = let next = (plan-fresh sets set fresh).0 in absurd (omega (arith, next, node_low))
-  by_fresh false held = let found = plan-held sets set held in place-Contains sets (node_for sets set) set found.0 found.1
+wanted_there sets surface want low same set is =
+    low_there sets set
+    (subst (λ (o : Option ℕ). IfSome o (λ node. node < length sets))
+    (same_surface-is surface (surface_at sets want) same ∙ ap (surface_at sets) is) low)
 
 -- it makes no node
 pub with_want-there : (master : List ℕ) (nodes : Nodes) (want : Option ℕ) → ((set : ℕ) → want ≡ Some set → Contains nodes.sets set)

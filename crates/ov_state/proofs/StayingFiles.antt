@@ -1,15 +1,13 @@
 -- Files that have their wanted surfaces, and the updates that leave them so.
-use Rattle.std.proofs.Common.{◌≡◌, ℕ, suc, ◌<◌, Bool, true, false, List, [], ◌∷◌, ◌++◌, length, refl, ◌∙◌, ap, subst, arith}
-use Rattle.std.specs.Prelude.{Contains, Option, Some, None, IfSome, slice_get}
+use Rattle.std.proofs.Common.{◌≡◌, ℕ, suc, ◌<◌, List, [], ◌∷◌, ◌++◌, length, refl, ◌∙◌, ap, subst, arith}
+use Rattle.std.specs.Prelude.{Option, Some, None, IfSome, slice_get}
 use Rattle.ov_surface.specs.Wanted.{wanted_surface}
-use Rattle.ov_graph.specs.Contents.{plan_of}
-use Rattle.ov_graph.proofs.ListLaws.{place-Contains}
-use Rattle.ov_history.specs.Layers.{Layers, Place, node_for, holders, list_at, lists_at, lists_of, surface_at, wants_at, wants_of}
+use Rattle.ov_history.specs.Layers.{Layers, Place, holders, list_at, lists_at, lists_of, surface_at, wants_at, wants_of}
 use Rattle.ov_history.specs.Catalogue.{Filed, Catalogue, outline, place_of_file, places}
 use Rattle.ov_history.proofs.Listing.{same_surface-is}
-use Rattle.ov_history.proofs.PlanLaws.{plan-held, plan-fresh}
 use Rattle.ov_state.specs.Contents.{IsWell}
 use Rattle.ov_state.proofs.Staying.{IsAmong, AreKept}
+use Rattle.ov_state.proofs.StayingNodes.{low_there}
 use Rattle.ov_state.proofs.WellSettled.{AllSettled, each-settled}
 
 -- ---- the files of a state
@@ -18,13 +16,8 @@ use Rattle.ov_state.proofs.WellSettled.{AllSettled, each-settled}
 among_there : (sets : List ℕ) (want : Option ℕ) (surface : Option ℕ) → surface ≡ surface_at sets want
     → IfSome surface (λ n. n < length sets) → IsAmong sets want
 among_there sets None surface own there = tt
-among_there sets (Some set) surface own there = by_test (plan_of sets set).fresh refl where
-  low : node_for sets set < length sets
-  low = subst (λ (o : Option ℕ). IfSome o (λ n. n < length sets)) own there
-
-  by_test : (b : Bool) → (plan_of sets set).fresh ≡ b → Contains sets set
-  by_test true fresh = absurd (omega (arith, low, (plan-fresh sets set fresh).0))
-  by_test false held = place-Contains sets (node_for sets set) set low (plan-held sets set held).1
+among_there sets (Some set) surface own there =
+    low_there sets set (subst (λ (o : Option ℕ). IfSome o (λ n. n < length sets)) own there)
 
 kept_files : (y : Layers) (files : List Filed) → AllSettled y (places files)
     → ((file : ℕ) (f : Filed) → slice_get files file ≡ Some f → IfSome f.surface (λ n. n < length y.surface))

@@ -1,14 +1,14 @@
 -- The node of a set stays when more sets come after it.
-use Rattle.std.proofs.Common.{◌≡◌, ℕ, ◌==◌, Bool, true, false, List, [], ◌∷◌, ◌++◌, length, get_or}
+use Rattle.std.proofs.Common.{◌≡◌, ℕ, ◌<◌, ◌==◌, Bool, true, false, List, [], ◌∷◌, ◌++◌, length, get_or}
 use Rattle.std.proofs.Common.{refl, sym, ◌∙◌, ap, arith, eq-eqb, length-append, true≢false}
 use Rattle.std.specs.Prelude.{Contains, Option, Some, None}
 use Rattle.std.proofs.lemmas.List.{get_or_append_left}
 use Rattle.std.proofs.lemmas.List.Quantifiers.{position-Some}
 use Rattle.ov_graph.specs.Contents.{node_of, planned, plan_of}
 use Rattle.ov_graph.proofs.GraphLaws.{last_item}
-use Rattle.ov_graph.proofs.ListLaws.{first_is, node_some}
+use Rattle.ov_graph.proofs.ListLaws.{first_is, node_some, place-Contains}
 use Rattle.ov_history.specs.Layers.{node_for, appended, with_set, with_wants}
-use Rattle.ov_history.proofs.PlanLaws.{plan-fresh, plan-there, with_set-still}
+use Rattle.ov_history.proofs.PlanLaws.{plan-fresh, plan-held, plan-there, with_set-still}
 
 -- ---- a set that is there
 
@@ -57,3 +57,10 @@ node_for-own sets set fresh =
     (first_is (sets ++ set ∷ []) set (length sets) (omega (arith, length-append sets (set ∷ []))) (last_item sets set (length sets) 0 refl)
     (λ k low is. new.1 k low (sym (get_or_append_left sets (set ∷ []) 0 k low) ∙ is)))
     ∙ sym new.0
+
+-- a set whose node is there is among the sets
+pub low_there : (sets : List ℕ) (set : ℕ) → node_for sets set < length sets → Contains sets set
+low_there sets set low = by_fresh (plan_of sets set).fresh refl where
+  by_fresh : (b : Bool) → (plan_of sets set).fresh ≡ b → Contains sets set
+  by_fresh true fresh = absurd (omega (arith, low, (plan-fresh sets set fresh).0))
+  by_fresh false held = place-Contains sets (node_for sets set) set low (plan-held sets set held).1

@@ -2,6 +2,7 @@ pub mod Entries
 pub mod Contents
 pub mod Changes
 pub mod Plans
+pub mod Places
 pub mod Faults
 pub mod Relistings
 pub mod NewFiles

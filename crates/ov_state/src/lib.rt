@@ -51,6 +51,7 @@
 //! | `Entries` | files and rewrites of the code in the words of histories |
 //! | `Contents` | `Held`, and what holds of every state |
 //! | `Plans` | briefs, and what `prepare` answers |
+//! | `Places` | where an update's parts stand in its spelling |
 //! | `Changes` | what a change makes, where it suits, and the room that it takes |
 //! | `Standing` | what a catalogue stands for, before and after a change |
 //! | `Queries` | numbers, sizes and lists |
@@ -73,6 +74,7 @@ mod fault;
 mod files;
 mod lookup;
 mod new_nodes;
+mod places;
 mod plan_list;
 mod plan_new;
 mod prepare;
@@ -91,5 +93,6 @@ pub use chains::access_key_by;
 pub use change::{Change, Rewrite};
 pub use fault::{ChainFault, PrepareFault};
 pub use files::FileEntry;
+pub use places::parts_stand_at_their_place;
 pub use queries::Sizes;
 pub use state::{Catalogue, State, WIDTH};

@@ -16,8 +16,8 @@ abbrev pub stored_with : {W : ℕ} → List (List ℕ) → Prepared W → List (
 stored_with stored p = with_text (put_all stored p.rewritten.items) p.new
 
 -- it is this change, with what its rewrites make of what is stored and of the text of a new file
-pub record IsMadeBy {W : ℕ} (master : List ℕ) (stored : List (List ℕ)) (text : Option (List ℕ)) (made : Change W) (p : Prepared W)
-    : Type 0 where
+pub record IsMadeBy {W : ℕ} (master : List ℕ) (stored : List (List ℕ)) (text : Option (List ℕ))
+    (made : Change W) (p : Prepared W) : Type 0 where
   pub change : p.change ≡ made
   pub bytes : IsMade master stored text made.rewrites.items p.rewritten.items p.new
   pub files : AreOfFiles (length stored) p.rewritten.items
@@ -30,14 +30,17 @@ pub record MayBeMade {W : ℕ} (limit : ℕ) (s : Store) (p : Prepared W) : Type
   pub space : HasRoomForNew s.spare p.new
   pub whole : AreStored (applied s.catalogue p.change).files (stored_with s.stored p)
 
--- it is what this update makes of both halves, under the surface master: new stored bytes are of just the
--- files whose bytes the update rewrites, so that no other file is copied
-pub record IsPreparedFor {W : ℕ} (limit : ℕ) (master : List ℕ) (s : Store) (u : SealedUpdate) (p : Prepared W) : Type 0 where
+-- it is what this update makes of both halves, under the surface master: new stored bytes are of
+-- just the files whose bytes the update rewrites, so that no other file is copied
+pub record IsPreparedFor {W : ℕ} (limit : ℕ) (master : List ℕ) (s : Store) (u : SealedUpdate)
+    (p : Prepared W) : Type 0 where
   pub change : IsChange limit master s.catalogue (brief u) p.change
-  pub bytes : stored_with s.stored p ≡ stored_after master (rewrites_of s.catalogue (brief u)) (text_of u) s.stored
+  pub bytes : stored_with s.stored p
+      ≡ stored_after master (rewrites_of s.catalogue (brief u)) (text_of u) s.stored
   pub made : IsMadeBy master s.stored (text_of u) p.change p
 
 -- what is answered to an update: what it makes, or why it isn't taken, as its catalogue says
-abbrev pub Prepares : {W : ℕ} → ℕ → List ℕ → Store → SealedUpdate → Result (Prepared W) PrepareFault → Type 0
+abbrev pub Prepares : {W : ℕ} → ℕ → List ℕ → Store → SealedUpdate
+    → Result (Prepared W) PrepareFault → Type 0
 Prepares {W} limit master s u (Ok p) = IsPreparedFor limit master s u p
 Prepares {W} limit master s u (Err fault) = IsFaultOf W s.catalogue (brief u) fault

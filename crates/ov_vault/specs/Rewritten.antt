@@ -21,7 +21,8 @@ AreRewritten master stored [] [] = Unit {0}
 AreRewritten master stored [] (w ∷ more) = ⊥
 AreRewritten master stored (r ∷ rewrites) [] = ⊥
 AreRewritten master stored (r ∷ rewrites) (w ∷ more) =
-    (w.file ≡ r.file) × (w.bytes ≡ restored master r.old r.new r.file (slice_index_or stored r.file []))
+    (w.file ≡ r.file)
+    × (w.bytes ≡ restored master r.old r.new r.file (slice_index_or stored r.file []))
     × AreRewritten master stored rewrites more
 
 -- each of these is of one of so many files
@@ -41,21 +42,24 @@ abbrev pub AreBelow : ℕ → List Rewrite → Type 0
 AreBelow n [] = Unit {0}
 AreBelow n (r ∷ rewrites) = (r.file < n) × AreBelow n rewrites
 
--- all but the last of these rewrites are of files below this number, and the last is of the file with it
+-- all but the last of these rewrites are of files below this number, and the last is of the file
+-- with it
 abbrev pub EndAt : ℕ → List Rewrite → Type 0
 EndAt n [] = ⊥
 EndAt n (r ∷ []) = r.file ≡ n
 EndAt n (r ∷ other ∷ rewrites) = (r.file < n) × EndAt n (other ∷ rewrites)
 
--- The rewrites are of so many files that were there and, where there is the text of a new one, of that
--- behind them.
+-- The rewrites are of so many files that were there and, where there is the text of a new one, of
+-- that behind them.
 abbrev pub SuitText : ℕ → Option (List ℕ) → List StateRewrite → Type 0
 SuitText files None rewrites = AreBelow files (plain_rewrites rewrites)
 SuitText files (Some text) rewrites = EndAt files (plain_rewrites rewrites)
 
 -- what the rewrites make of what is stored, and of the text of a new file, under the surface master
-abbrev pub IsMade : List ℕ → List (List ℕ) → Option (List ℕ) → List StateRewrite → List Rewritten → Option (List ℕ) → Type 0
-IsMade master stored None rewrites made new = AreRewritten master stored (plain_rewrites rewrites) made × (new ≡ None)
+abbrev pub IsMade : List ℕ → List (List ℕ) → Option (List ℕ) → List StateRewrite → List Rewritten
+    → Option (List ℕ) → Type 0
+IsMade master stored None rewrites made new =
+    AreRewritten master stored (plain_rewrites rewrites) made × (new ≡ None)
 IsMade master stored (Some text) rewrites made new =
     (others : List StateRewrite) × (last : StateRewrite) × (rewrites ≡ others ++ last ∷ [])
     × AreRewritten master stored (plain_rewrites others) made

@@ -14,12 +14,13 @@ use Rattle.ov_vault.specs.declared.prepared.Prepared.{Prepared}
 abbrev pub IsStoreOf : List ℕ → Store → SealedHistory → Type 0
 IsStoreOf master s g = StandsFor master s.catalogue g × KeepsBytes master s.stored g
 
--- for every sealed history of which the old store was and every update that this was prepared for, the
--- new one is that of the history with that update
+-- for every sealed history of which the old store was and every update that this was prepared for,
+-- the new one is that of the history with that update
 abbrev pub GoesOn : {W : ℕ} → ℕ → Store → Prepared W → Store → Type 0
 GoesOn limit old p new =
     (master : List ℕ) (g : SealedHistory) (u : SealedUpdate)
-    → IsStoreOf master old g → IsPreparedFor limit master old u p → IsStoreOf master new (with_sealed g u)
+    → IsStoreOf master old g → IsPreparedFor limit master old u p
+    → IsStoreOf master new (with_sealed g u)
 
 -- the change of the catalogue in what is prepared, or why there is none
 abbrev pub change_in : {W : ℕ} → Result (Prepared W) PrepareFault → Result (Change W) PrepareFault
@@ -27,5 +28,7 @@ change_in (Ok p) = Ok p.change
 change_in (Err fault) = Err fault
 
 -- what is answered to an update is what each history says of it for which the catalogue stands
-abbrev pub IsAnsweredByHistories : {W : ℕ} → Store → SealedUpdate → Result (Prepared W) PrepareFault → Type 0
-IsAnsweredByHistories s u result = IsAnsweredAsItsHistory s.catalogue (brief u) (change_in result)
+abbrev pub IsAnsweredByHistories : {W : ℕ} → Store → SealedUpdate
+    → Result (Prepared W) PrepareFault → Type 0
+IsAnsweredByHistories s u result =
+    IsAnsweredAsItsHistory s.catalogue (brief u) (change_in result)

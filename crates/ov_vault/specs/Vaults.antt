@@ -5,8 +5,8 @@ use Rattle.ov_history.specs.Catalogue.{Catalogue, Filed, no_filed}
 use Rattle.ov_state.specs.Contents.{Room}
 use Rattle.ov_state.specs.declared.change.Rewrite.{Rewrite}
 
--- the catalogue and the room that it has, the stored bytes by file number, and for how many more files'
--- bytes there is room
+-- the catalogue and the room that it has, the stored bytes by file number, and for how many more
+-- files' bytes there is room
 pub record Store : Type 0 where
   pub catalogue : Catalogue
   pub room : Room
@@ -16,7 +16,8 @@ pub record Store : Type 0 where
 -- there are stored bytes for each file of the catalogue, as many as it says
 pub record AreStored (files : List Filed) (stored : List (List ℕ)) : Type 0 where
   pub many : length stored ≡ length files
-  pub lengths : (file : ℕ) → length (slice_index_or stored file []) ≡ (slice_index_or files file no_filed).length
+  pub lengths : (file : ℕ)
+      → length (slice_index_or stored file []) ≡ (slice_index_or files file no_filed).length
 
 -- no file has more bytes than a file may have
 abbrev pub AreShort : List (List ℕ) → Type 0
@@ -26,3 +27,9 @@ AreShort stored = (file : ℕ) → length (slice_index_or stored file []) ≤ MA
 abbrev pub AreRewritesOf : ℕ → List Rewrite → Type 0
 AreRewritesOf files [] = Unit {0}
 AreRewritesOf files (r ∷ rewrites) = (r.file < files) × AreRewritesOf files rewrites
+
+-- what both halves contain, and the room of the catalogue, is what it was
+pub record HoldsTheSame (old new : Store) : Type 0 where
+  pub catalogue : new.catalogue ≡ old.catalogue
+  pub room : new.room ≡ old.room
+  pub stored : new.stored ≡ old.stored

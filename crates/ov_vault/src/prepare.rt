@@ -6,6 +6,7 @@ ghost use Rattle.ov_history.specs.Briefs.{brief};
 ghost use Rattle.ov_state.specs.Plans.{IsFitting};
 ghost use Rattle.ov_vault.specs.Prepared.{IsMadeBy, MayBeMade, Prepares};
 ghost use Rattle.ov_vault.specs.Rewritten.{SuitText};
+ghost use Rattle.ov_vault.specs.Vaults.{HoldsTheSame};
 ghost use Rattle.ov_vault.specs.Standing.{IsAnsweredByHistories};
 
 use crate::prepared::Prepared;
@@ -59,9 +60,7 @@ impl<B: Graph<Base, W>, S: Graph<Surface, W>, const W: usize> Vault<B, S, W> {
 
     /// Makes room for the bytes of a new file.
     fn make_room(&mut self) -> Result<(), Memory>
-        ensures catalogue { self.new.catalogue ≡ self.old.catalogue }
-        ensures kept { self.new.room ≡ self.old.room }
-        ensures stored { self.new.stored ≡ self.old.stored }
+        ensures kept { HoldsTheSame self.old self.new }
         ensures room { OnOk result (1 ≤ self.new.spare) }
     {
         self.stored.reserve(1)?;
@@ -78,9 +77,7 @@ impl<B: Graph<Base, W>, S: Graph<Surface, W>, const W: usize> Vault<B, S, W> {
     ) -> Result<Prepared<W>, Memory>
         requires suits { SuitText (length self.old.stored) text change.rewrites.items }
         requires short { IfSome text (λ bytes. length bytes ≤ MAX_FILE_BYTES) }
-        ensures catalogue { self.new.catalogue ≡ self.old.catalogue }
-        ensures kept { self.new.room ≡ self.old.room }
-        ensures stored { self.new.stored ≡ self.old.stored }
+        ensures kept { HoldsTheSame self.old self.new }
         ensures made { IfOk result (IsMadeBy surface.now.bytes self.old.stored text change.entry) }
         ensures room { OnOk result (1 ≤ self.new.spare) }
     {

@@ -8,7 +8,7 @@ use ov_state::Change;
 /// there, and those of a new file.
 #[derive(Drop)]
 pub struct Prepared<const W: usize> {
-    pub change: Change<W>,
-    pub rewritten: Vec<Rewritten>,
-    pub new: Option<Octets>,
+    pub(crate) change: Change<W>,
+    pub(crate) rewritten: Vec<Rewritten>,
+    pub(crate) new: Option<Octets>,
 }

@@ -39,9 +39,9 @@ returns-in-Ok-finish-clause-made g c =
     c.self.view_is c.in-Ok-finish.ensures.made in
     may_be_made {W = g.row.W} (64 * g.row.W) c.args.surface.now.bytes c.args.self.now c.finish.new.self (sealed_update c.args.update)
     c.in-Ok-finish.prepared c.known.ensures.stored (returns-in-Ok-finish-clause-prepared g c)
-    (c.in-Ok-finish.ensures.catalogue ∙ c.in-Ok.ensures.same ∙ ap (λ (s : Store). s.catalogue) c.self.view_is)
-    (c.in-Ok-finish.ensures.stored ∙ ap (λ (s : Store). s.stored) c.self.view_is)
-    (subst (λ (room : Room). HasRoomFor {W = g.row.W} room c.in-Ok-finish.prepared.change) (sym c.in-Ok-finish.ensures.kept)
+    (c.in-Ok-finish.ensures.kept.catalogue ∙ c.in-Ok.ensures.same ∙ ap (λ (s : Store). s.catalogue) c.self.view_is)
+    (c.in-Ok-finish.ensures.kept.stored ∙ ap (λ (s : Store). s.stored) c.self.view_is)
+    (subst (λ (room : Room). HasRoomFor {W = g.row.W} room c.in-Ok-finish.prepared.change) (sym c.in-Ok-finish.ensures.kept.room)
     (subst (λ (change : Change g.row.W). HasRoomFor {W = g.row.W} c.prepare.new.self.room change) (sym made.change) c.in-Ok.ensures.room))
     made.files c.in-Ok-finish.ensures.room
 

@@ -1,0 +1,23 @@
+-- Where the parts of an update stand in its spelling.
+use Rattle.std.specs.Prelude.{◌≡◌, ℕ, ◌*◌, List, [], ◌++◌, length}
+use Rattle.ov_fields.specs.Spelling.{counted, optional, token_field}
+use Rattle.ov_record.specs.Spelling.{spelling}
+use Rattle.ov_record.specs.Updates.{SealedUpdate, SealedCreate, SealedEnrol, SealedGrant}
+use Rattle.ov_record.specs.Updates.{SealedRevoke}
+use Rattle.ov_history.specs.Briefs.{brief}
+use Rattle.ov_state.specs.Plans.{part_place}
+
+-- the parts of an update as they are spelled: its tokens behind their number, or its access token
+-- behind a flag; an enrolment and a revocation have none
+abbrev pub parts_spelled : SealedUpdate → List ℕ
+parts_spelled (SealedEnrol name) = []
+parts_spelled (SealedCreate name list tokens tag bytes) = counted token_field tokens
+parts_spelled (SealedGrant user file token) = optional token_field token
+parts_spelled (SealedRevoke user file) = []
+
+-- the parts stand there in the spelling of their update, whose set has so many words
+abbrev pub PartsStandAtTheirPlace : Type 0
+PartsStandAtTheirPlace =
+    (words : ℕ) (u : SealedUpdate)
+    → (front rest : List ℕ) × (spelling (8 * words) u ≡ front ++ parts_spelled u ++ rest)
+    × (length front ≡ part_place words (brief u))
