@@ -1,30 +1,16 @@
 -- No two users of a legal history have one name.
 use Rattle.std.proofs.Common.{◌≡◌, ℕ, ◌≤◌, Bool, true, false, List, [], ◌∷◌, ◌++◌, length, refl, sym, subst, arith}
 use Rattle.std.specs.Prelude.{None, nat_lt}
-use Rattle.std.specs.List.{IsDistinct, AllByRecursion}
-use Rattle.std.specs.Str.{bytes_eq}
+use Rattle.std.specs.List.{IsDistinct}
 use Rattle.std.proofs.lemmas.Bool.Decides.{nat_tests}
-use Rattle.ov_base.specs.NameLists.{is_among, AreDistinct}
+use Rattle.ov_base.specs.NameLists.{AreDistinct}
 use Rattle.ov_base.specs.declared.refusal.Refusal.TheVariants.{Taken}
 use Rattle.ov_history.specs.History.{Update, Enrolled, Created, Granted, Revoked, History, Matrix, matrix_of, start_of, with_update}
 use Rattle.ov_history.specs.Places.{place_of}
 use Rattle.ov_history.specs.Refusals.{Test, first_of_tests, refusal_of, AllAccepted, IsLegal}
 use Rattle.ov_history.proofs.PlaceLaws.{place_low, not_among}
 use Rattle.ov_history.proofs.Pushing.{matrix_of-push, with_updates, with_updates-all}
-use Rattle.overstore.proofs.NamesIn.{neither_is, same_bytes}
-
-all_push : (first name : List ℕ) (names : List (List ℕ)) → AllByRecursion (λ y. bytes_eq first y ≡ false) names → bytes_eq first name ≡ false
-    → AllByRecursion (λ y. bytes_eq first y ≡ false) (names ++ name ∷ [])
-all_push first name [] all other = (other, tt)
-all_push first name (x ∷ names) all other = (all.0, all_push first name names all.1 other)
-
--- a name that isn't among them keeps them distinct
-distinct_push : (names : List (List ℕ)) (name : List ℕ) → AreDistinct names → is_among name names ≡ false → AreDistinct (names ++ name ∷ [])
-unfolding IsDistinct
-distinct_push [] name distinct free = (tt, tt)
-distinct_push (first ∷ names) name distinct free =
-    let parts = neither_is (bytes_eq name first) (is_among name names) free in
-    (all_push first name names distinct.0 (same_bytes name first false parts.0), distinct_push names name distinct.1 parts.1)
+use Rattle.ov_script.proofs.CreateLaws.{distinct_last}
 
 not_taken : (b : Bool) (tests : List Test) → first_of_tests ((Taken, b) ∷ tests) ≡ None → b ≡ false
 not_taken true tests none = cc
@@ -34,7 +20,7 @@ step_distinct : (m : Matrix) (name : List ℕ) → AreDistinct m.users → nat_l
 step_distinct m name distinct free =
     let low : place_of name m.users ≤ length m.users = place_low name m.users in
     let past : place_of name m.users ≡ length m.users = grind (arith, nat_tests) in
-    distinct_push m.users name distinct (not_among name m.users past)
+    distinct_last m.users name distinct (not_among name m.users past)
 
 one_more : (h : History) (u : Update) → AreDistinct (matrix_of h).users → refusal_of h u ≡ None → AreDistinct (matrix_of (with_update h u)).users
 one_more h (Enrolled name) distinct none =

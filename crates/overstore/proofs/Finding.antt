@@ -1,6 +1,6 @@
 -- Users and files by name, those that aren't there, and what that refuses.
-use Rattle.std.proofs.Common.{◌≡◌, ◌⊎◌, inl, inr, ℕ, suc, ◌<◌, Bool, true, false, not, List, [], ◌∷◌, length, refl, sym, ◌∙◌, ap, subst, arith}
-use Rattle.std.specs.Prelude.{Option, Some, None, nat_lt, Ok, Err}
+use Rattle.std.proofs.Common.{◌≡◌, inl, inr, ℕ, suc, ◌<◌, not, List, [], ◌∷◌, length, refl, sym, ◌∙◌, ap, subst, arith}
+use Rattle.std.specs.Prelude.{Some, None, Err}
 use Rattle.ov_base.proofs.Tests.{below_passes, past_fails}
 use Rattle.ov_base.specs.declared.refusal.Refusal.{Refusal}
 use Rattle.ov_base.specs.declared.refusal.Refusal.TheVariants.{NoUser, NoFile}
@@ -10,8 +10,8 @@ use Rattle.ov_history.specs.Catalogue.{Catalogue, matrix_shown, outline}
 use Rattle.ov_history.specs.History.{File, Matrix, matrix_of}
 use Rattle.ov_history.specs.Lists.{file_names, user_number, file_number, is_user, is_file}
 use Rattle.ov_history.specs.Places.{IsNumber}
-use Rattle.ov_history.specs.Plain.{PlainUpdate, PlainGrant, PlainRevoke, PlainHistory, history_of, measured}
-use Rattle.ov_history.specs.Refusals.{Test, first_of_tests, refusal_of}
+use Rattle.ov_history.specs.Plain.{PlainGrant, PlainRevoke, PlainHistory, history_of}
+use Rattle.ov_history.specs.Refusals.{Test, first_of_tests}
 use Rattle.ov_history.proofs.SoundTests.{files_shown-length}
 use Rattle.overstore.specs.Machine.{Kept, StandsFor, Steps}
 use Rattle.overstore.specs.Owner.{FindsBoth, IsMissing}

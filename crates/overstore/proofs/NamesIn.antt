@@ -3,9 +3,11 @@ use Rattle.std.proofs.Common.{◌≡◌, ℕ, zero, suc, ◌+◌, Bool, true, fa
 use Rattle.std.specs.Prelude.{Some, slice_get}
 use Rattle.std.specs.List.{IsDistinct, AllByRecursion}
 use Rattle.std.specs.Str.{bytes_eq}
+use Rattle.std.proofs.lemmas.Bool.{or_parts}
 use Rattle.std.proofs.lemmas.List.{append-nil}
 use Rattle.std.proofs.lemmas.Slice.Eq.{bytes_eq-Decides}
-use Rattle.ov_base.specs.NameLists.{is_among, appended, with_name, AreDistinct}
+use Rattle.ov_wire.proofs.NamesLaws.{was_appended}
+use Rattle.ov_base.specs.NameLists.{is_among, with_name, AreDistinct}
 use Rattle.ov_base.specs.Sets.{has}
 use Rattle.ov_history.specs.Lists.{name_if, names_from, names_in}
 
@@ -21,10 +23,6 @@ names_push set number (first ∷ names) name =
     ∙ ap (λ n. name_if (has set number) first ++ (names_from set (number + 1) names ++ name_if (has set n) name)) next
     ∙ sym (append_assoc (name_if (has set number) first) (names_from set (number + 1) names) (name_if (has set (number + suc (length names))) name))
 
-pub neither_is : (b c : Bool) → (b || c) ≡ false → (b ≡ false) × (c ≡ false)
-neither_is true c e = absurd (true≢false e)
-neither_is false c e = (refl, e)
-
 -- a name that isn't among these isn't among those of them that are in the set
 apart_if : (b : Bool) (first name : List ℕ) (names : List (List ℕ)) → bytes_eq name first ≡ false → is_among name names ≡ false
     → is_among name (name_if b first ++ names) ≡ false
@@ -34,7 +32,7 @@ apart_if false first name names other free = free
 apart : (set number : ℕ) (names : List (List ℕ)) (name : List ℕ) → is_among name names ≡ false → is_among name (names_from set number names) ≡ false
 apart set number [] name free = refl
 apart set number (first ∷ names) name free =
-    let parts = neither_is (bytes_eq name first) (is_among name names) free in
+    let parts = or_parts (bytes_eq name first) (is_among name names) free in
     apart_if (has set number) first name (names_from set (number + 1) names) parts.0 (apart set (number + 1) names name parts.1)
 
 -- the name at a place isn't among those before it
@@ -65,9 +63,6 @@ take_push [] n name is = absurd (cc)
 take_push (first ∷ names) zero name is = let same : first ≡ name = cc in (ap (λ x. x ∷ []) same, refl)
 take_push (first ∷ names) (suc n) name is = let rest = take_push names n name is in (ap (λ l. first ∷ l) rest.0, ap suc rest.1)
 
-with_free : (names : List (List ℕ)) (name : List ℕ) → is_among name names ≡ false → with_name names name ≡ names ++ name ∷ []
-with_free names name free = ap (λ b. appended b names name) free
-
 -- the names of the first users are gathered, and this one is in the set
 pub gathered : (set : ℕ) (users : List (List ℕ)) (n : ℕ) (name : List ℕ) (names new : List (List ℕ)) → AreDistinct users → slice_get users n ≡ Some name
     → names ≡ names_in set (take n users) → has set n ≡ true → new ≡ with_name names name → new ≡ names_in set (take (n + 1) users)
@@ -76,7 +71,7 @@ gathered set users n name names new distinct at_n so_far there is =
     let push = take_push users n name at_n in
     let free : is_among name names ≡ false = ap (is_among name) so_far ∙ apart set 0 (take n users) name (free_before users n name distinct at_n) in
     let count : 0 + length (take n users) ≡ n = omega arith in
-    is ∙ with_free names name free ∙ ap (λ l. l ++ name ∷ []) so_far
+    is ∙ was_appended names name free ∙ ap (λ l. l ++ name ∷ []) so_far
     ∙ sym (ap (λ k. names_in set (take k users)) next ∙ ap (names_in set) push.0 ∙ names_push set 0 (take n users) name
     ∙ ap (λ k. names_in set (take n users) ++ name_if (has set k) name) count ∙ ap (λ b. names_in set (take n users) ++ name_if b name) there)
 

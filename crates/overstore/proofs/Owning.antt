@@ -1,8 +1,8 @@
 -- Updates of an owner, by the numbers that were found.
-use Rattle.std.proofs.Common.{◌≡◌, ℕ, zero, suc, ◌<◌, ◌≤◌, Bool, true, false, List, [], ◌∷◌, length, drop, get_or, refl, sym, ◌∙◌, ap, subst, arith}
+use Rattle.std.proofs.Common.{◌≡◌, ℕ, zero, suc, ◌<◌, false, List, [], ◌∷◌, length, drop, get_or, sym, ◌∙◌, ap, subst, arith}
 use Rattle.std.specs.Prelude.{Result, Ok, Err, IfOk}
 use Rattle.ov_base.specs.Sets.{Has, with, within}
-use Rattle.ov_base.proofs.SetLaws.{with-Has, within-Within, within_with}
+use Rattle.ov_base.proofs.SetLaws.{with-Has, within_with}
 use Rattle.ov_record.specs.Updates.{SealedUpdate, SealedRevoke}
 use Rattle.ov_script.specs.declared.reply.Reply.{Reply}
 use Rattle.ov_script.specs.declared.command.Command.TheVariants.{Grant, Revoke}
@@ -12,7 +12,7 @@ use Rattle.ov_history.specs.Lists.{everyone, user_number, file_number, set_named
 use Rattle.ov_history.specs.Places.{place_of}
 use Rattle.ov_history.specs.Plain.{PlainGrant, PlainRevoke, PlainHistory, history_of}
 use Rattle.ov_history.specs.Sealing.{sealed_update}
-use Rattle.ov_history.proofs.PlaceLaws.{everyone-below}
+use Rattle.ov_state.proofs.NewTests.{not_within}
 use Rattle.overstore.specs.Machine.{Kept, StandsFor, Applies, Steps}
 use Rattle.overstore.specs.Owner.{FindsBoth}
 use Rattle.overstore.proofs.Stepping.{sealed_step, shows}
@@ -57,14 +57,6 @@ drop_item [] n x is low = absurd (omega arith)
 drop_item (y ∷ xs) zero x is low = ap (λ z. z ∷ xs) (sym is)
 drop_item (y ∷ xs) (suc n) x is low = drop_item xs n x is (omega arith)
 
-not_within : (set user users : ℕ) → Has set user → users ≤ user → within set (everyone users) ≡ false
-not_within set user users here past = by_cases (within set (everyone users)) refl where
-  by_cases : (b : Bool) → within set (everyone users) ≡ b → within set (everyone users) ≡ false
-  by_cases false is = is
-  by_cases true is =
-      let low : user < users = everyone-below users user (within-Within set (everyone users) is user here) in
-      absurd (omega arith)
-
 -- a name that is no user's is met among these
 pub not_all_users : (users names : List (List ℕ)) (set n : ℕ) (name : List ℕ) → set_with users set (drop n names) ≡ set_named users names
     → name ≡ get_or names n name → n < length names → place_of name users ≡ length users
@@ -72,7 +64,7 @@ pub not_all_users : (users names : List (List ℕ)) (set n : ℕ) (name : List �
 not_all_users users names set n name so_far at_n low missing =
     let met : set_with users (with set (place_of name users)) (drop (suc n) names) ≡ set_named users names =
     ap (set_with users set) (sym (drop_item names n name at_n low)) ∙ so_far in
-    not_within (set_named users names) (place_of name users) (length users)
+    not_within (set_named users names) (length users) (place_of name users)
     (subst (λ s. Has s (place_of name users)) met
     (set_with-keeps users (with set (place_of name users)) (place_of name users) (drop (suc n) names) (with-Has set (place_of name users))))
     (omega arith)

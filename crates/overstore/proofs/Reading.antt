@@ -1,7 +1,7 @@
 -- Files and lists, as readers are given them.
-use Rattle.std.proofs.Common.{◌≡◌, ℕ, zero, suc, ◌<◌, Bool, true, false, not, true≢false, List, [], ◌∷◌, length, refl, sym, ◌∙◌, ap, subst, arith}
-use Rattle.std.specs.Prelude.{Option, Some, None, nat_lt, slice_get, slice_index_or, Result, Ok, Err, IfOk}
-use Rattle.ov_base.proofs.Tests.{lt_of_true, true_of_not}
+use Rattle.std.proofs.Common.{◌≡◌, ℕ, zero, suc, ◌<◌, Bool, true, false, true≢false, List, [], ◌∷◌, length, refl, sym, ◌∙◌, ap, subst, arith}
+use Rattle.std.specs.Prelude.{Option, Some, None, slice_get, slice_index_or, Result, Ok, Err, IfOk}
+use Rattle.ov_history.proofs.SoundTests.{is_below}
 use Rattle.ov_base.specs.NameLists.{AreDistinct}
 use Rattle.ov_base.specs.declared.memory.Memory.{Memory}
 use Rattle.ov_base.specs.declared.refusal.Refusal.{Refusal}
@@ -15,7 +15,7 @@ use Rattle.ov_history.specs.Catalogue.{Catalogue, Filed, Nodes, filed_at, matrix
 use Rattle.ov_history.specs.History.{Matrix, matrix_of}
 use Rattle.ov_history.specs.Kept.{AreKept, IsKept, opened}
 use Rattle.ov_history.specs.Keys.{AreTrueTokens}
-use Rattle.ov_history.specs.Lists.{file_at, file_number, user_number, names_in}
+use Rattle.ov_history.specs.Lists.{file_number, user_number, names_in}
 use Rattle.ov_history.specs.Masters.{Masters, access_key}
 use Rattle.ov_history.specs.Plain.{PlainHistory, bytes_of, history_of}
 use Rattle.ov_history.specs.Refusals.{first_of_tests, read_refusal, list_refusal}
@@ -87,9 +87,6 @@ file_there true b c none = cc
 file_there false true c none = cc
 file_there false false c none = refl
 
-below : (n count : ℕ) → not (nat_lt n count) ≡ false → n < count
-below n count is = lt_of_true n count (true_of_not (nat_lt n count) is)
-
 surface_is : (master : List ℕ) (nodes : Nodes) (user : ℕ) (surface : Option ℕ) (chain : Option Chain) → LeadsToSurface master surface chain
     → IsSurfaceChain nodes user surface chain → surface_along master chain ≡ surface_key master surface
 surface_is master nodes user None None leads chain = refl
@@ -130,7 +127,7 @@ read_found old user file c found (allowed, chained) keys read p stands =
     let s = old.catalogue in
     let m = matrix_shown s in
     let n = file_named s file in
-    let there : n < length s.files = file_shown_there s n (below n (length m.files) (file_there _ _ _ allowed)) in
+    let there : n < length s.files = file_shown_there s n (is_below n (length m.files) (file_there _ _ _ allowed)) in
     let number : c.file ≡ n = chained.file in
     let true_tokens : AreTrueTokens old.masters s = subst (AreTrueTokens old.masters) (sym stands.0.1) (tokens_are_true old.masters p stands.0.0) in
     let leads = keys old.masters true_tokens in
@@ -149,7 +146,7 @@ pub chained_there : (old : Kept) (user file : List ℕ) (c : Chained)
 chained_there old user file c (allowed, chained) =
     let n = file_named old.catalogue file in
     subst (λ x. x < length old.catalogue.files) (sym chained.file)
-    (file_shown_there old.catalogue n (below n (length (matrix_shown old.catalogue).files) (file_there _ _ _ allowed)))
+    (file_shown_there old.catalogue n (is_below n (length (matrix_shown old.catalogue).files) (file_there _ _ _ allowed)))
 
 pub read_given : (old : Kept) (user file : List ℕ) (c : Chained) (bytes : List ℕ)
     → AnswersChain old.catalogue (user_named old.catalogue user) (file_named old.catalogue file) (Ok c)

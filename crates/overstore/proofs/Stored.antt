@@ -1,6 +1,6 @@
 -- Stored bytes of files that are there.
 use Rattle.std.proofs.Common.{◌≡◌, ℕ, zero, suc, ◌<◌, ◌≤◌, List, [], ◌∷◌, length, sym, subst, arith}
-use Rattle.std.specs.Prelude.{Some, None, slice_get, slice_index_or}
+use Rattle.std.specs.Prelude.{None, slice_get, slice_index_or}
 use Rattle.ov_base.specs.declared.limits.TheConstants.{MAX_FILE_BYTES}
 use Rattle.ov_history.specs.Catalogue.{Catalogue, no_filed}
 use Rattle.ov_state.specs.Contents.{IsWell}

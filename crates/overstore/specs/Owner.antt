@@ -5,7 +5,7 @@ use Rattle.ov_base.specs.declared.refusal.Refusal.{Refusal}
 use Rattle.ov_base.specs.declared.refusal.Refusal.TheVariants.{NoUser, NoFile}
 use Rattle.ov_tokens.specs.declared.token.Token.{Token}
 use Rattle.ov_record.specs.Updates.{SealedUpdate, SealedCreate}
-use Rattle.ov_history.specs.Catalogue.{Catalogue, matrix_shown, outline}
+use Rattle.ov_history.specs.Catalogue.{Catalogue, outline}
 use Rattle.ov_history.specs.History.{Matrix}
 use Rattle.ov_history.specs.Layers.{with_set}
 use Rattle.ov_history.specs.Lists.{user_number, file_number}

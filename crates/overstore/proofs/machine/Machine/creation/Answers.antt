@@ -1,6 +1,5 @@
 use Rattle.std.proofs.Common.{◌∙◌, ap, inr, length, refl, sym}
 use Rattle.std.specs.Prelude.{Err}
-use Rattle.ov_graph.specs.Contents.{Contents}
 use Rattle.ov_history.specs.Catalogue.{Catalogue, Nodes}
 use Rattle.ov_state.specs.declared.queries.Sizes.{Sizes}
 use Rattle.overstore.specs.Machine.{Kept}

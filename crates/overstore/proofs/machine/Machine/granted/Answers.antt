@@ -1,4 +1,4 @@
-use Rattle.std.proofs.Common.{◌≡◌, ◌∙◌, ◌<◌, ap, arith, length, refl, sym, subst}
+use Rattle.std.proofs.Common.{◌∙◌, ◌<◌, ap, arith, length, refl, sym, subst}
 use Rattle.std.specs.Prelude.{Contains, slice_get}
 use Rattle.ov_base.specs.Sets.{single}
 use Rattle.ov_graph.specs.Contents.{Contents}

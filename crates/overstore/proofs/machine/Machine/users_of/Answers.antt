@@ -1,4 +1,4 @@
-use Rattle.std.proofs.Common.{◌≡◌, ℕ, List, false, length, sym, ap, subst}
+use Rattle.std.proofs.Common.{◌≡◌, ℕ, false, length, sym, subst}
 use Rattle.std.specs.Prelude.{IfNone, Option}
 use Rattle.ov_base.specs.Sets.{within}
 use Rattle.ov_history.specs.Catalogue.{Catalogue}
