@@ -57,9 +57,11 @@ bad_record k g h i header wrong keeps =
     ap (λ (c : Contents). c.head) (sym keeps.book) ∙ header.head in
     let mode = mode_of-spelled (header_of k g) h head in
     let first = first_of-spelled (header_of k g) h keeps.first header.first head in
-    let bodies : bodies_of g.updates ≡ bodies_of wrong.history.updates ++ wrong.body ∷ wrong.rest =
+    let bodies : bodies_of g.updates
+    ≡ bodies_of wrong.history.updates ++ wrong.body ∷ wrong.rest =
     ap (λ (c : Contents). c.records.bodies) (sym keeps.book) ∙ wrong.split in
-    let c = cut g.updates wrong.history.updates wrong.body wrong.rest keeps.form wrong.form bodies in
+    let c = cut g.updates wrong.history.updates wrong.body wrong.rest keeps.form wrong.form
+    bodies in
     let whole : g ≡ record wrong.history { updates = wrong.history.updates ++ c.next ∷ c.more } =
     λ j. record {
       mode = (mode ∙ sym wrong.mode_is) j;
