@@ -1,12 +1,12 @@
 -- An image with a bad record keeps no history.
-use Rattle.std.proofs.Common.{◌≡◌, ⊎_elim, ℕ, List, [], ◌∷◌, ◌++◌, true, false, refl, sym, ◌∙◌, ap, subst, append_assoc}
+use Rattle.std.proofs.Common.{◌≡◌, ⊎_elim, ℕ, List, [], ◌∷◌, ◌++◌, true, false, refl, sym, ◌∙◌, ap, subst}
 use Rattle.ov_record.specs.Updates.{SealedUpdate}
 use Rattle.ov_record.specs.Spelling.{spelling, HasForm}
 use Rattle.ov_record.proofs.UpdateLaws.{update_reads}
 use Rattle.ov_fields.proofs.WholeLaws.{no_front}
-use Rattle.ov_history.specs.History.{History, start_of, with_update}
+use Rattle.ov_history.specs.History.{History, with_update}
 use Rattle.ov_history.specs.Briefs.{brief, outer}
-use Rattle.ov_history.specs.Sealed.{SealedHistory, AllFit, IsSealed, with_sealed}
+use Rattle.ov_history.specs.Sealed.{SealedHistory, AllFit, IsSealed}
 use Rattle.ov_disk.specs.Disk.{Image}
 use Rattle.ov_journal.specs.Book.{Contents, contents_of, spelled}
 use Rattle.ov_journal.specs.declared.header.Header.{Header}

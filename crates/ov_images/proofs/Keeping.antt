@@ -1,5 +1,5 @@
 -- Images that keep a history, and what an append makes of which.
-use Rattle.std.proofs.Common.{◌≡◌, ⊎_elim, ℕ, zero, suc, ◌+◌, ◌≤◌, ◌<◌, ◌^◌, List, [], ◌∷◌, ◌++◌, length, take, drop, get_or, false, refl, sym, ◌∙◌, ap, subst, arith, lit<}
+use Rattle.std.proofs.Common.{◌≡◌, ⊎_elim, ℕ, zero, suc, ◌≤◌, ◌<◌, ◌^◌, List, [], ◌∷◌, ◌++◌, length, take, drop, get_or, false, refl, sym, ◌∙◌, ap, arith, lit<}
 use Rattle.std.proofs.lemmas.List.{take_at, get_or-take, drop-take, take-take}
 use Rattle.std.proofs.lemmas.Nat.{from_be_bytes-to_be_bytes_4}
 use Rattle.std.specs.Int.{w32, to_be_bytes, from_be_bytes}
@@ -8,16 +8,15 @@ use Rattle.ov_base.specs.declared.mode.Mode.{Mode}
 use Rattle.ov_base.specs.declared.mode.Mode.TheVariants.{Full, Delta}
 use Rattle.ov_keyed.proofs.HmacLemmas.{length-hmac}
 use Rattle.ov_fields.proofs.WholeLaws.{no_front}
-use Rattle.ov_tokens.specs.Keys.{check_value_of}
 use Rattle.ov_record.specs.Updates.{SealedUpdate}
 use Rattle.ov_record.specs.Spelling.{spelling, HasForm}
 use Rattle.ov_record.proofs.UpdateLaws.{update_reads}
-use Rattle.ov_history.specs.Sealed.{SealedHistory, IsSealed, with_sealed}
+use Rattle.ov_history.specs.Sealed.{SealedHistory}
 use Rattle.ov_disk.specs.Disk.{Image}
 use Rattle.ov_journal.specs.declared.header.Header.{Header}
-use Rattle.ov_journal.specs.Book.{Contents, contents_of, header_bytes, magic, spelled, born}
+use Rattle.ov_journal.specs.Book.{Contents, header_bytes, magic, spelled, born}
 use Rattle.ov_journal.specs.Book.{records_after, with_body, HasHeaderForm}
-use Rattle.ov_journal.specs.Standing.{IsUnborn, HasMagic}
+use Rattle.ov_journal.specs.Standing.{HasMagic}
 use Rattle.ov_journal.proofs.Headers.{spelled_apart}
 use Rattle.ov_images.specs.Images.{Keys, header_of, bodies_of, AllHaveForm, Keeps}
 use Rattle.ov_images.specs.Laws.{KeepingGoesOn, KeepsOnce, KeptIsBorn, KeysAreKept}

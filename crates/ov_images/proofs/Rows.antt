@@ -1,13 +1,13 @@
 -- The worked books: a new store, and one with alice, and with alice and bob.
-use Rattle.std.proofs.Common.{◌≡◌, ℕ, ◌+◌, List, [], ◌∷◌, ◌++◌, length, take, drop, refl, sym, ◌∙◌, ap, arith, length-append, lit<, false}
+use Rattle.std.proofs.Common.{◌≡◌, ℕ, ◌+◌, List, [], ◌∷◌, ◌++◌, length, take, refl, ◌∙◌, ap, arith, length-append, lit<, false}
 use Rattle.std.proofs.lemmas.List.{take_at, drop_at}
 use Rattle.ov_base.specs.declared.mode.Mode.TheVariants.{Delta}
 use Rattle.ov_keyed.proofs.HmacLemmas.{length-hmac}
 use Rattle.ov_tokens.specs.Keys.{check_value_of}
 use Rattle.ov_record.specs.Updates.{SealedUpdate, SealedEnrol}
-use Rattle.ov_history.specs.Sealed.{SealedHistory, IsSealed}
-use Rattle.ov_disk.specs.Disk.{Image, image}
-use Rattle.ov_journal.specs.Book.{Records, contents_of, records_after, spelled, born}
+use Rattle.ov_history.specs.Sealed.{SealedHistory}
+use Rattle.ov_disk.specs.Disk.{image}
+use Rattle.ov_journal.specs.Book.{contents_of, records_after, born}
 use Rattle.ov_journal.proofs.Reading.{records_after-drop}
 use Rattle.ov_images.specs.Images.{Keys, header_of, bodies_of, Keeps}
 

@@ -1,5 +1,5 @@
 -- What holds of all images.
-use Rattle.std.specs.Prelude.{◌≡◌, ◌≤◌, ℕ, List, length}
+use Rattle.std.specs.Prelude.{◌≡◌, length}
 use Rattle.ov_tokens.specs.Keys.{check_value_of}
 use Rattle.ov_record.specs.Updates.{SealedUpdate}
 use Rattle.ov_record.specs.Spelling.{spelling, HasForm}

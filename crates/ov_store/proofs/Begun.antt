@@ -1,24 +1,21 @@
 -- A store that is opened again.
-use Rattle.std.proofs.Common.{◌≡◌, ◌⊎◌, inl, inr, ⊎_elim, ℕ, suc, ◌+◌, ◌<◌, ◌≤◌, ◌^◌, List, [], ◌∷◌, length, Bool, true, false, Option, Some, refl, sym, ◌∙◌, ap, subst, arith}
+use Rattle.std.proofs.Common.{◌≡◌, inr, ⊎_elim, ℕ, suc, ◌<◌, ◌^◌, List, [], ◌∷◌, length, Bool, true, false, Option, Some, refl, sym, ◌∙◌, ap, subst, arith}
 use Rattle.ov_base.specs.declared.mode.Mode.{Mode}
-use Rattle.ov_disk.specs.Disk.{Image, Narrows, Only, OnlyBook, Told}
-use Rattle.ov_disk.specs.Moments.{IsUntouched, LeavesOnly}
-use Rattle.ov_disk.proofs.Runs.{then_on, weaker}
+use Rattle.ov_disk.specs.Disk.{Image, Only, Told}
+use Rattle.ov_disk.specs.Moments.{IsUntouched}
 use Rattle.ov_record.specs.Updates.{SealedUpdate}
-use Rattle.ov_history.specs.Catalogue.{Catalogue}
-use Rattle.ov_history.specs.Sealed.{SealedHistory, StandsFor, blank, outer_all, outer_of}
+use Rattle.ov_history.specs.Sealed.{SealedHistory, outer_all}
 use Rattle.ov_history.proofs.Showing.{history_is_shown}
 use Rattle.ov_journal.specs.Book.{contents_of, spelled}
 use Rattle.ov_journal.specs.Finding.{IsStore, place_if}
-use Rattle.ov_journal.specs.Log.{Log, IsLogOf, Stands}
-use Rattle.ov_journal.specs.Standing.{IsUnborn, HasMagic}
+use Rattle.ov_journal.specs.Log.{Log}
 use Rattle.ov_journal.specs.declared.header.Header.{Header}
 use Rattle.ov_vault.specs.Vaults.{Store}
-use Rattle.ov_images.specs.Damage.{HasHeader, IsFor}
-use Rattle.ov_images.specs.Images.{Keys, IsImageOf, Keeps, StandsIn, bodies_of, header_of}
+use Rattle.ov_images.specs.Damage.{IsFor}
+use Rattle.ov_images.specs.Images.{Keys, Keeps, bodies_of, header_of}
 use Rattle.ov_images.proofs.Keeping.{is_born, keeps_once}
 use Rattle.ov_store.specs.Beginning.{FindsHistory}
-use Rattle.ov_store.specs.Opened.{IsSafe, Opened, Serves, open_with}
+use Rattle.ov_store.specs.Opened.{IsSafe, Serves, open_with}
 use Rattle.ov_store.specs.Replaying.{IsReplay}
 
 length-bodies : (updates : List SealedUpdate) → length (bodies_of updates) ≡ length updates

@@ -1,16 +1,16 @@
 -- A birth of a store.
-use Rattle.std.proofs.Common.{◌≡◌, ◌⊎◌, inl, inr, ⊎_elim, ℕ, ◌<◌, ◌≤◌, ◌^◌, List, [], length, false, Option, Some, refl, sym, ◌∙◌, ap, subst, arith}
+use Rattle.std.proofs.Common.{◌≡◌, inl, inr, ⊎_elim, ℕ, ◌<◌, ◌^◌, List, [], length, false, Option, Some, refl, sym, ◌∙◌, ap, subst, arith}
 use Rattle.ov_base.specs.declared.mode.Mode.{Mode}
 use Rattle.ov_disk.specs.Disk.{Image, Told, OnlyBook}
 use Rattle.ov_disk.specs.Moments.{LeavesOnly}
 use Rattle.ov_disk.proofs.Runs.{started, weaker}
 use Rattle.ov_history.specs.Catalogue.{Catalogue, empty_catalogue}
-use Rattle.ov_history.specs.Sealed.{SealedHistory, blank}
+use Rattle.ov_history.specs.Sealed.{blank}
 use Rattle.ov_journal.specs.Book.{contents_of, born}
 use Rattle.ov_journal.specs.Log.{Log, IsUnbornOrEmpty, IsKept, Stands}
 use Rattle.ov_journal.specs.Standing.{IsUnborn}
 use Rattle.ov_images.specs.Images.{Keys, header_of, Keeps, IsImageOf}
-use Rattle.ov_store.specs.Opened.{Opened, Serves, IsSafe, open_with}
+use Rattle.ov_store.specs.Opened.{Serves, IsSafe, open_with}
 
 -- a new store keeps the history without updates
 pub keeps_none : (k : Keys) (mode : Mode) (first : ℕ) (x : Image) → first < 2 ^ 32

@@ -1,5 +1,5 @@
 -- Updates that a store takes have a spelling, and those that have one fit.
-use Rattle.std.proofs.Common.{◌≡◌, ℕ, ◌<◌, ◌≤◌, List, length, arith}
+use Rattle.std.proofs.Common.{ℕ, ◌<◌, ◌≤◌, List, length, arith}
 use Rattle.std.proofs.lemmas.Nat.{ones-le}
 use Rattle.ov_base.specs.declared.limits.TheConstants.{MAX_USERS}
 use Rattle.ov_base.specs.Sets.{IsBelow, size}
@@ -18,7 +18,8 @@ pub too_many : (name : List ℕ) (list : ℕ) (tokens : List Token) (tag text : 
     → IsBelow MAX_USERS list → MAX_USERS < length tokens → (y : Layers)
     → HasParts y (brief (SealedCreate name list tokens tag text)) → ⊥
 too_many name list tokens tag text below many y parts =
-    let most : size list ≤ MAX_USERS = ones-le MAX_USERS list (IsBelow-small MAX_USERS list below) in
+    let most : size list ≤ MAX_USERS = ones-le MAX_USERS list (IsBelow-small MAX_USERS list below)
+    in
     omega (arith, many, parts, plan-few y.base list, most)
 
 -- what has a spelling has a file that isn't too long

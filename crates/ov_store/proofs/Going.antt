@@ -1,10 +1,10 @@
 -- What the record of an update makes of the histories for which a store stands.
-use Rattle.std.proofs.Common.{◌≡◌, ◌⊎◌, inl, inr, ⊎_elim, ℕ, ◌+◌, ◌≤◌, List, length, Bool, true, false, Option, Some, refl, sym, ◌∙◌, ap, subst, arith}
+use Rattle.std.proofs.Common.{◌≡◌, inl, inr, ⊎_elim, ℕ, ◌+◌, List, length, Bool, true, false, Option, Some, refl, sym, ◌∙◌, ap, subst, arith}
 use Rattle.ov_record.specs.Updates.{SealedUpdate}
 use Rattle.ov_history.specs.Briefs.{Brief, BriefEnrol, BriefCreate, BriefGrant, BriefRevoke, brief, text_of}
 use Rattle.ov_history.specs.Catalogue.{Catalogue, catalogue_after}
 use Rattle.ov_history.specs.Rewrites.{rewrites_of, stored_after}
-use Rattle.ov_history.specs.Sealed.{SealedHistory, KeepsBytes, StandsFor, stored_of, with_sealed}
+use Rattle.ov_history.specs.Sealed.{SealedHistory, KeepsBytes, StandsFor, with_sealed}
 use Rattle.ov_history.proofs.GoingOn.{histories_go_on, stored-push}
 use Rattle.ov_state.specs.Plans.{IsTaken}
 use Rattle.ov_disk.specs.Disk.{Image, Told}
@@ -44,8 +44,10 @@ module _ {D : Type 0} (reads : D → Option Image) (may_leave : D → Image → 
     (moment : D → ℕ) (left_since : D → ℕ → Image → Type 0)
     (reads_one : (disk : D) (i : Image) → reads disk ≡ Some i → may_leave disk i) where
   module _ (k : Keys) (d0 d1 : D) (c : Catalogue) (stored : List (List ℕ)) (f : Bool)
-      (u : SealedUpdate) (body : List ℕ) (taken : IsTaken c (brief u)) (is : IsBodyOf u body) where
-    module _ (g : SealedHistory) (serves : Serves reads may_leave g (store_of d0 k c stored f)) where
+      (u : SealedUpdate) (body : List ℕ) (taken : IsTaken c (brief u))
+      (is : IsBodyOf u body) where
+    module _ (g : SealedHistory)
+        (serves : Serves reads may_leave g (store_of d0 k c stored f)) where
       -- the catalogue of the history with the update
       goes_on : StandsFor k.surface (catalogue_after k.surface c (brief u)) (with_sealed g u)
       goes_on = histories_go_on k.surface c g u serves.catalogue taken.0 taken.1

@@ -1,9 +1,9 @@
 -- The parts of an opening, one after the other.
 use Rattle.std.specs.Prelude.{IfOk}
-use Rattle.std.proofs.Common.{◌≡◌, ◌⊎◌, inl, inr, ⊎_elim, ℕ, ◌≤◌, List, Option, Some, Result, Ok, Err, refl, sym, ◌∙◌, ap, subst}
+use Rattle.std.proofs.Common.{◌≡◌, inl, inr, ℕ, ◌≤◌, Option, Result, Ok, Err, refl, sym, ◌∙◌, ap, subst}
 use Rattle.ov_base.specs.declared.mode.Mode.{Mode}
-use Rattle.ov_disk.specs.Disk.{Image, Narrows, Only, OnlyBook, Told}
-use Rattle.ov_disk.specs.Moments.{IsUntouched, LeavesOnly}
+use Rattle.ov_disk.specs.Disk.{Image, Narrows, Told}
+use Rattle.ov_disk.specs.Moments.{LeavesOnly}
 use Rattle.ov_disk.proofs.Runs.{then_on, weaker}
 use Rattle.ov_history.specs.Sealed.{SealedHistory, blank}
 use Rattle.ov_journal.specs.Finding.{Finds}
@@ -12,10 +12,9 @@ use Rattle.ov_journal.specs.declared.fault.CheckFault.{CheckFault}
 use Rattle.ov_journal.specs.declared.fault.CheckFault.TheVariants.{Disk as CheckDisk, Memory as CheckMemory}
 use Rattle.ov_journal.specs.declared.fault.JournalFault.{JournalFault}
 use Rattle.ov_journal.specs.declared.fault.JournalFault.TheVariants.{Disk, NotAStore, Damaged, Memory}
-use Rattle.ov_journal.specs.declared.found.Found.{Found}
 use Rattle.ov_journal.specs.Log.{Log}
 use Rattle.ov_vault.specs.Vaults.{Store}
-use Rattle.ov_images.specs.Images.{Keys, IsImageOf, Keeps}
+use Rattle.ov_images.specs.Images.{Keys, IsImageOf}
 use Rattle.ov_images.proofs.Keeping.{is_born}
 use Rattle.ov_store.specs.Beginning.{FindsHistory, IsBeginFault, LeavesHistory, WritesNoBorn}
 use Rattle.ov_store.specs.Faults.{begin_fault_of, opening_fault_of}
@@ -47,7 +46,8 @@ module _ {D : Type 0} (reads : D → Option Image) (may_leave : D → Image → 
   pub narrowed : (d0 d1 : D)
       → ((t : ℕ) (x : Image) → t ≤ moment d1 → may_leave d1 x → left_since d1 t x)
       → LeavesOnly moment left_since d0 d1 (may_leave d0) → Narrows (may_leave d0) (may_leave d1)
-  narrowed d0 d1 counts_now leaves x left = leaves.each x (counts_now (moment d0) x leaves.later left)
+  narrowed d0 d1 counts_now leaves x left = leaves.each x (counts_now (moment d0) x leaves.later
+      left)
 
   -- two runs that write nothing
   pub both_quiet : (d0 d1 d2 : D)

@@ -1,5 +1,5 @@
 -- A replay, record by record.
-use Rattle.std.proofs.Common.{◌≡◌, ℕ, suc, ◌+◌, ◌<◌, ◌≤◌, List, [], ◌∷◌, ◌++◌, length, take, drop, get_or, Option, Some, refl, sym, ◌∙◌, ap, subst, arith, length-append, take-append-drop}
+use Rattle.std.proofs.Common.{◌≡◌, ℕ, suc, ◌+◌, ◌<◌, ◌≤◌, List, [], ◌∷◌, ◌++◌, length, take, drop, get_or, Option, refl, sym, ◌∙◌, ap, subst, arith, length-append, take-append-drop}
 use Rattle.std.proofs.lemmas.List.{drop_more, take_more, take_all}
 use Rattle.std.specs.Prelude.{None}
 use Rattle.ov_base.specs.Causes.{Rose}
@@ -7,12 +7,11 @@ use Rattle.ov_base.specs.declared.mode.Mode.{Mode}
 use Rattle.ov_disk.specs.Disk.{Told}
 use Rattle.ov_disk.specs.Disk.{Image}
 use Rattle.ov_record.specs.Updates.{SealedUpdate}
-use Rattle.ov_record.specs.Spelling.{spelling, HasForm}
 use Rattle.ov_history.specs.History.{History, start_of, with_update}
 use Rattle.ov_history.specs.Layers.{Layers, layers_of}
 use Rattle.ov_history.specs.Refusals.{refusal_of}
 use Rattle.ov_history.specs.Briefs.{brief, outer}
-use Rattle.ov_history.specs.Catalogue.{Catalogue, empty_catalogue, outline}
+use Rattle.ov_history.specs.Catalogue.{Catalogue, empty_catalogue}
 use Rattle.ov_history.specs.Sealed.{AllFit, HasParts, IsSealed, SealedHistory, StandsFor, blank}
 use Rattle.ov_history.specs.Sealed.{outer_all, outer_of, with_sealed}
 use Rattle.ov_history.proofs.GoingOn.{histories_go_on}
@@ -24,7 +23,6 @@ use Rattle.ov_journal.proofs.Records.{has_record}
 use Rattle.ov_journal.specs.declared.fault.CheckFault.{CheckFault}
 use Rattle.ov_journal.specs.declared.fault.CheckFault.TheVariants.{Disk as CheckDisk, Memory as CheckMemory}
 use Rattle.ov_state.specs.Plans.{IsTaken}
-use Rattle.ov_vault.specs.Standing.{IsStoreOf}
 use Rattle.ov_vault.specs.Vaults.{Store}
 use Rattle.ov_images.specs.Damage.{HasBadRecord}
 use Rattle.ov_images.specs.Images.{bodies_of}
@@ -137,7 +135,8 @@ module _ (master : List ℕ) (mode : Mode) (first : ℕ) (reads : Option Image) 
         count = omega (arith, length-append so_far.bodies (body ∷ []), so_far.count);
         read = λ d at.
             let all = (contents_of d.book).records.bodies in
-            (λ j. so_far.read d at j ++ (next d at).1 j ∷ []) ∙ sym (take_more all i [] (next d at).0);
+            (λ j. so_far.read d at j ++ (next d at).1 j ∷ []) ∙ sym (take_more all i [] (next d
+            at).0);
       }
 
   -- after the last record

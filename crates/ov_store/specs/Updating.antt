@@ -10,7 +10,7 @@ use Rattle.ov_state.specs.Plans.{IsTaken, part_place}
 use Rattle.ov_disk.specs.Disk.{Image, Told}
 use Rattle.ov_disk.specs.Moments.{LeavesOnly}
 use Rattle.ov_images.specs.Images.{KeepsEither}
-use Rattle.ov_store.specs.Opened.{Opened, Serves, StaysTold}
+use Rattle.ov_store.specs.Opened.{Opened, Serves}
 use Rattle.ov_store.specs.declared.fault.StoreFault.{StoreFault}
 use Rattle.ov_store.specs.declared.fault.StoreFault.TheVariants.{Refused, BadPlan, Disk as DiskFailed, Failed, Memory}
 
@@ -27,7 +27,8 @@ IsFaultFor c b Failed = ⊤
 IsFaultFor c b Memory = ⊤
 
 -- the update is made in both halves and its epoch is answered; or neither is, for this reason
-abbrev pub Updates : {D : Type 0} → SealedUpdate → Opened D → Opened D → Result ℕ StoreFault → Type 0
+abbrev pub Updates : {D : Type 0} → SealedUpdate → Opened D → Opened D → Result ℕ StoreFault
+    → Type 0
 Updates u old new (Ok epoch) =
     IsTaken old.catalogue (brief u)
     × (new.catalogue ≡ catalogue_after old.keys.surface old.catalogue (brief u))
@@ -81,7 +82,8 @@ LeavesEither reads may_leave moment left_since u old new =
 abbrev pub ServesMore : {D : Type 0} → (reads : D → Option Image)
     → (may_leave : D → Image → Type 0) → SealedUpdate → Opened D → Opened D → Type 0
 ServesMore reads may_leave u old new =
-    (g : SealedHistory) → Serves reads may_leave g old → Serves reads may_leave (with_sealed g u) new
+    (g : SealedHistory) → Serves reads may_leave g old
+    → Serves reads may_leave (with_sealed g u) new
 
 -- ---- each call
 

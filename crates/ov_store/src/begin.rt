@@ -33,11 +33,13 @@ fn open<D: Disk>(
     mode: Mode,
 ) -> Result<(CatalogueVault, Journal), BeginFault>
     ensures safe { IfOk result (λ parts. IsSafe D.reads D.may_leave parts.1
-        (open_with disk.new (keys base_check.now surface.now.bytes) parts.0.catalogue parts.0.stored)) }
+        (open_with disk.new (keys base_check.now surface.now.bytes)
+        parts.0.catalogue parts.0.stored)) }
     ensures mode { IfOk result (λ parts. parts.0.catalogue.mode ≡ mode) }
     ensures found { IfOk result (λ parts. Told (D.reads disk.old) (λ i.
         FindsHistory D.reads D.may_leave (keys base_check.now surface.now.bytes) mode i
-        (open_with disk.new (keys base_check.now surface.now.bytes) parts.0.catalogue parts.0.stored))) }
+        (open_with disk.new (keys base_check.now surface.now.bytes)
+        parts.0.catalogue parts.0.stored))) }
     ensures told { OnOk result (StaysTold (D.reads disk.old) (D.reads disk.new)) }
     ensures fault { Told (D.reads disk.old) (λ i.
         IfErr result (IsBeginFault (keys base_check.now surface.now.bytes) mode i)) }
@@ -64,8 +66,9 @@ fn open<D: Disk>(
 }
 
 impl<D: Disk> Store<D> {
-    /// Begins a store: where the disk is unborn an empty one, from epoch 0 on, and else the one that an
-    /// earlier run left there, whose records are replayed. The disk is handed back with a refusal.
+    /// Begins a store: where the disk is unborn an empty one, from epoch 0 on, and else the one
+    /// that an earlier run left there, whose records are replayed. The disk is handed back with a
+    /// refusal.
     pub fn begin(
         alloc: Global,
         disk: D,
@@ -84,7 +87,8 @@ impl<D: Disk> Store<D> {
         // What a crash at any moment of the call leaves, whatever is answered.
         ensures any_moment { LeavesHistory D.reads D.may_leave D.moment D.left_since
             (keys base_check surface.bytes) mode disk (disk_left result) }
-        ensures untouched { WritesNoBorn D.reads D.may_leave D.moment D.left_since disk (disk_left result) }
+        ensures untouched { WritesNoBorn D.reads D.may_leave D.moment D.left_since
+            disk (disk_left result) }
 
         ensures call { IsDiskCall D.borrow D.faults disk (disk_left result) (IsDiskFault result) }
     {

@@ -29,17 +29,21 @@ pub(crate) fn birth<D: Disk>(
     mode: Mode,
     first: u32,
 ) -> Result<(CatalogueVault, Journal), BeginFault>
-    requires unborn { Told (D.reads disk.old) (λ i. IsUnborn i.book × OnlyBook i.book (D.may_leave disk.old)) }
+    requires unborn { Told (D.reads disk.old) (λ i.
+        IsUnborn i.book × OnlyBook i.book (D.may_leave disk.old)) }
     ensures safe { IfOk result (λ parts. IsSafe D.reads D.may_leave parts.1
-        (open_with disk.new (keys base_check.now surface.now.bytes) parts.0.catalogue parts.0.stored)) }
+        (open_with disk.new (keys base_check.now surface.now.bytes)
+        parts.0.catalogue parts.0.stored)) }
     ensures served { IfOk result (λ parts. Serves D.reads D.may_leave (blank mode first)
-        (open_with disk.new (keys base_check.now surface.now.bytes) parts.0.catalogue parts.0.stored)) }
+        (open_with disk.new (keys base_check.now surface.now.bytes)
+        parts.0.catalogue parts.0.stored)) }
     ensures empty { IfOk result (λ parts. parts.0.catalogue ≡ empty_catalogue mode first) }
     ensures told { OnOk result (StaysTold (D.reads disk.old) (D.reads disk.new)) }
     ensures fault { IfErr result (λ fault. (i : Image)
         → IsBeginFault (keys base_check.now surface.now.bytes) mode i fault) }
     // A crash at any moment leaves no store, or this one without records.
-    ensures any_moment { first ≡ 0 → Told (D.reads disk.old) (λ _. LeavesOnly D.moment D.left_since disk.old disk.new
+    ensures any_moment { first ≡ 0 → Told (D.reads disk.old) (λ _.
+        LeavesOnly D.moment D.left_since disk.old disk.new
         (IsImageOf (keys base_check.now surface.now.bytes) (blank mode 0))) }
     ensures same { D.borrow disk.new ≡ D.borrow disk.old }
     ensures later { D.faults disk.old ≤ D.faults disk.new }

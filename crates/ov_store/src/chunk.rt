@@ -34,8 +34,9 @@ fn part(bytes: &[u8], start: u32, count: u32) -> &[u8]
 }
 
 impl<D: Disk> Store<D> {
-    /// Appends the stored bytes of a file from `start` on, at most `count` of them, to `out`: none where
-    /// `start` is past their end. The generation is that of the file's surface, as the caller knows it.
+    /// Appends the stored bytes of a file from `start` on, at most `count` of them, to `out`: none
+    /// where `start` is past their end. The generation is that of the file's surface, as the caller
+    /// knows it.
     pub fn chunk(
         &mut self,
         file: u32,
@@ -47,7 +48,8 @@ impl<D: Disk> Store<D> {
         ensures answer { Chunks self.old.catalogue self.old.stored file generation start count
             out.old.items out.new.items result }
         ensures same { self.new ≡ self.old }
-        ensures cause { IsErrOf result DiskFailed → Rose (D.faults self.old.disk) (D.faults self.new.disk) }
+        ensures cause { IsErrOf result DiskFailed
+            → Rose (D.faults self.old.disk) (D.faults self.new.disk) }
     {
         self.vault.known();
         let entry = match self.vault.catalogue().file_at(file) {

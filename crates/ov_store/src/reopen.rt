@@ -73,7 +73,8 @@ pub(crate) fn reopen<D: Disk>(
     ensures mode { IfOk result (λ vault. vault.catalogue.mode ≡ mode) }
     ensures found { IfOk result (λ vault. Told (D.reads disk.old) (λ i.
         FindsHistory D.reads D.may_leave (keys base_check.now surface.now.bytes) mode i
-        (open_with disk.new (keys base_check.now surface.now.bytes) vault.catalogue vault.stored))) }
+        (open_with disk.new (keys base_check.now surface.now.bytes)
+        vault.catalogue vault.stored))) }
     ensures fault { Told (D.reads disk.old) (λ i.
         IfErr result (IsBeginFault (keys base_check.now surface.now.bytes) mode i)) }
     ensures untouched { IsUntouched D.moment D.left_since D.may_leave D.reads disk.old disk.new }

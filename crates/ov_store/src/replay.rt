@@ -51,7 +51,8 @@ fn take_record(
     }
 }
 
-/// What the records of the journal make, of a store that began empty in this mode and at this epoch.
+/// What the records of the journal make, of a store that began empty in this mode and at this
+/// epoch.
 pub(crate) fn replay<D: Disk>(
     alloc: Global,
     disk: &mut D,
@@ -60,7 +61,8 @@ pub(crate) fn replay<D: Disk>(
     mode: Mode,
     first: u32,
 ) -> Result<CatalogueVault, BeginFault>
-    requires log { Told (D.reads disk.old) (λ i. IsLogOf journal.now (contents_of i.book).records) }
+    requires log { Told (D.reads disk.old) (λ i.
+        IsLogOf journal.now (contents_of i.book).records) }
     ensures made { IfOk result (λ vault. (bodies : List (List ℕ))
         × IsReplay surface.now.bytes mode first bodies vault
         × (length bodies ≡ length journal.now.offsets)

@@ -29,7 +29,7 @@ const TOKEN: Token = Token { bytes: [0; 32] };
 // ---- callers
 
 /// Two updates, one after the other, and the disk.
-fn two_updates<D: Disk>(
+fn two_updates<D: Disk + Drop>(
     alloc: Global,
     store: Store<D>,
     one: Update<WIDTH>,
@@ -48,9 +48,9 @@ fn two_updates<D: Disk>(
     Ok(store.close())
 }
 
-/// A store is begun and makes an update. The image that was read stands for a history, and what lasts
-/// is that history with the update.
-fn begin_and_update<D: Disk>(
+/// A store is begun and makes an update. The image that was read stands for a history, and what
+/// lasts is that history with the update.
+fn begin_and_update<D: Disk + Drop>(
     alloc: Global,
     disk: D,
     mode: Mode,
@@ -79,7 +79,8 @@ fn name(text: &[u8]) -> Result<Name, Fail> {
     }
 }
 
-/// The updates of a small store: two users, a file for both, a third user, a grant and a revocation.
+/// The updates of a small store: two users, a file for both, a third user, a grant and a
+/// revocation.
 fn update_of(alloc: Global, number: u32) -> Result<Update<WIDTH>, Fail>
     ensures { IfOk result (λ u. IsFitting (brief (sealed_update u))) }
 {
@@ -188,8 +189,8 @@ fn a_stop_after_each_call(rt: HostRuntime) -> Result<(), Fail> {
     Ok(())
 }
 
-/// Where a call fails the update answers so, and so does each later one; what is left has the updates
-/// that were acknowledged, or one more.
+/// Where a call fails the update answers so, and so does each later one; what is left has the
+/// updates that were acknowledged, or one more.
 #[test]
 fn a_fault_at_each_call(rt: HostRuntime) -> Result<(), Fail> {
     let alloc = rt.alloc();

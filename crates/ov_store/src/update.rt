@@ -30,11 +30,14 @@ fn keep<D: Disk>(disk: &mut D, journal: &mut Journal, body: &[u8]) -> Result<(),
     requires body { (1 ≤ length body.now) × (length body.now ≤ MAX_RECORD_BYTES) }
     requires stands { Stands journal.old (D.reads disk.old) (D.may_leave disk.old) }
     ensures any_moment { Told (D.reads disk.old) (λ i.
-        LeavesOnly D.moment D.left_since disk.old disk.new (IsBeforeOrAfter (D.may_leave disk.old) i body.now)) }
+        LeavesOnly D.moment D.left_since disk.old disk.new
+        (IsBeforeOrAfter (D.may_leave disk.old) i body.now)) }
     ensures kept { OnOk result (Told (D.reads disk.old) (λ i.
-        IsKept (D.reads disk.new) (D.may_leave disk.new) (with_body body.now (contents_of i.book)) i.blobs)) }
+        IsKept (D.reads disk.new) (D.may_leave disk.new)
+        (with_body body.now (contents_of i.book)) i.blobs)) }
     ensures stands { OnOk result (Stands journal.new (D.reads disk.new) (D.may_leave disk.new)) }
-    ensures told_before { OnOk result (Told (D.reads disk.new) (λ _. (i : Image) × (D.reads disk.old ≡ Some i))) }
+    ensures told_before { OnOk result (Told (D.reads disk.new) (λ _.
+        (i : Image) × (D.reads disk.old ≡ Some i))) }
     ensures count { OnOk result (length journal.new.offsets ≡ length journal.old.offsets + 1) }
     ensures whole { journal.new.bad ≡ false }
     ensures memory { IsErrOf result NoMemory → (disk.new ≡ disk.old) × (journal.new ≡ journal.old) }
@@ -49,11 +52,11 @@ fn keep<D: Disk>(disk: &mut D, journal: &mut Journal, body: &[u8]) -> Result<(),
 }
 
 impl<D: Disk> Store<D> {
-    /// Makes an update, and answers the epoch after it. The update is on the disk before it is made,
-    /// so that one which is answered with `Ok` outlasts each later stop.
+    /// Makes an update, and answers the epoch after it. The update is on the disk before it is
+    /// made, so that one which is answered with `Ok` outlasts each later stop.
     ///
-    /// After [`StoreFault::Disk`] the disk may have the update or not, and the store makes no more of
-    /// them: open it again.
+    /// After [`StoreFault::Disk`] the disk may have the update or not, and the store makes no more
+    /// of them: open it again.
     pub fn update(&mut self, alloc: Global, update: Update<WIDTH>) -> Result<u32, StoreFault>
         requires { IsFitting (brief (sealed_update update)) }
 
@@ -67,7 +70,8 @@ impl<D: Disk> Store<D> {
         ensures any_moment { LeavesEither D.reads D.may_leave D.moment D.left_since
             (sealed_update update) self.old self.new }
         // At `Ok` the history with the update lasts, and the disk still tells what it told.
-        ensures served { OnOk result (ServesMore D.reads D.may_leave (sealed_update update) self.old self.new
+        ensures served { OnOk result (
+            ServesMore D.reads D.may_leave (sealed_update update) self.old self.new
             × StaysTold (D.reads self.old.disk) (D.reads self.new.disk)) }
 
         ensures call { IsCallOf D.borrow D.faults self.old self.new (IsErrOf result Disk) }

@@ -1,4 +1,4 @@
-use Rattle.std.proofs.Common.{◌≡◌, Ok, subst}
+use Rattle.std.proofs.Common.{Ok, subst}
 use Rattle.ov_disk.specs.Disk.{Told}
 use Rattle.ov_journal.specs.Finding.{Finds}
 use Rattle.ov_journal.specs.Standing.{IsUnborn}
@@ -13,24 +13,28 @@ returns-in-Unborn-clause-found g c =
     subst (λ (found : Found). Finds i.book (Ok found)) c.in-Unborn.is
     (c.in_ok-begin.ensures.finds i is) in
     found_at_birth g.D.Disk.reads g.D.Disk.may_leave g.D.Disk.moment g.D.Disk.left_since
-    (keys c.args.base_check.now c.args.surface.now.bytes) c.args.mode c.args.disk.now c.begin.new.disk c.birth.new.disk unborn c.birth.result
+    (keys c.args.base_check.now c.args.surface.now.bytes) c.args.mode c.args.disk.now
+    c.begin.new.disk c.birth.new.disk unborn c.birth.result
     c.birth.ensures.served
 
 pub returns-in_ok-vault-in-Born-clause-any_moment :
     goal.returns-in_ok-vault-in-Born-clause-any_moment
 returns-in_ok-vault-in-Born-clause-any_moment g c =
     let quiet = both_quiet g.D.Disk.reads g.D.Disk.may_leave g.D.Disk.moment g.D.Disk.left_since
-    (keys c.args.base_check.now c.args.surface.now.bytes) c.args.mode c.args.disk.now c.begin.new.disk c.reopen.new.disk
+    (keys c.args.base_check.now c.args.surface.now.bytes) c.args.mode c.args.disk.now
+    c.begin.new.disk c.reopen.new.disk
     (g.met.D.Disk.counts_now c.begin.new.disk) c.in_ok-begin.ensures.any_moment
     c.reopen.ensures.untouched.any_moment in
     quiet_leaves g.D.Disk.reads g.D.Disk.may_leave g.D.Disk.moment g.D.Disk.left_since
-    (keys c.args.base_check.now c.args.surface.now.bytes) c.args.mode c.args.disk.now c.reopen.new.disk quiet
+    (keys c.args.base_check.now c.args.surface.now.bytes) c.args.mode c.args.disk.now
+    c.reopen.new.disk quiet
 
 pub returns-in_ok-vault-in-Born-clause-untouched :
     goal.returns-in_ok-vault-in-Born-clause-untouched
 returns-in_ok-vault-in-Born-clause-untouched g c i is born =
     let quiet = both_quiet g.D.Disk.reads g.D.Disk.may_leave g.D.Disk.moment g.D.Disk.left_since
-    (keys c.args.base_check.now c.args.surface.now.bytes) c.args.mode c.args.disk.now c.begin.new.disk c.reopen.new.disk
+    (keys c.args.base_check.now c.args.surface.now.bytes) c.args.mode c.args.disk.now
+    c.begin.new.disk c.reopen.new.disk
     (g.met.D.Disk.counts_now c.begin.new.disk) c.in_ok-begin.ensures.any_moment
     c.reopen.ensures.untouched.any_moment in
     quiet

@@ -1,4 +1,4 @@
-use Rattle.std.proofs.Common.{rules, ◌≡◌, ◌<◌, ◌^◌, true, Some, inr, refl, sym, ◌∙◌}
+use Rattle.std.proofs.Common.{rules, ◌≡◌, ◌<◌, ◌^◌, true, inr, refl, sym, ◌∙◌}
 use Rattle.ov_journal.specs.Book.{contents_of}
 use Rattle.ov_images.specs.Damage.{HasHeader}
 use Rattle.ov_images.specs.Images.{keys}

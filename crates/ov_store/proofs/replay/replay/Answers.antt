@@ -15,7 +15,8 @@ records-init g c = record {
   untouched = untouched g.D.Disk.moment g.D.Disk.left_since g.D.Disk.may_leave g.D.Disk.reads
       c.args.disk.now (g.met.D.Disk.only_now c.args.disk.now);
   made = replayed_none c.args.surface.now.bytes c.args.mode c.args.first
-      (g.D.Disk.reads c.args.disk.now) _ c.in_ok-vault.ensures.catalogue c.in_ok-vault.ensures.stored;
+      (g.D.Disk.reads c.args.disk.now) _ c.in_ok-vault.ensures.catalogue
+      c.in_ok-vault.ensures.stored;
   same = search rules;
   later = search rules;
 }

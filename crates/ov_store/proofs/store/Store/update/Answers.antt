@@ -1,10 +1,9 @@
-use Rattle.std.proofs.Common.{rules, ◌≡◌, List, Option, Some, ℕ, true, refl, sym, ◌∙◌, ap, subst, length, arith}
+use Rattle.std.proofs.Common.{rules, ◌≡◌, List, Option, Some, ℕ, true, refl, ◌∙◌, ap, subst, length, arith}
 use Rattle.ov_record.specs.Updates.{sealed_update}
 use Rattle.ov_record.proofs.UpdateLaws.{some_bytes, few_bytes}
 use Rattle.ov_history.specs.Briefs.{brief, text_of}
 use Rattle.ov_history.specs.Catalogue.{Catalogue, outline, catalogue_after}
 use Rattle.ov_history.specs.Rewrites.{rewrites_of, stored_after}
-use Rattle.ov_disk.specs.Disk.{Image}
 use Rattle.ov_state.specs.Changes.{applied}
 use Rattle.ov_vault.specs.Prepared.{stored_with}
 use Rattle.ov_images.specs.Images.{Keys}
@@ -16,8 +15,10 @@ use Rattle.ov_store.proofs.store.Store.update.Goals as goal
 
 pub returns-in_err-body-clause-any_moment : goal.returns-in_err-body-clause-any_moment
 returns-in_err-body-clause-any_moment g c =
-    not_begun g.D.Disk.reads g.D.Disk.may_leave g.D.Disk.moment g.D.Disk.left_since g.met.D.Disk.reads_one
-    (sealed_update c.args.update) c.args.self.now c.args.self.now refl (g.met.D.Disk.only_now c.args.self.now.disk)
+    not_begun g.D.Disk.reads g.D.Disk.may_leave g.D.Disk.moment g.D.Disk.left_since
+    g.met.D.Disk.reads_one
+    (sealed_update c.args.update) c.args.self.now c.args.self.now refl (g.met.D.Disk.only_now
+    c.args.self.now.disk)
 
 pub returns-in_err-prepared-clause-any_moment : goal.returns-in_err-prepared-clause-any_moment
 returns-in_err-prepared-clause-any_moment g c =
@@ -25,9 +26,11 @@ returns-in_err-prepared-clause-any_moment g c =
       base_check = c.self.inside.base_check;
       surface = c.self.inside.surface.bytes;
     } in
-    not_begun g.D.Disk.reads g.D.Disk.may_leave g.D.Disk.moment g.D.Disk.left_since g.met.D.Disk.reads_one
+    not_begun g.D.Disk.reads g.D.Disk.may_leave g.D.Disk.moment g.D.Disk.left_since
+    g.met.D.Disk.reads_one
     (sealed_update c.args.update) c.args.self.now
-    (store_of c.self.inside.disk k c.prepare.new.self.catalogue c.prepare.new.self.stored c.self.inside.failed)
+    (store_of c.self.inside.disk k c.prepare.new.self.catalogue c.prepare.new.self.stored
+    c.self.inside.failed)
     (ap (λ (s : Opened g.row.D.Denot). s.disk) c.self.view_is)
     (g.met.D.Disk.only_now c.args.self.now.disk)
 
@@ -44,7 +47,12 @@ keep-requires-clause-body g c =
     body_of_some (sealed_update c.args.update) c.in_ok-body.body c.in-Some.body
     c.as_slice.result.now c.in_ok-body.ensures c.in-Some.is slice in (
       omega (arith, ap length is.bytes, some_bytes 32 (sealed_update c.args.update)),
-      omega (arith, ap length is.bytes, few_bytes 32 (sealed_update c.args.update) (omega arith) is.form),
+      omega (
+        arith,
+        ap length is.bytes,
+        few_bytes 32 (sealed_update c.args.update) (omega arith)
+            is.form,
+      ),
     )
 
 pub keep-requires-clause-stands : goal.keep-requires-clause-stands
@@ -61,12 +69,16 @@ returns-in-Err-Memory-clause-any_moment g c =
       surface = c.self.inside.surface.bytes;
     } in
     let later : Opened g.row.D.Denot =
-    store_of c.keep.new.disk k c.prepare.new.self.catalogue c.prepare.new.self.stored c.self.inside.failed in
+    store_of c.keep.new.disk k c.prepare.new.self.catalogue c.prepare.new.self.stored
+    c.self.inside.failed in
     subst (λ (old : Opened g.row.D.Denot). LeavesEither g.D.Disk.reads g.D.Disk.may_leave
     g.D.Disk.moment g.D.Disk.left_since (sealed_update c.args.update) old later) c.self.view_is
-    (leaves_either g.D.Disk.reads g.D.Disk.may_leave g.D.Disk.moment g.D.Disk.left_since g.met.D.Disk.reads_one k
-    c.self.inside.disk c.keep.new.disk c.self.inside.vault.catalogue c.self.inside.vault.stored c.self.inside.failed
-    (sealed_update c.args.update) c.as_slice.result.now c.in_ok-prepared.ensures.prepared.change.taken is
+    (leaves_either g.D.Disk.reads g.D.Disk.may_leave g.D.Disk.moment g.D.Disk.left_since
+    g.met.D.Disk.reads_one k
+    c.self.inside.disk c.keep.new.disk c.self.inside.vault.catalogue c.self.inside.vault.stored
+    c.self.inside.failed
+    (sealed_update c.args.update) c.as_slice.result.now
+    c.in_ok-prepared.ensures.prepared.change.taken is
     later refl c.keep.ensures.any_moment)
 
 pub returns-in-Err-Disk-clause-any_moment : goal.returns-in-Err-Disk-clause-any_moment
@@ -83,9 +95,12 @@ returns-in-Err-Disk-clause-any_moment g c =
     store_of c.keep.new.disk k c.prepare.new.self.catalogue c.prepare.new.self.stored true in
     subst (λ (old : Opened g.row.D.Denot). LeavesEither g.D.Disk.reads g.D.Disk.may_leave
     g.D.Disk.moment g.D.Disk.left_since (sealed_update c.args.update) old later) c.self.view_is
-    (leaves_either g.D.Disk.reads g.D.Disk.may_leave g.D.Disk.moment g.D.Disk.left_since g.met.D.Disk.reads_one k
-    c.self.inside.disk c.keep.new.disk c.self.inside.vault.catalogue c.self.inside.vault.stored c.self.inside.failed
-    (sealed_update c.args.update) c.as_slice.result.now c.in_ok-prepared.ensures.prepared.change.taken is
+    (leaves_either g.D.Disk.reads g.D.Disk.may_leave g.D.Disk.moment g.D.Disk.left_since
+    g.met.D.Disk.reads_one k
+    c.self.inside.disk c.keep.new.disk c.self.inside.vault.catalogue c.self.inside.vault.stored
+    c.self.inside.failed
+    (sealed_update c.args.update) c.as_slice.result.now
+    c.in_ok-prepared.ensures.prepared.change.taken is
     later refl c.keep.ensures.any_moment)
 
 pub returns-clause-any_moment : goal.returns-clause-any_moment
@@ -99,12 +114,16 @@ returns-clause-any_moment g c =
       surface = c.self.inside.surface.bytes;
     } in
     let later : Opened g.row.D.Denot =
-    store_of c.keep.new.disk k c.commit.new.self.catalogue c.commit.new.self.stored c.self.inside.failed in
+    store_of c.keep.new.disk k c.commit.new.self.catalogue c.commit.new.self.stored
+    c.self.inside.failed in
     subst (λ (old : Opened g.row.D.Denot). LeavesEither g.D.Disk.reads g.D.Disk.may_leave
     g.D.Disk.moment g.D.Disk.left_since (sealed_update c.args.update) old later) c.self.view_is
-    (leaves_either g.D.Disk.reads g.D.Disk.may_leave g.D.Disk.moment g.D.Disk.left_since g.met.D.Disk.reads_one k
-    c.self.inside.disk c.keep.new.disk c.self.inside.vault.catalogue c.self.inside.vault.stored c.self.inside.failed
-    (sealed_update c.args.update) c.as_slice.result.now c.in_ok-prepared.ensures.prepared.change.taken is
+    (leaves_either g.D.Disk.reads g.D.Disk.may_leave g.D.Disk.moment g.D.Disk.left_since
+    g.met.D.Disk.reads_one k
+    c.self.inside.disk c.keep.new.disk c.self.inside.vault.catalogue c.self.inside.vault.stored
+    c.self.inside.failed
+    (sealed_update c.args.update) c.as_slice.result.now
+    c.in_ok-prepared.ensures.prepared.change.taken is
     later refl c.keep.ensures.any_moment)
 
 pub invariant_of-self-2 : goal.invariant_of-self-2
@@ -118,19 +137,24 @@ invariant_of-self-2 g c =
       surface = c.self.inside.surface.bytes;
     } in
     let made : c.commit.new.self.catalogue
-    ≡ catalogue_after k.surface c.self.inside.vault.catalogue (brief (sealed_update c.args.update)) =
+    ≡ catalogue_after k.surface c.self.inside.vault.catalogue (brief (sealed_update c.args.update))
+    =
     c.commit.ensures.catalogue
     ∙ ap (λ (x : Catalogue). applied x c.in_ok-prepared.prepared.change)
     c.in_ok-prepared.ensures.catalogue ∙ c.in_ok-prepared.ensures.prepared.change.made in
     let rewritten : c.commit.new.self.stored
-    ≡ stored_after k.surface (rewrites_of c.self.inside.vault.catalogue (brief (sealed_update c.args.update)))
+    ≡ stored_after k.surface (rewrites_of c.self.inside.vault.catalogue (brief (sealed_update
+    c.args.update)))
     (text_of (sealed_update c.args.update)) c.self.inside.vault.stored =
     c.commit.ensures.stored
     ∙ ap (λ (x : List (List ℕ)). stored_with x c.in_ok-prepared.prepared)
     c.in_ok-prepared.ensures.stored ∙ c.in_ok-prepared.ensures.prepared.bytes in
-    safe_more g.D.Disk.reads g.D.Disk.may_leave g.D.Disk.moment g.D.Disk.left_since g.met.D.Disk.reads_one k
-    c.self.inside.disk c.keep.new.disk c.self.inside.vault.catalogue c.self.inside.vault.stored c.self.inside.failed
-    (sealed_update c.args.update) c.as_slice.result.now c.in_ok-prepared.ensures.prepared.change.taken is
+    safe_more g.D.Disk.reads g.D.Disk.may_leave g.D.Disk.moment g.D.Disk.left_since
+    g.met.D.Disk.reads_one k
+    c.self.inside.disk c.keep.new.disk c.self.inside.vault.catalogue c.self.inside.vault.stored
+    c.self.inside.failed
+    (sealed_update c.args.update) c.as_slice.result.now
+    c.in_ok-prepared.ensures.prepared.change.taken is
     c.in-Ok.ensures.told_before c.if-self.false c.in-Ok.ensures.kept
     c.commit.new.self.catalogue c.commit.new.self.stored made rewritten
     c.self.inside.journal c.keep.new.journal c.self.invariant c.in-Ok.ensures.whole
@@ -147,12 +171,14 @@ returns-clause-served g c =
       surface = c.self.inside.surface.bytes;
     } in
     let made : c.commit.new.self.catalogue
-    ≡ catalogue_after k.surface c.self.inside.vault.catalogue (brief (sealed_update c.args.update)) =
+    ≡ catalogue_after k.surface c.self.inside.vault.catalogue (brief (sealed_update c.args.update))
+    =
     c.commit.ensures.catalogue
     ∙ ap (λ (x : Catalogue). applied x c.in_ok-prepared.prepared.change)
     c.in_ok-prepared.ensures.catalogue ∙ c.in_ok-prepared.ensures.prepared.change.made in
     let rewritten : c.commit.new.self.stored
-    ≡ stored_after k.surface (rewrites_of c.self.inside.vault.catalogue (brief (sealed_update c.args.update)))
+    ≡ stored_after k.surface (rewrites_of c.self.inside.vault.catalogue (brief (sealed_update
+    c.args.update)))
     (text_of (sealed_update c.args.update)) c.self.inside.vault.stored =
     c.commit.ensures.stored
     ∙ ap (λ (x : List (List ℕ)). stored_with x c.in_ok-prepared.prepared)
@@ -161,9 +187,12 @@ returns-clause-served g c =
     c.commit.new.self.stored c.self.inside.failed in
     let served = subst (λ (old : Opened g.row.D.Denot). ServesMore g.D.Disk.reads g.D.Disk.may_leave
     (sealed_update c.args.update) old later) c.self.view_is
-    (serves_more g.D.Disk.reads g.D.Disk.may_leave g.D.Disk.moment g.D.Disk.left_since g.met.D.Disk.reads_one k
-    c.self.inside.disk c.keep.new.disk c.self.inside.vault.catalogue c.self.inside.vault.stored c.self.inside.failed
-    (sealed_update c.args.update) c.as_slice.result.now c.in_ok-prepared.ensures.prepared.change.taken is
+    (serves_more g.D.Disk.reads g.D.Disk.may_leave g.D.Disk.moment g.D.Disk.left_since
+    g.met.D.Disk.reads_one k
+    c.self.inside.disk c.keep.new.disk c.self.inside.vault.catalogue c.self.inside.vault.stored
+    c.self.inside.failed
+    (sealed_update c.args.update) c.as_slice.result.now
+    c.in_ok-prepared.ensures.prepared.change.taken is
     c.in-Ok.ensures.told_before c.if-self.false c.in-Ok.ensures.kept
     c.commit.new.self.catalogue c.commit.new.self.stored made rewritten) in (
       served,
