@@ -1,0 +1,8 @@
+use Rattle.ov_images.proofs.Keeping.{keeps_once, keys_are_kept}
+use Rattle.ov_images.proofs.laws.an_image_keeps_one_history.Goals as goal
+
+pub returns-clause-history : goal.returns-clause-history
+returns-clause-history c = keeps_once
+
+pub returns-clause-keys : goal.returns-clause-keys
+returns-clause-keys c = keys_are_kept

@@ -1,0 +1,149 @@
+-- What the record of an update makes of the histories for which a store stands.
+use Rattle.std.proofs.Common.{◌≡◌, inl, inr, ⊎_elim, ℕ, ◌+◌, List, length, Bool, true, false, Option, Some, refl, sym, ◌∙◌, ap, subst, arith}
+use Rattle.ov_record.specs.Updates.{SealedUpdate}
+use Rattle.ov_history.specs.Briefs.{Brief, BriefEnrol, BriefCreate, BriefGrant, BriefRevoke, brief, text_of}
+use Rattle.ov_history.specs.Catalogue.{Catalogue, catalogue_after}
+use Rattle.ov_history.specs.Rewrites.{rewrites_of, stored_after}
+use Rattle.ov_history.specs.Sealed.{SealedHistory, KeepsBytes, StandsFor, with_sealed}
+use Rattle.ov_history.proofs.GoingOn.{histories_go_on, stored-push}
+use Rattle.ov_state.specs.Plans.{IsTaken}
+use Rattle.ov_disk.specs.Disk.{Image, Told}
+use Rattle.ov_disk.specs.Moments.{LeavesOnly}
+use Rattle.ov_disk.proofs.Runs.{started, weaker}
+use Rattle.ov_journal.specs.Book.{contents_of, with_body}
+use Rattle.ov_journal.specs.Log.{Log, IsBeforeOrAfter, IsKept, Stands}
+use Rattle.ov_images.specs.Images.{Keys, Keeps, KeepsEither}
+use Rattle.ov_images.proofs.Keeping.{keeps_same, keeps_more}
+use Rattle.ov_store.specs.Bodies.{IsBodyOf, IsSpelled}
+use Rattle.ov_store.specs.Opened.{Opened, Serves, IsSafe}
+use Rattle.ov_store.specs.Updating.{LeavesEither, ServesMore}
+
+-- each update raises the epoch by one
+pub epoch_after : (master : List ℕ) (c : Catalogue) (b : Brief)
+    → (catalogue_after master c b).epoch ≡ c.epoch + 1
+epoch_after master c (BriefEnrol user) = refl
+epoch_after master c (BriefCreate file list tokens tag size) = refl
+epoch_after master c (BriefGrant user file token) = refl
+epoch_after master c (BriefRevoke user file) = refl
+
+-- the stored bytes go on with the history
+pub bytes_go_on : (master : List ℕ) (c : Catalogue) (stored : List (List ℕ)) (g : SealedHistory)
+    (u : SealedUpdate) → StandsFor master c g → KeepsBytes master stored g
+    → KeepsBytes master (stored_after master (rewrites_of c (brief u)) (text_of u) stored)
+    (with_sealed g u)
+bytes_go_on master c stored g u stands keeps =
+    (λ j. stored_after master (rewrites_of (stands.1 j) (brief u)) (text_of u) (keeps j))
+    ∙ sym (stored-push master g u)
+
+-- an open store with these parts
+abbrev pub store_of : {D : Type 0} → D → Keys → Catalogue → List (List ℕ) → Bool → Opened D
+store_of disk k c stored failed =
+    record { disk = disk; keys = k; catalogue = c; stored = stored; failed = failed }
+
+module _ {D : Type 0} (reads : D → Option Image) (may_leave : D → Image → Type 0)
+    (moment : D → ℕ) (left_since : D → ℕ → Image → Type 0)
+    (reads_one : (disk : D) (i : Image) → reads disk ≡ Some i → may_leave disk i) where
+  module _ (k : Keys) (d0 d1 : D) (c : Catalogue) (stored : List (List ℕ)) (f : Bool)
+      (u : SealedUpdate) (body : List ℕ) (taken : IsTaken c (brief u))
+      (is : IsBodyOf u body) where
+    module _ (g : SealedHistory)
+        (serves : Serves reads may_leave g (store_of d0 k c stored f)) where
+      -- the catalogue of the history with the update
+      goes_on : StandsFor k.surface (catalogue_after k.surface c (brief u)) (with_sealed g u)
+      goes_on = histories_go_on k.surface c g u serves.catalogue taken.0 taken.1
+
+      -- the image that is read keeps the history, and one with the body more keeps it with the
+      -- update
+      read_keeps : f ≡ false → (i : Image) → reads d0 ≡ Some i → Keeps k g i
+      read_keeps sound i read = serves.disk sound i read i (reads_one d0 i read)
+
+      more_keeps : f ≡ false → (i x : Image) → reads d0 ≡ Some i
+          → contents_of x.book ≡ with_body body (contents_of i.book) → Keeps k (with_sealed g u) x
+      more_keeps sound i x read more =
+          keeps_more k g u i x (read_keeps sound i read) goes_on.0 is.form
+          (more ∙ ap (λ (b : List ℕ). with_body b (contents_of i.book)) is.bytes)
+
+    pub leaves_either : (later : Opened D) → later.disk ≡ d1
+        → Told (reads d0) (λ i. LeavesOnly moment left_since d0 d1
+        (IsBeforeOrAfter (may_leave d0) i body))
+        → LeavesEither reads may_leave moment left_since u (store_of d0 k c stored f) later
+    leaves_either later same leaves g serves sound i read =
+        subst (λ (d : D). LeavesOnly moment left_since d0 d (KeepsEither k g u)) (sym same)
+        (weaker moment left_since may_leave d0 d1 (IsBeforeOrAfter (may_leave d0) i body)
+        (KeepsEither k g u) (leaves i read)
+        (λ x. ⊎_elim (λ old. inl (keeps_same k g i x (read_keeps g serves sound i read) old.0))
+        (λ more. inr (more_keeps g serves sound i x read more.0))))
+
+    module _ (told : Told (reads d1) (λ _. (i : Image) × (reads d0 ≡ Some i))) (sound : f ≡ false)
+        (kept : Told (reads d0) (λ i.
+        IsKept (reads d1) (may_leave d1) (with_body body (contents_of i.book)) i.blobs))
+        (now : Catalogue) (bytes : List (List ℕ))
+        (made : now ≡ catalogue_after k.surface c (brief u))
+        (rewritten : bytes
+        ≡ stored_after k.surface (rewrites_of c (brief u)) (text_of u) stored) where
+      pub serves_more : ServesMore reads may_leave u
+          (store_of d0 k c stored f) (store_of d1 k now bytes f)
+      serves_more g serves = record {
+        catalogue = subst (λ (x : Catalogue). StandsFor k.surface x (with_sealed g u)) (sym made)
+            (goes_on g serves);
+        bytes = rewritten ∙ bytes_go_on k.surface c stored g u serves.catalogue serves.bytes;
+        disk = λ ok i read x left.
+            let before = told i read in
+            let one = kept before.0 before.1 in
+            more_keeps g serves sound before.0 x before.1
+            (ap (λ (j : Image). contents_of j.book) (one.only x left) ∙ one.book);
+      }
+
+      pub safe_more : (log more : Log) → IsSafe reads may_leave log (store_of d0 k c stored f)
+          → more.bad ≡ false → length more.offsets ≡ length log.offsets + 1
+          → Stands more (reads d1) (may_leave d1)
+          → IsSafe reads may_leave more (store_of d1 k now bytes f)
+      safe_more log more safe whole count stands = record {
+        whole = whole;
+        count = omega (
+          arith,
+          count,
+          safe.count,
+          ap (λ (x : Catalogue). x.epoch) made,
+          epoch_after k.surface c (brief u),
+        );
+        stands = λ ok. stands;
+        some_history = (
+          with_sealed safe.some_history.0 u,
+          serves_more safe.some_history.0 safe.some_history.1,
+        );
+      }
+
+  -- before the first call of the disk
+  pub not_begun : (u : SealedUpdate) (s later : Opened D) → later.disk ≡ s.disk
+      → ((x : Image) → left_since s.disk (moment s.disk) x → may_leave s.disk x)
+      → LeavesEither reads may_leave moment left_since u s later
+  not_begun u s later same only_now g serves sound i read =
+      subst (λ (d : D). LeavesOnly moment left_since s.disk d (KeepsEither s.keys g u)) (sym same)
+      (started moment left_since may_leave s.disk (KeepsEither s.keys g u) only_now
+      (λ x left. inl (serves.disk sound i read x left)))
+
+  -- after a call of the disk that failed
+  pub safe_failed : (k : Keys) (d0 d1 : D) (c : Catalogue) (stored : List (List ℕ)) (f : Bool)
+      (log other : Log) → IsSafe reads may_leave log (store_of d0 k c stored f)
+      → other.bad ≡ false → length other.offsets ≡ length log.offsets
+      → IsSafe reads may_leave other (store_of d1 k c stored true)
+  safe_failed k d0 d1 c stored f log other safe whole count = record {
+    whole = whole;
+    count = omega (arith, count, safe.count);
+    stands = λ ok. absurd (cc ok);
+    some_history = (
+      safe.some_history.0,
+      record {
+        catalogue = safe.some_history.1.catalogue;
+        bytes = safe.some_history.1.bytes;
+        disk = λ ok. absurd (cc ok);
+      },
+    );
+  }
+
+-- the body of a record that was spelled
+pub body_of_some : (u : SealedUpdate) (spelled : Option (List ℕ)) (body slice : List ℕ)
+    → IsSpelled u spelled → spelled ≡ Some body → slice ≡ body → IsBodyOf u slice
+body_of_some u spelled body slice is some same =
+    subst (IsBodyOf u) (sym same) (subst (IsSpelled u) some is)

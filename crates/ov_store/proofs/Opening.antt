@@ -1,0 +1,101 @@
+-- The parts of an opening, one after the other.
+use Rattle.std.specs.Prelude.{IfOk}
+use Rattle.std.proofs.Common.{◌≡◌, inl, inr, ℕ, ◌≤◌, Option, Result, Ok, Err, refl, sym, ◌∙◌, ap, subst}
+use Rattle.ov_base.specs.declared.mode.Mode.{Mode}
+use Rattle.ov_disk.specs.Disk.{Image, Narrows, Told}
+use Rattle.ov_disk.specs.Moments.{LeavesOnly}
+use Rattle.ov_disk.proofs.Runs.{then_on, weaker}
+use Rattle.ov_history.specs.Sealed.{SealedHistory, blank}
+use Rattle.ov_journal.specs.Finding.{Finds}
+use Rattle.ov_journal.specs.Standing.{IsUnborn}
+use Rattle.ov_journal.specs.declared.fault.CheckFault.{CheckFault}
+use Rattle.ov_journal.specs.declared.fault.CheckFault.TheVariants.{Disk as CheckDisk, Memory as CheckMemory}
+use Rattle.ov_journal.specs.declared.fault.JournalFault.{JournalFault}
+use Rattle.ov_journal.specs.declared.fault.JournalFault.TheVariants.{Disk, NotAStore, Damaged, Memory}
+use Rattle.ov_journal.specs.Log.{Log}
+use Rattle.ov_vault.specs.Vaults.{Store}
+use Rattle.ov_images.specs.Images.{Keys, IsImageOf}
+use Rattle.ov_images.proofs.Keeping.{is_born}
+use Rattle.ov_store.specs.Beginning.{FindsHistory, IsBeginFault, LeavesHistory, WritesNoBorn}
+use Rattle.ov_store.specs.Faults.{begin_fault_of, opening_fault_of}
+use Rattle.ov_store.specs.Opened.{Opened, Serves, open_with}
+
+-- why a journal isn't opened is why a store isn't begun
+pub fault_found : (k : Keys) (mode : Mode) (i : Image) (fault : JournalFault)
+    → Finds i.book (Err fault) → IsBeginFault k mode i (opening_fault_of fault)
+fault_found k mode i Disk finds = tt
+fault_found k mode i NotAStore finds = finds
+fault_found k mode i (Damaged offset) finds = (refl, inl (finds.0, finds.1))
+fault_found k mode i Memory finds = tt
+
+-- want of memory and a fault of the disk say nothing of the image
+pub fault_checked : (k : Keys) (mode : Mode) (i : Image) (why : CheckFault)
+    → IsBeginFault k mode i (begin_fault_of why)
+fault_checked k mode i CheckDisk = tt
+fault_checked k mode i CheckMemory = tt
+
+-- of an unborn image, a history for which it stands is the one without updates
+pub history_unborn : (k : Keys) (mode : Mode) (i : Image) (g : SealedHistory) → IsUnborn i.book
+    → g.mode ≡ mode → IsImageOf k g i → g ≡ blank mode 0
+history_unborn k mode i g un is (inl none) = none.1 ∙ ap (λ (m : Mode). blank m 0) is
+history_unborn k mode i g un is (inr keeps) = absurd ((is_born k g i keeps).1 un)
+
+module _ {D : Type 0} (reads : D → Option Image) (may_leave : D → Image → Type 0)
+    (moment : D → ℕ) (left_since : D → ℕ → Image → Type 0) (k : Keys) (mode : Mode) where
+  -- what a crash may leave now it might have left at the start
+  pub narrowed : (d0 d1 : D)
+      → ((t : ℕ) (x : Image) → t ≤ moment d1 → may_leave d1 x → left_since d1 t x)
+      → LeavesOnly moment left_since d0 d1 (may_leave d0) → Narrows (may_leave d0) (may_leave d1)
+  narrowed d0 d1 counts_now leaves x left = leaves.each x (counts_now (moment d0) x leaves.later
+      left)
+
+  -- two runs that write nothing
+  pub both_quiet : (d0 d1 d2 : D)
+      → ((t : ℕ) (x : Image) → t ≤ moment d1 → may_leave d1 x → left_since d1 t x)
+      → LeavesOnly moment left_since d0 d1 (may_leave d0)
+      → LeavesOnly moment left_since d1 d2 (may_leave d1)
+      → LeavesOnly moment left_since d0 d2 (may_leave d0)
+  both_quiet d0 d1 d2 counts_now one two =
+      then_on moment left_since may_leave d0 d1 d2 (may_leave d0) (may_leave d1) one two
+      (narrowed d0 d1 counts_now one)
+
+  -- where nothing is written the history stays
+  pub quiet_leaves : (d0 d1 : D) → LeavesOnly moment left_since d0 d1 (may_leave d0)
+      → LeavesHistory reads may_leave moment left_since k mode d0 d1
+  quiet_leaves d0 d1 leaves i at only g is image =
+      weaker moment left_since may_leave d0 d1 (may_leave d0) (IsImageOf k g) leaves
+      (λ x left. subst (IsImageOf k g) (sym (only x left)) image)
+
+  pub quiet_writes : (d0 d1 : D) → LeavesOnly moment left_since d0 d1 (may_leave d0)
+      → WritesNoBorn reads may_leave moment left_since d0 d1
+  quiet_writes d0 d1 leaves i at born = leaves
+
+  module _ (d0 d1 d2 : D) (unborn : Told (reads d0) (λ i. IsUnborn i.book)) where
+    pub birth_leaves : reads d1 ≡ reads d0 → LeavesOnly moment left_since d0 d1 (may_leave d0)
+        → Told (reads d1) (λ _. LeavesOnly moment left_since d1 d2 (IsImageOf k (blank mode 0)))
+        → LeavesHistory reads may_leave moment left_since k mode d0 d2
+    birth_leaves same one two i at only g is image =
+        let none = history_unborn k mode i g (unborn i at) is image in
+        then_on moment left_since may_leave d0 d1 d2 (IsImageOf k g) (IsImageOf k (blank mode 0))
+        (quiet_leaves d0 d1 one i at only g is image) (two i (same ∙ at))
+        (λ x. subst (λ (y : SealedHistory). IsImageOf k y x) (sym none))
+
+    pub birth_writes : WritesNoBorn reads may_leave moment left_since d0 d2
+    birth_writes i at born = absurd (born (unborn i at))
+
+    birth_finds : (s : Opened D) → Serves reads may_leave (blank mode 0) s
+        → Told (reads d0) (λ i. FindsHistory reads may_leave k mode i s)
+    birth_finds s serves i at = record {
+      some = (blank mode 0, refl, inl (unborn i at, refl));
+      each = λ g is image. subst (λ (y : SealedHistory). Serves reads may_leave y s)
+          (sym (history_unborn k mode i g (unborn i at) is image)) serves;
+    }
+
+    pub found_at_birth : {E : Type 0} (r : Result (Store × Log) E)
+        → IfOk r (λ parts. Serves reads may_leave (blank mode 0)
+        (open_with d2 k parts.0.catalogue parts.0.stored))
+        → IfOk r (λ parts. Told (reads d0) (λ i. FindsHistory reads may_leave k mode i
+        (open_with d2 k parts.0.catalogue parts.0.stored)))
+    found_at_birth (Ok parts) serves =
+        birth_finds (open_with d2 k parts.0.catalogue parts.0.stored) serves
+    found_at_birth (Err fault) none = none

@@ -1,0 +1,54 @@
+use Rattle.std.proofs.Common.{rules, ◌≡◌, sym, ◌<◌, ◌^◌, [], length, ap, subst}
+use Rattle.std.proofs.lemmas.Result.{err_from_is_err_and}
+use Rattle.ov_disk.specs.Disk.{Image, Told}
+use Rattle.ov_history.specs.Sealed.{blank}
+use Rattle.ov_journal.specs.Book.{born}
+use Rattle.ov_journal.specs.Log.{Log, IsKept}
+use Rattle.ov_journal.specs.declared.header.Header.{Header}
+use Rattle.ov_images.specs.Images.{header_of, keys}
+use Rattle.ov_store.proofs.Births.{none_left, safe_none}
+use Rattle.ov_store.specs.Beginning.{IsBeginFault}
+use Rattle.ov_store.specs.declared.fault.BeginFault.{BeginFault}
+use Rattle.ov_store.proofs.Opening.{fault_checked}
+use Rattle.ov_store.proofs.birth.birth.Goals as goal
+
+pub returns-in_err-vault-clause-any_moment : goal.returns-in_err-vault-clause-any_moment
+returns-in_err-vault-clause-any_moment g c none i is =
+    let low : c.args.first < 2 ^ 32 = search rules in
+    none_left g.D.Disk.reads g.D.Disk.may_leave g.D.Disk.moment g.D.Disk.left_since
+    (keys c.args.base_check.now c.args.surface.now.bytes) c.args.mode c.args.first low
+    c.args.disk.now (g.met.D.Disk.only_now c.args.disk.now) i (c.requires.unborn i is)
+
+pub returns-clause-safe : goal.returns-clause-safe
+returns-clause-safe g c =
+    let low : c.args.first < 2 ^ 32 = search rules in
+    let k = keys c.args.base_check.now c.args.surface.now.bytes in
+    let header : Header = record {
+      mode = c.args.mode;
+      first = c.args.first;
+      base_check = c.args.base_check.now;
+      surface_check = c.check_value.result;
+    } in
+    let same : header ≡ header_of k (blank c.args.mode c.args.first) = λ j. record {
+      mode = c.args.mode;
+      first = c.args.first;
+      base_check = c.args.base_check.now;
+      surface_check = c.check_value.ensures j;
+    } in
+    let kept = subst (λ (h : Header). Told (g.D.Disk.reads c.args.disk.now) (λ i.
+    IsKept (g.D.Disk.reads c.birth.new.disk) (g.D.Disk.may_leave c.birth.new.disk) (born h [])
+    i.blobs)) same c.in_ok-journal.ensures.born in
+    safe_none g.D.Disk.reads g.D.Disk.may_leave g.D.Disk.moment g.D.Disk.left_since k c.args.mode
+    c.args.first low c.args.disk.now c.birth.new.disk c.in_ok-vault.vault.catalogue
+    c.in_ok-vault.vault.stored c.in_ok-vault.ensures.catalogue c.in_ok-vault.ensures.stored
+    c.in_ok-journal.ensures.told_before kept c.in_ok-journal.journal
+    (ap (λ (l : Log). l.bad) c.in_ok-journal.ensures.log)
+    (ap (λ (l : Log). length l.offsets) c.in_ok-journal.ensures.log) c.in_ok-journal.ensures.stands
+
+pub returns-in_err-journal-clause-fault : goal.returns-in_err-journal-clause-fault
+returns-in_err-journal-clause-fault g c =
+    let k = keys c.args.base_check.now c.args.surface.now.bytes in
+    let p = err_from_is_err_and c.from_residual-in_err-journal.result
+    c.from_residual-in_err-journal.ensures.1 in
+    rw p.1 (subst (λ (fault : BeginFault). (i : Image) → IsBeginFault k c.args.mode i fault)
+    (sym p.2) (λ i. fault_checked k c.args.mode i c.in_err-journal.field-0.0))

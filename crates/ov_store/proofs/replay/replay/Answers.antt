@@ -1,0 +1,104 @@
+use Rattle.std.proofs.Common.{rules, ◌≡◌, ◌<◌, length, sym, ◌∙◌, subst, arith}
+use Rattle.std.proofs.lemmas.Result.{err_from_is_err_and}
+use Rattle.ov_disk.proofs.Runs.{untouched, looks_then}
+use Rattle.ov_journal.specs.Book.{contents_of}
+use Rattle.ov_journal.proofs.Records.{has_record}
+use Rattle.ov_store.specs.Replaying.{IsReplayFault}
+use Rattle.std.specs.Prelude.{Err}
+use Rattle.ov_store.specs.declared.fault.BeginFault.{BeginFault}
+use Rattle.ov_store.specs.declared.fault.BeginFault.TheVariants.{Disk as DiskFailed}
+use Rattle.ov_store.proofs.Replays.{replayed_none, replayed_more, replayed_all, next_body, fault_of_body, fault_of_read, rises}
+use Rattle.ov_store.proofs.replay.replay.Goals as goal
+
+pub records-init : goal.records-init
+records-init g c = record {
+  untouched = untouched g.D.Disk.moment g.D.Disk.left_since g.D.Disk.may_leave g.D.Disk.reads
+      c.args.disk.now (g.met.D.Disk.only_now c.args.disk.now);
+  made = replayed_none c.args.surface.now.bytes c.args.mode c.args.first
+      (g.D.Disk.reads c.args.disk.now) _ c.in_ok-vault.ensures.catalogue
+      c.in_ok-vault.ensures.stored;
+  same = search rules;
+  later = search rules;
+}
+
+pub body-requires-clause-there : goal.body-requires-clause-there
+body-requires-clause-there g c i is =
+    let lt : c.records.i < length c.args.journal.now.offsets = search rules in (
+      _,
+      has_record c.args.journal.now i.book c.records.i
+          (c.requires.log i (sym c.records.invariant.untouched.reads_same ∙ is)) lt,
+    )
+
+pub returns-in_err-body-clause-fault : goal.returns-in_err-body-clause-fault
+returns-in_err-body-clause-fault g c i is =
+    let all = (contents_of i.book).records.bodies in
+    let p = err_from_is_err_and c.from_residual-in_err-body.result
+    c.from_residual-in_err-body.ensures.1 in
+    rw p.1 (subst (λ (fault : BeginFault). IsReplayFault c.args.mode c.args.first all fault)
+    (sym p.2)
+    (fault_of_read c.args.surface.now.bytes c.args.mode c.args.first
+    (g.D.Disk.reads c.args.disk.now) c.in_err-body.field-0.0 all))
+
+pub returns-in_err-body-clause-untouched : goal.returns-in_err-body-clause-untouched
+returns-in_err-body-clause-untouched g c =
+    looks_then g.D.Disk.moment g.D.Disk.left_since g.D.Disk.may_leave g.D.Disk.reads
+    c.args.disk.now c.records.disk c.body.new.disk c.records.invariant.untouched
+    c.body.ensures.untouched
+
+pub returns-in_err-take_record-clause-fault : goal.returns-in_err-take_record-clause-fault
+returns-in_err-take_record-clause-fault g c i is =
+    let lt : c.records.i < length c.args.journal.now.offsets = search rules in
+    let next = next_body c.args.journal.now c.records.i c.clear.new.self.items c.body.new.out.items
+    c.as_slice.result.now (g.D.Disk.reads c.args.disk.now) lt c.requires.log
+    (λ d at. c.in_ok-body.ensures.bytes d (c.records.invariant.untouched.reads_same ∙ at))
+    c.clear.ensures.items c.as_slice.ensures.value in
+    let all = (contents_of i.book).records.bodies in
+    let p = err_from_is_err_and c.from_residual-in_err-take_record.result
+    c.from_residual-in_err-take_record.ensures.1 in
+    rw p.1 (subst (λ (fault : BeginFault). IsReplayFault c.args.mode c.args.first all fault)
+    (sym p.2)
+    (fault_of_body c.args.surface.now.bytes c.args.mode c.args.first
+    (g.D.Disk.reads c.args.disk.now) c.records.i c.records.vault c.as_slice.result.now
+    c.in_err-take_record.field-0.0 c.records.invariant.made c.in_err-take_record.ensures.fault i is
+    (next i is)))
+
+pub returns-in_err-take_record-clause-untouched : goal.returns-in_err-take_record-clause-untouched
+returns-in_err-take_record-clause-untouched g c =
+    looks_then g.D.Disk.moment g.D.Disk.left_since g.D.Disk.may_leave g.D.Disk.reads
+    c.args.disk.now c.records.disk c.body.new.disk c.records.invariant.untouched
+    c.body.ensures.untouched
+
+pub records-preserved : goal.records-preserved
+records-preserved g c =
+    let lt : c.records.i < length c.args.journal.now.offsets = search rules in
+    let next = next_body c.args.journal.now c.records.i c.clear.new.self.items c.body.new.out.items
+    c.as_slice.result.now (g.D.Disk.reads c.args.disk.now) lt c.requires.log
+    (λ d at. c.in_ok-body.ensures.bytes d (c.records.invariant.untouched.reads_same ∙ at))
+    c.clear.ensures.items c.as_slice.ensures.value in
+    record {
+      untouched = looks_then g.D.Disk.moment g.D.Disk.left_since g.D.Disk.may_leave
+          g.D.Disk.reads c.args.disk.now c.records.disk c.body.new.disk
+          c.records.invariant.untouched c.body.ensures.untouched;
+      made = replayed_more c.args.surface.now.bytes c.args.mode c.args.first
+          (g.D.Disk.reads c.args.disk.now) c.records.i c.records.vault c.take_record.new.vault
+          c.as_slice.result.now c.records.invariant.made c.in_ok-take_record.ensures.taken next;
+      same = search rules;
+      later = search rules;
+    }
+
+pub returns-clause-made : goal.returns-clause-made
+returns-clause-made g c =
+    let last : c.records.i ≡ length c.args.journal.now.offsets =
+    omega (arith, c.count-i-end.ensures) in
+    replayed_all c.args.surface.now.bytes c.args.mode c.args.first (g.D.Disk.reads c.args.disk.now)
+    c.records.i c.records.vault c.args.journal.now c.records.invariant.made last c.requires.log
+
+pub returns-in_err-body-clause-failed : goal.returns-in_err-body-clause-failed
+returns-in_err-body-clause-failed g c is =
+    let p = err_from_is_err_and c.from_residual-in_err-body.result
+    c.from_residual-in_err-body.ensures.1 in
+    let disk : p.0 ≡ DiskFailed = cc (p.1, is) in
+    rises c.in_err-body.field-0.0 (g.D.Disk.faults c.args.disk.now) (g.D.Disk.faults c.records.disk)
+    (g.D.Disk.faults c.body.new.disk)
+    (λ same. c.body.ensures.failed (c.in_err-body.was ∙ (λ j. Err (same j))))
+    c.records.invariant.later (sym p.2 ∙ disk)

@@ -1,0 +1,204 @@
+use Rattle.std.proofs.Common.{rules, ◌≡◌, List, Option, Some, ℕ, true, refl, ◌∙◌, ap, subst, length, arith}
+use Rattle.ov_record.specs.Updates.{sealed_update}
+use Rattle.ov_record.proofs.UpdateLaws.{some_bytes, few_bytes}
+use Rattle.ov_history.specs.Briefs.{brief, text_of}
+use Rattle.ov_history.specs.Catalogue.{Catalogue, outline, catalogue_after}
+use Rattle.ov_history.specs.Rewrites.{rewrites_of, stored_after}
+use Rattle.ov_state.specs.Changes.{applied}
+use Rattle.ov_vault.specs.Prepared.{stored_with}
+use Rattle.ov_images.specs.Images.{Keys}
+use Rattle.ov_store.specs.Bodies.{IsBodyOf, IsSpelled}
+use Rattle.ov_store.specs.Opened.{Opened}
+use Rattle.ov_store.specs.Updating.{LeavesEither, ServesMore}
+use Rattle.ov_store.proofs.Going.{store_of, not_begun, body_of_some, leaves_either, serves_more, safe_more}
+use Rattle.ov_store.proofs.store.Store.update.Goals as goal
+
+pub returns-in_err-body-clause-any_moment : goal.returns-in_err-body-clause-any_moment
+returns-in_err-body-clause-any_moment g c =
+    not_begun g.D.Disk.reads g.D.Disk.may_leave g.D.Disk.moment g.D.Disk.left_since
+    g.met.D.Disk.reads_one
+    (sealed_update c.args.update) c.args.self.now c.args.self.now refl (g.met.D.Disk.only_now
+    c.args.self.now.disk)
+
+pub returns-in_err-prepared-clause-any_moment : goal.returns-in_err-prepared-clause-any_moment
+returns-in_err-prepared-clause-any_moment g c =
+    let k : Keys = record {
+      base_check = c.self.inside.base_check;
+      surface = c.self.inside.surface.bytes;
+    } in
+    not_begun g.D.Disk.reads g.D.Disk.may_leave g.D.Disk.moment g.D.Disk.left_since
+    g.met.D.Disk.reads_one
+    (sealed_update c.args.update) c.args.self.now
+    (store_of c.self.inside.disk k c.prepare.new.self.catalogue c.prepare.new.self.stored
+    c.self.inside.failed)
+    (ap (λ (s : Opened g.row.D.Denot). s.disk) c.self.view_is)
+    (g.met.D.Disk.only_now c.args.self.now.disk)
+
+pub unreachable-requires : goal.unreachable-requires
+unreachable-requires g c =
+    subst (λ (o : Option (List ℕ)). IsSpelled (sealed_update c.args.update) o) c.in-None.is
+    c.in_ok-body.ensures (outline c.self.inside.vault.catalogue)
+    c.in_ok-prepared.ensures.prepared.change.taken.1
+
+pub keep-requires-clause-body : goal.keep-requires-clause-body
+keep-requires-clause-body g c =
+    let slice : c.as_slice.result.now ≡ c.in-Some.body = search rules in
+    let is : IsBodyOf (sealed_update c.args.update) c.as_slice.result.now =
+    body_of_some (sealed_update c.args.update) c.in_ok-body.body c.in-Some.body
+    c.as_slice.result.now c.in_ok-body.ensures c.in-Some.is slice in (
+      omega (arith, ap length is.bytes, some_bytes 32 (sealed_update c.args.update)),
+      omega (
+        arith,
+        ap length is.bytes,
+        few_bytes 32 (sealed_update c.args.update) (omega arith)
+            is.form,
+      ),
+    )
+
+pub keep-requires-clause-stands : goal.keep-requires-clause-stands
+keep-requires-clause-stands g c = c.self.invariant.stands c.if-self.false
+
+pub returns-in-Err-Memory-clause-any_moment : goal.returns-in-Err-Memory-clause-any_moment
+returns-in-Err-Memory-clause-any_moment g c =
+    let slice : c.as_slice.result.now ≡ c.in-Some.body = search rules in
+    let is : IsBodyOf (sealed_update c.args.update) c.as_slice.result.now =
+    body_of_some (sealed_update c.args.update) c.in_ok-body.body c.in-Some.body
+    c.as_slice.result.now c.in_ok-body.ensures c.in-Some.is slice in
+    let k : Keys = record {
+      base_check = c.self.inside.base_check;
+      surface = c.self.inside.surface.bytes;
+    } in
+    let later : Opened g.row.D.Denot =
+    store_of c.keep.new.disk k c.prepare.new.self.catalogue c.prepare.new.self.stored
+    c.self.inside.failed in
+    subst (λ (old : Opened g.row.D.Denot). LeavesEither g.D.Disk.reads g.D.Disk.may_leave
+    g.D.Disk.moment g.D.Disk.left_since (sealed_update c.args.update) old later) c.self.view_is
+    (leaves_either g.D.Disk.reads g.D.Disk.may_leave g.D.Disk.moment g.D.Disk.left_since
+    g.met.D.Disk.reads_one k
+    c.self.inside.disk c.keep.new.disk c.self.inside.vault.catalogue c.self.inside.vault.stored
+    c.self.inside.failed
+    (sealed_update c.args.update) c.as_slice.result.now
+    c.in_ok-prepared.ensures.prepared.change.taken is
+    later refl c.keep.ensures.any_moment)
+
+pub returns-in-Err-Disk-clause-any_moment : goal.returns-in-Err-Disk-clause-any_moment
+returns-in-Err-Disk-clause-any_moment g c =
+    let slice : c.as_slice.result.now ≡ c.in-Some.body = search rules in
+    let is : IsBodyOf (sealed_update c.args.update) c.as_slice.result.now =
+    body_of_some (sealed_update c.args.update) c.in_ok-body.body c.in-Some.body
+    c.as_slice.result.now c.in_ok-body.ensures c.in-Some.is slice in
+    let k : Keys = record {
+      base_check = c.self.inside.base_check;
+      surface = c.self.inside.surface.bytes;
+    } in
+    let later : Opened g.row.D.Denot =
+    store_of c.keep.new.disk k c.prepare.new.self.catalogue c.prepare.new.self.stored true in
+    subst (λ (old : Opened g.row.D.Denot). LeavesEither g.D.Disk.reads g.D.Disk.may_leave
+    g.D.Disk.moment g.D.Disk.left_since (sealed_update c.args.update) old later) c.self.view_is
+    (leaves_either g.D.Disk.reads g.D.Disk.may_leave g.D.Disk.moment g.D.Disk.left_since
+    g.met.D.Disk.reads_one k
+    c.self.inside.disk c.keep.new.disk c.self.inside.vault.catalogue c.self.inside.vault.stored
+    c.self.inside.failed
+    (sealed_update c.args.update) c.as_slice.result.now
+    c.in_ok-prepared.ensures.prepared.change.taken is
+    later refl c.keep.ensures.any_moment)
+
+pub returns-clause-any_moment : goal.returns-clause-any_moment
+returns-clause-any_moment g c =
+    let slice : c.as_slice.result.now ≡ c.in-Some.body = search rules in
+    let is : IsBodyOf (sealed_update c.args.update) c.as_slice.result.now =
+    body_of_some (sealed_update c.args.update) c.in_ok-body.body c.in-Some.body
+    c.as_slice.result.now c.in_ok-body.ensures c.in-Some.is slice in
+    let k : Keys = record {
+      base_check = c.self.inside.base_check;
+      surface = c.self.inside.surface.bytes;
+    } in
+    let later : Opened g.row.D.Denot =
+    store_of c.keep.new.disk k c.commit.new.self.catalogue c.commit.new.self.stored
+    c.self.inside.failed in
+    subst (λ (old : Opened g.row.D.Denot). LeavesEither g.D.Disk.reads g.D.Disk.may_leave
+    g.D.Disk.moment g.D.Disk.left_since (sealed_update c.args.update) old later) c.self.view_is
+    (leaves_either g.D.Disk.reads g.D.Disk.may_leave g.D.Disk.moment g.D.Disk.left_since
+    g.met.D.Disk.reads_one k
+    c.self.inside.disk c.keep.new.disk c.self.inside.vault.catalogue c.self.inside.vault.stored
+    c.self.inside.failed
+    (sealed_update c.args.update) c.as_slice.result.now
+    c.in_ok-prepared.ensures.prepared.change.taken is
+    later refl c.keep.ensures.any_moment)
+
+pub invariant_of-self-2 : goal.invariant_of-self-2
+invariant_of-self-2 g c =
+    let slice : c.as_slice.result.now ≡ c.in-Some.body = search rules in
+    let is : IsBodyOf (sealed_update c.args.update) c.as_slice.result.now =
+    body_of_some (sealed_update c.args.update) c.in_ok-body.body c.in-Some.body
+    c.as_slice.result.now c.in_ok-body.ensures c.in-Some.is slice in
+    let k : Keys = record {
+      base_check = c.self.inside.base_check;
+      surface = c.self.inside.surface.bytes;
+    } in
+    let made : c.commit.new.self.catalogue
+    ≡ catalogue_after k.surface c.self.inside.vault.catalogue (brief (sealed_update c.args.update))
+    =
+    c.commit.ensures.catalogue
+    ∙ ap (λ (x : Catalogue). applied x c.in_ok-prepared.prepared.change)
+    c.in_ok-prepared.ensures.catalogue ∙ c.in_ok-prepared.ensures.prepared.change.made in
+    let rewritten : c.commit.new.self.stored
+    ≡ stored_after k.surface (rewrites_of c.self.inside.vault.catalogue (brief (sealed_update
+    c.args.update)))
+    (text_of (sealed_update c.args.update)) c.self.inside.vault.stored =
+    c.commit.ensures.stored
+    ∙ ap (λ (x : List (List ℕ)). stored_with x c.in_ok-prepared.prepared)
+    c.in_ok-prepared.ensures.stored ∙ c.in_ok-prepared.ensures.prepared.bytes in
+    safe_more g.D.Disk.reads g.D.Disk.may_leave g.D.Disk.moment g.D.Disk.left_since
+    g.met.D.Disk.reads_one k
+    c.self.inside.disk c.keep.new.disk c.self.inside.vault.catalogue c.self.inside.vault.stored
+    c.self.inside.failed
+    (sealed_update c.args.update) c.as_slice.result.now
+    c.in_ok-prepared.ensures.prepared.change.taken is
+    c.in-Ok.ensures.told_before c.if-self.false c.in-Ok.ensures.kept
+    c.commit.new.self.catalogue c.commit.new.self.stored made rewritten
+    c.self.inside.journal c.keep.new.journal c.self.invariant c.in-Ok.ensures.whole
+    c.in-Ok.ensures.count c.in-Ok.ensures.stands
+
+pub returns-clause-served : goal.returns-clause-served
+returns-clause-served g c =
+    let slice : c.as_slice.result.now ≡ c.in-Some.body = search rules in
+    let is : IsBodyOf (sealed_update c.args.update) c.as_slice.result.now =
+    body_of_some (sealed_update c.args.update) c.in_ok-body.body c.in-Some.body
+    c.as_slice.result.now c.in_ok-body.ensures c.in-Some.is slice in
+    let k : Keys = record {
+      base_check = c.self.inside.base_check;
+      surface = c.self.inside.surface.bytes;
+    } in
+    let made : c.commit.new.self.catalogue
+    ≡ catalogue_after k.surface c.self.inside.vault.catalogue (brief (sealed_update c.args.update))
+    =
+    c.commit.ensures.catalogue
+    ∙ ap (λ (x : Catalogue). applied x c.in_ok-prepared.prepared.change)
+    c.in_ok-prepared.ensures.catalogue ∙ c.in_ok-prepared.ensures.prepared.change.made in
+    let rewritten : c.commit.new.self.stored
+    ≡ stored_after k.surface (rewrites_of c.self.inside.vault.catalogue (brief (sealed_update
+    c.args.update)))
+    (text_of (sealed_update c.args.update)) c.self.inside.vault.stored =
+    c.commit.ensures.stored
+    ∙ ap (λ (x : List (List ℕ)). stored_with x c.in_ok-prepared.prepared)
+    c.in_ok-prepared.ensures.stored ∙ c.in_ok-prepared.ensures.prepared.bytes in
+    let later : Opened g.row.D.Denot = store_of c.keep.new.disk k c.commit.new.self.catalogue
+    c.commit.new.self.stored c.self.inside.failed in
+    let served = subst (λ (old : Opened g.row.D.Denot). ServesMore g.D.Disk.reads g.D.Disk.may_leave
+    (sealed_update c.args.update) old later) c.self.view_is
+    (serves_more g.D.Disk.reads g.D.Disk.may_leave g.D.Disk.moment g.D.Disk.left_since
+    g.met.D.Disk.reads_one k
+    c.self.inside.disk c.keep.new.disk c.self.inside.vault.catalogue c.self.inside.vault.stored
+    c.self.inside.failed
+    (sealed_update c.args.update) c.as_slice.result.now
+    c.in_ok-prepared.ensures.prepared.change.taken is
+    c.in-Ok.ensures.told_before c.if-self.false c.in-Ok.ensures.kept
+    c.commit.new.self.catalogue c.commit.new.self.stored made rewritten) in (
+      served,
+      λ i is.
+          let before : g.D.Disk.reads c.self.inside.disk ≡ Some i =
+          ap (λ (s : Opened g.row.D.Denot). g.D.Disk.reads s.disk) c.self.view_is ∙ is in
+          let kept = c.in-Ok.ensures.kept i before in
+          (kept.now, kept.is_read),
+    )

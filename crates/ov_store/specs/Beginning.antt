@@ -1,0 +1,88 @@
+-- How a store begins on a disk.
+use Rattle.std.specs.Prelude.{◌≡◌, ◌≢◌, ◌⊎◌, ℕ, ◌≤◌, Option, Result, Ok, Err, false, ⊤}
+use Rattle.ov_base.specs.Causes.{Rose}
+use Rattle.ov_base.specs.declared.mode.Mode.{Mode}
+use Rattle.ov_disk.specs.Disk.{Image, Only, Told}
+use Rattle.ov_disk.specs.Moments.{LeavesOnly}
+use Rattle.ov_disk.specs.declared.area.Area.TheVariants.{Book}
+use Rattle.ov_tokens.specs.Keys.{check_value_of}
+use Rattle.ov_history.specs.Sealed.{SealedHistory}
+use Rattle.ov_journal.specs.Standing.{IsUnborn, IsForeign, HasNoMode}
+use Rattle.ov_journal.specs.declared.header.Header.{Header}
+use Rattle.ov_images.specs.Images.{Keys, IsImageOf, StandsIn}
+use Rattle.ov_images.specs.Damage.{HasHeader, IsFor, HasBadRecords}
+use Rattle.ov_store.specs.Opened.{Opened, Serves}
+use Rattle.ov_store.specs.declared.begin.BeginRefused.{BeginRefused}
+use Rattle.ov_store.specs.declared.fault.BeginFault.{BeginFault}
+use Rattle.ov_store.specs.declared.fault.BeginFault.TheVariants.{Disk as DiskFailed, NotAStore, Damaged, BaseDiffers, SurfaceDiffers, ModeDiffers, Memory}
+
+-- Why no store is begun on this image. The causes are tried in this order: another file, no mode,
+-- the base master, the surface master, the mode, the records. Want of memory and a fault of the
+-- disk say nothing of the image.
+abbrev pub IsBeginFault : Keys → Mode → Image → BeginFault → Type 0
+IsBeginFault k mode i DiskFailed = ⊤
+IsBeginFault k mode i NotAStore = IsForeign i.book
+IsBeginFault k mode i (Damaged area place) =
+    (area ≡ Book)
+    × (((place ≡ 9) × HasNoMode i.book)
+    ⊎ ((h : Header) × HasHeader h i × IsFor k mode h × HasBadRecords h i))
+IsBeginFault k mode i (BaseDiffers stored given) =
+    (h : Header) × HasHeader h i × (stored ≡ h.base_check) × (given ≡ k.base_check)
+    × (stored ≢ given)
+IsBeginFault k mode i (SurfaceDiffers stored given) =
+    (h : Header) × HasHeader h i × (h.base_check ≡ k.base_check) × (stored ≡ h.surface_check)
+    × (given ≡ check_value_of k.surface) × (stored ≢ given)
+IsBeginFault k mode i (ModeDiffers stored given) =
+    (h : Header) × HasHeader h i × (h.base_check ≡ k.base_check)
+    × (h.surface_check ≡ check_value_of k.surface) × (stored ≡ h.mode) × (given ≡ mode)
+    × (stored ≢ given)
+IsBeginFault k mode i Memory = ⊤
+
+-- The image stands for some history of this mode, and the store stands for each such history.
+pub record FindsHistory {D : Type 0} (reads : D → Option Image) (may_leave : D → Image → Type 0)
+    (k : Keys) (mode : Mode) (i : Image) (s : Opened D) : Type 0 where
+  pub some : StandsIn k mode i
+  pub each : (g : SealedHistory) → g.mode ≡ mode → IsImageOf k g i → Serves reads may_leave g s
+
+-- From a disk with nothing pending, whose image stands for a history of this mode, a crash at any
+-- moment leaves that history.
+abbrev pub LeavesHistory : {D : Type 0} → (reads : D → Option Image)
+    → (may_leave : D → Image → Type 0) → (moment : D → ℕ) → (left_since : D → ℕ → Image → Type 0)
+    → Keys → Mode → D → D → Type 0
+LeavesHistory reads may_leave moment left_since k mode old new =
+    Told (reads old)
+    (λ i. Only i (may_leave old) → (g : SealedHistory) → g.mode ≡ mode → IsImageOf k g i
+    → LeavesOnly moment left_since old new (IsImageOf k g))
+
+-- Where a store was begun, or there is another file, a crash at any moment leaves what it might
+-- have left at the start: nothing is written.
+abbrev pub WritesNoBorn : {D : Type 0} → (reads : D → Option Image)
+    → (may_leave : D → Image → Type 0) → (moment : D → ℕ) → (left_since : D → ℕ → Image → Type 0)
+    → D → D → Type 0
+WritesNoBorn reads may_leave moment left_since old new =
+    Told (reads old)
+    (λ i. (IsUnborn i.book → ⊥) → LeavesOnly moment left_since old new (may_leave old))
+
+-- ---- the call of a caller
+
+-- a store that was just begun under these keys and in this mode
+abbrev pub IsNew : {D : Type 0} → Keys → Mode → Opened D → Type 0
+IsNew k mode s = (s.keys ≡ k) × (s.failed ≡ false) × (s.catalogue.mode ≡ mode)
+
+-- the disk after the call, wherever it is
+abbrev pub disk_left : {D : Type 0} → Result (Opened D) (BeginRefused D) → D
+disk_left (Ok s) = s.disk
+disk_left (Err refused) = refused.disk
+
+-- the answer is a fault of the disk
+abbrev pub IsDiskFault : {D : Type 0} → Result (Opened D) (BeginRefused D) → Type 0
+IsDiskFault (Ok s) = ⊥
+IsDiskFault (Err refused) = refused.fault ≡ DiskFailed
+
+-- Calls on a disk keep its loan. The count of its faults doesn't fall, and it rose where the answer
+-- is a fault of the disk.
+abbrev pub IsDiskCall : {D : Type 0} → (borrow : D → ℕ) → (faults : D → ℕ) → D → D → Type 0
+    → Type 0
+IsDiskCall borrow faults old new is_fault =
+    (borrow new ≡ borrow old) × (faults old ≤ faults new)
+    × (is_fault → Rose (faults old) (faults new))

@@ -1,0 +1,9 @@
+pub mod Beginning
+pub mod Bodies
+pub mod Chunks
+pub mod Faults
+pub mod Opened
+pub mod Replaying
+pub mod Updating
+pub use Rattle.ov_images.specs.Damage
+pub use Rattle.ov_images.specs.Images

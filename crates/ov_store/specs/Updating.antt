@@ -1,0 +1,97 @@
+-- What an update of a store answers, and what it leaves.
+use Rattle.std.specs.Prelude.{◌≡◌, ℕ, ◌≤◌, Bool, true, false, Some, None, Option, Result, Ok, Err, ⊤}
+use Rattle.ov_base.specs.Causes.{Rose}
+use Rattle.ov_record.specs.Updates.{SealedUpdate}
+use Rattle.ov_history.specs.Briefs.{Brief, brief, text_of}
+use Rattle.ov_history.specs.Catalogue.{Catalogue, outline, catalogue_after}
+use Rattle.ov_history.specs.Rewrites.{rewrites_of, stored_after}
+use Rattle.ov_history.specs.Sealed.{SealedHistory, HasParts, refusal_shown, with_sealed}
+use Rattle.ov_state.specs.Plans.{IsTaken, part_place}
+use Rattle.ov_disk.specs.Disk.{Image, Told}
+use Rattle.ov_disk.specs.Moments.{LeavesOnly}
+use Rattle.ov_images.specs.Images.{KeepsEither}
+use Rattle.ov_store.specs.Opened.{Opened, Serves}
+use Rattle.ov_store.specs.declared.fault.StoreFault.{StoreFault}
+use Rattle.ov_store.specs.declared.fault.StoreFault.TheVariants.{Refused, BadPlan, Disk as DiskFailed, Failed, Memory}
+
+-- ---- what is answered
+
+-- Why an update isn't made, whose sets have four words. A fault of the disk comes only to one that
+-- is taken. Want of memory is free, and that a store failed has a clause of its own.
+abbrev pub IsFaultFor : Catalogue → Brief → StoreFault → Type 0
+IsFaultFor c b (Refused why) = refusal_shown c b ≡ Some why
+IsFaultFor c b (BadPlan place) =
+    (refusal_shown c b ≡ None) × (HasParts (outline c) b → ⊥) × (place ≡ part_place 4 b)
+IsFaultFor c b DiskFailed = IsTaken c b
+IsFaultFor c b Failed = ⊤
+IsFaultFor c b Memory = ⊤
+
+-- the update is made in both halves and its epoch is answered; or neither is, for this reason
+abbrev pub Updates : {D : Type 0} → SealedUpdate → Opened D → Opened D → Result ℕ StoreFault
+    → Type 0
+Updates u old new (Ok epoch) =
+    IsTaken old.catalogue (brief u)
+    × (new.catalogue ≡ catalogue_after old.keys.surface old.catalogue (brief u))
+    × (new.stored
+    ≡ stored_after old.keys.surface (rewrites_of old.catalogue (brief u)) (text_of u) old.stored)
+    × (epoch ≡ new.catalogue.epoch)
+Updates u old new (Err fault) =
+    IsFaultFor old.catalogue (brief u) fault × (new.catalogue ≡ old.catalogue)
+    × (new.stored ≡ old.stored)
+
+-- ---- failure
+
+-- whether a store has failed, after an update with this answer
+abbrev pub failed_after : Bool → Result ℕ StoreFault → Bool
+failed_after before (Ok epoch) = before
+failed_after before (Err (Refused why)) = before
+failed_after before (Err (BadPlan place)) = before
+failed_after before (Err DiskFailed) = true
+failed_after before (Err Failed) = before
+failed_after before (Err Memory) = before
+
+-- A fault of the disk, and nothing else, makes the store fail; `Failed` is answered exactly where
+-- it had failed before.
+abbrev pub Fails : Bool → Result ℕ StoreFault → Bool → Type 0
+Fails before result after =
+    (after ≡ failed_after before result) × (before ≡ true → result ≡ Err Failed)
+    × (result ≡ Err Failed → before ≡ true)
+
+-- this holds where an update wasn't made and no call of the disk failed
+abbrev pub IfRefused : Result ℕ StoreFault → Type 0 → Type 0
+IfRefused (Ok epoch) P = ⊤
+IfRefused (Err (Refused why)) P = P
+IfRefused (Err (BadPlan place)) P = P
+IfRefused (Err DiskFailed) P = ⊤
+IfRefused (Err Failed) P = P
+IfRefused (Err Memory) P = P
+
+-- ---- what is left
+
+-- A crash at any moment of the call leaves a history for which the store stood, or this with the
+-- update.
+abbrev pub LeavesEither : {D : Type 0} → (reads : D → Option Image)
+    → (may_leave : D → Image → Type 0) → (moment : D → ℕ) → (left_since : D → ℕ → Image → Type 0)
+    → SealedUpdate → Opened D → Opened D → Type 0
+LeavesEither reads may_leave moment left_since u old new =
+    (g : SealedHistory) → Serves reads may_leave g old → old.failed ≡ false
+    → Told (reads old.disk)
+    (λ _. LeavesOnly moment left_since old.disk new.disk (KeepsEither old.keys g u))
+
+-- the new store stands for each history for which the old one stood, with this update
+abbrev pub ServesMore : {D : Type 0} → (reads : D → Option Image)
+    → (may_leave : D → Image → Type 0) → SealedUpdate → Opened D → Opened D → Type 0
+ServesMore reads may_leave u old new =
+    (g : SealedHistory) → Serves reads may_leave g old
+    → Serves reads may_leave (with_sealed g u) new
+
+-- ---- each call
+
+-- A call of a store keeps its keys and its disk's loan. The count of the disk's faults doesn't
+-- fall, and it rose where the answer is a fault of the disk.
+abbrev pub IsCallOf : {D : Type 0} → (borrow : D → ℕ) → (faults : D → ℕ) → Opened D → Opened D
+    → Type 0 → Type 0
+IsCallOf borrow faults old new is_fault =
+    (new.keys ≡ old.keys) × (borrow new.disk ≡ borrow old.disk)
+    × (faults old.disk ≤ faults new.disk)
+    × (is_fault → Rose (faults old.disk) (faults new.disk))

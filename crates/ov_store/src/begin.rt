@@ -1,0 +1,108 @@
+//! Beginning a store, where there is none or where an earlier run left one.
+ghost use Rattle.std.specs.Prelude.{◌≡◌, ◌≤◌, None, IfOk, IfErr, OnOk, IsErrOf, false};
+ghost use Rattle.ov_base.specs.Causes.{Rose};
+ghost use Rattle.ov_disk.specs.Disk.{Told};
+ghost use Rattle.ov_images.specs.Images.{keys};
+ghost use Rattle.ov_store.specs.Beginning.{FindsHistory, IsBeginFault, IsDiskCall, IsDiskFault, IsNew, LeavesHistory, WritesNoBorn, disk_left};
+ghost use Rattle.ov_store.specs.Opened.{IsSafe, StaysTold, open_with};
+ghost use Rattle.ov_store.specs.declared.fault.BeginFault.TheVariants.{Disk as DiskFailed};
+
+use crate::birth::birth;
+use crate::fault::BeginFault;
+use crate::reopen::reopen;
+use crate::store::Store;
+use ov_base::{Key, Mode};
+use ov_disk::Disk;
+use ov_journal::{Found, Journal};
+use ov_vault::CatalogueVault;
+use std::alloc::Global;
+
+/// Why no store was begun, and the disk.
+#[derive(Drop)]
+pub struct BeginRefused<D> {
+    pub fault: BeginFault,
+    pub disk: D,
+}
+
+// The store on this disk and its journal.
+fn open<D: Disk>(
+    alloc: Global,
+    disk: &mut D,
+    base_check: &[u8; 32],
+    surface: &Key,
+    mode: Mode,
+) -> Result<(CatalogueVault, Journal), BeginFault>
+    ensures safe { IfOk result (λ parts. IsSafe D.reads D.may_leave parts.1
+        (open_with disk.new (keys base_check.now surface.now.bytes)
+        parts.0.catalogue parts.0.stored)) }
+    ensures mode { IfOk result (λ parts. parts.0.catalogue.mode ≡ mode) }
+    ensures found { IfOk result (λ parts. Told (D.reads disk.old) (λ i.
+        FindsHistory D.reads D.may_leave (keys base_check.now surface.now.bytes) mode i
+        (open_with disk.new (keys base_check.now surface.now.bytes)
+        parts.0.catalogue parts.0.stored))) }
+    ensures told { OnOk result (StaysTold (D.reads disk.old) (D.reads disk.new)) }
+    ensures fault { Told (D.reads disk.old) (λ i.
+        IfErr result (IsBeginFault (keys base_check.now surface.now.bytes) mode i)) }
+    ensures any_moment { LeavesHistory D.reads D.may_leave D.moment D.left_since
+        (keys base_check.now surface.now.bytes) mode disk.old disk.new }
+    ensures untouched { WritesNoBorn D.reads D.may_leave D.moment D.left_since disk.old disk.new }
+    ensures same { D.borrow disk.new ≡ D.borrow disk.old }
+    ensures later { D.faults disk.old ≤ D.faults disk.new }
+    ensures failed { IsErrOf result DiskFailed → Rose (D.faults disk.old) (D.faults disk.new) }
+{
+    match Journal::begin(alloc, disk)? {
+        Found::Unborn => birth(alloc, disk, base_check, surface, mode, 0),
+        Found::Born {
+            journal,
+            header,
+            bad,
+        } => {
+            let vault = reopen(
+                alloc, disk, &journal, header, bad, base_check, surface, mode,
+            )?;
+            Ok((vault, journal))
+        }
+    }
+}
+
+impl<D: Disk> Store<D> {
+    /// Begins a store: where the disk is unborn an empty one, from epoch 0 on, and else the one
+    /// that an earlier run left there, whose records are replayed. The disk is handed back with a
+    /// refusal.
+    pub fn begin(
+        alloc: Global,
+        disk: D,
+        surface: Key,
+        base_check: [u8; 32],
+        mode: Mode,
+    ) -> Result<Store<D>, BeginRefused<D>>
+        ensures new { IfOk result (IsNew (keys base_check surface.bytes) mode) }
+        // The image stands for a history, which the store shows and which lasts.
+        ensures found { IfOk result (λ s. Told (D.reads disk) (λ i.
+            FindsHistory D.reads D.may_leave (keys base_check surface.bytes) mode i s)
+            × StaysTold (D.reads disk) (D.reads s.disk)) }
+        ensures fault { IfErr result (λ refused. Told (D.reads disk) (λ i.
+            IsBeginFault (keys base_check surface.bytes) mode i refused.fault)) }
+
+        // What a crash at any moment of the call leaves, whatever is answered.
+        ensures any_moment { LeavesHistory D.reads D.may_leave D.moment D.left_since
+            (keys base_check surface.bytes) mode disk (disk_left result) }
+        ensures untouched { WritesNoBorn D.reads D.may_leave D.moment D.left_since
+            disk (disk_left result) }
+
+        ensures call { IsDiskCall D.borrow D.faults disk (disk_left result) (IsDiskFault result) }
+    {
+        let mut disk = disk;
+        match open(alloc, &mut disk, &base_check, &surface, mode) {
+            Ok((vault, journal)) => Ok(Store {
+                disk,
+                surface,
+                base_check,
+                vault,
+                journal,
+                failed: false,
+            }),
+            Err(fault) => Err(BeginRefused { fault, disk }),
+        }
+    }
+}

@@ -1,0 +1,61 @@
+//! A store on a disk where there is none.
+ghost use Rattle.std.specs.Prelude.{◌≡◌, ◌≤◌, IfErr, IfOk, OnOk, IsErrOf};
+ghost use Rattle.ov_base.specs.Causes.{Rose};
+ghost use Rattle.ov_disk.specs.Disk.{Image, Told, OnlyBook};
+ghost use Rattle.ov_disk.specs.Moments.{LeavesOnly};
+ghost use Rattle.ov_history.specs.Catalogue.{empty_catalogue};
+ghost use Rattle.ov_history.specs.Sealed.{blank};
+ghost use Rattle.ov_journal.specs.Standing.{IsUnborn};
+ghost use Rattle.ov_images.specs.Images.{IsImageOf, keys};
+ghost use Rattle.ov_store.specs.Beginning.{IsBeginFault};
+ghost use Rattle.ov_store.specs.Opened.{IsSafe, Serves, StaysTold, open_with};
+ghost use Rattle.ov_store.specs.declared.fault.BeginFault.TheVariants.{Disk as DiskFailed};
+
+use crate::fault::BeginFault;
+use ov_base::{Key, Mode};
+use ov_disk::Disk;
+use ov_journal::{Header, Journal};
+use ov_tokens::check_value;
+use ov_vault::{CatalogueVault, Vault};
+use std::alloc::Global;
+
+/// Begins a store without records, on a disk where there is none. Memory is wanted before the first
+/// call of the disk.
+pub(crate) fn birth<D: Disk>(
+    alloc: Global,
+    disk: &mut D,
+    base_check: &[u8; 32],
+    surface: &Key,
+    mode: Mode,
+    first: u32,
+) -> Result<(CatalogueVault, Journal), BeginFault>
+    requires unborn { Told (D.reads disk.old) (λ i.
+        IsUnborn i.book × OnlyBook i.book (D.may_leave disk.old)) }
+    ensures safe { IfOk result (λ parts. IsSafe D.reads D.may_leave parts.1
+        (open_with disk.new (keys base_check.now surface.now.bytes)
+        parts.0.catalogue parts.0.stored)) }
+    ensures served { IfOk result (λ parts. Serves D.reads D.may_leave (blank mode first)
+        (open_with disk.new (keys base_check.now surface.now.bytes)
+        parts.0.catalogue parts.0.stored)) }
+    ensures empty { IfOk result (λ parts. parts.0.catalogue ≡ empty_catalogue mode first) }
+    ensures told { OnOk result (StaysTold (D.reads disk.old) (D.reads disk.new)) }
+    ensures fault { IfErr result (λ fault. (i : Image)
+        → IsBeginFault (keys base_check.now surface.now.bytes) mode i fault) }
+    // A crash at any moment leaves no store, or this one without records.
+    ensures any_moment { first ≡ 0 → Told (D.reads disk.old) (λ _.
+        LeavesOnly D.moment D.left_since disk.old disk.new
+        (IsImageOf (keys base_check.now surface.now.bytes) (blank mode 0))) }
+    ensures same { D.borrow disk.new ≡ D.borrow disk.old }
+    ensures later { D.faults disk.old ≤ D.faults disk.new }
+    ensures failed { IsErrOf result DiskFailed → Rose (D.faults disk.old) (D.faults disk.new) }
+{
+    let vault = Vault::new(alloc, mode, first)?;
+    let header = Header {
+        mode,
+        first,
+        base_check: *base_check,
+        surface_check: check_value(surface),
+    };
+    let journal = Journal::birth(alloc, disk, &header)?;
+    Ok((vault, journal))
+}

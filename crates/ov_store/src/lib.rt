@@ -1,0 +1,43 @@
+//! A store that survives a stop: its updates are written down before they are made.
+//!
+//! A [`Store`] has both halves of a store in memory (`ov_vault`), and a disk with a journal of its
+//! updates (`ov_journal`). [`Store::begin`] begins an empty store where there is none, and else
+//! replays the records that an earlier run left. [`Store::update`] prepares an update, writes its
+//! record, and only then makes it, which can't fail: so what was answered with `Ok` outlasts each
+//! later stop, and a stop at any moment leaves the history from before or it with this update.
+//! [`Store::chunk`] gives stored bytes, [`Store::close`] the disk.
+//!
+//! **What a contract sees** is one value, `Opened` (`specs/Opened`): the disk, the keys, both halves,
+//! and whether a call of the disk failed in an update. `Serves g s` says that the store stands for
+//! the sealed history g, and that each image which a crash may leave keeps it (ov_images). No history
+//! is kept in code: a clause reads 'for each history for which the old store stood'. That there is
+//! one is part of the store's invariant, and [`Store::known`] hands it out. What is said of images
+//! is said where the disk tells its bytes; all else holds over every disk.
+//!
+//! | file in `specs/` | says |
+//! |---|---|
+//! | `Opened` | an open store as a value, and for which history it stands |
+//! | `Updating` | what an update answers, and what it leaves |
+//! | `Beginning` | why no store is begun, and what a crash in a beginning leaves |
+//! | `Chunks` | what is answered to a question for stored bytes |
+//! | `Bodies`, `Replaying`, `Faults` | inner: records of updates, replaying them, and why not |
+//!
+//! After a fault of the disk a store makes no more updates: open it again to know which of the two
+//! histories stands. docs/CRASH.md tells the argument in words.
+#![tactic(auto)]
+
+mod begin;
+mod birth;
+mod chunk;
+mod fault;
+mod reopen;
+mod replay;
+mod spell;
+mod store;
+#[cfg(test)]
+mod tests;
+mod update;
+
+pub use begin::BeginRefused;
+pub use fault::{BeginFault, ChunkFault, StoreFault};
+pub use store::Store;

@@ -1,0 +1,94 @@
+//! A store that an earlier run left on a disk.
+ghost use Rattle.std.specs.Prelude.{◌≡◌, ◌≤◌, None, IfOk, IfErr, OnOk, IsErrOf, false};
+ghost use Rattle.ov_base.specs.Causes.{Rose};
+ghost use Rattle.ov_disk.specs.Disk.{Image, Only, Told};
+ghost use Rattle.ov_disk.specs.Moments.{IsUntouched};
+ghost use Rattle.ov_journal.specs.Finding.{IsStore};
+ghost use Rattle.ov_images.specs.Damage.{HasHeader, IsFor};
+ghost use Rattle.ov_images.specs.Images.{keys};
+ghost use Rattle.ov_store.specs.Beginning.{FindsHistory, IsBeginFault};
+ghost use Rattle.ov_store.specs.Opened.{IsSafe, open_with};
+ghost use Rattle.ov_store.specs.declared.fault.BeginFault.TheVariants.{Disk as DiskFailed};
+
+use crate::fault::BeginFault;
+use crate::replay::replay;
+use ov_base::{Key, Mode};
+use ov_disk::{Area, Disk};
+use ov_journal::{Header, Journal};
+use ov_tokens::check_value;
+use ov_vault::CatalogueVault;
+use std::alloc::Global;
+
+// Whether the store with this header is one of these keys and this mode.
+fn compare(
+    header: &Header,
+    base_check: &[u8; 32],
+    surface: &Key,
+    mode: Mode,
+) -> Result<(), BeginFault>
+    ensures same { OnOk result (IsFor (keys base_check.now surface.now.bytes) mode header.now) }
+    ensures other { IfErr result (λ fault. (i : Image) → HasHeader header.now i
+        → IsBeginFault (keys base_check.now surface.now.bytes) mode i fault) }
+    ensures no_fault { IsErrOf result DiskFailed → ⊥ }
+{
+    let given = check_value(surface);
+    if header.base_check != *base_check {
+        return Err(BeginFault::BaseDiffers {
+            stored: header.base_check,
+            given: *base_check,
+        });
+    }
+    if header.surface_check != given {
+        return Err(BeginFault::SurfaceDiffers {
+            stored: header.surface_check,
+            given,
+        });
+    }
+    if header.mode != mode {
+        return Err(BeginFault::ModeDiffers {
+            stored: header.mode,
+            given: mode,
+        });
+    }
+    Ok(())
+}
+
+/// The store with this header, whose records the journal has. The header is looked at before the
+/// records, and a length that can't be after them.
+pub(crate) fn reopen<D: Disk>(
+    alloc: Global,
+    disk: &mut D,
+    journal: &Journal,
+    header: Header,
+    bad: Option<u64>,
+    base_check: &[u8; 32],
+    surface: &Key,
+    mode: Mode,
+) -> Result<CatalogueVault, BeginFault>
+    requires whole { bad ≡ None → journal.now.bad ≡ false }
+    requires store { Told (D.reads disk.old) (λ i. IsStore journal.now header bad i.book) }
+    requires settled { Told (D.reads disk.old) (λ i. Only i (D.may_leave disk.old)) }
+    ensures safe { IfOk result (λ vault. IsSafe D.reads D.may_leave journal.now
+        (open_with disk.new (keys base_check.now surface.now.bytes) vault.catalogue vault.stored)) }
+    ensures mode { IfOk result (λ vault. vault.catalogue.mode ≡ mode) }
+    ensures found { IfOk result (λ vault. Told (D.reads disk.old) (λ i.
+        FindsHistory D.reads D.may_leave (keys base_check.now surface.now.bytes) mode i
+        (open_with disk.new (keys base_check.now surface.now.bytes)
+        vault.catalogue vault.stored))) }
+    ensures fault { Told (D.reads disk.old) (λ i.
+        IfErr result (IsBeginFault (keys base_check.now surface.now.bytes) mode i)) }
+    ensures untouched { IsUntouched D.moment D.left_since D.may_leave D.reads disk.old disk.new }
+    ensures same { D.borrow disk.new ≡ D.borrow disk.old }
+    ensures later { D.faults disk.old ≤ D.faults disk.new }
+    ensures failed { IsErrOf result DiskFailed → Rose (D.faults disk.old) (D.faults disk.new) }
+{
+    compare(&header, base_check, surface, mode)?;
+    let vault = replay(alloc, disk, journal, surface, header.mode, header.first)?;
+    match bad {
+        None => Ok(vault),
+        Some(offset) => Err(BeginFault::Damaged {
+            area: Area::Book,
+            offset,
+        }),
+    }
+}

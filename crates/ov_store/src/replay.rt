@@ -1,0 +1,86 @@
+//! Replaying the records of a journal.
+ghost use Rattle.std.specs.Prelude.{◌≡◌, ◌≤◌, ◌<◌, ◌^◌, ℕ, List, length, IfOk, IfErr, OnOk, IsErrOf};
+ghost use Rattle.ov_base.specs.Causes.{Rose};
+ghost use Rattle.ov_disk.specs.Disk.{Told};
+ghost use Rattle.ov_disk.specs.Moments.{IsUntouched};
+ghost use Rattle.ov_journal.specs.Book.{contents_of};
+ghost use Rattle.ov_journal.specs.Log.{IsLogOf};
+ghost use Rattle.ov_store.specs.Replaying.{TakesBody, IsBodyFault, IsReplay, IsReplayFault};
+ghost use Rattle.ov_store.specs.declared.fault.BeginFault.TheVariants.{Disk as DiskFailed};
+
+use crate::fault::BeginFault;
+use ov_base::{Key, Mode};
+use ov_disk::{Area, Disk};
+use ov_journal::Journal;
+use ov_record::{RecordFault, read};
+use ov_state::{PrepareFault, WIDTH};
+use ov_vault::{CatalogueVault, Vault};
+use std::alloc::Global;
+
+// Takes the record with this body, whose gate stands at this place.
+fn take_record(
+    alloc: Global,
+    vault: &mut CatalogueVault,
+    surface: &Key,
+    body: &[u8],
+    gate: u64,
+) -> Result<(), BeginFault>
+    ensures taken { OnOk result (TakesBody surface.now.bytes vault.old body.now vault.new) }
+    ensures fault { IfErr result (IsBodyFault vault.old.catalogue body.now) }
+{
+    let update = match read::<WIDTH>(alloc, body) {
+        Ok(update) => update,
+        Err(RecordFault::BadRecord { at }) => {
+            return Err(BeginFault::Damaged {
+                area: Area::Book,
+                offset: gate.saturating_add(5).saturating_add(u64::from(at)),
+            });
+        }
+        Err(RecordFault::Memory) => return Err(BeginFault::Memory),
+    };
+    match vault.prepare(alloc, surface, update) {
+        Ok(prepared) => {
+            vault.commit(prepared);
+            Ok(())
+        }
+        Err(PrepareFault::Memory) => Err(BeginFault::Memory),
+        Err(_) => Err(BeginFault::Damaged {
+            area: Area::Book,
+            offset: gate,
+        }),
+    }
+}
+
+/// What the records of the journal make, of a store that began empty in this mode and at this
+/// epoch.
+pub(crate) fn replay<D: Disk>(
+    alloc: Global,
+    disk: &mut D,
+    journal: &Journal,
+    surface: &Key,
+    mode: Mode,
+    first: u32,
+) -> Result<CatalogueVault, BeginFault>
+    requires log { Told (D.reads disk.old) (λ i.
+        IsLogOf journal.now (contents_of i.book).records) }
+    ensures made { IfOk result (λ vault. (bodies : List (List ℕ))
+        × IsReplay surface.now.bytes mode first bodies vault
+        × (length bodies ≡ length journal.now.offsets)
+        × Told (D.reads disk.old) (λ i. bodies ≡ (contents_of i.book).records.bodies)) }
+    ensures fault { Told (D.reads disk.old) (λ i.
+        IfErr result (IsReplayFault mode first (contents_of i.book).records.bodies)) }
+    ensures untouched { IsUntouched D.moment D.left_since D.may_leave D.reads disk.old disk.new }
+    ensures same { D.borrow disk.new ≡ D.borrow disk.old }
+    ensures later { D.faults disk.old ≤ D.faults disk.new }
+    ensures failed { IsErrOf result DiskFailed → Rose (D.faults disk.old) (D.faults disk.new) }
+{
+    let mut vault: CatalogueVault = Vault::new(alloc, mode, first)?;
+    let mut body = Vec::new(alloc);
+    'records: for i in 0..journal.count() {
+        body.clear();
+        journal.body(disk, i, &mut body)?;
+        let gate = journal.offset(i);
+        take_record(alloc, &mut vault, surface, body.as_slice(), gate)?;
+    }
+    Ok(vault)
+}

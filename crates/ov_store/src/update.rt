@@ -1,0 +1,101 @@
+//! Updates, which are written down before they are made.
+ghost use Rattle.std.specs.Prelude.{◌≡◌, ◌≤◌, ◌<◌, ◌+◌, ◌^◌, true, false, Some, Err, OnOk, IsErrOf, length};
+ghost use Rattle.ov_base.specs.declared.limits.TheConstants.{MAX_RECORD_BYTES};
+ghost use Rattle.ov_base.specs.Causes.{Rose};
+ghost use Rattle.ov_disk.specs.Disk.{Image, Told};
+ghost use Rattle.ov_disk.specs.Moments.{LeavesOnly};
+ghost use Rattle.ov_journal.specs.Book.{contents_of, with_body};
+ghost use Rattle.ov_journal.specs.Log.{HasSameRecords, IsBeforeOrAfter, IsKept, Stands};
+ghost use Rattle.ov_journal.specs.declared.fault.CheckFault.TheVariants.{Disk as DiskFailed, Memory as NoMemory};
+ghost use Rattle.ov_record.specs.Updates.{sealed_update};
+ghost use Rattle.ov_history.specs.Briefs.{brief};
+ghost use Rattle.ov_state.specs.Plans.{IsFitting};
+ghost use Rattle.ov_store.specs.Opened.{StaysTold};
+ghost use Rattle.ov_store.specs.Updating.{Updates, Fails, IfRefused, IsCallOf, LeavesEither, ServesMore};
+ghost use Rattle.ov_store.specs.declared.fault.StoreFault.TheVariants.{Disk};
+
+use crate::fault::StoreFault;
+use crate::spell::spell;
+use crate::store::Store;
+use ov_disk::Disk;
+use ov_journal::{CheckFault, Journal};
+use ov_record::Update;
+use ov_state::WIDTH;
+use std::alloc::Global;
+
+// Writes the body down as the next record. Memory is wanted before the first call of the disk.
+fn keep<D: Disk>(disk: &mut D, journal: &mut Journal, body: &[u8]) -> Result<(), CheckFault>
+    requires whole { journal.old.bad ≡ false }
+    requires count { length journal.old.offsets < 2 ^ 40 }
+    requires body { (1 ≤ length body.now) × (length body.now ≤ MAX_RECORD_BYTES) }
+    requires stands { Stands journal.old (D.reads disk.old) (D.may_leave disk.old) }
+    ensures any_moment { Told (D.reads disk.old) (λ i.
+        LeavesOnly D.moment D.left_since disk.old disk.new
+        (IsBeforeOrAfter (D.may_leave disk.old) i body.now)) }
+    ensures kept { OnOk result (Told (D.reads disk.old) (λ i.
+        IsKept (D.reads disk.new) (D.may_leave disk.new)
+        (with_body body.now (contents_of i.book)) i.blobs)) }
+    ensures stands { OnOk result (Stands journal.new (D.reads disk.new) (D.may_leave disk.new)) }
+    ensures told_before { OnOk result (Told (D.reads disk.new) (λ _.
+        (i : Image) × (D.reads disk.old ≡ Some i))) }
+    ensures count { OnOk result (length journal.new.offsets ≡ length journal.old.offsets + 1) }
+    ensures whole { journal.new.bad ≡ false }
+    ensures memory { IsErrOf result NoMemory → (disk.new ≡ disk.old) × (journal.new ≡ journal.old) }
+    ensures failed { IsErrOf result DiskFailed → HasSameRecords journal.old journal.new }
+    ensures same { D.borrow disk.new ≡ D.borrow disk.old }
+    ensures later { D.faults disk.old ≤ D.faults disk.new }
+    ensures cause { IsErrOf result DiskFailed → Rose (D.faults disk.old) (D.faults disk.new) }
+{
+    journal.reserve(body.len() as u32)?;
+    journal.append(disk, body)?;
+    Ok(())
+}
+
+impl<D: Disk> Store<D> {
+    /// Makes an update, and answers the epoch after it. The update is on the disk before it is
+    /// made, so that one which is answered with `Ok` outlasts each later stop.
+    ///
+    /// After [`StoreFault::Disk`] the disk may have the update or not, and the store makes no more
+    /// of them: open it again.
+    pub fn update(&mut self, alloc: Global, update: Update<WIDTH>) -> Result<u32, StoreFault>
+        requires { IsFitting (brief (sealed_update update)) }
+
+        // What is answered, and what both halves are then.
+        ensures answer { Updates (sealed_update update) self.old self.new result }
+        ensures failed { Fails self.old.failed result self.new.failed }
+        // Where the update isn't made and no call of the disk failed, all is as it was.
+        ensures untouched { IfRefused result (self.new ≡ self.old) }
+
+        // A crash at any moment of the call leaves the history from before, or it with this update.
+        ensures any_moment { LeavesEither D.reads D.may_leave D.moment D.left_since
+            (sealed_update update) self.old self.new }
+        // At `Ok` the history with the update lasts, and the disk still tells what it told.
+        ensures served { OnOk result (
+            ServesMore D.reads D.may_leave (sealed_update update) self.old self.new
+            × StaysTold (D.reads self.old.disk) (D.reads self.new.disk)) }
+
+        ensures call { IsCallOf D.borrow D.faults self.old self.new (IsErrOf result Disk) }
+    {
+        if self.failed {
+            return Err(StoreFault::Failed);
+        }
+        self.vault.known();
+        let body = spell(alloc, &update)?;
+        let prepared = self.vault.prepare(alloc, &self.surface, update)?;
+        let body = match body {
+            Some(body) => body,
+            None => unreachable!(),
+        };
+        match keep(&mut self.disk, &mut self.journal, body.as_slice()) {
+            Ok(()) => {}
+            Err(CheckFault::Memory) => return Err(StoreFault::Memory),
+            Err(CheckFault::Disk) => {
+                self.failed = true;
+                return Err(StoreFault::Disk);
+            }
+        }
+        // Only now, with the record on the disk.
+        self.vault.commit(prepared);
+        Ok(self.vault.catalogue().epoch())
+    }
+}
