@@ -62,7 +62,8 @@ pub fn torn_areas(
     call: u64,
     tear: Tear,
 ) -> Result<Areas, Memory>
-    ensures { IfOk result (λ left. left.current ≡ torn tear areas.now.start (before call changes.now)) }
+    ensures { IfOk result (λ left.
+        left.current ≡ torn tear areas.now.start (before call changes.now)) }
 {
     let mut now = areas.started(alloc)?;
     let mut left = areas.started(alloc)?;
