@@ -31,17 +31,17 @@ bodies-preserved g c =
     let offsets = ap (λ (l : Log). l.offsets) log in
     let same = c.in_ok-reserve.ensures.same in
     record {
-      stands = c.in_ok-append.ensures.stands;
+      stands = c.in_ok-append.ensures.acknowledged.stands;
       whole = ap (λ (l : Log). l.bad) log ∙ same.bad ∙ c.bodies.invariant.whole;
       count = omega (arith, ap length offsets, length-append c.reserve.new.self.offsets (c.reserve.new.self.end ∷ []), ap length same.offsets, c.bodies.invariant.count);
       held = λ i is.
           let held = c.bodies.invariant.held i is in
-          let after = c.in_ok-append.ensures.acknowledged held.0 held.1 in
+          let after = c.in_ok-append.ensures.acknowledged.written.kept held.0 held.1 in
           (after.now, after.is_read, after.book ∙ one_more c.args.bodies.now c.bodies.body-index c.as_slice-body.result.now (contents_of i.book) (contents_of (held.0).book) lt item held.2);
       past = λ i is.
           let held = c.bodies.invariant.held i is in
           longer_front g.D.Disk.moment g.D.Disk.left_since g.D.Disk.may_leave c.args.disk.now c.bodies.disk c.append.new.disk (g.D.Disk.may_leave c.bodies.disk) i held.0 c.args.bodies.now c.bodies.body-index c.as_slice-body.result.now
           lt item held.2 (c.bodies.invariant.past i is) (c.append.ensures.any_moment held.0 held.1);
-      same = c.append.ensures.same ∙ c.bodies.invariant.same;
-      later = omega (arith, c.bodies.invariant.later, c.append.ensures.cause.later);
+      same = c.append.ensures.call.same ∙ c.bodies.invariant.same;
+      later = omega (arith, c.bodies.invariant.later, c.append.ensures.call.later);
     }
