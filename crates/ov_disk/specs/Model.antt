@@ -24,9 +24,9 @@ abbrev pub longest : List Range → ℕ → ℕ
 longest [] n = n
 longest (r ∷ rs) n = max (longest rs n) (r.at + r.count)
 
--- What a crash may make of an area that was synced as `old`, if these ranges were written since: any
--- length from the least to the greatest, any bytes in the ranges and past the old end, and the same
--- bytes elsewhere.
+-- What a crash may make of an area that was synced as `old`, if these ranges were written since:
+-- any length from the least to the greatest, any bytes in the ranges and past the old end, and the
+-- same bytes elsewhere.
 pub record MayHold (ranges : List Range) (old new : List ℕ) : Type 0 where
   pub no_shorter : length old ≤ length new
   pub no_longer : length new ≤ longest ranges (length old)

@@ -20,8 +20,8 @@ pub record LeavesOnly {D : Type 0} (moment : D → ℕ) (left_since : D → ℕ 
   pub before : (t : ℕ) (c : Image) → t ≤ moment old → left_since new t c
       → left_since old t c ⊎ P c
 
--- Calls that write nothing: the disk reads the same, and a crash leaves nothing that it might not have
--- left at the start.
+-- Calls that write nothing: the disk reads the same, and a crash leaves nothing that it might not
+-- have left at the start.
 pub record IsUntouched {D : Type 0} (moment : D → ℕ) (left_since : D → ℕ → Image → Type 0)
     (may_leave : D → Image → Type 0) (reads : D → Option Image) (old new : D) : Type 0 where
   pub reads_same : reads new ≡ reads old

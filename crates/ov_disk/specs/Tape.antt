@@ -65,7 +65,8 @@ replayed i (Sync call ∷ xs) = replayed i xs
 abbrev pub LeftBy : (Image → Type 0) → Image → List Change → Image → Type 0
 LeftBy P i [] c = P c
 LeftBy P i (Write call area at bytes ∷ xs) c =
-    LeftBy (λ c. (d : Image) × P d × TornIn area at (length bytes) d c) (written area at bytes i) xs c
+    LeftBy (λ c. (d : Image) × P d × TornIn area at (length bytes) d c)
+    (written area at bytes i) xs c
 LeftBy P i (Sync call ∷ xs) c = LeftBy (λ c. c ≡ i) i xs c
 
 -- what a crash after these changes may leave, where nothing was pending before them
@@ -107,8 +108,8 @@ abbrev pub before : ℕ → List Change → List Change
 before call [] = []
 before call (x ∷ xs) = kept_if (ltb (number_of x) call) x (before call xs)
 
--- A stop in one way: what a read gave, and what is left where each write since the last sync was torn
--- in that way.
+-- A stop in one way: what a read gave, and what is left where each write since the last sync was
+-- torn in that way.
 pub record Stop : Type 0 where
   pub now : Image
   pub left : Image
@@ -123,7 +124,8 @@ torn_write Old area at bytes i = i
 torn_write New area at bytes i = written area at bytes i
 torn_write (Fill byte) area at bytes i = written area at (replicate (length bytes) byte) i
 
--- the stop after one change more: a write is read whole and left torn, and a sync leaves what is read
+-- the stop after one change more: a write is read whole and left torn, and a sync leaves what is
+-- read
 abbrev pub stepped : Tear → Change → Stop → Stop
 stepped tear (Write call area at bytes) s =
     stop (written area at bytes s.now) (torn_write tear area at bytes s.left)

@@ -1,5 +1,5 @@
--- Inner: no public contract needs this. The laws of a disk in memory, which stand here since an impl
--- cites its laws from specs alone, and specs cite no proofs.
+-- Inner: no public contract needs this. The laws of a disk in memory, which stand here since an
+-- impl cites its laws from specs alone, and specs cite no proofs.
 use Rattle.std.proofs.Common.{◌≡◌, ℕ, ◌+◌, ◌≤◌, List, [], ◌∷◌, ◌++◌, length, take, drop, Option, Some, None, Bool, true, false, if◌then◌else◌, leb, refl, sym, ◌∙◌, ap, subst, arith, append_assoc, length-append, length-drop}
 use Rattle.std.proofs.lemmas.List.{take_at, drop_at, take_all, length-take-le}
 use Rattle.std.proofs.lemmas.Bool.{leb-true}
@@ -12,11 +12,12 @@ use Rattle.ov_disk.specs.Tape.{Tape, replayed, LeftBy, Leaves, reads_of, may_lea
 
 -- how long an area is after a write
 pub length-overwritten : (at : ℕ) (bytes old : List ℕ) → at ≤ length old
-    → length (overwritten at bytes old) ≡ at + (length bytes + length (drop (at + length bytes) old))
+    → length (overwritten at bytes old)
+    ≡ at + (length bytes + length (drop (at + length bytes) old))
 length-overwritten at bytes old le =
     let rest = drop (at + length bytes) old in
-    let front = length-take-le at old le in
-    omega (arith, front, length-append (take at old ++ bytes) rest, length-append (take at old) bytes)
+    let front = length-append (take at old) bytes in
+    omega (arith, length-take-le at old le, length-append (take at old ++ bytes) rest, front)
 
 -- a write that is done is one of those that a crash cuts short
 pub torn_done : (at : ℕ) (bytes old : List ℕ) → at ≤ length old
@@ -35,8 +36,8 @@ torn_done at bytes old le =
     }
 
 -- the same in one area
-pub torn_in_done : (area : Area) (at : ℕ) (bytes : List ℕ) (i : Image) → at ≤ length (bytes_of area i)
-    → TornIn area at (length bytes) i (written area at bytes i)
+pub torn_in_done : (area : Area) (at : ℕ) (bytes : List ℕ) (i : Image)
+    → at ≤ length (bytes_of area i) → TornIn area at (length bytes) i (written area at bytes i)
 torn_in_done Book at bytes i le = (torn_done at bytes i.book le, refl)
 torn_in_done Blobs at bytes i le = (torn_done at bytes i.blobs le, refl)
 
@@ -54,7 +55,8 @@ one_of P i (Write call area at bytes ∷ xs) s p is =
     let next = written area at bytes i in
     let both = guarded (leb at (length (bytes_of area i))) (replayed next xs) s is in
     let done = torn_in_done area at bytes i (leb-true _ _ both.0) in
-    one_of (λ c. (d : Image) × P d × TornIn area at (length bytes) d c) next xs s (i, p, done) both.1
+    one_of (λ c. (d : Image) × P d × TornIn area at (length bytes) d c) next xs s
+    (i, p, done) both.1
 one_of P i (Sync call ∷ xs) s p is = one_of (λ c. c ≡ i) i xs s refl is
 
 pub reads_is_one : (t : Tape) (i : Image) → reads_of t ≡ Some i → may_leave_of t i

@@ -9,10 +9,10 @@ use crate::{Area, DiskFault};
 
 /// Two areas of bytes that a crash may tear.
 ///
-/// Between two syncs a crash may leave any bytes in each range that was written and past the old end,
-/// and any length from the least to the greatest since the last sync. Bytes outside stay. After a sync
-/// that succeeds it leaves what a read gives. Nothing is said of what a disk reads after a write or a
-/// sync that failed, but that it is one of the images that a crash may leave.
+/// Between two syncs a crash may leave any bytes in each range that was written and past the old
+/// end, and any length from the least to the greatest since the last sync. Bytes outside stay.
+/// After a sync that succeeds it leaves what a read gives. Nothing is said of what a disk reads
+/// after a write or a sync that failed, but that it is one of the images that a crash may leave.
 pub trait Disk {
     /// What a read gives in each area, where this disk tells it.
     ghost reads: { Self → Option Image };

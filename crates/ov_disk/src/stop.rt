@@ -54,7 +54,8 @@ fn step(
     }
 }
 
-/// What is left of these areas after the calls before this one, each write since the last sync torn.
+/// What is left of these areas after the calls before this one, each write since the last sync
+/// torn.
 pub fn torn_areas(
     alloc: Global,
     areas: &Areas,

@@ -1,6 +1,6 @@
--- What a Book says, read from the whole of it: a header of 78 bytes, and then records. A record is a
--- gate of one byte, the length of its body in four bytes, and the body. The list of records ends at the
--- first gate that isn't open; whatever follows it doesn't count.
+-- What a Book says, read from the whole of it: a header of 78 bytes, and then records. A record is
+-- a gate of one byte, the length of its body in four bytes, and the body. The list of records ends
+-- at the first gate that isn't open; whatever follows it doesn't count.
 use Rattle.std.specs.Prelude.{◌≡◌, ◌<◌, ◌^◌, ℕ, zero, suc, ◌+◌, List, [], ◌∷◌, ◌++◌, length, take, drop}
 use Rattle.std.specs.Prelude.{Bool, true, false, ◌==◌, ◌&&◌, leb, codes}
 use Rattle.ov_base.specs.declared.limits.TheConstants.{MAX_RECORD_BYTES}
@@ -48,13 +48,14 @@ is_length rest =
 abbrev pub body_in : List ℕ → List ℕ
 body_in rest = take (length_in rest) (drop 4 rest)
 
--- The bodies of the records up to the first gate that isn't open. `bad` says that an open gate with a
--- length that can't be, or no gate at all, ended them in its place.
+-- The bodies of the records up to the first gate that isn't open. `bad` says that an open gate with
+-- a length that can't be, or no gate at all, ended them in its place.
 pub record Records : Type 0 where
   pub bodies : List (List ℕ)
   pub bad : Bool
 
--- what a gate says: whether it is open, whether its length can be, its body, and the records behind it
+-- what a gate says: whether it is open, whether its length can be, its body, and the records behind
+-- it
 abbrev pub past_gate : Bool → Bool → List ℕ → Records → Records
 past_gate false fits body more = record { bodies = []; bad = false }
 past_gate true false body more = record { bodies = []; bad = true }

@@ -8,8 +8,8 @@ use Rattle.ov_journal.specs.declared.header.Header.{Header}
 use Rattle.ov_journal.specs.declared.header.TheConstants.{HEADER}
 use Rattle.ov_journal.specs.declared.record.TheConstants.{RECORD_HEAD}
 
--- The places of the records' gates, the place of the gate behind the last, whether that one is open with
--- a length that can't be, for how many more records room was made, and for how long a body.
+-- The places of the records' gates, the place of the gate behind the last, whether that one is open
+-- with a length that can't be, for how many more records room was made, and for how long a body.
 pub record Log : Type 0 where
   pub offsets : List ℕ
   pub end : ℕ
@@ -27,8 +27,8 @@ abbrev pub end_from : ℕ → List (List ℕ) → ℕ
 end_from place [] = place
 end_from place (body ∷ bodies) = end_from (place + 5 + length body) bodies
 
--- Where a gate stands at the latest, if so many records stand before it: behind the header, and behind
--- as many records with the longest bodies.
+-- Where a gate stands at the latest, if so many records stand before it: behind the header, and
+-- behind as many records with the longest bodies.
 abbrev pub latest_gate : ℕ → ℕ
 latest_gate before = HEADER + (RECORD_HEAD + MAX_RECORD_BYTES) * before
 
@@ -42,7 +42,8 @@ pub record IsLogOf (log : Log) (records : Records) : Type 0 where
   pub end : log.end ≡ end_from 78 records.bodies
   pub bad : log.bad ≡ records.bad
 
--- Where the disk tells its bytes, Book has just this journal's records, and nothing is pending there.
+-- Where the disk tells its bytes, Book has just this journal's records, and nothing is pending
+-- there.
 abbrev pub Stands : Log → Option Image → (Image → Type 0) → Type 0
 Stands log reads may_leave =
     Told reads (λ i. IsLogOf log (contents_of i.book).records × OnlyBook i.book may_leave)
@@ -63,8 +64,8 @@ appended count log = record {
   longest = log.longest;
 }
 
--- Book as it was, beside Blobs that the start might have left; or with the body, beside the Blobs that
--- were read at the start
+-- Book as it was, beside Blobs that the start might have left; or with the body, beside the Blobs
+-- that were read at the start
 abbrev pub IsBeforeOrAfter : (Image → Type 0) → Image → List ℕ → Image → Type 0
 IsBeforeOrAfter may_leave i body c =
     ((contents_of c.book ≡ contents_of i.book) × (d : Image) × may_leave d × (c.blobs ≡ d.blobs))

@@ -15,8 +15,8 @@ use crate::{CheckFault, Header, Journal};
 use ov_disk::{Area, Disk, DiskFault};
 use std::alloc::Global;
 
-// Puts a gate that isn't open into a Book that has none. In a longer one the first byte stays: a torn
-// write of it could open an old header.
+// Puts a gate that isn't open into a Book that has none. In a longer one the first byte stays: a
+// torn write of it could open an old header.
 fn clear<D: Disk>(disk: &mut D) -> Result<(), DiskFault>
     requires unborn { Told (D.reads disk.old) (λ i.
         IsUnborn i.book × OnlyBook i.book (D.may_leave disk.old)) }
@@ -70,7 +70,7 @@ impl Journal {
         ensures any_moment { Told (D.reads disk.old) (λ _.
             LeavesOnly D.moment D.left_since disk.old disk.new (IsUnbornOrEmpty header.now)) }
 
-        // At `Ok` each image that a crash may leave has it.
+        // At `Ok` each image that a crash may leave has it, and the journal stands for it.
         ensures born { IfOk result (λ journal.
             IsAcknowledged journal (D.reads disk.old) (D.reads disk.new) (D.may_leave disk.new)
             (λ _. born header.now [])) }

@@ -5,7 +5,7 @@ ghost use Rattle.ov_disk.specs.Disk.{Image, Told};
 ghost use Rattle.ov_disk.specs.Moments.{LeavesOnly};
 ghost use Rattle.ov_journal.specs.Book.{Records, contents_of, with_body};
 ghost use Rattle.ov_journal.specs.Finding.{place_if};
-ghost use Rattle.ov_journal.specs.Frames.{HasRoomFor};
+ghost use Rattle.ov_journal.specs.Frames.{MayTake};
 ghost use Rattle.ov_journal.specs.Lasting.{IsAcknowledged};
 ghost use Rattle.ov_journal.specs.Log.{AreInReach, HasSameRecords, IsBeforeOrAfter, IsLogOf, Stands};
 ghost use Rattle.ov_journal.specs.Log.{appended, latest_gate};
@@ -18,7 +18,8 @@ use ov_disk::{Disk, DiskFault};
 use std::alloc::Global;
 use std::marker::Model;
 
-/// The records of a Book, by the places of their gates. It stands for a Book and its disk by `Stands`.
+/// The records of a Book, by the places of their gates. It stands for a Book and its disk by
+/// `Stands`.
 #[derive(Drop)]
 pub struct Journal {
     offsets: Vec<u64>,
@@ -106,7 +107,7 @@ impl Journal {
         self.offsets.len() as u64
     }
 
-    /// The place of the gate of record `i` in Book.
+    /// The place of the gate of record `i` in Book, which has a bound whatever a disk tells.
     pub fn offset(&self, i: u64) -> u64
         requires { i < length self.now.offsets }
         ensures place { result ≡ slice_index self.now.offsets i }
@@ -137,8 +138,10 @@ impl Journal {
     pub fn reserve(&mut self, length: u32) -> Result<(), Memory>
         ensures room { OnOk result (self.new.room ≡ self.old.room + 1) }
         ensures longest { OnOk result (length ≤ self.new.longest) }
-        ensures never_less { (self.old.room ≤ self.new.room) × (self.old.longest ≤ self.new.longest) }
+        ensures never_less { (self.old.room ≤ self.new.room)
+            × (self.old.longest ≤ self.new.longest) }
         ensures same { HasSameRecords self.old self.new }
+        // So what it stood for, as `Stands` says of whatever is read and may be left, it stands for.
         ensures stands { (records : Records) → IsLogOf self.old records → IsLogOf self.new records }
         ensures err { OnErr result (self.new ≡ self.old) }
     {
@@ -153,20 +156,22 @@ impl Journal {
         Ok(())
     }
 
-    /// Adds a record with this body, behind the last. It makes four calls of the disk: the record behind
-    /// its closed gate, a sync, the open gate, a sync. It takes no memory.
+    /// Adds a record with this body, behind the last. It makes four calls of the disk: the record
+    /// behind its closed gate, a sync, the open gate, a sync. It takes no memory.
     ///
-    /// After a fault the journal is as it was, but Book may have the body or not: open it again.
+    /// After a fault the journal is as it was, but Book may have the body or not: open it again. Of a
+    /// disk that tells its bytes nothing says then that the journal still stands, so no other append
+    /// may follow. Of one that tells nothing the caller has to remember that it failed.
     pub fn append<D: Disk>(&mut self, disk: &mut D, body: &[u8]) -> Result<(), DiskFault>
-        requires room { HasRoomFor body.now self.old }
+        requires body { MayTake body.now self.old }
         requires stands { Stands self.old (D.reads disk.old) (D.may_leave disk.old) }
 
-        // A crash at any moment of the call leaves the bodies from before it, with this one or without.
+        // A crash at any moment leaves the bodies from before the call, with this one or without.
         ensures any_moment { Told (D.reads disk.old) (λ i.
             LeavesOnly D.moment D.left_since disk.old disk.new
             (IsBeforeOrAfter (D.may_leave disk.old) i body.now)) }
 
-        // At `Ok` each image that a crash may leave has the body.
+        // At `Ok` each image that a crash may leave has the body, and the journal stands for it.
         ensures acknowledged { OnOk result
             (IsAcknowledged self.new (D.reads disk.old) (D.reads disk.new) (D.may_leave disk.new)
             (λ i. with_body body.now (contents_of i.book))) }

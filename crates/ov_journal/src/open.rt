@@ -90,11 +90,11 @@ fn find<D: Disk>(alloc: Global, disk: &mut D) -> Result<Found, JournalFault>
 }
 
 impl Journal {
-    /// Opens what an earlier run may have left, after a crash or not. It begins with a sync, so that
-    /// what it finds lasts.
+    /// Opens what an earlier run may have left, after a crash or not. It begins with a sync, so
+    /// that what it finds lasts.
     ///
-    /// Where Born's `bad` is a place, the layer above reports it once it has looked at the header and at
-    /// the records before it; such a journal takes no more records.
+    /// Where Born's `bad` is a place, the layer above reports it once it has looked at the header
+    /// and at the records before it; such a journal takes no more records.
     pub fn begin<D: Disk>(alloc: Global, disk: &mut D) -> Result<Found, JournalFault>
         ensures finds { Told (D.reads disk.old) (λ i. Finds i.book result) }
         // Of a disk that tells nothing too.
@@ -102,7 +102,8 @@ impl Journal {
         ensures reads { UnlessFaulty result (D.reads disk.new ≡ D.reads disk.old) }
         ensures settled { UnlessFaulty result
             (Told (D.reads disk.old) (λ i. Only i (D.may_leave disk.new))) }
-        ensures any_moment { LeavesOnly D.moment D.left_since disk.old disk.new (D.may_leave disk.old) }
+        ensures any_moment { LeavesOnly D.moment D.left_since disk.old disk.new
+            (D.may_leave disk.old) }
         ensures call { IsDiskCall D.borrow D.faults (IsErrOf result DiskFailed) disk.old disk.new }
     {
         disk.sync()?;

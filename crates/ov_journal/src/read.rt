@@ -20,14 +20,15 @@ impl Journal {
             out.new.items ≡ out.old.items
             ++ slice_index_or (contents_of d.book).records.bodies i [])) }
         ensures err { OnErr result (out.new.items ≡ out.old.items) }
-        ensures untouched { IsUntouched D.moment D.left_since D.may_leave D.reads disk.old disk.new }
+        ensures untouched { IsUntouched D.moment D.left_since D.may_leave D.reads
+            disk.old disk.new }
         ensures call { IsDiskCall D.borrow D.faults (IsErrOf result DiskFailed) disk.old disk.new }
     {
         self.body_at_gate(disk, i, out)
     }
 
-    /// The same of a Book that may have more records than the journal, as after an append that ended
-    /// in a fault: it is enough that record `i` stands at its gate.
+    /// The same of a Book that may have more records than the journal, as after an append that
+    /// ended in a fault: it is enough that record `i` stands at its gate.
     pub fn body_at_gate<D: Disk>(
         &self,
         disk: &mut D,
@@ -41,7 +42,8 @@ impl Journal {
             (body : List ℕ) → HasRecord self.now i body d.book
             → out.new.items ≡ out.old.items ++ body)) }
         ensures err { OnErr result (out.new.items ≡ out.old.items) }
-        ensures untouched { IsUntouched D.moment D.left_since D.may_leave D.reads disk.old disk.new }
+        ensures untouched { IsUntouched D.moment D.left_since D.may_leave D.reads
+            disk.old disk.new }
         ensures call { IsDiskCall D.borrow D.faults (IsErrOf result DiskFailed) disk.old disk.new }
     {
         let (start, count) = self.body_range(i);

@@ -47,8 +47,8 @@ pub fn put_record<D: Disk>(
     ensures call { IsDiskCall D.borrow D.faults (IsErr result) disk.old disk.new }
 {
     fill(frame, body);
-    // The gate at the end stands closed until the record and the closed gate behind it are on the disk:
-    // with all in one write, a torn one could open it before what it opens.
+    // The gate at the end stands closed until the record and the closed gate behind it are on the
+    // disk: with all in one write, a torn one could open it before what it opens.
     disk.write_at(Area::Book, end + 1, frame)?;
     disk.sync()?;
     disk.write_at(Area::Book, end, &[1])?;

@@ -1,4 +1,5 @@
-//! Finding the records of a Book, one after the other: of each only its gate and its length are read.
+//! Finding the records of a Book, one after the other: of each only its gate and its length are
+//! read.
 ghost use Rattle.std.specs.Prelude.{◌≡◌, ◌≤◌, ◌<◌, ◌-◌, ℕ, List, IfOk, IfErr, IsErr, IsErrOf, length, take, drop, min, ◌⊎◌};
 ghost use Rattle.ov_disk.specs.Calls.{IsDiskCall};
 ghost use Rattle.ov_disk.specs.Disk.{Told};

@@ -9,7 +9,7 @@ put_record-requires-clause-stands g c i is =
     let stands = c.requires.stands i is in
     let log : Log = record { offsets = c.self.inside.offsets.items; end = c.self.inside.end; bad = c.self.inside.bad; room = c.self.inside.room; longest = c.self.inside.longest } in
     let view : log ≡ c.args.self.now = c.self.view_is in
-    (ends_of log i.book (subst (λ (l : Log). IsLogOf l (contents_of i.book).records) (sym view) stands.0) (ap (λ (l : Log). l.bad) view ∙ c.requires.room.whole), stands.1)
+    (ends_of log i.book (subst (λ (l : Log). IsLogOf l (contents_of i.book).records) (sym view) stands.0) (ap (λ (l : Log). l.bad) view ∙ c.requires.body.whole), stands.1)
 
 pub returns-clause-acknowledged : goal.returns-clause-acknowledged
 returns-clause-acknowledged g c =
