@@ -159,9 +159,9 @@ impl Journal {
     /// Adds a record with this body, behind the last. It makes four calls of the disk: the record
     /// behind its closed gate, a sync, the open gate, a sync. It takes no memory.
     ///
-    /// After a fault the journal is as it was, but Book may have the body or not: open it again. Of a
-    /// disk that tells its bytes nothing says then that the journal still stands, so no other append
-    /// may follow. Of one that tells nothing the caller has to remember that it failed.
+    /// After a fault the journal is as it was, but Book may have the body or not: open it again.
+    /// Where the disk tells its bytes, nothing says then that the journal stands, so no other append
+    /// may follow. Where it tells nothing, the caller has to remember the fault.
     pub fn append<D: Disk>(&mut self, disk: &mut D, body: &[u8]) -> Result<(), DiskFault>
         requires body { MayTake body.now self.old }
         requires stands { Stands self.old (D.reads disk.old) (D.may_leave disk.old) }

@@ -1,19 +1,19 @@
 use Rattle.std.proofs.Common.{rules, ◌≡◌, ◌+◌, ◌++◌, ◌∷◌, [], ◌<◌, List, ℕ, length, take, get_or, false, sym, ◌∙◌, ap, arith, length-append}
 use Rattle.ov_journal.specs.Book.{contents_of}
 use Rattle.ov_journal.specs.Log.{Log, appended}
-use Rattle.ov_journal.proofs.Runs.{same_log, unless_disk, item_is, one_more, longer_front}
+use Rattle.ov_journal.proofs.Runs.{unless_disk, item_is, one_more, longer_front}
 use Rattle.ov_journal.proofs.journal.Journal.append_all.Goals as goal
 
 pub returns-in_err-reserve-clause-stands : goal.returns-in_err-reserve-clause-stands
 returns-in_err-reserve-clause-stands g c =
     unless_disk c.from_residual.result _ (λ i is.
     let stands = c.bodies.invariant.stands i is in
-    (same_log c.bodies.self c.reserve.new.self _ c.reserve.ensures.same stands.0, stands.1))
+    (c.reserve.ensures.stands _ stands.0, stands.1))
 
 pub append-requires-clause-stands : goal.append-requires-clause-stands
 append-requires-clause-stands g c i is =
     let stands = c.bodies.invariant.stands i is in
-    (same_log c.bodies.self c.reserve.new.self _ c.in_ok-reserve.ensures.same stands.0, stands.1)
+    (c.reserve.ensures.stands _ stands.0, stands.1)
 
 pub returns-in_err-append-clause-any_moment : goal.returns-in_err-append-clause-any_moment
 returns-in_err-append-clause-any_moment g c i is =
