@@ -5,8 +5,9 @@ use Rattle.ov_disk.specs.Moments.{Elapses, LeavesOnly}
 use Rattle.ov_disk.specs.declared.area.Area.TheVariants.{Book}
 use Rattle.ov_disk.proofs.Runs.{Begun, started, goes_on}
 use Rattle.ov_journal.specs.Book.{contents_of, with_body}
-use Rattle.ov_journal.specs.Frames.{framed, EndsAt, IsBody}
+use Rattle.ov_journal.specs.Frames.{framed, EndsAt}
 use Rattle.ov_journal.specs.Log.{IsBeforeOrAfter, IsKept}
+use Rattle.ov_journal.specs.Taking.{IsBody}
 use Rattle.ov_journal.proofs.Ends.{torn_same, torn_either, staged, opened, is_staged, is_opened, opened_reads, staged_long}
 
 -- the gate at the end lies inside Book once the record is behind it

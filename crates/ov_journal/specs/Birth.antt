@@ -1,4 +1,4 @@
--- What a birth writes, and what it writes over.
+-- Inner: no public contract needs this. What a birth writes, and what it writes over.
 use Rattle.std.specs.Prelude.{◌≡◌, ◌≢◌, ℕ, ◌≤◌, List, [], ◌∷◌, ◌++◌, length}
 use Rattle.ov_journal.specs.Book.{header_bytes}
 use Rattle.ov_journal.specs.declared.header.Header.{Header}

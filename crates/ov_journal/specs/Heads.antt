@@ -1,4 +1,4 @@
--- What the code finds of a Book before it has read all of it.
+-- Inner: no public contract needs this. What the code finds of a Book before it has read all of it.
 use Rattle.std.specs.Prelude.{◌≡◌, ℕ, ◌+◌, ◌≤◌, ◌<◌, List, [], ◌∷◌, ◌++◌, length, take, drop, true, false, ⊤}
 use Rattle.ov_base.specs.declared.limits.TheConstants.{MAX_RECORD_BYTES}
 use Rattle.ov_journal.specs.declared.open.Head.{Head}

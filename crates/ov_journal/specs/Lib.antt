@@ -6,3 +6,4 @@ pub mod Heads
 pub mod Lasting
 pub mod Log
 pub mod Standing
+pub mod Taking

@@ -5,8 +5,8 @@ ghost use Rattle.ov_disk.specs.Disk.{Told};
 ghost use Rattle.ov_disk.specs.Moments.{LeavesOnly};
 ghost use Rattle.ov_journal.specs.Book.{contents_of, with_bodies};
 ghost use Rattle.ov_journal.specs.Finding.{UnlessDisk};
-ghost use Rattle.ov_journal.specs.Frames.{MayTakeAll};
 ghost use Rattle.ov_journal.specs.Log.{HasContents, HasFront, Stands};
+ghost use Rattle.ov_journal.specs.Taking.{MayTakeAll};
 ghost use Rattle.ov_journal.specs.declared.fault.CheckFault.TheVariants.{Disk as DiskFailed};
 
 use crate::{CheckFault, Journal};

@@ -5,10 +5,10 @@ ghost use Rattle.ov_disk.specs.Disk.{Image, Told};
 ghost use Rattle.ov_disk.specs.Moments.{LeavesOnly};
 ghost use Rattle.ov_journal.specs.Book.{Records, contents_of, with_body};
 ghost use Rattle.ov_journal.specs.Finding.{place_if};
-ghost use Rattle.ov_journal.specs.Frames.{MayTake};
 ghost use Rattle.ov_journal.specs.Lasting.{IsAcknowledged};
 ghost use Rattle.ov_journal.specs.Log.{AreInReach, HasSameRecords, IsBeforeOrAfter, IsLogOf, Stands};
 ghost use Rattle.ov_journal.specs.Log.{appended, latest_gate};
+ghost use Rattle.ov_journal.specs.Taking.{MayTake};
 ghost use Rattle.ov_journal.specs.declared.record.TheConstants.{RECORD_HEAD};
 
 use crate::header::HEADER;
