@@ -1,7 +1,7 @@
 -- A gate for a Book that has none, call by call.
-use Rattle.std.proofs.Common.{◌≡◌, inl, inr, ℕ, ◌≤◌, ◌<◌, List, [], ◌∷◌, length, drop, refl, sym, ap, subst, arith}
+use Rattle.std.proofs.Common.{inl, inr, ℕ, ◌≤◌, ◌<◌, List, [], ◌∷◌, length, drop, refl, sym, ap, subst, arith}
 use Rattle.std.proofs.lemmas.List.{drop_all}
-use Rattle.ov_disk.specs.Disk.{Image, overwritten, Torn, TornIn, Follows, Narrows, OnlyBook}
+use Rattle.ov_disk.specs.Disk.{Image, overwritten, TornIn, Follows, Narrows, OnlyBook}
 use Rattle.ov_disk.specs.Moments.{Elapses, LeavesOnly}
 use Rattle.ov_disk.specs.declared.area.Area.TheVariants.{Book}
 use Rattle.ov_disk.proofs.Runs.{Begun, started, goes_on}

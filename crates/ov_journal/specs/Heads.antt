@@ -5,7 +5,7 @@ use Rattle.ov_journal.specs.declared.open.Head.{Head}
 use Rattle.ov_journal.specs.declared.open.Head.TheVariants.{Unborn, Foreign, NoMode, Store}
 use Rattle.ov_journal.specs.declared.scan.Next.{Next}
 use Rattle.ov_journal.specs.declared.scan.Next.TheVariants.{Closed, Bad, Record}
-use Rattle.ov_journal.specs.Book.{Records, records_after, contents_of, spelled}
+use Rattle.ov_journal.specs.Book.{records_after, contents_of, spelled}
 use Rattle.ov_journal.specs.Log.{gates_from, end_from}
 use Rattle.ov_journal.specs.Standing.{IsUnborn, HasMagic, IsForeign, HasNoMode}
 

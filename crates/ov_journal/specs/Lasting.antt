@@ -1,5 +1,5 @@
 -- What a call that wrote Book has made last.
-use Rattle.std.specs.Prelude.{◌≡◌, List, Option, Some}
+use Rattle.std.specs.Prelude.{◌≡◌, Option, Some}
 use Rattle.ov_disk.specs.Disk.{Image, Told}
 use Rattle.ov_journal.specs.Book.{Contents}
 use Rattle.ov_journal.specs.Log.{Log, IsKept, Stands}

@@ -1,4 +1,4 @@
-use Rattle.std.proofs.Common.{rules, ◌≡◌, ◌≤◌, ◌<◌, [], ◌∷◌, length, sym, ◌∙◌, ap, subst, arith}
+use Rattle.std.proofs.Common.{rules, ◌≤◌, ◌<◌, [], ◌∷◌, length, sym, ◌∙◌, ap, subst, arith}
 use Rattle.ov_disk.specs.Disk.{Image, written}
 use Rattle.ov_disk.specs.declared.area.Area.TheVariants.{Book}
 use Rattle.ov_disk.proofs.Runs.{Begun, mapped_some}

@@ -1,6 +1,6 @@
-use Rattle.std.proofs.Common.{rules, ◌≡◌, ◌+◌, ◌∷◌, ◌++◌, [], List, ℕ, length, drop, true, false, refl, sym, ◌∙◌, ap, subst, arith, length-append}
+use Rattle.std.proofs.Common.{rules, ◌≡◌, ◌∷◌, ◌++◌, [], List, ℕ, length, drop, true, false, refl, sym, ◌∙◌, ap, subst, arith, length-append}
 use Rattle.ov_disk.proofs.Runs.{untouched, looks_then}
-use Rattle.ov_journal.specs.declared.scan.Next.TheVariants.{Closed, Bad, Record}
+use Rattle.ov_journal.specs.declared.scan.Next.TheVariants.{Record}
 use Rattle.ov_journal.specs.Book.{records_after}
 use Rattle.ov_journal.specs.Heads.{Nexts, LiesIn, ReadTo}
 use Rattle.ov_journal.specs.Log.{AreInReach, Log}

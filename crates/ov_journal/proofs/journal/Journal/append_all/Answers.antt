@@ -1,4 +1,4 @@
-use Rattle.std.proofs.Common.{rules, ◌≡◌, ◌+◌, ◌++◌, ◌∷◌, [], ◌<◌, List, ℕ, length, take, get_or, false, sym, ◌∙◌, ap, arith, length-append}
+use Rattle.std.proofs.Common.{rules, ◌≡◌, ◌∷◌, [], ◌<◌, length, get_or, sym, ◌∙◌, ap, arith, length-append}
 use Rattle.ov_journal.specs.Book.{contents_of}
 use Rattle.ov_journal.specs.Log.{Log, appended}
 use Rattle.ov_journal.proofs.Runs.{unless_disk, item_is, one_more, longer_front}

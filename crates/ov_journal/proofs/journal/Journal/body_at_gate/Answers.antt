@@ -1,4 +1,4 @@
-use Rattle.std.proofs.Common.{rules, ◌≡◌, ◌+◌, ℕ, List, length, take, drop, sym, ◌∙◌, ap, arith}
+use Rattle.std.proofs.Common.{rules, ◌≡◌, ◌+◌, ℕ, length, take, drop, ◌∙◌, ap, arith}
 use Rattle.ov_journal.proofs.Records.{behind_old, old_front}
 use Rattle.ov_journal.proofs.journal.Journal.body_at_gate.Goals as goal
 
