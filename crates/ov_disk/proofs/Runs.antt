@@ -10,6 +10,12 @@ pub mapped_some : (f : Image → Image) (o : Option Image) (k : Image) → optio
 mapped_some f (Some i) k is = let same : f i ≡ k = cc is in (i, refl, sym same)
 mapped_some f None k is = absurd (cc is)
 
+-- what holds before the first call of a run: since this moment there is no other, and what the run needs
+pub record Begun {D : Type 0} (moment : D → ℕ) (left_since : D → ℕ → Image → Type 0)
+    (may_leave : D → Image → Type 0) (old : D) (Held : Type 0) : Type 0 where
+  pub only_now : (c : Image) → left_since old (moment old) c → may_leave old c
+  pub held : Held
+
 module _ {D : Type 0} (moment : D → ℕ) (left_since : D → ℕ → Image → Type 0) (may_leave : D → Image → Type 0) where
   -- before the first call
   pub started : (old : D) (P : Image → Type 0) → ((c : Image) → left_since old (moment old) c → may_leave old c) → ((c : Image) → may_leave old c → P c)

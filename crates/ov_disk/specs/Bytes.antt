@@ -1,4 +1,4 @@
--- Bytes in memory that remember how they began.
+-- Inner: no public contract needs this. Bytes in memory that remember how they began.
 use Rattle.std.specs.Prelude.{ℕ, List, Option, Some, None, Vec}
 use Rattle.std.specs.declared.alloc.Global.{Global}
 use Rattle.ov_disk.specs.Disk.{Image}

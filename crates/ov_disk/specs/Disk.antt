@@ -8,6 +8,7 @@ pub record Image : Type 0 where
   pub book : List ℕ
   pub blobs : List ℕ
 
+-- the image with these bytes in Book and in Blobs
 abbrev pub image : List ℕ → List ℕ → Image
 image book blobs = record { book = book; blobs = blobs }
 

@@ -24,14 +24,16 @@ abbrev pub longest : List Range → ℕ → ℕ
 longest [] n = n
 longest (r ∷ rs) n = max (longest rs n) (r.at + r.count)
 
--- What a crash may make of an area that was synced as `old`, if these ranges were written since: any
--- length from the least to the greatest, any bytes in the ranges and past the old end, and the same
--- bytes elsewhere.
+-- What a crash may make of an area that was synced as `old`, if these ranges were written since:
+-- any length from the least to the greatest, any bytes in the ranges and past the old end, and the
+-- same bytes elsewhere.
 pub record MayHold (ranges : List Range) (old new : List ℕ) : Type 0 where
   pub no_shorter : length old ≤ length new
   pub no_longer : length new ≤ longest ranges (length old)
-  pub outside : (p : ℕ) → p < length old → IsOutside p ranges → slice_index new p ≡ slice_index old p
+  pub outside : (p : ℕ) → p < length old → IsOutside p ranges
+      → slice_index new p ≡ slice_index old p
 
+-- the ranges of an area, and before them the range of a write, if that was in this area
 abbrev pub with_range : Area → Area → Range → List Range → List Range
 with_range Book Book r rs = r ∷ rs
 with_range Book Blobs r rs = rs
@@ -51,10 +53,13 @@ LeftAfter (w ∷ ws) i c = (d : Image) × LeftAfter ws i d × TornIn w.area w.ra
 -- each write began inside its area or at its end
 abbrev pub BeginInside : List Put → Image → Type 0
 BeginInside [] i = ⊤
-BeginInside (w ∷ ws) i = (w.range.at ≤ longest (ranges_in w.area ws) (length (bytes_of w.area i))) × BeginInside ws i
+BeginInside (w ∷ ws) i =
+    (w.range.at ≤ longest (ranges_in w.area ws) (length (bytes_of w.area i))) × BeginInside ws i
 
 -- Writes that tear one after the other leave just what the model says.
 abbrev pub TornWritesAreTheModel : Type 0
 TornWritesAreTheModel =
     (writes : List Put) (i c : Image) → BeginInside writes i
-    → (LeftAfter writes i c ↔ (MayHold (ranges_in Book writes) i.book c.book × MayHold (ranges_in Blobs writes) i.blobs c.blobs))
+    → (LeftAfter writes i c
+    ↔ (MayHold (ranges_in Book writes) i.book c.book
+    × MayHold (ranges_in Blobs writes) i.blobs c.blobs))

@@ -7,7 +7,8 @@ use Rattle.ov_disk.specs.Disk.{Image, Narrows}
 pub record Elapses {D : Type 0} (moment : D → ℕ) (left_since : D → ℕ → Image → Type 0)
     (may_leave : D → Image → Type 0) (old new : D) : Type 0 where
   pub later : moment old ≤ moment new
-  pub nothing_else : (t : ℕ) (c : Image) → t ≤ moment old → left_since new t c → left_since old t c ⊎ may_leave new c
+  pub nothing_else : (t : ℕ) (c : Image) → t ≤ moment old → left_since new t c
+      → left_since old t c ⊎ may_leave new c
   pub keeps : (t : ℕ) (c : Image) → t ≤ moment old → left_since old t c → left_since new t c
 
 -- A crash at any moment from the old disk to the new one leaves an image that has P.
@@ -16,10 +17,11 @@ pub record LeavesOnly {D : Type 0} (moment : D → ℕ) (left_since : D → ℕ 
   pub later : moment old ≤ moment new
   pub each : (c : Image) → left_since new (moment old) c → P c
   -- for a run that began earlier
-  pub before : (t : ℕ) (c : Image) → t ≤ moment old → left_since new t c → left_since old t c ⊎ P c
+  pub before : (t : ℕ) (c : Image) → t ≤ moment old → left_since new t c
+      → left_since old t c ⊎ P c
 
--- Calls that write nothing: the disk reads the same, and a crash leaves nothing that it might not have
--- left at the start.
+-- Calls that write nothing: the disk reads the same, and a crash leaves nothing that it might not
+-- have left at the start.
 pub record IsUntouched {D : Type 0} (moment : D → ℕ) (left_since : D → ℕ → Image → Type 0)
     (may_leave : D → Image → Type 0) (reads : D → Option Image) (old new : D) : Type 0 where
   pub reads_same : reads new ≡ reads old

@@ -7,8 +7,8 @@ use Rattle.ov_disk.specs.declared.change.Tear.{Tear}
 use Rattle.ov_disk.specs.declared.change.Tear.TheVariants.{Old, New, Fill}
 use Rattle.ov_disk.specs.Disk.{Image, bytes_of, written, TornIn}
 
--- What it held at first, with nothing pending; the changes since, in order; how many calls there were;
--- the numbers, from 0, of the calls that fail; and how many calls failed.
+-- What it held at first, with nothing pending; the changes since, in order; how many calls there
+-- were; the numbers, from 0, of the calls that fail; and how many calls failed.
 pub record Tape : Type 0 where
   pub first : Image
   pub changes : List Change
@@ -26,26 +26,47 @@ risen n = min (n + 1) (2 ^ 64 - 1)
 
 -- a call that was done, and changed nothing
 abbrev pub answered : Tape → Tape
-answered t = record { first = t.first; changes = t.changes; calls = risen t.calls; fails = t.fails; faults = t.faults }
+answered t = record {
+  first = t.first;
+  changes = t.changes;
+  calls = risen t.calls;
+  fails = t.fails;
+  faults = t.faults;
+}
 
 -- a call that failed
 abbrev pub failed : Tape → Tape
-failed t = record { first = t.first; changes = t.changes; calls = risen t.calls; fails = t.fails; faults = risen t.faults }
+failed t = record {
+  first = t.first;
+  changes = t.changes;
+  calls = risen t.calls;
+  fails = t.fails;
+  faults = risen t.faults;
+}
 
 -- a call that was done, with this change
 abbrev pub changed : Change → Tape → Tape
-changed x t = record { first = t.first; changes = t.changes ++ x ∷ []; calls = risen t.calls; fails = t.fails; faults = t.faults }
+changed x t = record {
+  first = t.first;
+  changes = t.changes ++ x ∷ [];
+  calls = risen t.calls;
+  fails = t.fails;
+  faults = t.faults;
+}
 
 -- what a read gives after these changes, if each write began inside its area or at its end
 abbrev pub replayed : Image → List Change → Option Image
 replayed i [] = Some i
-replayed i (Write call area at bytes ∷ xs) = if leb at (length (bytes_of area i)) then replayed (written area at bytes i) xs else None
+replayed i (Write call area at bytes ∷ xs) =
+    if leb at (length (bytes_of area i)) then replayed (written area at bytes i) xs else None
 replayed i (Sync call ∷ xs) = replayed i xs
 
 -- what a crash after these changes may leave, where before them it might leave what has P
 abbrev pub LeftBy : (Image → Type 0) → Image → List Change → Image → Type 0
 LeftBy P i [] c = P c
-LeftBy P i (Write call area at bytes ∷ xs) c = LeftBy (λ c. (d : Image) × P d × TornIn area at (length bytes) d c) (written area at bytes i) xs c
+LeftBy P i (Write call area at bytes ∷ xs) c =
+    LeftBy (λ c. (d : Image) × P d × TornIn area at (length bytes) d c)
+    (written area at bytes i) xs c
 LeftBy P i (Sync call ∷ xs) c = LeftBy (λ c. c ≡ i) i xs c
 
 -- what a crash after these changes may leave, where nothing was pending before them
@@ -56,23 +77,28 @@ Leaves i xs c = LeftBy (λ c. c ≡ i) i xs c
 abbrev pub LeftSince : Image → List Change → ℕ → Image → Type 0
 LeftSince i xs t c = (k : ℕ) × (t ≤ k) × (k ≤ length xs) × Leaves i (take k xs) c
 
--- the meanings of a disk
+-- what a read of this disk gives in both areas
 abbrev pub reads_of : Tape → Option Image
 reads_of t = replayed t.first t.changes
 
+-- what a crash of it now may leave
 abbrev pub may_leave_of : Tape → Image → Type 0
 may_leave_of t = Leaves t.first t.changes
 
+-- its clock: how many changes there were
 abbrev pub moment_of : Tape → ℕ
 moment_of t = length t.changes
 
+-- what a crash of it at this moment or a later one might have left
 abbrev pub left_since_of : Tape → ℕ → Image → Type 0
 left_since_of t = LeftSince t.first t.changes
 
+-- the number of the call that made the change
 abbrev pub number_of : Change → ℕ
 number_of (Write call area at bytes) = call
 number_of (Sync call) = call
 
+-- a change and those behind it, or none of them where the change doesn't count
 abbrev pub kept_if : Bool → Change → List Change → List Change
 kept_if false x xs = []
 kept_if true x xs = x ∷ xs
@@ -82,12 +108,13 @@ abbrev pub before : ℕ → List Change → List Change
 before call [] = []
 before call (x ∷ xs) = kept_if (ltb (number_of x) call) x (before call xs)
 
--- A stop in one way: what a read gave, and what is left where each write since the last sync was torn
--- in that way.
+-- A stop in one way: what a read gave, and what is left where each write since the last sync was
+-- torn in that way.
 pub record Stop : Type 0 where
   pub now : Image
   pub left : Image
 
+-- the stop with these two images
 abbrev pub stop : Image → Image → Stop
 stop now left = record { now = now; left = left }
 
@@ -97,10 +124,14 @@ torn_write Old area at bytes i = i
 torn_write New area at bytes i = written area at bytes i
 torn_write (Fill byte) area at bytes i = written area at (replicate (length bytes) byte) i
 
+-- the stop after one change more: a write is read whole and left torn, and a sync leaves what is
+-- read
 abbrev pub stepped : Tear → Change → Stop → Stop
-stepped tear (Write call area at bytes) s = stop (written area at bytes s.now) (torn_write tear area at bytes s.left)
+stepped tear (Write call area at bytes) s =
+    stop (written area at bytes s.now) (torn_write tear area at bytes s.left)
 stepped tear (Sync call) s = stop s.now s.now
 
+-- the stop after these changes more
 abbrev pub stepped_all : Tear → List Change → Stop → Stop
 stepped_all tear [] s = s
 stepped_all tear (x ∷ xs) s = stepped_all tear xs (stepped tear x s)

@@ -1,4 +1,4 @@
--- A disk that tells nothing.
+-- Inner: no public contract needs this. A disk that tells nothing.
 use Rattle.std.specs.Prelude.{◌≡◌, Some, None, ⊤}
 use Rattle.ov_disk.specs.Disk.{Image}
 

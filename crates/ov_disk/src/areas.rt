@@ -60,7 +60,8 @@ impl Areas {
 
     /// The same bytes, as if they had been there at first.
     pub fn settled(&self, alloc: Global) -> Result<Areas, Memory>
-        ensures { IfOk result (λ a. a ≡ record { start = self.now.current; current = self.now.current }) }
+        ensures { IfOk result (λ a.
+            a ≡ record { start = self.now.current; current = self.now.current }) }
     {
         let book = Octets::copy(alloc, self.book.as_slice())?;
         let blobs = Octets::copy(alloc, self.blobs.as_slice())?;
@@ -69,7 +70,8 @@ impl Areas {
 
     /// The bytes at first.
     pub fn started(&self, alloc: Global) -> Result<Areas, Memory>
-        ensures { IfOk result (λ a. a ≡ record { start = self.now.start; current = self.now.start }) }
+        ensures { IfOk result (λ a.
+            a ≡ record { start = self.now.start; current = self.now.start }) }
     {
         let book = Octets::copy(alloc, self.book.start())?;
         let blobs = Octets::copy(alloc, self.blobs.start())?;

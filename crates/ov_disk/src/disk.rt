@@ -1,7 +1,7 @@
 //! What a disk is: what it reads, and what a crash may leave of it.
-ghost use Rattle.std.specs.Prelude.{◌≡◌, ◌≤◌, ◌+◌, ℕ, Option, Some, length, take, drop, IfOk, OnOk};
+ghost use Rattle.std.specs.Prelude.{◌≡◌, ◌≤◌, ◌+◌, ℕ, Option, Some, length, take, drop, IfOk, IsErr, OnOk};
 ghost use Rattle.std.specs.Option.{option_map};
-ghost use Rattle.ov_base.specs.Causes.{HasCause};
+ghost use Rattle.ov_disk.specs.Calls.{IsDiskCall};
 ghost use Rattle.ov_disk.specs.Disk.{Image, bytes_of, written, TornIn, Follows, Narrows, Told, Only};
 ghost use Rattle.ov_disk.specs.Moments.{Elapses};
 
@@ -9,10 +9,10 @@ use crate::{Area, DiskFault};
 
 /// Two areas of bytes that a crash may tear.
 ///
-/// Between two syncs a crash may leave any bytes in each range that was written and past the old end,
-/// and any length from the least to the greatest since the last sync. Bytes outside stay. After a sync
-/// that succeeds it leaves what a read gives. Nothing is said of what a disk reads after a write or a
-/// sync that failed, but that it is one of the images that a crash may leave.
+/// Between two syncs a crash may leave any bytes in each range that was written and past the old
+/// end, and any length from the least to the greatest since the last sync. Bytes outside stay.
+/// After a sync that succeeds it leaves what a read gives. Nothing is said of what a disk reads
+/// after a write or a sync that failed, but that it is one of the images that a crash may leave.
 pub trait Disk {
     /// What a read gives in each area, where this disk tells it.
     ghost reads: { Self → Option Image };
@@ -39,8 +39,7 @@ pub trait Disk {
         ensures reads { reads self.new ≡ reads self.old }
         ensures crash { Narrows (may_leave self.old) (may_leave self.new) }
         ensures time { Elapses moment left_since may_leave self.old self.new }
-        ensures same { borrow self.new ≡ borrow self.old }
-        ensures cause { HasCause (faults self.old) (faults self.new) result };
+        ensures call { IsDiskCall borrow faults (IsErr result) self.old self.new };
 
     /// Fills the buffer with the bytes from `at` on.
     fn read(&mut self, area: Area, at: u64, buf: &mut [u8]) -> Result<(), DiskFault>
@@ -50,8 +49,7 @@ pub trait Disk {
         ensures reads { reads self.new ≡ reads self.old }
         ensures crash { Narrows (may_leave self.old) (may_leave self.new) }
         ensures time { Elapses moment left_since may_leave self.old self.new }
-        ensures same { borrow self.new ≡ borrow self.old }
-        ensures cause { HasCause (faults self.old) (faults self.new) result };
+        ensures call { IsDiskCall borrow faults (IsErr result) self.old self.new };
 
     /// Writes over what is there and past the end. Until a sync, a crash may leave any bytes in the
     /// range.
@@ -59,10 +57,10 @@ pub trait Disk {
         requires { Told (reads self.old) (λ i. at ≤ length (bytes_of area i)) }
         ensures written { OnOk result
             (reads self.new ≡ option_map (written area at bytes.now) (reads self.old)) }
-        ensures crash { Follows (TornIn area at (length bytes.now)) (may_leave self.old) (may_leave self.new) }
+        ensures crash { Follows (TornIn area at (length bytes.now))
+            (may_leave self.old) (may_leave self.new) }
         ensures time { Elapses moment left_since may_leave self.old self.new }
-        ensures same { borrow self.new ≡ borrow self.old }
-        ensures cause { HasCause (faults self.old) (faults self.new) result };
+        ensures call { IsDiskCall borrow faults (IsErr result) self.old self.new };
 
     /// Makes both areas last: after it a crash leaves what a read gives.
     fn sync(&mut self) -> Result<(), DiskFault>
@@ -70,14 +68,15 @@ pub trait Disk {
         ensures reads { OnOk result (reads self.new ≡ reads self.old) }
         ensures crash { Narrows (may_leave self.old) (may_leave self.new) }
         ensures time { Elapses moment left_since may_leave self.old self.new }
-        ensures same { borrow self.new ≡ borrow self.old }
-        ensures cause { HasCause (faults self.old) (faults self.new) result };
+        ensures call { IsDiskCall borrow faults (IsErr result) self.old self.new };
 
     /// This moment is one of those since an earlier one.
-    ghost counts_now: { (disk : Self) (t : ℕ) (c : Image) → t ≤ moment disk → may_leave disk c → left_since disk t c };
+    ghost counts_now: { (disk : Self) (t : ℕ) (c : Image) → t ≤ moment disk
+        → may_leave disk c → left_since disk t c };
 
     /// Since this moment there is no other.
-    ghost only_now: { (disk : Self) (c : Image) → left_since disk (moment disk) c → may_leave disk c };
+    ghost only_now: { (disk : Self) (c : Image) → left_since disk (moment disk) c
+        → may_leave disk c };
 
     /// A disk as it reads is one of its images.
     ghost reads_one: { (disk : Self) (i : Image) → reads disk ≡ Some i → may_leave disk i };

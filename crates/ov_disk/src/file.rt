@@ -23,10 +23,10 @@ enum State<F: Drop> {
 /// The files at two paths, which are opened, and made where they are missing, at the first call. It
 /// tells nothing of its bytes.
 ///
-/// While they are open both files are locked, so a second disk over one of them, in this program or in
-/// another, fails. A program that takes no such lock isn't held off by it. What isn't a regular file,
-/// as a folder, is a fault. After a sync that failed, what was written may be lost with no further
-/// error, so each later call of this disk fails.
+/// While they are open both files are locked, so a second disk over one of them, in this program or
+/// in another, fails. A program that takes no such lock isn't held off by it. What isn't a regular
+/// file, as a folder, is a fault. After a sync that failed, what was written may be lost with no
+/// further error, so each later call of this disk fails.
 #[derive(Drop)]
 pub struct FileDisk<R: Files + Alloc + Drop> {
     rt: R,

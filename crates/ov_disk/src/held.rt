@@ -94,8 +94,8 @@ where
     if os::try_lock_range(file.as_raw_fd(), RangeLock::Exclusive, 0, 1 << 62) != 0 {
         return Err(io::ErrorKind::WouldBlock.into());
     }
-    // An earlier program may have left writes that weren't synced, or pages that a sync of its own failed
-    // to keep: those are dropped, so that what is read is what the disk has.
+    // An earlier program may have left writes that weren't synced, or pages that a sync of its own
+    // failed to keep: those are dropped, so that what is read is what the disk has.
     file.sync_all()?;
     let status = libc::posix_fadvise(file.as_raw_fd(), 0, 0, libc::POSIX_FADV_DONTNEED);
     if status != 0 {

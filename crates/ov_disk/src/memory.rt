@@ -84,7 +84,8 @@ impl MemDisk {
 
     /// The call of this number, from 0, will fail and change nothing.
     pub fn fail_at(&mut self, call: u64) -> Result<(), Memory>
-        ensures ok { OnOk result (self.new ≡ record self.old { fails = self.old.fails ++ call ∷ [] }) }
+        ensures ok { OnOk result
+            (self.new ≡ record self.old { fails = self.old.fails ++ call ∷ [] }) }
         ensures err { OnErr result (self.new ≡ self.old) }
     {
         self.fails.push(call)?;
@@ -208,7 +209,8 @@ impl Disk for MemDisk {
 
     // What else the trait asks follows from the exact clauses.
     fn len(&mut self, area: Area) -> Result<u64, DiskFault>
-        ensures len { IfOk result (λ n. Told (reads_of self.old) (λ i. n ≡ length (bytes_of area i))) }
+        ensures len { IfOk result (λ n.
+            Told (reads_of self.old) (λ i. n ≡ length (bytes_of area i))) }
         ensures cause { HasCause self.old.faults self.new.faults result }
         ensures fails { IsErr result ↔ Contains self.old.fails self.old.calls }
         ensures exact { MatchResult result
@@ -254,7 +256,8 @@ impl Disk for MemDisk {
     }
 
     fn sync(&mut self) -> Result<(), DiskFault>
-        ensures durable { OnOk result (Told (reads_of self.old) (λ i. Only i (may_leave_of self.new))) }
+        ensures durable { OnOk result
+            (Told (reads_of self.old) (λ i. Only i (may_leave_of self.new))) }
         ensures reads { OnOk result (reads_of self.new ≡ reads_of self.old) }
         ensures crash { Narrows (may_leave_of self.old) (may_leave_of self.new) }
         ensures cause { HasCause self.old.faults self.new.faults result }

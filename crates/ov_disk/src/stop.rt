@@ -54,7 +54,8 @@ fn step(
     }
 }
 
-/// What is left of these areas after the calls before this one, each write since the last sync torn.
+/// What is left of these areas after the calls before this one, each write since the last sync
+/// torn.
 pub fn torn_areas(
     alloc: Global,
     areas: &Areas,
@@ -62,7 +63,8 @@ pub fn torn_areas(
     call: u64,
     tear: Tear,
 ) -> Result<Areas, Memory>
-    ensures { IfOk result (λ left. left.current ≡ torn tear areas.now.start (before call changes.now)) }
+    ensures { IfOk result (λ left.
+        left.current ≡ torn tear areas.now.start (before call changes.now)) }
 {
     let mut now = areas.started(alloc)?;
     let mut left = areas.started(alloc)?;

@@ -4,8 +4,8 @@ use ov_base::Octets;
 use std::fs;
 use std::test::Fail;
 
-// Three bytes, of which the last is written over with three others, and then a sync: what a stop after
-// some of these calls leaves.
+// Three bytes, of which the last is written over with three others, and then a sync: what a stop
+// after some of these calls leaves.
 #[test]
 fn a_write_torn_in_each_way(rt: HostRuntime) -> Result<(), Fail> {
     let alloc = rt.alloc();

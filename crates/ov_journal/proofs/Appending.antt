@@ -1,13 +1,13 @@
 -- An append, call by call.
 use Rattle.std.proofs.Common.{◌≡◌, inl, inr, ⊎_elim, ℕ, ◌+◌, ◌≤◌, List, [], ◌∷◌, length, Option, Some, refl, ◌∙◌, ap, subst, arith}
-use Rattle.ov_base.specs.declared.limits.TheConstants.{MAX_RECORD_BYTES}
 use Rattle.ov_disk.specs.Disk.{Image, overwritten, written, Torn, TornIn, Follows, Narrows, Only, OnlyBook}
 use Rattle.ov_disk.specs.Moments.{Elapses, LeavesOnly}
 use Rattle.ov_disk.specs.declared.area.Area.TheVariants.{Book}
-use Rattle.ov_disk.proofs.Runs.{started, goes_on}
+use Rattle.ov_disk.proofs.Runs.{Begun, started, goes_on}
 use Rattle.ov_journal.specs.Book.{contents_of, with_body}
 use Rattle.ov_journal.specs.Frames.{framed, EndsAt}
 use Rattle.ov_journal.specs.Log.{IsBeforeOrAfter, IsKept}
+use Rattle.ov_journal.specs.Taking.{IsBody}
 use Rattle.ov_journal.proofs.Ends.{torn_same, torn_either, staged, opened, is_staged, is_opened, opened_reads, staged_long}
 
 -- the gate at the end lies inside Book once the record is behind it
@@ -16,17 +16,15 @@ gate_inside i k end ends body frame is_frame is =
     let book : k.book ≡ staged end i.book ends body = ap (λ (j : Image). j.book) is ∙ ap (λ (l : List ℕ). overwritten (end + 1) l i.book) is_frame ∙ is_staged end i.book ends body in
     omega (arith, staged_long end i.book ends body, ap length book)
 
--- what holds before the first call
-pub record Begun {D : Type 0} (moment : D → ℕ) (left_since : D → ℕ → Image → Type 0) (may_leave : D → Image → Type 0)
-    (d0 : D) (i : Image) (end : ℕ) (body frame : List ℕ) : Type 0 where
-  pub only_now : (c : Image) → left_since d0 (moment d0) c → may_leave d0 c
-  pub mine : may_leave d0 i
-  pub stands : EndsAt end i.book × OnlyBook i.book (may_leave d0)
-  pub size : (1 ≤ length body) × (length body ≤ MAX_RECORD_BYTES)
+-- what an append needs before its first call, where a crash may leave what has `outcomes`
+pub record Appends (outcomes : Image → Type 0) (i : Image) (end : ℕ) (body frame : List ℕ) : Type 0 where
+  pub mine : outcomes i
+  pub stands : EndsAt end i.book × OnlyBook i.book outcomes
+  pub size : IsBody body
   pub is_frame : frame ≡ framed body
 
 module _ {D : Type 0} {moment : D → ℕ} {left_since : D → ℕ → Image → Type 0} {may_leave : D → Image → Type 0}
-    {d0 : D} {i : Image} {end : ℕ} {body frame : List ℕ} (s : Begun moment left_since may_leave d0 i end body frame) where
+    {d0 : D} {i : Image} {end : ℕ} {body frame : List ℕ} (b : Begun moment left_since may_leave d0 (Appends (may_leave d0) i end body frame)) where
   abbrev P : Image → Type 0
   P = IsBeforeOrAfter (may_leave d0) i body
 
@@ -34,24 +32,24 @@ module _ {D : Type 0} {moment : D → ℕ} {left_since : D → ℕ → Image →
   abbrev pub i1 : Image
   i1 = written Book (end + 1) frame i
 
-  book1 : i1.book ≡ staged end i.book s.stands.0 body
-  book1 = ap (λ (l : List ℕ). overwritten (end + 1) l i.book) s.is_frame ∙ is_staged end i.book s.stands.0 body
+  book1 : i1.book ≡ staged end i.book b.held.stands.0 body
+  book1 = ap (λ (l : List ℕ). overwritten (end + 1) l i.book) b.held.is_frame ∙ is_staged end i.book b.held.stands.0 body
 
   stage_crash : (new : Image → Type 0) → Follows (TornIn Book (end + 1) (length frame)) (may_leave d0) new → (c : Image) → new c → P c
   stage_crash new follows c left =
       let from = follows c left in
-      inl (torn_same end i.book s.stands.0 (length frame) c.book (subst (λ (l : List ℕ). Torn (end + 1) (length frame) l c.book) (s.stands.1 from.0 from.1) from.2.0), from.0, from.1, from.2.1)
+      inl (torn_same end i.book b.held.stands.0 (length frame) c.book (subst (λ (l : List ℕ). Torn (end + 1) (length frame) l c.book) (b.held.stands.1 from.0 from.1) from.2.0), from.0, from.1, from.2.1)
 
   gate_crash : (old new : Image → Type 0) → Only i1 old → Follows (TornIn Book end 1) old new → (c : Image) → new c → P c
   gate_crash old new only follows c left =
       let from = follows c left in
       let was = only from.0 from.1 in
-      let torn : Torn end 1 (staged end i.book s.stands.0 body) c.book = subst (λ (l : List ℕ). Torn end 1 l c.book) (ap (λ (j : Image). j.book) was ∙ book1) from.2.0 in
+      let torn : Torn end 1 (staged end i.book b.held.stands.0 body) c.book = subst (λ (l : List ℕ). Torn end 1 l c.book) (ap (λ (j : Image). j.book) was ∙ book1) from.2.0 in
       let blobs : c.blobs ≡ i.blobs = from.2.1 ∙ ap (λ (j : Image). j.blobs) was in
-      ⊎_elim (λ same. inl (same, i, s.mine, blobs)) (λ more. inr (more, blobs)) (torn_either end i.book s.stands.0 body s.size.0 s.size.1 c.book torn)
+      ⊎_elim (λ same. inl (same, i, b.held.mine, blobs)) (λ more. inr (more, blobs)) (torn_either end i.book b.held.stands.0 body b.held.size.some b.held.size.most c.book torn)
 
   at_start : LeavesOnly moment left_since d0 d0 P
-  at_start = started moment left_since may_leave d0 P s.only_now (λ c now. inl (ap contents_of (s.stands.1 c now), c, now, refl))
+  at_start = started moment left_since may_leave d0 P b.only_now (λ c now. inl (ap contents_of (b.held.stands.1 c now), c, now, refl))
 
   module _ (d1 : D) (time1 : Elapses moment left_since may_leave d0 d1) (crash1 : Follows (TornIn Book (end + 1) (length frame)) (may_leave d0) (may_leave d1)) where
     pub first : LeavesOnly moment left_since d0 d1 P
@@ -69,7 +67,7 @@ module _ {D : Type 0} {moment : D → ℕ} {left_since : D → ℕ → Image →
         fourth d4 time4 crash4 = goes_on moment left_since may_leave d0 d3 d4 P third time4 (λ c left. gate_crash (may_leave d2) (may_leave d3) durable crash3 c (crash4 c left))
 
 -- after the last call
-pub is_kept : (reads : Option Image) (may_leave : Image → Type 0) (i : Image) (end : ℕ) (ends : EndsAt end i.book) (body frame : List ℕ) → (1 ≤ length body) × (length body ≤ MAX_RECORD_BYTES)
+pub is_kept : (reads : Option Image) (may_leave : Image → Type 0) (i : Image) (end : ℕ) (ends : EndsAt end i.book) (body frame : List ℕ) → IsBody body
     → frame ≡ framed body → reads ≡ Some (written Book end (1 ∷ []) (written Book (end + 1) frame i)) → Only (written Book end (1 ∷ []) (written Book (end + 1) frame i)) may_leave
     → IsKept reads may_leave (with_body body (contents_of i.book)) i.blobs
 is_kept reads may_leave i end ends body frame size is_frame is only =
@@ -78,7 +76,7 @@ is_kept reads may_leave i end ends body frame size is_frame is only =
     record {
       now = written Book end (1 ∷ []) (written Book (end + 1) frame i);
       is_read = is;
-      book = ap contents_of book ∙ opened_reads end i.book ends body size.0 size.1;
+      book = ap contents_of book ∙ opened_reads end i.book ends body size.some size.most;
       blobs_same = refl;
       only = only;
     }

@@ -1,13 +1,13 @@
 -- A birth, call by call.
-use Rattle.std.proofs.Common.{◌≡◌, ◌≢◌, ◌⊎◌, inl, inr, ⊎_elim, ℕ, ◌+◌, ◌≤◌, ◌<◌, List, [], ◌∷◌, ◌++◌, length, take, drop, get_or, Option, Some, None, false, refl, sym, ◌∙◌, ap, subst, arith, length-append, length-drop, take-append-drop}
+use Rattle.std.proofs.Common.{◌≡◌, ◌≢◌, ◌⊎◌, inl, inr, ℕ, ◌+◌, ◌≤◌, List, [], ◌∷◌, ◌++◌, length, take, drop, get_or, Option, Some, false, refl, sym, ◌∙◌, ap, subst, arith, length-append, length-drop, take-append-drop}
 use Rattle.std.proofs.lemmas.List.{drop_more, drop_all, drop_at, take_at, append-nil}
 use Rattle.std.proofs.lemmas.Bool.{cases_eq}
 use Rattle.ov_disk.specs.Disk.{Image, overwritten, written, Torn, TornIn, Follows, Narrows, Only, OnlyBook}
 use Rattle.ov_disk.specs.Moments.{Elapses, LeavesOnly}
 use Rattle.ov_disk.specs.declared.area.Area.TheVariants.{Book}
-use Rattle.ov_disk.proofs.Runs.{started, goes_on}
+use Rattle.ov_disk.proofs.Runs.{Begun, started, goes_on}
 use Rattle.ov_journal.specs.declared.header.Header.{Header}
-use Rattle.ov_journal.specs.Birth.{IsCleared}
+use Rattle.ov_journal.specs.Birth.{IsCleared, IsHeaderFrame}
 use Rattle.ov_journal.specs.Book.{header_bytes, spelled, records_after, contents_of, born}
 use Rattle.ov_journal.specs.Log.{IsUnbornOrEmpty, IsKept}
 use Rattle.ov_journal.specs.Standing.{IsUnborn}
@@ -54,32 +54,29 @@ module _ (book : List ℕ) (r : IsCleared book) (h : Header) (frame : List ℕ) 
         | inr shut ↦ inl (subst IsUnborn (sym is) (unborn (get_or c 0 0) frame (omega (arith, long)) shut))
       ]
 
--- what holds before the first call of a header
-pub record HeaderBegun {D : Type 0} (moment : D → ℕ) (left_since : D → ℕ → Image → Type 0) (may_leave : D → Image → Type 0)
-    (d0 : D) (i : Image) (h : Header) (frame : List ℕ) : Type 0 where
-  pub only_now : (c : Image) → left_since d0 (moment d0) c → may_leave d0 c
-  pub cleared : IsCleared i.book × OnlyBook i.book (may_leave d0)
-  pub long : length frame ≡ 78
-  pub ends : frame ≡ header_bytes h ++ 0 ∷ []
+-- what a header needs before its first call, where a crash may leave what has `outcomes`
+pub record Heads (outcomes : Image → Type 0) (i : Image) (h : Header) (frame : List ℕ) : Type 0 where
+  pub cleared : IsCleared i.book × OnlyBook i.book outcomes
+  pub is_frame : IsHeaderFrame h frame
 
 module _ {D : Type 0} {moment : D → ℕ} {left_since : D → ℕ → Image → Type 0} {may_leave : D → Image → Type 0}
-    {d0 : D} {i : Image} {h : Header} {frame : List ℕ} (s : HeaderBegun moment left_since may_leave d0 i h frame) where
+    {d0 : D} {i : Image} {h : Header} {frame : List ℕ} (b : Begun moment left_since may_leave d0 (Heads (may_leave d0) i h frame)) where
   abbrev P : Image → Type 0
   P = IsUnbornOrEmpty h
 
   head_crash : (new : Image → Type 0) → Follows (TornIn Book 1 (length frame)) (may_leave d0) new → (c : Image) → new c → P c
   head_crash new follows c left =
       let from = follows c left in
-      let torn : Torn 1 (length frame) i.book c.book = subst (λ (l : List ℕ). Torn 1 (length frame) l c.book) (s.cleared.1 from.0 from.1) from.2.0 in
-      inl (torn_head i.book s.cleared.0 h frame s.long s.ends c.book (subst (λ (n : ℕ). Torn 1 n i.book c.book) s.long torn))
+      let torn : Torn 1 (length frame) i.book c.book = subst (λ (l : List ℕ). Torn 1 (length frame) l c.book) (b.held.cleared.1 from.0 from.1) from.2.0 in
+      inl (torn_head i.book b.held.cleared.0 h frame b.held.is_frame.long b.held.is_frame.bytes c.book (subst (λ (n : ℕ). Torn 1 n i.book c.book) b.held.is_frame.long torn))
 
   gate_crash : (old new : Image → Type 0) → Only (written Book 1 frame i) old → Follows (TornIn Book 0 1) old new → (c : Image) → new c → P c
   gate_crash old new only follows c left =
       let from = follows c left in
-      torn_gate i.book s.cleared.0 h frame s.long s.ends c.book (subst (λ (l : List ℕ). Torn 0 1 l c.book) (ap (λ (j : Image). j.book) (only from.0 from.1)) from.2.0)
+      torn_gate i.book b.held.cleared.0 h frame b.held.is_frame.long b.held.is_frame.bytes c.book (subst (λ (l : List ℕ). Torn 0 1 l c.book) (ap (λ (j : Image). j.book) (only from.0 from.1)) from.2.0)
 
   at_start : LeavesOnly moment left_since d0 d0 P
-  at_start = started moment left_since may_leave d0 P s.only_now (λ c now. inl (subst IsUnborn (sym (s.cleared.1 c now)) (now_unborn i.book s.cleared.0 h frame s.long s.ends)))
+  at_start = started moment left_since may_leave d0 P b.only_now (λ c now. inl (subst IsUnborn (sym (b.held.cleared.1 c now)) (now_unborn i.book b.held.cleared.0 h frame b.held.is_frame.long b.held.is_frame.bytes)))
 
   module _ (d1 : D) (time1 : Elapses moment left_since may_leave d0 d1) (crash1 : Follows (TornIn Book 1 (length frame)) (may_leave d0) (may_leave d1)) where
     pub first : LeavesOnly moment left_since d0 d1 P
@@ -97,12 +94,12 @@ module _ {D : Type 0} {moment : D → ℕ} {left_since : D → ℕ → Image →
         fourth d4 time4 crash4 = goes_on moment left_since may_leave d0 d3 d4 P third time4 (λ c left. gate_crash (may_leave d2) (may_leave d3) durable crash3 c (crash4 c left))
 
 -- after the last call
-pub is_born : (reads : Option Image) (may_leave : Image → Type 0) (i : Image) (r : IsCleared i.book) (h : Header) (frame : List ℕ) → length frame ≡ 78 → frame ≡ header_bytes h ++ 0 ∷ []
+pub is_born : (reads : Option Image) (may_leave : Image → Type 0) (i : Image) (r : IsCleared i.book) (h : Header) (frame : List ℕ) → IsHeaderFrame h frame
     → reads ≡ Some (written Book 0 (1 ∷ []) (written Book 1 frame i)) → Only (written Book 0 (1 ∷ []) (written Book 1 frame i)) may_leave → IsKept reads may_leave (born h []) i.blobs
-is_born reads may_leave i r h frame long ends is only = record {
+is_born reads may_leave i r h frame is_frame is only = record {
   now = written Book 0 (1 ∷ []) (written Book 1 frame i);
   is_read = is;
-  book = ap contents_of (is_open i.book r h frame long ends) ∙ reads_empty i.book r h frame long ends;
+  book = ap contents_of (is_open i.book r h frame is_frame.long is_frame.bytes) ∙ reads_empty i.book r h frame is_frame.long is_frame.bytes;
   blobs_same = refl;
   only = only;
 }

@@ -1,10 +1,10 @@
 -- A gate for a Book that has none, call by call.
-use Rattle.std.proofs.Common.{◌≡◌, inl, inr, ℕ, ◌≤◌, ◌<◌, List, [], ◌∷◌, length, drop, refl, sym, ap, subst, arith}
+use Rattle.std.proofs.Common.{inl, inr, ℕ, ◌≤◌, ◌<◌, List, [], ◌∷◌, length, drop, refl, sym, ap, subst, arith}
 use Rattle.std.proofs.lemmas.List.{drop_all}
-use Rattle.ov_disk.specs.Disk.{Image, overwritten, Torn, TornIn, Follows, Narrows, OnlyBook}
+use Rattle.ov_disk.specs.Disk.{Image, overwritten, TornIn, Follows, Narrows, OnlyBook}
 use Rattle.ov_disk.specs.Moments.{Elapses, LeavesOnly}
 use Rattle.ov_disk.specs.declared.area.Area.TheVariants.{Book}
-use Rattle.ov_disk.proofs.Runs.{started, goes_on}
+use Rattle.ov_disk.proofs.Runs.{Begun, started, goes_on}
 use Rattle.ov_journal.specs.declared.header.Header.{Header}
 use Rattle.ov_journal.specs.Birth.{IsCleared}
 use Rattle.ov_journal.specs.Log.{IsUnbornOrEmpty}
@@ -18,28 +18,27 @@ was_clear [] long un = absurd (omega (arith, long))
 was_clear (g ∷ rest) long (inl short) = absurd (omega (arith, long, short))
 was_clear (g ∷ rest) long (inr un) = record { gate = g; rest = rest; parts = refl; short = omega (arith, un.0); closed = un.1 }
 
--- what holds before the first call
-pub record ClearBegun {D : Type 0} (moment : D → ℕ) (left_since : D → ℕ → Image → Type 0) (may_leave : D → Image → Type 0) (d0 : D) (i : Image) : Type 0 where
-  pub only_now : (c : Image) → left_since d0 (moment d0) c → may_leave d0 c
-  pub unborn : IsUnborn i.book × OnlyBook i.book (may_leave d0)
+-- what a clearing needs before its first call, where a crash may leave what has `outcomes`
+pub record Clears (outcomes : Image → Type 0) (i : Image) : Type 0 where
+  pub unborn : IsUnborn i.book × OnlyBook i.book outcomes
 
 module _ {D : Type 0} {moment : D → ℕ} {left_since : D → ℕ → Image → Type 0} {may_leave : D → Image → Type 0}
-    {d0 : D} {i : Image} (s : ClearBegun moment left_since may_leave d0 i)
+    {d0 : D} {i : Image} (b : Begun moment left_since may_leave d0 (Clears (may_leave d0) i))
     (d1 : D) (time1 : Elapses moment left_since may_leave d0 d1) (crash1 : Narrows (may_leave d0) (may_leave d1)) where
   abbrev P : Image → Type 0
   P c = IsUnborn c.book
 
   here : (c : Image) → may_leave d0 c → P c
-  here c left = subst IsUnborn (sym (s.unborn.1 c left)) s.unborn.0
+  here c left = subst IsUnborn (sym (b.held.unborn.1 c left)) b.held.unborn.0
 
   pub looked : LeavesOnly moment left_since d0 d1 P
-  looked = goes_on moment left_since may_leave d0 d0 d1 P (started moment left_since may_leave d0 P s.only_now here) time1 (λ c left. here c (crash1 c left))
+  looked = goes_on moment left_since may_leave d0 d0 d1 P (started moment left_since may_leave d0 P b.only_now here) time1 (λ c left. here c (crash1 c left))
 
   module _ (short : length i.book ≤ 1) (d2 : D) (time2 : Elapses moment left_since may_leave d1 d2) (crash2 : Follows (TornIn Book 0 1) (may_leave d1) (may_leave d2)) where
     gone : (c : Image) → may_leave d2 c → P c
     gone c left =
         let from = crash2 c left in
-        let was = ap length (s.unborn.1 from.0 (crash1 from.0 from.1)) in
+        let was = ap length (b.held.unborn.1 from.0 (crash1 from.0 from.1)) in
         inl (omega (arith, from.2.0.no_longer, was, short))
 
     pub wrote : LeavesOnly moment left_since d0 d2 P

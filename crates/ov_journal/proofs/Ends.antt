@@ -1,11 +1,11 @@
 -- What a crash leaves in each of the two steps of an append: the record behind the closed gate at the end,
 -- and then that gate.
-use Rattle.std.proofs.Common.{◌≡◌, ◌≢◌, ◌⊎◌, inl, inr, ℕ, zero, suc, ◌+◌, ◌≤◌, ◌<◌, List, [], ◌∷◌, ◌++◌, length, get_or, take, drop, false, refl, sym, ◌∙◌, ap, subst, arith, append_assoc, length-append, take-append-drop}
+use Rattle.std.proofs.Common.{◌≡◌, ◌≢◌, ◌⊎◌, inl, inr, ℕ, zero, suc, ◌+◌, ◌≤◌, List, [], ◌∷◌, ◌++◌, length, get_or, take, drop, false, sym, ◌∙◌, ap, subst, arith, append_assoc, length-append, take-append-drop}
 use Rattle.ov_base.specs.declared.limits.TheConstants.{MAX_RECORD_BYTES}
 use Rattle.std.proofs.lemmas.List.{take_at, drop_at, drop_more, length-take-le}
 use Rattle.std.proofs.lemmas.Bool.{cases_eq}
 use Rattle.ov_disk.specs.Disk.{overwritten, Torn}
-use Rattle.ov_journal.specs.Book.{Records, Contents, records_after, contents_of, with_body}
+use Rattle.ov_journal.specs.Book.{Records, records_after, contents_of, with_body}
 use Rattle.ov_journal.specs.Frames.{framed, EndsAt}
 use Rattle.ov_journal.proofs.Reading.{prepended, end_from-size, take_front, closed_reads, IsFront, front_reads, frame_reads}
 

@@ -6,8 +6,7 @@ use Rattle.std.proofs.lemmas.Nat.{from_be_bytes-to_be_bytes_4}
 use Rattle.ov_base.specs.declared.mode.Mode.{Mode}
 use Rattle.ov_base.specs.declared.mode.Mode.TheVariants.{Full, Delta}
 use Rattle.ov_base.specs.Modes.{mode_byte}
-use Rattle.ov_journal.specs.declared.header.Header.{Header}
-use Rattle.ov_journal.specs.Book.{header_bytes, HeadersAreSpelledApart}
+use Rattle.ov_journal.specs.Book.{HeadersAreSpelledApart}
 
 same_mode : (a b : Mode) → mode_byte a ≡ mode_byte b → a ≡ b
 same_mode Full Full e = refl

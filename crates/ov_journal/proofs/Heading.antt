@@ -1,13 +1,13 @@
 -- A header as it is read, and what a gate says as it is read.
-use Rattle.std.proofs.Common.{◌≡◌, inl, inr, ℕ, zero, suc, ◌+◌, ◌-◌, ◌≤◌, ◌<◌, min, List, [], ◌∷◌, ◌++◌, length, take, drop, get_or, Bool, true, false, ◌==◌, refl, sym, ◌∙◌, ap, subst, arith, take-append-drop, length-drop, lit<}
+use Rattle.std.proofs.Common.{◌≡◌, inl, inr, ℕ, suc, ◌+◌, ◌-◌, ◌≤◌, ◌<◌, min, List, [], ◌∷◌, ◌++◌, length, take, drop, get_or, true, sym, ◌∙◌, ap, subst, arith, take-append-drop, length-drop, lit<}
 use Rattle.ov_base.specs.declared.limits.TheConstants.{MAX_RECORD_BYTES}
-use Rattle.std.proofs.lemmas.List.{take_all, drop_more, drop-take, drop-drop, get_or_past, get_or-take, get_or-drop, length-take, length-take-le}
+use Rattle.std.proofs.lemmas.List.{take_all, drop_more, drop-take, drop-drop, get_or_past, get_or-take, get_or-drop, length-take}
 use Rattle.std.proofs.lemmas.Bool.{cases_lt}
 use Rattle.std.proofs.lemmas.Nat.{be_bytes_4}
 use Rattle.std.specs.Int.{w32, to_be_bytes, from_be_bytes}
 use Rattle.ov_base.specs.Modes.{mode_byte}
 use Rattle.ov_journal.specs.declared.header.Header.{Header}
-use Rattle.ov_journal.specs.Book.{magic, spelled, length_in, is_length, body_in, Records, past_gate, records_after}
+use Rattle.ov_journal.specs.Book.{magic, spelled, length_in, body_in, Records, past_gate, records_after}
 use Rattle.ov_journal.specs.Heads.{BeginsRecord}
 use Rattle.ov_journal.proofs.Reading.{Fits, fits_is, length-body_in, records_after-drop}
 

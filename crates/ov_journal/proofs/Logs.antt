@@ -1,9 +1,11 @@
 -- A journal and the records that it stands for.
-use Rattle.std.proofs.Common.{◌≡◌, ℕ, ◌+◌, List, [], ◌∷◌, ◌++◌, length, Bool, false, Option, Some, refl, sym, ◌∙◌, ap, subst, arith}
+use Rattle.std.proofs.Common.{◌≡◌, inl, inr, ℕ, ◌+◌, ◌≤◌, List, [], ◌∷◌, ◌++◌, length, false, Option, Some, refl, sym, ◌∙◌, ap, subst, arith, length-append}
+use Rattle.std.proofs.lemmas.Bool.Decides.{leb_tells}
+use Rattle.std.proofs.lemmas.List.{get_or_push, get_or_append_left}
 use Rattle.ov_disk.specs.Disk.{Image, OnlyBook}
 use Rattle.ov_journal.specs.Book.{Records, Contents, contents_of, with_body}
 use Rattle.ov_journal.specs.Frames.{EndsAt}
-use Rattle.ov_journal.specs.Log.{Log, gates_from, end_from, IsLogOf, appended, IsKept}
+use Rattle.ov_journal.specs.Log.{Log, gates_from, end_from, latest_gate, AreInReach, IsLogOf, appended, IsKept}
 
 pub gates_push : (place : ℕ) (bodies : List (List ℕ)) (body : List ℕ) → gates_from place (bodies ++ body ∷ []) ≡ gates_from place bodies ++ end_from place bodies ∷ []
 gates_push place [] body = refl
@@ -33,3 +35,16 @@ stands_appended reads may_leave log later i k body is kept same read =
       subst (λ (l : Log). IsLogOf l (contents_of k.book).records) (sym same) (subst (IsLogOf (appended (length body) log)) (sym records) (log_appended log (contents_of i.book).records body is)),
       λ c left. ap (λ (j : Image). j.book) (kept.only c left ∙ one),
     )
+
+-- no record yet
+pub reach_none : AreInReach []
+reach_none i lt = absurd (omega (arith, lt))
+
+-- one gate more, which stands where it can
+pub reach_push : (offsets : List ℕ) (end : ℕ) → AreInReach offsets → end ≤ latest_gate (length offsets) → AreInReach (offsets ++ end ∷ [])
+reach_push offsets end reach le i lt = elim (leb_tells (length offsets) i) [
+  | inl past ↦
+      let here : length offsets ≡ i = omega (arith, past.1, lt, length-append offsets (end ∷ [])) in
+      subst (λ (n : ℕ). n ≤ latest_gate i) (sym (get_or_push offsets end 0 i here)) (subst (λ (n : ℕ). end ≤ latest_gate n) here le)
+  | inr old ↦ subst (λ (n : ℕ). n ≤ latest_gate i) (sym (get_or_append_left offsets (end ∷ []) 0 i old.1)) (reach i old.1)
+]

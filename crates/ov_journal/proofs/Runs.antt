@@ -1,17 +1,14 @@
 -- One append after another.
-use Rattle.std.proofs.Common.{◌≡◌, ◌⊎◌, inl, inr, ℕ, zero, suc, ◌+◌, ◌≤◌, ◌<◌, List, [], ◌∷◌, ◌++◌, length, take, get_or, Option, Some, Result, Ok, Err, refl, sym, ◌∙◌, ap, subst, arith, append_assoc}
+use Rattle.std.proofs.Common.{◌≡◌, inl, inr, ℕ, zero, suc, ◌+◌, ◌<◌, List, [], ◌∷◌, ◌++◌, length, take, get_or, Result, Ok, Err, sym, ◌∙◌, ap, arith, append_assoc}
 use Rattle.std.proofs.lemmas.List.{take_more, append-nil}
 use Rattle.ov_disk.specs.Disk.{Image, OnlyBook}
 use Rattle.ov_disk.specs.Moments.{LeavesOnly}
 use Rattle.ov_disk.proofs.Runs.{started, then_on}
-use Rattle.ov_journal.specs.Book.{Records, Contents, contents_of, with_body, with_bodies}
+use Rattle.ov_journal.specs.Book.{Contents, contents_of, with_body, with_bodies}
 use Rattle.ov_journal.specs.Finding.{UnlessDisk}
 use Rattle.ov_journal.specs.declared.fault.CheckFault.{CheckFault}
 use Rattle.ov_journal.specs.declared.fault.CheckFault.TheVariants.{Disk, Memory}
-use Rattle.ov_journal.specs.Log.{Log, IsLogOf, HasSameRecords, IsBeforeOrAfter, HasFront}
-
-pub same_log : (old new : Log) (r : Records) → HasSameRecords old new → IsLogOf old r → IsLogOf new r
-same_log old new r same is = record { offsets = same.offsets ∙ is.offsets; end = same.end ∙ is.end; bad = same.bad ∙ is.bad }
+use Rattle.ov_journal.specs.Log.{IsBeforeOrAfter, HasFront}
 
 pub unless_disk : {T : Type 0} (r : Result T CheckFault) (P : Type 0) → P → UnlessDisk r P
 unless_disk (Ok x) P p = p

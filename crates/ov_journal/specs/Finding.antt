@@ -17,8 +17,8 @@ abbrev pub place_if : Bool → ℕ → Option ℕ
 place_if false end = None
 place_if true end = Some (end + 1)
 
--- A store that was found with a bad place has a journal that is bad there; one that was found without
--- is whole.
+-- A store that was found with a bad place has a journal that is bad there; one that was found
+-- without is whole.
 abbrev pub IsWholeUnlessBad : Found → Type 0
 IsWholeUnlessBad Unborn = ⊤
 IsWholeUnlessBad (Born log header bad) =

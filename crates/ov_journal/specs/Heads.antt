@@ -1,11 +1,11 @@
--- What the code finds of a Book before it has read all of it.
+-- Inner: no public contract needs this. What the code finds of a Book before it has read all of it.
 use Rattle.std.specs.Prelude.{◌≡◌, ℕ, ◌+◌, ◌≤◌, ◌<◌, List, [], ◌∷◌, ◌++◌, length, take, drop, true, false, ⊤}
 use Rattle.ov_base.specs.declared.limits.TheConstants.{MAX_RECORD_BYTES}
 use Rattle.ov_journal.specs.declared.open.Head.{Head}
 use Rattle.ov_journal.specs.declared.open.Head.TheVariants.{Unborn, Foreign, NoMode, Store}
 use Rattle.ov_journal.specs.declared.scan.Next.{Next}
 use Rattle.ov_journal.specs.declared.scan.Next.TheVariants.{Closed, Bad, Record}
-use Rattle.ov_journal.specs.Book.{Records, records_after, contents_of, spelled}
+use Rattle.ov_journal.specs.Book.{records_after, contents_of, spelled}
 use Rattle.ov_journal.specs.Log.{gates_from, end_from}
 use Rattle.ov_journal.specs.Standing.{IsUnborn, HasMagic, IsForeign, HasNoMode}
 
@@ -29,7 +29,8 @@ pub record BeginsRecord (count : ℕ) (bytes : List ℕ) : Type 0 where
   pub long : length body ≡ count
   pub most : count ≤ MAX_RECORD_BYTES
   pub inside : 5 + count < length bytes
-  pub bodies : (records_after 0 bytes).bodies ≡ body ∷ (records_after 0 (drop (5 + count) bytes)).bodies
+  pub bodies : (records_after 0 bytes).bodies
+      ≡ body ∷ (records_after 0 (drop (5 + count) bytes)).bodies
   pub bad : (records_after 0 bytes).bad ≡ (records_after 0 (drop (5 + count) bytes)).bad
 
 -- what the bytes from a gate on say
@@ -49,5 +50,6 @@ pub record ReadTo (end : ℕ) (offsets : List ℕ) (book : List ℕ) : Type 0 wh
   pub so_far : List (List ℕ)
   pub offsets_are : offsets ≡ gates_from 78 so_far
   pub end_is : end ≡ end_from 78 so_far
-  pub bodies : (contents_of book).records.bodies ≡ so_far ++ (records_after 0 (drop end book)).bodies
+  pub bodies : (contents_of book).records.bodies
+      ≡ so_far ++ (records_after 0 (drop end book)).bodies
   pub bad : (contents_of book).records.bad ≡ (records_after 0 (drop end book)).bad

@@ -1,12 +1,15 @@
 -- A journal as a value, and what it stands for.
-use Rattle.std.specs.Prelude.{◌≡◌, ◌⊎◌, ℕ, ◌+◌, ◌-◌, ◌≤◌, ◌<◌, List, [], ◌∷◌, ◌++◌, length, take, drop, slice_index, slice_index_or, Bool, Option, Some}
+use Rattle.std.specs.Prelude.{◌≡◌, ◌⊎◌, ℕ, ◌+◌, ◌-◌, ◌≤◌, ◌<◌, List, [], ◌∷◌, ◌++◌, length, take, drop, slice_index, ◌*◌, Bool, Option, Some}
+use Rattle.ov_base.specs.declared.limits.TheConstants.{MAX_RECORD_BYTES}
 use Rattle.ov_disk.specs.Disk.{Image, Only, OnlyBook, Told}
 use Rattle.ov_journal.specs.Book.{Records, Contents, length_in, contents_of, with_body, with_bodies, born}
 use Rattle.ov_journal.specs.Standing.{IsUnborn}
 use Rattle.ov_journal.specs.declared.header.Header.{Header}
+use Rattle.ov_journal.specs.declared.header.TheConstants.{HEADER}
+use Rattle.ov_journal.specs.declared.record.TheConstants.{RECORD_HEAD}
 
--- The places of the records' gates, the place of the gate behind the last, whether that one is open with
--- a length that can't be, for how many more records room was made, and for how long a body.
+-- The places of the records' gates, the place of the gate behind the last, whether that one is open
+-- with a length that can't be, for how many more records room was made, and for how long a body.
 pub record Log : Type 0 where
   pub offsets : List ℕ
   pub end : ℕ
@@ -24,15 +27,26 @@ abbrev pub end_from : ℕ → List (List ℕ) → ℕ
 end_from place [] = place
 end_from place (body ∷ bodies) = end_from (place + 5 + length body) bodies
 
+-- Where a gate stands at the latest, if so many records stand before it: behind the header, and
+-- behind as many records with the longest bodies.
+abbrev pub latest_gate : ℕ → ℕ
+latest_gate before = HEADER + (RECORD_HEAD + MAX_RECORD_BYTES) * before
+
+-- no gate of a record stands later than it can
+abbrev pub AreInReach : List ℕ → Type 0
+AreInReach offsets = (i : ℕ) → i < length offsets → slice_index offsets i ≤ latest_gate i
+
 -- the journal of these records
 pub record IsLogOf (log : Log) (records : Records) : Type 0 where
   pub offsets : log.offsets ≡ gates_from 78 records.bodies
   pub end : log.end ≡ end_from 78 records.bodies
   pub bad : log.bad ≡ records.bad
 
--- Where the disk tells its bytes, Book has just this journal's records, and nothing is pending there.
+-- Where the disk tells its bytes, Book has just this journal's records, and nothing is pending
+-- there.
 abbrev pub Stands : Log → Option Image → (Image → Type 0) → Type 0
-Stands log reads may_leave = Told reads (λ i. IsLogOf log (contents_of i.book).records × OnlyBook i.book may_leave)
+Stands log reads may_leave =
+    Told reads (λ i. IsLogOf log (contents_of i.book).records × OnlyBook i.book may_leave)
 
 -- the records are the same; the room may be other
 pub record HasSameRecords (old new : Log) : Type 0 where
@@ -42,17 +56,24 @@ pub record HasSameRecords (old new : Log) : Type 0 where
 
 -- one record more, with a body of so many bytes, which uses room that was made
 abbrev pub appended : ℕ → Log → Log
-appended count log = record { offsets = log.offsets ++ log.end ∷ []; end = log.end + 5 + count; bad = log.bad; room = log.room - 1; longest = log.longest }
+appended count log = record {
+  offsets = log.offsets ++ log.end ∷ [];
+  end = log.end + 5 + count;
+  bad = log.bad;
+  room = log.room - 1;
+  longest = log.longest;
+}
 
--- Book as it was, beside Blobs that the start might have left; or with the body, beside the Blobs that
--- were read at the start
+-- Book as it was, beside Blobs that the start might have left; or with the body, beside the Blobs
+-- that were read at the start
 abbrev pub IsBeforeOrAfter : (Image → Type 0) → Image → List ℕ → Image → Type 0
 IsBeforeOrAfter may_leave i body c =
     ((contents_of c.book ≡ contents_of i.book) × (d : Image) × may_leave d × (c.blobs ≡ d.blobs))
     ⊎ ((contents_of c.book ≡ with_body body (contents_of i.book)) × (c.blobs ≡ i.blobs))
 
 -- the disk has these contents of Book, and these Blobs, and nothing is pending
-pub record IsKept (reads : Option Image) (may_leave : Image → Type 0) (contents : Contents) (blobs : List ℕ) : Type 0 where
+pub record IsKept (reads : Option Image) (may_leave : Image → Type 0) (contents : Contents)
+    (blobs : List ℕ) : Type 0 where
   pub now : Image
   pub is_read : reads ≡ Some now
   pub book : contents_of now.book ≡ contents
@@ -65,8 +86,11 @@ HasContents reads contents = (k : Image) × (reads ≡ Some k) × (contents_of k
 
 -- Book with some front of these bodies more
 abbrev pub HasFront : Image → List (List ℕ) → Image → Type 0
-HasFront i bodies c = (n : ℕ) × (n ≤ length bodies) × (contents_of c.book ≡ with_bodies (take n bodies) (contents_of i.book))
+HasFront i bodies c =
+    (n : ℕ) × (n ≤ length bodies)
+    × (contents_of c.book ≡ with_bodies (take n bodies) (contents_of i.book))
 
+-- no store was begun in Book, or just the one with this header, which has no records
 abbrev pub IsUnbornOrEmpty : Header → Image → Type 0
 IsUnbornOrEmpty header c = IsUnborn c.book ⊎ (contents_of c.book ≡ born header [])
 
@@ -81,4 +105,5 @@ pub record IsRecord (gate : ℕ) (body book : List ℕ) : Type 0 where
 abbrev pub HasRecord : Log → ℕ → List ℕ → List ℕ → Type 0
 HasRecord log i body book =
     IsRecord (slice_index log.offsets i) body book
-    × (slice_index (log.offsets ++ log.end ∷ []) (i + 1) ≡ slice_index log.offsets i + 5 + length body)
+    × (slice_index (log.offsets ++ log.end ∷ []) (i + 1)
+    ≡ slice_index log.offsets i + 5 + length body)

@@ -21,7 +21,8 @@ IsForeign book = (IsUnborn book → ⊥) × (HasMagic book → ⊥)
 abbrev pub HasNoMode : List ℕ → Type 0
 HasNoMode book = HasMagic book × (1 < slice_index book 9)
 
--- A Book is only one of these. That it is foreign says itself that it is neither unborn nor a store.
+-- A Book is only one of these. That it is foreign says itself that it is neither unborn nor a
+-- store.
 abbrev pub IsOneThing : Type 0
 IsOneThing =
     (book : List ℕ) → (IsUnborn book → HasMagic book → ⊥)

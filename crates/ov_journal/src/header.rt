@@ -1,7 +1,8 @@
 //! The header of a Book.
-ghost use Rattle.std.specs.Prelude.{◌≡◌, ◌≤◌, ◌↔◌, ◌++◌, ◌∷◌, [], length, take, drop, slice_index, IsTrue, IfOk};
+ghost use Rattle.std.specs.Prelude.{◌≡◌, ◌≤◌, ◌↔◌, length, take, drop, slice_index, IsTrue, IfOk};
 ghost use Rattle.ov_base.specs.Modes.{mode_byte};
-ghost use Rattle.ov_journal.specs.Book.{header_bytes, magic, spelled};
+ghost use Rattle.ov_journal.specs.Birth.{IsHeaderFrame};
+ghost use Rattle.ov_journal.specs.Book.{magic, spelled};
 
 use ov_base::{Memory, Mode};
 use std::alloc::Global;
@@ -27,8 +28,7 @@ const MAGIC: [u8; 8] = *b"OVERENC0";
 
 // The header behind its gate, and the closed gate of a record that isn't there.
 pub(crate) fn frame_of(alloc: Global, header: &Header) -> Result<Vec<u8>, Memory>
-    ensures bytes { IfOk result (λ frame. frame.items ≡ header_bytes header.now ++ 0 ∷ []) }
-    ensures long { IfOk result (λ frame. length frame.items ≡ 78) }
+    ensures { IfOk result (λ frame. IsHeaderFrame header.now frame.items) }
 {
     let mut frame = Vec::new(alloc);
     frame.extend_from_slice(&MAGIC)?;

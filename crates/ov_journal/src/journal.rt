@@ -1,21 +1,25 @@
 //! A journal: where its records are, and room for the next one.
-ghost use Rattle.std.specs.Prelude.{◌≡◌, ℕ, ◌≤◌, ◌<◌, ◌+◌, ◌-◌, ◌*◌, ◌^◌, ◌++◌, ◌∷◌, [], Some, IsTrue, IfOk, OnOk, OnErr, MatchResult, length, slice_index, false, vec_len, vec_capacity};
-ghost use Rattle.ov_base.specs.declared.limits.TheConstants.{MAX_RECORD_BYTES};
-ghost use Rattle.ov_base.specs.Causes.{HasCause};
+ghost use Rattle.std.specs.Prelude.{◌≡◌, ℕ, ◌≤◌, ◌<◌, ◌+◌, ◌-◌, ◌^◌, ◌++◌, ◌∷◌, [], IsErr, OnOk, OnErr, MatchResult, length, slice_index, false, vec_len, vec_capacity};
+ghost use Rattle.ov_disk.specs.Calls.{IsDiskCall};
 ghost use Rattle.ov_disk.specs.Disk.{Image, Told};
 ghost use Rattle.ov_disk.specs.Moments.{LeavesOnly};
 ghost use Rattle.ov_journal.specs.Book.{Records, contents_of, with_body};
 ghost use Rattle.ov_journal.specs.Finding.{place_if};
-ghost use Rattle.ov_journal.specs.Log.{HasSameRecords, IsLogOf, appended, IsBeforeOrAfter, IsKept, Stands};
+ghost use Rattle.ov_journal.specs.Lasting.{IsAcknowledged};
+ghost use Rattle.ov_journal.specs.Log.{AreInReach, HasSameRecords, IsBeforeOrAfter, IsLogOf, Stands};
+ghost use Rattle.ov_journal.specs.Log.{appended, latest_gate};
+ghost use Rattle.ov_journal.specs.Taking.{MayTake};
+ghost use Rattle.ov_journal.specs.declared.record.TheConstants.{RECORD_HEAD};
 
 use crate::header::HEADER;
-use crate::record::put_record;
+use crate::record::{RECORD_HEAD, put_record};
 use ov_base::Memory;
 use ov_disk::{Disk, DiskFault};
 use std::alloc::Global;
 use std::marker::Model;
 
-/// The records of a Book, by the places of their gates. It stands for a Book and its disk by `Stands`.
+/// The records of a Book, by the places of their gates. It stands for a Book and its disk by
+/// `Stands`.
 #[derive(Drop)]
 pub struct Journal {
     offsets: Vec<u64>,
@@ -27,9 +31,8 @@ pub struct Journal {
 }
 
 impl Model for Journal {
-    ghost use Rattle.std.specs.Prelude.{◌≤◌, ◌<◌, ◌+◌, ◌*◌, ◌-◌, ◌^◌, length, vec_len, vec_capacity};
-    ghost use Rattle.ov_base.specs.declared.limits.TheConstants.{MAX_RECORD_BYTES};
-    ghost use Rattle.ov_journal.specs.Log.{Log};
+    ghost use Rattle.std.specs.Prelude.{◌≤◌, ◌<◌, ◌+◌, ◌-◌, ◌^◌, length, vec_len, vec_capacity};
+    ghost use Rattle.ov_journal.specs.Log.{AreInReach, Log, latest_gate};
 
     ghost Value = { Log };
 
@@ -44,7 +47,8 @@ impl Model for Journal {
     ghost invariant = { λ j. (vec_len j.offsets + j.room ≤ vec_capacity j.offsets)
         × (j.longest ≤ vec_capacity j.frame - 5)
         × (j.end < 2 ^ 64 - 1)
-        × (j.end ≤ 78 + (MAX_RECORD_BYTES + 5) * length j.offsets.items) };
+        × (j.end ≤ latest_gate (length j.offsets.items))
+        × AreInReach j.offsets.items };
 }
 
 // Pushes where there is room.
@@ -74,8 +78,10 @@ impl Journal {
 
     /// The records that were found in a Book.
     pub(crate) fn found(alloc: Global, offsets: Vec<u64>, end: u64, bad: bool) -> Journal
-        requires end { (end < 2 ^ 64 - 1) × (end ≤ 78 + (MAX_RECORD_BYTES + 5) * length offsets.items) }
-        ensures { result ≡ record { offsets = offsets.items; end = end; bad = bad; room = 0; longest = 0 } }
+        requires end { (end < 2 ^ 64 - 1) × (end ≤ latest_gate (length offsets.items)) }
+        requires offsets { AreInReach offsets.items }
+        ensures { result
+            ≡ record { offsets = offsets.items; end = end; bad = bad; room = 0; longest = 0 } }
     {
         Journal {
             offsets,
@@ -101,10 +107,11 @@ impl Journal {
         self.offsets.len() as u64
     }
 
-    /// The place of the gate of record `i` in Book.
+    /// The place of the gate of record `i` in Book, which has a bound whatever a disk tells.
     pub fn offset(&self, i: u64) -> u64
         requires { i < length self.now.offsets }
-        ensures { result ≡ slice_index self.now.offsets i }
+        ensures place { result ≡ slice_index self.now.offsets i }
+        ensures latest { result ≤ latest_gate i }
     {
         self.offsets[i as usize]
     }
@@ -113,10 +120,11 @@ impl Journal {
     pub(crate) fn body_range(&self, i: u64) -> (u64, usize)
         requires { i < length self.now.offsets }
         ensures { (count : ℕ) → slice_index (self.now.offsets ++ self.now.end ∷ []) (i + 1)
-            ≡ slice_index self.now.offsets i + 5 + count → result ≡ (slice_index self.now.offsets i + 5, count) }
+            ≡ slice_index self.now.offsets i + RECORD_HEAD + count
+            → result ≡ (slice_index self.now.offsets i + RECORD_HEAD, count) }
     {
         let i = i as usize;
-        let start = self.offsets[i].saturating_add(5);
+        let start = self.offsets[i].saturating_add(RECORD_HEAD);
         let next = if i + 1 < self.offsets.len() {
             self.offsets[i + 1]
         } else {
@@ -130,8 +138,10 @@ impl Journal {
     pub fn reserve(&mut self, length: u32) -> Result<(), Memory>
         ensures room { OnOk result (self.new.room ≡ self.old.room + 1) }
         ensures longest { OnOk result (length ≤ self.new.longest) }
-        ensures never_less { (self.old.room ≤ self.new.room) × (self.old.longest ≤ self.new.longest) }
+        ensures never_less { (self.old.room ≤ self.new.room)
+            × (self.old.longest ≤ self.new.longest) }
         ensures same { HasSameRecords self.old self.new }
+        // So what it stood for, as `Stands` says of whatever is read and may be left, it stands for.
         ensures stands { (records : Records) → IsLogOf self.old records → IsLogOf self.new records }
         ensures err { OnErr result (self.new ≡ self.old) }
     {
@@ -146,35 +156,34 @@ impl Journal {
         Ok(())
     }
 
-    /// Adds a record with this body, behind the last. It makes four calls of the disk: the record behind
-    /// its closed gate, a sync, the open gate, a sync. It takes no memory.
+    /// Adds a record with this body, behind the last. It makes four calls of the disk: the record
+    /// behind its closed gate, a sync, the open gate, a sync. It takes no memory.
     ///
     /// After a fault the journal is as it was, but Book may have the body or not: open it again.
+    /// Where the disk tells its bytes, nothing says then that the journal stands, so no other append
+    /// may follow. Where it tells nothing, the caller has to remember the fault.
     pub fn append<D: Disk>(&mut self, disk: &mut D, body: &[u8]) -> Result<(), DiskFault>
-        requires whole { self.old.bad ≡ false }
-        requires count { length self.old.offsets < 2 ^ 40 }
-        requires room { 0 < self.old.room }
-        requires body { (1 ≤ length body.now) × (length body.now ≤ MAX_RECORD_BYTES) × (length body.now ≤ self.old.longest) }
+        requires body { MayTake body.now self.old }
         requires stands { Stands self.old (D.reads disk.old) (D.may_leave disk.old) }
 
-        // A crash at any moment of the call leaves the bodies from before it, with this one or without.
+        // A crash at any moment leaves the bodies from before the call, with this one or without.
         ensures any_moment { Told (D.reads disk.old) (λ i.
-            LeavesOnly D.moment D.left_since disk.old disk.new (IsBeforeOrAfter (D.may_leave disk.old) i body.now)) }
+            LeavesOnly D.moment D.left_since disk.old disk.new
+            (IsBeforeOrAfter (D.may_leave disk.old) i body.now)) }
 
-        // At `Ok` each image that a crash may leave has the body.
-        ensures acknowledged { OnOk result (Told (D.reads disk.old) (λ i.
-            IsKept (D.reads disk.new) (D.may_leave disk.new) (with_body body.now (contents_of i.book)) i.blobs)) }
-        ensures stands { OnOk result (Stands self.new (D.reads disk.new) (D.may_leave disk.new)) }
-        // A disk that tells its bytes now told them before.
-        ensures told_before { OnOk result (Told (D.reads disk.new) (λ _. (i : Image) × (D.reads disk.old ≡ Some i))) }
+        // At `Ok` each image that a crash may leave has the body, and the journal stands for it.
+        ensures acknowledged { OnOk result
+            (IsAcknowledged self.new (D.reads disk.old) (D.reads disk.new) (D.may_leave disk.new)
+            (λ i. with_body body.now (contents_of i.book))) }
 
-        ensures log { MatchResult result (λ _. self.new ≡ appended (length body.now) self.old) (λ _. self.new ≡ self.old) }
-        ensures same { D.borrow disk.new ≡ D.borrow disk.old }
-        ensures cause { HasCause (D.faults disk.old) (D.faults disk.new) result }
+        ensures log { MatchResult result
+            (λ _. self.new ≡ appended (length body.now) self.old)
+            (λ _. self.new ≡ self.old) }
+        ensures call { IsDiskCall D.borrow D.faults (IsErr result) disk.old disk.new }
     {
         put_record(disk, self.end, &mut self.frame, body)?;
         push_reserved(&mut self.offsets, self.end);
-        self.end += 5 + body.len() as u64;
+        self.end += RECORD_HEAD + body.len() as u64;
         self.room -= 1;
         Ok(())
     }

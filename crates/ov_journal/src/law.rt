@@ -2,9 +2,9 @@
 ghost use Rattle.ov_journal.specs.Book.{HeadersAreSpelledApart};
 ghost use Rattle.ov_journal.specs.Standing.{IsOneThing};
 
-/// No Book is unborn and a store, and none is a store with a header and a store without a mode. So what
-/// [`begin`](crate::Journal::begin) answers of a Book, where the disk and memory let it, is the one
-/// answer that fits.
+/// No Book is unborn and a store, and none is a store with a header and a store without a mode. So
+/// what [`begin`](crate::Journal::begin) answers of a Book, where the disk and memory let it, is
+/// the one answer that fits.
 pub fn a_book_is_one_thing()
     ensures { IsOneThing }
 {}

@@ -1,6 +1,6 @@
 //! Opening a journal that an earlier run may have left.
-ghost use Rattle.std.specs.Prelude.{◌≡◌, ◌≤◌, ◌<◌, ℕ, List, IfOk, IsErrOf, length, take, min};
-ghost use Rattle.ov_base.specs.Causes.{HasCause, Rose};
+ghost use Rattle.std.specs.Prelude.{◌≡◌, ◌≤◌, ◌<◌, ℕ, List, IfOk, IsErr, IsErrOf, length, take, min};
+ghost use Rattle.ov_disk.specs.Calls.{IsDiskCall};
 ghost use Rattle.ov_disk.specs.Disk.{Told, Only};
 ghost use Rattle.ov_disk.specs.Moments.{LeavesOnly, IsUntouched};
 ghost use Rattle.ov_journal.specs.Finding.{Finds, IsWholeUnlessBad, UnlessFaulty};
@@ -30,7 +30,8 @@ pub enum Head {
 // The first bytes are the first 78, or all of a shorter Book.
 fn head_of(size: u64, front: &[u8]) -> Head
     requires { length front.now ≡ min 78 size }
-    ensures head { (book : List ℕ) → size ≡ length book → front.now ≡ take 78 book → Heads book result }
+    ensures head { (book : List ℕ) → size ≡ length book → front.now ≡ take 78 book
+        → Heads book result }
     ensures room { HasRoom size result }
 {
     if size <= 1 {
@@ -55,8 +56,7 @@ fn read_head<D: Disk>(disk: &mut D, size: u64) -> Result<Head, DiskFault>
     ensures head { IfOk result (λ head. Told (D.reads disk.old) (λ i. Heads i.book head)) }
     ensures room { IfOk result (HasRoom size) }
     ensures untouched { IsUntouched D.moment D.left_since D.may_leave D.reads disk.old disk.new }
-    ensures same { D.borrow disk.new ≡ D.borrow disk.old }
-    ensures cause { HasCause (D.faults disk.old) (D.faults disk.new) result }
+    ensures call { IsDiskCall D.borrow D.faults (IsErr result) disk.old disk.new }
 {
     let mut buf = [0u8; 78];
     let count = size.min(HEADER) as usize;
@@ -70,9 +70,7 @@ fn find<D: Disk>(alloc: Global, disk: &mut D) -> Result<Found, JournalFault>
     ensures finds { Told (D.reads disk.old) (λ i. Finds i.book result) }
     ensures whole { IfOk result IsWholeUnlessBad }
     ensures untouched { IsUntouched D.moment D.left_since D.may_leave D.reads disk.old disk.new }
-    ensures same { D.borrow disk.new ≡ D.borrow disk.old }
-    ensures later { D.faults disk.old ≤ D.faults disk.new }
-    ensures failed { IsErrOf result DiskFailed → Rose (D.faults disk.old) (D.faults disk.new) }
+    ensures call { IsDiskCall D.borrow D.faults (IsErrOf result DiskFailed) disk.old disk.new }
 {
     let size = disk.len(Area::Book)?;
     match read_head(disk, size)? {
@@ -92,21 +90,21 @@ fn find<D: Disk>(alloc: Global, disk: &mut D) -> Result<Found, JournalFault>
 }
 
 impl Journal {
-    /// Opens what an earlier run may have left, after a crash or not. It begins with a sync, so that
-    /// what it finds lasts.
+    /// Opens what an earlier run may have left, after a crash or not. It begins with a sync, so
+    /// that what it finds lasts.
     ///
-    /// Where Born's `bad` is a place, the layer above reports it once it has looked at the header and at
-    /// the records before it; such a journal takes no more records.
+    /// Where Born's `bad` is a place, the layer above reports it once it has looked at the header
+    /// and at the records before it; such a journal takes no more records.
     pub fn begin<D: Disk>(alloc: Global, disk: &mut D) -> Result<Found, JournalFault>
         ensures finds { Told (D.reads disk.old) (λ i. Finds i.book result) }
         // Of a disk that tells nothing too.
         ensures whole { IfOk result IsWholeUnlessBad }
         ensures reads { UnlessFaulty result (D.reads disk.new ≡ D.reads disk.old) }
-        ensures settled { UnlessFaulty result (Told (D.reads disk.old) (λ i. Only i (D.may_leave disk.new))) }
-        ensures any_moment { LeavesOnly D.moment D.left_since disk.old disk.new (D.may_leave disk.old) }
-        ensures same { D.borrow disk.new ≡ D.borrow disk.old }
-        ensures later { D.faults disk.old ≤ D.faults disk.new }
-        ensures failed { IsErrOf result DiskFailed → Rose (D.faults disk.old) (D.faults disk.new) }
+        ensures settled { UnlessFaulty result
+            (Told (D.reads disk.old) (λ i. Only i (D.may_leave disk.new))) }
+        ensures any_moment { LeavesOnly D.moment D.left_since disk.old disk.new
+            (D.may_leave disk.old) }
+        ensures call { IsDiskCall D.borrow D.faults (IsErrOf result DiskFailed) disk.old disk.new }
     {
         disk.sync()?;
         find(alloc, disk)

@@ -1,9 +1,10 @@
 //! Reading a record's body.
-ghost use Rattle.std.specs.Prelude.{◌≡◌, ◌≤◌, ◌<◌, ◌++◌, List, ℕ, OnOk, OnErr, IsErrOf, length};
-ghost use Rattle.ov_base.specs.Causes.{Rose};
+ghost use Rattle.std.specs.Prelude.{◌≡◌, ◌<◌, ◌++◌, [], List, ℕ, OnOk, OnErr, IsErrOf, length, slice_index_or};
+ghost use Rattle.ov_disk.specs.Calls.{IsDiskCall};
 ghost use Rattle.ov_disk.specs.Disk.{Told};
 ghost use Rattle.ov_disk.specs.Moments.{IsUntouched};
-ghost use Rattle.ov_journal.specs.Log.{HasRecord};
+ghost use Rattle.ov_journal.specs.Book.{contents_of};
+ghost use Rattle.ov_journal.specs.Log.{HasRecord, IsLogOf};
 ghost use Rattle.ov_journal.specs.declared.fault.CheckFault.TheVariants.{Disk as DiskFailed};
 
 use crate::{CheckFault, Journal};
@@ -13,14 +14,37 @@ impl Journal {
     /// Appends the body of record `i` to `out`.
     pub fn body<D: Disk>(&self, disk: &mut D, i: u64, out: &mut Vec<u8>) -> Result<(), CheckFault>
         requires within { i < length self.now.offsets }
-        requires there { Told (D.reads disk.old) (λ d. (body : List ℕ) × HasRecord self.now i body d.book) }
+        requires records { Told (D.reads disk.old) (λ d.
+            IsLogOf self.now (contents_of d.book).records) }
         ensures bytes { OnOk result (Told (D.reads disk.old) (λ d.
-            (body : List ℕ) → HasRecord self.now i body d.book → out.new.items ≡ out.old.items ++ body)) }
+            out.new.items ≡ out.old.items
+            ++ slice_index_or (contents_of d.book).records.bodies i [])) }
         ensures err { OnErr result (out.new.items ≡ out.old.items) }
-        ensures untouched { IsUntouched D.moment D.left_since D.may_leave D.reads disk.old disk.new }
-        ensures same { D.borrow disk.new ≡ D.borrow disk.old }
-        ensures later { D.faults disk.old ≤ D.faults disk.new }
-        ensures failed { IsErrOf result DiskFailed → Rose (D.faults disk.old) (D.faults disk.new) }
+        ensures untouched { IsUntouched D.moment D.left_since D.may_leave D.reads
+            disk.old disk.new }
+        ensures call { IsDiskCall D.borrow D.faults (IsErrOf result DiskFailed) disk.old disk.new }
+    {
+        self.body_at_gate(disk, i, out)
+    }
+
+    /// The same of a Book that may have more records than the journal, as after an append that
+    /// ended in a fault: it is enough that record `i` stands at its gate.
+    pub fn body_at_gate<D: Disk>(
+        &self,
+        disk: &mut D,
+        i: u64,
+        out: &mut Vec<u8>,
+    ) -> Result<(), CheckFault>
+        requires within { i < length self.now.offsets }
+        requires there { Told (D.reads disk.old) (λ d.
+            (body : List ℕ) × HasRecord self.now i body d.book) }
+        ensures bytes { OnOk result (Told (D.reads disk.old) (λ d.
+            (body : List ℕ) → HasRecord self.now i body d.book
+            → out.new.items ≡ out.old.items ++ body)) }
+        ensures err { OnErr result (out.new.items ≡ out.old.items) }
+        ensures untouched { IsUntouched D.moment D.left_since D.may_leave D.reads
+            disk.old disk.new }
+        ensures call { IsDiskCall D.borrow D.faults (IsErrOf result DiskFailed) disk.old disk.new }
     {
         let (start, count) = self.body_range(i);
         let old = out.len();

@@ -1,6 +1,7 @@
-//! Finding the records of a Book, one after the other: of each only its gate and its length are read.
-ghost use Rattle.std.specs.Prelude.{◌≡◌, ◌≤◌, ◌<◌, ◌-◌, ℕ, List, IfOk, IfErr, IsErrOf, length, take, drop, min, ◌⊎◌};
-ghost use Rattle.ov_base.specs.Causes.{HasCause, Rose};
+//! Finding the records of a Book, one after the other: of each only its gate and its length are
+//! read.
+ghost use Rattle.std.specs.Prelude.{◌≡◌, ◌≤◌, ◌<◌, ◌-◌, ℕ, List, IfOk, IfErr, IsErr, IsErrOf, length, take, drop, min, ◌⊎◌};
+ghost use Rattle.ov_disk.specs.Calls.{IsDiskCall};
 ghost use Rattle.ov_disk.specs.Disk.{Told};
 ghost use Rattle.ov_disk.specs.Moments.{IsUntouched};
 ghost use Rattle.ov_journal.specs.Book.{contents_of};
@@ -9,6 +10,7 @@ ghost use Rattle.ov_journal.specs.Log.{IsLogOf};
 ghost use Rattle.ov_journal.specs.declared.fault.JournalFault.TheVariants.{Disk as DiskFailed, Memory as NoMemory};
 
 use crate::header::{HEADER, array4};
+use crate::record::RECORD_HEAD;
 use crate::{Journal, JournalFault};
 use ov_base::limits::MAX_RECORD_BYTES;
 use ov_disk::{Area, Disk, DiskFault};
@@ -29,7 +31,8 @@ pub enum Next {
 fn next_of(left: u64, front: &[u8]) -> Next
     requires some { 0 < left }
     requires front { length front.now ≡ min 5 left }
-    ensures next { (bytes : List ℕ) → left ≡ length bytes → front.now ≡ take 5 bytes → Nexts bytes result }
+    ensures next { (bytes : List ℕ) → left ≡ length bytes → front.now ≡ take 5 bytes
+        → Nexts bytes result }
     ensures inside { LiesIn left result }
 {
     if front[0] != 1 {
@@ -50,11 +53,11 @@ fn next_of(left: u64, front: &[u8]) -> Next
 fn next_record<D: Disk>(disk: &mut D, place: u64, size: u64) -> Result<Next, DiskFault>
     requires inside { place < size }
     requires size { Told (D.reads disk.old) (λ i. size ≡ length i.book) }
-    ensures next { IfOk result (λ next. Told (D.reads disk.old) (λ i. Nexts (drop place i.book) next)) }
+    ensures next { IfOk result (λ next.
+        Told (D.reads disk.old) (λ i. Nexts (drop place i.book) next)) }
     ensures inside { IfOk result (LiesIn (size - place)) }
     ensures untouched { IsUntouched D.moment D.left_since D.may_leave D.reads disk.old disk.new }
-    ensures same { D.borrow disk.new ≡ D.borrow disk.old }
-    ensures cause { HasCause (D.faults disk.old) (D.faults disk.new) result }
+    ensures call { IsDiskCall D.borrow D.faults (IsErr result) disk.old disk.new }
 {
     let left = size - place;
     let mut buf = [0u8; 5];
@@ -68,11 +71,10 @@ fn next_record<D: Disk>(disk: &mut D, place: u64, size: u64) -> Result<Next, Dis
 pub fn scan<D: Disk>(alloc: Global, disk: &mut D, size: u64) -> Result<Journal, JournalFault>
     requires header { 78 < size }
     requires size { Told (D.reads disk.old) (λ i. size ≡ length i.book) }
-    ensures log { IfOk result (λ journal. Told (D.reads disk.old) (λ i. IsLogOf journal (contents_of i.book).records)) }
+    ensures log { IfOk result (λ journal.
+        Told (D.reads disk.old) (λ i. IsLogOf journal (contents_of i.book).records)) }
     ensures untouched { IsUntouched D.moment D.left_since D.may_leave D.reads disk.old disk.new }
-    ensures same { D.borrow disk.new ≡ D.borrow disk.old }
-    ensures later { D.faults disk.old ≤ D.faults disk.new }
-    ensures failed { IsErrOf result DiskFailed → Rose (D.faults disk.old) (D.faults disk.new) }
+    ensures call { IsDiskCall D.borrow D.faults (IsErrOf result DiskFailed) disk.old disk.new }
     ensures only { IfErr result (λ fault. (fault ≡ DiskFailed) ⊎ (fault ≡ NoMemory)) }
 {
     let mut offsets = Vec::new(alloc);
@@ -88,7 +90,7 @@ pub fn scan<D: Disk>(alloc: Global, disk: &mut D, size: u64) -> Result<Journal, 
             }
             Next::Record(count) => {
                 offsets.push(end)?;
-                end += 5 + u64::from(count);
+                end += RECORD_HEAD + u64::from(count);
             }
         }
     }

@@ -41,8 +41,8 @@ fn bodies<D: Disk>(alloc: Global, disk: &mut D, journal: &Journal) -> Result<Vec
     Ok(all)
 }
 
-// What stands on a disk: u for unborn, f for another file, m for no mode, b for a length that can't be,
-// and else the number of records.
+// What stands on a disk: u for unborn, f for another file, m for no mode, b for a length that can't
+// be, and else the number of records.
 fn standing(alloc: Global, disk: &mut MemDisk) -> u8 {
     match Journal::begin(alloc, disk) {
         Ok(Found::Unborn) => b'u',
@@ -73,7 +73,8 @@ fn put<D: Disk>(journal: &mut Journal, disk: &mut D, body: &[u8]) -> Result<(), 
 
 // A birth and two records: seven calls of an empty disk, and twice four.
 fn write<D: Disk>(alloc: Global, disk: &mut D) -> Result<(), CheckFault>
-    requires { Told (D.reads disk.old) (λ i. IsUnborn i.book × OnlyBook i.book (D.may_leave disk.old)) }
+    requires { Told (D.reads disk.old) (λ i.
+        IsUnborn i.book × OnlyBook i.book (D.may_leave disk.old)) }
 {
     let mut journal = Journal::birth(alloc, disk, &HEADER)?;
     put(&mut journal, disk, b"\x01\x05alice")?;

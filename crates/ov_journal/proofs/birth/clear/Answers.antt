@@ -1,43 +1,43 @@
-use Rattle.std.proofs.Common.{rules, ◌≡◌, ◌≤◌, ◌<◌, [], ◌∷◌, length, sym, ◌∙◌, ap, subst, arith}
+use Rattle.std.proofs.Common.{rules, ◌≤◌, ◌<◌, [], ◌∷◌, length, sym, ◌∙◌, ap, subst, arith}
 use Rattle.ov_disk.specs.Disk.{Image, written}
 use Rattle.ov_disk.specs.declared.area.Area.TheVariants.{Book}
-use Rattle.ov_disk.proofs.Runs.{mapped_some}
+use Rattle.ov_disk.proofs.Runs.{Begun, mapped_some}
 use Rattle.ov_journal.specs.Birth.{IsCleared}
-use Rattle.ov_journal.proofs.Clearing.{is_clear, was_clear, ClearBegun, looked, wrote, synced}
+use Rattle.ov_journal.proofs.Clearing.{Clears, is_clear, was_clear, looked, wrote, synced}
 use Rattle.ov_journal.proofs.birth.clear.Goals as goal
 
 pub returns-in_err-len-clause-any_moment : goal.returns-in_err-len-clause-any_moment
 returns-in_err-len-clause-any_moment g c i is =
-    let begun : ClearBegun g.D.Disk.moment g.D.Disk.left_since g.D.Disk.may_leave c.args.disk.now i =
-    record { only_now = g.met.D.Disk.only_now c.args.disk.now; unborn = c.requires.unborn i is } in
+    let begun : Begun g.D.Disk.moment g.D.Disk.left_since g.D.Disk.may_leave c.args.disk.now (Clears (g.D.Disk.may_leave c.args.disk.now) i) =
+    record { only_now = g.met.D.Disk.only_now c.args.disk.now; held = record { unborn = c.requires.unborn i is } } in
     looked begun c.len.new.self c.len.ensures.time c.len.ensures.crash
 
 pub returns-else-branch-le1-clause-any_moment : goal.returns-else-branch-le1-clause-any_moment
 returns-else-branch-le1-clause-any_moment g c i is =
-    let begun : ClearBegun g.D.Disk.moment g.D.Disk.left_since g.D.Disk.may_leave c.args.disk.now i =
-    record { only_now = g.met.D.Disk.only_now c.args.disk.now; unborn = c.requires.unborn i is } in
+    let begun : Begun g.D.Disk.moment g.D.Disk.left_since g.D.Disk.may_leave c.args.disk.now (Clears (g.D.Disk.may_leave c.args.disk.now) i) =
+    record { only_now = g.met.D.Disk.only_now c.args.disk.now; held = record { unborn = c.requires.unborn i is } } in
     looked begun c.len.new.self c.len.ensures.time c.len.ensures.crash
 
 pub returns-in_err-write_at-clause-any_moment : goal.returns-in_err-write_at-clause-any_moment
 returns-in_err-write_at-clause-any_moment g c i is =
-    let begun : ClearBegun g.D.Disk.moment g.D.Disk.left_since g.D.Disk.may_leave c.args.disk.now i =
-    record { only_now = g.met.D.Disk.only_now c.args.disk.now; unborn = c.requires.unborn i is } in
+    let begun : Begun g.D.Disk.moment g.D.Disk.left_since g.D.Disk.may_leave c.args.disk.now (Clears (g.D.Disk.may_leave c.args.disk.now) i) =
+    record { only_now = g.met.D.Disk.only_now c.args.disk.now; held = record { unborn = c.requires.unborn i is } } in
     let le : c.in_ok-len.field-0 ≤ 1 = search rules in
     let short : length i.book ≤ 1 = omega (arith, le, c.in_ok-len.ensures.len i is) in
     wrote begun c.len.new.self c.len.ensures.time c.len.ensures.crash short c.write_at.new.self c.write_at.ensures.time c.write_at.ensures.crash
 
 pub returns-in_err-sync-clause-any_moment : goal.returns-in_err-sync-clause-any_moment
 returns-in_err-sync-clause-any_moment g c i is =
-    let begun : ClearBegun g.D.Disk.moment g.D.Disk.left_since g.D.Disk.may_leave c.args.disk.now i =
-    record { only_now = g.met.D.Disk.only_now c.args.disk.now; unborn = c.requires.unborn i is } in
+    let begun : Begun g.D.Disk.moment g.D.Disk.left_since g.D.Disk.may_leave c.args.disk.now (Clears (g.D.Disk.may_leave c.args.disk.now) i) =
+    record { only_now = g.met.D.Disk.only_now c.args.disk.now; held = record { unborn = c.requires.unborn i is } } in
     let le : c.in_ok-len.field-0 ≤ 1 = search rules in
     let short : length i.book ≤ 1 = omega (arith, le, c.in_ok-len.ensures.len i is) in
     synced begun c.len.new.self c.len.ensures.time c.len.ensures.crash short c.write_at.new.self c.write_at.ensures.time c.write_at.ensures.crash c.sync.new.self c.sync.ensures.time c.sync.ensures.crash
 
 pub returns-in_ok-sync-clause-any_moment : goal.returns-in_ok-sync-clause-any_moment
 returns-in_ok-sync-clause-any_moment g c i is =
-    let begun : ClearBegun g.D.Disk.moment g.D.Disk.left_since g.D.Disk.may_leave c.args.disk.now i =
-    record { only_now = g.met.D.Disk.only_now c.args.disk.now; unborn = c.requires.unborn i is } in
+    let begun : Begun g.D.Disk.moment g.D.Disk.left_since g.D.Disk.may_leave c.args.disk.now (Clears (g.D.Disk.may_leave c.args.disk.now) i) =
+    record { only_now = g.met.D.Disk.only_now c.args.disk.now; held = record { unborn = c.requires.unborn i is } } in
     let le : c.in_ok-len.field-0 ≤ 1 = search rules in
     let short : length i.book ≤ 1 = omega (arith, le, c.in_ok-len.ensures.len i is) in
     synced begun c.len.new.self c.len.ensures.time c.len.ensures.crash short c.write_at.new.self c.write_at.ensures.time c.write_at.ensures.crash c.sync.new.self c.sync.ensures.time c.sync.ensures.crash

@@ -1,4 +1,4 @@
-use Rattle.std.proofs.Common.{◌≡◌, List, ℕ, take, drop, ◌∙◌, ap}
+use Rattle.std.proofs.Common.{List, ℕ, take, drop, ◌∙◌, ap}
 use Rattle.std.specs.Int.{w32, from_be_bytes}
 use Rattle.ov_journal.proofs.Heading.{header_whole}
 use Rattle.ov_journal.proofs.header.header_in.Goals as goal

@@ -1,4 +1,4 @@
-use Rattle.std.proofs.Common.{rules, ◌≡◌, length, min, arith, sym, ◌∙◌}
+use Rattle.std.proofs.Common.{rules, ◌≡◌, length, min, arith}
 use Rattle.ov_journal.proofs.Heading.{front_read}
 use Rattle.ov_journal.proofs.open.read_head.Goals as goal
 

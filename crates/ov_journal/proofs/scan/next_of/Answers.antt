@@ -1,4 +1,4 @@
-use Rattle.std.proofs.Common.{◌≡◌, List, ℕ, take, drop, get_or, sym, ◌∙◌, ap, arith, lit<}
+use Rattle.std.proofs.Common.{List, ℕ, drop, get_or, sym, ◌∙◌, ap, arith, lit<}
 use Rattle.std.specs.Int.{w32, from_be_bytes}
 use Rattle.std.proofs.lemmas.List.{get_or-take}
 use Rattle.ov_journal.proofs.Heading.{begins, field_in}

@@ -1,4 +1,4 @@
-use Rattle.std.proofs.Common.{rules, ◌≡◌, ◌-◌, length, drop, min, arith, sym, ◌∙◌, length-drop}
+use Rattle.std.proofs.Common.{rules, ◌≡◌, ◌-◌, length, drop, min, arith, length-drop}
 use Rattle.ov_journal.proofs.Heading.{front_read}
 use Rattle.ov_journal.proofs.scan.next_record.Goals as goal
 

@@ -1,9 +1,10 @@
-use Rattle.std.proofs.Common.{rules, ◌≡◌, ◌+◌, ◌∷◌, ◌++◌, [], List, ℕ, length, drop, true, false, refl, sym, ◌∙◌, ap, subst, arith, length-append}
+use Rattle.std.proofs.Common.{rules, ◌≡◌, ◌∷◌, ◌++◌, [], List, ℕ, length, drop, true, false, refl, sym, ◌∙◌, ap, subst, arith, length-append}
 use Rattle.ov_disk.proofs.Runs.{untouched, looks_then}
-use Rattle.ov_journal.specs.declared.scan.Next.TheVariants.{Closed, Bad, Record}
+use Rattle.ov_journal.specs.declared.scan.Next.TheVariants.{Record}
 use Rattle.ov_journal.specs.Book.{records_after}
 use Rattle.ov_journal.specs.Heads.{Nexts, LiesIn, ReadTo}
-use Rattle.ov_journal.specs.Log.{Log}
+use Rattle.ov_journal.specs.Log.{AreInReach, Log}
+use Rattle.ov_journal.proofs.Logs.{reach_none, reach_push}
 use Rattle.ov_journal.proofs.Scanning.{IsScanned, read_none, reading, finished, found, scan_on, log_found}
 use Rattle.ov_journal.proofs.scan.scan.Goals as goal
 
@@ -13,6 +14,7 @@ records-init g c = record {
   told = λ i is. (subst (λ (l : List ℕ). ReadTo 78 l i.book) (sym c.new-offsets.ensures.items) (read_none i.book), refl);
   inside = c.requires.header;
   bound = omega arith;
+  reach = subst AreInReach (sym c.new-offsets.ensures.items) reach_none;
   same = refl;
   later = omega arith;
 }
@@ -27,8 +29,9 @@ records-preserved-in-Closed g c = record {
       subst (λ (b : _). IsScanned false b c.records.end c.records.offsets.items i.book) (sym so_far.1) (found c.records.end c.records.offsets.items false i.book so_far.0 none);
   inside = c.records.invariant.inside;
   bound = c.records.invariant.bound;
-  same = c.next_record.ensures.same ∙ c.records.invariant.same;
-  later = omega (arith, c.records.invariant.later, c.next_record.ensures.cause.later);
+  reach = c.records.invariant.reach;
+  same = c.next_record.ensures.call.same ∙ c.records.invariant.same;
+  later = omega (arith, c.records.invariant.later, c.next_record.ensures.call.later);
 }
 
 pub records-preserved-in-Bad : goal.records-preserved-in-Bad
@@ -41,8 +44,9 @@ records-preserved-in-Bad g c = record {
       found c.records.end c.records.offsets.items true i.book so_far.0 none;
   inside = c.records.invariant.inside;
   bound = c.records.invariant.bound;
-  same = c.next_record.ensures.same ∙ c.records.invariant.same;
-  later = omega (arith, c.records.invariant.later, c.next_record.ensures.cause.later);
+  reach = c.records.invariant.reach;
+  same = c.next_record.ensures.call.same ∙ c.records.invariant.same;
+  later = omega (arith, c.records.invariant.later, c.next_record.ensures.call.later);
 }
 
 pub records-preserved : goal.records-preserved
@@ -57,9 +61,10 @@ records-preserved g c =
           scan_on c.records.going c.records.bad c.records.end c.in-Record.count c.from.result c.records.offsets.items c.push.new.self.items i.book c.records-test.true (c.records.invariant.told i is)
           (subst (Nexts (drop c.records.end i.book)) c.in-Record.is next) count items;
       inside = omega (arith, count, lies.1);
+      reach = subst AreInReach (sym items) (reach_push c.records.offsets.items c.records.end c.records.invariant.reach c.records.invariant.bound);
       bound = omega (arith, count, lies.0, c.records.invariant.bound, ap length items, length-append c.records.offsets.items (c.records.end ∷ []));
-      same = c.next_record.ensures.same ∙ c.records.invariant.same;
-      later = omega (arith, c.records.invariant.later, c.next_record.ensures.cause.later);
+      same = c.next_record.ensures.call.same ∙ c.records.invariant.same;
+      later = omega (arith, c.records.invariant.later, c.next_record.ensures.call.later);
     }
 
 pub returns-clause-log : goal.returns-clause-log

@@ -1,4 +1,4 @@
-use Rattle.std.proofs.Common.{◌≡◌, length}
+use Rattle.std.proofs.Common.{◌≡◌}
 use Rattle.ov_journal.proofs.tests.bodies.Given as goal
 
 abbrev pub invariant-records : goal.invariant-records
