@@ -18,8 +18,7 @@ use Rattle.ov_history.proofs.GoingOn.{histories_go_on}
 use Rattle.ov_history.proofs.Pushing.{with_updates, with_updates-all}
 use Rattle.ov_history.proofs.Showing.{history_is_shown, refusals_shown}
 use Rattle.ov_journal.specs.Book.{contents_of, Records}
-use Rattle.ov_journal.specs.Log.{Log, gates_from, IsLogOf, HasRecord}
-use Rattle.ov_journal.proofs.Records.{has_record}
+use Rattle.ov_journal.specs.Log.{Log, gates_from, IsLogOf}
 use Rattle.ov_journal.specs.declared.fault.CheckFault.{CheckFault}
 use Rattle.ov_journal.specs.declared.fault.CheckFault.TheVariants.{Disk as CheckDisk, Memory as CheckMemory}
 use Rattle.ov_state.specs.Plans.{IsTaken}
@@ -83,14 +82,13 @@ IsNext i body d =
 -- the body that a journal read is the next one
 pub next_body : (log : Log) (i : ℕ) (before out slice : List ℕ) (reads : Option Image)
     → i < length log.offsets → Told reads (λ d. IsLogOf log (contents_of d.book).records)
-    → Told reads (λ d. (body : List ℕ) → HasRecord log i body d.book → out ≡ before ++ body)
+    → Told reads (λ d. out ≡ before ++ get_or (contents_of d.book).records.bodies i [])
     → before ≡ [] → slice ≡ out → Told reads (IsNext i slice)
 next_body log i before out slice reads lt is bytes none same d at =
     let all = (contents_of d.book).records.bodies in
     let body = get_or all i [] in (
       omega (arith, lt, as_many log (contents_of d.book).records (is d at)),
-      same ∙ bytes d at body (has_record log d.book i (is d at) lt)
-          ∙ ap (λ (l : List ℕ). l ++ body) none,
+      same ∙ bytes d at ∙ ap (λ (l : List ℕ). l ++ body) none,
     )
 
 module _ (master : List ℕ) (mode : Mode) (first : ℕ) (reads : Option Image) where

@@ -37,13 +37,13 @@ returns-clause-safe g c =
     } in
     let kept = subst (λ (h : Header). Told (g.D.Disk.reads c.args.disk.now) (λ i.
     IsKept (g.D.Disk.reads c.birth.new.disk) (g.D.Disk.may_leave c.birth.new.disk) (born h [])
-    i.blobs)) same c.in_ok-journal.ensures.born in
+    i.blobs)) same c.in_ok-journal.ensures.born.written.kept in
     safe_none g.D.Disk.reads g.D.Disk.may_leave g.D.Disk.moment g.D.Disk.left_since k c.args.mode
     c.args.first low c.args.disk.now c.birth.new.disk c.in_ok-vault.vault.catalogue
     c.in_ok-vault.vault.stored c.in_ok-vault.ensures.catalogue c.in_ok-vault.ensures.stored
-    c.in_ok-journal.ensures.told_before kept c.in_ok-journal.journal
+    c.in_ok-journal.ensures.born.written.told_before kept c.in_ok-journal.journal
     (ap (λ (l : Log). l.bad) c.in_ok-journal.ensures.log)
-    (ap (λ (l : Log). length l.offsets) c.in_ok-journal.ensures.log) c.in_ok-journal.ensures.stands
+    (ap (λ (l : Log). length l.offsets) c.in_ok-journal.ensures.log) c.in_ok-journal.ensures.born.stands
 
 pub returns-in_err-journal-clause-fault : goal.returns-in_err-journal-clause-fault
 returns-in_err-journal-clause-fault g c =

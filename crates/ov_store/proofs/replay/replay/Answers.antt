@@ -2,7 +2,6 @@ use Rattle.std.proofs.Common.{rules, ◌≡◌, ◌<◌, length, sym, ◌∙◌,
 use Rattle.std.proofs.lemmas.Result.{err_from_is_err_and}
 use Rattle.ov_disk.proofs.Runs.{untouched, looks_then}
 use Rattle.ov_journal.specs.Book.{contents_of}
-use Rattle.ov_journal.proofs.Records.{has_record}
 use Rattle.ov_store.specs.Replaying.{IsReplayFault}
 use Rattle.std.specs.Prelude.{Err}
 use Rattle.ov_store.specs.declared.fault.BeginFault.{BeginFault}
@@ -21,13 +20,9 @@ records-init g c = record {
   later = search rules;
 }
 
-pub body-requires-clause-there : goal.body-requires-clause-there
-body-requires-clause-there g c i is =
-    let lt : c.records.i < length c.args.journal.now.offsets = search rules in (
-      _,
-      has_record c.args.journal.now i.book c.records.i
-          (c.requires.log i (sym c.records.invariant.untouched.reads_same ∙ is)) lt,
-    )
+pub body-requires-clause-records : goal.body-requires-clause-records
+body-requires-clause-records g c i is =
+    c.requires.log i (sym c.records.invariant.untouched.reads_same ∙ is)
 
 pub returns-in_err-body-clause-fault : goal.returns-in_err-body-clause-fault
 returns-in_err-body-clause-fault g c i is =
@@ -100,5 +95,5 @@ returns-in_err-body-clause-failed g c is =
     let disk : p.0 ≡ DiskFailed = cc (p.1, is) in
     rises c.in_err-body.field-0.0 (g.D.Disk.faults c.args.disk.now) (g.D.Disk.faults c.records.disk)
     (g.D.Disk.faults c.body.new.disk)
-    (λ same. c.body.ensures.failed (c.in_err-body.was ∙ (λ j. Err (same j))))
+    (λ same. c.body.ensures.call.rose (c.in_err-body.was ∙ (λ j. Err (same j))))
     c.records.invariant.later (sym p.2 ∙ disk)
