@@ -66,7 +66,7 @@ pub record HasPlaces {A : Type 0} (Once Cut : Type 0) (read : List ℕ → Read 
 
 -- ---- faults behind other bytes
 
-lead_stops : {Taken Taken' : List ℕ → Type 0} (lead front rest : List ℕ) → ((t : List ℕ) → Taken' (lead ++ t) → Taken t)
+pub lead_stops : {Taken Taken' : List ℕ → Type 0} (lead front rest : List ℕ) → ((t : List ℕ) → Taken' (lead ++ t) → Taken t)
     → (rest ≡ []) ⊎ Stops Taken front rest → (rest ≡ []) ⊎ Stops Taken' (lead ++ front) rest
 lead_stops lead front rest taken (inl e) = inl e
 lead_stops {Taken' = Taken'} lead front rest taken (inr s) = inr (record {

@@ -192,10 +192,10 @@ rows_fault {Cut = Cut} Once spell Form rows all none (kind ∷ bytes) left fits 
 
 -- ---- places
 
-begun_is : {Once Cut : Type 0} (begun rest : List ℕ) → Begun Once Cut begun rest → IsBegun Once begun rest
-begun_is begun rest (has_nothing is) = nothing is
-begun_is begun rest (has_name once name more is spelled) = in_name once name more is spelled
-begun_is begun rest (has_number cut ended few) = in_number ended few
+begun_is : {Once Said Cut : Type 0} → (Once → Said) → (begun rest : List ℕ) → Begun Once Cut begun rest → IsBegun Said begun rest
+begun_is said begun rest (has_nothing is) = nothing is
+begun_is said begun rest (has_name once name more is spelled) = in_name (said once) name more is spelled
+begun_is said begun rest (has_number cut ended few) = in_number ended few
 
 stops_is : {U : Type 0} (read : List ℕ → Read U) (spell : U → List ℕ) (Form : U → Type 0) → ((u : U) → Form u → all_of (read (spell u)) ≡ Ok u)
     → (front rest : List ℕ) → (rest ≡ []) ⊎ Stops (IsWhole read) front rest → (rest ≡ []) ⊎ IsWrongField spell Form front rest
@@ -210,9 +210,9 @@ stops_is read spell Form again front rest (inr s) = inr (record {
 })
 
 -- the place of a fault, where what is spelled is read
-pub wrong_place : {U Once Cut : Type 0} (read : List ℕ → Read U) (spell : U → List ℕ) (Form : U → Type 0) → ((u : U) → Form u → all_of (read (spell u)) ≡ Ok u)
-    → (bytes : List ℕ) (left : ℕ) → Fault Once Cut (IsWhole read) spell Form bytes left → IsWrongPlace spell Form Once bytes (length bytes - left)
-wrong_place read spell Form again bytes left f = record {
+pub wrong_place : {U Once Said Cut : Type 0} (read : List ℕ → Read U) (spell : U → List ℕ) (Form : U → Type 0) → ((u : U) → Form u → all_of (read (spell u)) ≡ Ok u)
+    → (Once → Said) → (bytes : List ℕ) (left : ℕ) → Fault Once Cut (IsWhole read) spell Form bytes left → IsWrongPlace spell Form Said bytes (length bytes - left)
+wrong_place read spell Form again said bytes left f = record {
   front = f.front;
   rest = f.rest;
   parts = f.parts;
@@ -220,7 +220,7 @@ wrong_place read spell Form again bytes left f = record {
   whole = f.whole;
   begun = f.begun;
   before = f.before;
-  is_begun = begun_is f.begun f.rest f.is_begun;
+  is_begun = begun_is said f.begun f.rest f.is_begun;
   goes_on = f.goes_on;
   stops = stops_is read spell Form again f.front f.rest f.stops;
 }

@@ -1,5 +1,6 @@
 -- Which bytes are the front of a spelling, and at which place bytes stop being one.
-use Rattle.std.specs.Prelude.{ℕ, ◌≡◌, ◌≤◌, ◌<◌, ◌⊎◌, List, [], ◌++◌, length, get_or}
+use Rattle.std.specs.Prelude.{ℕ, ◌≡◌, ◌+◌, ◌≤◌, ◌<◌, ◌⊎◌, List, [], ◌++◌, length, get_or}
+use Rattle.ov_base.specs.declared.limits.TheConstants.{MAX_NAME_BYTES}
 use Rattle.ov_base.specs.Names.{IsName}
 use Rattle.ov_fields.specs.Spelling.{name_field}
 
@@ -33,7 +34,7 @@ pub record IsWrongField {A : Type 0} (spell : A → List ℕ) (Form : A → Type
   pub after : List ℕ
   pub parts : rest ≡ wrong ++ after
   pub least : 1 ≤ length wrong
-  pub most : length wrong ≤ 65
+  pub most : length wrong ≤ 1 + MAX_NAME_BYTES
   pub stops : IsFront spell Form (front ++ wrong) → ⊥
 
 -- The place of the first field that no spelling goes on with, or the end of bytes that end too

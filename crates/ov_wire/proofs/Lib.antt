@@ -5,10 +5,14 @@ pub mod ChainLaws
 pub mod EntryLaws
 pub mod FieldsLaws
 pub mod FrameLaws
+pub mod FreshNames
 pub mod LongFrames
+pub mod NamePlaces
 pub mod NamesLaws
 pub mod NumberLaws
 pub mod Putting
 pub mod QuestionLaws
 pub mod RequestLaws
+pub mod RequestPlaces
 pub mod StreamLaws
+pub mod UpdatePlaces

@@ -1,8 +1,11 @@
--- What holds of all frames.
-use Rattle.std.specs.Prelude.{ℕ, ◌≡◌, List, ◌++◌}
+-- What holds of all frames, and of the places at which bytes are no request.
+use Rattle.std.specs.Prelude.{ℕ, ◌≡◌, ◌≤◌, List, ◌∷◌, ◌++◌, length, Err}
+use Rattle.ov_base.specs.declared.limits.TheConstants.{MAX_FRAME_BYTES}
+use Rattle.ov_fields.specs.Fronts.{AreAllBytes, IsWrongPlace}
 use Rattle.ov_wire.specs.declared.request.Request.{Request}
 use Rattle.ov_wire.specs.Frames.{framed, IsFrame}
-use Rattle.ov_wire.specs.Requests.{request_bytes, HasRequestForm}
+use Rattle.ov_wire.specs.Requests.{request_bytes, HasRequestForm, IsRequest}
+use Rattle.ov_wire.specs.RequestReading.{request_of}
 
 -- no frame behind its length field is the front of another's, and none is two
 abbrev pub FramesAreToldApart : Type 0
@@ -13,3 +16,16 @@ FramesAreToldApart =
 -- each request with form fits a frame
 abbrev pub RequestsFitFrames : Type 0
 RequestsFitFrames = (request : Request) → HasRequestForm request → IsFrame (request_bytes request)
+
+-- the bytes begin with this kind byte
+abbrev pub HasKind : ℕ → List ℕ → Type 0
+HasKind kind bytes = (body : List ℕ) × (bytes ≡ kind ∷ body)
+
+-- Where bytes that a frame has room for are no request, the place that is named is that of the
+-- first field that no request goes on with, however long, or the end. Just the names of a Cover
+-- mustn't come twice.
+abbrev pub BadRequestsArePlaced : Type 0
+BadRequestsArePlaced =
+    (bytes : List ℕ) (place : ℕ)
+    → AreAllBytes bytes → length bytes ≤ MAX_FRAME_BYTES → request_of bytes ≡ Err place
+    → IsWrongPlace request_bytes IsRequest (HasKind 3 bytes) bytes place

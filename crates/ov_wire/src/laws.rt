@@ -1,7 +1,7 @@
 //! What holds of all frames.
 
 ghost use Rattle.ov_wire.specs.AnswerForm.{AnswersAreReadAlike, AnswersFitFrames};
-ghost use Rattle.ov_wire.specs.Laws.{FramesAreToldApart, RequestsFitFrames};
+ghost use Rattle.ov_wire.specs.Laws.{BadRequestsArePlaced, FramesAreToldApart, RequestsFitFrames};
 
 /// The law of frames: none behind its length field is the front of another's.
 pub fn frames_are_told_apart()
@@ -11,6 +11,12 @@ pub fn frames_are_told_apart()
 /// The law of requests: each with form fits a frame.
 pub fn requests_fit_frames()
     ensures { RequestsFitFrames }
+{}
+
+/// The law of places in requests: what is named is the first field that no request goes on with, or
+/// the end.
+pub fn bad_requests_are_placed()
+    ensures { BadRequestsArePlaced }
 {}
 
 /// The law of answers: each with form fits a frame.
