@@ -1,16 +1,17 @@
 -- Wrong places of single fields: bytes, numbers and values that a byte tells.
-use Rattle.std.proofs.Common.{◌≡◌, ℕ, zero, suc, ◌+◌, ◌-◌, ◌*◌, ◌/◌, ◌%◌, ◌<◌, ◌≤◌, Bool, true, false, cond, ltb, IsTrue, List, [], ◌∷◌, ◌++◌, length, take, Option, Some, None, Ok, Err, refl, sym, ap, subst, ◌∙◌, length-append, arith}
+use Rattle.std.proofs.Common.{◌≡◌, ℕ, zero, suc, ◌+◌, ◌-◌, ◌*◌, ◌/◌, ◌%◌, ◌^◌, ◌<◌, ◌≤◌, ◌⊎◌, inl, inr, Bool, true, false, cond, ltb, IsTrue, List, [], ◌∷◌, ◌++◌, length, take, Option, Some, None, Ok, Err, refl, sym, ap, subst, ◌∙◌, length-append, arith}
 use Rattle.std.specs.Int.{Width, w16, w32, byte_len, from_be_bytes, to_be_bytes}
-use Rattle.std.proofs.lemmas.Bool.{ltb-true}
+use Rattle.std.proofs.lemmas.Bool.{ltb-true, ltb-false}
 use Rattle.std.proofs.lemmas.List.{append-nil}
 use Rattle.ov_base.specs.Sets.{IsBelow, bytes_of, set_of_bytes}
-use Rattle.ov_fields.specs.Spelling.{u8, flag, IsOneOf}
-use Rattle.ov_fields.specs.Fronts.{IsFront}
-use Rattle.ov_fields.specs.Reading.{Read, ◌>>=◌, made, spanned, byte_at, bytes_at, number_at, number_that, nothing_at, one_of_at, ok_or_left, tagged_by, set_at}
+use Rattle.ov_fields.specs.Spelling.{u8, u16, u32, IsOneOf}
+use Rattle.ov_fields.specs.Fronts.{IsFront, IsOutside}
+use Rattle.ov_fields.specs.Reading.{Read, ◌>>=◌, made, spanned, byte_at, bytes_at, number_at, number_that, at_most, below, between, nothing_at, one_of_at, ok_or_left, tagged_by, set_at}
 use Rattle.ov_fields.proofs.ReadingLaws.{AreBytes, AreBytes-front, bind_ok, bind_err, fails_first, fails_later, done, no_error, Reads, made_of}
-use Rattle.ov_fields.proofs.FieldLaws.{IsWide, test_ok, test_err, number_reads, bytes_reads}
+use Rattle.ov_fields.proofs.FieldLaws.{IsWide, wide16, wide32, test_ok, test_err, number_reads, bytes_reads}
+use Rattle.ov_fields.proofs.TestLaws.{le_of, of_le, lt_of, of_lt, between_of, of_between}
 use Rattle.ov_fields.proofs.SetFields.{set_reads}
-use Rattle.ov_fields.proofs.PlaceLaws.{AreBytes-nil, AreBytes-cons, AreBytes-both, Takes, Fault, HasPlaces, lead_fault, none_before, fault_here, fault_cut, fault_in_number}
+use Rattle.ov_fields.proofs.PlaceLaws.{AreBytes-nil, AreBytes-cons, AreBytes-both, Takes, OutsideLimits, Stops, at_u16, at_u32, Fault, HasPlaces, lead_fault, none_before, fault_here, fault_at_byte, fault_cut, fault_in_number}
 
 -- ---- bytes that fill a field
 
@@ -55,18 +56,18 @@ byte_no : (test : ℕ → Bool) (b : ℕ) → test b ≡ false → (more : List 
 unfolding byte_at
 byte_no test b is more ok = test_no (test b) (length (b ∷ more)) (b, more) ok.0 is ok.1
 
-byte_fault : {Once Cut : Type 0} (test : ℕ → Bool) → IsFront u8 (λ b. IsTrue (test b)) [] → (bytes : List ℕ) (left : ℕ) → byte_at test bytes ≡ Err left
-    → Fault Once Cut (Takes (byte_at test)) u8 (λ b. IsTrue (test b)) bytes left
+byte_fault : {Once Limited : Type 0} (test : ℕ → Bool) → IsFront u8 (λ b. IsTrue (test b)) [] → (bytes : List ℕ) (left : ℕ) → byte_at test bytes ≡ Err left
+    → Fault Once Limited (Takes (byte_at test)) u8 (λ b. IsTrue (test b)) bytes left
 unfolding byte_at
-byte_fault {Once = Once} {Cut = Cut} test none [] left e =
-    let is : 0 ≡ left = cc in subst (Fault Once Cut (Takes (byte_at test)) u8 (λ b. IsTrue (test b)) []) is (fault_cut [] none)
-byte_fault {Once = Once} {Cut = Cut} test none (b ∷ bytes) left e =
+byte_fault {Once = Once} {Limited = Limited} test none [] left e =
+    let is : 0 ≡ left = cc in subst (Fault Once Limited (Takes (byte_at test)) u8 (λ b. IsTrue (test b)) []) is (fault_cut [] none)
+byte_fault {Once = Once} {Limited = Limited} test none (b ∷ bytes) left e =
     let is : length (b ∷ bytes) ≡ left = test_err (test b) (length (b ∷ bytes)) left (b, bytes) e in
     let not : test b ≡ false = test_not (test b) (length (b ∷ bytes)) left (b, bytes) e in
-    subst (Fault Once Cut (Takes (byte_at test)) u8 (λ b. IsTrue (test b)) (b ∷ bytes)) is
-    (fault_here (b ∷ []) bytes none (omega arith) (omega arith) (byte_no test b not))
+    subst (Fault Once Limited (Takes (byte_at test)) u8 (λ b. IsTrue (test b)) (b ∷ bytes)) is
+    (fault_at_byte b bytes none (byte_no test b not))
 
-pub byte_places : {Once Cut : Type 0} (test : ℕ → Bool) (b : ℕ) → b < 256 → IsTrue (test b) → HasPlaces Once Cut (byte_at test) u8 (λ b. IsTrue (test b))
+pub byte_places : {Once Limited : Type 0} (test : ℕ → Bool) (b : ℕ) → b < 256 → IsTrue (test b) → HasPlaces Once Limited (byte_at test) u8 (λ b. IsTrue (test b))
 byte_places test b lt is =
     let one : AreBytes (b ∷ []) = AreBytes-cons b [] lt AreBytes-nil in
     record {
@@ -96,14 +97,14 @@ front_bytes count bytes few = record {
   bytes = (zeros-bytes (count - length bytes)).each;
 }
 
-pub bytes_places : {Once Cut : Type 0} (count : ℕ) → HasPlaces Once Cut (bytes_at count) (λ b. b) (λ b. length b ≡ count)
-bytes_places {Once = Once} {Cut = Cut} count = record {
+pub bytes_places : {Once Limited : Type 0} (count : ℕ) → HasPlaces Once Limited (bytes_at count) (λ b. b) (λ b. length b ≡ count)
+bytes_places {Once = Once} {Limited = Limited} count = record {
   value = zeros count;
   form = length-zeros count;
   bytes = zeros-bytes count;
   fault = λ bytes left fits e.
       let few = few_bytes count bytes left e in
-      subst (Fault Once Cut (Takes (bytes_at count)) (λ b. b) (λ b. length b ≡ count) bytes) few.1 (fault_cut bytes (front_bytes count bytes (omega (arith, few.0))));
+      subst (Fault Once Limited (Takes (bytes_at count)) (λ b. b) (λ b. length b ≡ count) bytes) few.1 (fault_cut bytes (front_bytes count bytes (omega (arith, few.0))));
 }
 
 -- ---- numbers
@@ -126,14 +127,14 @@ front_number {w = w} wide bytes few fits = record {
   bytes = (zeros-bytes (byte_len w - length bytes)).each;
 }
 
-pub number_places : {Once Cut : Type 0} {w : Width} {limit : ℕ} → IsWide w limit → HasPlaces Once Cut (number_at w) (to_be_bytes w) (λ n. n < limit)
-number_places {Once = Once} {Cut = Cut} {w = w} {limit = limit} wide = record {
+pub number_places : {Once Limited : Type 0} {w : Width} {limit : ℕ} → IsWide w limit → HasPlaces Once Limited (number_at w) (to_be_bytes w) (λ n. n < limit)
+number_places {Once = Once} {Limited = Limited} {w = w} {limit = limit} wide = record {
   value = filled_number w [];
   form = wide.below (filled (byte_len w) []) (filled-bytes (byte_len w) [] AreBytes-nil);
   bytes = subst AreBytes (sym (filled_back wide [] (omega arith) AreBytes-nil)) (filled-bytes (byte_len w) [] AreBytes-nil);
   fault = λ bytes left fits e.
       let few = few_number w bytes left e in
-      subst (Fault Once Cut (Takes (number_at w)) (to_be_bytes w) (λ n. n < limit) bytes) few.1 (fault_cut bytes (front_number wide bytes (omega (arith, few.0)) fits));
+      subst (Fault Once Limited (Takes (number_at w)) (to_be_bytes w) (λ n. n < limit) bytes) few.1 (fault_cut bytes (front_number wide bytes (omega (arith, few.0)) fits));
 }
 
 one_byte : (n : ℕ) → n % 256 < 256
@@ -150,6 +151,30 @@ u32-bytes n =
 
 -- ---- numbers that pass a test
 
+-- a test that just the numbers from one to another pass
+pub record IsLimits (test : ℕ → Bool) (least most limit : ℕ) : Type 0 where
+  pub some : least ≤ most
+  pub fits : most < limit
+  pub within : (n : ℕ) → least ≤ n → n ≤ most → IsTrue (test n)
+  pub passed : (n : ℕ) → IsTrue (test n) → (least ≤ n) × (n ≤ most)
+
+outside_by : (low high : Bool) (least most n : ℕ) → ltb n least ≡ low → ltb most n ≡ high → (least ≤ n → n ≤ most → ⊥) → IsOutside least most n
+outside_by true high least most n is is' out = inl (ltb-true _ _ is)
+outside_by false true least most n is is' out = inr (ltb-true _ _ is')
+outside_by false false least most n is is' out = absurd (out (ltb-false _ _ is) (ltb-false _ _ is'))
+
+not_passed : (b : Bool) → b ≡ false → IsTrue b → ⊥
+not_passed true is h = absurd cc
+not_passed false is h = absurd cc
+
+failed : (b : Bool) → (IsTrue b → ⊥) → b ≡ false
+failed true out = absurd (out refl)
+failed false out = refl
+
+inside_not : (least most n : ℕ) → IsOutside least most n → least ≤ n → n ≤ most → ⊥
+inside_not least most n (inl lt) low high = omega arith
+inside_not least most n (inr lt) low high = omega arith
+
 that_no : {w : Width} {limit : ℕ} → IsWide w limit → (test : ℕ → Bool) (n : ℕ) → n < limit → test n ≡ false → (more : List ℕ) → Takes (number_that w test) (to_be_bytes w n ++ more) → ⊥
 unfolding number_that
 that_no {w = w} wide test n lt is more ok =
@@ -157,33 +182,81 @@ that_no {w = w} wide test n lt is more ok =
     let e = ap (λ (r : Read ℕ). r >>= λ k. cond (test k.0) (Ok k) (Err (length bytes))) (sym ((number_reads wide).again n more lt)) ∙ ok.1 in
     test_no (test n) (length bytes) (n, more) ok.0 is e
 
-that_fault : {Once Cut : Type 0} {w : Width} {limit : ℕ} → IsWide w limit → (test : ℕ → Bool) → Cut → 1 ≤ byte_len w → byte_len w ≤ 4 → IsFront (to_be_bytes w) (λ n. (n < limit) × IsTrue (test n)) []
-    → (bytes : List ℕ) (left : ℕ) → AreBytes bytes → number_that w test bytes ≡ Err left → Fault Once Cut (Takes (number_that w test)) (to_be_bytes w) (λ n. (n < limit) × IsTrue (test n)) bytes left
+-- which numbers of this width pass
+abbrev Passes : ℕ → (ℕ → Bool) → ℕ → Type 0
+Passes limit test n = (n < limit) × IsTrue (test n)
+
+front_that : (w : Width) {limit : ℕ} (test : ℕ → Bool) (least most n : ℕ) → IsLimits test least most limit → ((k : ℕ) → AreBytes (to_be_bytes w k)) → least ≤ n → n ≤ most
+    → IsFront (to_be_bytes w) (Passes limit test) (to_be_bytes w n)
+front_that w test least most n limits bytes low high = record {
+  value = n;
+  more = [];
+  form = (omega (arith, limits.fits), limits.within n low high);
+  spelled = sym (append-nil (to_be_bytes w n));
+  bytes = AreBytes-nil.each;
+}
+
+that_fault : {Once Limited : Type 0} {w : Width} (wide : IsWide w (2 ^ (8 * byte_len w))) (test : ℕ → Bool) (least most : ℕ) → IsLimits test least most (2 ^ (8 * byte_len w)) → Limited → byte_len w ≤ 4
+    → ((k : ℕ) → AreBytes (to_be_bytes w k))
+    → ((bytes : List ℕ) → OutsideLimits (Takes (number_that w test)) (to_be_bytes w) (Passes (2 ^ (8 * byte_len w)) test) [] bytes w → Stops Once Limited (Takes (number_that w test)) (to_be_bytes w) (Passes (2 ^ (8 * byte_len w)) test) [] bytes)
+    → (bytes : List ℕ) (left : ℕ) → AreBytes bytes → number_that w test bytes ≡ Err left → Fault Once Limited (Takes (number_that w test)) (to_be_bytes w) (Passes (2 ^ (8 * byte_len w)) test) bytes left
 unfolding number_that
-that_fault {Once = Once} {Cut = Cut} {w = w} {limit = limit} wide test cut some four none bytes left fits e =
+that_fault {Once = Once} {Limited = Limited} {w = w} wide test least most limits limited four to_bytes shown bytes left fits e =
+    let none : IsFront (to_be_bytes w) (Passes (2 ^ (8 * byte_len w)) test) [] = none_before least (omega (arith, limits.some, limits.fits), limits.within least (omega arith) limits.some) (to_bytes least) in
     elim (bind_err (number_at w bytes) (λ n. cond (test n.0) (Ok n) (Err (length bytes))) left e) [
       | fails_first bad ↦
           let few = few_number w bytes left bad in
-          subst (Fault Once Cut (Takes (number_that w test)) (to_be_bytes w) (λ n. (n < limit) × IsTrue (test n)) bytes) few.1
-          (fault_in_number bytes cut none (omega (arith, few.0)))
+          subst (Fault Once Limited (Takes (number_that w test)) (to_be_bytes w) (Passes (2 ^ (8 * byte_len w)) test) bytes) few.1
+          (fault_in_number bytes limited none (omega (arith, few.0)))
       | fails_later a was more ↦
           let one = (number_reads wide).takes bytes a fits was in
           let is : length bytes ≡ left = test_err (test a.0) (length bytes) left a more in
           let not : test a.0 ≡ false = test_not (test a.0) (length bytes) left a more in
-          let size : length (to_be_bytes w a.0) ≡ byte_len w = wide.len a.0 in
-          subst (Fault Once Cut (Takes (number_that w test)) (to_be_bytes w) (λ n. (n < limit) × IsTrue (test n)) bytes) is
-          (subst (λ (l : List ℕ). Fault Once Cut (Takes (number_that w test)) (to_be_bytes w) (λ n. (n < limit) × IsTrue (test n)) l (length l)) (sym one.1)
-          (fault_here (to_be_bytes w a.0) a.1 none (omega (arith, size)) (omega (arith, size)) (that_no wide test a.0 one.0 not)))
+          let outside = outside_by (ltb a.0 least) (ltb most a.0) least most a.0 refl refl (λ low high. not_passed (test a.0) not (limits.within a.0 low high)) in
+          subst (Fault Once Limited (Takes (number_that w test)) (to_be_bytes w) (Passes (2 ^ (8 * byte_len w)) test) bytes) is
+          (fault_here bytes none (shown bytes (record {
+            n = a.0;
+            least = least;
+            most = most;
+            after = a.1;
+            parts = one.1;
+            fits = one.0;
+            outside = outside;
+            within = λ k low high. front_that w test least most k limits to_bytes low high;
+            others = λ k lt out more. that_no wide test k lt (failed (test k) (λ h. let p = limits.passed k h in inside_not least most k out p.0 p.1)) more;
+          })))
     ]
 
--- its values have a number that passes
-pub that_places : {Once Cut : Type 0} {w : Width} {limit : ℕ} → IsWide w limit → (test : ℕ → Bool) → Cut → 1 ≤ byte_len w → byte_len w ≤ 4
-    → (n : ℕ) → n < limit → IsTrue (test n) → AreBytes (to_be_bytes w n) → HasPlaces Once Cut (number_that w test) (to_be_bytes w) (λ n. (n < limit) × IsTrue (test n))
-that_places wide test cut some four n lt is bytes = record {
-  value = n;
-  form = (lt, is);
-  bytes = bytes;
-  fault = that_fault wide test cut some four (none_before n (lt, is) bytes);
+-- a number of two bytes that passes a test
+pub u16_places : {Once Limited : Type 0} (test : ℕ → Bool) (least most : ℕ) → Limited → IsLimits test least most (2 ^ 16) → HasPlaces Once Limited (number_that w16 test) u16 (λ n. (n < 2 ^ 16) × IsTrue (test n))
+u16_places test least most limited limits = record {
+  value = least;
+  form = (omega (arith, limits.some, limits.fits), limits.within least (omega arith) limits.some);
+  bytes = u16-bytes least;
+  fault = that_fault wide16 test least most limits limited (omega arith) u16-bytes (λ bytes o. at_u16 limited o);
+}
+
+-- the same of four
+pub u32_places : {Once Limited : Type 0} (test : ℕ → Bool) (least most : ℕ) → Limited → IsLimits test least most (2 ^ 32) → HasPlaces Once Limited (number_that w32 test) u32 (λ n. (n < 2 ^ 32) × IsTrue (test n))
+u32_places test least most limited limits = record {
+  value = least;
+  form = (omega (arith, limits.some, limits.fits), limits.within least (omega arith) limits.some);
+  bytes = u32-bytes least;
+  fault = that_fault wide32 test least most limits limited (omega arith) u32-bytes (λ bytes o. at_u32 limited o);
+}
+
+pub at_most_limits : (most limit : ℕ) → most < limit → IsLimits (at_most most) 0 most limit
+at_most_limits most limit fits = record { some = omega arith; fits = fits; within = λ n low high. of_le most n high; passed = λ n h. (omega arith, le_of most n h) }
+
+pub between_limits : (least most limit : ℕ) → least ≤ most → most < limit → IsLimits (between least most) least most limit
+between_limits least most limit some fits = record { some = some; fits = fits; within = λ n low high. of_between least most n low high; passed = λ n h. between_of least most n h }
+
+pub below_limits : (end limit : ℕ) → 1 ≤ end → end ≤ limit → IsLimits (below end) 0 (end - 1) limit
+below_limits end limit some fits = record {
+  some = omega arith;
+  fits = omega (arith, some, fits);
+  within = λ n low high. of_lt end n (omega (arith, high, some));
+  passed = λ n h. let lt = lt_of end n h in (omega arith, omega (arith, lt));
 }
 
 -- ---- values that a byte tells
@@ -200,18 +273,18 @@ one_no : {A : Type 0} (tag : A → ℕ) (values : List A) (byte : ℕ) → tagge
 unfolding one_of_at
 one_no tag values byte is more ok = told_no (tagged_by tag values byte) more (length (byte ∷ more)) ok.0 is ok.1
 
-one_fault : {A Once Cut : Type 0} (tag : A → ℕ) (values : List A) → IsFront (λ a. tag a ∷ []) (λ (a : A). IsOneOf a values) []
-    → (bytes : List ℕ) (left : ℕ) → one_of_at tag values bytes ≡ Err left → Fault Once Cut (Takes (one_of_at tag values)) (λ a. tag a ∷ []) (λ (a : A). IsOneOf a values) bytes left
+one_fault : {A Once Limited : Type 0} (tag : A → ℕ) (values : List A) → IsFront (λ a. tag a ∷ []) (λ (a : A). IsOneOf a values) []
+    → (bytes : List ℕ) (left : ℕ) → one_of_at tag values bytes ≡ Err left → Fault Once Limited (Takes (one_of_at tag values)) (λ a. tag a ∷ []) (λ (a : A). IsOneOf a values) bytes left
 unfolding one_of_at
-one_fault {A = A} {Once = Once} {Cut = Cut} tag values none [] left e =
-    let is : 0 ≡ left = cc in subst (Fault Once Cut (Takes (one_of_at tag values)) (λ a. tag a ∷ []) (λ (a : A). IsOneOf a values) []) is (fault_cut [] none)
-one_fault {A = A} {Once = Once} {Cut = Cut} tag values none (byte ∷ bytes) left e =
+one_fault {A = A} {Once = Once} {Limited = Limited} tag values none [] left e =
+    let is : 0 ≡ left = cc in subst (Fault Once Limited (Takes (one_of_at tag values)) (λ a. tag a ∷ []) (λ (a : A). IsOneOf a values) []) is (fault_cut [] none)
+one_fault {A = A} {Once = Once} {Limited = Limited} tag values none (byte ∷ bytes) left e =
     let t = none_told (tagged_by tag values byte) bytes (length (byte ∷ bytes)) left e in
-    subst (Fault Once Cut (Takes (one_of_at tag values)) (λ a. tag a ∷ []) (λ (a : A). IsOneOf a values) (byte ∷ bytes)) t.1
-    (fault_here (byte ∷ []) bytes none (omega arith) (omega arith) (one_no tag values byte t.0))
+    subst (Fault Once Limited (Takes (one_of_at tag values)) (λ a. tag a ∷ []) (λ (a : A). IsOneOf a values) (byte ∷ bytes)) t.1
+    (fault_at_byte byte bytes none (one_no tag values byte t.0))
 
-pub one_of_places : {A Once Cut : Type 0} (tag : A → ℕ) (values : List A) (a : A) → IsOneOf a values → tag a < 256
-    → HasPlaces Once Cut (one_of_at tag values) (λ a. tag a ∷ []) (λ (a : A). IsOneOf a values)
+pub one_of_places : {A Once Limited : Type 0} (tag : A → ℕ) (values : List A) (a : A) → IsOneOf a values → tag a < 256
+    → HasPlaces Once Limited (one_of_at tag values) (λ a. tag a ∷ []) (λ (a : A). IsOneOf a values)
 one_of_places tag values a is small =
     let one : AreBytes (tag a ∷ []) = AreBytes-cons (tag a) [] small AreBytes-nil in
     record {
@@ -223,7 +296,7 @@ one_of_places tag values a is small =
 
 -- ---- nothing
 
-pub nothing_places : {Once Cut : Type 0} → HasPlaces Once Cut nothing_at (λ n. []) (λ n. Unit {0})
+pub nothing_places : {Once Limited : Type 0} → HasPlaces Once Limited nothing_at (λ n. []) (λ n. Unit {0})
 nothing_places = record {
   value = tt;
   form = tt;
@@ -236,8 +309,8 @@ nothing_places = record {
 front_spanned : {A : Type 0} {s : A → List ℕ} {F : A → Type 0} (Form : List ℕ → Type 0) → ((a : A) → F a → Form (s a)) → (w : List ℕ) → IsFront s F w → IsFront (λ text. text) Form w
 front_spanned {s = s} Form form w f = record { value = s f.value; more = f.more; form = form f.value f.form; spelled = f.spelled; bytes = f.bytes }
 
-pub spanned_places : {A Once Cut : Type 0} {r : List ℕ → Read A} {s : A → List ℕ} {F : A → Type 0} (Form : List ℕ → Type 0) → ((a : A) → F a → Form (s a))
-    → HasPlaces Once Cut r s F → HasPlaces Once Cut (spanned r) (λ text. text) Form
+pub spanned_places : {A Once Limited : Type 0} {r : List ℕ → Read A} {s : A → List ℕ} {F : A → Type 0} (Form : List ℕ → Type 0) → ((a : A) → F a → Form (s a))
+    → HasPlaces Once Limited r s F → HasPlaces Once Limited (spanned r) (λ text. text) Form
 spanned_places {r = r} {s = s} Form form P = record {
   value = s P.value;
   form = form P.value P.form;
@@ -259,8 +332,8 @@ set_filled count bytes few fits =
     let t = (set_reads count).takes (all ++ []) (set_of_bytes all, []) (subst AreBytes (sym (append-nil all)) (filled-bytes count bytes fits)) read in
     (t.0, sym (append-nil (bytes_of count (set_of_bytes all))) ∙ sym t.1 ∙ append-nil all)
 
-pub set_places : {Once Cut : Type 0} (count : ℕ) → HasPlaces Once Cut (set_at count) (bytes_of count) (IsBelow (8 * count))
-set_places {Once = Once} {Cut = Cut} count =
+pub set_places : {Once Limited : Type 0} (count : ℕ) → HasPlaces Once Limited (set_at count) (bytes_of count) (IsBelow (8 * count))
+set_places {Once = Once} {Limited = Limited} count =
     let none = set_filled count [] (omega arith) AreBytes-nil in
     record {
       value = set_of_bytes (filled count []);
@@ -269,7 +342,7 @@ set_places {Once = Once} {Cut = Cut} count =
       fault = λ bytes left fits e.
           let few = few_bytes count bytes left (no_error (bytes_at count bytes) (made_of set_of_bytes) left e) in
           let all = set_filled count bytes (omega (arith, few.0)) fits in
-          subst (Fault Once Cut (Takes (set_at count)) (bytes_of count) (IsBelow (8 * count)) bytes) few.1
+          subst (Fault Once Limited (Takes (set_at count)) (bytes_of count) (IsBelow (8 * count)) bytes) few.1
           (fault_cut bytes (record {
             value = set_of_bytes (filled count bytes);
             more = zeros (count - length bytes);

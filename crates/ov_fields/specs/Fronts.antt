@@ -1,6 +1,6 @@
 -- Which bytes are the front of a spelling, and at which place bytes stop being one.
-use Rattle.std.specs.Prelude.{ℕ, ◌≡◌, ◌+◌, ◌≤◌, ◌<◌, ◌⊎◌, List, [], ◌++◌, length, get_or}
-use Rattle.ov_base.specs.declared.limits.TheConstants.{MAX_NAME_BYTES}
+use Rattle.std.specs.Prelude.{ℕ, ◌≡◌, ◌*◌, ◌^◌, ◌≤◌, ◌<◌, ◌⊎◌, List, [], ◌∷◌, ◌++◌, length, get_or}
+use Rattle.std.specs.Int.{Width, w16, w32, byte_len, to_be_bytes}
 use Rattle.ov_base.specs.Names.{IsName}
 use Rattle.ov_fields.specs.Spelling.{name_field}
 
@@ -26,16 +26,35 @@ pub data IsBegun (Once : Type 0) (begun rest : List ℕ) : Type 0 where
       → IsBegun Once begun rest
   in_number : rest ≡ [] → length begun < 4 → IsBegun Once begun rest
 
--- a field at the front of the rest, of as many bytes as a name with its length has at most, with
--- which no spelling goes on
-pub record IsWrongField {A : Type 0} (spell : A → List ℕ) (Form : A → Type 0)
-    (front rest : List ℕ) : Type 0 where
-  pub wrong : List ℕ
+-- the number is none of those from the one to the other
+abbrev pub IsOutside : ℕ → ℕ → ℕ → Type 0
+IsOutside least most n = (n < least) ⊎ (most < n)
+
+-- A number of this width at the front of the rest, which is outside its limits: exactly with the
+-- numbers within them a spelling goes on.
+pub record IsWrongNumber {A : Type 0} (spell : A → List ℕ) (Form : A → Type 0)
+    (front rest : List ℕ) (w : Width) : Type 0 where
+  pub n : ℕ
+  pub least : ℕ
+  pub most : ℕ
   pub after : List ℕ
-  pub parts : rest ≡ wrong ++ after
-  pub least : 1 ≤ length wrong
-  pub most : length wrong ≤ 1 + MAX_NAME_BYTES
-  pub stops : IsFront spell Form (front ++ wrong) → ⊥
+  pub parts : rest ≡ to_be_bytes w n ++ after
+  pub fits : n < 2 ^ (8 * byte_len w)
+  pub outside : IsOutside least most n
+  pub within : (k : ℕ) → least ≤ k → k ≤ most → IsFront spell Form (front ++ to_be_bytes w k)
+  pub others : (k : ℕ) → k < 2 ^ (8 * byte_len w) → IsOutside least most k
+      → IsFront spell Form (front ++ to_be_bytes w k) → ⊥
+
+-- What no spelling goes on with behind the front: a byte, a number, or a name that came before.
+pub data IsWrongField {A : Type 0} (spell : A → List ℕ) (Form : A → Type 0) (Once : Type 0)
+    (front rest : List ℕ) : Type 0 where
+  wrong_byte : (b : ℕ) (after : List ℕ) → rest ≡ b ∷ after
+      → (IsFront spell Form (front ++ b ∷ []) → ⊥) → IsWrongField spell Form Once front rest
+  wrong_u16 : IsWrongNumber spell Form front rest w16 → IsWrongField spell Form Once front rest
+  wrong_u32 : IsWrongNumber spell Form front rest w32 → IsWrongField spell Form Once front rest
+  name_twice : Once → (name after : List ℕ) → IsName name → rest ≡ name_field name ++ after
+      → (IsFront spell Form (front ++ name_field name) → ⊥)
+      → IsWrongField spell Form Once front rest
 
 -- The place of the first field that no spelling goes on with, or the end of bytes that end too
 -- early. The bytes before it are the front of a spelling, but for what of a field has begun.
@@ -50,4 +69,4 @@ pub record IsWrongPlace {A : Type 0} (spell : A → List ℕ) (Form : A → Type
   pub before : front ≡ whole ++ begun
   pub is_begun : IsBegun Once begun rest
   pub goes_on : IsFront spell Form whole
-  pub stops : (rest ≡ []) ⊎ IsWrongField spell Form front rest
+  pub stops : (rest ≡ []) ⊎ IsWrongField spell Form Once front rest

@@ -12,8 +12,8 @@ use Rattle.ov_fields.proofs.ReadingLaws.{AreBytes, AreBytes-back, bind_ok, bind_
 use Rattle.ov_fields.proofs.FieldLaws.{that_reads, wide16}
 use Rattle.ov_fields.proofs.NameLaws.{name_reads}
 use Rattle.ov_fields.proofs.TestLaws.{le_of, of_le}
-use Rattle.ov_fields.proofs.PlaceLaws.{Begun, has_nothing, has_name, has_number, Takes, Fault, HasPlaces, lead_fault, lead_stops, none_before, fault_here, given_places, refit_places}
-use Rattle.ov_fields.proofs.FieldPlaces.{that_places, u16-bytes}
+use Rattle.ov_fields.proofs.PlaceLaws.{Begun, has_nothing, has_name, has_number, Takes, Stops, at_end, at_byte, at_u16, at_u32, at_name, Fault, HasPlaces, lead_fault, none_before, fault_here, given_places, refit_places}
+use Rattle.ov_fields.proofs.FieldPlaces.{u16_places, at_most_limits}
 use Rattle.ov_fields.proofs.ListPlaces.{name_places}
 use Rattle.ov_wire.specs.RequestReading.{new_names_at, names_at}
 use Rattle.ov_wire.proofs.NamesLaws.{AreNew, behind, others_at, seen_ok, new_are, AreFewNames}
@@ -31,7 +31,7 @@ none_read count seen few = let f = fresh_names count seen few in none_before f.n
 whole_front : (whole begun front rest : List ℕ) → Begun ⊥ ⊥ begun rest → front ≡ whole ++ begun → front ≡ whole
 whole_front whole begun front rest (has_nothing is) e = e ∙ ap (λ (t : List ℕ). whole ++ t) is ∙ append-nil whole
 whole_front whole begun front rest (has_name once name more is spelled) e = absurd once
-whole_front whole begun front rest (has_number cut ended few) e = absurd cut
+whole_front whole begun front rest (has_number limited ended few) e = absurd limited
 
 -- what is read behind a name
 abbrev then_others : ℕ → List (List ℕ) → List ℕ → List ℕ × List ℕ → Read (List (List ℕ))
@@ -42,8 +42,16 @@ name_taken : (count : ℕ) (seen : List (List ℕ)) (t : List ℕ) → Takes (ne
 unfolding new_names_at
 name_taken count seen t ok = let a = bind_ok (name_at t) (then_others count seen t) ok.0 ok.1 in (a.0, a.1)
 
-name_fault : {Once Cut : Type 0} → Once → (count : ℕ) (seen : List (List ℕ)) → length seen + suc count < 65536 → (bytes : List ℕ) (left : ℕ)
-    → Fault ⊥ ⊥ (Takes name_at) name_field IsName bytes left → Fault Once Cut (Takes (new_names_at (suc count) seen)) (flat_map name_field) (AreSoMany (suc count) seen) bytes left
+name_stops : {Once Limited : Type 0} (count : ℕ) (seen : List (List ℕ)) (front rest : List ℕ) → Stops ⊥ ⊥ (Takes name_at) name_field IsName front rest
+    → Stops Once Limited (Takes (new_names_at (suc count) seen)) (flat_map name_field) (AreSoMany (suc count) seen) front rest
+name_stops count seen front rest (at_end is) = at_end is
+name_stops count seen front rest (at_byte b after parts stops) = at_byte b after parts (λ more ok. stops more (name_taken count seen ((front ++ b ∷ []) ++ more) ok))
+name_stops count seen front rest (at_u16 limited o) = absurd limited
+name_stops count seen front rest (at_u32 limited o) = absurd limited
+name_stops count seen front rest (at_name once name after is parts stops) = absurd once
+
+name_fault : {Once Limited : Type 0} → Once → (count : ℕ) (seen : List (List ℕ)) → length seen + suc count < 65536 → (bytes : List ℕ) (left : ℕ)
+    → Fault ⊥ ⊥ (Takes name_at) name_field IsName bytes left → Fault Once Limited (Takes (new_names_at (suc count) seen)) (flat_map name_field) (AreSoMany (suc count) seen) bytes left
 name_fault once count seen few bytes left f =
     let whole = whole_front f.whole f.begun f.front f.rest f.is_begun f.before in
     let n = f.goes_on in
@@ -57,7 +65,7 @@ name_fault once count seen few bytes left f =
       before = refl;
       is_begun = has_name once n.value n.more n.form (n.spelled ∙ ap (λ (t : List ℕ). t ++ n.more) (sym whole));
       goes_on = none_read (suc count) seen few;
-      stops = lead_stops [] f.front f.rest (name_taken count seen) f.stops;
+      stops = name_stops count seen f.front f.rest f.stops;
     }
 
 -- ---- a name that comes twice
@@ -99,30 +107,28 @@ seen_cases : (b : Bool) (n left count : ℕ) (seen : List (List ℕ)) (bytes : L
 seen_cases true n left count seen bytes P e one two = one refl cc
 seen_cases false n left count seen bytes P e one two = two refl e
 
-new_fault : {Once Cut : Type 0} → Once → (count : ℕ) (seen : List (List ℕ)) → length seen + count < 65536 → (bytes : List ℕ) (left : ℕ) → AreBytes bytes → new_names_at count seen bytes ≡ Err left
-    → Fault Once Cut (Takes (new_names_at count seen)) (flat_map name_field) (AreSoMany count seen) bytes left
+new_fault : {Once Limited : Type 0} → Once → (count : ℕ) (seen : List (List ℕ)) → length seen + count < 65536 → (bytes : List ℕ) (left : ℕ) → AreBytes bytes → new_names_at count seen bytes ≡ Err left
+    → Fault Once Limited (Takes (new_names_at count seen)) (flat_map name_field) (AreSoMany count seen) bytes left
 unfolding new_names_at
 new_fault once zero seen few bytes left fits e = absurd cc
-new_fault {Once = Once} {Cut = Cut} once (suc count) seen few bytes left fits e =
+new_fault {Once = Once} {Limited = Limited} once (suc count) seen few bytes left fits e =
     elim (bind_err (name_at bytes) (then_others count seen bytes) left e) [
       | fails_first bad ↦ name_fault once count seen few bytes left (name_places.fault bytes left fits bad)
       | fails_later a was more ↦
           let one = name_reads.takes bytes a fits was in
-          let size = name_reads.short a.0 one.0 in
           let more_seen = seen ++ a.0 ∷ [] in
-          let Goal : List ℕ → Type 0 = λ (l : List ℕ). Fault Once Cut (Takes (new_names_at (suc count) seen)) (flat_map name_field) (AreSoMany (suc count) seen) l left in
+          let Goal : List ℕ → Type 0 = λ (l : List ℕ). Fault Once Limited (Takes (new_names_at (suc count) seen)) (flat_map name_field) (AreSoMany (suc count) seen) l left in
           let later = no_error (others_at (is_among a.0 seen) (length bytes) count more_seen a.1) (behind a.0) left more in
           seen_cases (is_among a.0 seen) (length bytes) left count more_seen a.1 (Goal bytes) later
           (λ twice same.
-          subst (Fault Once Cut (Takes (new_names_at (suc count) seen)) (flat_map name_field) (AreSoMany (suc count) seen) bytes) same
-          (subst (λ (l : List ℕ). Fault Once Cut (Takes (new_names_at (suc count) seen)) (flat_map name_field) (AreSoMany (suc count) seen) l (length l)) (sym one.1)
-          (fault_here (name_field a.0) a.1 (none_read (suc count) seen few) (omega arith) (omega (arith, size)) (twice_no count seen a.0 one.0 twice))))
+          subst (Fault Once Limited (Takes (new_names_at (suc count) seen)) (flat_map name_field) (AreSoMany (suc count) seen) bytes) same
+          (fault_here bytes (none_read (suc count) seen few) (at_name once a.0 a.1 one.0 one.1 (twice_no count seen a.0 one.0 twice))))
           (λ new bad.
           let f = new_fault once count more_seen (omega (arith, few, length-append seen (a.0 ∷ []))) a.1 left (AreBytes-back (name_field a.0) a.1 (subst AreBytes one.1 fits)) bad in
           subst Goal (sym one.1) (lead_fault (name_field a.0) a.1 left f (front_others count seen a.0 one.0 new) (others_taken count seen a.0 one.0)))
     ]
 
-new_places : {Once Cut : Type 0} → Once → (n : ℕ) → n < 65536 → HasPlaces Once Cut (new_names_at n []) (flat_map name_field) (sized_by (AreNew []) length n)
+new_places : {Once Limited : Type 0} → Once → (n : ℕ) → n < 65536 → HasPlaces Once Limited (new_names_at n []) (flat_map name_field) (sized_by (AreNew []) length n)
 new_places once n small =
     let few : 0 + n < 65536 = omega (arith, small) in
     let f = fresh_names n [] few in
@@ -133,12 +139,12 @@ new_places once n small =
       fault = new_fault once n [] few;
     }
 
-pub names_places : {Once Cut : Type 0} (most : ℕ) → Once → Cut → HasPlaces Once Cut (names_at most) (counted name_field) (AreFewNames most)
+pub names_places : {Once Limited : Type 0} (most : ℕ) → most < 2 ^ 16 → Once → Limited → HasPlaces Once Limited (names_at most) (counted name_field) (AreFewNames most)
 unfolding names_at
-names_places most once cut =
+names_places most small once limited =
     refit_places (AreFewNames most)
     (given_places (λ n. new_names_at n []) (flat_map name_field) (AreNew []) length (that_reads wide16 (at_most most))
-    (that_places wide16 (at_most most) cut (omega arith) (omega arith) 0 (omega arith) (of_le most 0 (omega arith)) (u16-bytes 0))
+    (u16_places (at_most most) 0 most limited (at_most_limits most (2 ^ 16) small))
     (λ n h. new_places once n (omega (arith, h.0))))
     (λ names form.
     let n = new_are [] names form.1 in

@@ -10,9 +10,9 @@ use Rattle.ov_fields.proofs.ReadingLaws.{AreBytes, then_reads}
 use Rattle.ov_fields.proofs.FieldLaws.{byte_reads, bytes_reads, number_reads, that_reads, wide32}
 use Rattle.ov_fields.proofs.NameLaws.{name_reads}
 use Rattle.ov_fields.proofs.TagLaws.{nothing_reads}
-use Rattle.ov_fields.proofs.TestLaws.{le_of, of_le, between_of, of_between}
+use Rattle.ov_fields.proofs.TestLaws.{le_of, between_of}
 use Rattle.ov_fields.proofs.PlaceLaws.{AreBytes-nil, AreBytes-cons, HasPlaces, none_before, then_places}
-use Rattle.ov_fields.proofs.FieldPlaces.{byte_places, bytes_places, number_places, that_places, nothing_places, u32-bytes}
+use Rattle.ov_fields.proofs.FieldPlaces.{byte_places, bytes_places, number_places, u32_places, at_most_limits, between_limits, nothing_places}
 use Rattle.ov_fields.proofs.ListPlaces.{name_places}
 use Rattle.ov_fields.proofs.RowPlaces.{RowPlaces, row_places, OnceOf, rows_fault, wrong_place}
 use Rattle.ov_wire.specs.declared.request.Request.{Request}
@@ -34,30 +34,30 @@ use Rattle.ov_wire.proofs.LongFrames.{not_long}
 abbrev InCover : ℕ → Type 0
 InCover kind = kind ≡ 3
 
--- numbers may be cut anywhere
-abbrev Anywhere : Type 0
-Anywhere = Unit {0}
+-- numbers have limits
+abbrev Limits : Type 0
+Limits = Unit {0}
 
-cover_places : {Once : Type 0} → Once → HasPlaces Once Anywhere cover_at cover_fields CoverFits
+cover_places : {Once : Type 0} → Once → HasPlaces Once Limits cover_at cover_fields CoverFits
 cover_places once =
     then_places (then_reads name_reads (that_reads wide32 (at_most MAX_FILE_BYTES)))
-    (then_places name_reads name_places (that_places wide32 (at_most MAX_FILE_BYTES) tt (omega arith) (omega arith) 0 (omega arith) (of_le MAX_FILE_BYTES 0 (omega arith)) (u32-bytes 0)))
-    (names_places 65535 once tt)
+    (then_places name_reads name_places (u32_places (at_most MAX_FILE_BYTES) 0 MAX_FILE_BYTES tt (at_most_limits MAX_FILE_BYTES (2 ^ 32) (omega arith))))
+    (names_places 65535 (omega arith) once tt)
 
-update_places : {Once : Type 0} → HasPlaces Once Anywhere update_at (λ f. u32 f.0.0 ++ f.0.1 ++ f.1) (λ f. ((f.0.0 < 2 ^ 32) × IsSpelling f.0.1) × Has32 f.1)
+update_places : {Once : Type 0} → HasPlaces Once Limits update_at (λ f. u32 f.0.0 ++ f.0.1 ++ f.1) (λ f. ((f.0.0 < 2 ^ 32) × IsSpelling f.0.1) × Has32 f.1)
 update_places = then_places (then_reads (number_reads wide32) spelling_reads) (then_places (number_reads wide32) (number_places wide32) (spelling_places tt)) (bytes_places 32)
 
-chunk_places : {Once : Type 0} → HasPlaces Once Anywhere chunk_at (λ f. u32 f.0.0.0 ++ u32 f.0.0.1 ++ u32 f.0.1 ++ u32 f.1)
+chunk_places : {Once : Type 0} → HasPlaces Once Limits chunk_at (λ f. u32 f.0.0.0 ++ u32 f.0.0.1 ++ u32 f.0.1 ++ u32 f.1)
     (λ f. (((f.0.0.0 < 2 ^ 32) × (f.0.0.1 < 2 ^ 32)) × (f.0.1 < 2 ^ 32)) × ((f.1 < 2 ^ 32) × IsTrue (between 1 MAX_CHUNK_BYTES f.1)))
 chunk_places =
     let three = then_reads (then_reads (number_reads wide32) (number_reads wide32)) (number_reads wide32) in
     then_places three (then_places (then_reads (number_reads wide32) (number_reads wide32)) (then_places (number_reads wide32) (number_places wide32) (number_places wide32)) (number_places wide32))
-    (that_places wide32 (between 1 MAX_CHUNK_BYTES) tt (omega arith) (omega arith) 1 (omega arith) (of_between 1 MAX_CHUNK_BYTES 1 (omega arith) (omega arith)) (u32-bytes 1))
+    (u32_places (between 1 MAX_CHUNK_BYTES) 1 MAX_CHUNK_BYTES tt (between_limits 1 MAX_CHUNK_BYTES (2 ^ 32) (omega arith) (omega arith)))
 
-page_places : {Once : Type 0} → HasPlaces Once Anywhere page_at (λ f. u8 f.0 ++ u32 f.1) (λ f. IsTrue (any f.0) × (f.1 < 2 ^ 32))
+page_places : {Once : Type 0} → HasPlaces Once Limits page_at (λ f. u8 f.0 ++ u32 f.1) (λ f. IsTrue (any f.0) × (f.1 < 2 ^ 32))
 page_places = then_places (byte_reads any) (byte_places any 0 (omega arith) refl) (number_places wide32)
 
-rows_placed : AllByRecursion (RowPlaces InCover Anywhere request_bytes IsRequest) request_rows
+rows_placed : AllByRecursion (RowPlaces InCover Limits request_bytes IsRequest) request_rows
 rows_placed = (
   row_places 1 (λ f. requests.Hello) nothing_reads nothing_places (record { form = λ f fits. tt; spelled = λ f. refl }),
   (
