@@ -1,6 +1,7 @@
 pub mod AnswerFields
 pub mod AnswerForms
 pub mod AnswerLaws
+pub mod AnswerPlaces
 pub mod ChainLaws
 pub mod EntryLaws
 pub mod FieldsLaws
@@ -10,6 +11,7 @@ pub mod LongFrames
 pub mod NamePlaces
 pub mod NamesLaws
 pub mod NumberLaws
+pub mod NumberPlaces
 pub mod Putting
 pub mod QuestionLaws
 pub mod RequestLaws

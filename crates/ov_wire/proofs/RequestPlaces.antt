@@ -94,7 +94,7 @@ in_cover : (bytes : List ℕ) → OnceOf InCover bytes → HasKind 3 bytes
 in_cover [] is = absurd is
 in_cover (kind ∷ bytes) is = (bytes, ap (λ (k : ℕ). k ∷ bytes) is)
 
-placed_err : {A : Type 0} (count : ℕ) (read : Result A ℕ) (place : ℕ) → placed count read ≡ Err place → (left : ℕ) × (read ≡ Err left) × (count - left ≡ place)
+pub placed_err : {A : Type 0} (count : ℕ) (read : Result A ℕ) (place : ℕ) → placed count read ≡ Err place → (left : ℕ) × (read ≡ Err left) × (count - left ≡ place)
 placed_err count (Ok a) place e = absurd cc
 placed_err count (Err left) place e = (left, refl, cc)
 

@@ -46,8 +46,8 @@ pub use answer_writing::write_answer;
 pub use decoder::Decoder;
 pub use fault::{FeedFault, WireFault};
 pub use laws::{
-    answers_are_read_alike, answers_fit_frames, bad_requests_are_placed, frames_are_told_apart,
-    requests_fit_frames,
+    answers_are_read_alike, answers_fit_frames, bad_answers_are_placed, bad_requests_are_placed,
+    frames_are_told_apart, requests_fit_frames,
 };
 pub use request::{Question, Request};
 pub use request_reading::read_request;
