@@ -1,5 +1,5 @@
 -- Wrong places of single fields: bytes, numbers and values that a byte tells.
-use Rattle.std.proofs.Common.{◌≡◌, ℕ, zero, suc, ◌+◌, ◌-◌, ◌*◌, ◌/◌, ◌%◌, ◌^◌, ◌<◌, ◌≤◌, ◌⊎◌, inl, inr, Bool, true, false, cond, ltb, IsTrue, List, [], ◌∷◌, ◌++◌, length, take, Option, Some, None, Ok, Err, refl, sym, ap, subst, ◌∙◌, length-append, arith}
+use Rattle.std.proofs.Common.{◌≡◌, ℕ, zero, suc, ◌-◌, ◌*◌, ◌/◌, ◌%◌, ◌^◌, ◌<◌, ◌≤◌, inl, inr, Bool, true, false, cond, ltb, IsTrue, List, [], ◌∷◌, ◌++◌, length, take, Option, Some, None, Ok, Err, refl, sym, ap, subst, ◌∙◌, length-append, arith}
 use Rattle.std.specs.Int.{Width, w16, w32, byte_len, from_be_bytes, to_be_bytes}
 use Rattle.std.proofs.lemmas.Bool.{ltb-true, ltb-false}
 use Rattle.std.proofs.lemmas.List.{append-nil}
@@ -7,8 +7,8 @@ use Rattle.ov_base.specs.Sets.{IsBelow, bytes_of, set_of_bytes}
 use Rattle.ov_fields.specs.Spelling.{u8, u16, u32, IsOneOf}
 use Rattle.ov_fields.specs.Fronts.{IsFront, IsOutside}
 use Rattle.ov_fields.specs.Reading.{Read, ◌>>=◌, made, spanned, byte_at, bytes_at, number_at, number_that, at_most, below, between, nothing_at, one_of_at, ok_or_left, tagged_by, set_at}
-use Rattle.ov_fields.proofs.ReadingLaws.{AreBytes, AreBytes-front, bind_ok, bind_err, fails_first, fails_later, done, no_error, Reads, made_of}
-use Rattle.ov_fields.proofs.FieldLaws.{IsWide, wide16, wide32, test_ok, test_err, number_reads, bytes_reads}
+use Rattle.ov_fields.proofs.ReadingLaws.{AreBytes, bind_ok, bind_err, fails_first, fails_later, done, no_error, made_of}
+use Rattle.ov_fields.proofs.FieldLaws.{IsWide, wide16, wide32, test_err, number_reads, bytes_reads}
 use Rattle.ov_fields.proofs.TestLaws.{le_of, of_le, lt_of, of_lt, between_of, of_between}
 use Rattle.ov_fields.proofs.SetFields.{set_reads}
 use Rattle.ov_fields.proofs.PlaceLaws.{AreBytes-nil, AreBytes-cons, AreBytes-both, Takes, OutsideLimits, Stops, at_u16, at_u32, Fault, HasPlaces, lead_fault, none_before, fault_here, fault_at_byte, fault_cut, fault_in_number}

@@ -1,19 +1,18 @@
 -- Wrong places of lists, options and names.
-use Rattle.std.proofs.Common.{◌≡◌, ℕ, zero, suc, ◌+◌, ◌-◌, ◌^◌, ◌<◌, ◌≤◌, Bool, true, false, IsTrue, nat_lt, List, [], ◌∷◌, ◌++◌, length, Option, Some, None, inl, inr, Ok, Err, refl, sym, ap, subst, ◌∙◌, append_assoc, arith}
+use Rattle.std.proofs.Common.{◌≡◌, ℕ, zero, suc, ◌-◌, ◌^◌, ◌<◌, Bool, true, false, IsTrue, List, [], ◌∷◌, ◌++◌, length, Option, Some, None, inl, Ok, Err, refl, sym, ap, subst, ◌∙◌, append_assoc, arith}
 use Rattle.std.specs.Prelude.{IfSome}
-use Rattle.std.specs.Int.{w16, w32}
 use Rattle.std.specs.List.{flat_map, AllByRecursion}
 use Rattle.ov_base.specs.Names.{is_letter_or_digit, is_name_byte, IsName}
 use Rattle.ov_base.specs.declared.limits.TheConstants.{MAX_NAME_BYTES}
 use Rattle.ov_fields.specs.Spelling.{name_field, token_field, optional, flag, counted, sized, IsToken}
 use Rattle.ov_fields.specs.Fronts.{IsFront}
-use Rattle.ov_fields.specs.Reading.{Read, ◌>>=◌, ◌>>◌, made, at_most, between, byte_at, bytes_at, many_at, counted_at, sized_at, optional_at, some_at, flag_at, one_of_at, name_at, text_at, token_at, token_of}
+use Rattle.ov_fields.specs.Reading.{Read, ◌>>=◌, made, at_most, between, byte_at, bytes_at, many_at, counted_at, sized_at, optional_at, some_at, flag_at, one_of_at, name_at, text_at, token_at, token_of}
 use Rattle.ov_fields.proofs.ReadingLaws.{AreBytes, AreBytes-back, bind_ok, bind_err, fails_first, fails_later, done, no_error, Reads, made_of, sized_by}
 use Rattle.ov_fields.proofs.FieldLaws.{byte_reads, that_reads, wide16, wide32}
 use Rattle.ov_fields.proofs.TagLaws.{flag_reads}
-use Rattle.ov_fields.proofs.NameLaws.{name_reads, one_each, is_text}
-use Rattle.ov_fields.proofs.TestLaws.{le_of, of_le, between_of}
-use Rattle.ov_fields.proofs.PlaceLaws.{AreBytes-nil, AreBytes-cons, AreBytes-both, Takes, Fault, HasPlaces, lead_fault, none_before, fault_here, fault_cut, then_places, given_places, made_places, refit_places, same_places}
+use Rattle.ov_fields.proofs.NameLaws.{one_each, is_text}
+use Rattle.ov_fields.proofs.TestLaws.{between_of}
+use Rattle.ov_fields.proofs.PlaceLaws.{AreBytes-nil, AreBytes-cons, AreBytes-both, Takes, Fault, HasPlaces, lead_fault, then_places, given_places, made_places, refit_places, same_places}
 use Rattle.ov_fields.proofs.FieldPlaces.{byte_places, bytes_places, one_of_places, u16_places, u32_places, at_most_limits}
 
 -- ---- so many values

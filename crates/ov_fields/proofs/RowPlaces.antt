@@ -1,5 +1,5 @@
 -- Wrong places of values of several kinds, and of lists of bytes that are read as a whole.
-use Rattle.std.proofs.Common.{◌≡◌, ℕ, zero, suc, ◌+◌, ◌-◌, ◌<◌, ◌≤◌, ◌⊎◌, inl, inr, Bool, true, false, cond, eqb, List, [], ◌∷◌, ◌++◌, length, Result, Ok, Err, refl, sym, ap, subst, ◌∙◌, append_assoc, length-append, arith}
+use Rattle.std.proofs.Common.{◌≡◌, ℕ, ◌-◌, ◌⊎◌, inl, inr, Bool, true, false, cond, eqb, List, [], ◌∷◌, ◌++◌, length, Ok, Err, refl, sym, ap, subst, ◌∙◌, append_assoc, length-append, arith}
 use Rattle.std.specs.List.{AllByRecursion}
 use Rattle.std.proofs.lemmas.Bool.{eqb-true}
 use Rattle.std.proofs.lemmas.List.{append-nil}
@@ -11,9 +11,8 @@ use Rattle.ov_fields.proofs.ReadingLaws.{AreBytes, AreBytes-back, bind_ok, bind_
 use Rattle.ov_fields.proofs.FieldLaws.{test_ok, test_err}
 use Rattle.ov_fields.proofs.WholeLaws.{ended}
 use Rattle.ov_fields.proofs.KindLaws.{IsKind}
-use Rattle.ov_fields.proofs.RowLaws.{made_whole, all_made, made_ok, made_err}
+use Rattle.ov_fields.proofs.RowLaws.{all_made, made_ok, made_err}
 use Rattle.ov_fields.proofs.PlaceLaws.{Begun, has_nothing, has_name, has_number, Takes, OutsideLimits, Stops, at_end, at_byte, at_u16, at_u32, at_name, Fault, HasPlaces, lead_fault, fault_at_byte, fault_cut}
-use Rattle.ov_fields.proofs.FieldPlaces.{test_not}
 
 -- ---- a kind byte, and what stands for a value of this kind
 

@@ -18,8 +18,8 @@ pub record IsFront {A : Type 0} (spell : A → List ℕ) (Form : A → Type 0) (
   pub bytes : AreAllBytes more
 
 -- What of a field may stand right before a place, where the bytes from the place on are these:
--- nothing; where a name is said to be one that mustn't come twice, its first bytes; and where the
--- bytes end, the first bytes of a number.
+-- nothing; the first bytes of a name, where `Once` says that names mustn't come twice; and the first
+-- bytes of a number, where the bytes end.
 pub data IsBegun (Once : Type 0) (begun rest : List ℕ) : Type 0 where
   nothing : begun ≡ [] → IsBegun Once begun rest
   in_name : Once → (name more : List ℕ) → IsName name → name_field name ≡ begun ++ more
@@ -45,7 +45,8 @@ pub record IsWrongNumber {A : Type 0} (spell : A → List ℕ) (Form : A → Typ
   pub others : (k : ℕ) → k < 2 ^ (8 * byte_len w) → IsOutside least most k
       → IsFront spell Form (front ++ to_be_bytes w k) → ⊥
 
--- What no spelling goes on with behind the front: a byte, a number, or a name that came before.
+-- What no spelling goes on with behind the front: a byte; a number; or a name, where `Once` says
+-- that names mustn't come twice.
 pub data IsWrongField {A : Type 0} (spell : A → List ℕ) (Form : A → Type 0) (Once : Type 0)
     (front rest : List ℕ) : Type 0 where
   wrong_byte : (b : ℕ) (after : List ℕ) → rest ≡ b ∷ after
@@ -57,7 +58,7 @@ pub data IsWrongField {A : Type 0} (spell : A → List ℕ) (Form : A → Type 0
       → IsWrongField spell Form Once front rest
 
 -- The place of the first field that no spelling goes on with, or the end of bytes that end too
--- early. The bytes before it are the front of a spelling, but for what of a field has begun.
+-- early. The bytes before the place are the front of a spelling, but for what of a field has begun.
 pub record IsWrongPlace {A : Type 0} (spell : A → List ℕ) (Form : A → Type 0) (Once : Type 0)
     (bytes : List ℕ) (place : ℕ) : Type 0 where
   pub front : List ℕ

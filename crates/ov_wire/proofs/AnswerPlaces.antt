@@ -1,5 +1,5 @@
 -- The place at which bytes are no answer to a request is that of the first wrong field, or the end.
-use Rattle.std.proofs.Common.{◌≡◌, ℕ, zero, suc, ◌+◌, ◌-◌, ◌^◌, ◌<◌, ◌≤◌, Bool, true, false, cond, eqb, List, [], ◌∷◌, ◌++◌, length, take, drop, Ok, Err, inl, inr, refl, sym, ap, subst, ◌∙◌, length-append, length-take, length-drop, take-append-drop, arith}
+use Rattle.std.proofs.Common.{◌≡◌, ℕ, zero, suc, ◌^◌, ◌<◌, ◌≤◌, Bool, true, false, cond, eqb, List, [], ◌∷◌, ◌++◌, length, take, drop, Ok, Err, inl, refl, sym, ap, subst, ◌∙◌, length-append, length-take, length-drop, take-append-drop, arith}
 use Rattle.std.specs.List.{AllByRecursion}
 use Rattle.std.proofs.lemmas.Bool.{eqb-true}
 use Rattle.std.proofs.lemmas.List.{append-nil}
@@ -11,12 +11,12 @@ use Rattle.ov_base.specs.Modes.{mode_byte}
 use Rattle.ov_fields.specs.Spelling.{u8, u32, flag, IsOneOf}
 use Rattle.ov_fields.specs.Fronts.{IsFront, AreAllBytes, IsWrongPlace}
 use Rattle.ov_fields.specs.Reading.{all_of, by_rows, making, placed}
-use Rattle.ov_fields.proofs.ReadingLaws.{AreBytes, then_reads}
+use Rattle.ov_fields.proofs.ReadingLaws.{then_reads}
 use Rattle.ov_fields.proofs.FieldLaws.{bytes_reads, number_reads, wide32, test_ok, test_err}
 use Rattle.ov_fields.proofs.SetFields.{set_reads}
 use Rattle.ov_fields.proofs.TagLaws.{nothing_reads, flag_reads}
 use Rattle.ov_fields.proofs.TestLaws.{count_is}
-use Rattle.ov_fields.proofs.PlaceLaws.{AreBytes-nil, AreBytes-cons, Fault, Stops, at_end, at_byte, has_nothing, HasPlaces, none_before, then_places}
+use Rattle.ov_fields.proofs.PlaceLaws.{AreBytes-nil, AreBytes-cons, Stops, at_end, at_byte, has_nothing, HasPlaces, none_before, then_places}
 use Rattle.ov_fields.proofs.FieldPlaces.{bytes_places, number_places, nothing_places, one_of_places, set_places}
 use Rattle.ov_fields.proofs.ListPlaces.{counted_places, optional_places}
 use Rattle.ov_fields.proofs.RowPlaces.{RowPlaces, row_places, tail_of, HasTail, IsWhole, OnceOf, rows_fault, wrong_place}
@@ -194,8 +194,7 @@ rows_placed requests.Hello has = (
   (bare_row requests.Hello 0x8e answers.NoMemory tt refl, tt),
 )
 rows_placed (requests.Ask question) has =
-    let r = an_ask question in
-    (
+    let r = an_ask question in (
       row_places 0x82 known (known_reads question) (known_places question)
           (record { form = λ f fits. (fits.0.0.0.0.0.0, fits.0.0.0.0.0.1, fits.0.0.0.0.1, fits.0.0.0.1, fits.0.0.1, fits.0.1, fits.1); spelled = λ f. refl }),
       (
@@ -212,8 +211,7 @@ rows_placed (requests.Cover file len names) has = (
   ),
 )
 rows_placed (requests.Update epoch spelling tag) has =
-    let r = an_update spelling has.1 in
-    (
+    let r = an_update spelling has.1 in (
       row_places 0x84 answers.Accepted (next_reads epoch) (next_places epoch has.0 tt) (record { form = λ k fits. fits; spelled = λ k. refl }),
       (
         refused_row (requests.Update epoch spelling tag) (update_refusals spelling) r.0 r.1 (λ r is. is),

@@ -1,7 +1,6 @@
 -- Wrong places of lists of names of which none comes twice.
-use Rattle.std.proofs.Common.{◌≡◌, ℕ, zero, suc, ◌+◌, ◌^◌, ◌<◌, ◌≤◌, Bool, true, false, cond, IsTrue, List, [], ◌∷◌, ◌++◌, length, Ok, Err, refl, sym, ap, subst, ◌∙◌, append_assoc, length-append, arith}
+use Rattle.std.proofs.Common.{◌≡◌, ℕ, zero, suc, ◌+◌, ◌^◌, ◌<◌, Bool, true, false, List, [], ◌∷◌, ◌++◌, length, Ok, Err, refl, sym, ap, subst, ◌∙◌, append_assoc, length-append, arith}
 use Rattle.std.specs.List.{flat_map}
-use Rattle.std.specs.Int.{w16}
 use Rattle.std.proofs.lemmas.List.{append-nil}
 use Rattle.ov_base.specs.Names.{IsName}
 use Rattle.ov_base.specs.NameLists.{is_among}
@@ -11,13 +10,13 @@ use Rattle.ov_fields.specs.Reading.{Read, ◌>>=◌, at_most, name_at}
 use Rattle.ov_fields.proofs.ReadingLaws.{AreBytes, AreBytes-back, bind_ok, bind_err, fails_first, fails_later, done, no_error, sized_by}
 use Rattle.ov_fields.proofs.FieldLaws.{that_reads, wide16}
 use Rattle.ov_fields.proofs.NameLaws.{name_reads}
-use Rattle.ov_fields.proofs.TestLaws.{le_of, of_le}
+use Rattle.ov_fields.proofs.TestLaws.{le_of}
 use Rattle.ov_fields.proofs.PlaceLaws.{Begun, has_nothing, has_name, has_number, Takes, Stops, at_end, at_byte, at_u16, at_u32, at_name, Fault, HasPlaces, lead_fault, none_before, fault_here, given_places, refit_places}
 use Rattle.ov_fields.proofs.FieldPlaces.{u16_places, at_most_limits}
 use Rattle.ov_fields.proofs.ListPlaces.{name_places}
 use Rattle.ov_wire.specs.RequestReading.{new_names_at, names_at}
 use Rattle.ov_wire.proofs.NamesLaws.{AreNew, behind, others_at, seen_ok, new_are, AreFewNames}
-use Rattle.ov_wire.proofs.FreshNames.{FreshNames, fresh_names}
+use Rattle.ov_wire.proofs.FreshNames.{fresh_names}
 
 -- so many names that are new after these
 abbrev AreSoMany : ℕ → List (List ℕ) → List (List ℕ) → Type 0

@@ -1,5 +1,5 @@
 -- Wrong places of the numbers, chains and entries in answers.
-use Rattle.std.proofs.Common.{◌≡◌, ℕ, zero, suc, ◌+◌, ◌-◌, ◌^◌, ◌<◌, ◌≤◌, Bool, true, false, cond, eqb, IsTrue, List, [], ◌∷◌, length, Option, None, inl, refl, sym, ap, subst, arith}
+use Rattle.std.proofs.Common.{◌≡◌, ℕ, zero, suc, ◌+◌, ◌-◌, ◌^◌, ◌<◌, ◌≤◌, Bool, true, false, cond, eqb, IsTrue, List, [], ◌∷◌, length, inl, refl, sym, ap, subst, arith}
 use Rattle.std.specs.Prelude.{IfSome}
 use Rattle.std.specs.Int.{w32}
 use Rattle.std.specs.List.{flat_map, AllByRecursion}
@@ -12,18 +12,18 @@ use Rattle.ov_tokens.specs.declared.label.Kind.TheVariants.{Derive, Access, Surf
 use Rattle.ov_tokens.specs.Labels.{tag_of}
 use Rattle.ov_fields.specs.Spelling.{u32, optional, counted, IsOneOf}
 use Rattle.ov_fields.specs.Entries.{edge_field}
-use Rattle.ov_fields.specs.Reading.{at_most, below, between, number_that, one_of_at, many_at, making, spanned}
-use Rattle.ov_fields.proofs.ReadingLaws.{Reads, then_reads, sized_by}
+use Rattle.ov_fields.specs.Reading.{at_most, below, between, number_that, one_of_at, many_at, making}
+use Rattle.ov_fields.proofs.ReadingLaws.{then_reads, sized_by}
 use Rattle.ov_fields.proofs.FieldLaws.{bytes_reads, number_reads, wide16, wide32}
-use Rattle.ov_fields.proofs.NameLaws.{name_reads, token_reads}
+use Rattle.ov_fields.proofs.NameLaws.{name_reads}
 use Rattle.ov_fields.proofs.SetFields.{set_reads}
-use Rattle.ov_fields.proofs.TestLaws.{le_of, lt_of, between_of, count_is}
+use Rattle.ov_fields.proofs.TestLaws.{le_of, lt_of, between_of}
 use Rattle.ov_fields.proofs.PlaceLaws.{HasPlaces, then_places, given_places, made_places, refit_places}
 use Rattle.ov_fields.proofs.FieldPlaces.{byte_places, bytes_places, number_places, u32_places, at_most_limits, below_limits, between_limits, one_of_places, set_places, spanned_places}
 use Rattle.ov_fields.proofs.ListPlaces.{many_places, counted_places, optional_places, name_places, token_places}
 use Rattle.ov_wire.specs.AnswerReading.{greater_at, next_at, entry_or_none_at}
 use Rattle.ov_wire.specs.Chains.{step_field, chain_field, IsStep, AreSteps, IsChain, step, step_at, steps_at, chain, chain_at, base_kinds, surface_kinds}
-use Rattle.ov_wire.specs.Entries.{Entry, entry_bytes, IsNode, IsEdge, IsOfPart, IsEntry, user_entry_at, user, edge_at, edge, node_entry_at, node, access_entry_at, access, file_entry_at, file, entry_at, node_at}
+use Rattle.ov_wire.specs.Entries.{entry_bytes, IsNode, IsEdge, IsOfPart, IsEntry, user_entry_at, user, edge_at, edge, node_entry_at, node, access_entry_at, access, file_entry_at, file, entry_at, node_at}
 use Rattle.ov_wire.specs.Updates.{plain}
 use Rattle.ov_wire.proofs.ChainLaws.{step_reads}
 use Rattle.ov_wire.proofs.EntryLaws.{edge_reads, too_great, nothing_of, entry_or_none, node_is, node_fields, NodeFits}

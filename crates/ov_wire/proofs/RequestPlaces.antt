@@ -1,13 +1,12 @@
 -- The place at which bytes are no request is that of the first wrong field, or the end.
-use Rattle.std.proofs.Common.{◌≡◌, ℕ, ◌+◌, ◌-◌, ◌^◌, ◌<◌, ◌≤◌, IsTrue, List, [], ◌∷◌, ◌++◌, length, Result, Ok, Err, refl, sym, ap, subst, ◌∙◌, arith}
+use Rattle.std.proofs.Common.{◌≡◌, ℕ, ◌-◌, ◌^◌, ◌<◌, ◌≤◌, IsTrue, List, [], ◌∷◌, ◌++◌, length, Result, Ok, Err, refl, sym, ap, subst, ◌∙◌, arith}
 use Rattle.std.specs.List.{AllByRecursion}
 use Rattle.ov_base.specs.declared.limits.TheConstants.{MAX_FILE_BYTES, MAX_CHUNK_BYTES, MAX_FRAME_BYTES}
-use Rattle.ov_base.specs.Names.{IsName}
-use Rattle.ov_fields.specs.Spelling.{u8, u32, name_field}
+use Rattle.ov_fields.specs.Spelling.{u8, u32}
 use Rattle.ov_fields.specs.Fronts.{IsFront, AreAllBytes, IsWrongPlace}
 use Rattle.ov_fields.specs.Reading.{all_of, by_rows, placed, any, at_most, between}
-use Rattle.ov_fields.proofs.ReadingLaws.{AreBytes, then_reads}
-use Rattle.ov_fields.proofs.FieldLaws.{byte_reads, bytes_reads, number_reads, that_reads, wide32}
+use Rattle.ov_fields.proofs.ReadingLaws.{then_reads}
+use Rattle.ov_fields.proofs.FieldLaws.{byte_reads, number_reads, that_reads, wide32}
 use Rattle.ov_fields.proofs.NameLaws.{name_reads}
 use Rattle.ov_fields.proofs.TagLaws.{nothing_reads}
 use Rattle.ov_fields.proofs.TestLaws.{le_of, between_of}
@@ -15,15 +14,12 @@ use Rattle.ov_fields.proofs.PlaceLaws.{AreBytes-nil, AreBytes-cons, HasPlaces, n
 use Rattle.ov_fields.proofs.FieldPlaces.{byte_places, bytes_places, number_places, u32_places, at_most_limits, between_limits, nothing_places}
 use Rattle.ov_fields.proofs.ListPlaces.{name_places}
 use Rattle.ov_fields.proofs.RowPlaces.{RowPlaces, row_places, OnceOf, rows_fault, wrong_place}
-use Rattle.ov_wire.specs.declared.request.Request.{Request}
 use Rattle.ov_wire.specs.declared.request.Request.TheVariants as requests
 use Rattle.ov_wire.specs.Laws.{HasKind}
-use Rattle.ov_wire.specs.Places.{in_frame}
 use Rattle.ov_wire.specs.Updates.{Has32, IsSpelling}
 use Rattle.ov_wire.specs.Requests.{request_bytes, IsRequest}
 use Rattle.ov_wire.specs.RequestReading.{cover, cover_at, update, update_at, chain, chunk, chunk_at, page, page_at, request_rows, request_of}
 use Rattle.ov_wire.proofs.FieldsLaws.{spelling_reads}
-use Rattle.ov_wire.proofs.NamesLaws.{names_reads}
 use Rattle.ov_wire.proofs.NamePlaces.{names_places}
 use Rattle.ov_wire.proofs.QuestionLaws.{question_reads, two_names_read}
 use Rattle.ov_wire.proofs.RequestLaws.{cover_fields, CoverFits, cover_reads, update_reads, chunk_reads, page_reads, request_again}

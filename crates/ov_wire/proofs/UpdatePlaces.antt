@@ -1,5 +1,5 @@
 -- Wrong places of questions and of updates.
-use Rattle.std.proofs.Common.{◌≡◌, ℕ, zero, suc, ◌+◌, ◌*◌, ◌/◌, ◌^◌, ◌<◌, ◌≤◌, List, [], ◌∷◌, ◌++◌, length, Ok, Err, refl, subst, arith}
+use Rattle.std.proofs.Common.{◌≡◌, ℕ, zero, suc, ◌*◌, ◌/◌, ◌^◌, ◌<◌, List, [], ◌∷◌, length, Err, refl, subst, arith}
 use Rattle.ov_base.specs.declared.limits.TheConstants.{MAX_USERS, MAX_FILE_BYTES}
 use Rattle.ov_base.specs.Names.{IsName}
 use Rattle.ov_fields.specs.Spelling.{name_field}
@@ -8,15 +8,14 @@ use Rattle.ov_fields.specs.Reading.{◌>>◌, at_most, bytes_at, name_at}
 use Rattle.ov_fields.proofs.ReadingLaws.{AreBytes, then_reads, sized_by}
 use Rattle.ov_fields.proofs.FieldLaws.{bytes_reads, number_reads, that_reads, wide16, wide32}
 use Rattle.ov_fields.proofs.NameLaws.{name_reads}
-use Rattle.ov_fields.proofs.TestLaws.{of_le, count_is}
+use Rattle.ov_fields.proofs.TestLaws.{count_is}
 use Rattle.ov_fields.proofs.PlaceLaws.{AreBytes-cons, Takes, Fault, HasPlaces, none_before, fault_cut, then_places, given_places, refit_places}
 use Rattle.ov_fields.proofs.FieldPlaces.{bytes_places, number_places, u16_places, at_most_limits, spanned_places}
 use Rattle.ov_fields.proofs.ListPlaces.{name_places, optional_places, sized_places}
 use Rattle.ov_fields.proofs.RowPlaces.{kind_fault, no_kind_fault}
-use Rattle.ov_wire.specs.declared.request.Question.{Question}
 use Rattle.ov_wire.specs.declared.request.Question.TheVariants as questions
 use Rattle.ov_wire.specs.Requests.{question_bytes, HasQuestionForm}
-use Rattle.ov_wire.specs.Updates.{Fields, Enrolment, Creation, Grant, Revocation, plain, token_fields, AreTokens, tokens_at, fields_bytes, HasFields, IsSpelling, creation, creation_at, grant, grant_at, revocation, revocation_at, fields_at}
+use Rattle.ov_wire.specs.Updates.{Enrolment, plain, token_fields, AreTokens, tokens_at, fields_bytes, HasFields, IsSpelling, creation, creation_at, grant, grant_at, revocation, revocation_at, fields_at}
 use Rattle.ov_wire.specs.RequestReading as requests
 use Rattle.ov_wire.specs.RequestReading.{question_at, spelling_at}
 use Rattle.ov_wire.proofs.FieldsLaws as fields
