@@ -1,6 +1,8 @@
 pub mod FieldLaws
 pub mod FieldPlaces
+pub mod JoinPlaces
 pub mod KindLaws
+pub mod LimitPlaces
 pub mod ListLaws
 pub mod ListPlaces
 pub mod Loops

@@ -12,8 +12,10 @@ use Rattle.ov_fields.proofs.FieldLaws.{byte_reads, that_reads, wide16, wide32}
 use Rattle.ov_fields.proofs.TagLaws.{flag_reads}
 use Rattle.ov_fields.proofs.NameLaws.{one_each, is_text}
 use Rattle.ov_fields.proofs.TestLaws.{between_of}
-use Rattle.ov_fields.proofs.PlaceLaws.{AreBytes-nil, AreBytes-cons, AreBytes-both, Takes, Fault, HasPlaces, lead_fault, then_places, given_places, made_places, refit_places, same_places}
-use Rattle.ov_fields.proofs.FieldPlaces.{byte_places, bytes_places, one_of_places, u16_places, u32_places, at_most_limits}
+use Rattle.ov_fields.proofs.PlaceLaws.{AreBytes-nil, AreBytes-cons, AreBytes-both, Takes, Fault, HasPlaces, lead_fault}
+use Rattle.ov_fields.proofs.JoinPlaces.{then_places, given_places, made_places, refit_places, same_places}
+use Rattle.ov_fields.proofs.FieldPlaces.{byte_places, bytes_places, one_of_places}
+use Rattle.ov_fields.proofs.LimitPlaces.{u16_places, u32_places, at_most_limits}
 
 -- ---- so many values
 

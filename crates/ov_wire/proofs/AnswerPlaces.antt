@@ -16,7 +16,8 @@ use Rattle.ov_fields.proofs.FieldLaws.{bytes_reads, number_reads, wide32, test_o
 use Rattle.ov_fields.proofs.SetFields.{set_reads}
 use Rattle.ov_fields.proofs.TagLaws.{nothing_reads, flag_reads}
 use Rattle.ov_fields.proofs.TestLaws.{count_is}
-use Rattle.ov_fields.proofs.PlaceLaws.{AreBytes-nil, AreBytes-cons, Stops, at_end, at_byte, has_nothing, HasPlaces, none_before, then_places}
+use Rattle.ov_fields.proofs.PlaceLaws.{AreBytes-nil, AreBytes-cons, Stops, at_end, at_byte, has_nothing, HasPlaces, none_before}
+use Rattle.ov_fields.proofs.JoinPlaces.{then_places}
 use Rattle.ov_fields.proofs.FieldPlaces.{bytes_places, number_places, nothing_places, one_of_places, set_places}
 use Rattle.ov_fields.proofs.ListPlaces.{counted_places, optional_places}
 use Rattle.ov_fields.proofs.RowPlaces.{RowPlaces, row_places, tail_of, HasTail, IsWhole, OnceOf, rows_fault, wrong_place}

@@ -11,8 +11,9 @@ use Rattle.ov_fields.proofs.ReadingLaws.{AreBytes, AreBytes-back, bind_ok, bind_
 use Rattle.ov_fields.proofs.FieldLaws.{that_reads, wide16}
 use Rattle.ov_fields.proofs.NameLaws.{name_reads}
 use Rattle.ov_fields.proofs.TestLaws.{le_of}
-use Rattle.ov_fields.proofs.PlaceLaws.{Begun, has_nothing, has_name, has_number, Takes, Stops, at_end, at_byte, at_u16, at_u32, at_name, Fault, HasPlaces, lead_fault, none_before, fault_here, given_places, refit_places}
-use Rattle.ov_fields.proofs.FieldPlaces.{u16_places, at_most_limits}
+use Rattle.ov_fields.proofs.PlaceLaws.{Begun, has_nothing, has_name, has_number, Takes, Stops, at_end, at_byte, at_u16, at_u32, at_name, Fault, HasPlaces, lead_fault, none_before, fault_here}
+use Rattle.ov_fields.proofs.JoinPlaces.{given_places, refit_places}
+use Rattle.ov_fields.proofs.LimitPlaces.{u16_places, at_most_limits}
 use Rattle.ov_fields.proofs.ListPlaces.{name_places}
 use Rattle.ov_wire.specs.RequestReading.{new_names_at, names_at}
 use Rattle.ov_wire.proofs.NamesLaws.{AreNew, behind, others_at, seen_ok, new_are, AreFewNames}

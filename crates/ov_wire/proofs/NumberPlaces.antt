@@ -18,8 +18,10 @@ use Rattle.ov_fields.proofs.FieldLaws.{bytes_reads, number_reads, wide16, wide32
 use Rattle.ov_fields.proofs.NameLaws.{name_reads}
 use Rattle.ov_fields.proofs.SetFields.{set_reads}
 use Rattle.ov_fields.proofs.TestLaws.{le_of, lt_of, between_of}
-use Rattle.ov_fields.proofs.PlaceLaws.{HasPlaces, then_places, given_places, made_places, refit_places}
-use Rattle.ov_fields.proofs.FieldPlaces.{byte_places, bytes_places, number_places, u32_places, at_most_limits, below_limits, between_limits, one_of_places, set_places, spanned_places}
+use Rattle.ov_fields.proofs.PlaceLaws.{HasPlaces}
+use Rattle.ov_fields.proofs.JoinPlaces.{then_places, given_places, made_places, refit_places}
+use Rattle.ov_fields.proofs.FieldPlaces.{byte_places, bytes_places, number_places, one_of_places, set_places, spanned_places}
+use Rattle.ov_fields.proofs.LimitPlaces.{u32_places, at_most_limits, below_limits, between_limits}
 use Rattle.ov_fields.proofs.ListPlaces.{many_places, counted_places, optional_places, name_places, token_places}
 use Rattle.ov_wire.specs.AnswerReading.{greater_at, next_at, entry_or_none_at}
 use Rattle.ov_wire.specs.Chains.{step_field, chain_field, IsStep, AreSteps, IsChain, step, step_at, steps_at, chain, chain_at, base_kinds, surface_kinds}

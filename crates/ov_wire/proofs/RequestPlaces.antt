@@ -10,8 +10,10 @@ use Rattle.ov_fields.proofs.FieldLaws.{byte_reads, number_reads, that_reads, wid
 use Rattle.ov_fields.proofs.NameLaws.{name_reads}
 use Rattle.ov_fields.proofs.TagLaws.{nothing_reads}
 use Rattle.ov_fields.proofs.TestLaws.{le_of, between_of}
-use Rattle.ov_fields.proofs.PlaceLaws.{AreBytes-nil, AreBytes-cons, HasPlaces, none_before, then_places}
-use Rattle.ov_fields.proofs.FieldPlaces.{byte_places, bytes_places, number_places, u32_places, at_most_limits, between_limits, nothing_places}
+use Rattle.ov_fields.proofs.PlaceLaws.{AreBytes-nil, AreBytes-cons, HasPlaces, none_before}
+use Rattle.ov_fields.proofs.JoinPlaces.{then_places}
+use Rattle.ov_fields.proofs.FieldPlaces.{byte_places, bytes_places, number_places, nothing_places}
+use Rattle.ov_fields.proofs.LimitPlaces.{u32_places, at_most_limits, between_limits}
 use Rattle.ov_fields.proofs.ListPlaces.{name_places}
 use Rattle.ov_fields.proofs.RowPlaces.{RowPlaces, row_places, OnceOf, rows_fault, wrong_place}
 use Rattle.ov_wire.specs.declared.request.Request.TheVariants as requests

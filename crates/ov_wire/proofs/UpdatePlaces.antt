@@ -9,8 +9,10 @@ use Rattle.ov_fields.proofs.ReadingLaws.{AreBytes, then_reads, sized_by}
 use Rattle.ov_fields.proofs.FieldLaws.{bytes_reads, number_reads, that_reads, wide16, wide32}
 use Rattle.ov_fields.proofs.NameLaws.{name_reads}
 use Rattle.ov_fields.proofs.TestLaws.{count_is}
-use Rattle.ov_fields.proofs.PlaceLaws.{AreBytes-cons, Takes, Fault, HasPlaces, none_before, fault_cut, then_places, given_places, refit_places}
-use Rattle.ov_fields.proofs.FieldPlaces.{bytes_places, number_places, u16_places, at_most_limits, spanned_places}
+use Rattle.ov_fields.proofs.PlaceLaws.{AreBytes-cons, Takes, Fault, HasPlaces, none_before, fault_cut}
+use Rattle.ov_fields.proofs.JoinPlaces.{then_places, given_places, refit_places}
+use Rattle.ov_fields.proofs.FieldPlaces.{bytes_places, number_places, spanned_places}
+use Rattle.ov_fields.proofs.LimitPlaces.{u16_places, at_most_limits}
 use Rattle.ov_fields.proofs.ListPlaces.{name_places, optional_places, sized_places}
 use Rattle.ov_fields.proofs.RowPlaces.{kind_fault, no_kind_fault}
 use Rattle.ov_wire.specs.declared.request.Question.TheVariants as questions
