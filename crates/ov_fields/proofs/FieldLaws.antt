@@ -54,7 +54,7 @@ long_ok : {A : Type 0} (b : Bool) (left : ℕ) (x y : A) → cond b (Err left) (
 long_ok true left x y e = absurd cc
 long_ok false left x y e = (refl, cc)
 
-long_err : {A : Type 0} (b : Bool) (n left : ℕ) (x : A) → cond b (Err n) (done x) ≡ Err left → (b ≡ true) × (n ≡ left)
+pub long_err : {A : Type 0} (b : Bool) (n left : ℕ) (x : A) → cond b (Err n) (done x) ≡ Err left → (b ≡ true) × (n ≡ left)
 long_err true n left x e = (refl, cc)
 long_err false n left x e = absurd cc
 

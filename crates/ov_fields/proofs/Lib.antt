@@ -1,10 +1,16 @@
 pub mod FieldLaws
+pub mod FieldPlaces
+pub mod JoinPlaces
 pub mod KindLaws
+pub mod LimitPlaces
 pub mod ListLaws
+pub mod ListPlaces
 pub mod Loops
 pub mod NameLaws
+pub mod PlaceLaws
 pub mod ReadingLaws
 pub mod RowLaws
+pub mod RowPlaces
 pub mod SetFields
 pub mod TagLaws
 pub mod TestLaws

@@ -31,12 +31,12 @@ each_is : (xs : List ℕ) → IsTrue (list_all is_name_byte xs) → AllByRecursi
 each_is [] h = tt
 each_is (x ∷ xs) h = let b = both_are (is_name_byte x) (list_all is_name_byte xs) h in (b.0, each_is xs b.1)
 
-one_each : (xs : List ℕ) → flat_map u8 xs ≡ xs
+pub one_each : (xs : List ℕ) → flat_map u8 xs ≡ xs
 one_each [] = refl
 one_each (x ∷ xs) = ap (λ (l : List ℕ). x ∷ l) (one_each xs)
 
 -- a first byte, others, and what they are together
-is_text : (first : ℕ) (others : List ℕ) → IsTrue (is_letter_or_digit first) → length others < MAX_NAME_BYTES → AllByRecursion (λ b. IsTrue (is_name_byte b)) others → IsName (first ∷ others)
+pub is_text : (first : ℕ) (others : List ℕ) → IsTrue (is_letter_or_digit first) → length others < MAX_NAME_BYTES → AllByRecursion (λ b. IsTrue (is_name_byte b)) others → IsName (first ∷ others)
 is_text first others h short all =
     let few : IsTrue (nat_lt (length others) MAX_NAME_BYTES) = grind (arith, nat_tests) in
     both_true (is_letter_or_digit first && nat_lt (length others) MAX_NAME_BYTES) (list_all is_name_byte others)

@@ -8,7 +8,7 @@ use Rattle.ov_fields.proofs.WholeLaws.{all_takes, all_again, all_near}
 use Rattle.ov_fields.proofs.KindLaws.{IsKind}
 
 -- what is made of a value, or the fault
-abbrev made_whole : {A B : Type 0} → (A → B) → Result A ℕ → Result B ℕ
+abbrev pub made_whole : {A B : Type 0} → (A → B) → Result A ℕ → Result B ℕ
 made_whole make (Ok a) = Ok (make a)
 made_whole make (Err left) = Err left
 
@@ -16,15 +16,15 @@ ended_made : {A B : Type 0} (b : Bool) (make : A → B) (a : A) (left : ℕ) →
 ended_made true make a left = refl
 ended_made false make a left = refl
 
-all_made : {A B : Type 0} (make : A → B) (read : Read A) → all_of (made make read) ≡ made_whole make (all_of read)
+pub all_made : {A B : Type 0} (make : A → B) (read : Read A) → all_of (made make read) ≡ made_whole make (all_of read)
 all_made make (Ok x) = ended_made (eqb (length x.1) 0) make x.0 (length x.1)
 all_made make (Err left) = refl
 
-made_ok : {A B : Type 0} (make : A → B) (r : Result A ℕ) (b : B) → made_whole make r ≡ Ok b → (a : A) × (r ≡ Ok a) × (make a ≡ b)
+pub made_ok : {A B : Type 0} (make : A → B) (r : Result A ℕ) (b : B) → made_whole make r ≡ Ok b → (a : A) × (r ≡ Ok a) × (make a ≡ b)
 made_ok make (Ok a) b e = (a, refl, cc)
 made_ok make (Err left) b e = absurd cc
 
-made_err : {A B : Type 0} (make : A → B) (r : Result A ℕ) (left : ℕ) → made_whole make r ≡ Err left → r ≡ Err left
+pub made_err : {A B : Type 0} (make : A → B) (r : Result A ℕ) (left : ℕ) → made_whole make r ≡ Err left → r ≡ Err left
 made_err make (Ok a) left e = absurd cc
 made_err make (Err other) left e = cc
 

@@ -1,12 +1,12 @@
 -- Reading a list of bytes as a whole, and what follows for spellings.
-use Rattle.std.proofs.Common.{◌≡◌, ℕ, ◌+◌, ◌≤◌, Bool, true, false, cond, eqb, List, [], ◌++◌, length, Result, Ok, Err, refl, sym, ap, subst, ◌∙◌, length-append, arith}
+use Rattle.std.proofs.Common.{◌≡◌, ℕ, ◌+◌, ◌≤◌, cond, eqb, List, [], ◌++◌, length, Result, Ok, Err, sym, ap, subst, ◌∙◌, length-append, arith}
 use Rattle.std.proofs.lemmas.Bool.{eqb-true}
 use Rattle.std.proofs.lemmas.List.{append-nil, nil_from_length}
 use Rattle.ov_fields.specs.Reading.{Read, all_of}
 use Rattle.ov_fields.proofs.ReadingLaws.{AreBytes, bind_ok, bind_err, fails_first, fails_later, ok_is, Reads}
 use Rattle.ov_fields.proofs.FieldLaws.{test_ok, test_err}
 
-abbrev ended : {A : Type 0} → A × List ℕ → Result A ℕ
+abbrev pub ended : {A : Type 0} → A × List ℕ → Result A ℕ
 ended a = cond (eqb (length a.1) 0) (Ok a.0) (Err (length a.1))
 
 pub all_takes : {A : Type 0} {read : List ℕ → Read A} {spell : A → List ℕ} {Fits : A → Type 0} {most : ℕ} → Reads read spell Fits most

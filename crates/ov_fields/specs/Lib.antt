@@ -1,4 +1,5 @@
 pub mod Answers
 pub mod Entries
+pub mod Fronts
 pub mod Reading
 pub mod Spelling

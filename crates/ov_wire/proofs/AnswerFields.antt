@@ -31,7 +31,7 @@ pub each_mode : (m : Mode) → IsOneOf m (Full ∷ Delta ∷ [])
 each_mode Full = inl refl
 each_mode Delta = inr (inl refl)
 
-either_small : (b : Bool) (n : ℕ) → n ≤ 2 ^ 32 → cond b n 1 ≤ 2 ^ 32
+pub either_small : (b : Bool) (n : ℕ) → n ≤ 2 ^ 32 → cond b n 1 ≤ 2 ^ 32
 either_small true n h = h
 either_small false n h = omega arith
 

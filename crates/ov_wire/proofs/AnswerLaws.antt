@@ -60,7 +60,7 @@ bytes_again n bytes few =
     let none : length (drop n bytes) ≡ 0 = omega (arith, length-drop n bytes) in
     test_again (eqb (length (drop n bytes)) 0) (length (drop n bytes)) (answers.Bytes (take n bytes)) (eq-eqb _ _ none) ∙ ap (λ (t : List ℕ). done (answers.Bytes t)) (take_all n bytes few)
 
-names_few : (names : List (List ℕ)) → AreFewNames MAX_USERS names → (length names ≤ MAX_USERS) × AreNames names
+pub names_few : (names : List (List ℕ)) → AreFewNames MAX_USERS names → (length names ≤ MAX_USERS) × AreNames names
 names_few names fits = (fits.few, fits.are_names)
 
 rows_read : (request : Request) → AllByRecursion (RowReads answer_bytes (IsAnswer request) most_bytes) (answer_rows request)

@@ -22,7 +22,7 @@ use Rattle.ov_wire.specs.Entries.{Entry, User, Node, Access, File, entry_bytes, 
 use Rattle.ov_wire.specs.AnswerReading.{entry_or_none_at}
 use Rattle.ov_wire.proofs.NumberLaws.{node_reads, at_most_reads, below_reads}
 
-edge_reads : Reads edge_at edge_field IsEdge (4 + 32)
+pub edge_reads : Reads edge_at edge_field IsEdge (4 + 32)
 edge_reads = made_reads edge (λ e. (e.from, e.token)) (λ f. refl) (λ e. refl) (then_reads node_reads token_reads)
 
 -- no entry has more bytes
@@ -48,16 +48,16 @@ user_reads =
     (λ f fits. (fits.0.0, fits.0.1, fits.1)) (λ f fits. refl) back_user)
     longest_entry (omega arith)
 
-abbrev NodeFields : Type 0
+abbrev pub NodeFields : Type 0
 NodeFields = ℕ × List Edge
 
-abbrev NodeFits : NodeFields → Type 0
+abbrev pub NodeFits : NodeFields → Type 0
 NodeFits f = IsBelow MAX_USERS f.0 × (IsCount (2 ^ 16) MAX_USERS (length f.1) × AllByRecursion IsEdge f.1)
 
 back_node : (set : ℕ) (edges : List Edge) → IsNodeEntry set edges → NodeFits (set, edges)
 back_node set edges is = (is.0, (is_count (2 ^ 16) MAX_USERS (length edges) (omega arith) is.1, is.2))
 
-node_is : (f : NodeFields) → NodeFits f → IsNodeEntry f.0 f.1
+pub node_is : (f : NodeFields) → NodeFits f → IsNodeEntry f.0 f.1
 node_is f fits = (fits.0, count_is (2 ^ 16) MAX_USERS (length f.1) fits.1.0, fits.1.1)
 
 back_node_2 : (e : Entry) → IsOfPart 2 e → (f : NodeFields) × NodeFits f × (node f ≡ e)
@@ -72,7 +72,7 @@ back_node_3 (Node set edges) is = ((set, edges), back_node set edges is, refl)
 back_node_3 (Access u n token) is = absurd is
 back_node_3 (File name n len generation tag surface) is = absurd is
 
-abbrev node_fields : NodeFields → List ℕ
+abbrev pub node_fields : NodeFields → List ℕ
 node_fields f = bytes_of 32 f.0 ++ counted edge_field f.1
 
 node_entry_reads : Reads node_entry_at node_fields NodeFits (32 + (2 + MAX_USERS * (4 + 32)))
@@ -131,7 +131,7 @@ file_reads =
     (λ f fits. (fits.0.0.0.0.0, fits.0.0.0.0.1, fits.0.0.0.1, fits.0.0.1, fits.0.1, fits.1)) (λ f fits. refl) back_file)
     longest_entry (omega arith)
 
-too_great : (part : ℕ) → IsTrue (between 1 5 (suc (suc (suc (suc (suc (suc part))))))) → ⊥
+pub too_great : (part : ℕ) → IsTrue (between 1 5 (suc (suc (suc (suc (suc (suc part))))))) → ⊥
 too_great part is = let b = between_of 1 5 (suc (suc (suc (suc (suc (suc part)))))) is in omega (arith, b.1)
 
 -- the readers of the five parts
@@ -163,7 +163,7 @@ none_great part (Node set edges) is = is
 none_great part (Access u n token) is = is
 none_great part (File name n len generation tag surface) is = is
 
-no_part : (part : ℕ) → between 1 5 part ≡ false → (e : Entry) → IsOfPart part e → ⊥
+pub no_part : (part : ℕ) → between 1 5 part ≡ false → (e : Entry) → IsOfPart part e → ⊥
 no_part zero out e is = none_zero e is
 no_part (suc zero) out e is = absurd cc
 no_part (suc (suc zero)) out e is = absurd cc
@@ -172,13 +172,13 @@ no_part (suc (suc (suc (suc zero)))) out e is = absurd cc
 no_part (suc (suc (suc (suc (suc zero))))) out e is = absurd cc
 no_part (suc (suc (suc (suc (suc (suc part)))))) out e is = none_great part e is
 
-zero_reads : Reads (byte_at (at_most 0)) (λ b. b ∷ []) (λ b. b ≡ 0) 1
+pub zero_reads : Reads (byte_at (at_most 0)) (λ b. b ∷ []) (λ b. b ≡ 0) 1
 zero_reads = refit (λ b. b ≡ 0) (byte_reads (at_most 0)) (λ b h. let le = le_of 0 b h in omega (arith, le)) (λ b e. of_le 0 b (omega (arith, e)))
 
-abbrev nothing_of : ℕ → Option (List ℕ)
+abbrev pub nothing_of : ℕ → Option (List ℕ)
 nothing_of b = None
 
-abbrev entry_or_none : Bool → ℕ → List ℕ → Read (Option (List ℕ))
+abbrev pub entry_or_none : Bool → ℕ → List ℕ → Read (Option (List ℕ))
 entry_or_none b part = cond b (optional_at (spanned (entry_at part))) (making nothing_of (byte_at (at_most 0)))
 
 back_none : (part : ℕ) → between 1 5 part ≡ false → (o : Option (List ℕ)) → IfSome o (IsEntry part) → (b : ℕ) × (b ≡ 0) × (nothing_of b ≡ o)

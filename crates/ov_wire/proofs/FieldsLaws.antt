@@ -15,10 +15,10 @@ use Rattle.ov_fields.proofs.KindLaws.{IsKind, kind_takes, kind_again, kind_near,
 use Rattle.ov_wire.specs.Updates.{Fields, Enrolment, Creation, Grant, Revocation, plain, Has32, token_fields, AreTokens, tokens_at, fields_bytes, HasFields, IsSpelling, creation, creation_at, grant, grant_at, revocation, revocation_at, fields_at}
 use Rattle.ov_wire.specs.RequestReading.{spelling_at}
 
-abbrev creation_fields : (((List ℕ × List ℕ) × List ℕ) × List ℕ) × List ℕ → List ℕ
+abbrev pub creation_fields : (((List ℕ × List ℕ) × List ℕ) × List ℕ) × List ℕ → List ℕ
 creation_fields f = name_field f.0.0.0.0 ++ f.0.0.0.1 ++ token_fields f.0.0.1 ++ f.0.1 ++ sized f.1
 
-abbrev CreationFits : (((List ℕ × List ℕ) × List ℕ) × List ℕ) × List ℕ → Type 0
+abbrev pub CreationFits : (((List ℕ × List ℕ) × List ℕ) × List ℕ) × List ℕ → Type 0
 CreationFits f =
     (((IsName f.0.0.0.0 × Has32 f.0.0.0.1) × AreTokens MAX_USERS f.0.0.1) × Has32 f.0.1)
     × (IsCount (2 ^ 32) MAX_FILE_BYTES (length f.1) × Unit {0})
@@ -34,7 +34,7 @@ blocks_reads n =
       short = λ tokens fits. omega (arith, fits.0, fits.1);
     }
 
-tokens_reads : (most : ℕ) → most < 2 ^ 16 → Reads (tokens_at most) token_fields (AreTokens most) (2 + 32 * most)
+pub tokens_reads : (most : ℕ) → most < 2 ^ 16 → Reads (tokens_at most) token_fields (AreTokens most) (2 + 32 * most)
 unfolding tokens_at
 tokens_reads most small =
     let R = given_reads (λ n. bytes_at (32 * n)) plain (λ tokens. length tokens ≡ 32 * (length tokens / 32)) (λ tokens. length tokens / 32) (32 * most) (that_reads wide16 (at_most most))
@@ -46,40 +46,40 @@ tokens_reads most small =
       short = λ tokens fits. R.short tokens (is_count (2 ^ 16) most (length tokens / 32) small fits.1, fits.0);
     }
 
-creation_reads : Reads creation_at creation_fields CreationFits (longest_name + 32 + (2 + 32 * MAX_USERS) + 32 + (4 + MAX_FILE_BYTES))
+pub creation_reads : Reads creation_at creation_fields CreationFits (longest_name + 32 + (2 + 32 * MAX_USERS) + 32 + (4 + MAX_FILE_BYTES))
 creation_reads = then_reads (then_reads (then_reads (then_reads name_reads (bytes_reads 32)) (tokens_reads MAX_USERS (omega arith))) (bytes_reads 32)) (sized_reads MAX_FILE_BYTES)
 
-creation_kind : IsKind creation_fields CreationFits fields_bytes HasFields 2 creation
+pub creation_kind : IsKind creation_fields CreationFits fields_bytes HasFields 2 creation
 creation_kind = record {
   form = λ f fits. (fits.0.0.0.0, fits.0.0.0.1, fits.0.0.1, fits.0.1, count_is (2 ^ 32) MAX_FILE_BYTES (length f.1) fits.1.0);
   spelled = λ f. refl;
 }
 
-abbrev grant_fields : (ℕ × ℕ) × Option (List ℕ) → List ℕ
+abbrev pub grant_fields : (ℕ × ℕ) × Option (List ℕ) → List ℕ
 grant_fields f = u32 f.0.0 ++ u32 f.0.1 ++ optional plain f.1
 
-abbrev GrantFits : (ℕ × ℕ) × Option (List ℕ) → Type 0
+abbrev pub GrantFits : (ℕ × ℕ) × Option (List ℕ) → Type 0
 GrantFits f = ((f.0.0 < 2 ^ 32) × (f.0.1 < 2 ^ 32)) × IfSome f.1 Has32
 
-grant_reads : Reads grant_at grant_fields GrantFits (4 + 4 + (1 + 32))
+pub grant_reads : Reads grant_at grant_fields GrantFits (4 + 4 + (1 + 32))
 grant_reads = then_reads (then_reads (number_reads wide32) (number_reads wide32)) (optional_reads (bytes_reads 32))
 
-grant_kind : IsKind grant_fields GrantFits fields_bytes HasFields 3 grant
+pub grant_kind : IsKind grant_fields GrantFits fields_bytes HasFields 3 grant
 grant_kind = record { form = λ f fits. (fits.0.0, fits.0.1, fits.1); spelled = λ f. refl }
 
-abbrev revocation_fields : ℕ × ℕ → List ℕ
+abbrev pub revocation_fields : ℕ × ℕ → List ℕ
 revocation_fields f = u32 f.0 ++ u32 f.1
 
-abbrev RevocationFits : ℕ × ℕ → Type 0
+abbrev pub RevocationFits : ℕ × ℕ → Type 0
 RevocationFits f = (f.0 < 2 ^ 32) × (f.1 < 2 ^ 32)
 
-revocation_reads : Reads revocation_at revocation_fields RevocationFits (4 + 4)
+pub revocation_reads : Reads revocation_at revocation_fields RevocationFits (4 + 4)
 revocation_reads = then_reads (number_reads wide32) (number_reads wide32)
 
-revocation_kind : IsKind revocation_fields RevocationFits fields_bytes HasFields 4 revocation
+pub revocation_kind : IsKind revocation_fields RevocationFits fields_bytes HasFields 4 revocation
 revocation_kind = record { form = λ f fits. fits; spelled = λ f. refl }
 
-enrolment_kind : IsKind name_field IsName fields_bytes HasFields 1 Enrolment
+pub enrolment_kind : IsKind name_field IsName fields_bytes HasFields 1 Enrolment
 enrolment_kind = record { form = λ name is. is; spelled = λ name. refl }
 
 -- no update has more bytes

@@ -21,18 +21,18 @@ use Rattle.ov_wire.specs.Requests.{AreNames}
 use Rattle.ov_wire.specs.RequestReading.{new_names_at, names_at}
 
 -- names of which none was seen or comes twice
-abbrev AreNew : List (List ℕ) → List (List ℕ) → Type 0
+abbrev pub AreNew : List (List ℕ) → List (List ℕ) → Type 0
 AreNew seen [] = Unit {0}
 AreNew seen (name ∷ names) = IsName name × (is_among name seen ≡ false) × AreNew (seen ++ name ∷ []) names
 
-abbrev behind : List ℕ → List (List ℕ) × List ℕ → List (List ℕ) × List ℕ
+abbrev pub behind : List ℕ → List (List ℕ) × List ℕ → List (List ℕ) × List ℕ
 behind name others = (name ∷ others.0, others.1)
 
 -- what is read behind a name, whether it was seen or not
-abbrev others_at : Bool → ℕ → ℕ → List (List ℕ) → List ℕ → Read (List (List ℕ))
+abbrev pub others_at : Bool → ℕ → ℕ → List (List ℕ) → List ℕ → Read (List (List ℕ))
 others_at test left count seen bytes = cond test (Err left) (new_names_at count seen bytes)
 
-seen_ok : (b : Bool) (left count : ℕ) (seen : List (List ℕ)) (bytes : List ℕ) (x : List (List ℕ) × List ℕ) → others_at b left count seen bytes ≡ Ok x
+pub seen_ok : (b : Bool) (left count : ℕ) (seen : List (List ℕ)) (bytes : List ℕ) (x : List (List ℕ) × List ℕ) → others_at b left count seen bytes ≡ Ok x
     → (b ≡ false) × (new_names_at count seen bytes ≡ Ok x)
 seen_ok true left count seen bytes x e = absurd cc
 seen_ok false left count seen bytes x e = (refl, e)
@@ -130,7 +130,7 @@ are_new seen [] all distinct none = tt
 are_new seen (name ∷ names) all distinct none =
     (all.0, none.0, are_new (seen ++ name ∷ []) names all.1 distinct.1 (none_more seen name names none.1 distinct.0))
 
-new_are : (seen names : List (List ℕ)) → AreNew seen names → AllByRecursion IsName names × IsDistinct bytes_eq names × NoneSeen seen names
+pub new_are : (seen names : List (List ℕ)) → AreNew seen names → AllByRecursion IsName names × IsDistinct bytes_eq names × NoneSeen seen names
 unfolding IsDistinct
 new_are seen [] new = (tt, tt, tt)
 new_are seen (name ∷ names) new =

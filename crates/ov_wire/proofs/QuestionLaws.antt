@@ -20,16 +20,16 @@ AreTwoNames f = IsName f.0 × IsName f.1
 pub two_names_read : Reads (name_at >> name_at) two_names AreTwoNames (longest_name + longest_name)
 two_names_read = then_reads name_reads name_reads
 
-enrol_kind : IsKind name_field IsName question_bytes HasQuestionForm 1 questions.Enrol
+pub enrol_kind : IsKind name_field IsName question_bytes HasQuestionForm 1 questions.Enrol
 enrol_kind = record { form = λ name is. is; spelled = λ name. refl }
 
-grant_kind : IsKind two_names AreTwoNames question_bytes HasQuestionForm 3 grant
+pub grant_kind : IsKind two_names AreTwoNames question_bytes HasQuestionForm 3 grant
 grant_kind = record { form = λ f fits. fits; spelled = λ f. refl }
 
-revoke_kind : IsKind two_names AreTwoNames question_bytes HasQuestionForm 4 revoke
+pub revoke_kind : IsKind two_names AreTwoNames question_bytes HasQuestionForm 4 revoke
 revoke_kind = record { form = λ f fits. fits; spelled = λ f. refl }
 
-key_kind : IsKind name_field IsName question_bytes HasQuestionForm 5 questions.Key
+pub key_kind : IsKind name_field IsName question_bytes HasQuestionForm 5 questions.Key
 key_kind = record { form = λ name is. is; spelled = λ name. refl }
 
 -- no question has more bytes

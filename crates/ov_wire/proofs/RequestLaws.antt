@@ -21,23 +21,23 @@ use Rattle.ov_wire.proofs.FieldsLaws.{spelling_reads, longest}
 use Rattle.ov_wire.proofs.NamesLaws.{AreFewNames, names_reads}
 use Rattle.ov_wire.proofs.QuestionLaws.{question_reads, two_names_read}
 
-abbrev cover_fields : (List ℕ × ℕ) × List (List ℕ) → List ℕ
+abbrev pub cover_fields : (List ℕ × ℕ) × List (List ℕ) → List ℕ
 cover_fields f = name_field f.0.0 ++ u32 f.0.1 ++ counted name_field f.1
 
-abbrev CoverFits : (List ℕ × ℕ) × List (List ℕ) → Type 0
+abbrev pub CoverFits : (List ℕ × ℕ) × List (List ℕ) → Type 0
 CoverFits f = (IsName f.0.0 × ((f.0.1 < 2 ^ 32) × IsTrue (at_most MAX_FILE_BYTES f.0.1))) × AreFewNames 65535 f.1
 
-cover_reads : Reads cover_at cover_fields CoverFits (longest_name + 4 + (2 + 65535 * longest_name))
+pub cover_reads : Reads cover_at cover_fields CoverFits (longest_name + 4 + (2 + 65535 * longest_name))
 cover_reads = then_reads (then_reads name_reads (that_reads wide32 (at_most MAX_FILE_BYTES))) (names_reads 65535 (omega arith))
 
-update_reads : Reads update_at (λ f. u32 f.0.0 ++ f.0.1 ++ f.1) (λ f. ((f.0.0 < 2 ^ 32) × IsSpelling f.0.1) × Has32 f.1) (4 + longest + 32)
+pub update_reads : Reads update_at (λ f. u32 f.0.0 ++ f.0.1 ++ f.1) (λ f. ((f.0.0 < 2 ^ 32) × IsSpelling f.0.1) × Has32 f.1) (4 + longest + 32)
 update_reads = then_reads (then_reads (number_reads wide32) spelling_reads) (bytes_reads 32)
 
-chunk_reads : Reads chunk_at (λ f. u32 f.0.0.0 ++ u32 f.0.0.1 ++ u32 f.0.1 ++ u32 f.1)
+pub chunk_reads : Reads chunk_at (λ f. u32 f.0.0.0 ++ u32 f.0.0.1 ++ u32 f.0.1 ++ u32 f.1)
     (λ f. (((f.0.0.0 < 2 ^ 32) × (f.0.0.1 < 2 ^ 32)) × (f.0.1 < 2 ^ 32)) × ((f.1 < 2 ^ 32) × IsTrue (between 1 MAX_CHUNK_BYTES f.1))) (4 + 4 + 4 + 4)
 chunk_reads = then_reads (then_reads (then_reads (number_reads wide32) (number_reads wide32)) (number_reads wide32)) (that_reads wide32 (between 1 MAX_CHUNK_BYTES))
 
-page_reads : Reads page_at (λ f. u8 f.0 ++ u32 f.1) (λ f. IsTrue (any f.0) × (f.1 < 2 ^ 32)) (1 + 4)
+pub page_reads : Reads page_at (λ f. u8 f.0 ++ u32 f.1) (λ f. IsTrue (any f.0) × (f.1 < 2 ^ 32)) (1 + 4)
 page_reads = then_reads (byte_reads any) (number_reads wide32)
 
 -- no request has more bytes behind its kind byte

@@ -9,8 +9,9 @@
 //! answer to the request that was sent (`answer_bytes` in `specs/AnswerBytes`, `IsAnswer` in
 //! `specs/AnswersTo`), as far as the two decide it. Elsewhere they name the place of the first
 //! field that nothing in the grammar continues, or the end, as `specs/RequestReading` and
-//! `specs/AnswerReading` say, row by row. [`write_request`] and [`write_answer`] append the
-//! spelling. An answer within the limits of a store (`HasAnswerForm` in `specs/AnswerForm`) fits a
+//! `specs/AnswerReading` say, row by row; that it is this place is a law
+//! ([`bad_requests_are_placed`], [`bad_answers_are_placed`]; `IsWrongPlace` in ov_fields).
+//! [`write_request`] and [`write_answer`] append the spelling. An answer within the limits of a store (`HasAnswerForm` in `specs/AnswerForm`) fits a
 //! frame, and is read as itself or not at all, whatever was asked ([`answers_are_read_alike`]).
 //!
 //! An update's spelling and a catalogue entry stand in frames as they are. Where they end, or what
@@ -46,7 +47,8 @@ pub use answer_writing::write_answer;
 pub use decoder::Decoder;
 pub use fault::{FeedFault, WireFault};
 pub use laws::{
-    answers_are_read_alike, answers_fit_frames, frames_are_told_apart, requests_fit_frames,
+    answers_are_read_alike, answers_fit_frames, bad_answers_are_placed, bad_requests_are_placed,
+    frames_are_told_apart, requests_fit_frames,
 };
 pub use request::{Question, Request};
 pub use request_reading::read_request;

@@ -18,20 +18,23 @@ fn put_byte_and_name(byte: u8, name: &Name, out: &mut Vec<u8>) -> Result<(), Mem
     put_name(name, out)
 }
 
+/// Appends a byte, and the names of a user and of a file.
+fn put_two_names(byte: u8, user: &Name, file: &Name, out: &mut Vec<u8>) -> Result<(), Memory>
+    ensures { OnOk result (out.new.items
+        ≡ out.old.items ++ (byte ∷ name_field user.now ++ name_field file.now)) }
+{
+    put_byte_and_name(byte, user, out)?;
+    put_name(file, out)
+}
+
 /// Appends a verb, and the names that the command has.
 fn put_question(question: &Question, out: &mut Vec<u8>) -> Result<(), Memory>
     ensures { OnOk result (out.new.items ≡ out.old.items ++ question_bytes question.now) }
 {
     match question {
         Question::Enrol { user } => put_byte_and_name(1, user, out)?,
-        Question::Grant { user, file } => {
-            put_byte_and_name(3, user, out)?;
-            put_name(file, out)?;
-        }
-        Question::Revoke { user, file } => {
-            put_byte_and_name(4, user, out)?;
-            put_name(file, out)?;
-        }
+        Question::Grant { user, file } => put_two_names(3, user, file, out)?,
+        Question::Revoke { user, file } => put_two_names(4, user, file, out)?,
         Question::Key { user } => put_byte_and_name(5, user, out)?,
     }
     Ok(())
@@ -46,6 +49,22 @@ fn put_cover(file: &Name, len: u32, names: &Names, out: &mut Vec<u8>) -> Result<
     put_byte_and_name(3, file, out)?;
     put_u32(len, out)?;
     put_names(names, out)
+}
+
+/// Appends a Chunk.
+fn put_chunk(
+    file: u32,
+    generation: u32,
+    start: u32,
+    count: u32,
+    out: &mut Vec<u8>,
+) -> Result<(), Memory>
+    ensures { OnOk result (out.new.items ≡ out.old.items
+        ++ (6 ∷ u32 file ++ u32 generation ++ u32 start ++ u32 count)) }
+{
+    out.push(6)?;
+    put_two(file, generation, out)?;
+    put_two(start, count, out)
 }
 
 /// The update's spelling, and the owner's tag.
@@ -79,20 +98,13 @@ fn put_front(request: &Request, out: &mut Vec<u8>) -> Result<(), Memory>
             out.push(4)?;
             put_u32(*epoch, out)?;
         }
-        Request::Chain { user, file } => {
-            put_byte_and_name(5, user, out)?;
-            put_name(file, out)?;
-        }
+        Request::Chain { user, file } => put_two_names(5, user, file, out)?,
         Request::Chunk {
             file,
             generation,
             start,
             count,
-        } => {
-            out.push(6)?;
-            put_two(*file, *generation, out)?;
-            put_two(*start, *count, out)?;
-        }
+        } => put_chunk(*file, *generation, *start, *count, out)?,
         Request::Page { part, number } => {
             out.extend_from_slice(&[7, *part])?;
             put_u32(*number, out)?;
