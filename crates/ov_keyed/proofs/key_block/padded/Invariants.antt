@@ -1,6 +1,6 @@
 -- The bytes below the index are XORed, and those from it on are as they were.
 use Rattle.std.proofs.Common.{◌≡◌, ◌++◌, map, take, drop, bit_xor}
-use Rattle.ov_keyed.proofs.hmac.padded.Given as goal
+use Rattle.ov_keyed.proofs.key_block.padded.Given as goal
 
 abbrev pub invariant-loop-place : goal.invariant-loop-place
 invariant-loop-place l =

@@ -2,7 +2,7 @@
 use Rattle.std.proofs.Common.{◌<◌, length, arith, bit_xor}
 use Rattle.std.proofs.lemmas.Grind.{common_steps}
 use Rattle.std.proofs.lemmas.List.Edits.{map_over_more}
-use Rattle.ov_keyed.proofs.hmac.padded.Goals as goal
+use Rattle.ov_keyed.proofs.key_block.padded.Goals as goal
 
 pub loop-place-preserved : goal.loop-place-preserved
 loop-place-preserved c =
