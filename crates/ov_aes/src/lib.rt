@@ -16,4 +16,4 @@ mod sbox;
 #[cfg(test)]
 mod tests;
 
-pub use cipher::Aes256;
+pub use cipher::{Aes256, TableAes256};
