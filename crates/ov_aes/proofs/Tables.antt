@@ -10,11 +10,15 @@ use Rattle.ov_aes.specs.declared.key_schedule.TheConstants.{POWERS_OF_X}
 use Rattle.ov_aes.specs.declared.sbox.TheConstants.{SBOX}
 
 -- two functions that agree on the numbers below n agree at each
-at_each : {A : Type 0} (n : ℕ) (f g : ℕ → A) → map f (range_with_len 0 n) ≡ map g (range_with_len 0 n) → (b : ℕ) → b < n → f b ≡ g b
+pub at_each : {A : Type 0} (n : ℕ) (f g : ℕ → A) → map f (range_with_len 0 n) ≡ map g (range_with_len 0 n) → (b : ℕ) → b < n → f b ≡ g b
 at_each {A} n f g e b lt =
     sym (get_or-map-range_with_len f 0 n b b (f 0) lt (zero-add b))
     ∙ ap (λ (t : List A). get_or t b (f 0)) e
     ∙ get_or-map-range_with_len g 0 n b b (f 0) lt (zero-add b)
+
+-- the same of all bytes
+pub at_byte : (f g : ℕ → ℕ) → map f (range_with_len 0 256) ≡ map g (range_with_len 0 256) → (b : ℕ) → b < 256 → f b ≡ g b
+at_byte = at_each 256
 
 pub sbox_entry : (b : ℕ) → b < 256 → get_or SBOX b 0 ≡ sbox b
 unfolding sbox

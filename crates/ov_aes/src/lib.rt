@@ -11,9 +11,17 @@
 mod cipher;
 mod columns;
 mod key_schedule;
+mod lanes;
 mod rounds;
+mod row_blocks;
+mod row_keys;
+mod row_rounds;
+mod row_steps;
 mod sbox;
 #[cfg(test)]
 mod tests;
+mod tower;
 
 pub use cipher::{Aes256, TableAes256};
+pub use lanes::LaneAes256;
+pub use row_blocks::Blocks;
