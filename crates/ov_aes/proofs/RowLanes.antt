@@ -1,7 +1,7 @@
 -- One lane of a vector: after a map, a sum and a constant shuffle.
-use Rattle.std.proofs.Common.{◌≡◌, ℕ, zero, suc, ◌+◌, ◌*◌, ◌/◌, ◌%◌, ◌<◌, List, [], ◌∷◌, ◌++◌, sym, zero-add, map, length, get_or, bit_xor, refl, ◌∙◌, ap, arith, Fits, w8}
+use Rattle.std.proofs.Common.{Bool, true, false, cond, ltb, ltb-true, ltb-false, ◌-◌, ◌≡◌, ℕ, zero, suc, ◌+◌, ◌*◌, ◌/◌, ◌%◌, ◌<◌, List, [], ◌∷◌, ◌++◌, sym, zero-add, map, length, get_or, bit_xor, refl, ◌∙◌, ap, arith, Fits, w8}
 use Rattle.std.specs.List.{range_with_len}
-use Rattle.std.proofs.lemmas.List.{ext_get_or, get_or-map, get_or_append_left}
+use Rattle.std.proofs.lemmas.List.{ext_get_or, get_or-map, get_or-append_right, get_or_append_left}
 use Rattle.std.proofs.lemmas.List.FromFn.{get_or-map-range_with_len}
 use Rattle.std.proofs.lemmas.Simd.{Each1-get_or}
 use lib.Lanes.{pick_l, zip2}
@@ -62,3 +62,16 @@ spell16 a len = sym (ext_get_or 0 _ _ len (λ i lt. sym (get_or-map-range_with_l
 -- four blocks, spelled out
 pub spell4 : (xs : List (List ℕ)) → (n : ℕ) → n < 4 → get_or (get_or xs 0 [] ∷ get_or xs 1 [] ∷ get_or xs 2 [] ∷ get_or xs 3 [] ∷ []) n [] ≡ get_or xs n []
 spell4 xs = below_four (λ n. get_or (get_or xs 0 [] ∷ get_or xs 1 [] ∷ get_or xs 2 [] ∷ get_or xs 3 [] ∷ []) n [] ≡ get_or xs n []) refl refl refl refl
+
+one_side : (a b : List ℕ) (k : ℕ) (t : Bool) → length a ≡ 16 → ltb k 16 ≡ t → get_or (a ++ b) k 0 ≡ cond t (get_or a k 0) (get_or b (k - 16) 0)
+one_side a b k true len e = get_or_append_left a b 0 k (omega (arith, len, ltb-true k 16 e))
+one_side a b k false len e = get_or-append_right a b 16 k 0 len (ltb-false k 16 e)
+
+picked_at : (a b : List ℕ) (k : ℕ) → length a ≡ 16 → get_or (a ++ b) k 0 ≡ cond (ltb k 16) (get_or a k 0) (get_or b (k - 16) 0)
+picked_at a b k len = one_side a b k (ltb k 16) len refl
+
+-- what a shuffle takes from two vectors
+pub picked : (a b ks : List ℕ) → length a ≡ 16
+    → pick_l 0 (a ++ b) ks ≡ map (λ k. cond (ltb k 16) (get_or a k 0) (get_or b (k - 16) 0)) ks
+picked a b [] len = refl
+picked a b (k ∷ ks) len = λ i. picked_at a b k len i ∷ picked a b ks len i

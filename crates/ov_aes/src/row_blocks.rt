@@ -2,7 +2,7 @@
 
 ghost use Rattle.std.specs.Prelude.{◌≡◌, ℕ, ◌<◌, List, ◌∷◌, [], slice_index_or};
 ghost use Rattle.ov_aes.specs.Cipher.{cipher};
-ghost use Rattle.ov_aes.specs.Rows.{block_in, row_in};
+ghost use Rattle.ov_aes.specs.Rows.{block_in};
 ghost use Rattle.ov_aes.specs.RowKeys.{IsRowKeys};
 
 use crate::row_keys::{RowKeys, rows_at};
@@ -12,84 +12,75 @@ use std::simd::prelude::*;
 /// Four blocks of 16 bytes.
 pub type Blocks = [[u8; 16]; 4];
 
-#[inline(always)]
-fn row(a: &[u8; 16], b: &[u8; 16], c: &[u8; 16], d: &[u8; 16], r: usize) -> u8x16
-    requires { r < 4 }
-    ensures { result ≡ row_in (a.now ∷ b.now ∷ c.now ∷ d.now ∷ []) r }
-{
-    u8x16::from_array([
-        a[r],
-        a[r + 4],
-        a[r + 8],
-        a[r + 12],
-        b[r],
-        b[r + 4],
-        b[r + 8],
-        b[r + 12],
-        c[r],
-        c[r + 4],
-        c[r + 8],
-        c[r + 12],
-        d[r],
-        d[r + 4],
-        d[r + 8],
-        d[r + 12],
-    ])
-}
-
+/// The rows of four blocks: first two rows of two blocks, and then each row of all four.
 #[inline(always)]
 fn rows_of(a: &[u8; 16], b: &[u8; 16], c: &[u8; 16], d: &[u8; 16]) -> Rows
     ensures { (n : ℕ) → n < 4
         → block_in result n ≡ slice_index_or (a.now ∷ b.now ∷ c.now ∷ d.now ∷ []) n [] }
 {
+    let (a, b) = (u8x16::from_array(*a), u8x16::from_array(*b));
+    let (c, d) = (u8x16::from_array(*c), u8x16::from_array(*d));
+    let e = a.shuffle(
+        b,
+        [0, 4, 8, 12, 16, 20, 24, 28, 1, 5, 9, 13, 17, 21, 25, 29],
+    );
+    let f = a.shuffle(
+        b,
+        [2, 6, 10, 14, 18, 22, 26, 30, 3, 7, 11, 15, 19, 23, 27, 31],
+    );
+    let g = c.shuffle(
+        d,
+        [0, 4, 8, 12, 16, 20, 24, 28, 1, 5, 9, 13, 17, 21, 25, 29],
+    );
+    let h = c.shuffle(
+        d,
+        [2, 6, 10, 14, 18, 22, 26, 30, 3, 7, 11, 15, 19, 23, 27, 31],
+    );
     [
-        row(a, b, c, d, 0),
-        row(a, b, c, d, 1),
-        row(a, b, c, d, 2),
-        row(a, b, c, d, 3),
+        e.shuffle(g, [0, 1, 2, 3, 4, 5, 6, 7, 16, 17, 18, 19, 20, 21, 22, 23]),
+        e.shuffle(
+            g,
+            [8, 9, 10, 11, 12, 13, 14, 15, 24, 25, 26, 27, 28, 29, 30, 31],
+        ),
+        f.shuffle(h, [0, 1, 2, 3, 4, 5, 6, 7, 16, 17, 18, 19, 20, 21, 22, 23]),
+        f.shuffle(
+            h,
+            [8, 9, 10, 11, 12, 13, 14, 15, 24, 25, 26, 27, 28, 29, 30, 31],
+        ),
     ]
 }
 
+/// The blocks that four rows have: first pairs of their bytes, and then columns.
 #[inline(always)]
-fn block(rows: Rows, b: usize) -> [u8; 16]
-    requires { b < 4 }
-    ensures { result ≡ block_in rows b }
+fn blocks_of(x: u8x16, y: u8x16, z: u8x16, t: u8x16) -> Blocks
+    ensures { (n : ℕ) → n < 4
+        → slice_index_or result n [] ≡ block_in (x ∷ y ∷ z ∷ t ∷ []) n }
 {
-    let [x, y, z, t] = rows;
-    let x = x.to_array();
-    let y = y.to_array();
-    let z = z.to_array();
-    let t = t.to_array();
-    let at = 4 * b;
+    let e = x.shuffle(y, [0, 16, 1, 17, 2, 18, 3, 19, 4, 20, 5, 21, 6, 22, 7, 23]);
+    let f = x.shuffle(
+        y,
+        [8, 24, 9, 25, 10, 26, 11, 27, 12, 28, 13, 29, 14, 30, 15, 31],
+    );
+    let g = z.shuffle(t, [0, 16, 1, 17, 2, 18, 3, 19, 4, 20, 5, 21, 6, 22, 7, 23]);
+    let h = z.shuffle(
+        t,
+        [8, 24, 9, 25, 10, 26, 11, 27, 12, 28, 13, 29, 14, 30, 15, 31],
+    );
     [
-        x[at],
-        y[at],
-        z[at],
-        t[at],
-        x[at + 1],
-        y[at + 1],
-        z[at + 1],
-        t[at + 1],
-        x[at + 2],
-        y[at + 2],
-        z[at + 2],
-        t[at + 2],
-        x[at + 3],
-        y[at + 3],
-        z[at + 3],
-        t[at + 3],
-    ]
-}
-
-#[inline(always)]
-fn blocks_of(rows: Rows) -> Blocks
-    ensures { (b : ℕ) → b < 4 → slice_index_or result b [] ≡ block_in rows b }
-{
-    [
-        block(rows, 0),
-        block(rows, 1),
-        block(rows, 2),
-        block(rows, 3),
+        e.shuffle(g, [0, 1, 16, 17, 2, 3, 18, 19, 4, 5, 20, 21, 6, 7, 22, 23])
+            .to_array(),
+        e.shuffle(
+            g,
+            [8, 9, 24, 25, 10, 11, 26, 27, 12, 13, 28, 29, 14, 15, 30, 31],
+        )
+        .to_array(),
+        f.shuffle(h, [0, 1, 16, 17, 2, 3, 18, 19, 4, 5, 20, 21, 6, 7, 22, 23])
+            .to_array(),
+        f.shuffle(
+            h,
+            [8, 9, 24, 25, 10, 11, 26, 27, 12, 13, 28, 29, 14, 15, 30, 31],
+        )
+        .to_array(),
     ]
 }
 
@@ -104,5 +95,6 @@ pub fn encrypt_four(keys: &RowKeys, blocks: &Blocks) -> Blocks
         let next = round(rows, rows_at(keys, n));
         rows = next;
     }
-    blocks_of(last_round(rows, rows_at(keys, 14)))
+    let [x, y, z, t] = last_round(rows, rows_at(keys, 14));
+    blocks_of(x, y, z, t)
 }
