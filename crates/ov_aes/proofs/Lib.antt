@@ -2,3 +2,9 @@ pub mod Tables
 pub mod Words
 pub mod Schedule
 pub mod Examples
+pub mod Vectors
+pub mod Linear
+pub mod RowLanes
+pub mod RowRounds
+pub mod OneRound
+pub mod RowKeyBytes

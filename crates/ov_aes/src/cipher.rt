@@ -9,10 +9,15 @@ use crate::rounds::encrypt;
 use std::marker::Model;
 
 /// AES-256 under one key of 32 bytes (FIPS 197). A contract sees it as the key.
+///
+/// A round looks each byte up in one of four tables of 256 words.
 #[derive(Drop)]
 pub struct Aes256 {
     words: KeySchedule,
 }
+
+/// [`Aes256`] by the way in which it is computed.
+pub type TableAes256 = Aes256;
 
 impl Model for Aes256 {
     ghost Value = { List ℕ };

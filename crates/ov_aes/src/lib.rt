@@ -1,19 +1,28 @@
-//! The block cipher AES-256 (FIPS 197), one block at a time, forwards only.
+//! The block cipher AES-256 (FIPS 197), forwards only: one block at a time, or four.
 //!
-//! Contract: for every key and every block, [`Aes256::block`] returns the standard's cipher of the
-//! block under the key. A contract sees an [`Aes256`] as its key.
+//! Contract: for every key and every block, [`Aes256::block`] and [`LaneAes256::block`] return the
+//! standard's cipher of the block under the key, and [`LaneAes256::four_blocks`] that of each of
+//! four. A contract sees each type as its key.
 //!
 //! What this isn't: there is no claim of secrecy, of a mode of operation, or of constant time. The
-//! S-box is a table that secret bytes are looked up in, so the time of a call leaks through the
-//! processor's caches, and keys aren't wiped from memory.
+//! key schedule and single blocks look secret bytes up in tables, so the time of a call leaks
+//! through the processor's caches, and keys aren't wiped from memory.
 #![tactic(auto)]
 
 mod cipher;
 mod columns;
 mod key_schedule;
+mod lanes;
 mod rounds;
+mod row_blocks;
+mod row_keys;
+mod row_rounds;
+mod row_steps;
 mod sbox;
 #[cfg(test)]
 mod tests;
+mod tower;
 
-pub use cipher::Aes256;
+pub use cipher::{Aes256, TableAes256};
+pub use lanes::LaneAes256;
+pub use row_blocks::Blocks;

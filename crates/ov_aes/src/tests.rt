@@ -2,7 +2,7 @@
 
 mod vectors;
 
-use crate::Aes256;
+use crate::{Aes256, LaneAes256};
 use vectors::BLOCKS;
 
 fn key_from(high: u128, low: u128) -> [u8; 32] {
@@ -56,5 +56,20 @@ fn blocks_of_another_implementation(rt: HostRuntime) {
             "at {:x}",
             vector.input
         );
+    }
+}
+
+#[test]
+fn four_blocks_of_another_implementation(rt: HostRuntime) {
+    for vector in &BLOCKS {
+        let aes = LaneAes256::new(&key_from(vector.key_high, vector.key_low));
+        let input = vector.input.to_be_bytes();
+        let mut inputs = [[0u8; 16]; 4];
+        for place in 0..4usize {
+            inputs[place] = input;
+            let output = aes.four_blocks(&inputs)[place];
+            assert_eq!(rt; u128::from_be_bytes(output), vector.output, "at {place}");
+        }
+        assert_eq!(rt; u128::from_be_bytes(aes.block(&input)), vector.output);
     }
 }

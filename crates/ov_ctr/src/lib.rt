@@ -10,6 +10,8 @@
 #![tactic(auto)]
 
 mod apply;
+mod counter;
+mod four;
 mod laws;
 #[cfg(test)]
 mod tests;

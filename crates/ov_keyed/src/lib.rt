@@ -1,8 +1,11 @@
 //! Keyed hashing: HMAC-SHA256 under keys of 32 bytes, and the comparison of two tags.
 //!
 //! [`mac`] is proved to be the HMAC of RFC 2104 over the SHA-256 of FIPS 180-4, for every key and
-//! every message of fewer than 2^32 bytes, given in two parts. [`same`] is proved to be equality.
-//! Neither takes memory.
+//! every message of fewer than 2^32 bytes, given in two parts. [`Pieces`] takes a message piece by
+//! piece, as it comes: a value holds a message under a key, `Holds` of `specs/Holding`, and `finish`
+//! gives the HMAC of each message that it holds. [`mac_of_pieces`] is that of pieces which lie in
+//! memory, and the same as `mac` of the pieces joined. [`same`] is proved to be equality. None of
+//! them takes memory.
 //!
 //! Nothing is claimed of what makes a keyed hash useful: not that a tag is hard to forge, that it
 //! keeps the key or the message secret, or that two messages have different tags. Nor is the time
@@ -12,8 +15,11 @@
 
 mod comparison;
 mod hmac;
+mod key_block;
+mod pieces;
 #[cfg(test)]
 mod tests;
 
 pub use comparison::same;
-pub use hmac::mac;
+pub use hmac::{mac, mac_of_pieces};
+pub use pieces::Pieces;

@@ -1,8 +1,10 @@
 //! Tags that RFC 4231 and another program give.
 
+ghost use Rattle.std.specs.Prelude.{◌<◌};
+
 mod vectors;
 
-use super::{mac, same};
+use super::{Pieces, mac, mac_of_pieces, same};
 use std::process::Abort;
 use vectors::ROWS;
 
@@ -80,6 +82,31 @@ fn tags_of_another_program(rt: HostRuntime) {
         let found = hex_of(&mac(&key, first, second));
         assert_eq!(rt; found.as_slice(), row.tag.as_bytes());
     }
+}
+
+/// The tag of a message that is given in pieces of this length, the last one shorter.
+fn tag_in_pieces(key: &[u8; 32], message: &[u8], length: usize) -> [u8; 32]
+    requires { 0 < length }
+{
+    let mut pieces = Pieces::new(key);
+    for piece in message.chunks(length) {
+        pieces.add(piece);
+    }
+    pieces.finish()
+}
+
+#[test]
+fn a_message_in_pieces_of_any_length_has_one_tag(rt: HostRuntime) {
+    let tag = "5bdcc146bf60754e6a042426089575c75a003f089d2739839dec58b964ec3843";
+    let key = key_of(&rt, b"Jefe");
+    let message = b"what do ya want for nothing?";
+    for length in 1..30usize {
+        let found = hex_of(&tag_in_pieces(&key, message, length));
+        assert_eq!(rt; found.as_slice(), tag.as_bytes());
+    }
+    let pieces: [&[u8]; 4] = [b"what do ya", b"", b" want for", b" nothing?"];
+    let found = hex_of(&mac_of_pieces(&key, &pieces));
+    assert_eq!(rt; found.as_slice(), tag.as_bytes());
 }
 
 #[test]

@@ -1,15 +1,7 @@
-use Rattle.std.proofs.Common.{◌≡◌, ℕ, ◌+◌, ◌-◌, ◌≤◌, List, zero, suc, rules, arith, refl, ◌∙◌, ap}
+use Rattle.std.proofs.Common.{◌≡◌, rules, arith, ◌∙◌, ap}
 use Rattle.ov_aes.specs.Cipher.{cipher, full_round, rounds}
+use Rattle.ov_aes.proofs.OneRound.{one_more}
 use Rattle.ov_aes.proofs.rounds.encrypt.Goals as goal
-
-one_more : (w : List (List ℕ)) (input : List ℕ) (n : ℕ) → 1 ≤ n → full_round (rounds w input (n - 1)) w n ≡ rounds w input (n + 1 - 1)
-unfolding rounds
-one_more w input zero le = absurd (omega arith)
-one_more w input (suc n) le =
-    let before : suc n - 1 ≡ n = omega arith in
-    let after : suc n + 1 - 1 ≡ suc n = omega arith in
-    let here : n + 1 ≡ suc n = omega arith in
-    rw (before, after, here) refl
 
 pub loop-round-init : goal.loop-round-init
 unfolding rounds

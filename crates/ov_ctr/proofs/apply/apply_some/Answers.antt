@@ -1,0 +1,35 @@
+use Rattle.std.proofs.Common.{◌≡◌, ◌+◌, ◌-◌, ◌*◌, ◌/◌, ◌%◌, ◌∙◌, ap, arith, bit_xor, drop, get_or, length, length-take, refl, take}
+use Rattle.std.proofs.lemmas.List.{get_or-append_right, get_or-drop, get_or-take, get_or_append_left}
+use Rattle.ov_ctr.proofs.Places.{pad_in_block}
+use Rattle.ov_ctr.proofs.apply.apply_some.Goals as goal
+
+pub returns-then-rest-ge64-clause-applied : goal.returns-then-rest-ge64-clause-applied
+returns-then-rest-ge64-clause-applied c i lt =
+    let old = c.args.rest.now in
+    let new = c.apply_four.new.piece in
+    let given : length (take 64 old) ≡ 64 = simp length-take (omega arith) in
+    let long : length new ≡ 64 = c.apply_four.auto.piece ∙ given in
+    let place : 16 * (c.args.place / 16) + i ≡ c.args.place + i = omega arith in
+    let from = get_or-take 64 old i 0 lt in
+    get_or_append_left new (drop 64 old) 0 i (omega (arith, long)) ∙ c.apply_four.ensures i lt ∙ rw (from, place) refl
+
+pub returns-then-rest-ge64-clause-after : goal.returns-then-rest-ge64-clause-after
+returns-then-rest-ge64-clause-after c i ge =
+    let old = c.args.rest.now in
+    let new = c.apply_four.new.piece in
+    let given : length (take 64 old) ≡ 64 = simp length-take (omega arith) in
+    let long : length new ≡ 64 = c.apply_four.auto.piece ∙ given in
+    let place : 64 + (i - 64) ≡ i = omega arith in
+    get_or-append_right new (drop 64 old) 64 i 0 long ge ∙ get_or-drop 64 old (i - 64) 0 ∙ ap (λ k. get_or old k 0) place
+
+pub returns-else-skip-eq0-clause-applied : goal.returns-else-skip-eq0-clause-applied
+returns-else-skip-eq0-clause-applied c i lt =
+    let old = c.args.rest.now in
+    let n = c.min-count.result in
+    let new = c.apply_block.new.piece in
+    let count : n ≡ _ = c.min-count.ensures in
+    let given : length (take n old) ≡ n = simp length-take (omega (arith, count)) in
+    let long : length new ≡ n = c.apply_block.auto.piece ∙ given in
+    let from = get_or-take n old i 0 lt in
+    let pad = pad_in_block c.args.aes.now c.counter_block-counter.result c.args.tag c.args.file c.args.place i c.counter_block-counter.ensures (omega (arith, count)) in
+    get_or_append_left new (drop n old) 0 i (omega (arith, long)) ∙ c.apply_block.ensures i (omega (arith, given)) ∙ rw (from, pad) refl

@@ -1,0 +1,10 @@
+use Rattle.std.proofs.Common.{◌≡◌, ℕ, ◌<◌, ◌≤◌, ◌+◌, ◌*◌, length, get_or, bit_xor}
+use Rattle.ov_ctr.specs.Ctr.{pad_byte}
+use Rattle.ov_ctr.proofs.four.apply_four.Given as goal
+
+abbrev pub invariant-loop-n : goal.invariant-loop-n
+invariant-loop-n l = record {
+  long : length l.piece ≡ 64;
+  before : (k : ℕ) → k < 16 * l.n → get_or l.piece k 0 ≡ bit_xor (get_or l.initial.piece k 0) (pad_byte l.aes l.tag l.file (16 * l.number + k));
+  after : (k : ℕ) → 16 * l.n ≤ k → get_or l.piece k 0 ≡ get_or l.initial.piece k 0;
+}
