@@ -26,13 +26,13 @@ IsPath kind graph from to (step ∷ steps) =
 
 -- The steps go over edges of the graph, no walk over its edges is shorter, and where the graph's
 -- tokens are true, under a master of its layer, they lead from the root's key to the node's.
-pub record IsShortestPath (kind : Kind) (graph : Contents) (root node : ℕ) (steps : List Step) : Type 0
-  where
-    pub path : IsPath kind graph root node steps
-    pub shortest : (edges : ℕ) → Walk graph.sets root node edges → length steps ≤ edges
-    pub keys : (master : List ℕ)
-        → IsSealed kind master graph
-        → walked (node_key kind master root) steps ≡ node_key kind master node
+pub record IsShortestPath (kind : Kind) (graph : Contents) (root node : ℕ) (steps : List Step)
+    : Type 0 where
+  pub path : IsPath kind graph root node steps
+  pub shortest : (edges : ℕ) → Walk graph.sets root node edges → length steps ≤ edges
+  pub keys : (master : List ℕ)
+      → IsSealed kind master graph
+      → walked (node_key kind master root) steps ≡ node_key kind master node
 
 -- a chosen chain is the only one, in all graphs with the same sets and edges
 abbrev pub OneChain : Type 0

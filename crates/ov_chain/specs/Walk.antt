@@ -35,6 +35,7 @@ AreSealed kind master node edges =
     → edge.token.bytes
     ≡ token_of (node_key kind master edge.from) (label_of kind node) (node_key kind master node)
 
--- the tokens of all edges of the graph are those from the keys of their starts to those of their ends
+-- the tokens of all edges of the graph are those from the keys of their starts to those of their
+-- ends
 abbrev pub IsSealed : Kind → List ℕ → Contents → Type 0
 IsSealed kind master graph = (node : ℕ) → AreSealed kind master node (edges_to graph node)

@@ -20,7 +20,8 @@ cover_tokens kind master cover =
 
 -- The new graph has the set besides. A set that was there changes nothing; one that wasn't
 -- stands at the end, with the edges of its cover and their tokens.
-pub record HasSetBesides (kind : Kind) (master : List ℕ) (set : ℕ) (old new : Contents) : Type 0 where
+pub record HasSetBesides (kind : Kind) (master : List ℕ) (set : ℕ) (old new : Contents)
+    : Type 0 where
   pub there : (plan_of old.sets set).fresh ≡ false
       → (new.sets ≡ old.sets) × (new.edges ≡ old.edges)
   pub sets : (plan_of old.sets set).fresh ≡ true → new.sets ≡ old.sets ++ set ∷ []

@@ -10,7 +10,8 @@ use std::alloc::Global;
 /// The tokens of the edges of a fresh cover in a layer, under the layer's master: each leads from
 /// the key of the edge's start to the key of the cover's node.
 pub fn seal_edges<L: Layer>(alloc: Global, master: &Key, cover: &Cover) -> Result<Tokens, Memory>
-    ensures { IfOk result (λ tokens. tokens ≡ cover_tokens L.label_kind master.now.bytes cover.now) }
+    ensures { IfOk result (λ tokens.
+        tokens ≡ cover_tokens L.label_kind master.now.bytes cover.now) }
 {
     let label = L::label(cover.node);
     let key = L::key_of(master, cover.node);
