@@ -1,10 +1,11 @@
 -- One lane of a vector: after a map, a sum and a constant shuffle.
-use Rattle.std.proofs.Common.{Bool, true, false, cond, ltb, ltb-true, ltb-false, ◌-◌, ◌≡◌, ℕ, zero, suc, ◌+◌, ◌*◌, ◌/◌, ◌%◌, ◌<◌, List, [], ◌∷◌, ◌++◌, sym, zero-add, map, length, get_or, bit_xor, refl, ◌∙◌, ap, arith, Fits, w8}
+use Rattle.std.proofs.Common.{Bool, slice_index_or, true, false, cond, ltb, ltb-true, ltb-false, ◌-◌, ◌≡◌, ℕ, zero, suc, ◌+◌, ◌*◌, ◌/◌, ◌%◌, ◌<◌, List, [], ◌∷◌, ◌++◌, sym, zero-add, map, length, get_or, bit_xor, refl, ◌∙◌, ap, arith, Fits, w8}
 use Rattle.std.specs.List.{range_with_len}
 use Rattle.std.proofs.lemmas.List.{ext_get_or, get_or-map, get_or-append_right, get_or_append_left}
 use Rattle.std.proofs.lemmas.List.FromFn.{get_or-map-range_with_len}
 use Rattle.std.proofs.lemmas.Simd.{Each1-get_or}
 use lib.Lanes.{pick_l, zip2}
+use Rattle.ov_aes.specs.State.{byte_in}
 use Rattle.ov_aes.specs.Tower.{sum5}
 use Rattle.ov_aes.proofs.Tables.{at_each}
 use Rattle.ov_aes.proofs.Vectors.{At, IsBlock, map_at, xor_at}
@@ -75,3 +76,16 @@ pub picked : (a b ks : List ℕ) → length a ≡ 16
     → pick_l 0 (a ++ b) ks ≡ map (λ k. cond (ltb k 16) (get_or a k 0) (get_or b (k - 16) 0)) ks
 picked a b [] len = refl
 picked a b (k ∷ ks) len = λ i. picked_at a b k len i ∷ picked a b ks len i
+
+-- row r of four blocks
+abbrev pub row_in : List (List ℕ) → ℕ → List ℕ
+row_in blocks r =
+    let a = slice_index_or blocks 0 [] in
+    let b = slice_index_or blocks 1 [] in
+    let c = slice_index_or blocks 2 [] in
+    let d = slice_index_or blocks 3 [] in
+    byte_in a r 0 ∷ byte_in a r 1 ∷ byte_in a r 2 ∷ byte_in a r 3
+    ∷ byte_in b r 0 ∷ byte_in b r 1 ∷ byte_in b r 2 ∷ byte_in b r 3
+    ∷ byte_in c r 0 ∷ byte_in c r 1 ∷ byte_in c r 2 ∷ byte_in c r 3
+    ∷ byte_in d r 0 ∷ byte_in d r 1 ∷ byte_in d r 2 ∷ byte_in d r 3
+    ∷ []

@@ -14,26 +14,31 @@ entry_at t j = cond (leb 128 j) 0 (slice_index t j)
 abbrev pub into_tower : ℕ → ℕ
 into_tower x = bit_xor (entry_at LOW (bit_and x 15)) (entry_at HIGH (x / 2 ^ 4))
 
--- the two elements of the field of 16 that a byte is, and their sum
+-- the low one of the two elements of the field of 16 that a byte is
 abbrev pub low_of : ℕ → ℕ
 low_of y = bit_and y 15
 
+-- the high one
 abbrev pub high_of : ℕ → ℕ
 high_of y = y / 2 ^ 4
 
+-- their sum
 abbrev pub both_of : ℕ → ℕ
 both_of y = bit_xor (high_of y) (low_of y)
 
--- the steps to the two elements of its inverse
+-- the first of four steps to the inverse of such a byte; the last two are its elements
 abbrev pub first_of : ℕ → ℕ
 first_of y = bit_xor (entry_at INV (high_of y)) (entry_at INVA (low_of y))
 
+-- the second step
 abbrev pub second_of : ℕ → ℕ
 second_of y = bit_xor (entry_at INV (both_of y)) (entry_at INVA (low_of y))
 
+-- the third step, which gives the low element of the inverse
 abbrev pub third_of : ℕ → ℕ
 third_of y = bit_xor (entry_at INV (first_of y)) (both_of y)
 
+-- the fourth step, which gives the high element
 abbrev pub fourth_of : ℕ → ℕ
 fourth_of y = bit_xor (entry_at INV (second_of y)) (high_of y)
 
@@ -41,19 +46,21 @@ fourth_of y = bit_xor (entry_at INV (second_of y)) (high_of y)
 abbrev pub out_of_tower : ℕ → ℕ
 out_of_tower y = bit_xor (entry_at OUT_A (third_of y)) (entry_at OUT_B (fourth_of y))
 
--- the same in the basis over the field of 16, and its product with 2
+-- the same in the basis over the field of 16
 abbrev pub one_of : ℕ → ℕ
 one_of y = bit_xor (entry_at ONE_A (third_of y)) (entry_at ONE_B (fourth_of y))
 
+-- its product with 2, in that basis
 abbrev pub two_of : ℕ → ℕ
 two_of y = bit_xor (entry_at TWO_A (third_of y)) (entry_at TWO_B (fourth_of y))
 
--- the images of the low and of the high element of a byte in the standard's basis
+-- the images of the low elements in the standard's basis
 abbrev from_low : List ℕ
 from_low =
     0x00 ∷ 0x60 ∷ 0xb6 ∷ 0xd6 ∷ 0x29 ∷ 0x49 ∷ 0x9f ∷ 0xff
     ∷ 0x08 ∷ 0x68 ∷ 0xbe ∷ 0xde ∷ 0x21 ∷ 0x41 ∷ 0x97 ∷ 0xf7 ∷ []
 
+-- the images of the high elements
 abbrev from_high : List ℕ
 from_high =
     0x00 ∷ 0xec ∷ 0xbc ∷ 0x50 ∷ 0x51 ∷ 0xbd ∷ 0xed ∷ 0x01

@@ -5,8 +5,8 @@
 //!
 //! What this isn't: there is no claim of secrecy or of constant time, and nothing here finds a
 //! changed byte. A pad covers one text only: two texts under one key, tag and file number give away
-//! their difference. The cipher looks secret bytes up in tables, which leaks through the
-//! processor's caches.
+//! their difference. The key schedule and the bytes beside groups of four blocks are looked up in
+//! tables, which leaks through the processor's caches.
 #![tactic(auto)]
 
 mod apply;

@@ -1,8 +1,8 @@
 -- Each row, from the places of two shuffles.
 use Rattle.std.proofs.Common.{◌≡◌, ℕ, List, [], ◌∷◌, ◌++◌, get_or, ◌∙◌}
 use lib.Lanes.{pick_l}
-use Rattle.ov_aes.specs.Rows.{block_in, row_in}
-use Rattle.ov_aes.proofs.RowLanes.{below_four, picked, spell16}
+use Rattle.ov_aes.specs.Rows.{block_in}
+use Rattle.ov_aes.proofs.RowLanes.{below_four, picked, row_in, spell16}
 use Rattle.ov_aes.proofs.row_blocks.rows_of.Goals as goal
 
 abbrev first_two : List ℕ

@@ -1,4 +1,4 @@
-use Rattle.std.proofs.Common.{◌≡◌, ◌+◌, ◌-◌, ◌*◌, ◌/◌, ◌%◌, ◌∙◌, ap, arith, bit_xor, drop, get_or, length, length-take, refl, take}
+use Rattle.std.proofs.Common.{◌≡◌, ◌+◌, ◌-◌, ◌*◌, ◌/◌, ◌∙◌, ap, arith, drop, get_or, length, length-take, refl, take}
 use Rattle.std.proofs.lemmas.List.{get_or-append_right, get_or-drop, get_or-take, get_or_append_left}
 use Rattle.ov_ctr.proofs.Places.{pad_in_block}
 use Rattle.ov_ctr.proofs.apply.apply_some.Goals as goal

@@ -1,4 +1,4 @@
-use Rattle.std.proofs.Common.{◌≡◌, ◌+◌, ◌∙◌, [], ◌∷◌, add-zero, ap, get_or, sym}
+use Rattle.std.proofs.Common.{◌≡◌, ◌+◌, [], ◌∷◌, add-zero, get_or}
 use Rattle.ov_aes.proofs.RowLanes.{below_four}
 use Rattle.ov_ctr.specs.Ctr.{counter_block}
 use Rattle.ov_ctr.proofs.four.four_counters.Goals as goal
