@@ -34,11 +34,11 @@ first_of y = bit_xor (entry_at INV (high_of y)) (entry_at INVA (low_of y))
 abbrev pub second_of : ℕ → ℕ
 second_of y = bit_xor (entry_at INV (both_of y)) (entry_at INVA (low_of y))
 
--- the third step, which gives the low element of the inverse
+-- the third step, which gives one element of the inverse
 abbrev pub third_of : ℕ → ℕ
 third_of y = bit_xor (entry_at INV (first_of y)) (both_of y)
 
--- the fourth step, which gives the high element
+-- the fourth step, which gives the other
 abbrev pub fourth_of : ℕ → ℕ
 fourth_of y = bit_xor (entry_at INV (second_of y)) (high_of y)
 
