@@ -44,7 +44,7 @@ cut (u ∷ all) (v ∷ front) body rest fa ff same =
     }
 
 -- updates that fit do so without the last ones
-front_fits : (h : History) (front : List SealedUpdate) (u : SealedUpdate) (more : List SealedUpdate)
+pub front_fits : (h : History) (front : List SealedUpdate) (u : SealedUpdate) (more : List SealedUpdate)
     → AllFit h (front ++ u ∷ more) → AllFit h (front ++ u ∷ [])
 front_fits h [] u more fit = (fit.0, fit.1, tt)
 front_fits h (v ∷ front) u more fit =

@@ -18,11 +18,11 @@ use Rattle.ov_store.specs.Beginning.{FindsHistory}
 use Rattle.ov_store.specs.Opened.{IsSafe, Serves, open_with}
 use Rattle.ov_store.specs.Replaying.{IsReplay}
 
-length-bodies : (updates : List SealedUpdate) → length (bodies_of updates) ≡ length updates
+pub length-bodies : (updates : List SealedUpdate) → length (bodies_of updates) ≡ length updates
 length-bodies [] = refl
 length-bodies (u ∷ updates) = ap suc (length-bodies updates)
 
-length-outer : (updates : List SealedUpdate) → length (outer_all updates) ≡ length updates
+pub length-outer : (updates : List SealedUpdate) → length (outer_all updates) ≡ length updates
 length-outer [] = refl
 length-outer (u ∷ updates) = ap suc (length-outer updates)
 

@@ -1,6 +1,9 @@
 pub mod Begun
 pub mod Births
+pub mod Checking
 pub mod Fitting
 pub mod Going
+pub mod Looking
 pub mod Opening
+pub mod OwnersLaws
 pub mod Replays

@@ -3,6 +3,7 @@ pub mod Bodies
 pub mod Chunks
 pub mod Faults
 pub mod Opened
+pub mod Owners
 pub mod Replaying
 pub mod Updating
 pub use Rattle.ov_images.specs.Damage

@@ -5,14 +5,16 @@
 //! replays the records that an earlier run left. [`Store::update`] prepares an update, writes its
 //! record, and only then makes it, which can't fail: so what was answered with `Ok` outlasts each
 //! later stop, and a stop at any moment leaves the history from before or it with this update.
-//! [`Store::chunk`] gives stored bytes, [`Store::close`] the disk.
+//! [`Store::chunk`] gives stored bytes, [`Store::check`] looks whether all updates are as their
+//! owner seals them, and [`Store::close`] gives the disk back.
 //!
-//! **What a contract sees** is one value, `Opened` (`specs/Opened`): the disk, the keys, both halves,
-//! and whether a call of the disk failed in an update. `Serves g s` says that the store stands for
-//! the sealed history g, and that each image which a crash may leave keeps it (ov_images). No history
-//! is kept in code: a clause reads 'for each history for which the old store stood'. That there is
-//! one is part of the store's invariant, and [`Store::known`] hands it out. What is said of images
-//! is said where the disk tells its bytes; all else holds over every disk.
+//! **What a contract sees** is one value, `Opened` (`specs/Opened`): the disk, the keys, both
+//! halves, and whether a call of the disk failed in an update. `Serves g s` says that the store
+//! stands for the sealed history g, and that each image which a crash may leave keeps it
+//! (ov_images). No history is kept in code: a clause reads 'for each history for which the old
+//! store stood'. That there is one is part of the store's invariant, and [`Store::known`] hands it
+//! out. What is said of images is said where the disk tells its bytes; all else holds over every
+//! disk.
 //!
 //! | file in `specs/` | says |
 //! |---|---|
@@ -20,6 +22,7 @@
 //! | `Updating` | what an update answers, and what it leaves |
 //! | `Beginning` | why no store is begun, and what a crash in a beginning leaves |
 //! | `Chunks` | what is answered to a question for stored bytes |
+//! | `Owners` | updates that are as their owner seals them, and the first that isn't |
 //! | `Bodies`, `Replaying`, `Faults` | inner: records of updates, replaying them, and why not |
 //!
 //! After a fault of the disk a store makes no more updates: open it again to know which of the two
@@ -28,8 +31,10 @@
 
 mod begin;
 mod birth;
+mod check;
 mod chunk;
 mod fault;
+mod owners;
 mod reopen;
 mod replay;
 mod spell;

@@ -115,43 +115,70 @@ fn update_of(alloc: Global, number: u32) -> Result<Update<WIDTH>, Fail>
     })
 }
 
-/// Begins a store over the disk, and makes the updates from this number on. What is answered is the
-/// store, and how many calls of its disk each update had made when it was acknowledged.
-fn run(alloc: Global, disk: MemDisk, from: u32) -> Result<(Store<MemDisk>, Vec<u64>, bool), Fail> {
-    let mut store = match Store::begin(alloc, disk, SURFACE, BASE_CHECK, Mode::Delta) {
-        Ok(store) => store,
-        Err(_) => return Err(Fail::from("no store")),
-    };
-    let mut calls = Vec::new(alloc);
+/// Makes the updates of the small store, and notes how many calls of the disk there were before the
+/// first and when each was acknowledged. Whether all were is answered.
+fn update_all(
+    alloc: Global,
+    store: &mut Store<MemDisk>,
+    calls: &mut Vec<u64>,
+) -> Result<bool, Fail> {
     calls.push(store.disk.calls())?;
-    for number in from..6 {
-        match store.update(alloc, update_of(alloc, number)?) {
-            Ok(_) => calls.push(store.disk.calls())?,
-            Err(_) => return Ok((store, calls, false)),
+    for number in 0..6 {
+        let update = update_of(alloc, number)?;
+        if store.update(alloc, update).is_err() {
+            return Ok(false);
         }
+        calls.push(store.disk.calls())?;
     }
-    Ok((store, calls, true))
+    Ok(true)
+}
+
+/// A new store over an empty disk.
+fn new_store(alloc: Global, disk: MemDisk) -> Result<Store<MemDisk>, Fail> {
+    match Store::begin(alloc, disk, SURFACE, BASE_CHECK, Mode::Delta) {
+        Ok(store) => Ok(store),
+        Err(_) => Err(Fail::from("no store")),
+    }
+}
+
+/// The disk of the small store after all its updates.
+fn small_store(alloc: Global, calls: &mut Vec<u64>) -> Result<MemDisk, Fail> {
+    let mut store = new_store(alloc, MemDisk::new(alloc))?;
+    let all = update_all(alloc, &mut store, calls);
+    let disk = store.close();
+    let _all = all?;
+    Ok(disk)
 }
 
 /// The epoch of the store on a disk, or none where no store is begun.
 fn epoch_on(alloc: Global, disk: MemDisk) -> Option<u32> {
     match Store::begin(alloc, disk, SURFACE, BASE_CHECK, Mode::Delta) {
-        Ok(store) => Some(store.state().epoch()),
+        Ok(store) => {
+            let epoch = store.state().epoch();
+            drop(store.close());
+            Some(epoch)
+        }
         Err(_) => None,
     }
 }
 
 // ---- tests
 
-#[test]
-fn books_of_a_new_store_and_two_users(rt: HostRuntime) -> Result<(), Fail> {
-    let alloc = rt.alloc();
-    let (store, calls, _) = run(alloc, MemDisk::new(alloc), 0)?;
-    let disk = store.close();
+/// The book of the small store before any update.
+fn first_book(alloc: Global) -> Result<Vec<u8>, Fail> {
     let mut book = b"\x01OVERENC0\x01\0\0\0\0".as_slice().to_vec(alloc)?;
     book.extend_from_slice(&BASE_CHECK)?;
     book.extend_from_slice(&check_value(&SURFACE))?;
     book.push(0)?;
+    Ok(book)
+}
+
+#[test]
+fn books_of_a_new_store_and_two_users(rt: HostRuntime) -> Result<(), Fail> {
+    let alloc = rt.alloc();
+    let mut calls = Vec::new(alloc);
+    let disk = small_store(alloc, &mut calls)?;
+    let mut book = first_book(alloc)?;
     assert_eq!(rt; book.len(), 79);
     assert_eq!(rt; disk.image(calls[0], Tear::Old)?.book(), book.as_slice());
     book.truncate(78);
@@ -165,13 +192,24 @@ fn books_of_a_new_store_and_two_users(rt: HostRuntime) -> Result<(), Fail> {
     Ok(())
 }
 
+/// Whether the store on an image has the updates that were acknowledged before so many calls, or
+/// one more.
+fn is_right(alloc: Global, image: MemDisk, calls: &[u64], call: u64) -> bool {
+    let least = calls
+        .iter()
+        .filter(|acknowledged| **acknowledged <= call)
+        .count() as u32;
+    let least = least.saturating_sub(1);
+    let epoch = epoch_on(alloc, image);
+    epoch == Some(least) || epoch == Some(least.saturating_add(1))
+}
+
 /// After each stop the store has the updates that were acknowledged, or one more.
 #[test]
 fn a_stop_after_each_call(rt: HostRuntime) -> Result<(), Fail> {
     let alloc = rt.alloc();
-    let (store, acknowledged, done) = run(alloc, MemDisk::new(alloc), 0)?;
-    assert!(rt; done);
-    let disk = store.close();
+    let mut calls = Vec::new(alloc);
+    let disk = small_store(alloc, &mut calls)?;
     for tear in [
         Tear::Old,
         Tear::New,
@@ -180,13 +218,32 @@ fn a_stop_after_each_call(rt: HostRuntime) -> Result<(), Fail> {
         Tear::Fill(255),
     ] {
         for call in 0..=disk.calls() {
-            let epoch = epoch_on(alloc, disk.image(call, tear)?);
-            let least = acknowledged.iter().filter(|calls| **calls <= call).count() as u32;
-            let least = least.saturating_sub(1);
-            assert!(rt; epoch == Some(least) || epoch == Some(least + 1));
+            let image = disk.image(call, tear)?;
+            assert!(rt; is_right(alloc, image, &calls, call));
         }
     }
     Ok(())
+}
+
+/// What one more update is answered.
+fn updated(alloc: Global, store: &mut Store<MemDisk>) -> Result<Result<u32, StoreFault>, Fail> {
+    let update = update_of(alloc, 5)?;
+    Ok(store.update(alloc, update))
+}
+
+/// The disk of a store at which this call failed, and the calls of its updates; none where no call
+/// failed in an update, or a later one wasn't answered with `Failed`.
+fn failed_at(alloc: Global, call: u64, calls: &mut Vec<u64>) -> Result<Option<MemDisk>, Fail> {
+    let mut disk = MemDisk::new(alloc);
+    disk.fail_at(call)?;
+    let mut store = new_store(alloc, disk)?;
+    let all = update_all(alloc, &mut store, calls);
+    let again = updated(alloc, &mut store);
+    let disk = store.close();
+    if all? || again? != Err(StoreFault::Failed) {
+        return Ok(None);
+    }
+    Ok(Some(disk))
 }
 
 /// Where a call fails the update answers so, and so does each later one; what is left has the
@@ -194,23 +251,36 @@ fn a_stop_after_each_call(rt: HostRuntime) -> Result<(), Fail> {
 #[test]
 fn a_fault_at_each_call(rt: HostRuntime) -> Result<(), Fail> {
     let alloc = rt.alloc();
-    let (whole, calls, _) = run(alloc, MemDisk::new(alloc), 0)?;
-    let last = whole.close().calls();
-    for call in calls[0]..last {
-        let mut disk = MemDisk::new(alloc);
-        disk.fail_at(call)?;
-        let (mut store, acknowledged, done) = run(alloc, disk, 0)?;
-        assert!(rt; !done);
-        let again = store.update(alloc, update_of(alloc, 5)?);
-        assert_eq!(rt; again, Err(StoreFault::Failed));
-        let least = acknowledged.len() as u32 - 1;
-        assert_eq!(rt; store.state().epoch(), least);
-        let disk = store.close();
+    let mut calls = Vec::new(alloc);
+    let whole = small_store(alloc, &mut calls)?.calls();
+    for call in calls[0]..whole {
+        calls.clear();
+        let disk = match failed_at(alloc, call, &mut calls)? {
+            Some(disk) => disk,
+            None => return Err(Fail::from("no fault")),
+        };
         for tear in [Tear::Old, Tear::New] {
-            let epoch = epoch_on(alloc, disk.image(disk.calls(), tear)?);
-            assert!(rt; epoch == Some(least) || epoch == Some(least + 1));
+            let image = disk.image(disk.calls(), tear)?;
+            assert!(rt; is_right(alloc, image, &calls, disk.calls()));
         }
     }
+    Ok(())
+}
+
+/// The first record that isn't the owner's is that of the creation, whose tokens are zeros. A user
+/// has none.
+#[test]
+fn a_false_token_is_found(rt: HostRuntime) -> Result<(), Fail> {
+    let alloc = rt.alloc();
+    let mut calls = Vec::new(alloc);
+    let mut store = new_store(alloc, MemDisk::new(alloc))?;
+    let before = store.check(alloc, &OTHER);
+    let all = update_all(alloc, &mut store, &mut calls);
+    let after = store.check(alloc, &OTHER);
+    drop(store.close());
+    assert!(rt; all?);
+    assert_eq!(rt; before, Ok(None));
+    assert_eq!(rt; after, Ok(Some(100)));
     Ok(())
 }
 
@@ -231,89 +301,90 @@ fn fault_on(
     let blobs = Octets::from_vec(Vec::new(alloc));
     let disk = MemDisk::of(alloc, Octets::from_vec(book), blobs);
     Ok(match Store::begin(alloc, disk, surface, base_check, mode) {
-        Ok(_) => None,
+        Ok(store) => {
+            drop(store.close());
+            None
+        }
         Err(refused) => Some(refused.fault),
     })
 }
 
+const OTHER: Key = Key { bytes: [8; 32] };
+
+fn damaged(offset: u64) -> Option<BeginFault> {
+    Some(BeginFault::Damaged {
+        area: Area::Book,
+        offset,
+    })
+}
+
+/// With all else wrong too, what stands first is told.
 #[test]
 fn causes_in_their_order(rt: HostRuntime) -> Result<(), Fail> {
     let alloc = rt.alloc();
-    let (store, _, _) = run(alloc, MemDisk::new(alloc), 0)?;
-    let disk = store.close();
+    let mut calls = Vec::new(alloc);
+    let disk = small_store(alloc, &mut calls)?;
     let book = disk.book();
-    let other = Key { bytes: [8; 32] };
-    let damaged = |offset: u64| Some(BeginFault::Damaged {
-        area: Area::Book,
-        offset,
-    });
-    let delta = Mode::Delta;
+    let foreign = fault_on(alloc, book, 8, 49, OTHER, [0; 32], Mode::Full)?;
+    assert_eq!(rt; foreign, Some(BeginFault::NotAStore));
     assert_eq!(rt;
-        fault_on(alloc, book, 999, 0, SURFACE, BASE_CHECK, delta)?,
-        None
-    );
-    assert_eq!(rt;
-        fault_on(alloc, book, 8, 49, other, [0; 32], Mode::Full)?,
-        Some(BeginFault::NotAStore)
-    );
-    assert_eq!(rt;
-        fault_on(alloc, book, 9, 2, other, [0; 32], Mode::Full)?,
+        fault_on(alloc, book, 9, 2, OTHER, [0; 32], Mode::Full)?,
         damaged(9)
     );
-    assert_eq!(rt;
-        fault_on(alloc, book, 79, 1, other, [0; 32], Mode::Full)?,
-        Some(BeginFault::BaseDiffers {
-            stored: BASE_CHECK,
-            given: [0; 32]
-        })
-    );
-    assert_eq!(rt;
-        fault_on(alloc, book, 79, 1, other, BASE_CHECK, Mode::Full)?,
-        Some(BeginFault::SurfaceDiffers {
-            stored: check_value(&SURFACE),
-            given: check_value(&other)
-        })
-    );
-    assert_eq!(rt;
-        fault_on(alloc, book, 79, 1, SURFACE, BASE_CHECK, Mode::Full)?,
-        Some(BeginFault::ModeDiffers {
-            stored: Mode::Delta,
-            given: Mode::Full
-        })
-    );
-    // A length that can't be, a kind that can't be, a name that can't be, and a name that is taken.
-    assert_eq!(rt;
-        fault_on(alloc, book, 79, 1, SURFACE, BASE_CHECK, delta)?,
-        damaged(79)
-    );
-    assert_eq!(rt;
-        fault_on(alloc, book, 83, 9, SURFACE, BASE_CHECK, delta)?,
-        damaged(83)
-    );
-    assert_eq!(rt;
-        fault_on(alloc, book, 86, 33, SURFACE, BASE_CHECK, delta)?,
-        damaged(86)
-    );
+    let (stored, given) = (BASE_CHECK, [0; 32]);
+    let base = fault_on(alloc, book, 79, 1, OTHER, given, Mode::Full)?;
+    assert_eq!(rt; base, Some(BeginFault::BaseDiffers { stored, given }));
+    let (stored, given) = (check_value(&SURFACE), check_value(&OTHER));
+    let surface = fault_on(alloc, book, 79, 1, OTHER, BASE_CHECK, Mode::Full)?;
+    assert_eq!(rt; surface, Some(BeginFault::SurfaceDiffers { stored, given }));
+    let (stored, given) = (Mode::Delta, Mode::Full);
+    let mode = fault_on(alloc, book, 79, 1, SURFACE, BASE_CHECK, given)?;
+    assert_eq!(rt; mode, Some(BeginFault::ModeDiffers { stored, given }));
     Ok(())
+}
+
+/// A length that can't be, a kind that can't be, and a name that can't be.
+#[test]
+fn damage_and_where_it_is(rt: HostRuntime) -> Result<(), Fail> {
+    let alloc = rt.alloc();
+    let mut calls = Vec::new(alloc);
+    let disk = small_store(alloc, &mut calls)?;
+    let book = disk.book();
+    for (place, byte, fault) in [
+        (9_999, 0, None),
+        (79, 1, damaged(79)),
+        (83, 9, damaged(83)),
+        (86, 33, damaged(86)),
+    ] {
+        let found = fault_on(alloc, book, place, byte, SURFACE, BASE_CHECK, Mode::Delta)?;
+        assert_eq!(rt; found, fault);
+    }
+    Ok(())
+}
+
+/// Opens the store on two files, makes one update, and closes it.
+fn on_files_once(rt: HostRuntime, epoch: u32) -> Result<bool, Fail> {
+    let alloc = rt.alloc();
+    let disk = FileDisk::new(rt, "ov_store_test/book", "ov_store_test/blobs")?;
+    let mut store = match Store::begin(alloc, disk, SURFACE, BASE_CHECK, Mode::Full) {
+        Ok(store) => store,
+        Err(_) => return Ok(false),
+    };
+    let found = store.state().epoch();
+    let made = match update_of(alloc, epoch) {
+        Ok(update) => store.update(alloc, update) == Ok(epoch.saturating_add(1)),
+        Err(_) => false,
+    };
+    drop(store.close());
+    Ok(found == epoch && made)
 }
 
 #[test]
 fn on_files(rt: HostRuntime) -> Result<(), Fail> {
-    let alloc = rt.alloc();
     let _ = fs::remove_dir_all(&rt, "ov_store_test");
     fs::create_dir(&rt, "ov_store_test")?;
-    for epoch in 0..3u32 {
-        let disk = FileDisk::new(rt, "ov_store_test/book", "ov_store_test/blobs")?;
-        let mut store = match Store::begin(alloc, disk, SURFACE, BASE_CHECK, Mode::Full) {
-            Ok(store) => store,
-            Err(_) => return Err(Fail::from("no store")),
-        };
-        assert_eq!(rt; store.state().epoch(), epoch);
-        assert_eq!(rt;
-            store.update(alloc, update_of(alloc, epoch)?),
-            Ok(epoch + 1)
-        );
-        drop(store.close());
+    for epoch in 0..3 {
+        assert!(rt; on_files_once(rt, epoch)?);
     }
     fs::remove_dir_all(&rt, "ov_store_test")?;
     Ok(())

@@ -1,0 +1,85 @@
+use Rattle.std.proofs.Common.{rules, ◌≡◌, ◌<◌, Bool, true, false, length, sym, ◌∙◌, subst, arith}
+use Rattle.ov_disk.proofs.Runs.{looks_then}
+use Rattle.ov_journal.proofs.Records.{has_record}
+use Rattle.ov_store.specs.Owners.{FollowsUpdate, masters}
+use Rattle.ov_store.proofs.Checking.{followed_all, followed_more, found_false}
+use Rattle.ov_store.proofs.Replays.{next_body}
+use Rattle.ov_store.proofs.check.first_false.Goals as goal
+
+pub body-requires-clause-there : goal.body-requires-clause-there
+body-requires-clause-there g c i is =
+    let lt : c.records.i < length c.args.journal.now.offsets = search rules in (
+      _,
+      has_record c.args.journal.now i.book c.records.i
+          (c.requires.log i (sym c.records.invariant.untouched.reads_same ∙ is)) lt,
+    )
+
+pub returns-in_err-body-clause-untouched : goal.returns-in_err-body-clause-untouched
+returns-in_err-body-clause-untouched g c =
+    looks_then g.D.Disk.moment g.D.Disk.left_since g.D.Disk.may_leave g.D.Disk.reads
+    c.args.disk.now c.records.disk c.body.new.disk c.records.invariant.untouched
+    c.body.ensures.untouched
+
+pub returns-in_err-follow-clause-untouched : goal.returns-in_err-follow-clause-untouched
+returns-in_err-follow-clause-untouched g c =
+    looks_then g.D.Disk.moment g.D.Disk.left_since g.D.Disk.may_leave g.D.Disk.reads
+    c.args.disk.now c.records.disk c.body.new.disk c.records.invariant.untouched
+    c.body.ensures.untouched
+
+pub returns-then-not-branch-clause-untouched : goal.returns-then-not-branch-clause-untouched
+returns-then-not-branch-clause-untouched g c =
+    looks_then g.D.Disk.moment g.D.Disk.left_since g.D.Disk.may_leave g.D.Disk.reads
+    c.args.disk.now c.records.disk c.body.new.disk c.records.invariant.untouched
+    c.body.ensures.untouched
+
+pub returns-then-not-branch-clause-checked : goal.returns-then-not-branch-clause-checked
+returns-then-not-branch-clause-checked g c = λ d read any h keeps is_mode is_first.
+    let lt : c.records.i < length c.args.journal.now.offsets = search rules in
+    let next = next_body c.args.journal.now c.records.i c.clear.new.self.items c.body.new.out.items
+    c.as_slice.result.now (g.D.Disk.reads c.args.disk.now) lt c.requires.log
+    (λ d read. c.in_ok-body.ensures.bytes d (c.records.invariant.untouched.reads_same ∙ read))
+    c.clear.ensures.items c.as_slice.ensures.value in
+    let no : c.in_ok-follow.field-0 ≡ false = search rules in
+    let so_far = c.records.invariant.made d read any h keeps is_mode is_first in
+    found_false (masters c.args.base.now.bytes c.args.surface.now.bytes) any h d keeps c.records.i
+    c.records.state.catalogue so_far
+    c.as_slice.result.now (next d read) c.follow.new.state.catalogue c.args.journal.now
+    c.offset.result
+    (λ u is taken. subst (λ (b : Bool).
+    FollowsUpdate (masters c.args.base.now.bytes c.args.surface.now.bytes) c.records.state.catalogue
+    u c.follow.new.state.catalogue b) no
+    (c.in_ok-follow.ensures u is taken))
+    (c.requires.log d read) (search rules)
+
+pub records-preserved : goal.records-preserved
+records-preserved g c =
+    let lt : c.records.i < length c.args.journal.now.offsets = search rules in
+    let next = next_body c.args.journal.now c.records.i c.clear.new.self.items c.body.new.out.items
+    c.as_slice.result.now (g.D.Disk.reads c.args.disk.now) lt c.requires.log
+    (λ d read. c.in_ok-body.ensures.bytes d (c.records.invariant.untouched.reads_same ∙ read))
+    c.clear.ensures.items c.as_slice.ensures.value in
+    let yes : c.in_ok-follow.field-0 ≡ true = search rules in
+    record {
+      untouched = looks_then g.D.Disk.moment g.D.Disk.left_since g.D.Disk.may_leave g.D.Disk.reads
+          c.args.disk.now c.records.disk c.body.new.disk c.records.invariant.untouched
+          c.body.ensures.untouched;
+      made = λ d read any h keeps is_mode is_first.
+          followed_more (masters c.args.base.now.bytes c.args.surface.now.bytes) any h d keeps
+          c.records.i c.records.state.catalogue
+          (c.records.invariant.made d read any h keeps is_mode is_first) c.as_slice.result.now
+          (next d read) c.follow.new.state.catalogue
+          (λ u is taken. subst (λ (b : Bool).
+          FollowsUpdate (masters c.args.base.now.bytes c.args.surface.now.bytes)
+          c.records.state.catalogue u c.follow.new.state.catalogue b) yes
+          (c.in_ok-follow.ensures u is taken));
+      same = search rules;
+      later = search rules;
+    }
+
+pub returns-clause-checked : goal.returns-clause-checked
+returns-clause-checked g c = λ d read any h keeps is_mode is_first.
+    let last : c.records.i ≡ length c.args.journal.now.offsets =
+    omega (arith, c.count-i-end.ensures) in
+    followed_all (masters c.args.base.now.bytes c.args.surface.now.bytes) any h d c.records.i
+    c.records.state.catalogue c.args.journal.now keeps
+    (c.records.invariant.made d read any h keeps is_mode is_first) last (c.requires.log d read)

@@ -1,0 +1,63 @@
+use Rattle.std.proofs.Common.{◌≡◌, ◌-◌, false, length, sym, ◌∙◌, ap, subst}
+use Rattle.std.specs.Prelude.{IfOk}
+use Rattle.ov_disk.specs.Disk.{Told}
+use Rattle.ov_history.specs.Catalogue.{Catalogue}
+use Rattle.ov_history.specs.Sealed.{SealedHistory}
+use Rattle.ov_images.specs.Images.{Keys}
+use Rattle.ov_store.specs.Opened.{Opened, Serves}
+use Rattle.ov_store.specs.Owners.{Checks, masters}
+use Rattle.ov_store.proofs.Going.{store_of}
+use Rattle.ov_store.proofs.Looking.{checks_all, safe_looked, serves_looked}
+use Rattle.ov_store.proofs.store.Store.check.Goals as goal
+
+pub invariant_of-self : goal.invariant_of-self
+invariant_of-self g c =
+    let k : Keys = record {
+      base_check = c.self.inside.base_check;
+      surface = c.self.inside.surface.bytes;
+    } in
+    safe_looked g.D.Disk.reads g.D.Disk.may_leave g.D.Disk.moment g.D.Disk.left_since k
+    c.self.inside.vault.catalogue
+    c.self.inside.vault.stored c.self.inside.failed c.self.inside.disk c.first_false.new.disk
+    c.first_false.ensures.untouched
+    c.self.inside.journal c.self.invariant
+
+pub returns-clause-served : goal.returns-clause-served
+returns-clause-served g c = λ h serves.
+    let k : Keys = record {
+      base_check = c.self.inside.base_check;
+      surface = c.self.inside.surface.bytes;
+    } in
+    serves_looked g.D.Disk.reads g.D.Disk.may_leave g.D.Disk.moment g.D.Disk.left_since k
+    c.self.inside.vault.catalogue
+    c.self.inside.vault.stored c.self.inside.failed c.self.inside.disk c.first_false.new.disk
+    c.first_false.ensures.untouched h
+    (subst (λ (s : Opened g.row.D.Denot). Serves g.D.Disk.reads g.D.Disk.may_leave h s)
+    (sym c.self.view_is) serves)
+
+pub returns-clause-checked : goal.returns-clause-checked
+returns-clause-checked g c =
+    let k : Keys = record {
+      base_check = c.self.inside.base_check;
+      surface = c.self.inside.surface.bytes;
+    } in
+    let sound : c.self.inside.failed ≡ false =
+    ap (λ (s : Opened g.row.D.Denot). s.failed) c.self.view_is ∙ c.requires in
+    let mode : c.mode-mode.result ≡ c.self.inside.vault.catalogue.mode =
+    c.mode-mode.ensures ∙ ap (λ (x : Catalogue). x.mode) c.catalogue.ensures.catalogue in
+    let epoch : c.epoch.result ≡ c.self.inside.vault.catalogue.epoch =
+    c.epoch.ensures ∙ ap (λ (x : Catalogue). x.epoch) c.catalogue-2.ensures.catalogue in
+    let first : c.epoch.result - c.count.result
+    ≡ c.self.inside.vault.catalogue.epoch - length c.self.inside.journal.offsets =
+    λ j. epoch j - c.count.ensures j in
+    subst (λ (old : Opened g.row.D.Denot). IfOk c.first_false.result (λ found.
+    (h : SealedHistory) → Serves g.D.Disk.reads g.D.Disk.may_leave h old
+    → Told (g.D.Disk.reads old.disk)
+    (λ _. Checks (masters c.args.base.now.bytes old.keys.surface) h found))) c.self.view_is
+    (checks_all g.D.Disk.reads g.D.Disk.may_leave g.D.Disk.moment g.D.Disk.left_since
+    g.met.D.Disk.reads_one
+    (masters c.args.base.now.bytes k.surface)
+    (store_of c.self.inside.disk k c.self.inside.vault.catalogue c.self.inside.vault.stored
+    c.self.inside.failed)
+    c.self.inside.journal c.mode-mode.result (c.epoch.result - c.count.result)
+    c.first_false.result c.self.invariant sound mode first c.first_false.ensures.checked)

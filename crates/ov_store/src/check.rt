@@ -1,0 +1,123 @@
+//! Whether all updates of a store are as their owner seals them.
+ghost use Rattle.std.specs.Prelude.{◌≡◌, ◌≤◌, IfOk, IsErrOf, false};
+ghost use Rattle.ov_base.specs.Causes.{Rose};
+ghost use Rattle.ov_disk.specs.Disk.{Told};
+ghost use Rattle.ov_disk.specs.Moments.{IsUntouched};
+ghost use Rattle.ov_history.specs.Sealed.{SealedHistory};
+ghost use Rattle.ov_images.specs.Images.{Keeps, Keys};
+ghost use Rattle.ov_journal.specs.Book.{contents_of};
+ghost use Rattle.ov_journal.specs.Log.{IsLogOf};
+ghost use Rattle.ov_journal.specs.declared.fault.CheckFault.TheVariants.{Disk as DiskFailed};
+ghost use Rattle.ov_record.specs.Updates.{SealedUpdate};
+ghost use Rattle.ov_history.specs.Briefs.{brief};
+ghost use Rattle.ov_state.specs.Plans.{IsTaken};
+ghost use Rattle.ov_store.specs.Bodies.{IsBodyOf};
+ghost use Rattle.ov_store.specs.Opened.{Serves};
+ghost use Rattle.ov_store.specs.Owners.{Checks, FollowsUpdate, masters};
+ghost use Rattle.ov_store.specs.Updating.{IsCallOf};
+
+use crate::owners::is_owners;
+use crate::store::Store;
+use ov_base::{Key, Memory, Mode};
+use ov_disk::Disk;
+use ov_journal::{CheckFault, Journal};
+use ov_record::{RecordFault, read};
+use ov_state::{Brief, Catalogue, PrepareFault, State, WIDTH};
+use std::alloc::Global;
+
+// Goes on with the record with this body, if its update is as its owner seals it.
+fn follow(
+    alloc: Global,
+    state: &mut Catalogue,
+    surface: &Key,
+    base: &Key,
+    body: &[u8],
+) -> Result<bool, Memory>
+    ensures { IfOk result (λ yes. (u : SealedUpdate) → IsBodyOf u body.now
+        → IsTaken state.old.catalogue (brief u)
+        → FollowsUpdate (masters base.now.bytes surface.now.bytes)
+        state.old.catalogue u state.new.catalogue yes) }
+{
+    let update = match read::<WIDTH>(alloc, body) {
+        Ok(update) => update,
+        Err(RecordFault::BadRecord { .. }) => return Ok(false),
+        Err(RecordFault::Memory) => return Err(Memory),
+    };
+    if !is_owners(alloc, state, base, &update)? {
+        return Ok(false);
+    }
+    let (brief, _) = Brief::of(update);
+    match state.prepare(alloc, surface, brief) {
+        Ok(change) => {
+            state.commit(change);
+            Ok(true)
+        }
+        Err(PrepareFault::Memory) => Err(Memory),
+        Err(_) => Ok(false),
+    }
+}
+
+// The place of the first record of the journal whose update isn't as its owner seals it, of a store
+// that began empty in this mode and at this epoch.
+fn first_false<D: Disk>(
+    alloc: Global,
+    disk: &mut D,
+    journal: &Journal,
+    surface: &Key,
+    base: &Key,
+    mode: Mode,
+    first: u32,
+) -> Result<Option<u64>, CheckFault>
+    requires log { Told (D.reads disk.old) (λ i.
+        IsLogOf journal.now (contents_of i.book).records) }
+    ensures checked { IfOk result (λ found. Told (D.reads disk.old) (λ i.
+        (k : Keys) (g : SealedHistory) → Keeps k g i → g.mode ≡ mode → g.first ≡ first
+        → Checks (masters base.now.bytes surface.now.bytes) g found)) }
+    ensures untouched { IsUntouched D.moment D.left_since D.may_leave D.reads disk.old disk.new }
+    ensures same { D.borrow disk.new ≡ D.borrow disk.old }
+    ensures later { D.faults disk.old ≤ D.faults disk.new }
+    ensures failed { IsErrOf result DiskFailed → Rose (D.faults disk.old) (D.faults disk.new) }
+{
+    let mut state: Catalogue = State::new(alloc, mode, first)?;
+    let mut body = Vec::new(alloc);
+    'records: for i in 0..journal.count() {
+        body.clear();
+        journal.body(disk, i, &mut body)?;
+        if !follow(alloc, &mut state, surface, base, body.as_slice())? {
+            return Ok(Some(journal.offset(i)));
+        }
+    }
+    Ok(None)
+}
+
+impl<D: Disk> Store<D> {
+    /// The place in Book of the gate of the first record with a token or a tag that isn't what the
+    /// owner with this base master sends, and None where there is none. It reads all records again.
+    pub fn check(&mut self, alloc: Global, base: &Key) -> Result<Option<u64>, CheckFault>
+        requires { self.old.failed ≡ false }
+        // Of each history for which the store stands.
+        ensures checked { IfOk result (λ found. (g : SealedHistory)
+            → Serves D.reads D.may_leave g self.old → Told (D.reads self.old.disk)
+            (λ _. Checks (masters base.now.bytes self.old.keys.surface) g found)) }
+
+        // Nothing is written, and the store stands for what it stood for.
+        ensures kept { self.new ≡ record self.old { disk = self.new.disk } }
+        ensures untouched { IsUntouched D.moment D.left_since D.may_leave D.reads
+            self.old.disk self.new.disk }
+        ensures served { (g : SealedHistory) → Serves D.reads D.may_leave g self.old
+            → Serves D.reads D.may_leave g self.new }
+        ensures call { IsCallOf D.borrow D.faults self.old self.new (IsErrOf result DiskFailed) }
+    {
+        let mode = self.vault.catalogue().mode();
+        let first = self.vault.catalogue().epoch() - self.journal.count() as u32;
+        first_false(
+            alloc,
+            &mut self.disk,
+            &self.journal,
+            &self.surface,
+            base,
+            mode,
+            first,
+        )
+    }
+}

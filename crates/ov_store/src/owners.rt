@@ -1,0 +1,143 @@
+//! Whether an update is as its owner seals it.
+ghost use Rattle.std.specs.Prelude.{◌≡◌, ◌≤◌, List, Some, true, false, ℕ, IfOk, length};
+ghost use Rattle.ov_base.specs.declared.limits.TheConstants.{MAX_FILE_BYTES};
+ghost use Rattle.ov_history.specs.Briefs.{BriefCreate, BriefGrant, brief};
+ghost use Rattle.ov_history.specs.Catalogue.{outline};
+ghost use Rattle.ov_history.specs.Masters.{Masters};
+ghost use Rattle.ov_record.specs.Updates.{SealedCreate, SealedGrant, sealed_update};
+ghost use Rattle.ov_surface.specs.Coats.{base_text};
+ghost use Rattle.ov_surface.specs.Tags.{tag_of_file};
+ghost use Rattle.ov_state.specs.Plans.{IsFitting, IsTaken};
+ghost use Rattle.ov_store.specs.Owners.{TellsOwners};
+
+use ov_base::{Key, Memory, Octets, UserSet};
+use ov_base_layer::{seal_access, seal_cover};
+use ov_graph::{GraphRefusal, root};
+use ov_record::Update;
+use ov_state::{Catalogue, WIDTH};
+use ov_surface::{base_encrypt, file_tag};
+use ov_tokens::{Base, Layer, Token, Tokens, access_key};
+use std::alloc::Global;
+
+// Whether the access token of a grant is the one that the owner sends.
+fn is_grant(state: &Catalogue, base: &Key, user: u32, file: u32, token: &Token) -> bool
+    ensures { (k : Masters) → k.base ≡ base.now.bytes
+        → IsTaken state.now.catalogue (BriefGrant user file (Some token.now))
+        → TellsOwners k (outline state.now.catalogue)
+        (SealedGrant user file (Some token.now)) result }
+{
+    state.known();
+    if user >= state.sizes().users {
+        return false;
+    }
+    let entry = match state.file_at(file) {
+        Some(entry) => entry,
+        None => return false,
+    };
+    let root = root(state.base().graph(), user);
+    let sealed = seal_access(base, root, entry.node);
+    if token.bytes != sealed.bytes {
+        return false;
+    }
+    true
+}
+
+// Whether the tokens are the same.
+fn are_same(one: &[Token], other: &[Token]) -> bool
+    ensures same { result ≡ true → one.now ≡ other.now }
+    ensures other { result ≡ false → one.now ≡ other.now → ⊥ }
+{
+    if one.len() != other.len() {
+        return false;
+    }
+    'tokens: for i in 0..one.len() {
+        if one[i].bytes != other[i].bytes {
+            return false;
+        }
+    }
+    true
+}
+
+// The bytes with the coat of the base layer taken off.
+fn uncoated(access: &Key, number: u32, bytes: Octets) -> Octets
+    requires { length bytes ≤ MAX_FILE_BYTES }
+    ensures { result ≡ base_text access.now.bytes number bytes }
+{
+    let mut text = bytes.into_vec();
+    base_encrypt(access, number, 0, &mut text);
+    Octets::from_vec(text)
+}
+
+// The tag of what is under the coat of the base layer.
+fn tag_under(alloc: Global, access: &Key, number: u32, bytes: &Octets) -> Result<[u8; 32], Memory>
+    requires { length bytes.now ≤ MAX_FILE_BYTES }
+    ensures { IfOk result (λ tag. tag
+        ≡ tag_of_file access.now.bytes number (base_text access.now.bytes number bytes.now)) }
+{
+    let plain = uncoated(access, number, Octets::copy(alloc, bytes.as_slice())?);
+    Ok(file_tag(access, number, plain.as_slice()))
+}
+
+// Whether the tokens and the tag of a creation are those that the owner sends with these bytes.
+fn is_creation(
+    alloc: Global,
+    state: &Catalogue,
+    base: &Key,
+    list: &UserSet<WIDTH>,
+    tokens: &Tokens,
+    tag: &[u8; 32],
+    bytes: &Octets,
+) -> Result<bool, Memory>
+    requires { length bytes.now ≤ MAX_FILE_BYTES }
+    ensures { IfOk result (λ yes. (k : Masters) (name : List ℕ) → k.base ≡ base.now.bytes
+        → IsTaken state.now.catalogue
+        (BriefCreate name list.now tokens.now tag.now (length bytes.now))
+        → TellsOwners k (outline state.now.catalogue)
+        (SealedCreate name list.now tokens.now tag.now bytes.now) yes) }
+{
+    let cover = match state.base().plan_create(alloc, list) {
+        Ok(cover) => cover,
+        Err(GraphRefusal::NodesFull) => return Ok(false),
+        Err(GraphRefusal::Memory) => return Err(Memory),
+    };
+    let sealed = seal_cover(alloc, base, &cover)?;
+    if !are_same(tokens.as_slice(), sealed.as_slice()) {
+        return Ok(false);
+    }
+    let access = access_key(&Base::key_of(base, cover.node));
+    let number = state.sizes().files;
+    let right = tag_under(alloc, &access, number, bytes)?;
+    if *tag != right {
+        return Ok(false);
+    }
+    Ok(true)
+}
+
+/// Whether an update is, after what the catalogue has, as its owner seals it under the base master.
+pub(crate) fn is_owners(
+    alloc: Global,
+    state: &Catalogue,
+    base: &Key,
+    update: &Update<WIDTH>,
+) -> Result<bool, Memory>
+    requires { IsFitting (brief (sealed_update update.now)) }
+    ensures { IfOk result (λ yes. (k : Masters) → k.base ≡ base.now.bytes
+        → IsTaken state.now.catalogue (brief (sealed_update update.now))
+        → TellsOwners k (outline state.now.catalogue) (sealed_update update.now) yes) }
+{
+    match update {
+        Update::Create {
+            list,
+            tokens,
+            tag,
+            bytes,
+            ..
+        } => is_creation(alloc, state, base, list, tokens, tag, bytes),
+        Update::Grant { user, file, token } => match token {
+            Some(token) => Ok(is_grant(state, base, *user, *file, token)),
+            None => Ok(true),
+        },
+        Update::Enrol { .. } => Ok(true),
+        Update::Revoke { .. } => Ok(true),
+    }
+}
