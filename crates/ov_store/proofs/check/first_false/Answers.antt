@@ -1,18 +1,13 @@
 use Rattle.std.proofs.Common.{rules, ◌≡◌, ◌<◌, Bool, true, false, length, sym, ◌∙◌, subst, arith}
 use Rattle.ov_disk.proofs.Runs.{looks_then}
-use Rattle.ov_journal.proofs.Records.{has_record}
 use Rattle.ov_store.specs.Owners.{FollowsUpdate, masters}
 use Rattle.ov_store.proofs.Checking.{followed_all, followed_more, found_false}
 use Rattle.ov_store.proofs.Replays.{next_body}
 use Rattle.ov_store.proofs.check.first_false.Goals as goal
 
-pub body-requires-clause-there : goal.body-requires-clause-there
-body-requires-clause-there g c i is =
-    let lt : c.records.i < length c.args.journal.now.offsets = search rules in (
-      _,
-      has_record c.args.journal.now i.book c.records.i
-          (c.requires.log i (sym c.records.invariant.untouched.reads_same ∙ is)) lt,
-    )
+pub body-requires-clause-records : goal.body-requires-clause-records
+body-requires-clause-records g c i is =
+    c.requires.log i (sym c.records.invariant.untouched.reads_same ∙ is)
 
 pub returns-in_err-body-clause-untouched : goal.returns-in_err-body-clause-untouched
 returns-in_err-body-clause-untouched g c =
