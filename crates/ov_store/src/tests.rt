@@ -225,22 +225,17 @@ fn a_stop_after_each_call(rt: HostRuntime) -> Result<(), Fail> {
     Ok(())
 }
 
-/// What one more update is answered.
-fn updated(alloc: Global, store: &mut Store<MemDisk>) -> Result<Result<u32, StoreFault>, Fail> {
-    let update = update_of(alloc, 5)?;
-    Ok(store.update(alloc, update))
-}
-
 /// The disk of a store at which this call failed, and the calls of its updates; none where no call
 /// failed in an update, or a later one wasn't answered with `Failed`.
 fn failed_at(alloc: Global, call: u64, calls: &mut Vec<u64>) -> Result<Option<MemDisk>, Fail> {
     let mut disk = MemDisk::new(alloc);
     disk.fail_at(call)?;
+    let update = update_of(alloc, 5)?;
     let mut store = new_store(alloc, disk)?;
     let all = update_all(alloc, &mut store, calls);
-    let again = updated(alloc, &mut store);
+    let again = store.update(alloc, update);
     let disk = store.close();
-    if all? || again? != Err(StoreFault::Failed) {
+    if all? || again != Err(StoreFault::Failed) {
         return Ok(None);
     }
     Ok(Some(disk))
@@ -365,18 +360,16 @@ fn damage_and_where_it_is(rt: HostRuntime) -> Result<(), Fail> {
 /// Opens the store on two files, makes one update, and closes it.
 fn on_files_once(rt: HostRuntime, epoch: u32) -> Result<bool, Fail> {
     let alloc = rt.alloc();
+    let update = update_of(alloc, epoch)?;
     let disk = FileDisk::new(rt, "ov_store_test/book", "ov_store_test/blobs")?;
     let mut store = match Store::begin(alloc, disk, SURFACE, BASE_CHECK, Mode::Full) {
         Ok(store) => store,
         Err(_) => return Ok(false),
     };
     let found = store.state().epoch();
-    let made = match update_of(alloc, epoch) {
-        Ok(update) => store.update(alloc, update) == Ok(epoch.saturating_add(1)),
-        Err(_) => false,
-    };
+    let made = store.update(alloc, update);
     drop(store.close());
-    Ok(found == epoch && made)
+    Ok(found == epoch && made == Ok(epoch.saturating_add(1)))
 }
 
 #[test]
