@@ -14,7 +14,7 @@ use Rattle.ov_vault.specs.Vaults.{Store}
 use Rattle.ov_images.specs.Damage.{IsFor}
 use Rattle.ov_images.specs.Images.{Keys, Keeps, bodies_of, header_of}
 use Rattle.ov_images.proofs.Keeping.{is_born, keeps_once}
-use Rattle.ov_store.specs.Beginning.{FindsHistory}
+use Rattle.ov_store.specs.Beginning.{FindsHistory, IsOpened}
 use Rattle.ov_store.specs.Opened.{IsSafe, Serves, open_with}
 use Rattle.ov_store.specs.Replaying.{IsReplay}
 
@@ -123,3 +123,7 @@ module _ {D : Type 0} (reads : D → Option Image) (may_leave : D → Image → 
   mode_found =
       (history_is_shown k.surface s.catalogue found.replay.history found.replay.stands.0).mode
       ∙ found.replay.mode_is ∙ found.keys.mode_is
+
+  pub opened_found : IsOpened reads may_leave log mode (reads d0)
+      (open_with d1 k s.catalogue s.stored)
+  opened_found = record { safe = safe_found; mode_is = mode_found; found = finds }

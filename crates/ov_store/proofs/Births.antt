@@ -10,6 +10,7 @@ use Rattle.ov_journal.specs.Book.{contents_of, born}
 use Rattle.ov_journal.specs.Log.{Log, IsUnbornOrEmpty, IsKept, Stands}
 use Rattle.ov_journal.specs.Standing.{IsUnborn}
 use Rattle.ov_images.specs.Images.{Keys, header_of, Keeps, IsImageOf}
+use Rattle.ov_store.specs.Beginning.{IsBornStore}
 use Rattle.ov_store.specs.Opened.{Serves, IsSafe, open_with}
 
 -- a new store keeps the history without updates
@@ -64,3 +65,9 @@ module _ {D : Type 0} (reads : D → Option Image) (may_leave : D → Image → 
       stands = λ ok. stands;
       some_history = (blank mode first, serves_none);
     }
+
+    pub born_none : (log : Log) → log.bad ≡ false → length log.offsets ≡ 0
+        → Stands log (reads d1) (may_leave d1)
+        → IsBornStore reads may_leave log mode first (open_with d1 k c stored)
+    born_none log whole count stands =
+        record { safe = safe_none log whole count stands; serves = serves_none; empty = is }

@@ -5,6 +5,7 @@ use Rattle.ov_base.specs.declared.mode.Mode.{Mode}
 use Rattle.ov_disk.specs.Disk.{Image, Narrows, Told}
 use Rattle.ov_disk.specs.Moments.{LeavesOnly}
 use Rattle.ov_disk.proofs.Runs.{then_on, weaker}
+use Rattle.ov_history.specs.Catalogue.{Catalogue}
 use Rattle.ov_history.specs.Sealed.{SealedHistory, blank}
 use Rattle.ov_journal.specs.Finding.{Finds}
 use Rattle.ov_journal.specs.Standing.{IsUnborn}
@@ -16,7 +17,7 @@ use Rattle.ov_journal.specs.Log.{Log}
 use Rattle.ov_vault.specs.Vaults.{Store}
 use Rattle.ov_images.specs.Images.{Keys, IsImageOf}
 use Rattle.ov_images.proofs.Keeping.{is_born}
-use Rattle.ov_store.specs.Beginning.{FindsHistory, IsBeginFault, LeavesHistory, WritesNoBorn}
+use Rattle.ov_store.specs.Beginning.{FindsHistory, IsBeginFault, IsBornStore, IsOpened, LeavesHistory, WritesNoBorn}
 use Rattle.ov_store.specs.Faults.{begin_fault_of, opening_fault_of}
 use Rattle.ov_store.specs.Opened.{Opened, Serves, open_with}
 
@@ -91,11 +92,15 @@ module _ {D : Type 0} (reads : D → Option Image) (may_leave : D → Image → 
           (sym (history_unborn k mode i g (unborn i at) is image)) serves;
     }
 
-    pub found_at_birth : {E : Type 0} (r : Result (Store × Log) E)
-        → IfOk r (λ parts. Serves reads may_leave (blank mode 0)
+    -- a store that was just born is open
+    pub opened_at_birth : {E : Type 0} (r : Result (Store × Log) E)
+        → IfOk r (λ parts. IsBornStore reads may_leave parts.1 mode 0
         (open_with d2 k parts.0.catalogue parts.0.stored))
-        → IfOk r (λ parts. Told (reads d0) (λ i. FindsHistory reads may_leave k mode i
-        (open_with d2 k parts.0.catalogue parts.0.stored)))
-    found_at_birth (Ok parts) serves =
-        birth_finds (open_with d2 k parts.0.catalogue parts.0.stored) serves
-    found_at_birth (Err fault) none = none
+        → IfOk r (λ parts. IsOpened reads may_leave parts.1 mode (reads d0)
+        (open_with d2 k parts.0.catalogue parts.0.stored))
+    opened_at_birth (Ok parts) born = record {
+      safe = born.safe;
+      mode_is = ap (λ (c : Catalogue). c.mode) born.empty;
+      found = birth_finds (open_with d2 k parts.0.catalogue parts.0.stored) born.serves;
+    }
+    opened_at_birth (Err fault) none = none

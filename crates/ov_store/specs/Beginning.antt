@@ -6,12 +6,14 @@ use Rattle.ov_disk.specs.Disk.{Image, Only, Told}
 use Rattle.ov_disk.specs.Moments.{LeavesOnly}
 use Rattle.ov_disk.specs.declared.area.Area.TheVariants.{Book}
 use Rattle.ov_tokens.specs.Keys.{check_value_of}
-use Rattle.ov_history.specs.Sealed.{SealedHistory}
+use Rattle.ov_history.specs.Catalogue.{empty_catalogue}
+use Rattle.ov_history.specs.Sealed.{SealedHistory, blank}
+use Rattle.ov_journal.specs.Log.{Log}
 use Rattle.ov_journal.specs.Standing.{IsUnborn, IsForeign, HasNoMode}
 use Rattle.ov_journal.specs.declared.header.Header.{Header}
 use Rattle.ov_images.specs.Images.{Keys, IsImageOf, StandsIn}
 use Rattle.ov_images.specs.Damage.{HasHeader, IsFor, HasBadRecords}
-use Rattle.ov_store.specs.Opened.{Opened, Serves}
+use Rattle.ov_store.specs.Opened.{IsSafe, Opened, Serves}
 use Rattle.ov_store.specs.declared.begin.BeginRefused.{BeginRefused}
 use Rattle.ov_store.specs.declared.fault.BeginFault.{BeginFault}
 use Rattle.ov_store.specs.declared.fault.BeginFault.TheVariants.{Disk as DiskFailed, NotAStore, Damaged, BaseDiffers, SurfaceDiffers, ModeDiffers, Memory}
@@ -43,6 +45,22 @@ pub record FindsHistory {D : Type 0} (reads : D → Option Image) (may_leave : D
     (k : Keys) (mode : Mode) (i : Image) (s : Opened D) : Type 0 where
   pub some : StandsIn k mode i
   pub each : (g : SealedHistory) → g.mode ≡ mode → IsImageOf k g i → Serves reads may_leave g s
+
+-- A store that was just opened on a disk: it is safe with its journal, has this mode, and stands
+-- for each history of the mode for which the image stood that was read.
+pub record IsOpened {D : Type 0} (reads : D → Option Image) (may_leave : D → Image → Type 0)
+    (log : Log) (mode : Mode) (read : Option Image) (s : Opened D) : Type 0 where
+  pub safe : IsSafe reads may_leave log s
+  pub mode_is : s.catalogue.mode ≡ mode
+  pub found : Told read (λ i. FindsHistory reads may_leave s.keys mode i s)
+
+-- A store that was just begun without updates, from this epoch on: it is safe with its journal,
+-- stands for the history without updates, and has an empty catalogue.
+pub record IsBornStore {D : Type 0} (reads : D → Option Image) (may_leave : D → Image → Type 0)
+    (log : Log) (mode : Mode) (first : ℕ) (s : Opened D) : Type 0 where
+  pub safe : IsSafe reads may_leave log s
+  pub serves : Serves reads may_leave (blank mode first) s
+  pub empty : s.catalogue ≡ empty_catalogue mode first
 
 -- From a disk with nothing pending, whose image stands for a history of this mode, a crash at any
 -- moment leaves that history.

@@ -1,10 +1,9 @@
 //! Beginning a store, where there is none or where an earlier run left one.
-ghost use Rattle.std.specs.Prelude.{◌≡◌, ◌≤◌, None, IfOk, IfErr, OnOk, IsErrOf, false};
-ghost use Rattle.ov_base.specs.Causes.{Rose};
+ghost use Rattle.std.specs.Prelude.{IfOk, IfErr, OnOk, IsErrOf};
 ghost use Rattle.ov_disk.specs.Disk.{Told};
 ghost use Rattle.ov_images.specs.Images.{keys};
-ghost use Rattle.ov_store.specs.Beginning.{FindsHistory, IsBeginFault, IsDiskCall, IsDiskFault, IsNew, LeavesHistory, WritesNoBorn, disk_left};
-ghost use Rattle.ov_store.specs.Opened.{IsSafe, StaysTold, open_with};
+ghost use Rattle.ov_store.specs.Beginning.{FindsHistory, IsBeginFault, IsDiskCall, IsDiskFault, IsNew, IsOpened, LeavesHistory, WritesNoBorn, disk_left};
+ghost use Rattle.ov_store.specs.Opened.{StaysTold, open_with};
 ghost use Rattle.ov_store.specs.declared.fault.BeginFault.TheVariants.{Disk as DiskFailed};
 
 use crate::birth::birth;
@@ -32,23 +31,17 @@ fn open<D: Disk>(
     surface: &Key,
     mode: Mode,
 ) -> Result<(CatalogueVault, Journal), BeginFault>
-    ensures safe { IfOk result (λ parts. IsSafe D.reads D.may_leave parts.1
+    ensures opened { IfOk result (λ parts.
+        IsOpened D.reads D.may_leave parts.1 mode (D.reads disk.old)
         (open_with disk.new (keys base_check.now surface.now.bytes)
         parts.0.catalogue parts.0.stored)) }
-    ensures mode { IfOk result (λ parts. parts.0.catalogue.mode ≡ mode) }
-    ensures found { IfOk result (λ parts. Told (D.reads disk.old) (λ i.
-        FindsHistory D.reads D.may_leave (keys base_check.now surface.now.bytes) mode i
-        (open_with disk.new (keys base_check.now surface.now.bytes)
-        parts.0.catalogue parts.0.stored))) }
     ensures told { OnOk result (StaysTold (D.reads disk.old) (D.reads disk.new)) }
     ensures fault { Told (D.reads disk.old) (λ i.
         IfErr result (IsBeginFault (keys base_check.now surface.now.bytes) mode i)) }
     ensures any_moment { LeavesHistory D.reads D.may_leave D.moment D.left_since
         (keys base_check.now surface.now.bytes) mode disk.old disk.new }
     ensures untouched { WritesNoBorn D.reads D.may_leave D.moment D.left_since disk.old disk.new }
-    ensures same { D.borrow disk.new ≡ D.borrow disk.old }
-    ensures later { D.faults disk.old ≤ D.faults disk.new }
-    ensures failed { IsErrOf result DiskFailed → Rose (D.faults disk.old) (D.faults disk.new) }
+    ensures call { IsDiskCall D.borrow D.faults disk.old disk.new (IsErrOf result DiskFailed) }
 {
     match Journal::begin(alloc, disk)? {
         Found::Unborn => birth(alloc, disk, base_check, surface, mode, 0),

@@ -1,14 +1,12 @@
 //! A store on a disk where there is none.
-ghost use Rattle.std.specs.Prelude.{◌≡◌, ◌≤◌, IfErr, IfOk, OnOk, IsErrOf};
-ghost use Rattle.ov_base.specs.Causes.{Rose};
+ghost use Rattle.std.specs.Prelude.{◌≡◌, IfErr, IfOk, OnOk, IsErrOf};
 ghost use Rattle.ov_disk.specs.Disk.{Image, Told, OnlyBook};
 ghost use Rattle.ov_disk.specs.Moments.{LeavesOnly};
-ghost use Rattle.ov_history.specs.Catalogue.{empty_catalogue};
 ghost use Rattle.ov_history.specs.Sealed.{blank};
 ghost use Rattle.ov_journal.specs.Standing.{IsUnborn};
 ghost use Rattle.ov_images.specs.Images.{IsImageOf, keys};
-ghost use Rattle.ov_store.specs.Beginning.{IsBeginFault};
-ghost use Rattle.ov_store.specs.Opened.{IsSafe, Serves, StaysTold, open_with};
+ghost use Rattle.ov_store.specs.Beginning.{IsBeginFault, IsBornStore, IsDiskCall};
+ghost use Rattle.ov_store.specs.Opened.{StaysTold, open_with};
 ghost use Rattle.ov_store.specs.declared.fault.BeginFault.TheVariants.{Disk as DiskFailed};
 
 use crate::fault::BeginFault;
@@ -31,13 +29,9 @@ pub(crate) fn birth<D: Disk>(
 ) -> Result<(CatalogueVault, Journal), BeginFault>
     requires unborn { Told (D.reads disk.old) (λ i.
         IsUnborn i.book × OnlyBook i.book (D.may_leave disk.old)) }
-    ensures safe { IfOk result (λ parts. IsSafe D.reads D.may_leave parts.1
+    ensures born { IfOk result (λ parts. IsBornStore D.reads D.may_leave parts.1 mode first
         (open_with disk.new (keys base_check.now surface.now.bytes)
         parts.0.catalogue parts.0.stored)) }
-    ensures served { IfOk result (λ parts. Serves D.reads D.may_leave (blank mode first)
-        (open_with disk.new (keys base_check.now surface.now.bytes)
-        parts.0.catalogue parts.0.stored)) }
-    ensures empty { IfOk result (λ parts. parts.0.catalogue ≡ empty_catalogue mode first) }
     ensures told { OnOk result (StaysTold (D.reads disk.old) (D.reads disk.new)) }
     ensures fault { IfErr result (λ fault. (i : Image)
         → IsBeginFault (keys base_check.now surface.now.bytes) mode i fault) }
@@ -45,9 +39,7 @@ pub(crate) fn birth<D: Disk>(
     ensures any_moment { first ≡ 0 → Told (D.reads disk.old) (λ _.
         LeavesOnly D.moment D.left_since disk.old disk.new
         (IsImageOf (keys base_check.now surface.now.bytes) (blank mode 0))) }
-    ensures same { D.borrow disk.new ≡ D.borrow disk.old }
-    ensures later { D.faults disk.old ≤ D.faults disk.new }
-    ensures failed { IsErrOf result DiskFailed → Rose (D.faults disk.old) (D.faults disk.new) }
+    ensures call { IsDiskCall D.borrow D.faults disk.old disk.new (IsErrOf result DiskFailed) }
 {
     let vault = Vault::new(alloc, mode, first)?;
     let header = Header {

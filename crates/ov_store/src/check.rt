@@ -1,6 +1,5 @@
 //! Whether all updates of a store are as their owner seals them.
 ghost use Rattle.std.specs.Prelude.{◌≡◌, ◌≤◌, IfOk, IsErrOf, false};
-ghost use Rattle.ov_base.specs.Causes.{Rose};
 ghost use Rattle.ov_disk.specs.Disk.{Told};
 ghost use Rattle.ov_disk.specs.Moments.{IsUntouched};
 ghost use Rattle.ov_history.specs.Sealed.{SealedHistory};
@@ -11,6 +10,7 @@ ghost use Rattle.ov_journal.specs.declared.fault.CheckFault.TheVariants.{Disk as
 ghost use Rattle.ov_record.specs.Updates.{SealedUpdate};
 ghost use Rattle.ov_history.specs.Briefs.{brief};
 ghost use Rattle.ov_state.specs.Plans.{IsTaken};
+ghost use Rattle.ov_store.specs.Beginning.{IsDiskCall};
 ghost use Rattle.ov_store.specs.Bodies.{IsBodyOf};
 ghost use Rattle.ov_store.specs.Opened.{Serves};
 ghost use Rattle.ov_store.specs.Owners.{Checks, FollowsUpdate, masters};
@@ -74,9 +74,7 @@ fn first_false<D: Disk>(
         (k : Keys) (g : SealedHistory) → Keeps k g i → g.mode ≡ mode → g.first ≡ first
         → Checks (masters base.now.bytes surface.now.bytes) g found)) }
     ensures untouched { IsUntouched D.moment D.left_since D.may_leave D.reads disk.old disk.new }
-    ensures same { D.borrow disk.new ≡ D.borrow disk.old }
-    ensures later { D.faults disk.old ≤ D.faults disk.new }
-    ensures failed { IsErrOf result DiskFailed → Rose (D.faults disk.old) (D.faults disk.new) }
+    ensures call { IsDiskCall D.borrow D.faults disk.old disk.new (IsErrOf result DiskFailed) }
 {
     let mut state: Catalogue = State::new(alloc, mode, first)?;
     let mut body = Vec::new(alloc);

@@ -1,13 +1,12 @@
 //! A store that an earlier run left on a disk.
-ghost use Rattle.std.specs.Prelude.{◌≡◌, ◌≤◌, None, IfOk, IfErr, OnOk, IsErrOf, false};
-ghost use Rattle.ov_base.specs.Causes.{Rose};
+ghost use Rattle.std.specs.Prelude.{◌≡◌, None, IfOk, IfErr, OnOk, IsErrOf, false};
 ghost use Rattle.ov_disk.specs.Disk.{Image, Only, Told};
 ghost use Rattle.ov_disk.specs.Moments.{IsUntouched};
 ghost use Rattle.ov_journal.specs.Finding.{IsStore};
 ghost use Rattle.ov_images.specs.Damage.{HasHeader, IsFor};
 ghost use Rattle.ov_images.specs.Images.{keys};
-ghost use Rattle.ov_store.specs.Beginning.{FindsHistory, IsBeginFault};
-ghost use Rattle.ov_store.specs.Opened.{IsSafe, open_with};
+ghost use Rattle.ov_store.specs.Beginning.{IsBeginFault, IsDiskCall, IsOpened};
+ghost use Rattle.ov_store.specs.Opened.{open_with};
 ghost use Rattle.ov_store.specs.declared.fault.BeginFault.TheVariants.{Disk as DiskFailed};
 
 use crate::fault::BeginFault;
@@ -66,21 +65,16 @@ pub(crate) fn reopen<D: Disk>(
     mode: Mode,
 ) -> Result<CatalogueVault, BeginFault>
     requires whole { bad ≡ None → journal.now.bad ≡ false }
-    requires store { Told (D.reads disk.old) (λ i. IsStore journal.now header bad i.book) }
-    requires settled { Told (D.reads disk.old) (λ i. Only i (D.may_leave disk.old)) }
-    ensures safe { IfOk result (λ vault. IsSafe D.reads D.may_leave journal.now
-        (open_with disk.new (keys base_check.now surface.now.bytes) vault.catalogue vault.stored)) }
-    ensures mode { IfOk result (λ vault. vault.catalogue.mode ≡ mode) }
-    ensures found { IfOk result (λ vault. Told (D.reads disk.old) (λ i.
-        FindsHistory D.reads D.may_leave (keys base_check.now surface.now.bytes) mode i
+    requires store { Told (D.reads disk.old) (λ i.
+        IsStore journal.now header bad i.book × Only i (D.may_leave disk.old)) }
+    ensures opened { IfOk result (λ vault.
+        IsOpened D.reads D.may_leave journal.now mode (D.reads disk.old)
         (open_with disk.new (keys base_check.now surface.now.bytes)
-        vault.catalogue vault.stored))) }
+        vault.catalogue vault.stored)) }
     ensures fault { Told (D.reads disk.old) (λ i.
         IfErr result (IsBeginFault (keys base_check.now surface.now.bytes) mode i)) }
     ensures untouched { IsUntouched D.moment D.left_since D.may_leave D.reads disk.old disk.new }
-    ensures same { D.borrow disk.new ≡ D.borrow disk.old }
-    ensures later { D.faults disk.old ≤ D.faults disk.new }
-    ensures failed { IsErrOf result DiskFailed → Rose (D.faults disk.old) (D.faults disk.new) }
+    ensures call { IsDiskCall D.borrow D.faults disk.old disk.new (IsErrOf result DiskFailed) }
 {
     compare(&header, base_check, surface, mode)?;
     let vault = replay(alloc, disk, journal, surface, header.mode, header.first)?;

@@ -1,10 +1,10 @@
 //! Replaying the records of a journal.
 ghost use Rattle.std.specs.Prelude.{◌≡◌, ◌≤◌, ◌<◌, ◌^◌, ℕ, List, length, IfOk, IfErr, OnOk, IsErrOf};
-ghost use Rattle.ov_base.specs.Causes.{Rose};
 ghost use Rattle.ov_disk.specs.Disk.{Told};
 ghost use Rattle.ov_disk.specs.Moments.{IsUntouched};
 ghost use Rattle.ov_journal.specs.Book.{contents_of};
 ghost use Rattle.ov_journal.specs.Log.{IsLogOf};
+ghost use Rattle.ov_store.specs.Beginning.{IsDiskCall};
 ghost use Rattle.ov_store.specs.Replaying.{TakesBody, IsBodyFault, IsReplay, IsReplayFault};
 ghost use Rattle.ov_store.specs.declared.fault.BeginFault.TheVariants.{Disk as DiskFailed};
 
@@ -70,9 +70,7 @@ pub(crate) fn replay<D: Disk>(
     ensures fault { Told (D.reads disk.old) (λ i.
         IfErr result (IsReplayFault mode first (contents_of i.book).records.bodies)) }
     ensures untouched { IsUntouched D.moment D.left_since D.may_leave D.reads disk.old disk.new }
-    ensures same { D.borrow disk.new ≡ D.borrow disk.old }
-    ensures later { D.faults disk.old ≤ D.faults disk.new }
-    ensures failed { IsErrOf result DiskFailed → Rose (D.faults disk.old) (D.faults disk.new) }
+    ensures call { IsDiskCall D.borrow D.faults disk.old disk.new (IsErrOf result DiskFailed) }
 {
     let mut vault: CatalogueVault = Vault::new(alloc, mode, first)?;
     let mut body = Vec::new(alloc);

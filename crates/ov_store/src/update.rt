@@ -1,15 +1,16 @@
 //! Updates, which are written down before they are made.
-ghost use Rattle.std.specs.Prelude.{◌≡◌, ◌≤◌, ◌<◌, ◌+◌, ◌^◌, true, false, Some, Err, OnOk, IsErrOf, length};
-ghost use Rattle.ov_base.specs.declared.limits.TheConstants.{MAX_RECORD_BYTES};
-ghost use Rattle.ov_base.specs.Causes.{Rose};
-ghost use Rattle.ov_disk.specs.Disk.{Image, Told};
+ghost use Rattle.std.specs.Prelude.{◌≡◌, OnOk, IsErrOf};
+ghost use Rattle.ov_disk.specs.Disk.{Told};
 ghost use Rattle.ov_disk.specs.Moments.{LeavesOnly};
 ghost use Rattle.ov_journal.specs.Book.{contents_of, with_body};
-ghost use Rattle.ov_journal.specs.Log.{HasSameRecords, IsBeforeOrAfter, IsKept, Stands};
-ghost use Rattle.ov_journal.specs.declared.fault.CheckFault.TheVariants.{Disk as DiskFailed, Memory as NoMemory};
+ghost use Rattle.ov_journal.specs.Lasting.{IsAcknowledged};
+ghost use Rattle.ov_journal.specs.Log.{IsBeforeOrAfter, Stands};
+ghost use Rattle.ov_journal.specs.declared.fault.CheckFault.TheVariants.{Disk as DiskFailed};
 ghost use Rattle.ov_record.specs.Updates.{sealed_update};
 ghost use Rattle.ov_history.specs.Briefs.{brief};
 ghost use Rattle.ov_state.specs.Plans.{IsFitting};
+ghost use Rattle.ov_store.specs.Beginning.{IsDiskCall};
+ghost use Rattle.ov_store.specs.Bodies.{HasLogAfter, MayKeep};
 ghost use Rattle.ov_store.specs.Opened.{StaysTold};
 ghost use Rattle.ov_store.specs.Updating.{Updates, Fails, IfRefused, IsCallOf, LeavesEither, ServesMore};
 ghost use Rattle.ov_store.specs.declared.fault.StoreFault.TheVariants.{Disk};
@@ -25,26 +26,16 @@ use std::alloc::Global;
 
 // Writes the body down as the next record. Memory is wanted before the first call of the disk.
 fn keep<D: Disk>(disk: &mut D, journal: &mut Journal, body: &[u8]) -> Result<(), CheckFault>
-    requires whole { journal.old.bad ≡ false }
-    requires count { length journal.old.offsets < 2 ^ 40 }
-    requires body { (1 ≤ length body.now) × (length body.now ≤ MAX_RECORD_BYTES) }
+    requires body { MayKeep body.now journal.old }
     requires stands { Stands journal.old (D.reads disk.old) (D.may_leave disk.old) }
     ensures any_moment { Told (D.reads disk.old) (λ i.
         LeavesOnly D.moment D.left_since disk.old disk.new
         (IsBeforeOrAfter (D.may_leave disk.old) i body.now)) }
-    ensures kept { OnOk result (Told (D.reads disk.old) (λ i.
-        IsKept (D.reads disk.new) (D.may_leave disk.new)
-        (with_body body.now (contents_of i.book)) i.blobs)) }
-    ensures stands { OnOk result (Stands journal.new (D.reads disk.new) (D.may_leave disk.new)) }
-    ensures told_before { OnOk result (Told (D.reads disk.new) (λ _.
-        (i : Image) × (D.reads disk.old ≡ Some i))) }
-    ensures count { OnOk result (length journal.new.offsets ≡ length journal.old.offsets + 1) }
-    ensures whole { journal.new.bad ≡ false }
-    ensures memory { IsErrOf result NoMemory → (disk.new ≡ disk.old) × (journal.new ≡ journal.old) }
-    ensures failed { IsErrOf result DiskFailed → HasSameRecords journal.old journal.new }
-    ensures same { D.borrow disk.new ≡ D.borrow disk.old }
-    ensures later { D.faults disk.old ≤ D.faults disk.new }
-    ensures cause { IsErrOf result DiskFailed → Rose (D.faults disk.old) (D.faults disk.new) }
+    ensures acknowledged { OnOk result
+        (IsAcknowledged journal.new (D.reads disk.old) (D.reads disk.new) (D.may_leave disk.new)
+        (λ i. with_body body.now (contents_of i.book))) }
+    ensures log { HasLogAfter result journal.old journal.new (disk.new ≡ disk.old) }
+    ensures call { IsDiskCall D.borrow D.faults disk.old disk.new (IsErrOf result DiskFailed) }
 {
     journal.reserve(body.len() as u32)?;
     journal.append(disk, body)?;
@@ -60,7 +51,6 @@ impl<D: Disk> Store<D> {
     pub fn update(&mut self, alloc: Global, update: Update<WIDTH>) -> Result<u32, StoreFault>
         requires { IsFitting (brief (sealed_update update)) }
 
-        // What is answered, and what both halves are then.
         ensures answer { Updates (sealed_update update) self.old self.new result }
         ensures failed { Fails self.old.failed result self.new.failed }
         // Where the update isn't made and no call of the disk failed, all is as it was.

@@ -4,18 +4,18 @@ use Rattle.ov_journal.specs.Finding.{Finds}
 use Rattle.ov_journal.specs.Standing.{IsUnborn}
 use Rattle.ov_journal.specs.declared.found.Found.{Found}
 use Rattle.ov_images.specs.Images.{keys}
-use Rattle.ov_store.proofs.Opening.{both_quiet, found_at_birth, quiet_leaves}
+use Rattle.ov_store.proofs.Opening.{both_quiet, opened_at_birth, quiet_leaves}
 use Rattle.ov_store.proofs.begin.open.Goals as goal
 
-pub returns-in-Unborn-clause-found : goal.returns-in-Unborn-clause-found
-returns-in-Unborn-clause-found g c =
+pub returns-in-Unborn-clause-opened : goal.returns-in-Unborn-clause-opened
+returns-in-Unborn-clause-opened g c =
     let unborn : Told (g.D.Disk.reads c.args.disk.now) (λ i. IsUnborn i.book) = λ i is.
     subst (λ (found : Found). Finds i.book (Ok found)) c.in-Unborn.is
     (c.in_ok-begin.ensures.finds i is) in
-    found_at_birth g.D.Disk.reads g.D.Disk.may_leave g.D.Disk.moment g.D.Disk.left_since
+    opened_at_birth g.D.Disk.reads g.D.Disk.may_leave g.D.Disk.moment g.D.Disk.left_since
     (keys c.args.base_check.now c.args.surface.now.bytes) c.args.mode c.args.disk.now
     c.begin.new.disk c.birth.new.disk unborn c.birth.result
-    c.birth.ensures.served
+    c.birth.ensures.born
 
 pub returns-in_ok-vault-in-Born-clause-any_moment :
     goal.returns-in_ok-vault-in-Born-clause-any_moment

@@ -6,7 +6,7 @@ use Rattle.ov_journal.specs.Book.{born}
 use Rattle.ov_journal.specs.Log.{Log, IsKept}
 use Rattle.ov_journal.specs.declared.header.Header.{Header}
 use Rattle.ov_images.specs.Images.{header_of, keys}
-use Rattle.ov_store.proofs.Births.{none_left, safe_none}
+use Rattle.ov_store.proofs.Births.{born_none, none_left}
 use Rattle.ov_store.specs.Beginning.{IsBeginFault}
 use Rattle.ov_store.specs.declared.fault.BeginFault.{BeginFault}
 use Rattle.ov_store.proofs.Opening.{fault_checked}
@@ -19,8 +19,8 @@ returns-in_err-vault-clause-any_moment g c none i is =
     (keys c.args.base_check.now c.args.surface.now.bytes) c.args.mode c.args.first low
     c.args.disk.now (g.met.D.Disk.only_now c.args.disk.now) i (c.requires.unborn i is)
 
-pub returns-clause-safe : goal.returns-clause-safe
-returns-clause-safe g c =
+pub returns-clause-born : goal.returns-clause-born
+returns-clause-born g c =
     let low : c.args.first < 2 ^ 32 = search rules in
     let k = keys c.args.base_check.now c.args.surface.now.bytes in
     let header : Header = record {
@@ -38,7 +38,7 @@ returns-clause-safe g c =
     let kept = subst (λ (h : Header). Told (g.D.Disk.reads c.args.disk.now) (λ i.
     IsKept (g.D.Disk.reads c.birth.new.disk) (g.D.Disk.may_leave c.birth.new.disk) (born h [])
     i.blobs)) same c.in_ok-journal.ensures.born.written.kept in
-    safe_none g.D.Disk.reads g.D.Disk.may_leave g.D.Disk.moment g.D.Disk.left_since k c.args.mode
+    born_none g.D.Disk.reads g.D.Disk.may_leave g.D.Disk.moment g.D.Disk.left_since k c.args.mode
     c.args.first low c.args.disk.now c.birth.new.disk c.in_ok-vault.vault.catalogue
     c.in_ok-vault.vault.stored c.in_ok-vault.ensures.catalogue c.in_ok-vault.ensures.stored
     c.in_ok-journal.ensures.born.written.told_before kept c.in_ok-journal.journal

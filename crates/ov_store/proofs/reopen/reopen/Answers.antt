@@ -2,11 +2,11 @@ use Rattle.std.proofs.Common.{rules, ◌≡◌, ◌<◌, ◌^◌, true, inr, ref
 use Rattle.ov_journal.specs.Book.{contents_of}
 use Rattle.ov_images.specs.Damage.{HasHeader}
 use Rattle.ov_images.specs.Images.{keys}
-use Rattle.ov_store.proofs.Begun.{IsFound, finds, is_bad, mode_found, safe_found}
+use Rattle.ov_store.proofs.Begun.{IsFound, is_bad, opened_found}
 use Rattle.ov_store.proofs.reopen.reopen.Goals as goal
 
-pub returns-in-None-clause-safe : goal.returns-in-None-clause-safe
-returns-in-None-clause-safe g c =
+pub returns-in-None-clause-opened : goal.returns-in-None-clause-opened
+returns-in-None-clause-opened g c =
     let k = keys c.args.base_check.now c.args.surface.now.bytes in
     let low : c.args.header.first < 2 ^ 32 = search rules in
     let made = c.in_ok-vault.ensures.made in
@@ -18,52 +18,17 @@ returns-in-None-clause-safe g c =
       whole = c.requires.whole c.in-None.is;
       low = low;
     } in
-    safe_found g.D.Disk.reads g.D.Disk.may_leave g.D.Disk.moment g.D.Disk.left_since
-    c.args.disk.now c.replay.new.disk c.in_ok-vault.ensures.untouched c.requires.settled k
+    opened_found g.D.Disk.reads g.D.Disk.may_leave g.D.Disk.moment g.D.Disk.left_since
+    c.args.disk.now c.replay.new.disk c.in_ok-vault.ensures.untouched
+    (λ i is. (c.requires.store i is).1) k
     c.args.mode c.args.header c.args.journal.now c.args.bad c.in_ok-vault.vault made.0 found
-    c.requires.store made.3
-
-pub returns-in-None-clause-mode : goal.returns-in-None-clause-mode
-returns-in-None-clause-mode g c =
-    let k = keys c.args.base_check.now c.args.surface.now.bytes in
-    let low : c.args.header.first < 2 ^ 32 = search rules in
-    let made = c.in_ok-vault.ensures.made in
-    let found : IsFound k c.args.mode c.args.header c.args.journal.now c.in_ok-vault.vault made.0 =
-    record {
-      keys = c.in_ok-compare.ensures.same;
-      replay = made.1;
-      count = made.2;
-      whole = c.requires.whole c.in-None.is;
-      low = low;
-    } in
-    mode_found g.D.Disk.reads g.D.Disk.may_leave g.D.Disk.moment g.D.Disk.left_since
-    c.args.disk.now c.replay.new.disk c.in_ok-vault.ensures.untouched c.requires.settled k
-    c.args.mode c.args.header c.args.journal.now c.args.bad c.in_ok-vault.vault made.0 found
-    c.requires.store made.3
-
-pub returns-in-None-clause-found : goal.returns-in-None-clause-found
-returns-in-None-clause-found g c =
-    let k = keys c.args.base_check.now c.args.surface.now.bytes in
-    let low : c.args.header.first < 2 ^ 32 = search rules in
-    let made = c.in_ok-vault.ensures.made in
-    let found : IsFound k c.args.mode c.args.header c.args.journal.now c.in_ok-vault.vault made.0 =
-    record {
-      keys = c.in_ok-compare.ensures.same;
-      replay = made.1;
-      count = made.2;
-      whole = c.requires.whole c.in-None.is;
-      low = low;
-    } in
-    finds g.D.Disk.reads g.D.Disk.may_leave g.D.Disk.moment g.D.Disk.left_since
-    c.args.disk.now c.replay.new.disk c.in_ok-vault.ensures.untouched c.requires.settled k
-    c.args.mode c.args.header c.args.journal.now c.args.bad c.in_ok-vault.vault made.0 found
-    c.requires.store made.3
+    (λ i is. (c.requires.store i is).0) made.3
 
 pub returns-in-Some-clause-fault : goal.returns-in-Some-clause-fault
 returns-in-Some-clause-fault g c i is =
     let k = keys c.args.base_check.now c.args.surface.now.bytes in
     let low : c.args.header.first < 2 ^ 32 = search rules in
-    let store = c.requires.store i is in
+    let store = (c.requires.store i is).0 in
     let header : HasHeader c.args.header i =
     record { magic = store.magic; first = low; head = store.head } in
     let bad : (contents_of i.book).records.bad ≡ true =

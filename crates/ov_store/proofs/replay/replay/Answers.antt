@@ -88,12 +88,16 @@ returns-clause-made g c =
     replayed_all c.args.surface.now.bytes c.args.mode c.args.first (g.D.Disk.reads c.args.disk.now)
     c.records.i c.records.vault c.args.journal.now c.records.invariant.made last c.requires.log
 
-pub returns-in_err-body-clause-failed : goal.returns-in_err-body-clause-failed
-returns-in_err-body-clause-failed g c is =
-    let p = err_from_is_err_and c.from_residual-in_err-body.result
-    c.from_residual-in_err-body.ensures.1 in
-    let disk : p.0 ≡ DiskFailed = cc (p.1, is) in
-    rises c.in_err-body.field-0.0 (g.D.Disk.faults c.args.disk.now) (g.D.Disk.faults c.records.disk)
-    (g.D.Disk.faults c.body.new.disk)
-    (λ same. c.body.ensures.call.rose (c.in_err-body.was ∙ (λ j. Err (same j))))
-    c.records.invariant.later (sym p.2 ∙ disk)
+pub returns-in_err-body-clause-call : goal.returns-in_err-body-clause-call
+returns-in_err-body-clause-call g c = (
+  search rules,
+  search rules,
+  λ is.
+      let p = err_from_is_err_and c.from_residual-in_err-body.result
+      c.from_residual-in_err-body.ensures.1 in
+      let disk : p.0 ≡ DiskFailed = cc (p.1, is) in
+      rises c.in_err-body.field-0.0 (g.D.Disk.faults c.args.disk.now)
+      (g.D.Disk.faults c.records.disk) (g.D.Disk.faults c.body.new.disk)
+      (λ same. c.body.ensures.call.rose (c.in_err-body.was ∙ (λ j. Err (same j))))
+      c.records.invariant.later (sym p.2 ∙ disk),
+)

@@ -45,15 +45,20 @@ keep-requires-clause-body g c =
     let slice : c.as_slice.result.now ≡ c.in-Some.body = search rules in
     let is : IsBodyOf (sealed_update c.args.update) c.as_slice.result.now =
     body_of_some (sealed_update c.args.update) c.in_ok-body.body c.in-Some.body
-    c.as_slice.result.now c.in_ok-body.ensures c.in-Some.is slice in (
-      omega (arith, ap length is.bytes, some_bytes 32 (sealed_update c.args.update)),
-      omega (
-        arith,
-        ap length is.bytes,
-        few_bytes 32 (sealed_update c.args.update) (omega arith)
-            is.form,
-      ),
-    )
+    c.as_slice.result.now c.in_ok-body.ensures c.in-Some.is slice in
+    record {
+      whole = search rules;
+      count = search rules;
+      can_be = record {
+        some = omega (arith, ap length is.bytes, some_bytes 32 (sealed_update c.args.update));
+        most = omega (
+          arith,
+          ap length is.bytes,
+          few_bytes 32 (sealed_update c.args.update) (omega arith)
+              is.form,
+        );
+      };
+    }
 
 pub keep-requires-clause-stands : goal.keep-requires-clause-stands
 keep-requires-clause-stands g c = c.self.invariant.stands c.if-self.false
@@ -155,10 +160,10 @@ invariant_of-self-2 g c =
     c.self.inside.failed
     (sealed_update c.args.update) c.as_slice.result.now
     c.in_ok-prepared.ensures.prepared.change.taken is
-    c.in-Ok.ensures.told_before c.if-self.false c.in-Ok.ensures.kept
+    c.in-Ok.ensures.acknowledged.written.told_before c.if-self.false c.in-Ok.ensures.acknowledged.written.kept
     c.commit.new.self.catalogue c.commit.new.self.stored made rewritten
-    c.self.inside.journal c.keep.new.journal c.self.invariant c.in-Ok.ensures.whole
-    c.in-Ok.ensures.count c.in-Ok.ensures.stands
+    c.self.inside.journal c.keep.new.journal c.self.invariant c.in-Ok.ensures.log.whole
+    c.in-Ok.ensures.log.count c.in-Ok.ensures.acknowledged.stands
 
 pub returns-clause-served : goal.returns-clause-served
 returns-clause-served g c =
@@ -193,12 +198,12 @@ returns-clause-served g c =
     c.self.inside.failed
     (sealed_update c.args.update) c.as_slice.result.now
     c.in_ok-prepared.ensures.prepared.change.taken is
-    c.in-Ok.ensures.told_before c.if-self.false c.in-Ok.ensures.kept
+    c.in-Ok.ensures.acknowledged.written.told_before c.if-self.false c.in-Ok.ensures.acknowledged.written.kept
     c.commit.new.self.catalogue c.commit.new.self.stored made rewritten) in (
       served,
       λ i is.
           let before : g.D.Disk.reads c.self.inside.disk ≡ Some i =
           ap (λ (s : Opened g.row.D.Denot). g.D.Disk.reads s.disk) c.self.view_is ∙ is in
-          let kept = c.in-Ok.ensures.kept i before in
+          let kept = c.in-Ok.ensures.acknowledged.written.kept i before in
           (kept.now, kept.is_read),
     )
