@@ -41,7 +41,7 @@ step_at m h (Grant user file) = update h (PlainGrant (user_number m user) (file_
 step_at m h (Revoke user file) = update h (PlainRevoke (user_number m user) (file_number m file))
 step_at m h (Read user file) = (
   reply_or (bytes_reply h user file (file_number m file))
-    (read_refusal m (user_number m user) (file_number m file)),
+      (read_refusal m (user_number m user) (file_number m file)),
   h,
 )
 step_at m h (ListNames file) = (

@@ -15,7 +15,8 @@ pub fn a_refusal_changes_nothing()
 
 /// An update that is accepted raises the epoch by one, and the reply is the new epoch.
 pub fn an_update_raises_the_epoch()
-    ensures { (h : PlainHistory) (command : Command) (epoch : ℕ) → reply_to h command ≡ Accepted epoch
+    ensures { (h : PlainHistory) (command : Command) (epoch : ℕ)
+        → reply_to h command ≡ Accepted epoch
         → (epoch ≡ epoch_of (history_of h) + 1)
         × (epoch_of (history_of (after h command)) ≡ epoch) }
 {}

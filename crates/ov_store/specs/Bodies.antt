@@ -33,8 +33,8 @@ pub record MayKeep (body : List ℕ) (log : Log) : Type 0 where
 
 -- The journal after a body was to be kept: no bad length ends it; it has one record more, or the
 -- same after a fault of the disk; and where memory was refused all is as it was.
-pub record HasLogAfter {T : Type 0} (result : Result T CheckFault) (old new : Log) (untouched : Type 0)
-    : Type 0 where
+pub record HasLogAfter {T : Type 0} (result : Result T CheckFault) (old new : Log)
+    (untouched : Type 0) : Type 0 where
   pub whole : new.bad ≡ false
   pub count : OnOk result (length new.offsets ≡ length old.offsets + 1)
   pub failed : IsErrOf result DiskFailed → HasSameRecords old new

@@ -38,7 +38,8 @@ fn put_memory<O: Sink>(out: &mut O) -> u8
 
 // Puts the end line, or the one that says that memory was refused for it.
 fn put_end<O: Sink>(alloc: Global, out: &mut O, epoch: u32) -> u8
-    ensures ends { EndsIn (reply_line (EndReply epoch)) 0 (O.written out.old) (O.written out.new) result
+    ensures ends { EndsIn (reply_line (EndReply epoch)) 0
+        (O.written out.old) (O.written out.new) result
         ⊎ EndsIn memory_line 7 (O.written out.old) (O.written out.new) result }
     ensures later { O.faults out.old ≤ O.faults out.new }
     ensures write { result ≡ 6 → Rose (O.faults out.old) (O.faults out.new) }
