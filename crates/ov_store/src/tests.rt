@@ -19,7 +19,10 @@ use std::alloc::Global;
 use std::fs;
 use std::test::Fail;
 
-const SURFACE: Key = Key { bytes: [7; 32] };
+/// A surface master. No clause says its bytes, so that no proof computes its check value.
+fn surface() -> Key {
+    Key { bytes: [7; 32] }
+}
 
 const BASE_CHECK: [u8; 32] = [0x11; 32];
 
@@ -53,16 +56,18 @@ fn two_updates<D: Disk + Drop>(
 fn begin_and_update<D: Disk + Drop>(
     alloc: Global,
     disk: D,
+    surface: Key,
+    base_check: [u8; 32],
     mode: Mode,
     update: Update<WIDTH>,
 ) -> Result<Store<D>, StoreFault>
     requires { IsFitting (brief (sealed_update update)) }
     ensures { Told (D.reads disk) (λ i. (g : SealedHistory) → g.mode ≡ mode
-        → IsImageOf (keys BASE_CHECK SURFACE.bytes) g i → IfOk result (λ s.
-        Lasts (keys BASE_CHECK SURFACE.bytes) (with_sealed g (sealed_update update))
+        → IsImageOf (keys base_check surface.bytes) g i → IfOk result (λ s.
+        Lasts (keys base_check surface.bytes) (with_sealed g (sealed_update update))
         (D.reads s.disk) (D.may_leave s.disk))) }
 {
-    let mut store = match Store::begin(alloc, disk, SURFACE, BASE_CHECK, mode) {
+    let mut store = match Store::begin(alloc, disk, surface, base_check, mode) {
         Ok(store) => store,
         Err(_) => return Err(StoreFault::Disk),
     };
@@ -135,7 +140,7 @@ fn update_all(
 
 /// A new store over an empty disk.
 fn new_store(alloc: Global, disk: MemDisk) -> Result<Store<MemDisk>, Fail> {
-    match Store::begin(alloc, disk, SURFACE, BASE_CHECK, Mode::Delta) {
+    match Store::begin(alloc, disk, surface(), BASE_CHECK, Mode::Delta) {
         Ok(store) => Ok(store),
         Err(_) => Err(Fail::from("no store")),
     }
@@ -152,7 +157,7 @@ fn small_store(alloc: Global, calls: &mut Vec<u64>) -> Result<MemDisk, Fail> {
 
 /// The epoch of the store on a disk, or none where no store is begun.
 fn epoch_on(alloc: Global, disk: MemDisk) -> Option<u32> {
-    match Store::begin(alloc, disk, SURFACE, BASE_CHECK, Mode::Delta) {
+    match Store::begin(alloc, disk, surface(), BASE_CHECK, Mode::Delta) {
         Ok(store) => {
             let epoch = store.state().epoch();
             drop(store.close());
@@ -168,7 +173,7 @@ fn epoch_on(alloc: Global, disk: MemDisk) -> Option<u32> {
 fn first_book(alloc: Global) -> Result<Vec<u8>, Fail> {
     let mut book = b"\x01OVERENC0\x01\0\0\0\0".as_slice().to_vec(alloc)?;
     book.extend_from_slice(&BASE_CHECK)?;
-    book.extend_from_slice(&check_value(&SURFACE))?;
+    book.extend_from_slice(&check_value(&surface()))?;
     book.push(0)?;
     Ok(book)
 }
@@ -269,9 +274,9 @@ fn a_false_token_is_found(rt: HostRuntime) -> Result<(), Fail> {
     let alloc = rt.alloc();
     let mut calls = Vec::new(alloc);
     let mut store = new_store(alloc, MemDisk::new(alloc))?;
-    let before = store.check(alloc, &OTHER);
+    let before = store.check(alloc, &other());
     let all = update_all(alloc, &mut store, &mut calls);
-    let after = store.check(alloc, &OTHER);
+    let after = store.check(alloc, &other());
     drop(store.close());
     assert!(rt; all?);
     assert_eq!(rt; before, Ok(None));
@@ -304,7 +309,10 @@ fn fault_on(
     })
 }
 
-const OTHER: Key = Key { bytes: [8; 32] };
+/// Another master.
+fn other() -> Key {
+    Key { bytes: [8; 32] }
+}
 
 fn damaged(offset: u64) -> Option<BeginFault> {
     Some(BeginFault::Damaged {
@@ -320,20 +328,20 @@ fn causes_in_their_order(rt: HostRuntime) -> Result<(), Fail> {
     let mut calls = Vec::new(alloc);
     let disk = small_store(alloc, &mut calls)?;
     let book = disk.book();
-    let foreign = fault_on(alloc, book, 8, 49, OTHER, [0; 32], Mode::Full)?;
+    let foreign = fault_on(alloc, book, 8, 49, other(), [0; 32], Mode::Full)?;
     assert_eq!(rt; foreign, Some(BeginFault::NotAStore));
     assert_eq!(rt;
-        fault_on(alloc, book, 9, 2, OTHER, [0; 32], Mode::Full)?,
+        fault_on(alloc, book, 9, 2, other(), [0; 32], Mode::Full)?,
         damaged(9)
     );
     let (stored, given) = (BASE_CHECK, [0; 32]);
-    let base = fault_on(alloc, book, 79, 1, OTHER, given, Mode::Full)?;
+    let base = fault_on(alloc, book, 79, 1, other(), given, Mode::Full)?;
     assert_eq!(rt; base, Some(BeginFault::BaseDiffers { stored, given }));
-    let (stored, given) = (check_value(&SURFACE), check_value(&OTHER));
-    let surface = fault_on(alloc, book, 79, 1, OTHER, BASE_CHECK, Mode::Full)?;
-    assert_eq!(rt; surface, Some(BeginFault::SurfaceDiffers { stored, given }));
+    let (stored, given) = (check_value(&surface()), check_value(&other()));
+    let differs = fault_on(alloc, book, 79, 1, other(), BASE_CHECK, Mode::Full)?;
+    assert_eq!(rt; differs, Some(BeginFault::SurfaceDiffers { stored, given }));
     let (stored, given) = (Mode::Delta, Mode::Full);
-    let mode = fault_on(alloc, book, 79, 1, SURFACE, BASE_CHECK, given)?;
+    let mode = fault_on(alloc, book, 79, 1, surface(), BASE_CHECK, given)?;
     assert_eq!(rt; mode, Some(BeginFault::ModeDiffers { stored, given }));
     Ok(())
 }
@@ -351,7 +359,7 @@ fn damage_and_where_it_is(rt: HostRuntime) -> Result<(), Fail> {
         (83, 9, damaged(83)),
         (86, 33, damaged(86)),
     ] {
-        let found = fault_on(alloc, book, place, byte, SURFACE, BASE_CHECK, Mode::Delta)?;
+        let found = fault_on(alloc, book, place, byte, surface(), BASE_CHECK, Mode::Delta)?;
         assert_eq!(rt; found, fault);
     }
     Ok(())
@@ -362,7 +370,7 @@ fn on_files_once(rt: HostRuntime, epoch: u32) -> Result<bool, Fail> {
     let alloc = rt.alloc();
     let update = update_of(alloc, epoch)?;
     let disk = FileDisk::new(rt, "ov_store_test/book", "ov_store_test/blobs")?;
-    let mut store = match Store::begin(alloc, disk, SURFACE, BASE_CHECK, Mode::Full) {
+    let mut store = match Store::begin(alloc, disk, surface(), BASE_CHECK, Mode::Full) {
         Ok(store) => store,
         Err(_) => return Ok(false),
     };
