@@ -1,12 +1,11 @@
 -- One more command answered, and how the answering stops.
-use Rattle.std.proofs.Common.{◌≡◌, ◌⊎◌, inl, inr, ℕ, ◌+◌, ◌-◌, ◌≤◌, List, [], ◌∷◌, ◌++◌, length, take, refl, sym, ◌∙◌, ap, subst, arith, Option, Some, None}
+use Rattle.std.proofs.Common.{◌≡◌, inl, inr, ℕ, ◌+◌, ◌-◌, ◌≤◌, List, [], ◌∷◌, ◌++◌, length, take, refl, sym, ◌∙◌, ap, subst, arith, Option, Some, None}
 use Rattle.std.specs.Prelude.{IfSome, MatchOption, Result, Ok, Err}
 use Rattle.std.specs.Io.KnownBytes.{Appends, Keeps}
 use Rattle.std.proofs.KnownBytes.{Appends-trans, Appends-kept, Appends-nil}
 use Rattle.ov_base.specs.Causes.{Rose}
 use Rattle.ov_base.specs.declared.limits.TheConstants.{MAX_SCRIPT_BYTES}
 use Rattle.ov_disk.specs.Disk.{Image}
-use Rattle.ov_disk.specs.Moments.{LeavesOnly}
 use Rattle.ov_disk.proofs.Runs.{started, then_on}
 use Rattle.ov_script.specs.declared.command.Command.{Command}
 use Rattle.ov_script.specs.declared.command.Command.TheVariants.{Enrol, Create, Grant, Revoke, Read as AskRead, List as ListNames, Epoch as AskEpoch}
@@ -29,7 +28,7 @@ use Rattle.ov_model.specs.Step.{reply_to, after, after_all}
 use Rattle.ov_model.proofs.Runs.{after_all-more, lines-more}
 use Rattle.overstore.specs.Disks.{Holds, KeepsFirst, KeepsNext, KeepsPlain, KeepsStep}
 use Rattle.overstore.specs.Machine.{AreOtherTags, GoesOn, IsCommand, KeptOn, LeavesStep, StandsFor, StepsAt}
-use Rattle.overstore.specs.Answering.{Answers, AnsweredAll, AnsweredFirst, AnsweredPart, AnsweredSoFar, IsPut, PutsOr, Reaches, SoFar, Stopped, Stops, stop_for}
+use Rattle.overstore.specs.Answering.{Answers, AnsweredAll, AnsweredFirst, AnsweredPart, AnsweredSoFar, IsPut, PutsOr, Reaches, SoFar, Stops, stop_for}
 use Rattle.overstore.specs.declared.answer.Stop.{Stop}
 use Rattle.overstore.specs.declared.answer.Stop.TheVariants.{End, BadLine, Long, Read, Write, Disk, Memory, Tag}
 use Rattle.overstore.specs.declared.fault.BadTag.{BadTag}

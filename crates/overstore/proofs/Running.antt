@@ -10,8 +10,8 @@ use Rattle.ov_keyfile.specs.KeyFile.{HasMasters, IsKeyFile}
 use Rattle.ov_store.specs.declared.fault.BeginFault.{BeginFault}
 use Rattle.ov_store.specs.declared.fault.BeginFault.TheVariants.{Disk as BeginDisk, NotAStore, Damaged, BaseDiffers, SurfaceDiffers, ModeDiffers, Memory as BeginMemory}
 use Rattle.overstore.specs.Answering.{EndsIn, EndsOr, Finishes}
-use Rattle.overstore.specs.Faults.{fault_line, fault_status}
-use Rattle.overstore.specs.Printing.{IsAnswered, IsKeysStatus, IsRefused, IsScriptStatus, IsStatus, IsStoreStatus, keys_line, memory_line, read_line, usage_line}
+use Rattle.overstore.specs.Faults.{fault_status}
+use Rattle.overstore.specs.Printing.{IsAnswered, IsKeysStatus, IsRefused, IsScriptStatus, IsStoreStatus, keys_line, memory_line, read_line, usage_line}
 use Rattle.overstore.specs.Running.{Concluded, IsDecided, JudgesKeys, PrintsAs, RefusesWords}
 use Rattle.overstore.specs.declared.answer.Stop.{Stop}
 use Rattle.overstore.specs.declared.answer.Stop.TheVariants.{End, BadLine, Long, Read, Write, Disk, Memory, Tag}
@@ -54,8 +54,8 @@ pub decided : (h : PlainHistory) (text : List ℕ) (old new : Option (List ℕ))
 decided h text old new status keys script out disk ten call read write so = record {
   exact = exact h text old new status ten so;
   complete = λ no_keys no_script no_out no_disk commands ending reads.
-  complete status _ (exact h text old new status ten so commands ending reads) (λ four. no_disk (call four))
-  (λ five. neither keys script no_keys no_script (read five)) (λ six. no_out (write six));
+      complete status _ (exact h text old new status ten so commands ending reads) (λ four. no_disk (call four))
+      (λ five. neither keys script no_keys no_script (read five)) (λ six. no_out (write six));
 }
 
 -- ---- the status

@@ -14,7 +14,7 @@ use Rattle.ov_history.specs.Plain.{PlainHistory}
 use Rattle.ov_model.specs.Lines.{lines}
 use Rattle.ov_model.specs.Step.{reply_to, after_all}
 use Rattle.ov_history.specs.Masters.{Masters}
-use Rattle.overstore.specs.Disks.{Holds, KeepsFirst, KeepsNext, StandsForPlain}
+use Rattle.overstore.specs.Disks.{Holds, KeepsFirst, KeepsNext}
 use Rattle.overstore.specs.Faults.{tag_line}
 use Rattle.overstore.specs.Machine.{AreOtherTags, GoesOn, KeptOn, LeavesStep, StandsFor}
 use Rattle.overstore.specs.Printing.{bad_line, disk_line, long_line, read_line, memory_line}

@@ -1,6 +1,5 @@
 use Rattle.std.proofs.Common.{ap, subst, sym}
 use Rattle.std.specs.Prelude.{Err, Some}
-use Rattle.ov_script.specs.Lines.{reply_line}
 use Rattle.overstore.specs.Answering.{Answers}
 use Rattle.overstore.specs.declared.answer.Stop.{Stop}
 use Rattle.overstore.proofs.Answering.{disk_so, put_never, put_sink, put_so, sink_so, unanswered_so}

@@ -1,4 +1,4 @@
-use Rattle.std.proofs.Common.{arith, refl}
+use Rattle.std.proofs.Common.{arith}
 use Rattle.std.proofs.lemmas.Grind.{common_steps}
 use Rattle.ov_script.specs.Reading.{AtEnd, BadAt, TooLong}
 use Rattle.overstore.proofs.Answering.{answered, answered_first, answered_more, answer_stops, begins_so, commands_come, goes_on, starts_fresh}
@@ -7,8 +7,8 @@ use Rattle.overstore.proofs.answer.answer_all.Goals as goal
 pub items-init : goal.items-init
 items-init g c = record {
   so_far = λ p stands.
-  begins_so g.D.Disk.reads g.D.Disk.may_leave g.D.Disk.moment g.D.Disk.left_since c.args.machine.now.kept.masters p c.args.machine.now stands
-  (g.met.D.Disk.only_now c.args.machine.now.disk) _ _ _ _ (starts_fresh _ c.requires.start).0 (starts_fresh _ c.requires.start).1;
+      begins_so g.D.Disk.reads g.D.Disk.may_leave g.D.Disk.moment g.D.Disk.left_since c.args.machine.now.kept.masters p c.args.machine.now stands
+      (g.met.D.Disk.only_now c.args.machine.now.disk) _ _ _ _ (starts_fresh _ c.requires.start).0 (starts_fresh _ c.requires.start).1;
   masters = grind (arith, common_steps);
   healthy = c.requires.healthy;
   ended = (starts_fresh _ c.requires.start).2;
@@ -30,8 +30,8 @@ returns-in-Some-clause-stop g c = λ p stands.
 pub items-preserved : goal.items-preserved
 items-preserved g c = record {
   so_far = λ p stands.
-  answered_more g.D.Disk.reads g.D.Disk.may_leave g.D.Disk.moment g.D.Disk.left_since _ p _ _ c.items.invariant.masters _ _ _ _ _ _ _ _ _ _ _ _
-  (c.items.invariant.so_far p stands) (rw c.in-Ok-Command.field-0-is at (c.in-Ok-Command.ensures.says c.items.invariant.ended)) c.in-None.ensures.answer;
+      answered_more g.D.Disk.reads g.D.Disk.may_leave g.D.Disk.moment g.D.Disk.left_since _ p _ _ c.items.invariant.masters _ _ _ _ _ _ _ _ _ _ _ _
+      (c.items.invariant.so_far p stands) (rw c.in-Ok-Command.field-0-is at (c.in-Ok-Command.ensures.says c.items.invariant.ended)) c.in-None.ensures.answer;
   masters = grind (arith, common_steps);
   healthy = c.in-None.ensures.healthy;
   ended = goes_on _ _ _ c.in-Ok-Command.command c.items.invariant.ended c.in-Ok-Command.ensures.ended c.in-Ok-Command.field-0-is;

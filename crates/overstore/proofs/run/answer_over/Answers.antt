@@ -1,4 +1,4 @@
-use Rattle.std.proofs.Common.{ap, inl, inr, refl, subst, sym}
+use Rattle.std.proofs.Common.{ap, inr, subst, sym}
 use Rattle.ov_images.specs.Images.{Keys, StandsIn, keys}
 use Rattle.ov_store.specs.Beginning.{IsBeginFault}
 use Rattle.overstore.specs.Machine.{plain_masters}

@@ -32,4 +32,3 @@ returns-in-Err-clause-disk g c = record {
   later = omega arith;
   disk = λ e. absurd (memory_not 4 _ _ _ c.put_last.ensures.ends (λ z. omega arith) (λ z. omega arith) e);
 }
-
