@@ -40,6 +40,16 @@ PutsOr (Some Read) old new bytes = ⊥
 PutsOr (Some Disk) old new bytes = ⊥
 PutsOr (Some (Tag bad)) old new bytes = ⊥
 
+-- some bytes were put
+abbrev pub Grows : Option (List ℕ) → Option (List ℕ) → Type 0
+Grows old new = (bytes : List ℕ) × Appends old new bytes
+
+-- what was put ends in the line on a file whose tag is another one
+abbrev pub SaysTag : Option (List ℕ) → Option (List ℕ) → Type 0
+SaysTag old new =
+    (bad : BadTag) × AreOtherTags bad
+    × ((before : List ℕ) × Appends old new (before ++ tag_line bad))
+
 -- this line was put, and the status is this; or a front of it, and the status is 6
 abbrev pub EndsIn : List ℕ → ℕ → Option (List ℕ) → Option (List ℕ) → ℕ → Type 0
 EndsIn last code old new status =
