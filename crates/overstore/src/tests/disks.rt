@@ -66,10 +66,7 @@ fn books_of_a_run(rt: HostRuntime) -> Result<(), Fail> {
     assert_eq!(rt; disk.book().len(), 79);
     let disk = left_by(alloc, "full", b"enrol alice\n")?;
     assert_eq!(rt; disk.book().len(), 91);
-    assert_eq!(rt;
-        &disk.book()[78..],
-        b"\x01\0\0\0\x07\x01\x05alice\0".as_slice()
-    );
+    assert!(rt; disk.book().ends_with(b"\x01\0\0\0\x07\x01\x05alice\0"));
     let disk = left_by(alloc, "full", b"enrol alice\nenrol bob\n")?;
     assert_eq!(rt; disk.book().len(), 101);
     Ok(())
@@ -127,11 +124,13 @@ fn other_keys(rt: HostRuntime) -> Result<(), Fail> {
     ] {
         let mut disk = left_by(alloc, "full", b"")?;
         let mut keys = KEYS.to_vec(alloc)?;
-        keys[place] = b'7';
+        if place < keys.len() {
+            keys[place] = b'7';
+        }
         let (status, put) = ran_on(alloc, "full", &keys, b"", &mut disk)?;
         assert_eq!(rt; status, 9);
         assert!(rt; put.as_slice().starts_with(head));
-        assert_eq!(rt; put.as_slice().len(), head.len() + 130);
+        assert_eq!(rt; put.as_slice().len(), head.len().saturating_add(130));
     }
     Ok(())
 }
