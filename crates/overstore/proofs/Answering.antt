@@ -1,12 +1,11 @@
 -- One more command answered, and how the answering stops.
-use Rattle.std.proofs.Common.{◌≡◌, ◌⊎◌, inl, inr, ℕ, ◌+◌, ◌-◌, ◌≤◌, List, [], ◌∷◌, ◌++◌, length, take, refl, sym, ◌∙◌, ap, subst, arith, Option, Some, None}
+use Rattle.std.proofs.Common.{◌≡◌, inl, inr, ℕ, ◌+◌, ◌-◌, ◌≤◌, List, [], ◌∷◌, ◌++◌, length, take, refl, sym, ◌∙◌, ap, subst, arith, Option, Some, None}
 use Rattle.std.specs.Prelude.{IfSome, MatchOption, Result, Ok, Err}
 use Rattle.std.specs.Io.KnownBytes.{Appends, Keeps}
 use Rattle.std.proofs.KnownBytes.{Appends-trans, Appends-kept, Appends-nil}
 use Rattle.ov_base.specs.Causes.{Rose}
 use Rattle.ov_base.specs.declared.limits.TheConstants.{MAX_SCRIPT_BYTES}
 use Rattle.ov_disk.specs.Disk.{Image}
-use Rattle.ov_disk.specs.Moments.{LeavesOnly}
 use Rattle.ov_disk.proofs.Runs.{started, then_on}
 use Rattle.ov_script.specs.declared.command.Command.{Command}
 use Rattle.ov_script.specs.declared.command.Command.TheVariants.{Enrol, Create, Grant, Revoke, Read as AskRead, List as ListNames, Epoch as AskEpoch}
@@ -29,7 +28,7 @@ use Rattle.ov_model.specs.Step.{reply_to, after, after_all}
 use Rattle.ov_model.proofs.Runs.{after_all-more, lines-more}
 use Rattle.overstore.specs.Disks.{Holds, KeepsFirst, KeepsNext, KeepsPlain, KeepsStep}
 use Rattle.overstore.specs.Machine.{AreOtherTags, GoesOn, IsCommand, KeptOn, LeavesStep, StandsFor, StepsAt}
-use Rattle.overstore.specs.Answering.{Answers, AnsweredAll, AnsweredFirst, AnsweredPart, AnsweredSoFar, IsPut, PutsOr, Reaches, SoFar, Stopped, Stops, stop_for}
+use Rattle.overstore.specs.Answering.{Answers, AnsweredAll, AnsweredFirst, AnsweredPart, AnsweredSoFar, Grows, IsPut, PutsOr, Reaches, SoFar, Stops, stop_for}
 use Rattle.overstore.specs.declared.answer.Stop.{Stop}
 use Rattle.overstore.specs.declared.answer.Stop.TheVariants.{End, BadLine, Long, Read, Write, Disk, Memory, Tag}
 use Rattle.overstore.specs.declared.fault.BadTag.{BadTag}
@@ -69,6 +68,22 @@ pub tag_only : (fault : StepFault) (bad : BadTag) → stop_for fault ≡ Tag bad
 tag_only NoDisk bad e = absurd (cc e)
 tag_only NoMemory bad e = absurd (cc e)
 tag_only (WrongTag other) bad e = cc
+
+-- ---- what was put
+
+pub grows_on : (old mid new : Option (List ℕ)) → Grows old mid → Grows mid new → Grows old new
+grows_on old mid new (xs, p) (ys, q) = (xs ++ ys, Appends-trans old mid new xs ys p q)
+
+pub put_grows : (r : Option Stop) (old new : Option (List ℕ)) (bytes : List ℕ) → PutsOr r old new bytes → Grows old new
+put_grows None old new bytes puts = (bytes, puts)
+put_grows (Some Write) old new bytes (n, puts) = (take n bytes, puts)
+put_grows (Some Memory) old new bytes puts = ([], Appends-kept old old new [] (Appends-nil old) puts)
+put_grows (Some Disk) old new bytes puts = absurd puts
+put_grows (Some End) old new bytes puts = absurd puts
+put_grows (Some (BadLine n)) old new bytes puts = absurd puts
+put_grows (Some Long) old new bytes puts = absurd puts
+put_grows (Some Read) old new bytes puts = absurd puts
+put_grows (Some (Tag bad)) old new bytes puts = absurd puts
 
 -- a step that isn't answered puts nothing
 pub sink_so : (fault : StepFault) (stop : Stop) (n : ℕ) → stop ≡ stop_for fault → ((bad : BadTag) → fault ≡ WrongTag bad → AreOtherTags bad)

@@ -1,13 +1,13 @@
 -- A disk that is opened, or isn't, and what follows of a script that is answered over it.
-use Rattle.std.proofs.Common.{◌≡◌, ◌≢◌, ◌⊎◌, inl, inr, ℕ, ◌≤◌, ◌<◌, List, [], ◌∷◌, ◌++◌, length, take, drop, get_or, refl, sym, ◌∙◌, ap, subst, arith, lit<, Option, Some, None, Bool, true, false}
-use Rattle.std.specs.Prelude.{IfSome, slice_index, Result, Ok, Err}
+use Rattle.std.proofs.Common.{◌≡◌, ◌⊎◌, inl, inr, ℕ, ◌≤◌, ◌<◌, List, [], ◌∷◌, ◌++◌, length, take, drop, get_or, refl, sym, ◌∙◌, ap, subst, arith, lit<, Option, Some, None, false}
+use Rattle.std.specs.Prelude.{IfSome}
 use Rattle.std.specs.Int.{w32, to_be_bytes}
 use Rattle.std.proofs.lemmas.List.{get_or-take}
 use Rattle.std.proofs.KnownBytes.{Appends-nil}
 use Rattle.ov_base.specs.Modes.{mode_byte}
 use Rattle.ov_base.specs.declared.mode.Mode.{Mode}
 use Rattle.ov_base.specs.declared.mode.Mode.TheVariants.{Full, Delta}
-use Rattle.ov_disk.specs.Disk.{Image, Only, Told}
+use Rattle.ov_disk.specs.Disk.{Image, Told}
 use Rattle.ov_disk.specs.Moments.{LeavesOnly}
 use Rattle.ov_disk.proofs.Runs.{then_on, weaker}
 use Rattle.ov_journal.specs.Book.{Contents, spelled}
@@ -18,7 +18,6 @@ use Rattle.ov_images.specs.Damage.{HasBadRecords, HasHeader}
 use Rattle.ov_images.proofs.Damage.{damaged_keeps_none}
 use Rattle.ov_images.proofs.Keeping.{is_born, mode_of-spelled}
 use Rattle.ov_script.proofs.ByteTexts.{same_length}
-use Rattle.ov_history.specs.Catalogue.{Catalogue}
 use Rattle.ov_history.specs.Masters.{Masters}
 use Rattle.ov_history.specs.Plain.{PlainHistory, history_of}
 use Rattle.ov_history.specs.Refusals.{IsLegal}
@@ -28,13 +27,12 @@ use Rattle.ov_store.specs.Beginning.{FindsHistory, IsBeginFault, IsNew, LeavesHi
 use Rattle.ov_store.specs.Opened.{Opened, Serves, StaysTold}
 use Rattle.ov_store.specs.declared.fault.BeginFault.{BeginFault}
 use Rattle.ov_store.specs.declared.fault.BeginFault.TheVariants.{Disk, NotAStore, Damaged, BaseDiffers, SurfaceDiffers, ModeDiffers, Memory}
-use Rattle.ov_tokens.specs.Keys.{check_value_of}
 use Rattle.overstore.specs.Answering.{EndsIn, EndsOr}
-use Rattle.overstore.specs.Disks.{HasAnswered, Holds, KeepsFirst, KeepsNext, Lasts, OpensAs, StandsForPlain, Survives}
+use Rattle.overstore.specs.Disks.{Holds, KeepsFirst, OpensAs, StandsForPlain, Survives}
 use Rattle.overstore.specs.Faults.{HasValues, fault_line, fault_status}
 use Rattle.overstore.specs.Machine.{KeptOn, StandsFor, opened_of}
-use Rattle.overstore.specs.Printing.{DiskFault, OutOfMemory, IsRefused, disk_line, memory_line, read_line, status_of}
-use Rattle.overstore.specs.Running.{Concluded, EndsAs, JudgesImage, LeavesAsAtStart}
+use Rattle.overstore.specs.Printing.{DiskFault, OutOfMemory, IsRefused, disk_line, memory_line, read_line}
+use Rattle.overstore.specs.Running.{EndsAs, JudgesImage}
 use Rattle.overstore.proofs.Concluding.{at_once, disk_printed, memory_printed, none_read}
 use Rattle.overstore.proofs.Surviving.{answered_error, front_put, not_zero}
 use Rattle.overstore.proofs.Updating.{now_so}
@@ -226,9 +224,10 @@ module _ {D : Type 0} (reads : D → Option Image) (may_leave : D → Image → 
   module _ (m : KeptOn D) (masters : m.kept.masters ≡ k) (sound : m.failed ≡ false) (serves : Serves reads may_leave (sealed k p) (opened_of m)) where
     begun_stands : IsLegal (history_of p) → StandsFor m.kept p
     begun_stands legal =
-        subst (λ (x : Masters). Rattle.ov_history.specs.Kept.IsKept x p m.kept.catalogue × Rattle.ov_history.specs.Kept.AreKept x p m.kept.stored) (sym masters)
-        ((legal, serves.catalogue.1 ∙ ap (λ (x : Masters). Rattle.ov_history.specs.Sealed.catalogue_of x.surface (sealed k p)) masters),
-        serves.bytes ∙ ap (λ (x : Masters). Rattle.ov_history.specs.Sealed.stored_of x.surface (sealed k p)) masters)
+        subst (λ (x : Masters). Rattle.ov_history.specs.Kept.IsKept x p m.kept.catalogue × Rattle.ov_history.specs.Kept.AreKept x p m.kept.stored) (sym masters) (
+          (legal, serves.catalogue.1 ∙ ap (λ (x : Masters). Rattle.ov_history.specs.Sealed.catalogue_of x.surface (sealed k p)) masters),
+          serves.bytes ∙ ap (λ (x : Masters). Rattle.ov_history.specs.Sealed.stored_of x.surface (sealed k p)) masters,
+        )
 
     begun_holds : (i : Image) × (reads m.disk ≡ Some i) → Holds reads may_leave k p m.disk
     begun_holds told = record {

@@ -1,6 +1,5 @@
 -- What the last line and the status say of the whole script.
-use Rattle.std.proofs.Common.{◌≡◌, ◌⊎◌, inl, inr, ℕ, ◌+◌, List, [], ◌∷◌, ◌++◌, length, take, drop, refl, sym, ◌∙◌, ap, subst, arith, append_assoc, take-append-drop, Option, Some, None}
-use Rattle.std.specs.Prelude.{IfSome}
+use Rattle.std.proofs.Common.{◌≡◌, ◌⊎◌, inl, inr, ℕ, ◌+◌, List, [], ◌∷◌, ◌++◌, length, take, drop, refl, sym, ◌∙◌, ap, subst, arith, append_assoc, take-append-drop, Option}
 use Rattle.std.proofs.Math.Seq.{take-append-add, take-append_seam}
 use Rattle.std.specs.Io.KnownBytes.{Appends, Keeps}
 use Rattle.std.proofs.KnownBytes.{Appends-trans, Appends-kept, Appends-nil}
@@ -19,7 +18,7 @@ use Rattle.ov_model.specs.Step.{after_all, reply_to}
 use Rattle.ov_model.proofs.Runs.{lines-more}
 use Rattle.overstore.specs.Answering.{AnsweredAll, AnsweredFirst, AnsweredPart, EndsIn, EndsOr, Finishes, Stops}
 use Rattle.overstore.specs.Machine.{KeptOn}
-use Rattle.overstore.specs.Printing.{keys_line, BadKeys, Outcome, Answered, DiskFault, ReadFault, OutOfMemory, status_of, last_line, disk_line, memory_line, read_line, IsPrinted, Prints, PrintsFront, IsAnswered, IsFault}
+use Rattle.overstore.specs.Printing.{BadKeys, Outcome, Answered, DiskFault, ReadFault, OutOfMemory, status_of, last_line, disk_line, memory_line, read_line, IsPrinted, Prints, PrintsFront, IsFault}
 use Rattle.overstore.specs.Running.{Concluded, whole, part}
 use Rattle.overstore.specs.declared.answer.Stop.{Stop}
 use Rattle.overstore.specs.declared.answer.Stop.TheVariants.{End, BadLine, Long, Read, Write, Disk, Memory, Tag}

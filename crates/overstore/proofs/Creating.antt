@@ -27,7 +27,7 @@ use Rattle.ov_history.specs.Sealed.{HasParts, refusal_shown}
 use Rattle.ov_history.specs.Sealing.{sealed_update}
 use Rattle.ov_history.proofs.Outlining.{length-places}
 use Rattle.ov_history.proofs.Sealing.{parts-sealed}
-use Rattle.overstore.specs.Machine.{Kept, StandsFor, Replies, Sends, IsSentAt}
+use Rattle.overstore.specs.Machine.{Kept, Replies, Sends, IsSentAt}
 use Rattle.overstore.specs.Owner.{HasNoRoom, IsCreation}
 use Rattle.overstore.specs.Sealing.{SealsCreation}
 use Rattle.overstore.proofs.Finding.{find_file, no_file_found}

@@ -9,9 +9,12 @@ use Rattle.ov_history.specs.Plain.{PlainHistory}
 use Rattle.ov_keyfile.specs.KeyFile.{HasMasters, IsKeyFile}
 use Rattle.ov_store.specs.declared.fault.BeginFault.{BeginFault}
 use Rattle.ov_store.specs.declared.fault.BeginFault.TheVariants.{Disk as BeginDisk, NotAStore, Damaged, BaseDiffers, SurfaceDiffers, ModeDiffers, Memory as BeginMemory}
-use Rattle.overstore.specs.Answering.{EndsIn, EndsOr, Finishes}
-use Rattle.overstore.specs.Faults.{fault_line, fault_status}
-use Rattle.overstore.specs.Printing.{IsAnswered, IsKeysStatus, IsRefused, IsScriptStatus, IsStatus, IsStoreStatus, keys_line, memory_line, read_line, usage_line}
+use Rattle.overstore.specs.Answering.{EndsIn, EndsOr, Finishes, Grows, SaysTag}
+use Rattle.std.proofs.KnownBytes.{Appends-trans}
+use Rattle.overstore.specs.Machine.{AreOtherTags}
+use Rattle.overstore.specs.declared.fault.BadTag.{BadTag}
+use Rattle.overstore.specs.Faults.{fault_status, tag_line}
+use Rattle.overstore.specs.Printing.{IsAnswered, IsKeysStatus, IsRefused, IsScriptStatus, IsStoreStatus, keys_line, memory_line, read_line, usage_line}
 use Rattle.overstore.specs.Running.{Concluded, IsDecided, JudgesKeys, PrintsAs, RefusesWords}
 use Rattle.overstore.specs.declared.answer.Stop.{Stop}
 use Rattle.overstore.specs.declared.answer.Stop.TheVariants.{End, BadLine, Long, Read, Write, Disk, Memory, Tag}
@@ -54,8 +57,8 @@ pub decided : (h : PlainHistory) (text : List ℕ) (old new : Option (List ℕ))
 decided h text old new status keys script out disk ten call read write so = record {
   exact = exact h text old new status ten so;
   complete = λ no_keys no_script no_out no_disk commands ending reads.
-  complete status _ (exact h text old new status ten so commands ending reads) (λ four. no_disk (call four))
-  (λ five. neither keys script no_keys no_script (read five)) (λ six. no_out (write six));
+      complete status _ (exact h text old new status ten so commands ending reads) (λ four. no_disk (call four))
+      (λ five. neither keys script no_keys no_script (read five)) (λ six. no_out (write six));
 }
 
 -- ---- the status
@@ -98,7 +101,7 @@ pub keys_five : IsKeysStatus 5
 keys_five = inr (inr script_five)
 
 -- the line's own status isn't this one
-not_code : (line : List ℕ) (code n : ℕ) (old new : Option (List ℕ)) (status : ℕ) → EndsIn line code old new status → (code ≡ n → ⊥) → (6 ≡ n → ⊥) → status ≡ n → ⊥
+pub not_code : (line : List ℕ) (code n : ℕ) (old new : Option (List ℕ)) (status : ℕ) → EndsIn line code old new status → (code ≡ n → ⊥) → (6 ≡ n → ⊥) → status ≡ n → ⊥
 not_code line code n old new status (inl q) other no_six e = other (sym q.0 ∙ e)
 not_code line code n old new status (inr q) other no_six e = no_six (sym q.0 ∙ e)
 
@@ -130,6 +133,35 @@ finish_read Disk epoch old new status f e = absurd (not_code _ 4 5 old new statu
 finish_read Memory epoch old new status f e = absurd (not_code _ 7 5 old new status f (λ z. omega arith) (λ z. omega arith) e)
 finish_read (Tag bad) epoch old new status f e = absurd (not_code_or _ 12 5 old new status f (λ z. omega arith) (λ z. omega arith) (λ z. omega arith) e)
 finish_read Write epoch old new status f e = absurd (let six : status ≡ 6 = f.0 in omega arith)
+
+-- a tag is said to be wrong where the answering stopped at one
+pub finish_tag : (stop : Stop) (epoch : ℕ) (old mid new : Option (List ℕ)) (status : ℕ) → Finishes stop epoch mid new status → Grows old mid
+    → ((bad : BadTag) → stop ≡ Tag bad → AreOtherTags bad) → status ≡ 12 → SaysTag old new
+finish_tag End epoch old mid new status f grew other e = absurd (not_code_or _ 0 12 mid new status f (λ z. omega arith) (λ z. omega arith) (λ z. omega arith) e)
+finish_tag (BadLine n) epoch old mid new status f grew other e = absurd (not_code_or _ 3 12 mid new status f (λ z. omega arith) (λ z. omega arith) (λ z. omega arith) e)
+finish_tag Long epoch old mid new status f grew other e = absurd (not_code _ 11 12 mid new status f (λ z. omega arith) (λ z. omega arith) e)
+finish_tag Read epoch old mid new status f grew other e = absurd (not_code _ 5 12 mid new status f (λ z. omega arith) (λ z. omega arith) e)
+finish_tag Disk epoch old mid new status f grew other e = absurd (not_code _ 4 12 mid new status f (λ z. omega arith) (λ z. omega arith) e)
+finish_tag Memory epoch old mid new status f grew other e = absurd (not_code _ 7 12 mid new status f (λ z. omega arith) (λ z. omega arith) e)
+finish_tag Write epoch old mid new status f grew other e = absurd (let six : status ≡ 6 = f.0 in omega arith)
+finish_tag (Tag bad) epoch old mid new status (inl (inl q)) grew other e =
+    (bad, other bad refl, (grew.0, Appends-trans old mid new grew.0 (tag_line bad) grew.1 q.1))
+finish_tag (Tag bad) epoch old mid new status (inl (inr q)) grew other e = absurd (let six : status ≡ 6 = q.0 in omega arith)
+finish_tag (Tag bad) epoch old mid new status (inr (inl q)) grew other e = absurd (let seven : status ≡ 7 = q.0 in omega arith)
+finish_tag (Tag bad) epoch old mid new status (inr (inr q)) grew other e = absurd (let six : status ≡ 6 = q.0 in omega arith)
+
+fault_not_tag : (fault : BeginFault) → fault_status fault ≡ 12 → ⊥
+fault_not_tag BeginDisk e = omega arith
+fault_not_tag BeginMemory e = omega arith
+fault_not_tag NotAStore e = omega arith
+fault_not_tag (Damaged area place) e = omega arith
+fault_not_tag (BaseDiffers stored given) e = omega arith
+fault_not_tag (SurfaceDiffers stored given) e = omega arith
+fault_not_tag (ModeDiffers stored given) e = omega arith
+
+pub fault_no_tag : (fault : BeginFault) (line : List ℕ) (old new : Option (List ℕ)) (status : ℕ) → EndsOr line (fault_status fault) old new status → status ≡ 12 → ⊥
+fault_no_tag fault line old new status e tag =
+    not_code_or line (fault_status fault) 12 old new status e (fault_not_tag fault) (λ z. omega arith) (λ z. omega arith) tag
 
 -- the status of a disk that doesn't open
 pub fault_so : (fault : BeginFault) → IsStoreStatus (fault_status fault)

@@ -1,5 +1,5 @@
 -- Commands that are refused, and updates that are sent for a command.
-use Rattle.std.proofs.Common.{◌≡◌, sym, ◌∙◌, ap, refl}
+use Rattle.std.proofs.Common.{◌≡◌, sym, ◌∙◌, ap}
 use Rattle.std.specs.Prelude.{Some}
 use Rattle.ov_base.specs.declared.refusal.Refusal.{Refusal}
 use Rattle.ov_record.specs.Updates.{SealedUpdate}

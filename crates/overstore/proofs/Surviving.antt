@@ -6,12 +6,10 @@ use Rattle.std.proofs.KnownBytes.{Appends-trans, Appends-kept, Appends-nil}
 use Rattle.std.proofs.lemmas.List.{append-nil}
 use Rattle.ov_base.specs.declared.limits.TheConstants.{MAX_SCRIPT_BYTES}
 use Rattle.ov_disk.specs.Disk.{Image}
-use Rattle.ov_disk.specs.Moments.{LeavesOnly}
-use Rattle.ov_disk.proofs.Runs.{started, then_on, weaker}
+use Rattle.ov_disk.proofs.Runs.{started}
 use Rattle.ov_script.specs.declared.command.Command.{Command}
 use Rattle.ov_script.specs.declared.reply.Reply.{Reply}
 use Rattle.ov_script.specs.declared.reply.Reply.TheVariants.{Accepted, Bytes, List as Listed, Epoch as EpochIs, Refused, End as EndReply}
-use Rattle.ov_script.specs.Items.{IsItem}
 use Rattle.ov_script.specs.LineFeeds.{lf_count}
 use Rattle.ov_script.specs.Lines.{reply_line}
 use Rattle.ov_script.specs.Reading.{IsScript, BeginsScript, BeginsWith, Reads, Ending, AtEnd}
@@ -23,10 +21,10 @@ use Rattle.ov_history.proofs.Published.{published_is_matrix}
 use Rattle.ov_model.specs.Lines.{lines}
 use Rattle.ov_model.specs.Step.{after_all, reply_to}
 use Rattle.ov_model.proofs.Runs.{lines-more}
-use Rattle.overstore.specs.Answering.{AnsweredAll, AnsweredFirst, AnsweredPart, EndsIn, EndsOr, Finishes, Stopped, Stops}
-use Rattle.overstore.specs.Disks.{HasAnswered, Holds, KeepsFirst, KeepsNext, KeepsPlain, Lasts, StandsForPlain, Survives}
-use Rattle.overstore.specs.Machine.{KeptOn, StandsFor}
-use Rattle.overstore.specs.Printing.{OutOfMemory, bad_line, disk_line, long_line, memory_line, read_line}
+use Rattle.overstore.specs.Answering.{AnsweredAll, AnsweredFirst, AnsweredPart, EndsIn, EndsOr, Finishes, Stops}
+use Rattle.overstore.specs.Disks.{HasAnswered, Holds, KeepsFirst, KeepsNext, Lasts, Survives}
+use Rattle.overstore.specs.Machine.{KeptOn}
+use Rattle.overstore.specs.Printing.{OutOfMemory, disk_line, long_line, memory_line, read_line}
 use Rattle.overstore.specs.Running.{EndsAs}
 use Rattle.overstore.specs.declared.answer.Stop.{Stop}
 use Rattle.overstore.specs.declared.answer.Stop.TheVariants.{End, BadLine, Long, Read, Write, Disk, Memory, Tag}
@@ -187,10 +185,10 @@ module _ {D : Type 0} (reads : D → Option Image) (may_leave : D → Image → 
           take a.count line,
           puts,
           λ next tail begins e.
-          let same : a.next ≡ next = next_once 1 MAX_SCRIPT_BYTES text a.commands a.next next _ _ _ _ _ _ a.begins_next.3 begins.3 in
-          let whole : take a.count line ≡ line ++ tail = e ∙ ap (λ c. reply_line (reply_to (after_all p a.commands) c) ++ tail) (sym same) in
-          let sizes : length (take a.count line) ≡ length line + length tail = ap length whole ∙ length-append line tail in
-          omega (arith, low, sizes, length_take a.count line),
+              let same : a.next ≡ next = next_once 1 MAX_SCRIPT_BYTES text a.commands a.next next _ _ _ _ _ _ a.begins_next.3 begins.3 in
+              let whole : take a.count line ≡ line ++ tail = e ∙ ap (λ c. reply_line (reply_to (after_all p a.commands) c) ++ tail) (sym same) in
+              let sizes : length (take a.count line) ≡ length line + length tail = ap length whole ∙ length-append line tail in
+              omega (arith, low, sizes, length_take a.count line),
         ),
         λ c left. inr (a.next, a.begins_next, inr ((a.reaches holds).holds.each c left)),
       )

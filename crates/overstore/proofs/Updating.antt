@@ -1,5 +1,5 @@
 -- What an update of the store makes of the history for which the machine stands, and of its disk.
-use Rattle.std.proofs.Common.{◌≡◌, inl, inr, ⊎_elim, ◌+◌, ◌≤◌, ℕ, List, Bool, true, false, true≢false, refl, sym, ◌∙◌, ap, subst}
+use Rattle.std.proofs.Common.{◌≡◌, inl, inr, ◌+◌, ◌≤◌, ℕ, List, false, refl, sym, ◌∙◌, ap, subst}
 use Rattle.std.specs.Prelude.{Option, Some, None, Result, Ok, Err, OnOk}
 use Rattle.ov_base.specs.declared.refusal.Refusal.{Refusal}
 use Rattle.ov_record.specs.Updates.{SealedUpdate}
@@ -16,14 +16,14 @@ use Rattle.ov_history.specs.History.{epoch_of}
 use Rattle.ov_history.specs.Kept.{AreKept, IsKept}
 use Rattle.ov_history.specs.Layers.{layers_of}
 use Rattle.ov_history.specs.Masters.{Masters}
-use Rattle.ov_history.specs.Plain.{PlainHistory, PlainUpdate, history_of, measured, with_plain}
+use Rattle.ov_history.specs.Plain.{PlainHistory, history_of, measured, with_plain}
 use Rattle.ov_history.specs.Refusals.{refusal_of}
 use Rattle.ov_history.specs.Rewrites.{rewrites_of, stored_after}
 use Rattle.ov_history.specs.Sealed.{SealedHistory, refusal_shown, with_sealed}
 use Rattle.ov_history.specs.Sealing.{sealed, sealed_update}
 use Rattle.ov_history.proofs.Keeping.{keeping_goes_on, kept_stands_for}
 use Rattle.ov_history.proofs.Sealing.{sealing_goes_on}
-use Rattle.ov_model.specs.Step.{reply_to, after, update, update_step}
+use Rattle.ov_model.specs.Step.{reply_to, after, update_step}
 use Rattle.ov_state.specs.Chains.{AnswersChain}
 use Rattle.ov_state.specs.Queries.{file_named, user_named}
 use Rattle.ov_state.specs.declared.fault.ChainFault.{ChainFault}
@@ -34,8 +34,8 @@ use Rattle.ov_store.specs.Updating.{Fails, IfRefused, LeavesEither, ServesMore, 
 use Rattle.ov_store.specs.declared.fault.StoreFault.{StoreFault}
 use Rattle.ov_store.specs.declared.fault.StoreFault.TheVariants.{Refused as StoreRefused, BadPlan as StoreBadPlan, Disk as StoreDisk, Failed as StoreFailed, Memory as StoreMemory}
 use Rattle.ov_store.proofs.Going.{epoch_after}
-use Rattle.overstore.specs.Disks.{Holds, KeepsPlain, KeepsStep}
-use Rattle.overstore.specs.Machine.{Kept, KeptOn, StandsFor, Replies, Sends, IsSentAt, GoesOn, LeavesStep, Steps, StepsAt, opened_of}
+use Rattle.overstore.specs.Disks.{Holds, KeepsStep}
+use Rattle.overstore.specs.Machine.{KeptOn, StandsFor, Replies, Sends, IsSentAt, LeavesStep, Steps, StepsAt}
 use Rattle.overstore.specs.declared.fault.BadTag.{BadTag}
 use Rattle.overstore.specs.declared.fault.StepFault.{StepFault}
 use Rattle.overstore.specs.declared.fault.StepFault.TheVariants.{Disk, Memory, Tag}
@@ -165,7 +165,7 @@ module _ {D : Type 0} (reads : D → Option Image) (may_leave : D → Image → 
           let more = serves (sealed k p) (serves_so p stands sound holds) in record {
             told = image;
             each = λ c left. subst (λ (g : SealedHistory). Keeps (keys_of k) g c) (sym sealed_is)
-            (subst (λ (x : Keys). Keeps x (with_sealed (sealed k p) u) c) (same ∙ keys) (more.disk still image.0 image.1 c left));
+                (subst (λ (x : Keys). Keeps x (with_sealed (sealed k p) u) c) (same ∙ keys) (more.disk still image.0 image.1 c left));
           }
 
     module _ (counts_now : (t' : ℕ) (c : Image) → t' ≤ moment t.disk → may_leave t.disk c → left_since t.disk t' c) (sound : s.failed ≡ false) where

@@ -14,7 +14,7 @@ use Rattle.ov_history.specs.Plain.{PlainHistory}
 use Rattle.ov_model.specs.Lines.{lines}
 use Rattle.ov_model.specs.Step.{reply_to, after_all}
 use Rattle.ov_history.specs.Masters.{Masters}
-use Rattle.overstore.specs.Disks.{Holds, KeepsFirst, KeepsNext, StandsForPlain}
+use Rattle.overstore.specs.Disks.{Holds, KeepsFirst, KeepsNext}
 use Rattle.overstore.specs.Faults.{tag_line}
 use Rattle.overstore.specs.Machine.{AreOtherTags, GoesOn, KeptOn, LeavesStep, StandsFor}
 use Rattle.overstore.specs.Printing.{bad_line, disk_line, long_line, read_line, memory_line}
@@ -39,6 +39,16 @@ PutsOr (Some Long) old new bytes = ⊥
 PutsOr (Some Read) old new bytes = ⊥
 PutsOr (Some Disk) old new bytes = ⊥
 PutsOr (Some (Tag bad)) old new bytes = ⊥
+
+-- some bytes were put
+abbrev pub Grows : Option (List ℕ) → Option (List ℕ) → Type 0
+Grows old new = (bytes : List ℕ) × Appends old new bytes
+
+-- what was put ends in the line on a file whose tag is another one
+abbrev pub SaysTag : Option (List ℕ) → Option (List ℕ) → Type 0
+SaysTag old new =
+    (bad : BadTag) × AreOtherTags bad
+    × ((before : List ℕ) × Appends old new (before ++ tag_line bad))
 
 -- this line was put, and the status is this; or a front of it, and the status is 6
 abbrev pub EndsIn : List ℕ → ℕ → Option (List ℕ) → Option (List ℕ) → ℕ → Type 0

@@ -2,7 +2,6 @@
 use Rattle.std.specs.Prelude.{◌≡◌, ℕ, List, [], ◌∷◌, ◌++◌, codes, length, ⊤}
 use Rattle.std.specs.Fmt.{decimal}
 use Rattle.hex.specs.Hex.{encode_lower}
-use Rattle.ov_base.specs.declared.mode.Mode.{Mode}
 use Rattle.ov_disk.specs.declared.area.Area.{Area}
 use Rattle.ov_disk.specs.declared.area.Area.TheVariants.{Book, Blobs}
 use Rattle.ov_store.specs.declared.fault.BeginFault.{BeginFault}

@@ -55,8 +55,8 @@ pub record IsDecided (text : List ℕ) (status : ℕ) (keys input out disk : Typ
 -- ---- the key file and the words
 
 -- What a run makes of the file that is to be its key file. The script is answered only with one,
--- and only without one the status is 10; without one the script and the disk stay as they are, and a
--- run that the words ask for ends in the line on the key file or in that on a failed read.
+-- and only without one the status is 10; without one the script and the disk stay as they are, and
+-- a run that the words ask for ends in the line on the key file or in that on a failed read.
 pub record JudgesKeys (asked : Type 0) (keys : Option (List ℕ)) (status : ℕ)
     (old new : Option (List ℕ)) (untouched : Type 0) : Type 0 where
   pub masters : IsAnswered status → IfSome keys HasMasters
@@ -73,18 +73,20 @@ pub record RefusesWords (other : Type 0) (status : ℕ) (old new : Option (List 
   pub ends : other → EndsIn usage_line 2 old new status
   pub unread : other → untouched
 
--- A call of the disk is said to have failed only where its count of faults rose, a read only where a
--- count of what is read did, and a write only where that of the sink did.
-pub record FailsForFaults (status : ℕ) (disks reads writes : Type 0) : Type 0 where
+-- The status is one of those that a run has. A call of the disk is said to have failed only where
+-- its count of faults rose, a read only where a count of what is read did, and a write only where
+-- that of the sink did; and a tag to be wrong only with the line on it.
+pub record FailsForFaults (status : ℕ) (disks reads writes tags : Type 0) : Type 0 where
   pub some : IsStatus status
+  pub tag : status ≡ 12 → tags
   pub disk : status ≡ 4 → disks
   pub read : status ≡ 5 → reads
   pub write : status ≡ 6 → writes
 
 -- ---- the disk
 
--- What a run under these masters makes of the image that its disk reads. With 8 and 9 it says why the
--- image doesn't open. Where the image stands for no history of this mode under these keys, so it
+-- What a run under these masters makes of the image that its disk reads. With 8 and 9 it says why
+-- the image doesn't open. Where the image stands for no history of this mode under these keys, so it
 -- says, or that memory was refused, or a failed read of the key file; and a crash leaves what it
 -- might have left at the start.
 pub record JudgesImage (k : Masters) (mode : Mode) (i : Image) (status : ℕ)
@@ -112,8 +114,8 @@ module _ {D : Type 0} (reads : D → Option Image) (may_leave : D → Image → 
 
 -- ---- from where
 
--- This holds in the mode of the words, under the masters of the key file, for the script and for each
--- history as which the disk opens for them.
+-- This holds in the mode of the words, under the masters of the key file, for the script and for
+-- each history as which the disk opens for them.
 abbrev pub FromEach : {D : Type 0} → (reads : D → Option Image) → (may_leave : D → Image → Type 0)
     → D → List (String Global) → Option (List ℕ) → Option (List ℕ)
     → (Masters → PlainHistory → List ℕ → Type 0) → Type 0
@@ -122,8 +124,8 @@ FromEach reads may_leave disk words keys input P =
     (k : Masters) (p : PlainHistory) → AreMasters file k → OpensAs reads may_leave k mode p disk
     → P k p text))
 
--- this holds in the mode of the words, under the masters of the key file, for the image that the disk
--- reads
+-- this holds in the mode of the words, under the masters of the key file, for the image that the
+-- disk reads
 abbrev pub ForImage : Option Image → List (String Global) → Option (List ℕ)
     → (Masters → Mode → Image → Type 0) → Type 0
 ForImage image words keys P =

@@ -6,7 +6,7 @@ ghost use Rattle.ov_history.specs.Masters.{Masters};
 ghost use Rattle.ov_history.specs.Plain.{PlainHistory};
 ghost use Rattle.ov_script.specs.Lines.{reply_line};
 ghost use Rattle.ov_script.specs.Place.{start, text_left};
-ghost use Rattle.overstore.specs.Answering.{Answers, IsPut, PutsOr, Stops, stop_for};
+ghost use Rattle.overstore.specs.Answering.{Answers, Grows, IsPut, PutsOr, Stops, stop_for};
 ghost use Rattle.overstore.specs.Disks.{IsDiskCall};
 ghost use Rattle.overstore.specs.Machine.{AreOtherTags, IsCommand, StandsFor};
 ghost use Rattle.overstore.specs.declared.fault.BadTag.{BadTag};
@@ -84,6 +84,7 @@ fn answer<D: Disk, O: Sink>(
     ensures disk { IsDiskCall D.borrow D.faults (result ≡ Some Stop.Disk)
         machine.old.disk machine.new.disk }
     ensures sink { IsPut (O.faults out.old) (O.faults out.new) result }
+    ensures grew { Grows (O.written out.old) (O.written out.new) }
 {
     let alloc = *buffer.allocator();
     match machine.step(alloc, command) {
@@ -112,6 +113,7 @@ pub fn answer_all<S: Source + Drop, O: Sink, D: Disk>(
     ensures later { O.faults out.old ≤ O.faults out.new }
     ensures write { result ≡ Stop.Write → Rose (O.faults out.old) (O.faults out.new) }
     ensures tag { (bad : BadTag) → result ≡ Stop.Tag bad → AreOtherTags bad }
+    ensures grew { Grows (O.written out.old) (O.written out.new) }
 {
     let mut buffer = Vec::new(alloc);
     'items: loop {

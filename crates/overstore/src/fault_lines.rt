@@ -113,9 +113,18 @@ pub fn status_of(fault: BeginFault) -> Status
     match fault {
         BeginFault::Disk => Status::DiskFault,
         BeginFault::NotAStore | BeginFault::Damaged { area: _, offset: _ } => Status::NotAStore,
-        BeginFault::BaseDiffers { stored: _, given: _ }
-        | BeginFault::SurfaceDiffers { stored: _, given: _ }
-        | BeginFault::ModeDiffers { stored: _, given: _ } => Status::OtherStore,
+        BeginFault::BaseDiffers {
+            stored: _,
+            given: _,
+        }
+        | BeginFault::SurfaceDiffers {
+            stored: _,
+            given: _,
+        }
+        | BeginFault::ModeDiffers {
+            stored: _,
+            given: _,
+        } => Status::OtherStore,
         BeginFault::Memory => Status::OutOfMemory,
     }
 }

@@ -37,7 +37,8 @@ impl<D: Disk> Machine<D> {
 
     /// The users of these names, or None where one isn't enrolled.
     fn users_of(&self, names: &[Name]) -> Option<Users>
-        ensures set { IfSome result (λ set. set ≡ set_named self.now.kept.catalogue.users names.now) }
+        ensures set { let users = self.now.kept.catalogue.users in
+            IfSome result (λ set. set ≡ set_named users names.now) }
         ensures none { let users = self.now.kept.catalogue.users in
             IfNone result (within (set_named users names.now) (everyone (length users)) ≡ false) }
     {
@@ -126,8 +127,8 @@ impl<D: Disk> Machine<D> {
     fn granted(&self, user: u32, file: u32) -> Update<WIDTH>
         requires user { user < length self.now.kept.catalogue.users }
         requires file { file < length self.now.kept.catalogue.files }
-        ensures { sealed_update result
-            ≡ sealed_by_owner self.now.kept.masters (outline self.now.kept.catalogue) (PlainGrant user file) }
+        ensures { let y = outline self.now.kept.catalogue in sealed_update result
+            ≡ sealed_by_owner self.now.kept.masters y (PlainGrant user file) }
     {
         let catalogue = self.catalogue();
         catalogue.known();

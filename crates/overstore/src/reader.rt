@@ -47,7 +47,13 @@ impl<D: Disk> Machine<D> {
         self.catalogue().known();
         let mut bytes = Vec::new(alloc);
         let store = &mut self.store;
-        match store.chunk(chained.file, chained.generation, 0, chained.length, &mut bytes) {
+        match store.chunk(
+            chained.file,
+            chained.generation,
+            0,
+            chained.length,
+            &mut bytes,
+        ) {
             Ok(()) => Ok(bytes),
             Err(ChunkFault::NoFile) => unreachable!(),
             Err(ChunkFault::Moved { generation: _ }) => unreachable!(),

@@ -45,8 +45,10 @@ fn a_second_run_goes_on(rt: HostRuntime) -> Result<(), Fail> {
     let alloc = rt.alloc();
     for mode in ["full", "delta"] {
         let mut disk = left_by(alloc, mode, SIBLINGS)?;
-        let script = b"epoch\nread c f1\nread c f3\nlist f1\nenrol a\nenrol d\nrevoke c f1\nread c f1\n";
-        let lines = b"epoch 9\ndata c f1 2\nx1\nrefused 4 NoPath\nlist f1 a,b,c\nrefused 1 Taken\nok 10\nok 11\nrefused 4 NoPath\nend epoch 11\n";
+        let script =
+            b"epoch\nread c f1\nread c f3\nlist f1\nenrol a\nenrol d\nrevoke c f1\nread c f1\n";
+        let lines =
+            b"epoch 9\ndata c f1 2\nx1\nrefused 4 NoPath\nlist f1 a,b,c\nrefused 1 Taken\nok 10\nok 11\nrefused 4 NoPath\nend epoch 11\n";
         let (status, put) = ran_on(alloc, mode, KEYS, script, &mut disk)?;
         assert_eq!(rt; status, 0);
         assert_eq!(rt; put.as_slice(), lines.as_slice());
@@ -64,7 +66,7 @@ fn books_of_a_run(rt: HostRuntime) -> Result<(), Fail> {
     assert_eq!(rt; disk.book().len(), 79);
     let disk = left_by(alloc, "full", b"enrol alice\n")?;
     assert_eq!(rt; disk.book().len(), 91);
-    assert_eq!(rt; disk.book()[78..].as_ref(), b"\x01\0\0\0\x07\x01\x05alice\0".as_slice());
+    assert!(rt; disk.book().ends_with(b"\x01\0\0\0\x07\x01\x05alice\0"));
     let disk = left_by(alloc, "full", b"enrol alice\nenrol bob\n")?;
     assert_eq!(rt; disk.book().len(), 101);
     Ok(())
@@ -122,18 +124,22 @@ fn other_keys(rt: HostRuntime) -> Result<(), Fail> {
     ] {
         let mut disk = left_by(alloc, "full", b"")?;
         let mut keys = KEYS.to_vec(alloc)?;
-        keys[place] = b'7';
+        if place < keys.len() {
+            keys[place] = b'7';
+        }
         let (status, put) = ran_on(alloc, "full", &keys, b"", &mut disk)?;
         assert_eq!(rt; status, 9);
         assert!(rt; put.as_slice().starts_with(head));
-        assert_eq!(rt; put.as_slice().len(), head.len() + 130);
+        assert_eq!(rt; put.as_slice().len(), head.len().saturating_add(130));
     }
     Ok(())
 }
 
 // How often an update was answered.
 fn acknowledged(put: &[u8]) -> usize {
-    put.windows(3).filter(|bytes| *bytes == b"ok ").count()
+    put.windows(3)
+        .filter(|bytes| *bytes == b"ok ".as_slice())
+        .count()
 }
 
 /// Where a call of the disk fails the run says so, and what is left has the updates that were

@@ -1,9 +1,9 @@
-use Rattle.std.proofs.Common.{ap, subst, sym}
+use Rattle.std.proofs.KnownBytes.{Appends-nil}
+use Rattle.std.proofs.Common.{[], ap, subst, sym}
 use Rattle.std.specs.Prelude.{Err, Some}
-use Rattle.ov_script.specs.Lines.{reply_line}
 use Rattle.overstore.specs.Answering.{Answers}
 use Rattle.overstore.specs.declared.answer.Stop.{Stop}
-use Rattle.overstore.proofs.Answering.{disk_so, put_never, put_sink, put_so, sink_so, unanswered_so}
+use Rattle.overstore.proofs.Answering.{disk_so, put_grows, put_never, put_sink, put_so, sink_so, unanswered_so}
 use Rattle.overstore.proofs.answer.answer.Goals as goal
 
 pub returns-in-Ok-clause-answer : goal.returns-in-Ok-clause-answer
@@ -39,3 +39,9 @@ returns-in-Ok-clause-sink g c =
 pub returns-in-Err-clause-sink : goal.returns-in-Err-clause-sink
 returns-in-Err-clause-sink g c =
     sink_so c.in-Err.fault c.stop_of.result _ c.stop_of.ensures (λ bad e. c.in-Err.ensures.step.tag bad (ap Err e))
+
+pub returns-in-Ok-clause-grew : goal.returns-in-Ok-clause-grew
+returns-in-Ok-clause-grew g c = put_grows c.put_reply.result _ _ _ c.put_reply.ensures.put
+
+pub returns-in-Err-clause-grew : goal.returns-in-Err-clause-grew
+returns-in-Err-clause-grew g c = ([], Appends-nil _)

@@ -2,7 +2,7 @@ use Rattle.std.proofs.Common.{◌≡◌, ◌≤◌, false}
 use Rattle.std.specs.Prelude.{IfSome, None}
 use Rattle.ov_history.specs.Plain.{PlainHistory}
 use Rattle.ov_script.specs.Place.{text_left}
-use Rattle.overstore.specs.Answering.{SoFar}
+use Rattle.overstore.specs.Answering.{Grows, SoFar}
 use Rattle.overstore.specs.Machine.{StandsFor}
 use Rattle.overstore.proofs.answer.answer_all.Given as goal
 
@@ -13,6 +13,7 @@ invariant-items g l = record {
       (text_left g.S.Source.left l.script) l.script.line l.script.room (g.O.Sink.written l.fn.out) (g.O.Sink.written l.out) l.fn.machine l.machine);
   masters : l.machine.kept.masters ≡ l.fn.machine.kept.masters;
   healthy : l.machine.failed ≡ false;
+  grew : Grows (g.O.Sink.written l.fn.out) (g.O.Sink.written l.out);
   ended : l.script.ended ≡ None;
   same : g.S.Source.borrow l.script.source ≡ g.S.Source.borrow l.fn.script.source;
   read_later : g.S.Source.faults l.fn.script.source ≤ g.S.Source.faults l.script.source;

@@ -1,4 +1,4 @@
-use Rattle.std.proofs.Common.{ap, inl, inr, refl, subst, sym}
+use Rattle.std.proofs.Common.{ap, inr, subst, sym}
 use Rattle.ov_images.specs.Images.{Keys, StandsIn, keys}
 use Rattle.ov_store.specs.Beginning.{IsBeginFault}
 use Rattle.overstore.specs.Machine.{plain_masters}
@@ -7,7 +7,7 @@ use Rattle.overstore.specs.Disks.{Holds}
 use Rattle.overstore.specs.Running.{EndsAs}
 use Rattle.std.specs.Prelude.{IfSome}
 use Rattle.overstore.proofs.Beginning.{disk_said, judged_open, judged_refused, over_begun, over_refused}
-use Rattle.overstore.proofs.Running.{ends_or_so, fault_no_read, fault_so, not_refused, script_seven, script_six}
+use Rattle.overstore.proofs.Running.{ends_or_so, fault_no_read, fault_no_tag, fault_so, not_refused, script_seven, script_six}
 use Rattle.overstore.proofs.run.answer_over.Goals as goal
 
 pub returns-in-Err-clause-status : goal.returns-in-Err-clause-status
@@ -53,3 +53,6 @@ returns-in-Err-clause-disk g c = record {
 
 pub returns-in-Err-clause-read : goal.returns-in-Err-clause-read
 returns-in-Err-clause-read g c = λ e. absurd (fault_no_read c.in-Err.refused.fault _ _ _ _ c.put_fault.ensures.ends e)
+
+pub returns-in-Err-clause-tag : goal.returns-in-Err-clause-tag
+returns-in-Err-clause-tag g c = λ e. absurd (fault_no_tag c.in-Err.refused.fault _ _ _ _ c.put_fault.ensures.ends e)

@@ -1,5 +1,5 @@
 use Rattle.std.proofs.Common.{arith, refl}
-use Rattle.overstore.proofs.Running.{ends_so, finish_disk, finishes_so, memory_not, script_seven, script_six}
+use Rattle.overstore.proofs.Running.{ends_so, finish_disk, finish_tag, finishes_so, memory_not, script_seven, script_six}
 use Rattle.overstore.proofs.Surviving.{ends_all, ends_unread}
 use Rattle.overstore.specs.Printing.{IsScriptStatus}
 use Rattle.overstore.proofs.run.answer_script.Goals as goal
@@ -33,3 +33,9 @@ returns-in-Err-clause-disk g c = record {
   disk = λ e. absurd (memory_not 4 _ _ _ c.put_last.ensures.ends (λ z. omega arith) (λ z. omega arith) e);
 }
 
+pub returns-clause-tag : goal.returns-clause-tag
+returns-clause-tag g c =
+    finish_tag _ _ _ _ _ _ c.finish.ensures.finish c.answer_all-stop.ensures.grew c.answer_all-stop.ensures.tag
+
+pub returns-in-Err-clause-tag : goal.returns-in-Err-clause-tag
+returns-in-Err-clause-tag g c = λ e. absurd (memory_not 12 _ _ _ c.put_last.ensures.ends (λ z. omega arith) (λ z. omega arith) e)

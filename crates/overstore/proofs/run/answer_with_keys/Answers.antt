@@ -1,4 +1,4 @@
-use Rattle.std.proofs.Common.{inl, inr, refl, ℕ, List}
+use Rattle.std.proofs.Common.{arith, inl, inr, refl, ℕ, List}
 use Rattle.ov_disk.specs.Disk.{Told}
 use Rattle.ov_disk.proofs.Runs.{started}
 use Rattle.ov_history.specs.Masters.{Masters}
@@ -9,7 +9,7 @@ use Rattle.overstore.specs.Running.{EndsAs, JudgesImage, LeavesAsAtStart}
 use Rattle.overstore.proofs.Beginning.{judged_unread}
 use Rattle.overstore.proofs.KeyFiles.{ends_untouched, from_all, from_none, from_read, image_all, image_none, image_read}
 use Rattle.overstore.specs.Printing.{IsKeysStatus}
-use Rattle.overstore.proofs.Running.{ends_so, judged_failed, judged_none, judged_with, keys_six, keys_five, not_keys}
+use Rattle.overstore.proofs.Running.{ends_so, judged_failed, judged_none, judged_with, keys_six, keys_five, not_code, not_keys}
 use Rattle.overstore.proofs.run.answer_with_keys.Goals as goal
 
 pub returns-in-Ok-Some-clause-status : goal.returns-in-Ok-Some-clause-status
@@ -64,3 +64,9 @@ returns-in-Err-clause-image g c =
     image_all (λ (k : Masters). Told (g.D.Disk.reads c.args.disk) (λ i. JudgesImage k c.args.mode i c.put_last-in-Err.result (g.O.Sink.written c.args.out.now) (g.O.Sink.written c.put_last-in-Err.new.out) (LeavesAsAtStart g.D.Disk.reads g.D.Disk.may_leave g.D.Disk.moment g.D.Disk.left_since c.args.disk c.args.disk))) (g.K.Source.left c.args.keys.now)
     (λ k i told. judged_unread k c.args.mode i _ _ _ _ c.put_last-in-Err.ensures.ends
     (started g.D.Disk.moment g.D.Disk.left_since g.D.Disk.may_leave c.args.disk (g.D.Disk.may_leave c.args.disk) (g.met.D.Disk.only_now c.args.disk) (λ x left. left)))
+
+pub returns-in-Ok-None-clause-tag : goal.returns-in-Ok-None-clause-tag
+returns-in-Ok-None-clause-tag g c = λ e. absurd (not_code _ 10 12 _ _ _ c.put_last.ensures.ends (λ z. omega arith) (λ z. omega arith) e)
+
+pub returns-in-Err-clause-tag : goal.returns-in-Err-clause-tag
+returns-in-Err-clause-tag g c = λ e. absurd (not_code _ 5 12 _ _ _ c.put_last-in-Err.ensures.ends (λ z. omega arith) (λ z. omega arith) e)

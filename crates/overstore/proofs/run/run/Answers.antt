@@ -1,4 +1,4 @@
-use Rattle.std.proofs.Common.{MutBor, ap, refl, rules, sym, ◌∙◌}
+use Rattle.std.proofs.Common.{MutBor, refl, rules}
 use Rattle.overstore.proofs.Lending.{run_decides, run_image, run_lasts, run_prints, run_survives}
 use Rattle.overstore.proofs.Running.{judged_so, judged_unasked, words_refused}
 use Rattle.overstore.proofs.run.run.Goals as goal

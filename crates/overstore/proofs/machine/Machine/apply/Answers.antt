@@ -10,7 +10,7 @@ use Rattle.overstore.proofs.machine.Machine.apply.Goals.{in-Ok, in-Err-Refused, 
 pub returns-clause-steps : goal.returns-clause-steps
 returns-clause-steps g c =
     let reply : IsReplyTo c.update.result c.match-update.result = elim c.match-update.branch [
-      in-Ok w ↦ subst (λ (r : Result ℕ StoreFault). IsReplyTo r c.match-update.result) (sym w.in-Ok.is) w.result-is
+      | in-Ok w ↦ subst (λ (r : Result ℕ StoreFault). IsReplyTo r c.match-update.result) (sym w.in-Ok.is) w.result-is
       | in-Err-Refused w ↦ subst (λ (r : Result ℕ StoreFault). IsReplyTo r c.match-update.result) (sym (w.in-Err-Refused.is ∙ ap Err w.in-Err-Refused.field-0-is)) w.result-is
       | in-Err-Disk w ↦ subst (λ (r : Result ℕ StoreFault). IsReplyTo r c.match-update.result) (sym (w.in-Err-Disk.is ∙ ap Err w.in-Err-Disk.field-0-is)) w.result-is
       | in-Err-Memory w ↦ subst (λ (r : Result ℕ StoreFault). IsReplyTo r c.match-update.result) (sym (w.in-Err-Memory.is ∙ ap Err w.in-Err-Memory.field-0-is)) w.result-is
