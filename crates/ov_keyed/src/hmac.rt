@@ -4,20 +4,27 @@ ghost use Rattle.std.specs.Prelude.{◌≡◌, ◌+◌, ◌^◌, ◌<◌, ◌++�
 ghost use Rattle.ov_keyed.specs.Hmac.{hmac};
 ghost use Rattle.ov_keyed.specs.Holding.{joined};
 
+use crate::key_block::{INNER, OUTER, padded};
 use crate::pieces::Pieces;
+use sha2::{Digest, Sha256};
 
 /// The HMAC-SHA256 tag of `first` followed by `second`: 32 bytes that depend on the two parts only
 /// through the message that they make (RFC 2104, section 2).
 ///
 /// The condition keeps the message far below the 2^64 bits for which SHA-256 is defined.
+#[tactic(auto, unfolding(crate::specs::Hmac::hmac))]
 pub fn mac(key: &[u8; 32], first: &[u8], second: &[u8]) -> [u8; 32]
     requires { length first.now + length second.now < 2 ^ 32 }
     ensures { result ≡ hmac key.now (first.now ++ second.now) }
 {
-    let mut pieces = Pieces::new(key);
-    pieces.add(first);
-    pieces.add(second);
-    pieces.finish()
+    let mut inner = Sha256::new();
+    inner.update(padded(key, INNER));
+    inner.update(first);
+    inner.update(second);
+    let mut outer = Sha256::new();
+    outer.update(padded(key, OUTER));
+    outer.update(inner.finalize());
+    outer.finalize()
 }
 
 /// The HMAC-SHA256 tag of a message in any number of pieces: that of [`mac`] of the pieces joined.
