@@ -1,136 +1,311 @@
 -- One more command answered, and how the answering stops.
-use Rattle.std.proofs.Common.{◌≡◌, ℕ, ◌+◌, ◌-◌, ◌≤◌, List, [], ◌∷◌, ◌++◌, length, take, refl, sym, ◌∙◌, ap, subst, Option, Some, None}
-use Rattle.std.specs.Prelude.{IfSome, MatchOption, Result, Ok}
-use Rattle.std.proofs.Math.Seq.{take-append-add}
-use Rattle.std.specs.Io.KnownBytes.{Appends}
+use Rattle.std.proofs.Common.{◌≡◌, inl, inr, ℕ, ◌+◌, ◌-◌, ◌≤◌, List, [], ◌∷◌, ◌++◌, length, take, refl, sym, ◌∙◌, ap, subst, arith, Option, Some, None}
+use Rattle.std.specs.Prelude.{IfSome, MatchOption, Result, Ok, Err}
+use Rattle.std.specs.Io.KnownBytes.{Appends, Keeps}
 use Rattle.std.proofs.KnownBytes.{Appends-trans, Appends-kept, Appends-nil}
+use Rattle.ov_base.specs.Causes.{Rose}
 use Rattle.ov_base.specs.declared.limits.TheConstants.{MAX_SCRIPT_BYTES}
-use Rattle.ov_base.specs.declared.mode.Mode.{Mode}
+use Rattle.ov_disk.specs.Disk.{Image}
+use Rattle.ov_disk.proofs.Runs.{started, then_on}
 use Rattle.ov_script.specs.declared.command.Command.{Command}
 use Rattle.ov_script.specs.declared.command.Command.TheVariants.{Enrol, Create, Grant, Revoke, Read as AskRead, List as ListNames, Epoch as AskEpoch}
 use Rattle.ov_script.specs.declared.next.Next.{Next}
 use Rattle.ov_script.specs.declared.next.Next.TheVariants.{Command as Next-Command}
 use Rattle.ov_script.specs.declared.next.ScriptFault.{ScriptFault}
+use Rattle.ov_script.specs.declared.reply.Reply.{Reply}
 use Rattle.ov_script.specs.Items.{IsItem}
 use Rattle.ov_script.specs.LineFeeds.{lf_count}
 use Rattle.ov_script.specs.Lines.{reply_line}
-use Rattle.ov_script.specs.Reading.{Reads, BeginsWith, Ending}
-use Rattle.ov_script.specs.Place.{Place, GoesOn, ends_with, start}
+use Rattle.ov_script.specs.Reading.{Reads, BeginsScript, BeginsWith, Ending}
+use Rattle.ov_script.specs.Place.{Place, GoesOn as PlaceGoesOn, ends_with, start}
 use Rattle.ov_script.specs.Saying.{IsOfItem, Says}
 use Rattle.ov_script.proofs.CreateLaws.{create_size}
 use Rattle.ov_script.proofs.Readings.{BeginsWith-more, BeginsWith-ends}
+use Rattle.ov_history.specs.Masters.{Masters}
 use Rattle.ov_history.specs.Plain.{PlainHistory}
 use Rattle.ov_model.specs.Lines.{lines}
 use Rattle.ov_model.specs.Step.{reply_to, after, after_all}
 use Rattle.ov_model.proofs.Runs.{after_all-more, lines-more}
-use Rattle.ov_history.specs.Masters.{Masters}
-use Rattle.ov_history.proofs.Keeping.{nothing_is_kept}
-use Rattle.overstore.specs.Machine.{IsCommand, Kept, StandsFor, nothing}
-use Rattle.overstore.specs.Printing.{new_store}
-use Rattle.overstore.specs.Answering.{Answers, AnsweredAll, SoFar, Stops}
+use Rattle.overstore.specs.Disks.{Holds, KeepsFirst, KeepsNext, KeepsPlain, KeepsStep}
+use Rattle.overstore.specs.Machine.{AreOtherTags, GoesOn, IsCommand, KeptOn, LeavesStep, StandsFor, StepsAt}
+use Rattle.overstore.specs.Answering.{Answers, AnsweredAll, AnsweredFirst, AnsweredPart, AnsweredSoFar, Grows, IsPut, PutsOr, Reaches, SoFar, Stops, stop_for}
 use Rattle.overstore.specs.declared.answer.Stop.{Stop}
-use Rattle.overstore.specs.declared.answer.Stop.TheVariants.{End, BadLine, Long, Read, Write, Memory}
+use Rattle.overstore.specs.declared.answer.Stop.TheVariants.{End, BadLine, Long, Read, Write, Disk, Memory, Tag}
+use Rattle.overstore.specs.declared.fault.BadTag.{BadTag}
+use Rattle.overstore.specs.declared.fault.StepFault.{StepFault}
+use Rattle.overstore.specs.declared.fault.StepFault.TheVariants.{Disk as NoDisk, Memory as NoMemory, Tag as WrongTag}
 
-abbrev next_line : PlainHistory → Command → List ℕ
-next_line p command = reply_line (reply_to p command)
+kept : (out : Option (List ℕ)) → Keeps out out
+kept None = tt
+kept (Some xs) = refl
 
--- nothing is kept at the start
-pub starts : (mode : Mode) (masters : Masters) → StandsFor (nothing masters mode) (new_store mode)
-starts mode masters = nothing_is_kept masters mode 0
+-- ---- one command
 
--- nobody is enrolled, and nothing was read
-nothing_yet : (mode : Mode) (masters : Masters) (input out : Option (List ℕ)) → IfSome input (λ text. SoFar mode text input 1 MAX_SCRIPT_BYTES out out (nothing masters mode))
-nothing_yet mode masters None out = tt
-nothing_yet mode masters (Some text) out = ([], (refl, refl, refl), Appends-nil out, starts mode masters)
+stop_or : Option Stop → Stop → Stop
+stop_or None other = other
+stop_or (Some stop) other = stop
 
-pub begins_so : (kept : Kept) (line room : ℕ) (input out : Option (List ℕ)) → line ≡ 1 → room ≡ MAX_SCRIPT_BYTES → kept ≡ nothing kept.masters kept.catalogue.mode
-    → IfSome input (λ text. SoFar kept.catalogue.mode text input line room out out kept)
-begins_so kept line room input out l r n =
-    let mode = kept.catalogue.mode in
-    subst (λ (k : Kept). IfSome input (λ text. SoFar mode text input line room out out k)) (sym n)
-    (subst (λ m. IfSome input (λ text. SoFar mode text input m room out out (nothing kept.masters mode))) (sym l)
-    (subst (λ m. IfSome input (λ text. SoFar mode text input 1 m out out (nothing kept.masters mode))) (sym r) (nothing_yet mode kept.masters input out)))
+one : (stop other : Stop) → Some stop ≡ Some other → stop ≡ other
+unfolding stop_or
+one stop other e = ap (λ (o : Option Stop). stop_or o stop) e
 
-pub stands_so : (kept : Kept) → kept ≡ nothing kept.masters kept.catalogue.mode → (p : PlainHistory) × StandsFor kept p
-stands_so kept n = (new_store kept.catalogue.mode, subst (λ (k : Kept). StandsFor k (new_store kept.catalogue.mode)) (sym n) (starts kept.catalogue.mode kept.masters))
+pub no_write : (fault : StepFault) → stop_for fault ≡ Write → ⊥
+no_write NoDisk e = cc
+no_write NoMemory e = cc
+no_write (WrongTag bad) e = cc
 
--- the reading ends
-pub answered : (mode : Mode) → (input rest : Option (List ℕ)) (line room : ℕ) (old now : Option (List ℕ)) (kept : Kept) (ending : Ending)
-    → IfSome input (λ text. SoFar mode text rest line room old now kept) → IfSome rest (λ t. Reads line room t [] ending)
-    → IfSome input (λ text. AnsweredAll mode text ending old now kept)
-answered mode None rest line room old now kept ending s says = tt
-answered mode (Some text) None line room old now kept ending s says = absurd s
-answered mode (Some text) (Some t) line room old now kept ending s says =
-    (s.0, BeginsWith-ends 1 MAX_SCRIPT_BYTES text s.0 line room t ending s.1 says, s.2, s.3)
+pub no_read : (fault : StepFault) → stop_for fault ≡ Read → ⊥
+no_read NoDisk e = cc
+no_read NoMemory e = cc
+no_read (WrongTag bad) e = cc
 
--- one more command is answered
-pub answered_more : (mode : Mode) → (input rest rest' : Option (List ℕ)) (line room line' room' : ℕ) (old now now' : Option (List ℕ)) (kept kept' : Kept) (command : Command)
-    → IfSome input (λ text. SoFar mode text rest line room old now kept)
-    → IfSome rest (λ t. Says line room t (Next-Command command) line' room' rest')
-    → ((p : PlainHistory) → StandsFor kept p → Answers p command None now now' kept')
-    → IfSome input (λ text. SoFar mode text rest' line' room' old now' kept')
-answered_more mode None rest rest' line room line' room' old now now' kept kept' command s says answers = tt
-answered_more mode (Some text) None rest' line room line' room' old now now' kept kept' command s says answers = absurd s
-answered_more mode (Some text) (Some t) None line room line' room' old now now' kept kept' command s says answers = absurd says.2
-answered_more mode (Some text) (Some t) (Some more) line room line' room' old now now' kept kept' command s says answers =
-    let a = answers (after_all (new_store mode) s.0) s.3 in
-    let begins = BeginsWith-more 1 MAX_SCRIPT_BYTES text s.0 line room t says.0 more command s.1 says.2 says.3 says.1 in
-    let P : ℕ → ℕ → Type 0 = λ l r. BeginsWith 1 MAX_SCRIPT_BYTES text (s.0 ++ command ∷ []) l r more in (
-      s.0 ++ command ∷ [],
-      subst (λ l. P l room') (sym says.4) (subst (P (line + lf_count says.0)) (sym says.5) begins),
-      subst (Appends old now') (sym (lines-more (new_store mode) s.0 command)) (Appends-trans old now now' (lines (new_store mode) s.0) (next_line (after_all (new_store mode) s.0) command) s.2 a.0),
-      subst (StandsFor kept') (sym (after_all-more (new_store mode) s.0 command)) a.1,
-    )
+pub disk_only : (fault : StepFault) → stop_for fault ≡ Disk → fault ≡ NoDisk
+disk_only NoDisk e = refl
+disk_only NoMemory e = absurd (cc e)
+disk_only (WrongTag bad) e = absurd (cc e)
 
-stopped : (mode : Mode) → (text t more item : List ℕ) (line_no room : ℕ) (old now now' : Option (List ℕ)) (kept' : Kept) (c : Command) (stop : Stop)
-    (cs : List Command) → BeginsWith 1 MAX_SCRIPT_BYTES text cs line_no room t → Appends old now (lines (new_store mode) cs) → t ≡ item ++ more → length item ≤ room → IsItem item c
-    → Answers (after_all (new_store mode) cs) c (Some stop) now now' kept' → Stops mode text stop old now' kept'
-stopped mode text t more item line_no room old now now' kept' c End cs f p e fits is a = absurd a
-stopped mode text t more item line_no room old now now' kept' c (BadLine n) cs f p e fits is a = absurd a
-stopped mode text t more item line_no room old now now' kept' c Long cs f p e fits is a = absurd a
-stopped mode text t more item line_no room old now now' kept' c Read cs f p e fits is a = absurd a
-stopped mode text t more item line_no room old now now' kept' c Memory cs f p e fits is a =
-    (cs, (line_no, room, t, f), Appends-kept old now now' (lines (new_store mode) cs) p a)
-stopped mode text t more item line_no room old now now' kept' c Write cs f p e fits is a = (
-  cs ++ c ∷ [],
-  (line_no + lf_count item, room - length item, more, BeginsWith-more 1 MAX_SCRIPT_BYTES text cs line_no room t item more c f e fits is),
-  (
-    length (lines (new_store mode) cs) + a.0,
-    subst (Appends old now') (sym (ap (take (length (lines (new_store mode) cs) + a.0)) (lines-more (new_store mode) cs c) ∙ take-append-add (lines (new_store mode) cs) (next_line (after_all (new_store mode) cs) c) a.0))
-        (Appends-trans old now now' (lines (new_store mode) cs) (take a.0 (next_line (after_all (new_store mode) cs) c)) p a.1),
-  ),
+pub tag_only : (fault : StepFault) (bad : BadTag) → stop_for fault ≡ Tag bad → fault ≡ WrongTag bad
+tag_only NoDisk bad e = absurd (cc e)
+tag_only NoMemory bad e = absurd (cc e)
+tag_only (WrongTag other) bad e = cc
+
+-- ---- what was put
+
+pub grows_on : (old mid new : Option (List ℕ)) → Grows old mid → Grows mid new → Grows old new
+grows_on old mid new (xs, p) (ys, q) = (xs ++ ys, Appends-trans old mid new xs ys p q)
+
+pub put_grows : (r : Option Stop) (old new : Option (List ℕ)) (bytes : List ℕ) → PutsOr r old new bytes → Grows old new
+put_grows None old new bytes puts = (bytes, puts)
+put_grows (Some Write) old new bytes (n, puts) = (take n bytes, puts)
+put_grows (Some Memory) old new bytes puts = ([], Appends-kept old old new [] (Appends-nil old) puts)
+put_grows (Some Disk) old new bytes puts = absurd puts
+put_grows (Some End) old new bytes puts = absurd puts
+put_grows (Some (BadLine n)) old new bytes puts = absurd puts
+put_grows (Some Long) old new bytes puts = absurd puts
+put_grows (Some Read) old new bytes puts = absurd puts
+put_grows (Some (Tag bad)) old new bytes puts = absurd puts
+
+-- a step that isn't answered puts nothing
+pub sink_so : (fault : StepFault) (stop : Stop) (n : ℕ) → stop ≡ stop_for fault → ((bad : BadTag) → fault ≡ WrongTag bad → AreOtherTags bad)
+    → IsPut n n (Some stop)
+sink_so fault stop n is tag = record {
+  later = omega arith;
+  write = λ e. absurd (no_write fault (sym is ∙ one stop Write e));
+  no_read = λ e. no_read fault (sym is ∙ one stop Read e);
+  tag = λ bad e. tag bad (tag_only fault bad (sym is ∙ one stop (Tag bad) e));
+}
+
+-- it stops at a call of the disk only where that failed
+pub disk_so : (fault : StepFault) (stop : Stop) (R : Type 0) → stop ≡ stop_for fault → (fault ≡ NoDisk → R) → Some stop ≡ Some Disk → R
+disk_so fault stop R is failed e = failed (disk_only fault (sym is ∙ one stop Disk e))
+
+-- a line that is put stops at no read, no disk and no tag
+pub put_never : (r : Option Stop) (old new : Option (List ℕ)) (bytes : List ℕ) → PutsOr r old new bytes
+    → (r ≡ Some Read → ⊥) × (r ≡ Some Disk → ⊥) × ((bad : BadTag) → r ≡ Some (Tag bad) → ⊥)
+put_never r old new bytes puts = (
+  λ e. subst (λ (x : Option Stop). PutsOr x old new bytes) e puts,
+  λ e. subst (λ (x : Option Stop). PutsOr x old new bytes) e puts,
+  λ bad e. subst (λ (x : Option Stop). PutsOr x old new bytes) e puts,
 )
 
--- an answer that stops
-pub answer_stops : (mode : Mode) → (input rest rest' : Option (List ℕ)) (line room line' room' : ℕ) (old now now' : Option (List ℕ)) (kept kept' : Kept) (command : Command) (stop : Stop)
-    → IfSome input (λ text. SoFar mode text rest line room old now kept)
-    → IfSome rest (λ t. Says line room t (Next-Command command) line' room' rest')
-    → ((p : PlainHistory) → StandsFor kept p → Answers p command (Some stop) now now' kept')
-    → IfSome input (λ text. Stops mode text stop old now' kept')
-answer_stops mode None rest rest' line room line' room' old now now' kept kept' command stop s says answers = tt
-answer_stops mode (Some text) None rest' line room line' room' old now now' kept kept' command stop s says answers = absurd s
-answer_stops mode (Some text) (Some t) None line room line' room' old now now' kept kept' command stop s says answers = absurd says.2
-answer_stops mode (Some text) (Some t) (Some more) line room line' room' old now now' kept kept' command stop s says answers =
-    stopped mode text t more says.0 line room old now now' kept' command stop s.0 s.1 s.2 says.2 says.3 says.1 (answers (after_all (new_store mode) s.0) s.3)
+pub put_sink : (r : Option Stop) (old new : Option (List ℕ)) (bytes : List ℕ) (before now : ℕ) → PutsOr r old new bytes
+    → before ≤ now → (r ≡ Some Write → Rose before now) → IsPut before now r
+put_sink r old new bytes before now puts later write =
+    let never = put_never r old new bytes puts in
+    record { later = later; write = write; no_read = never.0; tag = λ bad e. absurd (never.2 bad e) }
 
--- a read or memory ends it
-answered_first : (mode : Mode) → (input rest : Option (List ℕ)) (line room : ℕ) (old now : Option (List ℕ)) (kept : Kept) (stop : Stop)
-    → IfSome input (λ text. SoFar mode text rest line room old now kept)
-    → ((text : List ℕ) (t : List ℕ) → SoFar mode text (Some t) line room old now kept → Stops mode text stop old now kept)
-    → IfSome input (λ text. Stops mode text stop old now kept)
-answered_first mode None rest line room old now kept stop s stops = tt
-answered_first mode (Some text) None line room old now kept stop s stops = absurd s
-answered_first mode (Some text) (Some t) line room old now kept stop s stops = stops text t s
+module _ {D : Type 0} (reads : D → Option Image) (may_leave : D → Image → Type 0)
+    (moment : D → ℕ) (left_since : D → ℕ → Image → Type 0) where
+  -- it was answered, and then its line was put or not
+  pub put_so : (k : Masters) (p : PlainHistory) (command : Command) (first last : KeptOn D) (reply : Reply) (r : Option Stop) (old new : Option (List ℕ))
+      → PutsOr r old new (reply_line reply) → StepsAt reads may_leave moment left_since k p command first last (Ok reply)
+      → Answers reads may_leave moment left_since k p command r old new first last
+  put_so k p command first last reply None old new puts (is, goes) = (subst (λ (r : Reply). Appends old new (reply_line r)) is puts, goes)
+  put_so k p command first last reply (Some Write) old new (n, puts) (is, goes) =
+      ((n, subst (λ (r : Reply). Appends old new (take n (reply_line r))) is puts), goes)
+  put_so k p command first last reply (Some Memory) old new puts (is, goes) = (puts, goes.leaves)
+  put_so k p command first last reply (Some Disk) old new puts steps = absurd puts
+  put_so k p command first last reply (Some End) old new puts steps = absurd puts
+  put_so k p command first last reply (Some (BadLine n)) old new puts steps = absurd puts
+  put_so k p command first last reply (Some Long) old new puts steps = absurd puts
+  put_so k p command first last reply (Some Read) old new puts steps = absurd puts
+  put_so k p command first last reply (Some (Tag bad)) old new puts steps = absurd puts
 
-pub read_first : (mode : Mode) → (input rest : Option (List ℕ)) (line room : ℕ) (old now : Option (List ℕ)) (kept : Kept)
-    → IfSome input (λ text. SoFar mode text rest line room old now kept) → IfSome input (λ text. Stops mode text Read old now kept)
-read_first mode input rest line room old now kept s =
-    answered_first mode input rest line room old now kept Read s (λ text t so. (so.0, (line, room, t, so.1), so.2))
+  -- it wasn't
+  pub unanswered_so : (k : Masters) (p : PlainHistory) (command : Command) (first last : KeptOn D) (fault : StepFault) (out : Option (List ℕ))
+      → ((c : Image) → left_since first.disk (moment first.disk) c → may_leave first.disk c)
+      → StepsAt reads may_leave moment left_since k p command first last (Err fault)
+      → Answers reads may_leave moment left_since k p command (Some (stop_for fault)) out out first last
+  unanswered_so k p command first last NoDisk out only_now steps = (kept out, steps)
+  unanswered_so k p command first last NoMemory out only_now steps = (
+    kept out,
+    λ holds. subst (λ (m : KeptOn D). LeavesStep reads may_leave moment left_since k p command first.disk m.disk) (sym steps) (record {
+      moments = started moment left_since may_leave first.disk (KeepsStep k p command) only_now (λ c left. inl (holds.each c left));
+      now = λ c left. inl (holds.each c left);
+    }),
+  )
+  unanswered_so k p command first last (WrongTag bad) out only_now steps = absurd steps
 
--- what is kept stands for some history still
-pub stands_after : (kept kept' : Kept) (command : Command) (now now' : Option (List ℕ)) → (p : PlainHistory) × StandsFor kept p
-    → ((p : PlainHistory) → StandsFor kept p → Answers p command None now now' kept') → (p : PlainHistory) × StandsFor kept' p
-stands_after kept kept' command now now' (p, s) answers = (after p command, (answers p s).1)
+  -- ---- the first of them
+
+  module _ (k : Masters) (p : PlainHistory) (first : KeptOn D) (stands : StandsFor first.kept p)
+      (only_now : (c : Image) → left_since first.disk (moment first.disk) c → may_leave first.disk c) where
+    nothing_yet : (input out : Option (List ℕ)) → IfSome input (λ text. SoFar reads may_leave moment left_since k p text input 1 MAX_SCRIPT_BYTES out out first first)
+    nothing_yet None out = tt
+    nothing_yet (Some text) out = record {
+      commands = [];
+      begins = (refl, refl, refl);
+      put = Appends-nil out;
+      stands = stands;
+      reaches = λ holds. record {
+        holds = holds;
+        moments = started moment left_since may_leave first.disk (KeepsFirst k p text) only_now
+            (λ c left. ([], (1, MAX_SCRIPT_BYTES, text, (refl, refl, refl)), inr (holds.each c left)));
+      };
+    }
+
+    pub begins_so : (line room : ℕ) (input out : Option (List ℕ)) → line ≡ 1 → room ≡ MAX_SCRIPT_BYTES
+        → IfSome input (λ text. SoFar reads may_leave moment left_since k p text input line room out out first first)
+    begins_so line room input out l r =
+        subst (λ m. IfSome input (λ text. SoFar reads may_leave moment left_since k p text input m room out out first first)) (sym l)
+        (subst (λ m. IfSome input (λ text. SoFar reads may_leave moment left_since k p text input 1 m out out first first)) (sym r) (nothing_yet input out))
+
+  -- ---- one more
+
+  module _ (k : Masters) (p : PlainHistory) (first mid : KeptOn D) (masters : mid.kept.masters ≡ k) (old now : Option (List ℕ)) (line room : ℕ) where
+    -- the reading ends
+    pub answered : (input rest : Option (List ℕ)) (ending : Ending)
+        → IfSome input (λ text. SoFar reads may_leave moment left_since k p text rest line room old now first mid) → IfSome rest (λ t. Reads line room t [] ending)
+        → IfSome input (λ text. AnsweredAll reads may_leave moment left_since k p text ending old now first mid)
+    answered None rest ending s says = tt
+    answered (Some text) None ending s says = absurd s
+    answered (Some text) (Some t) ending s says = record {
+      commands = s.commands;
+      read = BeginsWith-ends 1 MAX_SCRIPT_BYTES text s.commands line room t ending s.begins says;
+      put = s.put;
+      stands = s.stands;
+      reaches = s.reaches;
+    }
+
+    -- a read or memory ends it
+    pub answered_first : (input rest : Option (List ℕ))
+        → IfSome input (λ text. SoFar reads may_leave moment left_since k p text rest line room old now first mid)
+        → IfSome input (λ text. AnsweredFirst reads may_leave moment left_since k p text old now first mid)
+    answered_first None rest s = tt
+    answered_first (Some text) None s = absurd s
+    answered_first (Some text) (Some t) s = record {
+      commands = s.commands;
+      begins = (line, room, t, s.begins);
+      put = s.put;
+      stopped = λ holds. record {
+        now = λ c left. inl (inr ((s.reaches holds).holds.each c left));
+        moments = (s.reaches holds).moments;
+      };
+    }
+
+    module _ (last : KeptOn D) (now' : Option (List ℕ)) (command : Command) where
+      module _ (text t more item : List ℕ) (s : AnsweredSoFar reads may_leave moment left_since k p text t line room old now first mid)
+          (e : t ≡ item ++ more) (fits : length item ≤ room) (is : IsItem item command) where
+        abbrev q : PlainHistory
+        q = after_all p s.commands
+
+        begins_more : BeginsWith 1 MAX_SCRIPT_BYTES text (s.commands ++ command ∷ []) (line + lf_count item) (room - length item) more
+        begins_more = BeginsWith-more 1 MAX_SCRIPT_BYTES text s.commands line room t item more command s.begins e fits is
+
+        begins_script : BeginsScript text (s.commands ++ command ∷ [])
+        begins_script = (line + lf_count item, room - length item, more, begins_more)
+
+        after_is : after_all p (s.commands ++ command ∷ []) ≡ after q command
+        after_is = after_all-more p s.commands command
+
+        step_first : (c : Image) → KeepsStep k q command c → KeepsFirst k p text c
+        step_first c (inl keeps) = (s.commands, (line, room, t, s.begins), inr keeps)
+        step_first c (inr keeps) = (s.commands ++ command ∷ [], begins_script, inr (subst (λ h. KeepsPlain k h c) (sym after_is) keeps))
+
+        step_next : (c : Image) → KeepsStep k q command c → KeepsNext k p text s.commands c
+        step_next c (inl keeps) = inl (inr keeps)
+        step_next c (inr keeps) = inr (command, begins_script, inr (subst (λ h. KeepsPlain k h c) (sym after_is) keeps))
+
+        goes_on_so : GoesOn reads may_leave moment left_since k q command mid last → Holds reads may_leave k p first.disk
+            → Reaches reads may_leave moment left_since k p (after_all p (s.commands ++ command ∷ [])) text first.disk last.disk
+        goes_on_so goes holds = record {
+          holds = subst (λ h. Holds reads may_leave k h last.disk) (sym after_is) (goes.holds (s.reaches holds).holds);
+          moments = then_on moment left_since may_leave first.disk mid.disk last.disk (KeepsFirst k p text) (KeepsStep k q command)
+              (s.reaches holds).moments (goes.leaves (s.reaches holds).holds).moments step_first;
+        }
+
+        stops_so : (Holds reads may_leave k q mid.disk → LeavesStep reads may_leave moment left_since k q command mid.disk last.disk)
+            → Keeps now now' → AnsweredFirst reads may_leave moment left_since k p text old now' first last
+        stops_so leaves keeps = record {
+          commands = s.commands;
+          begins = (line, room, t, s.begins);
+          put = Appends-kept old now now' (lines p s.commands) s.put keeps;
+          stopped = λ holds. record {
+            now = λ c left. step_next c ((leaves (s.reaches holds).holds).now c left);
+            moments = then_on moment left_since may_leave first.disk mid.disk last.disk (KeepsFirst k p text) (KeepsStep k q command)
+                (s.reaches holds).moments (leaves (s.reaches holds).holds).moments step_first;
+          };
+        }
+
+        part_so : (n : ℕ) → Appends now now' (take n (reply_line (reply_to q command))) → GoesOn reads may_leave moment left_since k q command mid last
+            → AnsweredPart reads may_leave moment left_since k p text old now' first last
+        part_so n puts goes = record {
+          commands = s.commands;
+          next = command;
+          begins = (line, room, t, s.begins);
+          begins_next = begins_script;
+          count = n;
+          put = Appends-trans old now now' (lines p s.commands) (take n (reply_line (reply_to q command))) s.put puts;
+          reaches = goes_on_so goes;
+        }
+
+        stopped : (stop : Stop) → Answers reads may_leave moment left_since k q command (Some stop) now now' mid last
+            → Stops reads may_leave moment left_since k p text stop old now' first last
+        stopped End a = absurd a
+        stopped (BadLine n) a = absurd a
+        stopped Long a = absurd a
+        stopped Read a = absurd a
+        stopped Memory a = stops_so a.1 a.0
+        stopped Disk a = stops_so a.1 a.0
+        stopped Write a = part_so a.0.0 a.0.1 a.1
+        stopped (Tag bad) a = absurd a
+
+        more_so : Answers reads may_leave moment left_since k q command None now now' mid last
+            → AnsweredSoFar reads may_leave moment left_since k p text more (line + lf_count item) (room - length item) old now' first last
+        more_so a = record {
+          commands = s.commands ++ command ∷ [];
+          begins = begins_more;
+          put = subst (Appends old now') (sym (lines-more p s.commands command))
+              (Appends-trans old now now' (lines p s.commands) (reply_line (reply_to q command)) s.put a.0);
+          stands = subst (StandsFor last.kept) (sym after_is) a.1.stands;
+          reaches = goes_on_so a.1;
+        }
+
+      -- one more command is answered
+      pub answered_more : (input rest rest' : Option (List ℕ)) (line' room' : ℕ)
+          → IfSome input (λ text. SoFar reads may_leave moment left_since k p text rest line room old now first mid)
+          → IfSome rest (λ t. Says line room t (Next-Command command) line' room' rest')
+          → ((k : Masters) (p : PlainHistory) → mid.kept.masters ≡ k → StandsFor mid.kept p → Answers reads may_leave moment left_since k p command None now now' mid last)
+          → IfSome input (λ text. SoFar reads may_leave moment left_since k p text rest' line' room' old now' first last)
+      answered_more None rest rest' line' room' s says answers = tt
+      answered_more (Some text) None rest' line' room' s says answers = absurd s
+      answered_more (Some text) (Some t) None line' room' s says answers = absurd says.2
+      answered_more (Some text) (Some t) (Some more) line' room' s says answers =
+          let made = more_so text t more says.0 s says.2 says.3 says.1 (answers k (after_all p s.commands) masters s.stands) in
+          subst (λ l. AnsweredSoFar reads may_leave moment left_since k p text more l room' old now' first last) (sym says.4)
+          (subst (λ r. AnsweredSoFar reads may_leave moment left_since k p text more (line + lf_count says.0) r old now' first last) (sym says.5) made)
+
+      -- an answer that stops
+      pub answer_stops : (input rest rest' : Option (List ℕ)) (line' room' : ℕ) (stop : Stop)
+          → IfSome input (λ text. SoFar reads may_leave moment left_since k p text rest line room old now first mid)
+          → IfSome rest (λ t. Says line room t (Next-Command command) line' room' rest')
+          → ((k : Masters) (p : PlainHistory) → mid.kept.masters ≡ k → StandsFor mid.kept p → Answers reads may_leave moment left_since k p command (Some stop) now now' mid last)
+          → IfSome input (λ text. Stops reads may_leave moment left_since k p text stop old now' first last)
+      answer_stops None rest rest' line' room' stop s says answers = tt
+      answer_stops (Some text) None rest' line' room' stop s says answers = absurd s
+      answer_stops (Some text) (Some t) None line' room' stop s says answers = absurd says.2
+      answer_stops (Some text) (Some t) (Some more) line' room' stop s says answers =
+          stopped text t more says.0 s says.2 says.3 says.1 stop (answers k (after_all p s.commands) masters s.stands)
 
 -- ---- one call of `next`
 
@@ -140,7 +315,7 @@ pub starts_fresh : {S : Type 0} (place : Place S) → place ≡ start place.sour
 starts_fresh {S} place is = (ap (λ (p : Place S). p.line) is, ap (λ (p : Place S). p.room) is, ap (λ (p : Place S). p.ended) is)
 
 -- behind a command the reading goes on
-pub goes_on : {S : Type 0} (old new : Place S) (next : Next) (command : Command) → old.ended ≡ None → GoesOn old (Ok next) new
+pub goes_on : {S : Type 0} (old new : Place S) (next : Next) (command : Command) → old.ended ≡ None → PlaceGoesOn old (Ok next) new
     → next ≡ Next-Command command → new.ended ≡ None
 goes_on {S} old new next command none goes is =
     let so : new.ended ≡ ends_with (Ok next) =

@@ -9,7 +9,6 @@ use Rattle.ov_base.specs.declared.refusal.Refusal.TheVariants.{Taken, NoUser, Fi
 use Rattle.ov_graph.specs.Contents.{plan_of}
 use Rattle.ov_graph.specs.declared.cover.Cover.{Cover}
 use Rattle.ov_record.specs.Updates.{SealedUpdate}
-use Rattle.ov_script.specs.declared.reply.Reply.{Reply}
 use Rattle.ov_script.specs.declared.reply.Reply.TheVariants.{Refused}
 use Rattle.ov_script.specs.declared.command.Command.TheVariants.{Create}
 use Rattle.ov_ctr.proofs.Pad.{length-xor_pad}
@@ -28,12 +27,11 @@ use Rattle.ov_history.specs.Sealed.{HasParts, refusal_shown}
 use Rattle.ov_history.specs.Sealing.{sealed_update}
 use Rattle.ov_history.proofs.Outlining.{length-places}
 use Rattle.ov_history.proofs.Sealing.{parts-sealed}
-use Rattle.ov_model.specs.Step.{reply_to, after}
-use Rattle.overstore.specs.Machine.{Kept, StandsFor, Steps, Applies}
+use Rattle.overstore.specs.Machine.{Kept, Replies, Sends, IsSentAt}
 use Rattle.overstore.specs.Owner.{HasNoRoom, IsCreation}
 use Rattle.overstore.specs.Sealing.{SealsCreation}
 use Rattle.overstore.proofs.Finding.{find_file, no_file_found}
-use Rattle.overstore.proofs.Stepping.{refused_step, applied_step, sealed_step, shows}
+use Rattle.overstore.proofs.Stepping.{refused_step, sealed_step, shows}
 
 first_taken : (b : Bool) (tests : List Test) → b ≡ true → first_of_tests ((Taken, b) ∷ tests) ≡ Some Taken
 first_taken b tests is = ap (λ t. first_of_tests ((Taken, t) ∷ tests)) is
@@ -44,37 +42,37 @@ second_user a b tests free is =
 
 -- the file is there
 taken : (old : Kept) (file : List ℕ) (list : List (List ℕ)) (bytes : List ℕ) (n : ℕ)
-    → IsNumber (file_names (matrix_shown old.catalogue).files) file (Some n) → Steps old (Create file list bytes) (Refused Taken) old
+    → IsNumber (file_names (matrix_shown old.catalogue).files) file (Some n) → Replies old (Create file list bytes) (Refused Taken)
 taken old file list bytes n number p stands =
     let m = matrix_of (history_of p) in
     let found = find_file m file n (subst (λ (m : Matrix). IsNumber (file_names m.files) file (Some n)) (shows old p stands).matrix number) in
-    refused_step old old (PlainCreate file (set_named m.users list) bytes) Taken p stands
-    (first_taken _ _ (lt_is_true _ _ (subst (λ x. x < length m.files) found.0 found.1))) refl
+    refused_step (PlainCreate file (set_named m.users list) bytes) Taken p
+    (first_taken _ _ (lt_is_true _ _ (subst (λ x. x < length m.files) found.0 found.1)))
 
 -- some name isn't a user's
 no_such_user : (old : Kept) (file : List ℕ) (list : List (List ℕ)) (bytes : List ℕ)
     → IsNumber (file_names (matrix_shown old.catalogue).files) file None
     → within (set_named old.catalogue.users list) (everyone (length old.catalogue.users)) ≡ false
-    → Steps old (Create file list bytes) (Refused NoUser) old
+    → Replies old (Create file list bytes) (Refused NoUser)
 no_such_user old file list bytes free out p stands =
     let m = matrix_of (history_of p) in
     let same = (shows old p stands).matrix in
     let past : file_number m file ≡ length m.files = no_file_found m file (subst (λ (m : Matrix). IsNumber (file_names m.files) file None) same free) in
     let outside : within (set_named m.users list) (everyone (length m.users)) ≡ false =
     subst (λ (m : Matrix). within (set_named m.users list) (everyone (length m.users)) ≡ false) same out in
-    refused_step old old (PlainCreate file (set_named m.users list) bytes) NoUser p stands
-    (second_user _ _ _ (lt_is_false _ _ (omega arith)) (ap not outside)) refl
+    refused_step (PlainCreate file (set_named m.users list) bytes) NoUser p
+    (second_user _ _ _ (lt_is_false _ _ (omega arith)) (ap not outside))
 
 -- by what was found
 pub taken_if : (old : Kept) (file : List ℕ) (list : List (List ℕ)) (bytes : List ℕ) (r : Option ℕ)
-    → IsNumber (file_names (matrix_shown old.catalogue).files) file r → is_some r ≡ true → Steps old (Create file list bytes) (Refused Taken) old
+    → IsNumber (file_names (matrix_shown old.catalogue).files) file r → is_some r ≡ true → Replies old (Create file list bytes) (Refused Taken)
 taken_if old file list bytes None number is = absurd (true≢false (sym is))
 taken_if old file list bytes (Some n) number is = taken old file list bytes n number
 
 pub no_user_if : (old : Kept) (file : List ℕ) (list : List (List ℕ)) (bytes : List ℕ) (r : Option ℕ)
     → IsNumber (file_names (matrix_shown old.catalogue).files) file r → is_some r ≡ false
     → within (set_named old.catalogue.users list) (everyone (length old.catalogue.users)) ≡ false
-    → Steps old (Create file list bytes) (Refused NoUser) old
+    → Replies old (Create file list bytes) (Refused NoUser)
 no_user_if old file list bytes (Some n) number is out = absurd (true≢false is)
 no_user_if old file list bytes None number is out = no_such_user old file list bytes number out
 
@@ -106,26 +104,32 @@ creation_parts old file list bytes u (inl is) none =
 creation_parts old file list bytes u (inr (full, (tokens, tag, text, is, size))) none =
     absurd (no_room old.catalogue file list (length text) full (ap (λ (x : SealedUpdate). refusal_shown old.catalogue (brief x)) (sym is) ∙ none))
 
-pub creation_step : (old new : Kept) (file : List ℕ) (names : List (List ℕ)) (list : ℕ) (bytes : List ℕ) (u : SealedUpdate) (reply : Reply)
-    → list ≡ set_named old.catalogue.users names → IsCreation old file list bytes u → Applies old u reply new → Steps old (Create file names bytes) reply new
-creation_step old new file names list bytes u reply set is applies p stands = by_cases is where
-  same_set : list ≡ set_named (matrix_of (history_of p)).users names
+pub creation_step : (old : Kept) (file : List ℕ) (names : List (List ℕ)) (list : ℕ) (bytes : List ℕ) (u : SealedUpdate)
+    → list ≡ set_named old.catalogue.users names → IsCreation old file list bytes u → Sends old (Create file names bytes) u
+creation_step old file names list bytes u set is p stands = by_cases is where
+  m : Matrix
+  m = matrix_of (history_of p)
+
+  same_set : list ≡ set_named m.users names
   same_set = set ∙ ap (λ (m : Matrix). set_named m.users names) (shows old p stands).matrix
 
-  by_cases : IsCreation old file list bytes u → (reply ≡ reply_to p (Create file names bytes)) × StandsFor new (after p (Create file names bytes))
+  by_cases : IsCreation old file list bytes u → IsSentAt old p (Create file names bytes) u
   by_cases (inl exact) =
-      sealed_step old new (PlainCreate file (set_named (matrix_of (history_of p)).users names) bytes) u reply
-      (exact ∙ ap (λ l. sealed_update old.masters (outline old.catalogue) (PlainCreate file l bytes)) same_set) applies p stands
+      sealed_step old (PlainCreate file (set_named m.users names) bytes) u (Create file names bytes) p stands refl
+      (exact ∙ ap (λ l. sealed_update old.masters (outline old.catalogue) (PlainCreate file l bytes)) same_set)
   by_cases (inr (full, (tokens, tag, text, exact, size))) =
       let s = shows old p stands in
       let by_size : ℕ → Option Refusal =
       λ n. first_of_tests (tests_of (matrix_shown old.catalogue) (outline old.catalogue) old.catalogue.epoch (Created file list n)) in
       let shown_as : refusal_shown old.catalogue (brief u) ≡ by_size (length bytes) =
       ap (λ (x : SealedUpdate). refusal_shown old.catalogue (brief x)) exact ∙ ap by_size size in
-      let refused_as : by_size (length bytes) ≡ refusal_of (history_of p) (Created file (set_named (matrix_of (history_of p)).users names) (length bytes)) =
-      λ i. first_of_tests (tests_of (s.matrix i) (s.layers i) (s.epoch i) (Created file (same_set i) (length bytes))) in
-      applied_step old new u (PlainCreate file (set_named (matrix_of (history_of p)).users names) bytes) reply p stands (shown_as ∙ refused_as)
-      (λ none. absurd (no_room old.catalogue file list (length bytes) full (refused_as ∙ none))) applies
+      let refused_as : by_size (length bytes) ≡ refusal_of (history_of p) (Created file (set_named m.users names) (length bytes)) =
+      λ i. first_of_tests (tests_of (s.matrix i) (s.layers i) (s.epoch i) (Created file (same_set i) (length bytes))) in record {
+        plain = PlainCreate file (set_named m.users names) bytes;
+        asked = refl;
+        refused = shown_as ∙ refused_as;
+        sealed = λ none. absurd (no_room old.catalogue file list (length bytes) full (refused_as ∙ none));
+      }
 
 -- what is sent has as many bytes as the file
 pub creation_fits : (old : Kept) (file : List ℕ) (list : ℕ) (bytes : List ℕ) (u : SealedUpdate) → IsCreation old file list bytes u

@@ -13,7 +13,7 @@ use Rattle.ov_history.specs.Places.{IsNumber}
 use Rattle.ov_history.specs.Plain.{PlainGrant, PlainRevoke, PlainHistory, history_of}
 use Rattle.ov_history.specs.Refusals.{Test, first_of_tests}
 use Rattle.ov_history.proofs.SoundTests.{files_shown-length}
-use Rattle.overstore.specs.Machine.{Kept, StandsFor, Steps}
+use Rattle.overstore.specs.Machine.{Kept, StandsFor, Replies}
 use Rattle.overstore.specs.Owner.{FindsBoth, IsMissing}
 use Rattle.overstore.proofs.Stepping.{refused_step, shows}
 
@@ -51,12 +51,12 @@ module _ (old : Kept) (user file : List ℕ) (why : Refusal) (missing : FindsBot
   found_so p stands = subst (λ (m : Matrix). IsMissing m user file why) (shows old p stands).matrix missing
 
   -- a grant or a revocation whose user or file isn't there
-  pub not_found_granted : Steps old (Grant user file) (Refused why) old
+  pub not_found_granted : Replies old (Grant user file) (Refused why)
   not_found_granted p stands =
       let m = matrix_of (history_of p) in
-      refused_step old old (PlainGrant (user_number m user) (file_number m file)) why p stands (missing_is m user file why _ (found_so p stands)) refl
+      refused_step (PlainGrant (user_number m user) (file_number m file)) why p (missing_is m user file why _ (found_so p stands))
 
-  pub not_found_revoked : Steps old (Revoke user file) (Refused why) old
+  pub not_found_revoked : Replies old (Revoke user file) (Refused why)
   not_found_revoked p stands =
       let m = matrix_of (history_of p) in
-      refused_step old old (PlainRevoke (user_number m user) (file_number m file)) why p stands (missing_is m user file why _ (found_so p stands)) refl
+      refused_step (PlainRevoke (user_number m user) (file_number m file)) why p (missing_is m user file why _ (found_so p stands))

@@ -1,10 +1,9 @@
 -- Updates of an owner, by the numbers that were found.
-use Rattle.std.proofs.Common.{◌≡◌, ℕ, zero, suc, ◌<◌, false, List, [], ◌∷◌, length, drop, get_or, sym, ◌∙◌, ap, subst, arith}
+use Rattle.std.proofs.Common.{◌≡◌, ℕ, zero, suc, ◌<◌, false, List, [], ◌∷◌, length, drop, get_or, refl, sym, ◌∙◌, ap, subst, arith}
 use Rattle.std.specs.Prelude.{Result, Ok, Err, IfOk}
 use Rattle.ov_base.specs.Sets.{Has, with, within}
 use Rattle.ov_base.proofs.SetLaws.{with-Has, within_with}
 use Rattle.ov_record.specs.Updates.{SealedUpdate, SealedRevoke}
-use Rattle.ov_script.specs.declared.reply.Reply.{Reply}
 use Rattle.ov_script.specs.declared.command.Command.TheVariants.{Grant, Revoke}
 use Rattle.ov_history.specs.Catalogue.{matrix_shown, outline}
 use Rattle.ov_history.specs.History.{Matrix, matrix_of}
@@ -13,7 +12,7 @@ use Rattle.ov_history.specs.Places.{place_of}
 use Rattle.ov_history.specs.Plain.{PlainGrant, PlainRevoke, PlainHistory, history_of}
 use Rattle.ov_history.specs.Sealing.{sealed_update}
 use Rattle.ov_state.proofs.NewTests.{not_within}
-use Rattle.overstore.specs.Machine.{Kept, StandsFor, Applies, Steps}
+use Rattle.overstore.specs.Machine.{Kept, StandsFor, Sends}
 use Rattle.overstore.specs.Owner.{FindsBoth}
 use Rattle.overstore.proofs.Stepping.{sealed_step, shows}
 
@@ -24,26 +23,26 @@ told_reply (Err e) P Q p f = tt
 
 -- ---- updates of what was found
 
-module _ (old new : Kept) (user file : List ℕ) (u f : ℕ) (reply : Reply) (found : FindsBoth (matrix_shown old.catalogue) user file (Ok (u, f))) where
+module _ (old : Kept) (user file : List ℕ) (u f : ℕ) (found : FindsBoth (matrix_shown old.catalogue) user file (Ok (u, f))) where
   -- the numbers are those of the history's matrix
   found_so : (p : PlainHistory) → StandsFor old p
       → (u ≡ user_number (matrix_of (history_of p)) user) × (f ≡ file_number (matrix_of (history_of p)) file)
   found_so p stands = let m = (shows old p stands).matrix in (found.0 ∙ ap (λ (m : Matrix). user_number m user) m, found.2 ∙ ap (λ (m : Matrix). file_number m file) m)
 
-  pub revoked_step : Applies old (SealedRevoke u f) reply new → Steps old (Revoke user file) reply new
-  revoked_step applies p stands =
+  pub revoked_step : Sends old (Revoke user file) (SealedRevoke u f)
+  revoked_step p stands =
       let m = matrix_of (history_of p) in
       let numbers = found_so p stands in
-      sealed_step old new (PlainRevoke (user_number m user) (file_number m file)) (SealedRevoke u f) reply
-      (λ i. SealedRevoke (numbers.0 i) (numbers.1 i)) applies p stands
+      sealed_step old (PlainRevoke (user_number m user) (file_number m file)) (SealedRevoke u f) (Revoke user file) p stands refl
+      (λ i. SealedRevoke (numbers.0 i) (numbers.1 i))
 
   pub granted_step : (sent : SealedUpdate) → sent ≡ sealed_update old.masters (outline old.catalogue) (PlainGrant u f)
-      → Applies old sent reply new → Steps old (Grant user file) reply new
-  granted_step sent is applies p stands =
+      → Sends old (Grant user file) sent
+  granted_step sent is p stands =
       let m = matrix_of (history_of p) in
       let numbers = found_so p stands in
-      sealed_step old new (PlainGrant (user_number m user) (file_number m file)) sent reply
-      (is ∙ (λ i. sealed_update old.masters (outline old.catalogue) (PlainGrant (numbers.0 i) (numbers.1 i)))) applies p stands
+      sealed_step old (PlainGrant (user_number m user) (file_number m file)) sent (Grant user file) p stands refl
+      (is ∙ (λ i. sealed_update old.masters (outline old.catalogue) (PlainGrant (numbers.0 i) (numbers.1 i))))
 
 -- ---- sets of users by name
 

@@ -1,18 +1,25 @@
--- What a run promises of its status, its key file and its words.
-use Rattle.std.proofs.Common.{◌≡◌, ◌⊎◌, inl, inr, ℕ, List, ◌∷◌, [], length, refl, sym, ◌∙◌, ap, subst, arith}
+-- What a run promises of its status, its key file, its words and its disk.
+use Rattle.std.proofs.Common.{◌≡◌, ◌⊎◌, inl, inr, ℕ, ◌≤◌, List, ◌∷◌, [], length, refl, sym, ◌∙◌, ap, subst, arith}
 use Rattle.std.specs.Prelude.{Option, Some, None, IfSome, String}
 use Rattle.std.specs.declared.alloc.Global.{Global}
 use Rattle.std.specs.Io.KnownBytes.{Appends}
 use Rattle.ov_base.specs.declared.mode.Mode.{Mode}
 use Rattle.ov_base.specs.declared.mode.Mode.TheVariants.{Full, Delta}
+use Rattle.ov_history.specs.Plain.{PlainHistory}
 use Rattle.ov_keyfile.specs.KeyFile.{HasMasters, IsKeyFile}
-use Rattle.overstore.specs.Answering.{Concluded, EndsIn, Finishes}
-use Rattle.overstore.specs.Printing.{IsAnswered, IsKeysStatus, IsScriptStatus, IsStatus, keys_line, read_line, usage_line}
-use Rattle.overstore.specs.Running.{IsDecided, JudgesKeys, PrintsAs, RefusesWords}
+use Rattle.ov_store.specs.declared.fault.BeginFault.{BeginFault}
+use Rattle.ov_store.specs.declared.fault.BeginFault.TheVariants.{Disk as BeginDisk, NotAStore, Damaged, BaseDiffers, SurfaceDiffers, ModeDiffers, Memory as BeginMemory}
+use Rattle.overstore.specs.Answering.{EndsIn, EndsOr, Finishes, Grows, SaysTag}
+use Rattle.std.proofs.KnownBytes.{Appends-trans}
+use Rattle.overstore.specs.Machine.{AreOtherTags}
+use Rattle.overstore.specs.declared.fault.BadTag.{BadTag}
+use Rattle.overstore.specs.Faults.{fault_status, tag_line}
+use Rattle.overstore.specs.Printing.{IsAnswered, IsKeysStatus, IsRefused, IsScriptStatus, IsStoreStatus, keys_line, memory_line, read_line, usage_line}
+use Rattle.overstore.specs.Running.{Concluded, IsDecided, JudgesKeys, PrintsAs, RefusesWords}
 use Rattle.overstore.specs.declared.answer.Stop.{Stop}
-use Rattle.overstore.specs.declared.answer.Stop.TheVariants.{End, BadLine, Long, Read, Write, Memory}
+use Rattle.overstore.specs.declared.answer.Stop.TheVariants.{End, BadLine, Long, Read, Write, Disk, Memory, Tag}
 use Rattle.overstore.specs.Words.{IsRun, mode_word}
-use Rattle.overstore.proofs.Concluding.{complete_at, exact, is_bad, is_done, is_long, is_memory, is_read, is_write, neither, told}
+use Rattle.overstore.proofs.Concluding.{complete, exact, is_bad, is_disk, is_done, is_long, is_memory, is_read, is_write, neither}
 
 -- ---- the mode
 
@@ -34,75 +41,176 @@ one_mode Delta Full words p q = absurd (apart (length (mode_word Full)) (length 
 
 -- ---- what is printed
 
-pub prints_as : (mode other : Mode) (words : List (String Global)) (input old new : Option (List ℕ)) (status : ℕ) → IsRun mode words → IsRun other words
-    → IfSome input (λ text. Concluded other text old new status) → IfSome input (λ text. PrintsAs mode text status old new)
-prints_as mode other words input old new status asked is said =
-    told input (λ text. Concluded other text old new status) (λ text. PrintsAs mode text status old new) said
-    (λ text concluded. let so : Concluded mode text old new status = subst (λ m. Concluded m text old new status) (one_mode other mode words is asked) concluded in record {
-      done = λ e. is_done mode text old new status e so;
-      bad_line = λ e. is_bad mode text old new status e so;
-      long = λ e. is_long mode text old new status e so;
-      read = λ e. is_read mode text old new status e so;
-      memory = λ e. is_memory mode text old new status e so;
-      write = λ e. is_write mode text old new status e so;
-    })
+pub prints_as : (h : PlainHistory) (text : List ℕ) (old new : Option (List ℕ)) (status : ℕ) → Concluded h text old new status → PrintsAs h text status old new
+prints_as h text old new status so = record {
+  done = λ e. is_done h text old new status e so;
+  bad_line = λ e. is_bad h text old new status e so;
+  long = λ e. is_long h text old new status e so;
+  disk = λ e. is_disk h text old new status e so;
+  read = λ e. is_read h text old new status e so;
+  memory = λ e. is_memory h text old new status e so;
+  write = λ e. is_write h text old new status e so;
+}
 
-pub decided : (mode : Mode) (input old new : Option (List ℕ)) (status : ℕ) (keys script out : Type 0) → (status ≡ 10 → ⊥)
-    → (status ≡ 5 → keys ⊎ script) → (status ≡ 6 → out)
-    → IfSome input (λ text. Concluded mode text old new status) → IfSome input (λ text. IsDecided text status keys script out)
-decided mode input old new status keys script out ten read write said =
-    told input (λ text. Concluded mode text old new status) (λ text. IsDecided text status keys script out) said (λ text so. record {
-      exact = exact mode text old new status ten so;
-      complete = λ no_keys no_script no_out. complete_at mode text old new status ten (λ five. neither keys script no_keys no_script (read five)) (λ six. no_out (write six)) so;
-    })
+pub decided : (h : PlainHistory) (text : List ℕ) (old new : Option (List ℕ)) (status : ℕ) (keys script out disk : Type 0) → (status ≡ 10 → ⊥)
+    → (status ≡ 4 → disk) → (status ≡ 5 → keys ⊎ script) → (status ≡ 6 → out) → Concluded h text old new status → IsDecided text status keys script out disk
+decided h text old new status keys script out disk ten call read write so = record {
+  exact = exact h text old new status ten so;
+  complete = λ no_keys no_script no_out no_disk commands ending reads.
+      complete status _ (exact h text old new status ten so commands ending reads) (λ four. no_disk (call four))
+      (λ five. neither keys script no_keys no_script (read five)) (λ six. no_out (write six));
+}
 
 -- ---- the status
 
 -- a line that is put last ends a run with its status or with that of a failed write
-pub ends_so : (line : List ℕ) (code : ℕ) (old new : Option (List ℕ)) (status : ℕ) → EndsIn line code old new status → IsScriptStatus code → IsScriptStatus status
-ends_so line code old new status (inl q) is = subst IsScriptStatus (sym q.0) is
-ends_so line code old new status (inr q) is = inr (inr (inl q.0))
+pub ends_so : (P : ℕ → Type 0) (line : List ℕ) (code : ℕ) (old new : Option (List ℕ)) (status : ℕ) → P code → P 6 → EndsIn line code old new status → P status
+ends_so P line code old new status is six (inl q) = subst P (sym q.0) is
+ends_so P line code old new status is six (inr q) = subst P (sym q.0) six
 
-pub keys_ends_so : (line : List ℕ) (old new : Option (List ℕ)) (status : ℕ) → EndsIn line 10 old new status → IsKeysStatus status
-keys_ends_so line old new status (inl q) = inl q.0
-keys_ends_so line old new status (inr q) = inr (inr (inr (inl q.0)))
+pub ends_or_so : (P : ℕ → Type 0) (line : List ℕ) (code : ℕ) (old new : Option (List ℕ)) (status : ℕ) → P code → P 6 → P 7 → EndsOr line code old new status → P status
+ends_or_so P line code old new status is six seven (inl e) = ends_so P line code old new status is six e
+ends_or_so P line code old new status is six seven (inr e) = ends_so P memory_line 7 old new status seven six e
 
-either_so : (last other : List ℕ) (code second : ℕ) (old new : Option (List ℕ)) (status : ℕ) → IsScriptStatus code → IsScriptStatus second
-    → EndsIn last code old new status ⊎ EndsIn other second old new status → IsScriptStatus status
-either_so last other code second old new status one two (inl ends) = ends_so last code old new status ends one
-either_so last other code second old new status one two (inr ends) = ends_so other second old new status ends two
+pub script_six : IsScriptStatus 6
+script_six = inr (inl (inr (inl refl)))
+
+pub script_seven : IsScriptStatus 7
+script_seven = inr (inl (inr (inr (inl refl))))
+
+pub script_five : IsScriptStatus 5
+script_five = inr (inl (inl refl))
+
+script_four : IsScriptStatus 4
+script_four = inr (inl (inr (inr (inr refl))))
 
 pub finishes_so : (stop : Stop) (epoch : ℕ) (old new : Option (List ℕ)) (status : ℕ) → Finishes stop epoch old new status → IsScriptStatus status
-finishes_so End epoch old new status ends = either_so _ _ 0 7 old new status (inl (inl refl)) (inr (inr (inr refl))) ends
-finishes_so (BadLine n) epoch old new status ends = either_so _ _ 3 7 old new status (inl (inr (inl refl))) (inr (inr (inr refl))) ends
-finishes_so Long epoch old new status ends = ends_so _ 11 old new status ends (inl (inr (inr refl)))
-finishes_so Read epoch old new status ends = ends_so _ 5 old new status ends (inr (inl refl))
-finishes_so Memory epoch old new status ends = ends_so _ 7 old new status ends (inr (inr (inr refl)))
-finishes_so Write epoch old new status ends = inr (inr (inl ends.0))
+finishes_so End epoch old new status f = ends_or_so IsScriptStatus _ 0 old new status (inl (inl refl)) script_six script_seven f
+finishes_so (BadLine n) epoch old new status f = ends_or_so IsScriptStatus _ 3 old new status (inl (inr (inl refl))) script_six script_seven f
+finishes_so Long epoch old new status f = ends_so IsScriptStatus _ 11 old new status (inl (inr (inr refl))) script_six f
+finishes_so Read epoch old new status f = ends_so IsScriptStatus _ 5 old new status script_five script_six f
+finishes_so Disk epoch old new status f = ends_so IsScriptStatus _ 4 old new status script_four script_six f
+finishes_so Memory epoch old new status f = ends_so IsScriptStatus _ 7 old new status script_seven script_six f
+finishes_so (Tag bad) epoch old new status f = ends_or_so IsScriptStatus _ 12 old new status (inr (inr refl)) script_six script_seven f
+finishes_so Write epoch old new status f = subst IsScriptStatus (sym f.0) script_six
 
-pub not_keys : (status : ℕ) → IsScriptStatus status → status ≡ 10 → ⊥
+pub keys_six : IsKeysStatus 6
+keys_six = inr (inr script_six)
+
+pub keys_five : IsKeysStatus 5
+keys_five = inr (inr script_five)
+
+-- the line's own status isn't this one
+pub not_code : (line : List ℕ) (code n : ℕ) (old new : Option (List ℕ)) (status : ℕ) → EndsIn line code old new status → (code ≡ n → ⊥) → (6 ≡ n → ⊥) → status ≡ n → ⊥
+not_code line code n old new status (inl q) other no_six e = other (sym q.0 ∙ e)
+not_code line code n old new status (inr q) other no_six e = no_six (sym q.0 ∙ e)
+
+pub not_code_or : (line : List ℕ) (code n : ℕ) (old new : Option (List ℕ)) (status : ℕ) → EndsOr line code old new status → (code ≡ n → ⊥) → (6 ≡ n → ⊥) → (7 ≡ n → ⊥)
+    → status ≡ n → ⊥
+not_code_or line code n old new status (inl e) other no_six no_seven = not_code line code n old new status e other no_six
+not_code_or line code n old new status (inr e) other no_six no_seven = not_code memory_line 7 n old new status e no_seven no_six
+
+pub memory_not : (n : ℕ) (old new : Option (List ℕ)) (status : ℕ) → EndsIn memory_line 7 old new status → (6 ≡ n → ⊥) → (7 ≡ n → ⊥) → status ≡ n → ⊥
+memory_not n old new status e no_six no_seven = not_code memory_line 7 n old new status e no_seven no_six
+
+-- a call of the disk or a read is said to have failed where it stopped the answering
+pub finish_disk : (stop : Stop) (epoch : ℕ) (old new : Option (List ℕ)) (status : ℕ) → Finishes stop epoch old new status → status ≡ 4 → stop ≡ Disk
+finish_disk End epoch old new status f e = absurd (not_code_or _ 0 4 old new status f (λ z. omega arith) (λ z. omega arith) (λ z. omega arith) e)
+finish_disk (BadLine n) epoch old new status f e = absurd (not_code_or _ 3 4 old new status f (λ z. omega arith) (λ z. omega arith) (λ z. omega arith) e)
+finish_disk Long epoch old new status f e = absurd (not_code _ 11 4 old new status f (λ z. omega arith) (λ z. omega arith) e)
+finish_disk Read epoch old new status f e = absurd (not_code _ 5 4 old new status f (λ z. omega arith) (λ z. omega arith) e)
+finish_disk Disk epoch old new status f e = refl
+finish_disk Memory epoch old new status f e = absurd (not_code _ 7 4 old new status f (λ z. omega arith) (λ z. omega arith) e)
+finish_disk (Tag bad) epoch old new status f e = absurd (not_code_or _ 12 4 old new status f (λ z. omega arith) (λ z. omega arith) (λ z. omega arith) e)
+finish_disk Write epoch old new status f e = absurd (let six : status ≡ 6 = f.0 in omega arith)
+
+pub finish_read : (stop : Stop) (epoch : ℕ) (old new : Option (List ℕ)) (status : ℕ) → Finishes stop epoch old new status → status ≡ 5 → stop ≡ Read
+finish_read End epoch old new status f e = absurd (not_code_or _ 0 5 old new status f (λ z. omega arith) (λ z. omega arith) (λ z. omega arith) e)
+finish_read (BadLine n) epoch old new status f e = absurd (not_code_or _ 3 5 old new status f (λ z. omega arith) (λ z. omega arith) (λ z. omega arith) e)
+finish_read Long epoch old new status f e = absurd (not_code _ 11 5 old new status f (λ z. omega arith) (λ z. omega arith) e)
+finish_read Read epoch old new status f e = refl
+finish_read Disk epoch old new status f e = absurd (not_code _ 4 5 old new status f (λ z. omega arith) (λ z. omega arith) e)
+finish_read Memory epoch old new status f e = absurd (not_code _ 7 5 old new status f (λ z. omega arith) (λ z. omega arith) e)
+finish_read (Tag bad) epoch old new status f e = absurd (not_code_or _ 12 5 old new status f (λ z. omega arith) (λ z. omega arith) (λ z. omega arith) e)
+finish_read Write epoch old new status f e = absurd (let six : status ≡ 6 = f.0 in omega arith)
+
+-- a tag is said to be wrong where the answering stopped at one
+pub finish_tag : (stop : Stop) (epoch : ℕ) (old mid new : Option (List ℕ)) (status : ℕ) → Finishes stop epoch mid new status → Grows old mid
+    → ((bad : BadTag) → stop ≡ Tag bad → AreOtherTags bad) → status ≡ 12 → SaysTag old new
+finish_tag End epoch old mid new status f grew other e = absurd (not_code_or _ 0 12 mid new status f (λ z. omega arith) (λ z. omega arith) (λ z. omega arith) e)
+finish_tag (BadLine n) epoch old mid new status f grew other e = absurd (not_code_or _ 3 12 mid new status f (λ z. omega arith) (λ z. omega arith) (λ z. omega arith) e)
+finish_tag Long epoch old mid new status f grew other e = absurd (not_code _ 11 12 mid new status f (λ z. omega arith) (λ z. omega arith) e)
+finish_tag Read epoch old mid new status f grew other e = absurd (not_code _ 5 12 mid new status f (λ z. omega arith) (λ z. omega arith) e)
+finish_tag Disk epoch old mid new status f grew other e = absurd (not_code _ 4 12 mid new status f (λ z. omega arith) (λ z. omega arith) e)
+finish_tag Memory epoch old mid new status f grew other e = absurd (not_code _ 7 12 mid new status f (λ z. omega arith) (λ z. omega arith) e)
+finish_tag Write epoch old mid new status f grew other e = absurd (let six : status ≡ 6 = f.0 in omega arith)
+finish_tag (Tag bad) epoch old mid new status (inl (inl q)) grew other e =
+    (bad, other bad refl, (grew.0, Appends-trans old mid new grew.0 (tag_line bad) grew.1 q.1))
+finish_tag (Tag bad) epoch old mid new status (inl (inr q)) grew other e = absurd (let six : status ≡ 6 = q.0 in omega arith)
+finish_tag (Tag bad) epoch old mid new status (inr (inl q)) grew other e = absurd (let seven : status ≡ 7 = q.0 in omega arith)
+finish_tag (Tag bad) epoch old mid new status (inr (inr q)) grew other e = absurd (let six : status ≡ 6 = q.0 in omega arith)
+
+fault_not_tag : (fault : BeginFault) → fault_status fault ≡ 12 → ⊥
+fault_not_tag BeginDisk e = omega arith
+fault_not_tag BeginMemory e = omega arith
+fault_not_tag NotAStore e = omega arith
+fault_not_tag (Damaged area place) e = omega arith
+fault_not_tag (BaseDiffers stored given) e = omega arith
+fault_not_tag (SurfaceDiffers stored given) e = omega arith
+fault_not_tag (ModeDiffers stored given) e = omega arith
+
+pub fault_no_tag : (fault : BeginFault) (line : List ℕ) (old new : Option (List ℕ)) (status : ℕ) → EndsOr line (fault_status fault) old new status → status ≡ 12 → ⊥
+fault_no_tag fault line old new status e tag =
+    not_code_or line (fault_status fault) 12 old new status e (fault_not_tag fault) (λ z. omega arith) (λ z. omega arith) tag
+
+-- the status of a disk that doesn't open
+pub fault_so : (fault : BeginFault) → IsStoreStatus (fault_status fault)
+fault_so BeginDisk = inr script_four
+fault_so BeginMemory = inr script_seven
+fault_so NotAStore = inl (inl refl)
+fault_so (Damaged area place) = inl (inl refl)
+fault_so (BaseDiffers stored given) = inl (inr refl)
+fault_so (SurfaceDiffers stored given) = inl (inr refl)
+fault_so (ModeDiffers stored given) = inl (inr refl)
+
+fault_not_five : (fault : BeginFault) → fault_status fault ≡ 5 → ⊥
+fault_not_five BeginDisk e = omega arith
+fault_not_five BeginMemory e = omega arith
+fault_not_five NotAStore e = omega arith
+fault_not_five (Damaged area place) e = omega arith
+fault_not_five (BaseDiffers stored given) e = omega arith
+fault_not_five (SurfaceDiffers stored given) e = omega arith
+fault_not_five (ModeDiffers stored given) e = omega arith
+
+pub fault_no_read : (fault : BeginFault) (line : List ℕ) (old new : Option (List ℕ)) (status : ℕ) → EndsOr line (fault_status fault) old new status → status ≡ 5 → ⊥
+fault_no_read fault line old new status e five =
+    not_code_or line (fault_status fault) 5 old new status e (fault_not_five fault) (λ z. omega arith) (λ z. omega arith) five
+
+-- the statuses of a script are no others
+apart_from : (status : ℕ) → IsScriptStatus status → (status ≡ 2 → ⊥) × (8 ≤ status → status ≤ 10 → ⊥)
+apart_from status (inl (inl e)) = (λ two. omega arith, λ low high. omega arith)
+apart_from status (inl (inr (inl e))) = (λ two. omega arith, λ low high. omega arith)
+apart_from status (inl (inr (inr e))) = (λ two. omega arith, λ low high. omega arith)
+apart_from status (inr (inl (inl e))) = (λ two. omega arith, λ low high. omega arith)
+apart_from status (inr (inl (inr (inl e)))) = (λ two. omega arith, λ low high. omega arith)
+apart_from status (inr (inl (inr (inr (inl e))))) = (λ two. omega arith, λ low high. omega arith)
+apart_from status (inr (inl (inr (inr (inr e))))) = (λ two. omega arith, λ low high. omega arith)
+apart_from status (inr (inr e)) = (λ two. omega arith, λ low high. omega arith)
+
+pub not_refused : (status : ℕ) → IsScriptStatus status → IsRefused status → ⊥
+not_refused status is (inl eight) = (apart_from status is).1 (omega arith) (omega arith)
+not_refused status is (inr nine) = (apart_from status is).1 (omega arith) (omega arith)
+
+pub not_keys : (status : ℕ) → IsStoreStatus status → status ≡ 10 → ⊥
 not_keys status (inl (inl e)) ten = omega arith
-not_keys status (inl (inr (inl e))) ten = omega arith
-not_keys status (inl (inr (inr e))) ten = omega arith
-not_keys status (inr (inl e)) ten = omega arith
-not_keys status (inr (inr (inl e))) ten = omega arith
-not_keys status (inr (inr (inr e))) ten = omega arith
+not_keys status (inl (inr e)) ten = omega arith
+not_keys status (inr is) ten = (apart_from status is).1 (omega arith) (omega arith)
 
 pub not_usage : (status : ℕ) → IsKeysStatus status → status ≡ 2 → ⊥
 not_usage status (inl e) two = omega arith
 not_usage status (inr (inl (inl e))) two = omega arith
-not_usage status (inr (inl (inr (inl e)))) two = omega arith
-not_usage status (inr (inl (inr (inr e)))) two = omega arith
-not_usage status (inr (inr (inl e))) two = omega arith
-not_usage status (inr (inr (inr (inl e)))) two = omega arith
-not_usage status (inr (inr (inr (inr e)))) two = omega arith
-
-pub is_status : (status : ℕ) → IsKeysStatus status → IsStatus status
-is_status status (inl ten) = inr (inr (inr (inl ten)))
-is_status status (inr (inl (inl done))) = inl done
-is_status status (inr (inl (inr (inl bad)))) = inr (inr (inl bad))
-is_status status (inr (inl (inr (inr long)))) = inr (inr (inr (inr (inl long))))
-is_status status (inr (inr fault)) = inr (inr (inr (inr (inr fault))))
+not_usage status (inr (inl (inr e))) two = omega arith
+not_usage status (inr (inr is)) two = (apart_from status is).0 two
 
 -- ---- the key file
 
@@ -197,10 +305,14 @@ judged_unasked asked keys status old new untouched not_asked ends left = record 
   not_ten (inl q) e = let two : status ≡ 2 = q.0 in omega arith
   not_ten (inr q) e = let six : status ≡ 6 = q.0 in omega arith
 
-pub judged_if : (asked : Type 0) (keys : Option (List ℕ)) (status : ℕ) (old new : Option (List ℕ)) (untouched : Type 0)
-    → JudgesKeys (Unit {0}) keys status old new untouched → JudgesKeys asked keys status old new untouched
-judged_if asked keys status old new untouched j =
-    record { masters = j.masters; none = j.none; line = j.line; unread = j.unread; ends = λ _. j.ends tt }
+-- what stays untouched may be said in other words
+pub judged_so : (asked : Type 0) (keys : Option (List ℕ)) (status : ℕ) (old new : Option (List ℕ)) (untouched other : Type 0)
+    → JudgesKeys (Unit {0}) keys status old new untouched → (untouched → other) → JudgesKeys asked keys status old new other
+judged_so asked keys status old new untouched other j so =
+    record { masters = j.masters; none = j.none; line = j.line; unread = unread keys j.unread; ends = λ _. j.ends tt } where
+      unread : (keys : Option (List ℕ)) → IfSome keys (λ file. (HasMasters file → ⊥) → untouched) → IfSome keys (λ file. (HasMasters file → ⊥) → other)
+      unread None u = tt
+      unread (Some file) u = λ none. so (u none)
 
 -- ---- the words
 

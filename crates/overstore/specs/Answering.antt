@@ -1,8 +1,10 @@
 -- What answering a script does, command by command.
-use Rattle.std.specs.Prelude.{◌≡◌, ◌⊎◌, ℕ, List, take, Option, Some, None}
+use Rattle.std.specs.Prelude.{◌≡◌, ◌⊎◌, ℕ, ◌≤◌, List, [], ◌∷◌, ◌++◌, take, Option, Some, None}
 use Rattle.std.specs.Io.KnownBytes.{Appends, Keeps}
+use Rattle.ov_base.specs.Causes.{Rose}
 use Rattle.ov_base.specs.declared.limits.TheConstants.{MAX_SCRIPT_BYTES}
-use Rattle.ov_base.specs.declared.mode.Mode.{Mode}
+use Rattle.ov_disk.specs.Disk.{Image}
+use Rattle.ov_disk.specs.Moments.{LeavesOnly}
 use Rattle.ov_script.specs.declared.command.Command.{Command}
 use Rattle.ov_script.specs.declared.reply.Reply.TheVariants.{End as EndReply}
 use Rattle.ov_script.specs.Lines.{reply_line}
@@ -10,14 +12,21 @@ use Rattle.ov_script.specs.Reading.{IsScript, BeginsScript, BeginsWith}
 use Rattle.ov_script.specs.Reading.{Ending, AtEnd, BadAt, TooLong}
 use Rattle.ov_history.specs.Plain.{PlainHistory}
 use Rattle.ov_model.specs.Lines.{lines}
-use Rattle.ov_model.specs.Step.{reply_to, after, after_all}
+use Rattle.ov_model.specs.Step.{reply_to, after_all}
 use Rattle.ov_history.specs.Masters.{Masters}
-use Rattle.overstore.specs.Machine.{AreMasters, Kept, StandsFor}
-use Rattle.overstore.specs.Printing.{new_store, bad_line, long_line, read_line, memory_line}
-use Rattle.overstore.specs.Printing.{Outcome, status_of, Prints, PrintsFront, IsAnswered}
+use Rattle.overstore.specs.Disks.{Holds, KeepsFirst, KeepsNext}
+use Rattle.overstore.specs.Faults.{tag_line}
+use Rattle.overstore.specs.Machine.{AreOtherTags, GoesOn, KeptOn, LeavesStep, StandsFor}
+use Rattle.overstore.specs.Printing.{bad_line, disk_line, long_line, read_line, memory_line}
+use Rattle.overstore.specs.declared.fault.BadTag.{BadTag}
+use Rattle.overstore.specs.declared.fault.StepFault.{StepFault}
+use Rattle.overstore.specs.declared.fault.StepFault.TheVariants.{Disk as NoDisk, Memory as NoMemory}
+use Rattle.overstore.specs.declared.fault.StepFault.TheVariants.{Tag as WrongTag}
 use Rattle.overstore.specs.declared.answer.Stop.{Stop}
 use Rattle.overstore.specs.declared.answer.Stop.TheVariants.{End, BadLine, Long}
-use Rattle.overstore.specs.declared.answer.Stop.TheVariants.{Read, Write, Memory}
+use Rattle.overstore.specs.declared.answer.Stop.TheVariants.{Read, Write, Disk, Memory, Tag}
+
+-- ---- lines
 
 -- all the bytes were put, or a write stopped inside them, or memory was refused and nothing was put
 abbrev pub PutsOr : Option Stop → Option (List ℕ) → Option (List ℕ) → List ℕ → Type 0
@@ -28,54 +37,18 @@ PutsOr (Some End) old new bytes = ⊥
 PutsOr (Some (BadLine n)) old new bytes = ⊥
 PutsOr (Some Long) old new bytes = ⊥
 PutsOr (Some Read) old new bytes = ⊥
+PutsOr (Some Disk) old new bytes = ⊥
+PutsOr (Some (Tag bad)) old new bytes = ⊥
 
--- The reply line to the command was put, and what is kept stands for the history after it; or it
--- wasn't, and why.
-abbrev pub Answers : PlainHistory → Command → Option Stop → Option (List ℕ) → Option (List ℕ)
-    → Kept → Type 0
-Answers p command None old new kept =
-    Appends old new (reply_line (reply_to p command)) × StandsFor kept (after p command)
-Answers p command (Some stop) old new kept =
-    PutsOr (Some stop) old new (reply_line (reply_to p command))
+-- some bytes were put
+abbrev pub Grows : Option (List ℕ) → Option (List ℕ) → Type 0
+Grows old new = (bytes : List ℕ) × Appends old new bytes
 
--- these commands were read to this ending, and all their lines were put
-abbrev pub AnsweredAll : Mode → List ℕ → Ending → Option (List ℕ) → Option (List ℕ)
-    → Kept → Type 0
-AnsweredAll mode text ending old new kept =
-    (commands : List Command) × IsScript text commands ending
-    × Appends old new (lines (new_store mode) commands)
-    × StandsFor kept (after_all (new_store mode) commands)
-
--- the lines of the first commands were put
-abbrev pub AnsweredFirst : Mode → List ℕ → Option (List ℕ) → Option (List ℕ) → Type 0
-AnsweredFirst mode text old new =
-    (commands : List Command) × BeginsScript text commands
-    × Appends old new (lines (new_store mode) commands)
-
--- a front of the lines of the first commands was put
-abbrev pub AnsweredPart : Mode → List ℕ → Option (List ℕ) → Option (List ℕ) → Type 0
-AnsweredPart mode text old new =
-    (commands : List Command) × BeginsScript text commands
-    × ((n : ℕ) × Appends old new (take n (lines (new_store mode) commands)))
-
--- what was put where the answering stopped so
-abbrev pub Stops : Mode → List ℕ → Stop → Option (List ℕ) → Option (List ℕ)
-    → Kept → Type 0
-Stops mode text End old new kept = AnsweredAll mode text AtEnd old new kept
-Stops mode text (BadLine n) old new kept = AnsweredAll mode text (BadAt n) old new kept
-Stops mode text Long old new kept = AnsweredAll mode text TooLong old new kept
-Stops mode text Read old new kept = AnsweredFirst mode text old new
-Stops mode text Memory old new kept = AnsweredFirst mode text old new
-Stops mode text Write old new kept = AnsweredPart mode text old new
-
--- So far these commands were read and answered; this line, room and rest are left.
-abbrev pub SoFar : Mode → List ℕ → Option (List ℕ) → ℕ → ℕ → Option (List ℕ) → Option (List ℕ)
-    → Kept → Type 0
-SoFar mode text None line room old now kept = ⊥
-SoFar mode text (Some rest) line room old now kept =
-    (commands : List Command) × BeginsWith 1 MAX_SCRIPT_BYTES text commands line room rest
-    × Appends old now (lines (new_store mode) commands)
-    × StandsFor kept (after_all (new_store mode) commands)
+-- what was put ends in the line on a file whose tag is another one
+abbrev pub SaysTag : Option (List ℕ) → Option (List ℕ) → Type 0
+SaysTag old new =
+    (bad : BadTag) × AreOtherTags bad
+    × ((before : List ℕ) × Appends old new (before ++ tag_line bad))
 
 -- this line was put, and the status is this; or a front of it, and the status is 6
 abbrev pub EndsIn : List ℕ → ℕ → Option (List ℕ) → Option (List ℕ) → ℕ → Type 0
@@ -83,40 +56,137 @@ EndsIn last code old new status =
     ((status ≡ code) × Appends old new last)
     ⊎ ((status ≡ 6) × ((n : ℕ) × Appends old new (take n last)))
 
+-- so it is, or so it is of the line that says that memory was refused for this one
+abbrev pub EndsOr : List ℕ → ℕ → Option (List ℕ) → Option (List ℕ) → ℕ → Type 0
+EndsOr last code old new status = EndsIn last code old new status ⊎ EndsIn memory_line 7 old new status
+
 -- the last line that is put at this epoch, or the one that says that memory was refused for it
 abbrev pub Finishes : Stop → ℕ → Option (List ℕ) → Option (List ℕ) → ℕ → Type 0
-Finishes End epoch old new status =
-    EndsIn (reply_line (EndReply epoch)) 0 old new status ⊎ EndsIn memory_line 7 old new status
-Finishes (BadLine n) epoch old new status =
-    EndsIn (bad_line n) 3 old new status ⊎ EndsIn memory_line 7 old new status
+Finishes End epoch old new status = EndsOr (reply_line (EndReply epoch)) 0 old new status
+Finishes (BadLine n) epoch old new status = EndsOr (bad_line n) 3 old new status
 Finishes Long epoch old new status = EndsIn long_line 11 old new status
 Finishes Read epoch old new status = EndsIn read_line 5 old new status
+Finishes Disk epoch old new status = EndsIn disk_line 4 old new status
 Finishes Memory epoch old new status = EndsIn memory_line 7 old new status
+Finishes (Tag bad) epoch old new status = EndsOr (tag_line bad) 12 old new status
 Finishes Write epoch old new status = (status ≡ 6) × Keeps old new
 
--- What some outcome prints was put whole, and the status is the outcome's; or a front of it, and
--- the status is 6.
-pub data Concluded (mode : Mode) (text : List ℕ) (old new : Option (List ℕ)) (status : ℕ)
-    : Type 0 where
-  whole : (outcome : Outcome) → status ≡ status_of outcome → Prints mode text outcome old new
-      → Concluded mode text old new status
-  part : status ≡ 6 → PrintsFront mode text old new → Concluded mode text old new status
+-- ---- commands
 
--- where the script was answered, what is kept stands for the history after all of its commands
-abbrev pub StandsAtEnd : Mode → List ℕ → ℕ → Kept → Type 0
-StandsAtEnd mode text status kept =
-    IsAnswered status
-    → (commands : List Command) × (ending : Ending) × IsScript text commands ending
-    × StandsFor kept (after_all (new_store mode) commands)
+-- why a command that isn't answered stops the answering
+abbrev pub stop_for : StepFault → Stop
+stop_for NoDisk = Disk
+stop_for NoMemory = Memory
+stop_for (WrongTag bad) = Tag bad
 
--- where the script was answered, what is left of the machine has these masters and stands for the
--- history after all of its commands
-abbrev pub LeavesWith : Masters → Mode → List ℕ → ℕ → Option Kept → Type 0
-LeavesWith k mode text status None = IsAnswered status → ⊥
-LeavesWith k mode text status (Some kept) = (kept.masters ≡ k) × StandsAtEnd mode text status kept
+-- An answer doesn't lower the sink's count of faults, and the count rose where it stopped in a write.
+-- It stops in no read, and at two tags that differ.
+pub record IsPut (before now : ℕ) (result : Option Stop) : Type 0 where
+  pub later : before ≤ now
+  pub write : result ≡ Some Write → Rose before now
+  pub no_read : result ≡ Some Read → ⊥
+  pub tag : (bad : BadTag) → result ≡ Some (Tag bad) → AreOtherTags bad
 
--- so it is, with the masters of this key file
-abbrev pub LeavesUnder : List ℕ → Mode → List ℕ → ℕ → Option Kept → Type 0
-LeavesUnder file mode text status None = IsAnswered status → ⊥
-LeavesUnder file mode text status (Some kept) =
-    AreMasters file kept.masters × StandsAtEnd mode text status kept
+module _ {D : Type 0} (reads : D → Option Image) (may_leave : D → Image → Type 0)
+    (moment : D → ℕ) (left_since : D → ℕ → Image → Type 0) where
+  -- One command at a history for which what is kept stands. Its reply line was put, or a front of
+  -- it, and all goes on as the history does. Or the line wasn't put, and of what a crash leaves it
+  -- isn't said whether it is from before the command.
+  abbrev pub Answers : Masters → PlainHistory → Command → Option Stop
+      → Option (List ℕ) → Option (List ℕ) → KeptOn D → KeptOn D → Type 0
+  Answers k p command None old new first last =
+      Appends old new (reply_line (reply_to p command))
+      × GoesOn reads may_leave moment left_since k p command first last
+  Answers k p command (Some Write) old new first last =
+      ((n : ℕ) × Appends old new (take n (reply_line (reply_to p command))))
+      × GoesOn reads may_leave moment left_since k p command first last
+  Answers k p command (Some Memory) old new first last =
+      Keeps old new
+      × (Holds reads may_leave k p first.disk
+      → LeavesStep reads may_leave moment left_since k p command first.disk last.disk)
+  Answers k p command (Some Disk) old new first last =
+      Keeps old new
+      × (Holds reads may_leave k p first.disk
+      → LeavesStep reads may_leave moment left_since k p command first.disk last.disk)
+  Answers k p command (Some End) old new first last = ⊥
+  Answers k p command (Some (BadLine n)) old new first last = ⊥
+  Answers k p command (Some Long) old new first last = ⊥
+  Answers k p command (Some Read) old new first last = ⊥
+  Answers k p command (Some (Tag bad)) old new first last = ⊥
+
+  -- ---- scripts
+
+  -- From a disk that holds the history p, on which the script was answered so far: it holds the
+  -- history q, and a crash at any moment leaves the history after some first commands.
+  pub record Reaches (k : Masters) (p q : PlainHistory) (text : List ℕ) (first last : D)
+      : Type 0 where
+    pub holds : Holds reads may_leave k q last
+    pub moments : LeavesOnly moment left_since first last (KeepsFirst k p text)
+
+  -- The same where the answering stopped behind these commands, of which the next one may have been
+  -- made.
+  pub record Stopped (k : Masters) (p : PlainHistory) (text : List ℕ) (commands : List Command)
+      (first last : D) : Type 0 where
+    pub now : (c : Image) → may_leave last c → KeepsNext k p text commands c
+    pub moments : LeavesOnly moment left_since first last (KeepsFirst k p text)
+
+  -- these commands were read to this ending, and all their lines were put
+  pub record AnsweredAll (k : Masters) (p : PlainHistory) (text : List ℕ) (ending : Ending)
+      (old new : Option (List ℕ)) (first last : KeptOn D) : Type 0 where
+    pub commands : List Command
+    pub read : IsScript text commands ending
+    pub put : Appends old new (lines p commands)
+    pub stands : StandsFor last.kept (after_all p commands)
+    pub reaches : Holds reads may_leave k p first.disk
+        → Reaches k p (after_all p commands) text first.disk last.disk
+
+  -- the lines of the first commands were put
+  pub record AnsweredFirst (k : Masters) (p : PlainHistory) (text : List ℕ)
+      (old new : Option (List ℕ)) (first last : KeptOn D) : Type 0 where
+    pub commands : List Command
+    pub begins : BeginsScript text commands
+    pub put : Appends old new (lines p commands)
+    pub stopped : Holds reads may_leave k p first.disk
+        → Stopped k p text commands first.disk last.disk
+
+  -- the lines of the first commands were put, and a front of that of the next one
+  pub record AnsweredPart (k : Masters) (p : PlainHistory) (text : List ℕ)
+      (old new : Option (List ℕ)) (first last : KeptOn D) : Type 0 where
+    pub commands : List Command
+    pub next : Command
+    pub begins : BeginsScript text commands
+    pub begins_next : BeginsScript text (commands ++ next ∷ [])
+    pub count : ℕ
+    pub put : Appends old new
+        (lines p commands ++ take count (reply_line (reply_to (after_all p commands) next)))
+    pub reaches : Holds reads may_leave k p first.disk
+        → Reaches k p (after_all p (commands ++ next ∷ [])) text first.disk last.disk
+
+  -- what was put, and what is left, where the answering stopped so
+  abbrev pub Stops : Masters → PlainHistory → List ℕ → Stop → Option (List ℕ) → Option (List ℕ)
+      → KeptOn D → KeptOn D → Type 0
+  Stops k p text End old new first last = AnsweredAll k p text AtEnd old new first last
+  Stops k p text (BadLine n) old new first last = AnsweredAll k p text (BadAt n) old new first last
+  Stops k p text Long old new first last = AnsweredAll k p text TooLong old new first last
+  Stops k p text Read old new first last = AnsweredFirst k p text old new first last
+  Stops k p text Disk old new first last = AnsweredFirst k p text old new first last
+  Stops k p text Memory old new first last = AnsweredFirst k p text old new first last
+  Stops k p text Write old new first last = AnsweredPart k p text old new first last
+  Stops k p text (Tag bad) old new first last = ⊥
+
+  -- So far these commands were read and answered; this line, room and rest are left.
+  pub record AnsweredSoFar (k : Masters) (p : PlainHistory) (text rest : List ℕ) (line room : ℕ)
+      (old now : Option (List ℕ)) (first last : KeptOn D) : Type 0 where
+    pub commands : List Command
+    pub begins : BeginsWith 1 MAX_SCRIPT_BYTES text commands line room rest
+    pub put : Appends old now (lines p commands)
+    pub stands : StandsFor last.kept (after_all p commands)
+    pub reaches : Holds reads may_leave k p first.disk
+        → Reaches k p (after_all p commands) text first.disk last.disk
+
+  -- so it is where what is left is told
+  abbrev pub SoFar : Masters → PlainHistory → List ℕ → Option (List ℕ) → ℕ → ℕ
+      → Option (List ℕ) → Option (List ℕ) → KeptOn D → KeptOn D → Type 0
+  SoFar k p text None line room old now first last = ⊥
+  SoFar k p text (Some rest) line room old now first last =
+      AnsweredSoFar k p text rest line room old now first last

@@ -1,4 +1,6 @@
 pub mod Answering
+pub mod Disks
+pub mod Faults
 pub mod Machine
 pub mod Opening
 pub mod Owner

@@ -1,24 +1,32 @@
 -- What the program keeps of a history, and what it does to it.
-use Rattle.std.specs.Prelude.{◌≡◌, ℕ, ◌+◌, ◌≤◌, List, [], length, Some, None}
+use Rattle.std.specs.Prelude.{◌≡◌, ◌≢◌, ℕ, ◌≤◌, List, length, Bool, Option, None, Result, Ok, Err, OnOk}
 use Rattle.ov_base.specs.declared.limits.TheConstants.{MAX_FILE_BYTES}
-use Rattle.ov_base.specs.declared.mode.Mode.{Mode}
+use Rattle.ov_disk.specs.Disk.{Image}
+use Rattle.ov_disk.specs.Moments.{LeavesOnly}
+use Rattle.ov_images.specs.Images.{keys_of}
 use Rattle.ov_keyfile.specs.KeyFile.{IsKeyFile}
+use Rattle.ov_keyfile.specs.declared.masters.Masters.{Masters as KeyMasters}
 use Rattle.ov_record.specs.Updates.{SealedUpdate}
 use Rattle.ov_script.specs.declared.command.Command.{Command}
 use Rattle.ov_script.specs.declared.command.Command.TheVariants.{Enrol, Create, Grant, Revoke}
 use Rattle.ov_script.specs.declared.command.Command.TheVariants.{Read, List as ListNames}
 use Rattle.ov_script.specs.declared.command.Command.TheVariants.{Epoch as AskEpoch}
 use Rattle.ov_script.specs.declared.reply.Reply.{Reply}
-use Rattle.ov_script.specs.declared.reply.Reply.TheVariants.{Accepted, Bytes, List as Listed}
-use Rattle.ov_script.specs.declared.reply.Reply.TheVariants.{Epoch as EpochIs, Refused, End}
-use Rattle.ov_history.specs.Briefs.{brief, text_of}
-use Rattle.ov_history.specs.Catalogue.{Catalogue, catalogue_after, empty_catalogue}
+use Rattle.ov_history.specs.Briefs.{brief}
+use Rattle.ov_history.specs.Catalogue.{Catalogue}
 use Rattle.ov_history.specs.Kept.{AreKept, IsKept}
+use Rattle.ov_history.specs.Layers.{layers_of}
 use Rattle.ov_history.specs.Masters.{Masters}
-use Rattle.ov_history.specs.Plain.{PlainHistory}
-use Rattle.ov_history.specs.Rewrites.{rewrites_of, stored_after}
+use Rattle.ov_history.specs.Plain.{PlainHistory, PlainUpdate, history_of, measured}
+use Rattle.ov_history.specs.Refusals.{refusal_of}
 use Rattle.ov_history.specs.Sealed.{refusal_shown}
-use Rattle.ov_model.specs.Step.{reply_to, after}
+use Rattle.ov_history.specs.Sealing.{sealed_update}
+use Rattle.ov_model.specs.Step.{reply_to, after, step, update}
+use Rattle.ov_store.specs.Opened.{Opened}
+use Rattle.overstore.specs.Disks.{Holds, IsDiskCall, KeepsStep}
+use Rattle.overstore.specs.declared.fault.BadTag.{BadTag}
+use Rattle.overstore.specs.declared.fault.StepFault.{StepFault}
+use Rattle.overstore.specs.declared.fault.StepFault.TheVariants.{Memory, Disk, Tag}
 
 -- the two masters, and the catalogue and the stored bytes that are kept under them
 pub record Kept : Type 0 where
@@ -26,10 +34,25 @@ pub record Kept : Type 0 where
   pub catalogue : Catalogue
   pub stored : List (List ℕ)
 
--- nobody is enrolled
-abbrev pub nothing : Masters → Mode → Kept
-nothing masters mode =
-    record { masters = masters; catalogue = empty_catalogue mode 0; stored = [] }
+-- what is kept, the disk on which it lasts, and whether a call of the disk failed in an update
+pub record KeptOn (D : Type 0) : Type 0 where
+  pub kept : Kept
+  pub disk : D
+  pub failed : Bool
+
+-- as an open store
+abbrev pub opened_of : {D : Type 0} → KeptOn D → Opened D
+opened_of m = record {
+  disk = m.disk;
+  keys = keys_of m.kept.masters;
+  catalogue = m.kept.catalogue;
+  stored = m.kept.stored;
+  failed = m.failed;
+}
+
+-- the masters as values
+abbrev pub plain_masters : KeyMasters → Masters
+plain_masters k = record { base = k.base.bytes; surface = k.surface.bytes }
 
 -- these are the masters of this key file
 abbrev pub AreMasters : List ℕ → Masters → Type 0
@@ -39,12 +62,6 @@ AreMasters file k = IsKeyFile file k.base k.surface
 -- masters.
 abbrev pub StandsFor : Kept → PlainHistory → Type 0
 StandsFor kept p = IsKept kept.masters p kept.catalogue × AreKept kept.masters p kept.stored
-
--- the command is answered with this reply, and what is kept stands for the history after it
-abbrev pub Steps : Kept → Command → Reply → Kept → Type 0
-Steps old command reply new =
-    (p : PlainHistory) → StandsFor old p
-    → (reply ≡ reply_to p command) × StandsFor new (after p command)
 
 -- a command that may come: a creation has no more bytes than a file may have
 abbrev pub IsCommand : Command → Type 0
@@ -56,25 +73,76 @@ IsCommand (Read user file) = Unit {0}
 IsCommand (ListNames file) = Unit {0}
 IsCommand AskEpoch = Unit {0}
 
--- ---- updates
+-- ---- what a command comes to
 
--- what is kept after one more update as it was sent
-abbrev pub after_update : Kept → SealedUpdate → Kept
-after_update old u = record {
-  masters = old.masters;
-  catalogue = catalogue_after old.masters.surface old.catalogue (brief u);
-  stored =
-      stored_after old.masters.surface (rewrites_of old.catalogue (brief u)) (text_of u) old.stored;
-}
+-- the command is answered with this reply, and leaves the history
+abbrev pub Replies : Kept → Command → Reply → Type 0
+Replies old command reply =
+    (p : PlainHistory) → StandsFor old p
+    → (reply ≡ reply_to p command) × (after p command ≡ p)
 
--- the update is made and the reply is the new epoch, or it is refused and nothing changes
-abbrev pub Applies : Kept → SealedUpdate → Reply → Kept → Type 0
-Applies old u (Accepted epoch) new =
-    (refusal_shown old.catalogue (brief u) ≡ None) × (epoch ≡ old.catalogue.epoch + 1)
-    × (new ≡ after_update old u)
-Applies old u (Refused why) new =
-    (refusal_shown old.catalogue (brief u) ≡ Some why) × (new ≡ old)
-Applies old u (Bytes user file bytes) new = ⊥
-Applies old u (Listed file names) new = ⊥
-Applies old u (EpochIs epoch) new = ⊥
-Applies old u (End epoch) new = ⊥
+-- The command asks at this history for a plain update. What is kept refuses the sent one as the
+-- history refuses the plain one, and where it doesn't, the sent one is the plain one as its owner
+-- seals it.
+pub record IsSentAt (old : Kept) (p : PlainHistory) (command : Command) (sent : SealedUpdate)
+    : Type 0 where
+  pub plain : PlainUpdate
+  pub asked : step p command ≡ update p plain
+  pub refused : refusal_shown old.catalogue (brief sent) ≡ refusal_of (history_of p) (measured plain)
+  pub sealed : refusal_of (history_of p) (measured plain) ≡ None
+      → sent ≡ sealed_update old.masters (layers_of (history_of p)) plain
+
+-- so it is at whatever history is kept
+abbrev pub Sends : Kept → Command → SealedUpdate → Type 0
+Sends old command sent = (p : PlainHistory) → StandsFor old p → IsSentAt old p command sent
+
+-- two tags that differ
+abbrev pub AreOtherTags : BadTag → Type 0
+AreOtherTags bad = bad.computed ≢ bad.stored
+
+-- ---- steps
+
+module _ {D : Type 0} (reads : D → Option Image) (may_leave : D → Image → Type 0)
+    (moment : D → ℕ) (left_since : D → ℕ → Image → Type 0) where
+  -- From a disk that holds the history, a crash at any moment leaves the history from before the
+  -- command or that after it; and so it is at the end.
+  pub record LeavesStep (k : Masters) (p : PlainHistory) (command : Command) (old new : D)
+      : Type 0 where
+    pub moments : LeavesOnly moment left_since old new (KeepsStep k p command)
+    pub now : (c : Image) → may_leave new c → KeepsStep k p command c
+
+  -- what is kept goes on as the history does, and so does the disk that holds it
+  pub record GoesOn (k : Masters) (p : PlainHistory) (command : Command) (old new : KeptOn D)
+      : Type 0 where
+    pub stands : StandsFor new.kept (after p command)
+    pub leaves : Holds reads may_leave k p old.disk → LeavesStep k p command old.disk new.disk
+    pub holds : Holds reads may_leave k p old.disk
+        → Holds reads may_leave k (after p command) new.disk
+
+  -- A command at a history for which what is kept stands. It is answered with the machine's reply,
+  -- and all goes on as the history does. Or a call of the disk failed: then it has the history from
+  -- before or from after the command. Or memory was refused, and all is as before. A wrong tag is
+  -- found at no history.
+  abbrev pub StepsAt : Masters → PlainHistory → Command → KeptOn D → KeptOn D
+      → Result Reply StepFault → Type 0
+  StepsAt k p command old new (Ok reply) =
+      (reply ≡ reply_to p command) × GoesOn k p command old new
+  StepsAt k p command old new (Err Disk) =
+      Holds reads may_leave k p old.disk → LeavesStep k p command old.disk new.disk
+  StepsAt k p command old new (Err Memory) = new ≡ old
+  StepsAt k p command old new (Err (Tag bad)) = ⊥
+
+  -- so it is at whatever history is kept
+  abbrev pub Steps : Command → KeptOn D → KeptOn D → Result Reply StepFault → Type 0
+  Steps command old new result =
+      (k : Masters) (p : PlainHistory) → old.kept.masters ≡ k → StandsFor old.kept p
+      → StepsAt k p command old new result
+
+-- Each step keeps the masters, and is a call on the disk. One that is answered leaves a store that
+-- hasn't failed so; and a tag that is said to be wrong is another one.
+pub record IsStep {D T : Type 0} (borrow faults : D → ℕ) (old new : KeptOn D)
+    (result : Result T StepFault) : Type 0 where
+  pub masters : new.kept.masters ≡ old.kept.masters
+  pub call : IsDiskCall borrow faults (result ≡ Err Disk) old.disk new.disk
+  pub sound : OnOk result (new.failed ≡ old.failed)
+  pub tag : (bad : BadTag) → result ≡ Err (Tag bad) → AreOtherTags bad

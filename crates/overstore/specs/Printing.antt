@@ -6,21 +6,17 @@ use Rattle.ov_script.specs.declared.command.Command.{Command}
 use Rattle.ov_script.specs.declared.reply.Reply.TheVariants.{End}
 use Rattle.ov_script.specs.Lines.{reply_line}
 use Rattle.ov_script.specs.Reading.{IsScript, BeginsScript, Ending, AtEnd, BadAt, TooLong}
-use Rattle.ov_base.specs.declared.mode.Mode.{Mode}
 use Rattle.ov_history.specs.History.{epoch_of}
-use Rattle.ov_history.specs.Plain.{PlainHistory, empty_plain, history_of}
+use Rattle.ov_history.specs.Plain.{PlainHistory, history_of}
 use Rattle.ov_model.specs.Lines.{lines}
 use Rattle.ov_model.specs.Step.{after_all}
 
--- the history of a store of this mode that begins with the run
-abbrev pub new_store : Mode → PlainHistory
-new_store mode = empty_plain mode 0
-
--- How a run ends: its key file is none, or the script was read to its ending and answered, a read
--- failed, or memory was refused.
+-- How a run ends whose disk opens: its key file is none, or the script was read to its ending and
+-- answered, a call of the disk or a read failed, or memory was refused.
 pub data Outcome : Type 0 where
   BadKeys : Outcome
   Answered : (ending : Ending) → Outcome
+  DiskFault : Outcome
   ReadFault : Outcome
   OutOfMemory : Outcome
 
@@ -30,6 +26,7 @@ status_of BadKeys = 10
 status_of (Answered AtEnd) = 0
 status_of (Answered (BadAt n)) = 3
 status_of (Answered TooLong) = 11
+status_of DiskFault = 4
 status_of ReadFault = 5
 status_of OutOfMemory = 7
 
@@ -40,6 +37,10 @@ usage_line = codes "error usage" ++ 10 ∷ []
 -- the line on a key file that is none
 abbrev pub keys_line : List ℕ
 keys_line = codes "error keys" ++ 10 ∷ []
+
+-- the line on a call of the disk that failed
+abbrev pub disk_line : List ℕ
+disk_line = codes "error disk" ++ 10 ∷ []
 
 -- the line on a read that failed
 abbrev pub read_line : List ℕ
@@ -63,30 +64,33 @@ last_line p AtEnd = reply_line (End (epoch_of (history_of p)))
 last_line p (BadAt n) = bad_line n
 last_line p TooLong = long_line
 
--- What a run over this script that ends so prints: the machine's lines to its commands, or to the
--- first of them, and then the last line; or the line on the key file alone.
-abbrev pub IsPrinted : Mode → List ℕ → Outcome → List ℕ → Type 0
-IsPrinted mode text BadKeys printed = printed ≡ keys_line
-IsPrinted mode text (Answered ending) printed =
+-- What a run over this script, from this history on, that ends so prints: the machine's lines to its
+-- commands, or to the first of them, and then the last line; or the line on the key file alone.
+abbrev pub IsPrinted : PlainHistory → List ℕ → Outcome → List ℕ → Type 0
+IsPrinted h text BadKeys printed = printed ≡ keys_line
+IsPrinted h text (Answered ending) printed =
     (commands : List Command) × IsScript text commands ending
     × (printed
-    ≡ lines (new_store mode) commands ++ last_line (after_all (new_store mode) commands) ending)
-IsPrinted mode text ReadFault printed =
+    ≡ lines h commands ++ last_line (after_all h commands) ending)
+IsPrinted h text DiskFault printed =
     (commands : List Command) × BeginsScript text commands
-    × (printed ≡ lines (new_store mode) commands ++ read_line)
-IsPrinted mode text OutOfMemory printed =
+    × (printed ≡ lines h commands ++ disk_line)
+IsPrinted h text ReadFault printed =
     (commands : List Command) × BeginsScript text commands
-    × (printed ≡ lines (new_store mode) commands ++ memory_line)
+    × (printed ≡ lines h commands ++ read_line)
+IsPrinted h text OutOfMemory printed =
+    (commands : List Command) × BeginsScript text commands
+    × (printed ≡ lines h commands ++ memory_line)
 
 -- all of it was put
-abbrev pub Prints : Mode → List ℕ → Outcome → Option (List ℕ) → Option (List ℕ) → Type 0
-Prints mode text outcome old new =
-    (printed : List ℕ) × IsPrinted mode text outcome printed × Appends old new printed
+abbrev pub Prints : PlainHistory → List ℕ → Outcome → Option (List ℕ) → Option (List ℕ) → Type 0
+Prints h text outcome old new =
+    (printed : List ℕ) × IsPrinted h text outcome printed × Appends old new printed
 
 -- a front of what some run over this script prints was put
-abbrev pub PrintsFront : Mode → List ℕ → Option (List ℕ) → Option (List ℕ) → Type 0
-PrintsFront mode text old new =
-    (outcome : Outcome) × (printed : List ℕ) × IsPrinted mode text outcome printed
+abbrev pub PrintsFront : PlainHistory → List ℕ → Option (List ℕ) → Option (List ℕ) → Type 0
+PrintsFront h text old new =
+    (outcome : Outcome) × (printed : List ℕ) × IsPrinted h text outcome printed
     × ((n : ℕ) × Appends old new (take n printed))
 
 -- The status is that of the script's ending, whichever that is, or one of these.
@@ -99,24 +103,30 @@ StatusIsOf text status Other =
 abbrev pub IsMemory : ℕ → Type 0
 IsMemory status = status ≡ 7
 
--- a read or a write failed, or memory was refused
+-- a read, a write or a call of the disk failed, or memory was refused
 abbrev pub IsFault : ℕ → Type 0
-IsFault status = (status ≡ 5) ⊎ ((status ≡ 6) ⊎ (status ≡ 7))
+IsFault status = (status ≡ 5) ⊎ ((status ≡ 6) ⊎ ((status ≡ 7) ⊎ (status ≡ 4)))
 
 -- the script was answered, to its end or to what ended it
 abbrev pub IsAnswered : ℕ → Type 0
 IsAnswered status = (status ≡ 0) ⊎ ((status ≡ 3) ⊎ (status ≡ 11))
 
--- a run that read its key file has one of these statuses
+-- a run over a store that was begun has one of these statuses: 12 is a wrong tag
 abbrev pub IsScriptStatus : ℕ → Type 0
-IsScriptStatus status = IsAnswered status ⊎ IsFault status
+IsScriptStatus status = IsAnswered status ⊎ (IsFault status ⊎ (status ≡ 12))
+
+-- the disk has no store of these keys and mode
+abbrev pub IsRefused : ℕ → Type 0
+IsRefused status = (status ≡ 8) ⊎ (status ≡ 9)
+
+-- a run that read its key file has one of these statuses
+abbrev pub IsStoreStatus : ℕ → Type 0
+IsStoreStatus status = IsRefused status ⊎ IsScriptStatus status
 
 -- a run that looked at its key file has one of these statuses
 abbrev pub IsKeysStatus : ℕ → Type 0
-IsKeysStatus status = (status ≡ 10) ⊎ IsScriptStatus status
+IsKeysStatus status = (status ≡ 10) ⊎ IsStoreStatus status
 
 -- a run has one of these statuses
 abbrev pub IsStatus : ℕ → Type 0
-IsStatus status =
-    (status ≡ 0)
-    ⊎ ((status ≡ 2) ⊎ ((status ≡ 3) ⊎ ((status ≡ 10) ⊎ ((status ≡ 11) ⊎ IsFault status))))
+IsStatus status = (status ≡ 2) ⊎ IsKeysStatus status

@@ -1,30 +1,62 @@
--- What a run promises of its status, its key file and its words.
-use Rattle.std.specs.Prelude.{◌≡◌, ◌⊎◌, ℕ, List, Option, IfSome}
+-- What a run promises: of what it prints, of its status, its key file, its words and its disk.
+use Rattle.std.specs.Prelude.{◌≡◌, ◌⊎◌, ℕ, List, Option, IfSome, String}
+use Rattle.std.specs.declared.alloc.Global.{Global}
 use Rattle.std.specs.Io.KnownBytes.{Appends}
 use Rattle.ov_base.specs.declared.mode.Mode.{Mode}
+use Rattle.ov_disk.specs.Disk.{Image, Told}
+use Rattle.ov_disk.specs.Moments.{LeavesOnly}
+use Rattle.ov_images.specs.Images.{StandsIn, keys_of}
 use Rattle.ov_keyfile.specs.KeyFile.{HasMasters}
 use Rattle.ov_script.specs.Reading.{AtEnd, BadAt, TooLong}
-use Rattle.overstore.specs.Answering.{EndsIn}
-use Rattle.overstore.specs.Printing.{Answered, ReadFault, OutOfMemory, Prints, PrintsFront}
+use Rattle.ov_history.specs.Masters.{Masters}
+use Rattle.ov_history.specs.Plain.{PlainHistory}
+use Rattle.ov_store.specs.Beginning.{IsBeginFault}
+use Rattle.ov_store.specs.declared.fault.BeginFault.{BeginFault}
+use Rattle.overstore.specs.Answering.{EndsIn, EndsOr}
+use Rattle.overstore.specs.Disks.{Lasts, OpensAs, Survives}
+use Rattle.overstore.specs.Faults.{fault_line, fault_status}
+use Rattle.overstore.specs.Machine.{AreMasters}
+use Rattle.overstore.specs.Printing.{Outcome, status_of}
+use Rattle.overstore.specs.Printing.{Answered, DiskFault, ReadFault, OutOfMemory, Prints, PrintsFront}
 use Rattle.overstore.specs.Printing.{keys_line, read_line, usage_line}
-use Rattle.overstore.specs.Printing.{IsAnswered, IsFault, IsMemory, StatusIsOf}
+use Rattle.overstore.specs.Printing.{IsAnswered, IsFault, IsMemory, IsRefused, IsStatus, StatusIsOf}
+use Rattle.overstore.specs.Words.{IsRun}
 
--- What a run over this script prints. With 0 it is the machine's lines to the whole script and the
--- end line, and nothing else; with 3 and 11 the same lines to the commands before, and then the
--- error line; with 5 and 7 the lines to the first commands, and then the error line; with 6 a front
--- of what some run over this script prints.
-pub record PrintsAs (mode : Mode) (text : List ℕ) (status : ℕ) (old new : Option (List ℕ))
+-- ---- what is printed
+
+-- What some outcome prints was put whole, and the status is the outcome's; or a front of it, and
+-- the status is 6.
+pub data Concluded (h : PlainHistory) (text : List ℕ) (old new : Option (List ℕ)) (status : ℕ)
     : Type 0 where
-  pub done : status ≡ 0 → Prints mode text (Answered AtEnd) old new
-  pub bad_line : status ≡ 3 → (n : ℕ) × Prints mode text (Answered (BadAt n)) old new
-  pub long : status ≡ 11 → Prints mode text (Answered TooLong) old new
-  pub read : status ≡ 5 → Prints mode text ReadFault old new
-  pub memory : status ≡ 7 → Prints mode text OutOfMemory old new
-  pub write : status ≡ 6 → PrintsFront mode text old new
+  whole : (outcome : Outcome) → status ≡ status_of outcome → Prints h text outcome old new
+      → Concluded h text old new status
+  part : status ≡ 6 → PrintsFront h text old new → Concluded h text old new status
+
+-- What a run over this script prints, from this history on. With 0 it is the machine's lines to the
+-- whole script and the end line, and nothing else; with 3 and 11 the same lines to the commands
+-- before, and then the error line; with 4, 5 and 7 the lines to the first commands, and then the
+-- error line; with 6 a front of what some run over this script prints.
+pub record PrintsAs (h : PlainHistory) (text : List ℕ) (status : ℕ) (old new : Option (List ℕ))
+    : Type 0 where
+  pub done : status ≡ 0 → Prints h text (Answered AtEnd) old new
+  pub bad_line : status ≡ 3 → (n : ℕ) × Prints h text (Answered (BadAt n)) old new
+  pub long : status ≡ 11 → Prints h text (Answered TooLong) old new
+  pub disk : status ≡ 4 → Prints h text DiskFault old new
+  pub read : status ≡ 5 → Prints h text ReadFault old new
+  pub memory : status ≡ 7 → Prints h text OutOfMemory old new
+  pub write : status ≡ 6 → PrintsFront h text old new
+
+-- The script alone decides the status, but for faults; and where no count of faults rose, but for
+-- memory that was refused.
+pub record IsDecided (text : List ℕ) (status : ℕ) (keys input out disk : Type 0) : Type 0 where
+  pub exact : StatusIsOf text status IsFault
+  pub complete : (keys → ⊥) → (input → ⊥) → (out → ⊥) → (disk → ⊥) → StatusIsOf text status IsMemory
+
+-- ---- the key file and the words
 
 -- What a run makes of the file that is to be its key file. The script is answered only with one,
--- and only without one the status is 10; without one the script stays as it is, and a run that the
--- words ask for ends in the line on the key file or in that on a failed read.
+-- and only without one the status is 10; without one the script and the disk stay as they are, and
+-- a run that the words ask for ends in the line on the key file or in that on a failed read.
 pub record JudgesKeys (asked : Type 0) (keys : Option (List ℕ)) (status : ℕ)
     (old new : Option (List ℕ)) (untouched : Type 0) : Type 0 where
   pub masters : IsAnswered status → IfSome keys HasMasters
@@ -34,21 +66,68 @@ pub record JudgesKeys (asked : Type 0) (keys : Option (List ℕ)) (status : ℕ)
   pub ends : asked → IfSome keys (λ file. (HasMasters file → ⊥)
       → EndsIn keys_line 10 old new status ⊎ EndsIn read_line 5 old new status)
 
--- Other words are refused with the line on them, and both files stay as they are.
+-- Other words are refused with the line on them, and all files stay as they are.
 pub record RefusesWords (other : Type 0) (status : ℕ) (old new : Option (List ℕ))
     (untouched : Type 0) : Type 0 where
   pub usage : status ≡ 2 → other × Appends old new usage_line
   pub ends : other → EndsIn usage_line 2 old new status
   pub unread : other → untouched
 
--- The script alone decides the status, but for faults; and where no count of faults rose, but for
--- memory that was refused.
-pub record IsDecided (text : List ℕ) (status : ℕ) (keys input out : Type 0) : Type 0 where
-  pub exact : StatusIsOf text status IsFault
-  pub complete : (keys → ⊥) → (input → ⊥) → (out → ⊥) → StatusIsOf text status IsMemory
-
--- A failed read is answered only where a count of what is read rose, and a failed write only where
--- that of the sink did.
-pub record FailsForFaults (status : ℕ) (reads writes : Type 0) : Type 0 where
+-- The status is one of those that a run has. A call of the disk is said to have failed only where
+-- its count of faults rose, a read only where a count of what is read did, and a write only where
+-- that of the sink did; and a tag to be wrong only with the line on it.
+pub record FailsForFaults (status : ℕ) (disks reads writes tags : Type 0) : Type 0 where
+  pub some : IsStatus status
+  pub tag : status ≡ 12 → tags
+  pub disk : status ≡ 4 → disks
   pub read : status ≡ 5 → reads
   pub write : status ≡ 6 → writes
+
+-- ---- the disk
+
+-- What a run under these masters makes of the image that its disk reads. With 8 and 9 it says why
+-- the image doesn't open. Where the image stands for no history of this mode under these keys, so it
+-- says, or that memory was refused, or a failed read of the key file; and a crash leaves what it
+-- might have left at the start.
+pub record JudgesImage (k : Masters) (mode : Mode) (i : Image) (status : ℕ)
+    (old new : Option (List ℕ)) (nothing_written : Type 0) : Type 0 where
+  pub refused : IsRefused status → (fault : BeginFault) × IsBeginFault (keys_of k) mode i fault
+      × (status ≡ fault_status fault) × Appends old new (fault_line fault)
+  pub ends : (StandsIn (keys_of k) mode i → ⊥)
+      → ((fault : BeginFault) × IsBeginFault (keys_of k) mode i fault
+      × EndsOr (fault_line fault) (fault_status fault) old new status)
+      ⊎ EndsIn read_line 5 old new status
+  pub unwritten : (StandsIn (keys_of k) mode i → ⊥) → nothing_written
+
+module _ {D : Type 0} (reads : D → Option Image) (may_leave : D → Image → Type 0)
+    (moment : D → ℕ) (left_since : D → ℕ → Image → Type 0) where
+  -- a crash at any moment leaves what it might have left at the start
+  abbrev pub LeavesAsAtStart : D → D → Type 0
+  LeavesAsAtStart first last = LeavesOnly moment left_since first last (may_leave first)
+
+  -- how a run ends over this script, from a disk that stands for the history where this holds
+  pub record EndsAs (k : Masters) (p : PlainHistory) (text : List ℕ) (first last : D)
+      (old new : Option (List ℕ)) (status : ℕ) (holds : Type 0) : Type 0 where
+    pub concluded : Concluded p text old new status
+    pub survives : holds → Survives reads may_leave moment left_since k p text first last old new
+    pub lasts : holds → status ≡ 0 → Lasts reads may_leave k p text last
+
+-- ---- from where
+
+-- This holds in the mode of the words, under the masters of the key file, for the script and for
+-- each history as which the disk opens for them.
+abbrev pub FromEach : {D : Type 0} → (reads : D → Option Image) → (may_leave : D → Image → Type 0)
+    → D → List (String Global) → Option (List ℕ) → Option (List ℕ)
+    → (Masters → PlainHistory → List ℕ → Type 0) → Type 0
+FromEach reads may_leave disk words keys input P =
+    (mode : Mode) → IsRun mode words → IfSome keys (λ file. IfSome input (λ text.
+    (k : Masters) (p : PlainHistory) → AreMasters file k → OpensAs reads may_leave k mode p disk
+    → P k p text))
+
+-- this holds in the mode of the words, under the masters of the key file, for the image that the
+-- disk reads
+abbrev pub ForImage : Option Image → List (String Global) → Option (List ℕ)
+    → (Masters → Mode → Image → Type 0) → Type 0
+ForImage image words keys P =
+    (mode : Mode) → IsRun mode words → IfSome keys (λ file.
+    (k : Masters) → AreMasters file k → Told image (P k mode))

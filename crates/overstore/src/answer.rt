@@ -1,20 +1,25 @@
 //! A script, answered command by command.
-ghost use Rattle.std.specs.Prelude.{◌≡◌, ◌≤◌, IfSome, None, Some};
+ghost use Rattle.std.specs.Prelude.{◌≡◌, ◌≤◌, false, IfNone, IfSome, Some};
 ghost use Rattle.ov_base.specs.Causes.{Rose};
 ghost use Rattle.ov_io.specs.Calls.{IsCallOf};
+ghost use Rattle.ov_history.specs.Masters.{Masters};
 ghost use Rattle.ov_history.specs.Plain.{PlainHistory};
 ghost use Rattle.ov_script.specs.Lines.{reply_line};
 ghost use Rattle.ov_script.specs.Place.{start, text_left};
-ghost use Rattle.overstore.specs.Machine.{nothing, IsCommand, StandsFor};
-ghost use Rattle.overstore.specs.Answering.{PutsOr, Answers, Stops};
+ghost use Rattle.overstore.specs.Answering.{Answers, Grows, IsPut, PutsOr, Stops, stop_for};
+ghost use Rattle.overstore.specs.Disks.{IsDiskCall};
+ghost use Rattle.overstore.specs.Machine.{AreOtherTags, IsCommand, StandsFor};
+ghost use Rattle.overstore.specs.declared.fault.BadTag.{BadTag};
 
+use crate::fault::{BadTag, StepFault};
 use crate::machine::Machine;
+use ov_disk::Disk;
 use ov_io::{Sink, Source};
 use ov_script::{Command, Next, Reply, Script, ScriptFault, line};
 use std::alloc::Global;
 
 /// Why the answering stopped.
-#[derive(Clone, Copy, Debug, PartialEq, Eq)]
+#[derive(Drop)]
 pub enum Stop {
     /// The script ended.
     End,
@@ -26,8 +31,12 @@ pub enum Stop {
     Read,
     /// A write failed.
     Write,
+    /// A call of the disk failed.
+    Disk,
     /// Memory was refused.
     Memory,
+    /// The tag of a file that was read is wrong.
+    Tag(BadTag),
 }
 
 // Puts a reply line, for which `buffer` is used, or says what stopped it.
@@ -35,7 +44,6 @@ fn put_reply<O: Sink>(reply: &Reply, buffer: &mut Vec<u8>, out: &mut O) -> Optio
     ensures put { PutsOr result (O.written out.old) (O.written out.new) (reply_line reply.now) }
     ensures later { O.faults out.old ≤ O.faults out.new }
     ensures write { result ≡ Some Stop.Write → Rose (O.faults out.old) (O.faults out.new) }
-    ensures never_read { result ≡ Some Stop.Read → ⊥ }
 {
     buffer.clear();
     match line(reply, buffer) {
@@ -47,46 +55,65 @@ fn put_reply<O: Sink>(reply: &Reply, buffer: &mut Vec<u8>, out: &mut O) -> Optio
     }
 }
 
-// Answers one command.
-fn answer<O: Sink>(
+// Why a command that isn't answered stops the answering.
+fn stop_of(fault: StepFault) -> Stop
+    ensures { result ≡ stop_for fault }
+{
+    match fault {
+        StepFault::Disk => Stop::Disk,
+        StepFault::Memory => Stop::Memory,
+        StepFault::Tag(bad) => Stop::Tag(bad),
+    }
+}
+
+// Answers one command. The update is on the disk before its reply line is put.
+fn answer<D: Disk, O: Sink>(
     command: Command,
-    machine: &mut Machine,
+    machine: &mut Machine<D>,
     buffer: &mut Vec<u8>,
     out: &mut O,
 ) -> Option<Stop>
     requires command { IsCommand command }
-    requires stands { (p : PlainHistory) × StandsFor machine.old p }
-    ensures answer { (p : PlainHistory) → StandsFor machine.old p →
-        Answers p command result (O.written out.old) (O.written out.new) machine.new }
-    ensures masters { machine.new.masters ≡ machine.old.masters }
-    ensures later { O.faults out.old ≤ O.faults out.new }
-    ensures write { result ≡ Some Stop.Write → Rose (O.faults out.old) (O.faults out.new) }
-    ensures never_read { result ≡ Some Stop.Read → ⊥ }
+    requires healthy { machine.old.failed ≡ false }
+    ensures answer { (k : Masters) (p : PlainHistory) → machine.old.kept.masters ≡ k
+        → StandsFor machine.old.kept p
+        → Answers D.reads D.may_leave D.moment D.left_since k p command result
+        (O.written out.old) (O.written out.new) machine.old machine.new }
+    ensures masters { machine.new.kept.masters ≡ machine.old.kept.masters }
+    ensures healthy { IfNone result (machine.new.failed ≡ false) }
+    ensures disk { IsDiskCall D.borrow D.faults (result ≡ Some Stop.Disk)
+        machine.old.disk machine.new.disk }
+    ensures sink { IsPut (O.faults out.old) (O.faults out.new) result }
+    ensures grew { Grows (O.written out.old) (O.written out.new) }
 {
     let alloc = *buffer.allocator();
     match machine.step(alloc, command) {
         Ok(reply) => put_reply(&reply, buffer, out),
-        Err(_) => Some(Stop::Memory),
+        Err(fault) => Some(stop_of(fault)),
     }
 }
 
 /// Answers a script from its first line.
-pub fn answer_all<S: Source + Drop, O: Sink>(
+pub fn answer_all<S: Source + Drop, O: Sink, D: Disk>(
     alloc: Global,
     script: &mut Script<S>,
-    machine: &mut Machine,
+    machine: &mut Machine<D>,
     out: &mut O,
 ) -> Stop
     requires start { script.old ≡ start script.old.source }
-    requires nothing { machine.old ≡ nothing machine.old.masters machine.old.catalogue.mode }
-    ensures stop { let mode = machine.old.catalogue.mode in
-        IfSome (text_left S.left script.old) (λ text.
-        Stops mode text result (O.written out.old) (O.written out.new) machine.new) }
-    ensures masters { machine.new.masters ≡ machine.old.masters }
+    requires healthy { machine.old.failed ≡ false }
+    ensures stop { (p : PlainHistory) → StandsFor machine.old.kept p
+        → IfSome (text_left S.left script.old) (λ text.
+        Stops D.reads D.may_leave D.moment D.left_since machine.old.kept.masters p text result
+        (O.written out.old) (O.written out.new) machine.old machine.new) }
     ensures source { IsCallOf S.borrow S.faults (result ≡ Stop.Read)
         script.old.source script.new.source }
+    ensures disk { IsDiskCall D.borrow D.faults (result ≡ Stop.Disk)
+        machine.old.disk machine.new.disk }
     ensures later { O.faults out.old ≤ O.faults out.new }
     ensures write { result ≡ Stop.Write → Rose (O.faults out.old) (O.faults out.new) }
+    ensures tag { (bad : BadTag) → result ≡ Stop.Tag bad → AreOtherTags bad }
+    ensures grew { Grows (O.written out.old) (O.written out.new) }
 {
     let mut buffer = Vec::new(alloc);
     'items: loop {

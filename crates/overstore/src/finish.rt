@@ -3,14 +3,18 @@ ghost use Rattle.std.specs.Prelude.{◌≡◌, ◌≢◌, ◌⊎◌, ◌≤◌};
 ghost use Rattle.ov_base.specs.Causes.{Rose};
 ghost use Rattle.ov_script.specs.Lines.{reply_line};
 ghost use Rattle.ov_script.specs.declared.reply.Reply.TheVariants.{End as EndReply};
-ghost use Rattle.overstore.specs.Answering.{EndsIn, Finishes};
+ghost use Rattle.overstore.specs.Answering.{EndsIn, EndsOr, Finishes};
+ghost use Rattle.overstore.specs.Faults.{fault_line, fault_status, tag_line};
 ghost use Rattle.overstore.specs.Printing.{bad_line, memory_line};
 ghost use Rattle.overstore.specs.Status.{status_code};
 
 use crate::answer::Stop;
+use crate::fault::BadTag;
+use crate::fault_lines::{line_on_fault, line_on_tag, status_of};
 use crate::status::Status;
 use ov_io::Sink;
 use ov_script::{Reply, line};
+use ov_store::BeginFault;
 use std::alloc::Global;
 
 /// Puts the last line, and gives its status where that succeeds.
@@ -38,9 +42,8 @@ fn put_memory<O: Sink>(out: &mut O) -> u8
 
 // Puts the end line, or the one that says that memory was refused for it.
 fn put_end<O: Sink>(alloc: Global, out: &mut O, epoch: u32) -> u8
-    ensures ends { EndsIn (reply_line (EndReply epoch)) 0
-        (O.written out.old) (O.written out.new) result
-        ⊎ EndsIn memory_line 7 (O.written out.old) (O.written out.new) result }
+    ensures ends { EndsOr (reply_line (EndReply epoch)) 0
+        (O.written out.old) (O.written out.new) result }
     ensures later { O.faults out.old ≤ O.faults out.new }
     ensures write { result ≡ 6 → Rose (O.faults out.old) (O.faults out.new) }
 {
@@ -53,13 +56,37 @@ fn put_end<O: Sink>(alloc: Global, out: &mut O, epoch: u32) -> u8
 
 // Puts the line that names a bad line, or the one that says that memory was refused for it.
 fn put_bad_line<O: Sink>(alloc: Global, out: &mut O, number: u64) -> u8
-    ensures ends { EndsIn (bad_line number) 3 (O.written out.old) (O.written out.new) result
-        ⊎ EndsIn memory_line 7 (O.written out.old) (O.written out.new) result }
+    ensures ends { EndsOr (bad_line number) 3 (O.written out.old) (O.written out.new) result }
     ensures later { O.faults out.old ≤ O.faults out.new }
     ensures write { result ≡ 6 → Rose (O.faults out.old) (O.faults out.new) }
 {
     match format!(in alloc; "error line {number}\n") {
         Ok(text) => put_last(out, text.as_bytes(), Status::BadLine),
+        Err(_) => put_memory(out),
+    }
+}
+
+// Puts the line on a file whose tag is wrong, or the one that says that memory was refused for it.
+fn put_tag<O: Sink>(alloc: Global, out: &mut O, bad: &BadTag) -> u8
+    ensures ends { EndsOr (tag_line bad.now) 12 (O.written out.old) (O.written out.new) result }
+    ensures later { O.faults out.old ≤ O.faults out.new }
+    ensures write { result ≡ 6 → Rose (O.faults out.old) (O.faults out.new) }
+{
+    match line_on_tag(alloc, bad) {
+        Ok(bytes) => put_last(out, &bytes, Status::WrongTag),
+        Err(_) => put_memory(out),
+    }
+}
+
+/// Puts the line on a disk that doesn't open, or the one that says that memory was refused for it.
+pub fn put_fault<O: Sink>(alloc: Global, out: &mut O, fault: BeginFault) -> u8
+    ensures ends { EndsOr (fault_line fault) (fault_status fault)
+        (O.written out.old) (O.written out.new) result }
+    ensures later { O.faults out.old ≤ O.faults out.new }
+    ensures write { result ≡ 6 → Rose (O.faults out.old) (O.faults out.new) }
+{
+    match line_on_fault(alloc, fault) {
+        Ok(bytes) => put_last(out, &bytes, status_of(fault)),
         Err(_) => put_memory(out),
     }
 }
@@ -75,7 +102,9 @@ pub fn finish<O: Sink>(alloc: Global, stop: Stop, epoch: u32, out: &mut O) -> u8
         Stop::BadLine(number) => put_bad_line(alloc, out, number),
         Stop::Long => put_last(out, b"error long\n", Status::Long),
         Stop::Read => put_last(out, b"error read\n", Status::ReadFault),
+        Stop::Disk => put_last(out, b"error disk\n", Status::DiskFault),
         Stop::Write => Status::WriteFault.code(),
         Stop::Memory => put_memory(out),
+        Stop::Tag(bad) => put_tag(alloc, out, &bad),
     }
 }

@@ -1,89 +1,92 @@
-//! The access-matrix machine over a catalogue, for who has both masters.
-ghost use Rattle.std.specs.Prelude.{◌≡◌, ◌<◌, ◌≤◌, slice_index_or, length, [], None, IfOk, OnErr};
-ghost use Rattle.ov_base.specs.declared.limits.TheConstants.{MAX_FILE_BYTES};
+//! The access-matrix machine over a store, for who has both masters.
+ghost use Rattle.std.specs.Prelude.{◌≡◌, None, false};
 ghost use Rattle.ov_history.specs.Briefs.{brief};
 ghost use Rattle.ov_history.specs.Catalogue.{outline};
-ghost use Rattle.ov_history.specs.Plain.{PlainHistory};
 ghost use Rattle.ov_history.specs.Sealed.{HasParts, refusal_shown};
+ghost use Rattle.ov_images.specs.Images.{keys_of};
 ghost use Rattle.ov_record.specs.Updates.{sealed_update};
+ghost use Rattle.ov_script.specs.declared.command.Command.{Command};
 ghost use Rattle.ov_state.specs.Plans.{IsFitting};
-ghost use Rattle.overstore.specs.Machine.{nothing, Applies, IsCommand, StandsFor, Steps};
+ghost use Rattle.overstore.specs.Machine.{IsCommand, IsStep, Sends, Steps, opened_of};
+ghost use Rattle.overstore.specs.Machine.{plain_masters};
 
-use ov_base::{Memory, Mode};
+use crate::fault::StepFault;
+use ov_disk::Disk;
 use ov_keyfile::Masters;
 use ov_record::Update;
 use ov_script::{Command, Reply};
-use ov_state::{Catalogue, PrepareFault, WIDTH};
-use ov_vault::CatalogueVault;
+use ov_state::{Catalogue, WIDTH};
+use ov_store::{Store, StoreFault};
 use std::alloc::Global;
 use std::marker::Model;
 
-/// The two masters, and the catalogue and the stored bytes that are kept under them: the owner, the
-/// readers and the server in one.
+/// The two masters, and the store that is kept under them: the owner, the readers and the server in
+/// one.
 #[derive(Drop)]
-pub struct Machine {
+pub struct Machine<D: Disk> {
     pub masters: Masters,
-    vault: CatalogueVault,
+    pub(crate) store: Store<D>,
 }
 
-impl Model for Machine {
-    ghost use Rattle.overstore.specs.Machine.{Kept};
+impl<D: Disk> Model for Machine<D> {
+    ghost use Rattle.std.specs.Prelude.{◌≡◌};
+    ghost use Rattle.ov_images.specs.Images.{keys_of};
+    ghost use Rattle.overstore.specs.Machine.{KeptOn, plain_masters};
 
-    ghost Value = { Kept };
+    ghost Value = { KeptOn D };
 
     ghost view = { λ m. record {
-      masters = record { base = m.masters.base.bytes; surface = m.masters.surface.bytes };
-      catalogue = m.vault.catalogue;
-      stored = m.vault.stored;
+      kept = record {
+        masters = plain_masters m.masters;
+        catalogue = m.store.catalogue;
+        stored = m.store.stored;
+      };
+      disk = m.store.disk;
+      failed = m.store.failed;
     } };
+
+    ghost invariant = { λ m. m.store.keys ≡ keys_of (plain_masters m.masters) };
 }
 
-impl Machine {
-    /// Nobody is enrolled; these are the masters.
-    pub fn new(alloc: Global, masters: Masters, mode: Mode) -> Result<Machine, Memory>
-        ensures { IfOk result (λ machine. machine ≡ nothing
-            (record { base = masters.base.bytes; surface = masters.surface.bytes }) mode) }
+impl<D: Disk> Machine<D> {
+    /// The machine over a store that was opened under these masters.
+    pub fn of(masters: Masters, store: Store<D>) -> Machine<D>
+        requires { store.keys ≡ keys_of (plain_masters masters) }
+        ensures masters { result.kept.masters ≡ plain_masters masters }
+        ensures store { opened_of result ≡ store }
     {
-        Ok(Machine {
-            masters,
-            vault: CatalogueVault::new(alloc, mode, 0)?,
-        })
+        Machine { masters, store }
     }
 
     /// The catalogue.
     pub fn catalogue(&self) -> &Catalogue
-        ensures { result.now.catalogue ≡ self.now.catalogue }
+        ensures { result.now.catalogue ≡ self.now.kept.catalogue }
     {
-        self.vault.catalogue()
-    }
-
-    /// The stored bytes of a file.
-    pub fn stored(&self, file: u32) -> &[u8]
-        requires { file < length self.now.catalogue.files }
-        ensures bytes { result.now ≡ slice_index_or self.now.stored file [] }
-        ensures few { length result.now ≤ MAX_FILE_BYTES }
-    {
-        self.vault.known();
-        match self.vault.stored(file) {
-            Some(bytes) => bytes.as_slice(),
-            None => unreachable!(),
-        }
+        self.store.state()
     }
 
     /// The epoch.
     pub fn epoch(&self) -> u32
-        ensures { result ≡ self.now.catalogue.epoch }
+        ensures { result ≡ self.now.kept.catalogue.epoch }
     {
         self.catalogue().epoch()
     }
 
+    /// Gives the disk back.
+    pub fn into_disk(self) -> D
+        ensures { result ≡ self.disk }
+    {
+        let Machine { masters: _, store } = self;
+        store.close()
+    }
+
     /// One step, at whatever history the machine stands for.
-    pub fn step(&mut self, alloc: Global, command: Command) -> Result<Reply, Memory>
+    pub fn step(&mut self, alloc: Global, command: Command) -> Result<Reply, StepFault>
         requires command { IsCommand command }
-        requires stands { (p : PlainHistory) × StandsFor self.old p }
-        ensures ok { IfOk result (λ reply. Steps self.old command reply self.new) }
-        ensures masters { self.new.masters ≡ self.old.masters }
-        ensures err { OnErr result (self.new ≡ self.old) }
+        requires healthy { self.old.failed ≡ false }
+        ensures steps { Steps D.reads D.may_leave D.moment D.left_since
+            command self.old self.new result }
+        ensures step { IsStep D.borrow D.faults self.old self.new result }
     {
         match command {
             Command::Enrol { user } => self.enrol(alloc, user),
@@ -97,22 +100,23 @@ impl Machine {
     }
 
     /// Makes an update as its owner sent it, or answers why it is refused.
-    pub fn apply(&mut self, alloc: Global, update: Update<WIDTH>) -> Result<Reply, Memory>
+    pub fn apply(&mut self, alloc: Global, update: Update<WIDTH>) -> Result<Reply, StepFault>
+        requires healthy { self.old.failed ≡ false }
         requires fitting { IsFitting (brief (sealed_update update)) }
         requires parts { let b = brief (sealed_update update) in
-            refusal_shown self.old.catalogue b ≡ None → HasParts (outline self.old.catalogue) b }
-        ensures ok { IfOk result (λ reply. Applies self.old (sealed_update update) reply self.new) }
-        ensures masters { self.new.masters ≡ self.old.masters }
-        ensures err { OnErr result (self.new ≡ self.old) }
+            let c = self.old.kept.catalogue in
+            refusal_shown c b ≡ None → HasParts (outline c) b }
+        ensures steps { (command : Command) → Sends self.old.kept command (sealed_update update)
+            → Steps D.reads D.may_leave D.moment D.left_since command self.old self.new result }
+        ensures step { IsStep D.borrow D.faults self.old self.new result }
     {
-        match self.vault.prepare(alloc, &self.masters.surface, update) {
-            Ok(prepared) => {
-                self.vault.commit(prepared);
-                Ok(Reply::Accepted(self.epoch()))
-            }
-            Err(PrepareFault::Refused(why)) => Ok(Reply::Refused(why)),
-            Err(PrepareFault::BadPlan { at: _ }) => unreachable!(),
-            Err(PrepareFault::Memory) => Err(Memory),
+        match self.store.update(alloc, update) {
+            Ok(epoch) => Ok(Reply::Accepted(epoch)),
+            Err(StoreFault::Refused(why)) => Ok(Reply::Refused(why)),
+            Err(StoreFault::BadPlan { at: _ }) => unreachable!(),
+            Err(StoreFault::Failed) => unreachable!(),
+            Err(StoreFault::Disk) => Err(StepFault::Disk),
+            Err(StoreFault::Memory) => Err(StepFault::Memory),
         }
     }
 }

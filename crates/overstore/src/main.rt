@@ -1,24 +1,27 @@
 //! The program `overstore`: a script comes in on standard input, and its reply lines go out.
 //!
 //! `overstore run full` and `overstore run delta` answer a script of commands, line by line, from
-//! a store that begins empty, under the masters of the key file in its folder. The contract of
-//! [`run`] says what it prints for every script; `main` makes the real sources and the sink, calls
-//! it, and ends with the status that it gives.
+//! the store in the program's folder, under the masters of the key file there. The contract of
+//! [`run`] says what it prints for every script, and what a stop leaves; `main` makes the real
+//! sources, the sink and the disk, calls it, and ends with the status that it gives.
 //!
 //! | module | what it does |
 //! |---|---|
 //! | `run` | the top call, and its contract |
 //! | `answer` | the loop over the script's commands |
 //! | `finish` | the last line |
-//! | `machine` | the access-matrix machine over a catalogue |
+//! | `fault_lines` | the lines on a disk that doesn't open, and on a wrong tag |
+//! | `machine` | the access-matrix machine over a store |
 //! | `owner` | updates, as their owner finds and sends them |
 //! | `sealing` | what an owner seals, from plain values |
 //! | `reader` | files and lists, as readers are given them |
 //! | `opening` | what a reader opens, with plain keys |
-//! | `status` | the exit statuses |
+//! | `fault`, `status` | why a command isn't answered; the exit statuses |
 #![tactic(auto)]
 
 mod answer;
+mod fault;
+mod fault_lines;
 mod finish;
 mod machine;
 mod opening;
@@ -31,10 +34,12 @@ mod status;
 mod tests;
 
 use finish::put_last;
+use ov_disk::FileDisk;
 use ov_io::{FileSource, StdSink, StdSource};
 use run::run;
 use status::Status;
 use std::env;
+use std::fs::File;
 use std::io::{self, ErrorKind};
 use std::process::ExitCode;
 
@@ -58,16 +63,26 @@ LIST is names with commas between them, or `-` for nobody.
 Where a command isn't accepted the reply is `refused NUMBER REASON`. The masters
 are read from `keys.hex` in this folder: two lines of 64 hexadecimal digits.
 
+The store is in this folder too, in `store.book` and `store.blobs`; the first run
+makes them. An update is on the disk before its `ok` is put, so that what was
+answered outlasts a stop.
+
 The last line is `end epoch EPOCH`, or `error ..` where the script could not be
 answered to its end. Exit status: 0 answered, 2 words not known, 3 bad line,
-5 read failed or no `keys.hex`, 6 write failed, 7 out of memory, 10 `keys.hex` is
-no key file, 11 script too long.
+4 disk failed, 5 read failed or no `keys.hex`, 6 write failed, 7 out of memory,
+8 `store.book` is damaged or no store, 9 it is of other keys or the other mode,
+10 `keys.hex` is no key file, 11 script too long, 12 a file's tag is wrong.
 ";
 
-const VERSION: &str = "overstore 0.3.0\n";
+const VERSION: &str = "overstore 0.4.0\n";
 
 // The file of the two masters, in the folder where the program runs.
 const KEY_FILE: &str = "keys.hex";
+
+// The store's two files, in the same folder.
+const BOOK_FILE: &str = "store.book";
+
+const BLOBS_FILE: &str = "store.blobs";
 
 // The words behind the program's name.
 fn words_of(rt: &HostRuntime) -> io::Result<Vec<String>> {
@@ -116,13 +131,34 @@ fn answer_words(rt: &HostRuntime, words: &[String]) -> u8 {
             let Ok(mut keys) = FileSource::new(*rt, KEY_FILE) else {
                 return put_last(&mut out, b"error memory\n", Status::OutOfMemory);
             };
+            let Ok(mut disk) = FileDisk::new(*rt, BOOK_FILE, BLOBS_FILE) else {
+                return put_last(&mut out, b"error memory\n", Status::OutOfMemory);
+            };
             let mut input = StdSource::new(rt.stdin());
-            run(rt.alloc(), words, &mut keys, &mut input, &mut out)
+            run(
+                rt.alloc(),
+                words,
+                &mut keys,
+                &mut input,
+                &mut out,
+                &mut disk,
+            )
         }
     }
 }
 
+// Takes the places of standard streams that are closed, so that no file of the store comes to stand
+// there. Where they are open it takes three places that nobody uses.
+fn held_places(rt: &HostRuntime) -> (io::Result<File>, io::Result<File>, io::Result<File>) {
+    (
+        File::open(rt, "."),
+        File::open(rt, "."),
+        File::open(rt, "."),
+    )
+}
+
 fn main(rt: HostRuntime) -> ExitCode {
+    let _held = held_places(&rt);
     let code = match words_of(&rt) {
         Ok(words) => answer_words(&rt, &words),
         Err(error) if error.kind() == ErrorKind::OutOfMemory => Status::OutOfMemory.code(),

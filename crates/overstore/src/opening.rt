@@ -1,39 +1,38 @@
 //! Files as readers open them, with the keys that they have.
-ghost use Rattle.std.specs.Prelude.{◌≡◌, ◌≤◌, length, IfOk};
+ghost use Rattle.std.specs.Prelude.{◌≡◌, ◌≤◌, length};
 ghost use Rattle.std.specs.Option.{option_copied};
 ghost use Rattle.ov_base.specs.declared.limits.TheConstants.{MAX_FILE_BYTES};
 ghost use Rattle.ov_surface.specs.Coats.{key_bytes};
 ghost use Rattle.overstore.specs.Opening.{surface_along, IsOpenedAs};
 
-use ov_base::{Key, Memory, Octets};
+use ov_base::{Key, Octets};
 use ov_chain::walk;
 use ov_keyed::same;
 use ov_surface::{base_encrypt, file_tag, reencrypt};
 use ov_tokens::{Chain, Layer, Surface};
-use std::alloc::Global;
 
-/// The bytes of file `number` for a reader with these keys, or None where the stored tag isn't
-/// theirs. Both coats come off a copy of what is stored.
+/// The bytes of file `number` for a reader with these keys, or the tag of what is found, where the
+/// stored one isn't it. Both coats come off where the bytes lie.
 pub fn open(
-    alloc: Global,
     access: &Key,
     surface: Option<&Key>,
     number: u32,
     tag: &[u8; 32],
-    stored: &[u8],
-) -> Result<Option<Octets>, Memory>
-    requires { length stored.now ≤ MAX_FILE_BYTES }
-    ensures { IfOk result (IsOpenedAs access.now.bytes
-        (key_bytes (option_copied surface.entry)) number tag.now stored.now) }
+    stored: Vec<u8>,
+) -> Result<Octets, [u8; 32]>
+    requires { length stored.items ≤ MAX_FILE_BYTES }
+    ensures { IsOpenedAs access.now.bytes
+        (key_bytes (option_copied surface.entry)) number tag.now stored.items result }
 {
-    let mut bytes = stored.to_vec(alloc)?;
+    let mut bytes = stored;
     reencrypt(surface, None, number, 0, &mut bytes);
     base_encrypt(access, number, 0, &mut bytes);
     let octets = Octets::from_vec(bytes);
-    if same(&file_tag(access, number, octets.as_slice()), tag) {
-        Ok(Some(octets))
+    let computed = file_tag(access, number, octets.as_slice());
+    if same(&computed, tag) {
+        Ok(octets)
     } else {
-        Ok(None)
+        Err(computed)
     }
 }
 

@@ -1,5 +1,5 @@
 //! Updates, as their owner finds and sends them.
-ghost use Rattle.std.specs.Prelude.{◌≡◌, ◌<◌, ◌≤◌, false, length, IfNone, IfOk, IfSome, OnErr};
+ghost use Rattle.std.specs.Prelude.{◌≡◌, ◌<◌, ◌≤◌, false, length, IfNone, IfOk, IfSome};
 ghost use Rattle.ov_base.specs.Sets.{within};
 ghost use Rattle.ov_base.specs.declared.limits.TheConstants.{MAX_FILE_BYTES};
 ghost use Rattle.ov_history.specs.Catalogue.{matrix_shown, outline};
@@ -9,12 +9,14 @@ ghost use Rattle.ov_history.specs.Sealing.{sealed_update as sealed_by_owner};
 ghost use Rattle.ov_record.specs.Updates.{sealed_update};
 ghost use Rattle.ov_script.specs.declared.command.Command.TheVariants.{Enrol, Create};
 ghost use Rattle.ov_script.specs.declared.command.Command.TheVariants.{Grant, Revoke};
-ghost use Rattle.overstore.specs.Machine.{Steps};
+ghost use Rattle.overstore.specs.Machine.{IsStep, Steps};
 ghost use Rattle.overstore.specs.Owner.{FindsBoth, IsCreation};
 
+use crate::fault::StepFault;
 use crate::machine::Machine;
 use crate::sealing::{sealed_creation, sealed_grant};
 use ov_base::{Memory, Name, Names, Octets, Refusal, UserSet, Users};
+use ov_disk::Disk;
 use ov_graph::{GraphRefusal, root};
 use ov_record::Update;
 use ov_script::Reply;
@@ -22,20 +24,22 @@ use ov_state::WIDTH;
 use ov_tokens::Tokens;
 use std::alloc::Global;
 
-impl Machine {
+impl<D: Disk> Machine<D> {
     /// Enrols a user.
-    pub fn enrol(&mut self, alloc: Global, user: Name) -> Result<Reply, Memory>
-        ensures ok { IfOk result (λ reply. Steps self.old (Enrol user) reply self.new) }
-        ensures masters { self.new.masters ≡ self.old.masters }
-        ensures err { OnErr result (self.new ≡ self.old) }
+    pub fn enrol(&mut self, alloc: Global, user: Name) -> Result<Reply, StepFault>
+        requires healthy { self.old.failed ≡ false }
+        ensures steps { Steps D.reads D.may_leave D.moment D.left_since
+            (Enrol user) self.old self.new result }
+        ensures step { IsStep D.borrow D.faults self.old self.new result }
     {
         self.apply(alloc, Update::Enrol { name: user })
     }
 
     /// The users of these names, or None where one isn't enrolled.
     fn users_of(&self, names: &[Name]) -> Option<Users>
-        ensures set { IfSome result (λ set. set ≡ set_named self.now.catalogue.users names.now) }
-        ensures none { let users = self.now.catalogue.users in
+        ensures set { let users = self.now.kept.catalogue.users in
+            IfSome result (λ set. set ≡ set_named users names.now) }
+        ensures none { let users = self.now.kept.catalogue.users in
             IfNone result (within (set_named users names.now) (everyone (length users)) ≡ false) }
     {
         let catalogue = self.catalogue();
@@ -59,7 +63,7 @@ impl Machine {
     ) -> Result<Update<WIDTH>, Memory>
         requires { length bytes ≤ MAX_FILE_BYTES }
         ensures { IfOk result (λ update.
-            IsCreation self.now file list bytes (sealed_update update)) }
+            IsCreation self.now.kept file list bytes (sealed_update update)) }
     {
         let catalogue = self.catalogue();
         match catalogue.base().plan_create(alloc, &list) {
@@ -85,11 +89,12 @@ impl Machine {
         file: Name,
         list: Names,
         bytes: Octets,
-    ) -> Result<Reply, Memory>
-        requires { length bytes ≤ MAX_FILE_BYTES }
-        ensures ok { IfOk result (λ reply. Steps self.old (Create file list bytes) reply self.new) }
-        ensures masters { self.new.masters ≡ self.old.masters }
-        ensures err { OnErr result (self.new ≡ self.old) }
+    ) -> Result<Reply, StepFault>
+        requires few { length bytes ≤ MAX_FILE_BYTES }
+        requires healthy { self.old.failed ≡ false }
+        ensures steps { Steps D.reads D.may_leave D.moment D.left_since
+            (Create file list bytes) self.old self.new result }
+        ensures step { IsStep D.borrow D.faults self.old self.new result }
     {
         if self.catalogue().file_number(&file).is_some() {
             return Ok(Reply::Refused(Refusal::Taken));
@@ -105,7 +110,7 @@ impl Machine {
 
     /// The numbers of a user and a file, or which of them isn't there.
     fn find_both(&self, user: &Name, file: &Name) -> Result<(u32, u32), Refusal>
-        ensures { FindsBoth (matrix_shown self.now.catalogue) user.now file.now result }
+        ensures { FindsBoth (matrix_shown self.now.kept.catalogue) user.now file.now result }
     {
         let catalogue = self.catalogue();
         let Some(user) = catalogue.user_number(user) else {
@@ -120,10 +125,10 @@ impl Machine {
     /// The update of a grant, with an access token where the user doesn't hold the file's base
     /// node.
     fn granted(&self, user: u32, file: u32) -> Update<WIDTH>
-        requires user { user < length self.now.catalogue.users }
-        requires file { file < length self.now.catalogue.files }
-        ensures { sealed_update result
-            ≡ sealed_by_owner self.now.masters (outline self.now.catalogue) (PlainGrant user file) }
+        requires user { user < length self.now.kept.catalogue.users }
+        requires file { file < length self.now.kept.catalogue.files }
+        ensures { let y = outline self.now.kept.catalogue in sealed_update result
+            ≡ sealed_by_owner self.now.kept.masters y (PlainGrant user file) }
     {
         let catalogue = self.catalogue();
         catalogue.known();
@@ -137,10 +142,11 @@ impl Machine {
     }
 
     /// Grants a file to a user.
-    pub fn grant(&mut self, alloc: Global, user: Name, file: Name) -> Result<Reply, Memory>
-        ensures ok { IfOk result (λ reply. Steps self.old (Grant user file) reply self.new) }
-        ensures masters { self.new.masters ≡ self.old.masters }
-        ensures err { OnErr result (self.new ≡ self.old) }
+    pub fn grant(&mut self, alloc: Global, user: Name, file: Name) -> Result<Reply, StepFault>
+        requires healthy { self.old.failed ≡ false }
+        ensures steps { Steps D.reads D.may_leave D.moment D.left_since
+            (Grant user file) self.old self.new result }
+        ensures step { IsStep D.borrow D.faults self.old self.new result }
     {
         match self.find_both(&user, &file) {
             Ok((user, file)) => {
@@ -152,10 +158,11 @@ impl Machine {
     }
 
     /// Revokes a file from a user.
-    pub fn revoke(&mut self, alloc: Global, user: Name, file: Name) -> Result<Reply, Memory>
-        ensures ok { IfOk result (λ reply. Steps self.old (Revoke user file) reply self.new) }
-        ensures masters { self.new.masters ≡ self.old.masters }
-        ensures err { OnErr result (self.new ≡ self.old) }
+    pub fn revoke(&mut self, alloc: Global, user: Name, file: Name) -> Result<Reply, StepFault>
+        requires healthy { self.old.failed ≡ false }
+        ensures steps { Steps D.reads D.may_leave D.moment D.left_since
+            (Revoke user file) self.old self.new result }
+        ensures step { IsStep D.borrow D.faults self.old self.new result }
     {
         match self.find_both(&user, &file) {
             Ok((user, file)) => self.apply(alloc, Update::Revoke { user, file }),

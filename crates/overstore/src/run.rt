@@ -1,23 +1,31 @@
 //! The top call.
-ghost use Rattle.std.specs.Prelude.{◌≡◌, ◌≢◌, ◌⊎◌, IfNone, IfSome, None};
+ghost use Rattle.std.specs.Prelude.{◌≡◌, ◌≢◌, ◌⊎◌, ◌≤◌, false, IfNone, IfSome};
 ghost use Rattle.ov_base.specs.Causes.{Rose};
 ghost use Rattle.ov_base.specs.declared.mode.Mode.{Mode};
-ghost use Rattle.ov_state.specs.Standing.{ClosuresAreMatrix};
-ghost use Rattle.overstore.specs.Answering.{Concluded, StandsAtEnd, LeavesUnder, LeavesWith};
-ghost use Rattle.overstore.specs.Machine.{nothing};
-ghost use Rattle.overstore.specs.Printing.{IsKeysStatus, IsScriptStatus, IsStatus};
-ghost use Rattle.overstore.specs.Running.{FailsForFaults, IsDecided};
-ghost use Rattle.overstore.specs.Running.{JudgesKeys, PrintsAs, RefusesWords};
+ghost use Rattle.ov_disk.specs.Disk.{Told};
+ghost use Rattle.ov_history.specs.Masters.{Masters as PlainMasters};
+ghost use Rattle.ov_history.specs.Plain.{PlainHistory};
+ghost use Rattle.overstore.specs.Answering.{SaysTag};
+ghost use Rattle.overstore.specs.Disks.{Holds, IsDiskCall, Lasts, OpensAs, Survives};
+ghost use Rattle.overstore.specs.Machine.{AreMasters, StandsFor, plain_masters};
+ghost use Rattle.overstore.specs.Printing.{IsKeysStatus, IsScriptStatus, IsStoreStatus};
+ghost use Rattle.overstore.specs.Running.{EndsAs, FailsForFaults, ForImage, FromEach, IsDecided};
+ghost use Rattle.overstore.specs.Running.{JudgesImage, JudgesKeys, LeavesAsAtStart, PrintsAs};
+ghost use Rattle.overstore.specs.Running.{RefusesWords};
 ghost use Rattle.overstore.specs.Words.{mode_word, AreOther, IsRun};
 
 use crate::answer::answer_all;
-use crate::finish::{finish, put_last};
+use crate::fault_lines::values_are_known;
+use crate::finish::{finish, put_fault, put_last};
 use crate::machine::Machine;
 use crate::status::Status;
 use ov_base::{Memory, Mode};
+use ov_disk::Disk;
 use ov_io::{Sink, Source};
 use ov_keyfile::{Masters, read_masters};
 use ov_script::Script;
+use ov_store::Store;
+use ov_tokens::check_value;
 use std::alloc::Global;
 
 // The mode of this word.
@@ -43,24 +51,23 @@ fn mode_of(words: &[String]) -> Option<Mode>
     }
 }
 
-// Answers the script with a machine that has answered nothing yet. Whatever history it stands for
-// at the end, the closures over its published tokens are the matrix.
-fn answer_script<I: Source, O: Sink>(
+// Answers the script with a machine that has answered nothing yet.
+fn answer_script<I: Source, O: Sink, D: Disk>(
     alloc: Global,
-    machine: &mut Machine,
+    machine: &mut Machine<D>,
     input: &mut I,
     out: &mut O,
 ) -> u8
-    requires nothing { machine.old ≡ nothing machine.old.masters machine.old.catalogue.mode }
-    ensures masters { machine.new.masters ≡ machine.old.masters }
-    ensures closure { ClosuresAreMatrix machine.new.catalogue }
-    ensures stands { let mode = machine.old.catalogue.mode in
-        IfSome (I.left input.old) (λ text. StandsAtEnd mode text result machine.new) }
-    ensures concluded { let mode = machine.old.catalogue.mode in
-        IfSome (I.left input.old) (λ text.
-        Concluded mode text (O.written out.old) (O.written out.new) result) }
-    ensures causes { FailsForFaults result (Rose (I.faults input.old) (I.faults input.new))
-        (Rose (O.faults out.old) (O.faults out.new)) }
+    requires healthy { machine.old.failed ≡ false }
+    ensures ends { let k = machine.old.kept.masters in
+        (p : PlainHistory) → StandsFor machine.old.kept p → IfSome (I.left input.old) (λ text.
+        EndsAs D.reads D.may_leave D.moment D.left_since k p text machine.old.disk machine.new.disk
+        (O.written out.old) (O.written out.new) result
+        (Holds D.reads D.may_leave k p machine.old.disk)) }
+    ensures disk { IsDiskCall D.borrow D.faults (result ≡ 4) machine.old.disk machine.new.disk }
+    ensures read { result ≡ 5 → Rose (I.faults input.old) (I.faults input.new) }
+    ensures write { result ≡ 6 → Rose (O.faults out.old) (O.faults out.new) }
+    ensures tag { result ≡ 12 → SaysTag (O.written out.old) (O.written out.new) }
     ensures status { IsScriptStatus result }
 {
     let mut script = match Script::new(alloc, input) {
@@ -73,103 +80,138 @@ fn answer_script<I: Source, O: Sink>(
     finish(alloc, stop, machine.epoch(), out)
 }
 
-// Answers the script in this mode under these masters, and leaves the machine that answered it.
-fn answer_under<I: Source, O: Sink>(
+// Opens the disk under these masters and answers the script. The disk is given back.
+fn answer_over<I: Source, O: Sink, D: Disk + Drop>(
     alloc: Global,
     mode: Mode,
     masters: Masters,
+    disk: D,
     input: &mut I,
     out: &mut O,
-    left: &mut Option<Machine>,
-) -> u8
-    requires none { left.old ≡ None }
-    ensures left { IfSome (I.left input.old) (λ text.
-        LeavesWith (record { base = masters.base.bytes; surface = masters.surface.bytes })
-        mode text result left.new) }
-    ensures concluded { IfSome (I.left input.old) (λ text.
-        Concluded mode text (O.written out.old) (O.written out.new) result) }
-    ensures causes { FailsForFaults result (Rose (I.faults input.old) (I.faults input.new))
-        (Rose (O.faults out.old) (O.faults out.new)) }
-    ensures status { IsScriptStatus result }
+) -> (u8, D)
+    ensures ends { let k = plain_masters masters in
+        (p : PlainHistory) → OpensAs D.reads D.may_leave k mode p disk
+        → IfSome (I.left input.old) (λ text.
+        EndsAs D.reads D.may_leave D.moment D.left_since k p text disk result.1
+        (O.written out.old) (O.written out.new) result.0 (Unit {0})) }
+    ensures image { let k = plain_masters masters in
+        Told (D.reads disk) (λ i. JudgesImage k mode i result.0
+        (O.written out.old) (O.written out.new)
+        (LeavesAsAtStart D.reads D.may_leave D.moment D.left_since disk result.1)) }
+    ensures disk { IsDiskCall D.borrow D.faults (result.0 ≡ 4) disk result.1 }
+    ensures read { result.0 ≡ 5 → Rose (I.faults input.old) (I.faults input.new) }
+    ensures write { result.0 ≡ 6 → Rose (O.faults out.old) (O.faults out.new) }
+    ensures tag { result.0 ≡ 12 → SaysTag (O.written out.old) (O.written out.new) }
+    ensures status { IsStoreStatus result.0 }
 {
-    match Machine::new(alloc, masters, mode) {
-        Ok(mut machine) => {
+    let base_check = check_value(&masters.base);
+    match Store::begin(alloc, disk, masters.surface, base_check, mode) {
+        Ok(store) => {
+            let mut machine = Machine::of(masters, store);
             let code = answer_script(alloc, &mut machine, input, out);
-            *left = Some(machine);
-            code
+            (code, machine.into_disk())
         }
-        Err(Memory) => put_last(out, b"error memory\n", Status::OutOfMemory),
+        Err(refused) => {
+            values_are_known(refused.fault);
+            (put_fault(alloc, out, refused.fault), refused.disk)
+        }
     }
 }
 
-// Reads the key file and answers the script, once the words are known. The machine that answered it
-// is left, under the masters of the key file.
-fn answer_with_keys<K: Source, I: Source, O: Sink>(
+// Reads the key file, opens the disk and answers the script, once the words are known.
+fn answer_with_keys<K: Source, I: Source, O: Sink, D: Disk + Drop>(
     alloc: Global,
     mode: Mode,
     keys: &mut K,
+    disk: D,
     input: &mut I,
     out: &mut O,
-    left: &mut Option<Machine>,
-) -> u8
-    requires none { left.old ≡ None }
-    ensures left { IfSome (K.left keys.old) (λ file. IfSome (I.left input.old) (λ text.
-        LeavesUnder file mode text result left.new)) }
-    ensures concluded { IfSome (I.left input.old) (λ text.
-        Concluded mode text (O.written out.old) (O.written out.new) result) }
-    ensures keys { JudgesKeys (Unit {0}) (K.left keys.old) result
-        (O.written out.old) (O.written out.new) (input.new ≡ input.old) }
-    ensures causes { FailsForFaults result
-        (Rose (K.faults keys.old) (K.faults keys.new)
-        ⊎ Rose (I.faults input.old) (I.faults input.new))
-        (Rose (O.faults out.old) (O.faults out.new)) }
-    ensures status { IsKeysStatus result }
+) -> (u8, D)
+    ensures ends { IfSome (K.left keys.old) (λ file. IfSome (I.left input.old) (λ text.
+        (k : PlainMasters) (p : PlainHistory) → AreMasters file k
+        → OpensAs D.reads D.may_leave k mode p disk
+        → EndsAs D.reads D.may_leave D.moment D.left_since k p text disk result.1
+        (O.written out.old) (O.written out.new) result.0 (Unit {0}))) }
+    ensures image { IfSome (K.left keys.old) (λ file. (k : PlainMasters) → AreMasters file k
+        → Told (D.reads disk) (λ i. JudgesImage k mode i result.0
+        (O.written out.old) (O.written out.new)
+        (LeavesAsAtStart D.reads D.may_leave D.moment D.left_since disk result.1))) }
+    ensures keys { JudgesKeys (Unit {0}) (K.left keys.old) result.0
+        (O.written out.old) (O.written out.new)
+        ((input.new ≡ input.old) × (result.1 ≡ disk)) }
+    ensures disk { IsDiskCall D.borrow D.faults (result.0 ≡ 4) disk result.1 }
+    ensures read { result.0 ≡ 5 → Rose (K.faults keys.old) (K.faults keys.new)
+        ⊎ Rose (I.faults input.old) (I.faults input.new) }
+    ensures write { result.0 ≡ 6 → Rose (O.faults out.old) (O.faults out.new) }
+    ensures tag { result.0 ≡ 12 → SaysTag (O.written out.old) (O.written out.new) }
+    ensures status { IsKeysStatus result.0 }
 {
     match read_masters(keys) {
-        Ok(Some(masters)) => answer_under(alloc, mode, masters, input, out, left),
-        Ok(None) => put_last(out, b"error keys\n", Status::BadKeys),
-        Err(_) => put_last(out, b"error read\n", Status::ReadFault),
+        Ok(Some(masters)) => answer_over(alloc, mode, masters, disk, input, out),
+        Ok(None) => (put_last(out, b"error keys\n", Status::BadKeys), disk),
+        Err(_) => (put_last(out, b"error read\n", Status::ReadFault), disk),
     }
 }
 
-/// Answers the script of `input` on `out` under the masters of the key file, and gives the exit
-/// status.
+/// Answers the script of `input` on `out` under the masters of the key file, over the store on
+/// `disk`, and gives the exit status. Where no store was begun there it begins one.
 ///
-/// The clauses on what is printed, on the script and on the key file hold where the sources and the
-/// sink tell their bytes; those on the counts of faults hold always. Each reply line is put by
-/// itself, before the next command is read.
-pub fn run<K: Source, I: Source, O: Sink>(
+/// The clauses on what is printed, on the script, the key file and the disk hold where the sources,
+/// the sink and the disk tell their bytes; those on the counts of faults hold always. Each update is
+/// on the disk before its reply line is put, and each line is put by itself, before the next
+/// command is read.
+pub fn run<K: Source, I: Source, O: Sink, D: Disk>(
     alloc: Global,
     words: &[String],
     keys: &mut K,
     input: &mut I,
     out: &mut O,
+    disk: &mut D,
 ) -> u8
-    // In the mode of the words the access-matrix machine's lines are printed.
-    ensures printed { (mode : Mode) → IsRun mode words.now
-        → IfSome (I.left input.old) (λ text.
-        PrintsAs mode text result (O.written out.old) (O.written out.new)) }
-    // Without a key file the script is left as it is.
-    ensures keys { JudgesKeys ((mode : Mode) × IsRun mode words.now) (K.left keys.old) result
-        (O.written out.old) (O.written out.new) (input.new ≡ input.old) }
-    // Other words are refused, and both files are left as they are.
-    ensures words { RefusesWords (AreOther words.now) result (O.written out.old) (O.written out.new)
-        ((keys.new ≡ keys.old) × (input.new ≡ input.old)) }
-    // A failed read or write is answered only where the count of faults rose.
-    ensures causes { FailsForFaults result
-        (Rose (K.faults keys.old) (K.faults keys.new)
-        ⊎ Rose (I.faults input.old) (I.faults input.new))
-        (Rose (O.faults out.old) (O.faults out.new)) }
-    // With a key file the script alone decides between the other statuses.
-    ensures decided { (mode : Mode) → IsRun mode words.now → result ≢ 10
-        → IfSome (I.left input.old) (λ text. IsDecided text result
+    // The access-matrix machine's lines are printed, from the history for which the disk stands.
+    ensures printed { FromEach D.reads D.may_leave disk.old
+        words.now (K.left keys.old) (I.left input.old) (λ k p text.
+        PrintsAs p text result (O.written out.old) (O.written out.new)) }
+    // With a disk that opens the script alone decides the status.
+    ensures decided { FromEach D.reads D.may_leave disk.old
+        words.now (K.left keys.old) (I.left input.old) (λ k p text. IsDecided text result
         (Rose (K.faults keys.old) (K.faults keys.new))
         (Rose (I.faults input.old) (I.faults input.new))
-        (Rose (O.faults out.old) (O.faults out.new))) }
-    ensures status { IsStatus result }
+        (Rose (O.faults out.old) (O.faults out.new))
+        (Rose (D.faults disk.old) (D.faults disk.new))) }
+    // Whatever the status, a stop leaves what was acknowledged, and at most one update more.
+    ensures survives { FromEach D.reads D.may_leave disk.old
+        words.now (K.left keys.old) (I.left input.old) (λ k p text.
+        Survives D.reads D.may_leave D.moment D.left_since k p text disk.old disk.new
+        (O.written out.old) (O.written out.new)) }
+    // At the end of the script the disk has it all, and the published tokens are the matrix.
+    ensures lasts { result ≡ 0 → FromEach D.reads D.may_leave disk.old
+        words.now (K.left keys.old) (I.left input.old) (λ k p text.
+        Lasts D.reads D.may_leave k p text disk.new) }
+    // A disk without a store of these keys and mode is refused, and nothing is written.
+    ensures image { ForImage (D.reads disk.old) words.now (K.left keys.old) (λ k mode i.
+        JudgesImage k mode i result (O.written out.old) (O.written out.new)
+        (LeavesAsAtStart D.reads D.may_leave D.moment D.left_since disk.old disk.new)) }
+    // Without a key file the script and the disk are left as they are.
+    ensures keys { JudgesKeys ((mode : Mode) × IsRun mode words.now) (K.left keys.old) result
+        (O.written out.old) (O.written out.new)
+        ((input.new ≡ input.old) × (disk.new ≡ disk.old)) }
+    // Other words are refused, and all files are left as they are.
+    ensures words { RefusesWords (AreOther words.now) result (O.written out.old) (O.written out.new)
+        ((keys.new ≡ keys.old) × (input.new ≡ input.old) × (disk.new ≡ disk.old)) }
+    // A fault is answered only where its count of faults rose, and a wrong tag only with its line.
+    ensures causes { FailsForFaults result
+        (Rose (D.faults disk.old) (D.faults disk.new))
+        (Rose (K.faults keys.old) (K.faults keys.new)
+        ⊎ Rose (I.faults input.old) (I.faults input.new))
+        (Rose (O.faults out.old) (O.faults out.new))
+        (SaysTag (O.written out.old) (O.written out.new)) }
 {
     match mode_of(words) {
-        Some(mode) => answer_with_keys(alloc, mode, keys, input, out, &mut None),
+        Some(mode) => {
+            let (code, _disk) = answer_with_keys(alloc, mode, keys, disk, input, out);
+            code
+        }
         None => put_last(out, b"error usage\n", Status::Usage),
     }
 }

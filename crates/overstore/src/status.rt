@@ -12,16 +12,24 @@ pub enum Status {
     Usage,
     /// The script has a bad item.
     BadLine,
+    /// A call of the disk failed.
+    DiskFault,
     /// A read failed.
     ReadFault,
     /// A write failed.
     WriteFault,
     /// Memory was refused.
     OutOfMemory,
+    /// The disk has no store, or a damaged one.
+    NotAStore,
+    /// The store is one of other keys or of the other mode.
+    OtherStore,
     /// What should be the key file isn't one.
     BadKeys,
     /// The script is too long.
     Long,
+    /// The tag of a file that was read is wrong.
+    WrongTag,
 }
 
 impl Status {
@@ -33,11 +41,15 @@ impl Status {
             Status::Done => 0,
             Status::Usage => 2,
             Status::BadLine => 3,
+            Status::DiskFault => 4,
             Status::ReadFault => 5,
             Status::WriteFault => 6,
             Status::OutOfMemory => 7,
+            Status::NotAStore => 8,
+            Status::OtherStore => 9,
             Status::BadKeys => 10,
             Status::Long => 11,
+            Status::WrongTag => 12,
         }
     }
 
@@ -50,11 +62,15 @@ impl Status {
             0 => Some(Status::Done),
             2 => Some(Status::Usage),
             3 => Some(Status::BadLine),
+            4 => Some(Status::DiskFault),
             5 => Some(Status::ReadFault),
             6 => Some(Status::WriteFault),
             7 => Some(Status::OutOfMemory),
+            8 => Some(Status::NotAStore),
+            9 => Some(Status::OtherStore),
             10 => Some(Status::BadKeys),
             11 => Some(Status::Long),
+            12 => Some(Status::WrongTag),
             _ => None,
         }
     }
@@ -69,6 +85,9 @@ impl Status {
             Status::BadLine => Some(
                 "standard output names a bad line; those before it stand; correct it and run again",
             ),
+            Status::DiskFault => Some(
+                "store.book or store.blobs failed; check the disk and run again: what was answered lasts",
+            ),
             Status::ReadFault => {
                 Some("reading failed; check keys.hex and standard input and run again")
             }
@@ -76,11 +95,20 @@ impl Status {
                 Some("writing the replies failed; check standard output and run again")
             }
             Status::OutOfMemory => Some("the system refused memory; free some and run again"),
+            Status::NotAStore => Some(
+                "store.book is damaged or no store; put a good copy in its place or run elsewhere",
+            ),
+            Status::OtherStore => Some(
+                "store.book is of other keys or the other mode; use its keys.hex and its mode",
+            ),
             Status::BadKeys => Some(
                 "keys.hex has to be two different lines of 64 hexadecimal digits; correct it and run again",
             ),
             Status::Long => Some(
                 "the script is past 268435456 bytes; run what follows as a script of its own",
+            ),
+            Status::WrongTag => Some(
+                "a file in store.book isn't what its owner sent; put a good copy in its place",
             ),
         }
     }

@@ -1,11 +1,13 @@
 //! What the program prints and how it ends, over scripts, pieces and faults.
 ghost use Rattle.std.specs.Prelude.{◌<◌};
 
+mod disks;
 mod faults;
 
 use crate::run::run;
 use ov_base::Octets;
 use ov_base::limits::{MAX_FILE_BYTES, MAX_FILES, MAX_USERS};
+use ov_disk::MemDisk;
 use ov_io::{MemSink, MemSource};
 use std::alloc::{AllocError, Global};
 use std::test::Fail;
@@ -17,7 +19,8 @@ fn words(alloc: Global, mode: &str) -> Result<Vec<String>, AllocError> {
     ]?)
 }
 
-// Runs a script that comes in pieces, over a source and a sink that fail at these calls.
+// Runs a script over a disk on which no store was begun, from a source and to a sink that fail at
+// these calls.
 fn ran_in(
     alloc: Global,
     mode: &str,
@@ -30,7 +33,15 @@ fn ran_in(
 {
     let mut input = source(alloc, script, piece, source_fails)?;
     let mut keys = key_file(alloc)?;
-    Ok(run(alloc, &words(alloc, mode)?, &mut keys, &mut input, out))
+    let mut disk = MemDisk::new(alloc);
+    Ok(run(
+        alloc,
+        &words(alloc, mode)?,
+        &mut keys,
+        &mut input,
+        out,
+        &mut disk,
+    ))
 }
 
 fn ran(
@@ -169,10 +180,13 @@ fn other_words(rt: HostRuntime) -> Result<(), Fail> {
     for words in [words(alloc, "half")?, words(alloc, "Full")?, one, three] {
         let mut input = source(alloc, b"enrol a\n", 8, b"")?;
         let mut out = sink(alloc, b"")?;
+        let mut keys = key_file(alloc)?;
+        let mut disk = MemDisk::new(alloc);
         assert_eq!(rt;
-            run(alloc, &words, &mut key_file(alloc)?, &mut input, &mut out),
+            run(alloc, &words, &mut keys, &mut input, &mut out, &mut disk),
             2
         );
+        assert_eq!(rt; disk.calls(), 0);
         assert_eq!(rt; out.written(), b"error usage\n".as_slice());
     }
     Ok(())
@@ -280,7 +294,11 @@ fn key_files(rt: HostRuntime) -> Result<(), Fail> {
         let mut input = source(alloc, b"", 8, b"")?;
         let mut out = sink(alloc, b"")?;
         let full = words(alloc, "full")?;
-        assert_eq!(rt; run(alloc, &full, &mut keys, &mut input, &mut out), status);
+        let mut disk = MemDisk::new(alloc);
+        assert_eq!(rt;
+            run(alloc, &full, &mut keys, &mut input, &mut out, &mut disk),
+            status
+        );
         assert_eq!(rt; out.written(), line);
     }
     Ok(())

@@ -4,6 +4,7 @@ ghost use Rattle.std.specs.Prelude.{None};
 use super::{key_file, ran, sink, source, words};
 use crate::run::run;
 use ov_base::limits::MAX_SCRIPT_BYTES;
+use ov_disk::MemDisk;
 use ov_io::{Fault, Sink, Source};
 use std::test::Fail;
 
@@ -40,8 +41,10 @@ fn a_write_fails(rt: HostRuntime) -> Result<(), Fail> {
     let mut out = sink(alloc, &[0])?;
     let mut input = source(alloc, b"", 8, b"")?;
     let words = words(alloc, "half")?;
+    let mut keys = key_file(alloc)?;
+    let mut disk = MemDisk::new(alloc);
     assert_eq!(rt;
-        run(alloc, &words, &mut key_file(alloc)?, &mut input, &mut out),
+        run(alloc, &words, &mut keys, &mut input, &mut out, &mut disk),
         6
     );
     Ok(())
@@ -113,13 +116,15 @@ fn the_limit_of_a_script(rt: HostRuntime) -> Result<(), Fail> {
             bytes: Vec::new(alloc),
             faults: 0,
         };
+        let mut disk = MemDisk::new(alloc);
         assert_eq!(rt;
             run(
                 alloc,
                 &words(alloc, "full")?,
                 &mut key_file(alloc)?,
                 &mut input,
-                &mut out
+                &mut out,
+                &mut disk,
             ),
             status
         );

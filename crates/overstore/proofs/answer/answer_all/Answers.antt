@@ -1,17 +1,23 @@
-use Rattle.std.proofs.Common.{arith}
+use Rattle.std.proofs.KnownBytes.{Appends-nil}
+use Rattle.std.proofs.Common.{[], arith}
 use Rattle.std.proofs.lemmas.Grind.{common_steps}
 use Rattle.ov_script.specs.Reading.{AtEnd, BadAt, TooLong}
-use Rattle.overstore.proofs.Answering.{answered, answered_more, commands_come, goes_on, read_first, answer_stops, begins_so, stands_after, stands_so, starts_fresh}
+use Rattle.overstore.proofs.Answering.{answered, answered_first, answered_more, answer_stops, begins_so, commands_come, goes_on, grows_on, starts_fresh}
 use Rattle.overstore.proofs.answer.answer_all.Goals as goal
 
 pub items-init : goal.items-init
 items-init g c = record {
-  so_far = begins_so _ _ _ _ _ (starts_fresh _ c.requires.start).0 (starts_fresh _ c.requires.start).1 c.requires.nothing;
-  stands = stands_so _ c.requires.nothing;
+  so_far = λ p stands.
+      begins_so g.D.Disk.reads g.D.Disk.may_leave g.D.Disk.moment g.D.Disk.left_since c.args.machine.now.kept.masters p c.args.machine.now stands
+      (g.met.D.Disk.only_now c.args.machine.now.disk) _ _ _ _ (starts_fresh _ c.requires.start).0 (starts_fresh _ c.requires.start).1;
   masters = grind (arith, common_steps);
+  healthy = c.requires.healthy;
+  grew = ([], Appends-nil _);
   ended = (starts_fresh _ c.requires.start).2;
   same = grind (arith, common_steps);
   read_later = grind (arith, common_steps);
+  same_disk = grind (arith, common_steps);
+  disk_later = grind (arith, common_steps);
   write_later = grind (arith, common_steps);
 }
 
@@ -19,28 +25,50 @@ pub answer-requires-clause-command : goal.answer-requires-clause-command
 answer-requires-clause-command g c = commands_come _ c.in-Ok-Command.command c.in-Ok-Command.ensures.item c.in-Ok-Command.field-0-is
 
 pub returns-in-Some-clause-stop : goal.returns-in-Some-clause-stop
-returns-in-Some-clause-stop g c =
-    answer_stops _ _ _ _ _ _ _ _ _ _ _ _ _ _ _ c.items.invariant.so_far (rw c.in-Ok-Command.field-0-is at (c.in-Ok-Command.ensures.says c.items.invariant.ended)) c.in-Some.ensures.answer
+returns-in-Some-clause-stop g c = λ p stands.
+    answer_stops g.D.Disk.reads g.D.Disk.may_leave g.D.Disk.moment g.D.Disk.left_since _ p _ _ c.items.invariant.masters _ _ _ _ _ _ _ _ _ _ _ _ _
+    (c.items.invariant.so_far p stands) (rw c.in-Ok-Command.field-0-is at (c.in-Ok-Command.ensures.says c.items.invariant.ended)) c.in-Some.ensures.answer
 
 pub items-preserved : goal.items-preserved
 items-preserved g c = record {
-  so_far = answered_more _ _ _ _ _ _ _ _ _ _ _ _ _ _ c.items.invariant.so_far (rw c.in-Ok-Command.field-0-is at (c.in-Ok-Command.ensures.says c.items.invariant.ended)) c.in-None.ensures.answer;
-  stands = stands_after _ _ _ _ _ c.items.invariant.stands c.in-None.ensures.answer;
+  so_far = λ p stands.
+      answered_more g.D.Disk.reads g.D.Disk.may_leave g.D.Disk.moment g.D.Disk.left_since _ p _ _ c.items.invariant.masters _ _ _ _ _ _ _ _ _ _ _ _
+      (c.items.invariant.so_far p stands) (rw c.in-Ok-Command.field-0-is at (c.in-Ok-Command.ensures.says c.items.invariant.ended)) c.in-None.ensures.answer;
   masters = grind (arith, common_steps);
+  healthy = c.in-None.ensures.healthy;
+  grew = grows_on _ _ _ c.items.invariant.grew c.in-None.ensures.grew;
   ended = goes_on _ _ _ c.in-Ok-Command.command c.items.invariant.ended c.in-Ok-Command.ensures.ended c.in-Ok-Command.field-0-is;
   same = grind (arith, common_steps);
   read_later = grind (arith, common_steps);
+  same_disk = grind (arith, common_steps);
+  disk_later = grind (arith, common_steps);
   write_later = grind (arith, common_steps);
 }
 
 pub returns-in-Ok-End-clause-stop : goal.returns-in-Ok-End-clause-stop
-returns-in-Ok-End-clause-stop g c = answered _ _ _ _ _ _ _ _ AtEnd c.items.invariant.so_far (rw c.in-Ok-End.field-0-is at (c.in-Ok-End.ensures.says c.items.invariant.ended))
+returns-in-Ok-End-clause-stop g c = λ p stands.
+    answered g.D.Disk.reads g.D.Disk.may_leave g.D.Disk.moment g.D.Disk.left_since _ p _ _ c.items.invariant.masters _ _ _ _ _ _ AtEnd
+    (c.items.invariant.so_far p stands) (rw c.in-Ok-End.field-0-is at (c.in-Ok-End.ensures.says c.items.invariant.ended))
 
 pub returns-in-Ok-BadLine-clause-stop : goal.returns-in-Ok-BadLine-clause-stop
-returns-in-Ok-BadLine-clause-stop g c = answered _ _ _ _ _ _ _ _ (BadAt c.in-Ok-BadLine.line) c.items.invariant.so_far (rw c.in-Ok-BadLine.field-0-is at (c.in-Ok-BadLine.ensures.says c.items.invariant.ended))
+returns-in-Ok-BadLine-clause-stop g c = λ p stands.
+    answered g.D.Disk.reads g.D.Disk.may_leave g.D.Disk.moment g.D.Disk.left_since _ p _ _ c.items.invariant.masters _ _ _ _ _ _ (BadAt c.in-Ok-BadLine.line)
+    (c.items.invariant.so_far p stands) (rw c.in-Ok-BadLine.field-0-is at (c.in-Ok-BadLine.ensures.says c.items.invariant.ended))
 
 pub returns-in-Ok-Long-clause-stop : goal.returns-in-Ok-Long-clause-stop
-returns-in-Ok-Long-clause-stop g c = answered _ _ _ _ _ _ _ _ TooLong c.items.invariant.so_far (rw c.in-Ok-Long.field-0-is at (c.in-Ok-Long.ensures.says c.items.invariant.ended))
+returns-in-Ok-Long-clause-stop g c = λ p stands.
+    answered g.D.Disk.reads g.D.Disk.may_leave g.D.Disk.moment g.D.Disk.left_since _ p _ _ c.items.invariant.masters _ _ _ _ _ _ TooLong
+    (c.items.invariant.so_far p stands) (rw c.in-Ok-Long.field-0-is at (c.in-Ok-Long.ensures.says c.items.invariant.ended))
 
 pub returns-in-Err-Read-clause-stop : goal.returns-in-Err-Read-clause-stop
-returns-in-Err-Read-clause-stop g c = read_first _ _ _ _ _ _ _ _ c.items.invariant.so_far
+returns-in-Err-Read-clause-stop g c = λ p stands.
+    answered_first g.D.Disk.reads g.D.Disk.may_leave g.D.Disk.moment g.D.Disk.left_since _ p _ _ c.items.invariant.masters _ _ _ _ _ _
+    (c.items.invariant.so_far p stands)
+
+pub returns-in-Err-Memory-clause-stop : goal.returns-in-Err-Memory-clause-stop
+returns-in-Err-Memory-clause-stop g c = λ p stands.
+    answered_first g.D.Disk.reads g.D.Disk.may_leave g.D.Disk.moment g.D.Disk.left_since _ p _ _ c.items.invariant.masters _ _ _ _ _ _
+    (c.items.invariant.so_far p stands)
+
+pub returns-in-Some-clause-grew : goal.returns-in-Some-clause-grew
+returns-in-Some-clause-grew g c = grows_on _ _ _ c.items.invariant.grew c.in-Some.ensures.grew

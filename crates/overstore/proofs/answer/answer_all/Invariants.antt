@@ -1,20 +1,24 @@
-use Rattle.std.proofs.Common.{◌≡◌, ◌≤◌}
+use Rattle.std.proofs.Common.{◌≡◌, ◌≤◌, false}
 use Rattle.std.specs.Prelude.{IfSome, None}
 use Rattle.ov_history.specs.Plain.{PlainHistory}
 use Rattle.ov_script.specs.Place.{text_left}
-use Rattle.overstore.specs.Answering.{SoFar}
+use Rattle.overstore.specs.Answering.{Grows, SoFar}
 use Rattle.overstore.specs.Machine.{StandsFor}
 use Rattle.overstore.proofs.answer.answer_all.Given as goal
 
 abbrev pub invariant-items : goal.invariant-items
 invariant-items g l = record {
-  so_far : IfSome (text_left g.S.Source.left l.fn.script) (λ text.
-      SoFar l.fn.machine.catalogue.mode text (text_left g.S.Source.left l.script) l.script.line l.script.room (g.O.Sink.written l.fn.out) (g.O.Sink.written l.out) l.machine);
-  masters : l.machine.masters ≡ l.fn.machine.masters;
-  stands : (p : PlainHistory) × StandsFor l.machine p;
+  so_far : (p : PlainHistory) → StandsFor l.fn.machine.kept p → IfSome (text_left g.S.Source.left l.fn.script) (λ text.
+      SoFar g.D.Disk.reads g.D.Disk.may_leave g.D.Disk.moment g.D.Disk.left_since l.fn.machine.kept.masters p text
+      (text_left g.S.Source.left l.script) l.script.line l.script.room (g.O.Sink.written l.fn.out) (g.O.Sink.written l.out) l.fn.machine l.machine);
+  masters : l.machine.kept.masters ≡ l.fn.machine.kept.masters;
+  healthy : l.machine.failed ≡ false;
+  grew : Grows (g.O.Sink.written l.fn.out) (g.O.Sink.written l.out);
   ended : l.script.ended ≡ None;
   same : g.S.Source.borrow l.script.source ≡ g.S.Source.borrow l.fn.script.source;
   read_later : g.S.Source.faults l.fn.script.source ≤ g.S.Source.faults l.script.source;
+  same_disk : g.D.Disk.borrow l.machine.disk ≡ g.D.Disk.borrow l.fn.machine.disk;
+  disk_later : g.D.Disk.faults l.fn.machine.disk ≤ g.D.Disk.faults l.machine.disk;
   write_later : g.O.Sink.faults l.fn.out ≤ g.O.Sink.faults l.out;
 }
 

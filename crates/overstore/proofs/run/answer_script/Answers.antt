@@ -1,28 +1,41 @@
-use Rattle.ov_state.proofs.HistoryLaws.{closures_are_matrix}
-use Rattle.overstore.proofs.Concluding.{concluded, refused_at_once, stands_at_end, unanswered}
-use Rattle.std.proofs.Common.{inr, refl}
-use Rattle.overstore.proofs.Running.{ends_so, finishes_so}
+use Rattle.std.proofs.Common.{arith, refl}
+use Rattle.overstore.proofs.Running.{ends_so, finish_disk, finish_tag, finishes_so, memory_not, script_seven, script_six}
+use Rattle.overstore.proofs.Surviving.{ends_all, ends_unread}
+use Rattle.overstore.specs.Printing.{IsScriptStatus}
 use Rattle.overstore.proofs.run.answer_script.Goals as goal
+
+pub returns-clause-ends : goal.returns-clause-ends
+returns-clause-ends g c = λ p stands.
+    ends_all g.D.Disk.reads g.D.Disk.may_leave g.D.Disk.moment g.D.Disk.left_since _ p (g.I.Source.left c.args.input.now) _ _ _ _ _ (g.met.D.Disk.reads_one c.answer_all-stop.new.machine.disk) _ _ _
+    (rw c.in-Ok.ensures at (c.answer_all-stop.ensures.stop p stands)) c.finish.ensures.finish c.epoch.ensures
+
+pub returns-in-Err-clause-ends : goal.returns-in-Err-clause-ends
+returns-in-Err-clause-ends g c = λ p stands.
+    ends_unread g.D.Disk.reads g.D.Disk.may_leave g.D.Disk.moment g.D.Disk.left_since _ p (g.I.Source.left c.args.input.now) _ _ _ _ (g.met.D.Disk.only_now c.args.machine.now.disk) c.put_last.ensures.ends
 
 pub returns-clause-status : goal.returns-clause-status
 returns-clause-status g c = finishes_so _ _ _ _ _ c.finish.ensures.finish
 
 pub returns-in-Err-clause-status : goal.returns-in-Err-clause-status
-returns-in-Err-clause-status g c = ends_so _ 7 _ _ _ c.put_last.ensures.ends (inr (inr (inr refl)))
+returns-in-Err-clause-status g c = ends_so IsScriptStatus _ 7 _ _ _ script_seven script_six c.put_last.ensures.ends
 
-pub returns-clause-concluded : goal.returns-clause-concluded
-returns-clause-concluded g c =
-    concluded _ (g.I.Source.left c.args.input.now) _ _ _ _ _ _ _ (rw c.in-Ok.ensures at c.answer_all-stop.ensures.stop) c.finish.ensures.finish c.epoch.ensures
+pub returns-clause-disk : goal.returns-clause-disk
+returns-clause-disk g c = record {
+  same = c.answer_all-stop.ensures.disk.same;
+  later = c.answer_all-stop.ensures.disk.later;
+  disk = λ e. c.answer_all-stop.ensures.disk.disk (finish_disk _ _ _ _ _ c.finish.ensures.finish e);
+}
 
-pub returns-in-Err-clause-concluded : goal.returns-in-Err-clause-concluded
-returns-in-Err-clause-concluded g c = refused_at_once _ (g.I.Source.left c.args.input.now) _ _ _ c.put_last.ensures.ends
+pub returns-in-Err-clause-disk : goal.returns-in-Err-clause-disk
+returns-in-Err-clause-disk g c = record {
+  same = refl;
+  later = omega arith;
+  disk = λ e. absurd (memory_not 4 _ _ _ c.put_last.ensures.ends (λ z. omega arith) (λ z. omega arith) e);
+}
 
-pub returns-clause-closure : goal.returns-clause-closure
-returns-clause-closure g c = closures_are_matrix c.answer_all-stop.new.machine.catalogue
+pub returns-clause-tag : goal.returns-clause-tag
+returns-clause-tag g c =
+    finish_tag _ _ _ _ _ _ c.finish.ensures.finish c.answer_all-stop.ensures.grew c.answer_all-stop.ensures.tag
 
-pub returns-clause-stands : goal.returns-clause-stands
-returns-clause-stands g c =
-    stands_at_end _ (g.I.Source.left c.args.input.now) _ _ _ _ _ _ _ (rw c.in-Ok.ensures at c.answer_all-stop.ensures.stop) c.finish.ensures.finish
-
-pub returns-in-Err-clause-stands : goal.returns-in-Err-clause-stands
-returns-in-Err-clause-stands g c = unanswered _ (g.I.Source.left c.args.input.now) _ _ _ _ c.put_last.ensures.ends
+pub returns-in-Err-clause-tag : goal.returns-in-Err-clause-tag
+returns-in-Err-clause-tag g c = λ e. absurd (memory_not 12 _ _ _ c.put_last.ensures.ends (λ z. omega arith) (λ z. omega arith) e)

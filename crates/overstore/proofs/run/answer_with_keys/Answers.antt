@@ -1,47 +1,72 @@
-use Rattle.std.proofs.Common.{inl, inr, refl}
-use Rattle.overstore.proofs.Leaving.{left_under, none_under}
+use Rattle.std.proofs.Common.{arith, inl, inr, refl, ℕ, List}
+use Rattle.ov_disk.specs.Disk.{Told}
+use Rattle.ov_disk.proofs.Runs.{started}
 use Rattle.ov_history.specs.Masters.{Masters}
-use Rattle.overstore.specs.Printing.{BadKeys, ReadFault, keys_line, read_line}
-use Rattle.overstore.proofs.Concluding.{before_the_script, keys_printed, read_printed}
-use Rattle.overstore.proofs.Running.{ends_so, judged_failed, judged_none, judged_with, keys_ends_so, not_keys}
+use Rattle.ov_history.specs.Plain.{PlainHistory}
+use Rattle.overstore.specs.Disks.{OpensAs}
+use Rattle.overstore.specs.Machine.{plain_masters}
+use Rattle.overstore.specs.Running.{EndsAs, JudgesImage, LeavesAsAtStart}
+use Rattle.overstore.proofs.Beginning.{judged_unread}
+use Rattle.overstore.proofs.KeyFiles.{ends_untouched, from_all, from_none, from_read, image_all, image_none, image_read}
+use Rattle.overstore.specs.Printing.{IsKeysStatus}
+use Rattle.overstore.proofs.Running.{ends_so, judged_failed, judged_none, judged_with, keys_six, keys_five, not_code, not_keys}
 use Rattle.overstore.proofs.run.answer_with_keys.Goals as goal
 
 pub returns-in-Ok-Some-clause-status : goal.returns-in-Ok-Some-clause-status
-returns-in-Ok-Some-clause-status g c = inr c.answer_under.ensures.status
+returns-in-Ok-Some-clause-status g c = inr c.answer_over.ensures.status
 
 pub returns-in-Ok-None-clause-status : goal.returns-in-Ok-None-clause-status
-returns-in-Ok-None-clause-status g c = keys_ends_so _ _ _ _ c.put_last.ensures.ends
+returns-in-Ok-None-clause-status g c = ends_so IsKeysStatus _ 10 _ _ _ (inl refl) keys_six c.put_last.ensures.ends
 
 pub returns-in-Err-clause-status : goal.returns-in-Err-clause-status
-returns-in-Err-clause-status g c = inr (ends_so _ 5 _ _ _ c.put_last-in-Err.ensures.ends (inr (inl refl)))
+returns-in-Err-clause-status g c = ends_so IsKeysStatus _ 5 _ _ _ keys_five keys_six c.put_last-in-Err.ensures.ends
 
 pub returns-in-Ok-Some-clause-keys : goal.returns-in-Ok-Some-clause-keys
 returns-in-Ok-Some-clause-keys g c =
-    judged_with _ (g.K.Source.left c.args.keys.now) _ _ _ _ _ _ (rw c.in-Ok-Some.field-0-is at c.in-Ok-Some.ensures.read) (not_keys _ c.answer_under.ensures.status)
+    judged_with _ (g.K.Source.left c.args.keys.now) _ _ _ _ _ _ (rw c.in-Ok-Some.field-0-is at c.in-Ok-Some.ensures.read) (not_keys _ c.answer_over.ensures.status)
 
 pub returns-in-Ok-None-clause-keys : goal.returns-in-Ok-None-clause-keys
 returns-in-Ok-None-clause-keys g c =
-    judged_none _ (g.K.Source.left c.args.keys.now) _ _ _ _ (rw c.in-Ok-None.field-0-is at c.in-Ok-None.ensures.read) c.put_last.ensures.ends refl
+    judged_none _ (g.K.Source.left c.args.keys.now) _ _ _ _ (rw c.in-Ok-None.field-0-is at c.in-Ok-None.ensures.read) c.put_last.ensures.ends (refl, refl)
 
 pub returns-in-Err-clause-keys : goal.returns-in-Err-clause-keys
-returns-in-Err-clause-keys g c = judged_failed _ (g.K.Source.left c.args.keys.now) _ _ _ _ c.put_last-in-Err.ensures.ends refl
+returns-in-Err-clause-keys g c = judged_failed _ (g.K.Source.left c.args.keys.now) _ _ _ _ c.put_last-in-Err.ensures.ends (refl, refl)
 
-pub returns-in-Ok-None-clause-concluded : goal.returns-in-Ok-None-clause-concluded
-returns-in-Ok-None-clause-concluded g c = before_the_script c.args.mode _ _ _ _ 10 keys_line BadKeys (keys_printed c.args.mode) refl c.put_last.ensures.ends
+pub returns-in-Ok-Some-clause-ends : goal.returns-in-Ok-Some-clause-ends
+returns-in-Ok-Some-clause-ends g c =
+    from_read (λ (k : Masters) (p : PlainHistory). OpensAs g.D.Disk.reads g.D.Disk.may_leave k c.args.mode p c.args.disk)
+    (λ (k : Masters) (p : PlainHistory) (text : List ℕ). EndsAs g.D.Disk.reads g.D.Disk.may_leave g.D.Disk.moment g.D.Disk.left_since k p text c.args.disk c.answer_over.result.1 (g.O.Sink.written c.args.out.now) (g.O.Sink.written c.answer_over.new.out) c.answer_over.result.0 (Unit {0}))
+    (plain_masters c.in-Ok-Some.masters) (g.K.Source.left c.args.keys.now) (g.I.Source.left c.args.input.now) (rw c.in-Ok-Some.field-0-is at c.in-Ok-Some.ensures.read) c.answer_over.ensures.ends
 
-pub returns-in-Err-clause-concluded : goal.returns-in-Err-clause-concluded
-returns-in-Err-clause-concluded g c = before_the_script c.args.mode _ _ _ _ 5 read_line ReadFault (read_printed c.args.mode) refl c.put_last-in-Err.ensures.ends
+pub returns-in-Ok-None-clause-ends : goal.returns-in-Ok-None-clause-ends
+returns-in-Ok-None-clause-ends g c =
+    from_none (λ (k : Masters) (p : PlainHistory) (text : List ℕ). OpensAs g.D.Disk.reads g.D.Disk.may_leave k c.args.mode p c.args.disk
+    → EndsAs g.D.Disk.reads g.D.Disk.may_leave g.D.Disk.moment g.D.Disk.left_since k p text c.args.disk c.args.disk (g.O.Sink.written c.args.out.now) (g.O.Sink.written c.put_last.new.out) c.put_last.result (Unit {0})) (g.K.Source.left c.args.keys.now) (g.I.Source.left c.args.input.now) (rw c.in-Ok-None.field-0-is at c.in-Ok-None.ensures.read)
 
-pub returns-in-Ok-Some-clause-left : goal.returns-in-Ok-Some-clause-left
-returns-in-Ok-Some-clause-left g c =
-    let k : Masters = record { base = c.in-Ok-Some.masters.base.bytes; surface = c.in-Ok-Some.masters.surface.bytes } in
-    left_under (g.K.Source.left c.args.keys.now) (g.I.Source.left c.args.input.now) k c.args.mode c.answer_under.result c.answer_under.new.left
-    (rw c.in-Ok-Some.field-0-is at c.in-Ok-Some.ensures.read) c.answer_under.ensures.left
+pub returns-in-Err-clause-ends : goal.returns-in-Err-clause-ends
+returns-in-Err-clause-ends g c =
+    from_all (λ (k : Masters) (p : PlainHistory) (text : List ℕ). OpensAs g.D.Disk.reads g.D.Disk.may_leave k c.args.mode p c.args.disk
+    → EndsAs g.D.Disk.reads g.D.Disk.may_leave g.D.Disk.moment g.D.Disk.left_since k p text c.args.disk c.args.disk (g.O.Sink.written c.args.out.now) (g.O.Sink.written c.put_last-in-Err.new.out) c.put_last-in-Err.result (Unit {0})) (g.K.Source.left c.args.keys.now) (g.I.Source.left c.args.input.now)
+    (λ k p text opens. ends_untouched g.D.Disk.reads g.D.Disk.may_leave g.D.Disk.moment g.D.Disk.left_since k c.args.mode p text c.args.disk _ _ _ c.put_last-in-Err.ensures.ends opens
+    (g.met.D.Disk.only_now c.args.disk) (g.met.D.Disk.counts_now c.args.disk))
 
-pub returns-in-Ok-None-clause-left : goal.returns-in-Ok-None-clause-left
-returns-in-Ok-None-clause-left g c =
-    none_under c.args.mode (g.K.Source.left c.args.keys.now) (g.I.Source.left c.args.input.now) keys_line 10 _ _ _ c.args.left.now c.put_last.ensures.ends (inr (inr refl)) c.requires.none
+pub returns-in-Ok-Some-clause-image : goal.returns-in-Ok-Some-clause-image
+returns-in-Ok-Some-clause-image g c =
+    image_read (λ (k : Masters). Told (g.D.Disk.reads c.args.disk) (λ i. JudgesImage k c.args.mode i c.answer_over.result.0 (g.O.Sink.written c.args.out.now) (g.O.Sink.written c.answer_over.new.out) (LeavesAsAtStart g.D.Disk.reads g.D.Disk.may_leave g.D.Disk.moment g.D.Disk.left_since c.args.disk c.answer_over.result.1)))
+    (plain_masters c.in-Ok-Some.masters) (g.K.Source.left c.args.keys.now) (rw c.in-Ok-Some.field-0-is at c.in-Ok-Some.ensures.read) c.answer_over.ensures.image
 
-pub returns-in-Err-clause-left : goal.returns-in-Err-clause-left
-returns-in-Err-clause-left g c =
-    none_under c.args.mode (g.K.Source.left c.args.keys.now) (g.I.Source.left c.args.input.now) read_line 5 _ _ _ c.args.left.now c.put_last-in-Err.ensures.ends (inl refl) c.requires.none
+pub returns-in-Ok-None-clause-image : goal.returns-in-Ok-None-clause-image
+returns-in-Ok-None-clause-image g c =
+    image_none (λ (k : Masters). Told (g.D.Disk.reads c.args.disk) (λ i. JudgesImage k c.args.mode i c.put_last.result (g.O.Sink.written c.args.out.now) (g.O.Sink.written c.put_last.new.out) (LeavesAsAtStart g.D.Disk.reads g.D.Disk.may_leave g.D.Disk.moment g.D.Disk.left_since c.args.disk c.args.disk))) (g.K.Source.left c.args.keys.now) (rw c.in-Ok-None.field-0-is at c.in-Ok-None.ensures.read)
+
+pub returns-in-Err-clause-image : goal.returns-in-Err-clause-image
+returns-in-Err-clause-image g c =
+    image_all (λ (k : Masters). Told (g.D.Disk.reads c.args.disk) (λ i. JudgesImage k c.args.mode i c.put_last-in-Err.result (g.O.Sink.written c.args.out.now) (g.O.Sink.written c.put_last-in-Err.new.out) (LeavesAsAtStart g.D.Disk.reads g.D.Disk.may_leave g.D.Disk.moment g.D.Disk.left_since c.args.disk c.args.disk))) (g.K.Source.left c.args.keys.now)
+    (λ k i told. judged_unread k c.args.mode i _ _ _ _ c.put_last-in-Err.ensures.ends
+    (started g.D.Disk.moment g.D.Disk.left_since g.D.Disk.may_leave c.args.disk (g.D.Disk.may_leave c.args.disk) (g.met.D.Disk.only_now c.args.disk) (λ x left. left)))
+
+pub returns-in-Ok-None-clause-tag : goal.returns-in-Ok-None-clause-tag
+returns-in-Ok-None-clause-tag g c = λ e. absurd (not_code _ 10 12 _ _ _ c.put_last.ensures.ends (λ z. omega arith) (λ z. omega arith) e)
+
+pub returns-in-Err-clause-tag : goal.returns-in-Err-clause-tag
+returns-in-Err-clause-tag g c = λ e. absurd (not_code _ 5 12 _ _ _ c.put_last-in-Err.ensures.ends (λ z. omega arith) (λ z. omega arith) e)

@@ -1,34 +1,58 @@
-use Rattle.std.proofs.Common.{refl}
-use Rattle.overstore.proofs.Running.{decided, is_status, judged_if, judged_unasked, not_usage, prints_as, words_known, words_refused}
+use Rattle.std.proofs.Common.{MutBor, refl, rules}
+use Rattle.overstore.proofs.Lending.{run_decides, run_image, run_lasts, run_prints, run_survives}
+use Rattle.overstore.proofs.Running.{judged_so, judged_unasked, words_refused}
 use Rattle.overstore.proofs.run.run.Goals as goal
 
 pub returns-in-Some-clause-printed : goal.returns-in-Some-clause-printed
-returns-in-Some-clause-printed g c = λ mode is.
-    prints_as mode c.in-Some.mode _ _ _ _ _ is c.in-Some.ensures.found c.answer_with_keys.ensures.concluded
-
-pub returns-in-Some-clause-keys : goal.returns-in-Some-clause-keys
-returns-in-Some-clause-keys g c = judged_if _ _ _ _ _ _ c.answer_with_keys.ensures.keys
-
-pub returns-in-Some-clause-words : goal.returns-in-Some-clause-words
-returns-in-Some-clause-words g c =
-    words_known _ _ _ _ _ (λ other. other c.in-Some.mode c.in-Some.ensures.found) (not_usage _ c.answer_with_keys.ensures.status)
-
-pub returns-in-Some-clause-status : goal.returns-in-Some-clause-status
-returns-in-Some-clause-status g c = is_status _ c.answer_with_keys.ensures.status
+returns-in-Some-clause-printed g c =
+    run_prints (λ (l : MutBor g.row.D.Denot). l.now) g.D.Disk.reads g.D.Disk.may_leave g.D.Disk.moment g.D.Disk.left_since
+    (record { ref_ptr = c.args.disk.ref_ptr; ghost_name = _; now = c.args.disk.now }) c.answer_with_keys-code.result.1 c.answer_with_keys-code.result.1.now refl
+    c.args.words.now (g.K.Source.left c.args.keys.now) (g.I.Source.left c.args.input.now) (g.O.Sink.written c.args.out.now) (g.O.Sink.written c.answer_with_keys-code.new.out) c.answer_with_keys-code.result.0 c.in-Some.mode c.in-Some.ensures.found c.answer_with_keys-code.ensures.ends
 
 pub returns-in-Some-clause-decided : goal.returns-in-Some-clause-decided
-returns-in-Some-clause-decided g c = λ mode is ten.
-    decided c.in-Some.mode _ _ _ _ _ _ _ ten c.answer_with_keys.ensures.causes.read c.answer_with_keys.ensures.causes.write c.answer_with_keys.ensures.concluded
+returns-in-Some-clause-decided g c =
+    run_decides (λ (l : MutBor g.row.D.Denot). l.now) g.D.Disk.reads g.D.Disk.may_leave g.D.Disk.moment g.D.Disk.left_since
+    (record { ref_ptr = c.args.disk.ref_ptr; ghost_name = _; now = c.args.disk.now }) c.answer_with_keys-code.result.1 c.answer_with_keys-code.result.1.now refl
+    c.args.words.now (g.K.Source.left c.args.keys.now) (g.I.Source.left c.args.input.now) (g.O.Sink.written c.args.out.now) (g.O.Sink.written c.answer_with_keys-code.new.out) c.answer_with_keys-code.result.0 c.in-Some.mode c.in-Some.ensures.found c.answer_with_keys-code.ensures.ends
+    _ _ _ _ c.answer_with_keys-code.ensures.keys.none (search rules) c.answer_with_keys-code.ensures.read c.answer_with_keys-code.ensures.write
+
+pub returns-in-Some-clause-survives : goal.returns-in-Some-clause-survives
+returns-in-Some-clause-survives g c =
+    run_survives (λ (l : MutBor g.row.D.Denot). l.now) g.D.Disk.reads g.D.Disk.may_leave g.D.Disk.moment g.D.Disk.left_since
+    (record { ref_ptr = c.args.disk.ref_ptr; ghost_name = _; now = c.args.disk.now }) c.answer_with_keys-code.result.1 _ (search rules)
+    c.args.words.now (g.K.Source.left c.args.keys.now) (g.I.Source.left c.args.input.now) (g.O.Sink.written c.args.out.now) (g.O.Sink.written c.answer_with_keys-code.new.out) c.answer_with_keys-code.result.0 c.in-Some.mode c.in-Some.ensures.found c.answer_with_keys-code.ensures.ends
+
+pub returns-in-Some-clause-lasts : goal.returns-in-Some-clause-lasts
+returns-in-Some-clause-lasts g c =
+    run_lasts (λ (l : MutBor g.row.D.Denot). l.now) g.D.Disk.reads g.D.Disk.may_leave g.D.Disk.moment g.D.Disk.left_since
+    (record { ref_ptr = c.args.disk.ref_ptr; ghost_name = _; now = c.args.disk.now }) c.answer_with_keys-code.result.1 _ (search rules)
+    c.args.words.now (g.K.Source.left c.args.keys.now) (g.I.Source.left c.args.input.now) (g.O.Sink.written c.args.out.now) (g.O.Sink.written c.answer_with_keys-code.new.out) c.answer_with_keys-code.result.0 c.in-Some.mode c.in-Some.ensures.found c.answer_with_keys-code.ensures.ends
+
+pub returns-in-Some-clause-image : goal.returns-in-Some-clause-image
+returns-in-Some-clause-image g c =
+    run_image (λ (l : MutBor g.row.D.Denot). l.now) g.D.Disk.reads g.D.Disk.may_leave g.D.Disk.moment g.D.Disk.left_since
+    (record { ref_ptr = c.args.disk.ref_ptr; ghost_name = _; now = c.args.disk.now }) c.answer_with_keys-code.result.1 _ (search rules)
+    c.args.words.now (g.K.Source.left c.args.keys.now) (g.I.Source.left c.args.input.now) (g.O.Sink.written c.args.out.now) (g.O.Sink.written c.answer_with_keys-code.new.out) c.answer_with_keys-code.result.0 c.in-Some.mode c.in-Some.ensures.found c.answer_with_keys-code.ensures.ends (g.D.Disk.reads c.args.disk.now) c.answer_with_keys-code.ensures.image
+
+pub returns-in-Some-clause-keys : goal.returns-in-Some-clause-keys
+returns-in-Some-clause-keys g c =
+    judged_so _ _ _ _ _ _ _ c.answer_with_keys-code.ensures.keys (λ untouched. search rules)
 
 pub returns-in-None-clause-printed : goal.returns-in-None-clause-printed
 returns-in-None-clause-printed g c = λ mode is. absurd (c.in-None.ensures.none mode is)
 
-pub returns-in-None-clause-keys : goal.returns-in-None-clause-keys
-returns-in-None-clause-keys g c =
-    judged_unasked _ _ _ _ _ _ (λ asked. c.in-None.ensures.none asked.0 asked.1) c.put_last.ensures.ends refl
-
-pub returns-in-None-clause-words : goal.returns-in-None-clause-words
-returns-in-None-clause-words g c = words_refused _ _ _ _ _ c.in-None.ensures.none (refl, refl) c.put_last.ensures.ends
-
 pub returns-in-None-clause-decided : goal.returns-in-None-clause-decided
 returns-in-None-clause-decided g c = λ mode is. absurd (c.in-None.ensures.none mode is)
+
+pub returns-in-None-clause-survives : goal.returns-in-None-clause-survives
+returns-in-None-clause-survives g c = λ mode is. absurd (c.in-None.ensures.none mode is)
+
+pub returns-in-None-clause-image : goal.returns-in-None-clause-image
+returns-in-None-clause-image g c = λ mode is. absurd (c.in-None.ensures.none mode is)
+
+pub returns-in-None-clause-keys : goal.returns-in-None-clause-keys
+returns-in-None-clause-keys g c =
+    judged_unasked _ _ _ _ _ _ (λ asked. c.in-None.ensures.none asked.0 asked.1) c.put_last.ensures.ends (refl, refl)
+
+pub returns-in-None-clause-words : goal.returns-in-None-clause-words
+returns-in-None-clause-words g c = words_refused _ _ _ _ _ c.in-None.ensures.none (refl, refl, refl) c.put_last.ensures.ends

@@ -1,19 +1,8 @@
-use Rattle.std.proofs.Common.{subst}
-use Rattle.std.specs.Prelude.{Ok, Err}
-use Rattle.ov_history.specs.Catalogue.{Catalogue}
-use Rattle.ov_state.specs.Queries.{AnswersList}
-use Rattle.overstore.proofs.Reading.{distinct_users, list_given, list_refused}
+use Rattle.ov_script.specs.declared.command.Command.TheVariants.{List as ListNames}
+use Rattle.overstore.proofs.Updating.{stays}
 use Rattle.overstore.proofs.machine.Machine.list.Goals as goal
 
-pub names_of-requires : goal.names_of-requires
-names_of-requires c = distinct_users c.args.self.now c.requires
-
-pub returns-in_ok-names-in-Ok : goal.returns-in_ok-names-in-Ok
-returns-in_ok-names-in-Ok c =
-    list_given c.args.self.now c.args.file c.in-Ok.list c.in_ok-names-in-Ok.names
-    (subst (λ (k : Catalogue). AnswersList k c.args.file (Ok c.in-Ok.list)) c.catalogue.ensures c.in-Ok.ensures) c.in_ok-names-in-Ok.ensures
-
-pub returns-in-Err : goal.returns-in-Err
-returns-in-Err c =
-    list_refused c.args.self.now c.args.file c.in-Err.why
-    (subst (λ (k : Catalogue). AnswersList k c.args.file (Err c.in-Err.why)) c.catalogue.ensures c.in-Err.ensures)
+pub returns-clause-steps : goal.returns-clause-steps
+returns-clause-steps g c =
+    stays g.D.Disk.reads g.D.Disk.may_leave g.D.Disk.moment g.D.Disk.left_since c.args.self.now (g.met.D.Disk.only_now c.args.self.now.disk)
+    (ListNames c.args.file) _ c.in_ok-listed.ensures

@@ -8,8 +8,8 @@ use Rattle.overstore.proofs.Owning.{not_all_users}
 use Rattle.overstore.proofs.machine.Machine.users_of.Goals as goal
 
 pub returns-in_err-user-clause-none : goal.returns-in_err-user-clause-none
-returns-in_err-user-clause-none c =
-    let users = c.args.self.now.catalogue.users in
+returns-in_err-user-clause-none g c =
+    let users = c.args.self.now.kept.catalogue.users in
     let missing : place_of c.name-item.result users ≡ length users =
     subst (λ (k : Catalogue). place_of c.name-item.result k.users ≡ length k.users) c.catalogue-catalogue.ensures c.in_err-user.ensures in
     subst (λ (r : Option ℕ). IfNone r (within (set_named users c.args.names.now) (everyone (length users)) ≡ false))

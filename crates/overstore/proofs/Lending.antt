@@ -1,0 +1,128 @@
+-- What is said of a disk behind a loan is said of the disk.
+use Rattle.std.proofs.Common.{◌≡◌, ◌⊎◌, ℕ, List, Option, Some, None}
+use Rattle.std.specs.Prelude.{IfSome, String}
+use Rattle.std.specs.declared.alloc.Global.{Global}
+use Rattle.std.proofs.Common.{subst}
+use Rattle.ov_base.specs.declared.mode.Mode.{Mode}
+use Rattle.ov_disk.specs.Disk.{Image, Told}
+use Rattle.ov_disk.specs.Moments.{LeavesOnly}
+use Rattle.ov_history.specs.Masters.{Masters}
+use Rattle.ov_history.specs.Plain.{PlainHistory}
+use Rattle.overstore.specs.Disks.{Lasts, OpensAs, Survives}
+use Rattle.overstore.specs.Machine.{AreMasters}
+use Rattle.overstore.specs.Running.{EndsAs, ForImage, FromEach, IsDecided, JudgesImage, LeavesAsAtStart, PrintsAs}
+use Rattle.overstore.specs.Words.{IsRun}
+use Rattle.ov_keyfile.specs.KeyFile.{HasMasters}
+use Rattle.overstore.proofs.Running.{decided, one_mode, prints_as}
+
+each_none : (keys : Option (List ℕ)) (status : ℕ) → (status ≡ 10 → IfSome keys (λ file. HasMasters file → ⊥)) → IfSome keys (λ file. status ≡ 10 → HasMasters file → ⊥)
+each_none None status none = tt
+each_none (Some file) status none = none
+
+-- what holds of the image in the mode that was found
+for_image : (image : Option Image) (words : List (String Global)) (keys : Option (List ℕ)) (mode : Mode) → IsRun mode words → (P Q : Masters → Mode → Image → Type 0)
+    → IfSome keys (λ file. (k : Masters) → AreMasters file k → Told image (P k mode)) → ((k : Masters) (i : Image) → P k mode i → Q k mode i) → ForImage image words keys Q
+for_image image words keys mode is P Q holds then other asked = by_cases keys holds where
+  by_cases : (keys : Option (List ℕ)) → IfSome keys (λ file. (k : Masters) → AreMasters file k → Told image (P k mode))
+      → IfSome keys (λ file. (k : Masters) → AreMasters file k → Told image (Q k other))
+  by_cases None holds = tt
+  by_cases (Some file) holds = λ k are i told.
+      subst (λ m. Q k m i) (one_mode mode other words is asked) (then k i (holds k are i told))
+
+-- This is how a loan shows its disk.
+module _ {L D : Type 0} (now : L → D) (reads : D → Option Image) (may_leave : D → Image → Type 0)
+    (moment : D → ℕ) (left_since : D → ℕ → Image → Type 0) where
+  lent_opens : (k : Masters) (mode : Mode) (p : PlainHistory) (loan : L) → OpensAs reads may_leave k mode p (now loan)
+      → OpensAs (λ l. reads (now l)) (λ l. may_leave (now l)) k mode p loan
+  lent_opens k mode p loan o =
+      record { image = o.image; told = o.told; settled = o.settled; legal = o.legal; mode_is = o.mode_is; stands = o.stands }
+
+  pub lent_leaves : (first last : L) (P : Image → Type 0) → LeavesOnly (λ l. moment (now l)) (λ l. left_since (now l)) first last P
+      → LeavesOnly moment left_since (now first) (now last) P
+  lent_leaves first last P leaves = record { later = leaves.later; each = leaves.each; before = leaves.before }
+
+  pub lent_survives : (k : Masters) (p : PlainHistory) (text : List ℕ) (first last : L) (old new : Option (List ℕ))
+      → Survives (λ l. reads (now l)) (λ l. may_leave (now l)) (λ l. moment (now l)) (λ l. left_since (now l)) k p text first last old new
+      → Survives reads may_leave moment left_since k p text (now first) (now last) old new
+  lent_survives k p text first last old new s = record { any_moment = lent_leaves first last _ s.any_moment; at_exit = s.at_exit }
+
+  pub lent_lasts : (k : Masters) (p : PlainHistory) (text : List ℕ) (last : L) → Lasts (λ l. reads (now l)) (λ l. may_leave (now l)) k p text last
+      → Lasts reads may_leave k p text (now last)
+  lent_lasts k p text last l =
+      record { commands = l.commands; whole = l.whole; image = l.image; told = l.told; reads_it = l.reads_it; leaves_it = l.leaves_it; tokens = l.tokens }
+
+  pub lent_image : (k : Masters) (mode : Mode) (i : Image) (status : ℕ) (old new : Option (List ℕ)) (first last : L)
+      → JudgesImage k mode i status old new (LeavesAsAtStart (λ l. reads (now l)) (λ l. may_leave (now l)) (λ l. moment (now l)) (λ l. left_since (now l)) first last)
+      → JudgesImage k mode i status old new (LeavesAsAtStart reads may_leave moment left_since (now first) (now last))
+  lent_image k mode i status old new first last j = record {
+    refused = j.refused;
+    ends = j.ends;
+    unwritten = λ none. lent_leaves first last _ (j.unwritten none);
+  }
+
+  -- from what holds in the mode that was found
+  from_each : (loan : L) (words : List (String Global)) (keys input : Option (List ℕ)) (mode : Mode) → IsRun mode words
+      → (E Q : Masters → PlainHistory → List ℕ → Type 0) (F : List ℕ → Type 0) → IfSome keys F
+      → IfSome keys (λ file. IfSome input (λ text. (k : Masters) (p : PlainHistory) → AreMasters file k
+      → OpensAs (λ l. reads (now l)) (λ l. may_leave (now l)) k mode p loan → E k p text))
+      → ((file : List ℕ) (k : Masters) (p : PlainHistory) (text : List ℕ) → AreMasters file k → F file → E k p text → Q k p text)
+      → FromEach reads may_leave (now loan) words keys input Q
+  from_each loan words keys input mode is E Q F facts holds then other asked = by_cases keys input facts holds where
+    by_cases : (keys input : Option (List ℕ)) → IfSome keys F → IfSome keys (λ file. IfSome input (λ text. (k : Masters) (p : PlainHistory) → AreMasters file k
+        → OpensAs (λ l. reads (now l)) (λ l. may_leave (now l)) k mode p loan → E k p text))
+        → IfSome keys (λ file. IfSome input (λ text. (k : Masters) (p : PlainHistory) → AreMasters file k → OpensAs reads may_leave k other p (now loan) → Q k p text))
+    by_cases None input facts holds = tt
+    by_cases (Some file) None facts holds = tt
+    by_cases (Some file) (Some text) facts holds = λ k p are opens.
+        then file k p text are facts
+        (holds k p are (lent_opens k mode p loan (subst (λ m. OpensAs reads may_leave k m p (now loan)) (one_mode other mode words asked is) opens)))
+
+  -- The run ended so over the loan, and this is the disk that came back.
+  module _ (first last : L) (final : D) (back : now last ≡ final) (words : List (String Global)) (keys input old new : Option (List ℕ)) (status : ℕ)
+      (mode : Mode) (is : IsRun mode words)
+      (ends : IfSome keys (λ file. IfSome input (λ text. (k : Masters) (p : PlainHistory) → AreMasters file k
+      → OpensAs (λ l. reads (now l)) (λ l. may_leave (now l)) k mode p first
+      → EndsAs (λ l. reads (now l)) (λ l. may_leave (now l)) (λ l. moment (now l)) (λ l. left_since (now l)) k p text first last old new status (Unit {0})))) where
+    abbrev E : Masters → PlainHistory → List ℕ → Type 0
+    E k p text = EndsAs (λ l. reads (now l)) (λ l. may_leave (now l)) (λ l. moment (now l)) (λ l. left_since (now l)) k p text first last old new status (Unit {0})
+
+    nothing : (o : Option (List ℕ)) → IfSome o (λ file. Unit {0})
+    nothing None = tt
+    nothing (Some file) = tt
+
+    pub run_prints : FromEach reads may_leave (now first) words keys input (λ k p text. PrintsAs p text status old new)
+    run_prints =
+        from_each first words keys input mode is E (λ k p text. PrintsAs p text status old new) (λ _. Unit {0}) (nothing keys) ends
+        (λ file k p text are fact e. prints_as p text old new status e.concluded)
+
+    pub run_decides : (key_faults script out disk : Type 0) → (status ≡ 10 → IfSome keys (λ file. HasMasters file → ⊥))
+        → (status ≡ 4 → disk) → (status ≡ 5 → key_faults ⊎ script) → (status ≡ 6 → out)
+        → FromEach reads may_leave (now first) words keys input (λ k p text. IsDecided text status key_faults script out disk)
+    run_decides key_faults script out disk none call read write =
+        from_each first words keys input mode is E (λ k p text. IsDecided text status key_faults script out disk) (λ file. status ≡ 10 → HasMasters file → ⊥)
+        (each_none keys status none) ends
+        (λ file k p text are no_keys e. decided p text old new status key_faults script out disk (λ ten. no_keys ten (k.base, k.surface, are)) call read write e.concluded)
+
+    pub run_survives : FromEach reads may_leave (now first) words keys input
+        (λ k p text. Survives reads may_leave moment left_since k p text (now first) final old new)
+    run_survives =
+        from_each first words keys input mode is E (λ k p text. Survives reads may_leave moment left_since k p text (now first) final old new) (λ _. Unit {0}) (nothing keys) ends
+        (λ file k p text are fact e. subst (λ d. Survives reads may_leave moment left_since k p text (now first) d old new) back
+        (lent_survives k p text first last old new (e.survives tt)))
+
+    pub run_lasts : status ≡ 0 → FromEach reads may_leave (now first) words keys input (λ k p text. Lasts reads may_leave k p text final)
+    run_lasts zero =
+        from_each first words keys input mode is E (λ k p text. Lasts reads may_leave k p text final) (λ _. Unit {0}) (nothing keys) ends
+        (λ file k p text are fact e. subst (λ d. Lasts reads may_leave k p text d) back (lent_lasts k p text last (e.lasts tt zero)))
+
+    pub run_image : (image : Option Image)
+        → IfSome keys (λ file. (k : Masters) → AreMasters file k → Told image (λ i. JudgesImage k mode i status old new
+        (LeavesAsAtStart (λ l. reads (now l)) (λ l. may_leave (now l)) (λ l. moment (now l)) (λ l. left_since (now l)) first last)))
+        → ForImage image words keys (λ k mode i. JudgesImage k mode i status old new (LeavesAsAtStart reads may_leave moment left_since (now first) final))
+    run_image image holds =
+        for_image image words keys mode is
+        (λ k m i. JudgesImage k m i status old new
+        (LeavesAsAtStart (λ l. reads (now l)) (λ l. may_leave (now l)) (λ l. moment (now l)) (λ l. left_since (now l)) first last))
+        (λ k m i. JudgesImage k m i status old new (LeavesAsAtStart reads may_leave moment left_since (now first) final)) holds
+        (λ k i judged. subst (λ d. JudgesImage k mode i status old new (LeavesAsAtStart reads may_leave moment left_since (now first) d)) back
+        (lent_image k mode i status old new first last judged))
