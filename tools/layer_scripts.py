@@ -1,12 +1,14 @@
-"""Scripts by which the speed of the layers is measured (docs/PERFORMANCE.md).
+"""Scripts by which the speed of the layers and of a store is measured (docs/PERFORMANCE.md).
 
-    python3 tools/layer_scripts.py sets|reads|revoke|grant|wide > SCRIPT
+    python3 tools/layer_scripts.py sets|reads|revoke|grant|wide|updates|large > SCRIPT
 
 sets    twelve users, and a file of no bytes for each of the 4,084 other sets of them
 reads   one user, 1,000 files of 4,096 bytes, and a read of each
 revoke  two users, 16,384 files for both, and 100 revocations and grants of one file
 grant   three users, 10,000 files of 4,096 bytes for two of them, and a grant of one to the third
 wide    those of `sets`, 12,288 more files for all twelve, and 500 revocations and grants of one
+updates two users, a file of one byte for both, and 9,997 revocations and grants of it
+large   one user, and 63 files of 1,048,576 bytes
 """
 import sys
 
@@ -60,4 +62,18 @@ def wide():
         put(b"revoke u3 g77\ngrant u3 g77\n")
 
 
-{"sets": sets, "reads": reads, "revoke": revoke, "grant": grant, "wide": wide}[sys.argv[1]]()
+def updates():
+    put(b"enrol a\nenrol b\n")
+    create(b"f", b"a,b", 1)
+    for number in range(9997):
+        put(b"grant b f\n" if number % 2 else b"revoke b f\n")
+
+
+def large():
+    put(b"enrol a\n")
+    for file in range(63):
+        create(b"f%d" % file, b"a", 1048576)
+
+
+scripts = [sets, reads, revoke, grant, wide, updates, large]
+{script.__name__: script for script in scripts}[sys.argv[1]]()

@@ -1,0 +1,286 @@
+"""Runs the program where `run` can't be run in a proof: every exit status over real files, standard
+streams that are closed at the start, files that are folders, two programs at once, a stop after each
+write of a grant, and 300 kills.
+
+Run, after `rt run` has built the program: python3 tools/program_cases.py crates/overstore/out/overstore
+"""
+import os
+import pathlib
+import random
+import resource
+import shutil
+import signal
+import subprocess
+import sys
+import tempfile
+import time
+
+PROGRAM = str(pathlib.Path(sys.argv[1]).resolve())
+KEYS = pathlib.Path(__file__).resolve().parent.parent / "examples" / "keys.hex"
+KILLS = 300
+
+
+def new_folder(keys=True):
+    folder = pathlib.Path(tempfile.mkdtemp(dir=BASE))
+    if keys:
+        shutil.copy(KEYS, folder / "keys.hex")
+    return folder
+
+
+def run(folder, script=b"", mode="delta", **streams):
+    """The status of a run, and what it put."""
+    if "stdin" not in streams:
+        streams["input"] = script
+    streams.setdefault("stdout", subprocess.PIPE)
+    streams.setdefault("stderr", subprocess.PIPE)
+    done = subprocess.run([PROGRAM, "run", mode], cwd=folder, **streams)
+    if done.returncode != 0 and done.stderr is not None:
+        assert done.stderr.startswith(b"overstore: error: "), done.stderr
+        assert done.stderr.count(b"\n") == 1, done.stderr
+    return done.returncode, done.stdout
+
+
+def expect(found, status, lines):
+    assert found == (status, lines), (found, status, lines)
+
+
+def files_of(folder):
+    return {path.name: path.read_bytes() for path in folder.iterdir() if path.is_file()}
+
+
+# ---- statuses
+
+
+def good_and_bad_scripts():
+    folder = new_folder()
+    expect(run(folder), 0, b"end epoch 0\n")
+    assert (folder / "store.book").stat().st_size == 79
+    expect(run(folder, b"enrol alice\n"), 0, b"ok 1\nend epoch 1\n")
+    assert (folder / "store.book").stat().st_size == 91
+    expect(run(folder, b"enrol bob\nenrol Eve\n"), 3, b"ok 2\nerror line 2\n")
+    assert (folder / "store.book").stat().st_size == 101
+    expect(run(folder, b"epoch\n"), 0, b"epoch 2\nend epoch 2\n")
+    expect(run(folder, mode="half"), 2, b"error usage\n")
+
+
+def a_script_that_is_too_long():
+    folder = new_folder()
+    line = b"enrol %s\n" % (b"a" * 57)
+    program = subprocess.Popen(
+        [PROGRAM, "run", "full"], cwd=folder, stdin=subprocess.PIPE, stdout=subprocess.PIPE, stderr=subprocess.DEVNULL
+    )
+    writer = os.fork()
+    if writer == 0:
+        program.stdout.close()
+        try:
+            for _ in range(268_435_456 // 65_536 + 1):
+                program.stdin.write(line * 1_024)
+            program.stdin.close()
+        except BrokenPipeError:
+            pass
+        os._exit(0)
+    program.stdin.close()
+    last = b""
+    while piece := program.stdout.read(65_536):
+        last = (last + piece)[-32:]
+    os.waitpid(writer, 0)
+    assert program.wait() == 11 and last.endswith(b"\nerror long\n"), last
+
+
+def disks_that_fail():
+    """Folders in the place of files, a limit on the size of files, and no right to write."""
+    for name in ("store.book", "store.blobs"):
+        folder = new_folder()
+        (folder / name).mkdir()
+        expect(run(folder, b"enrol a\n"), 4, b"error disk\n")
+    folder = new_folder()
+    limit = lambda: (
+        signal.signal(signal.SIGXFSZ, signal.SIG_IGN),
+        resource.setrlimit(resource.RLIMIT_FSIZE, (95, 95)),
+    )
+    expect(run(folder, b"enrol alice\nenrol bob\n", preexec_fn=limit), 4, b"ok 1\nerror disk\n")
+    expect(run(folder), 0, b"end epoch 1\n")
+
+
+def reads_that_fail():
+    folder = new_folder(keys=False)
+    expect(run(folder, b"enrol a\n"), 5, b"error read\n")
+    (folder / "keys.hex").mkdir()
+    expect(run(folder, b"enrol a\n"), 5, b"error read\n")
+    assert sorted(path.name for path in folder.iterdir()) == ["keys.hex"]
+    folder = new_folder()
+    place = os.open(folder, os.O_RDONLY)
+    expect(run(folder, stdin=place), 5, b"error read\n")
+    os.close(place)
+
+
+def writes_that_fail():
+    folder = new_folder()
+    with open("/dev/full", "wb") as full:
+        expect(run(folder, b"enrol a\nenrol b\n", stdout=full), 6, None)
+    status, lines = run(folder)
+    assert status == 0 and lines == b"end epoch 1\n", lines
+
+
+def memory_that_is_refused():
+    """Under a limit of addresses the largest file ends in 7, and the store is as it was."""
+    folder = new_folder()
+    limit = lambda: resource.setrlimit(resource.RLIMIT_AS, (8 << 20, 8 << 20))
+    script = b"enrol a\n" + b"".join(b"create f%d a 1048576\n%s\n" % (n, b"x" * 1_048_576) for n in range(8))
+    status, lines = run(folder, script, preexec_fn=limit)
+    assert status == 7 and lines.endswith(b"error memory\n"), (status, lines[-40:])
+    accepted = lines.count(b"ok ")
+    assert 1 <= accepted < 9
+    expect(run(folder), 0, b"end epoch %d\n" % accepted)
+
+
+def stores_that_do_not_open():
+    good = new_folder()
+    run(good, b"enrol alice\n")
+    book = bytearray((good / "store.book").read_bytes())
+    book[84] = 0
+    for content, mode, lines, status in [
+        (b"x" * 200, "delta", b"error notastore\n", 8),
+        (bytes(book), "delta", b"error damaged book 84\n", 8),
+        ((good / "store.book").read_bytes(), "full", b"error mode delta full\n", 9),
+    ]:
+        folder = new_folder()
+        (folder / "store.book").write_bytes(content)
+        (folder / "store.blobs").write_bytes(b"")
+        before = files_of(folder)
+        expect(run(folder, b"enrol bob\n", mode), status, lines)
+        assert files_of(folder) == before
+    for line in (0, 1):
+        folder = new_folder()
+        run(folder)
+        digits = (folder / "keys.hex").read_bytes().split(b"\n")
+        digits[line] = digits[line][::-1]
+        (folder / "keys.hex").write_bytes(b"\n".join(digits))
+        before = files_of(folder)
+        status, lines = run(folder, b"enrol bob\n")
+        assert status == 9 and lines.startswith((b"error key base ", b"error key surface ")[line])
+        assert files_of(folder) == before
+
+
+def key_files_that_are_none():
+    for content in (b"", b"0" * 64, b"0" * 64 + b"\n" + b"0" * 64 + b"\n", b"x" * 200):
+        folder = new_folder()
+        (folder / "keys.hex").write_bytes(content)
+        expect(run(folder, b"enrol a\n"), 10, b"error keys\n")
+        assert sorted(path.name for path in folder.iterdir()) == ["keys.hex"]
+
+
+# ---- streams
+
+
+def closed_streams():
+    """No file of the folder comes to stand where a standard stream was closed."""
+    for stream, status, lines in [(0, 5, b"error read\n"), (1, 6, b""), (2, 0, b"ok 1\nend epoch 1\n")]:
+        folder = new_folder()
+        keys = (folder / "keys.hex").read_bytes()
+        (folder / "script").write_bytes(b"enrol alice\n")
+        redirect = {0: "<&- >lines", 1: "<script >&-", 2: "<script >lines 2>&-"}[stream]
+        (folder / "lines").write_bytes(b"")
+        done = subprocess.run(f'"{PROGRAM}" run full {redirect}', cwd=folder, shell=True, stderr=subprocess.DEVNULL)
+        assert done.returncode == status, (stream, done.returncode)
+        assert (folder / "lines").read_bytes() == lines
+        assert (folder / "keys.hex").read_bytes() == keys
+        status, lines = run(folder, mode="full")
+        assert status == 0 and lines in (b"end epoch 0\n", b"end epoch 1\n")
+
+
+def two_at_once():
+    folder = new_folder()
+    first = subprocess.Popen([PROGRAM, "run", "delta"], cwd=folder, stdin=subprocess.PIPE, stdout=subprocess.PIPE)
+    first.stdin.write(b"enrol a\n")
+    first.stdin.flush()
+    assert first.stdout.readline() == b"ok 1\n"
+    second = subprocess.run(
+        [PROGRAM, "run", "delta"], cwd=folder, input=b"enrol b\n", stdout=subprocess.PIPE, stderr=subprocess.PIPE
+    )
+    assert (second.returncode, second.stdout) == (4, b"error disk\n"), second
+    assert b"in use" in second.stderr, second.stderr
+    first.stdin.write(b"enrol c\n")
+    first.stdin.close()
+    assert first.stdout.read() == b"ok 2\nend epoch 2\n" and first.wait() == 0
+
+
+# ---- stops
+
+
+def a_grant_that_is_stopped():
+    """301 bare files of one node, and a grant that coats 300 of them: whatever a stop leaves of its
+    record opens with all of it or with nothing."""
+    folder = new_folder()
+    script = b"enrol a\nenrol b\nenrol c\n" + b"".join(b"create f%d a,b 1\nx\n" % n for n in range(301))
+    assert run(folder, script)[0] == 0
+    before = (folder / "store.book").read_bytes()
+    expect(run(folder, b"grant c f0\n"), 0, b"ok 305\nend epoch 305\n")
+    after = (folder / "store.book").read_bytes()
+    gate = len(before) - 1
+    assert before[gate] == 0 and after[gate] == 1 and after[:gate] == before[:gate]
+    left = [(before, 304), (after, 305)]
+    tail = after[gate + 1 :]
+    for fill in (b"\0", b"\1", b"\xff"):
+        for count in range(len(tail) + 1):
+            left.append((before + tail[:count] + fill * (len(tail) - count), 304))
+            left.append((before + tail[:count], 304))
+    left.append((before + tail, 304))
+    questions = b"list f0\nread c f0\nread c f300\nread a f300\n"
+    for book, epoch in left:
+        (folder / "store.book").write_bytes(book)
+        first = b"list f0 a,b,c\ndata c f0 1\nx\n" if epoch == 305 else b"list f0 a,b\nrefused 4 NoPath\n"
+        rest = b"refused 4 NoPath\ndata a f300 1\nx\nend epoch %d\n" % epoch
+        expect(run(folder, questions), 0, first + rest)
+        assert (folder / "store.book").read_bytes() == book
+
+
+def killed_at_random():
+    """A store that is killed again and again keeps each update whose line was seen, and at most one
+    more."""
+    chance = random.Random(7)
+    folder = new_folder()
+    expect(run(folder, b"enrol a\nenrol b\ncreate f a 3\nxyz\n"), 0, b"ok 1\nok 2\nok 3\nend epoch 3\n")
+    epoch, listed = 3, False
+    for _ in range(KILLS):
+        words = []
+        for number in range(400):
+            words.append(b"grant b f\n" if listed == (number % 2 == 1) else b"revoke b f\n")
+        program = subprocess.Popen(
+            [PROGRAM, "run", "delta"], cwd=folder, stdin=subprocess.PIPE, stdout=subprocess.PIPE
+        )
+        program.stdin.write(b"".join(words))
+        program.stdin.flush()
+        time.sleep(chance.random() * 0.05)
+        program.kill()
+        seen = program.stdout.read().count(b"\n")
+        program.stdin.close()
+        program.wait()
+        status, lines = run(folder, b"list f\n")
+        assert status == 0, lines
+        now = int(lines.split()[-1])
+        assert epoch + seen <= now <= epoch + seen + 1, (epoch, seen, now)
+        listed = b"list f a,b\n" in lines
+        assert listed == ((now - 3) % 2 == 1)
+        epoch = now
+    return epoch
+
+
+cases = [
+    good_and_bad_scripts,
+    a_script_that_is_too_long,
+    disks_that_fail,
+    reads_that_fail,
+    writes_that_fail,
+    memory_that_is_refused,
+    stores_that_do_not_open,
+    key_files_that_are_none,
+    closed_streams,
+    two_at_once,
+    a_grant_that_is_stopped,
+    killed_at_random,
+]
+with tempfile.TemporaryDirectory() as BASE:
+    for case in cases:
+        case()
+        print(case.__name__, flush=True)
