@@ -13,7 +13,7 @@ use Rattle.ov_disk.proofs.Runs.{then_on, weaker}
 use Rattle.ov_journal.specs.Book.{Contents, spelled}
 use Rattle.ov_journal.specs.Standing.{IsUnborn, HasMagic, HasNoMode}
 use Rattle.ov_journal.specs.declared.header.Header.{Header}
-use Rattle.ov_images.specs.Images.{IsImageOf, Keeps, Keys, StandsIn, header_of, keys_of}
+use Rattle.ov_images.specs.Images.{IsImageOf, Keeps, Keys, header_of, keys_of}
 use Rattle.ov_images.specs.Damage.{HasBadRecords, HasHeader}
 use Rattle.ov_images.proofs.Damage.{damaged_keeps_none}
 use Rattle.ov_images.proofs.Keeping.{is_born, mode_of-spelled}
@@ -21,18 +21,19 @@ use Rattle.ov_script.proofs.ByteTexts.{same_length}
 use Rattle.ov_history.specs.Masters.{Masters}
 use Rattle.ov_history.specs.Plain.{PlainHistory, history_of}
 use Rattle.ov_history.specs.Refusals.{IsLegal}
-use Rattle.ov_history.specs.Sealed.{SealedHistory, blank}
+use Rattle.ov_history.specs.Sealed.{SealedHistory}
 use Rattle.ov_history.specs.Sealing.{sealed}
-use Rattle.ov_store.specs.Beginning.{FindsHistory, IsBeginFault, IsNew, LeavesHistory}
+use Rattle.ov_store.specs.Beginning.{IsBeginFault, IsNew, LeavesHistory}
 use Rattle.ov_store.specs.Opened.{Opened, Serves, StaysTold}
 use Rattle.ov_store.specs.declared.fault.BeginFault.{BeginFault}
 use Rattle.ov_store.specs.declared.fault.BeginFault.TheVariants.{Disk, NotAStore, Damaged, BaseDiffers, SurfaceDiffers, ModeDiffers, Memory}
 use Rattle.overstore.specs.Answering.{EndsIn, EndsOr}
 use Rattle.overstore.specs.Disks.{Holds, KeepsFirst, OpensAs, StandsForPlain, Survives}
 use Rattle.overstore.specs.Faults.{HasValues, fault_line, fault_status}
+use Rattle.overstore.specs.Judging.{FindsPlain, Refuses}
 use Rattle.overstore.specs.Machine.{KeptOn, StandsFor, opened_of}
-use Rattle.overstore.specs.Printing.{DiskFault, OutOfMemory, IsRefused, disk_line, memory_line, read_line}
-use Rattle.overstore.specs.Running.{EndsAs, JudgesImage}
+use Rattle.overstore.specs.Printing.{DiskFault, OutOfMemory, disk_line, memory_line}
+use Rattle.overstore.specs.Running.{EndsAs}
 use Rattle.overstore.proofs.Concluding.{at_once, disk_printed, memory_printed, none_read}
 use Rattle.overstore.proofs.Surviving.{answered_error, front_put, not_zero}
 use Rattle.overstore.proofs.Updating.{now_so}
@@ -105,28 +106,25 @@ module _ (k : Keys) (mode : Mode) (g : SealedHistory) (i : Image) (mode_is : g.m
   not_mode stored given (inr keeps) (h, has, b, c, s, v, other) =
       other (s ∙ sym (mode_of-spelled (header_of k g) h (same_head keeps h has)) ∙ mode_is ∙ sym v)
 
-  pub refused_so : (fault : BeginFault) (old new : Option (List ℕ)) (status : ℕ) → HasValues fault → IsImageOf k g i → IsBeginFault k mode i fault
-      → EndsOr (fault_line fault) (fault_status fault) old new status → EndsIn disk_line 4 old new status ⊎ EndsIn memory_line 7 old new status
-  refused_so Disk old new status values opens why (inl e) = inl e
-  refused_so Disk old new status values opens why (inr e) = inr e
-  refused_so Memory old new status values opens why (inl e) = inr e
-  refused_so Memory old new status values opens why (inr e) = inr e
-  refused_so NotAStore old new status values opens why ends = absurd (not_foreign opens why)
-  refused_so (Damaged area place) old new status values opens why ends = absurd (not_damaged place opens why.1)
-  refused_so (BaseDiffers stored given) old new status values opens why ends = absurd (not_base stored given values opens why)
-  refused_so (SurfaceDiffers stored given) old new status values opens why ends = absurd (not_surface stored given opens why)
-  refused_so (ModeDiffers stored given) old new status values opens why ends = absurd (not_mode stored given opens why)
+  pub faulted_so : (fault : BeginFault) → HasValues fault → IsImageOf k g i → IsBeginFault k mode i fault → (fault ≡ Disk) ⊎ (fault ≡ Memory)
+  faulted_so Disk values opens why = inl refl
+  faulted_so Memory values opens why = inr refl
+  faulted_so NotAStore values opens why = absurd (not_foreign opens why)
+  faulted_so (Damaged area place) values opens why = absurd (not_damaged place opens why.1)
+  faulted_so (BaseDiffers stored given) values opens why = absurd (not_base stored given values opens why)
+  faulted_so (SurfaceDiffers stored given) values opens why = absurd (not_surface stored given opens why)
+  faulted_so (ModeDiffers stored given) values opens why = absurd (not_mode stored given opens why)
+
+-- the line on such a fault
+pub ends_in_fault : (fault : BeginFault) (old new : Option (List ℕ)) (status : ℕ) → (fault ≡ Disk) ⊎ (fault ≡ Memory)
+    → EndsOr (fault_line fault) (fault_status fault) old new status → EndsIn disk_line 4 old new status ⊎ EndsIn memory_line 7 old new status
+ends_in_fault fault old new status (inl is) ends = subst (λ (f : BeginFault). EndsOr (fault_line f) (fault_status f) old new status) is ends
+ends_in_fault fault old new status (inr is) ends = inr (either (subst (λ (f : BeginFault). EndsOr (fault_line f) (fault_status f) old new status) is ends)) where
+  either : EndsIn memory_line 7 old new status ⊎ EndsIn memory_line 7 old new status → EndsIn memory_line 7 old new status
+  either (inl e) = e
+  either (inr e) = e
 
 -- ---- the status of a refusal
-
-pub code_is : (fault : BeginFault) (n : ℕ) → fault_status fault ≡ n → (n ≡ 4) ⊎ ((n ≡ 7) ⊎ IsRefused n)
-code_is Disk n e = inl (sym e)
-code_is Memory n e = inr (inl (sym e))
-code_is NotAStore n e = inr (inr (inl (sym e)))
-code_is (Damaged area place) n e = inr (inr (inl (sym e)))
-code_is (BaseDiffers stored given) n e = inr (inr (inr (sym e)))
-code_is (SurfaceDiffers stored given) n e = inr (inr (inr (sym e)))
-code_is (ModeDiffers stored given) n e = inr (inr (inr (sym e)))
 
 pub disk_is : (fault : BeginFault) → fault_status fault ≡ 4 → fault ≡ Disk
 disk_is Disk e = refl
@@ -142,44 +140,6 @@ disk_said fault line old new status (inl (inl q)) four = disk_is fault (sym q.0 
 disk_said fault line old new status (inl (inr q)) four = let six : status ≡ 6 = q.0 in absurd (omega arith)
 disk_said fault line old new status (inr (inl q)) four = let seven : status ≡ 7 = q.0 in absurd (omega arith)
 disk_said fault line old new status (inr (inr q)) four = let six : status ≡ 6 = q.0 in absurd (omega arith)
-
-refused_low : (status n : ℕ) → IsRefused status → status ≡ n → n ≤ 7 → ⊥
-refused_low status n (inl eight) e low = omega arith
-refused_low status n (inr nine) e low = omega arith
-
--- ---- the image
-
-module _ (k : Masters) (mode : Mode) (i : Image) (status : ℕ) (old new : Option (List ℕ)) (nothing_written : Type 0) where
-  -- it opened
-  pub judged_open : StandsIn (keys_of k) mode i → (IsRefused status → ⊥) → JudgesImage k mode i status old new nothing_written
-  judged_open stands other = record {
-    refused = λ is. absurd (other is);
-    ends = λ none. absurd (none stands);
-    unwritten = λ none. absurd (none stands);
-  }
-
-  said : (fault : BeginFault) → IsBeginFault (keys_of k) mode i fault → EndsOr (fault_line fault) (fault_status fault) old new status → IsRefused status
-      → (fault : BeginFault) × IsBeginFault (keys_of k) mode i fault × (status ≡ fault_status fault) × Rattle.std.specs.Io.KnownBytes.Appends old new (fault_line fault)
-  said fault why (inl (inl q)) is = (fault, why, q.0, q.1)
-  said fault why (inl (inr q)) is = absurd (refused_low status 6 is q.0 (omega arith))
-  said fault why (inr (inl q)) is = absurd (refused_low status 7 is q.0 (omega arith))
-  said fault why (inr (inr q)) is = absurd (refused_low status 6 is q.0 (omega arith))
-
-  -- it didn't
-  pub judged_refused : (fault : BeginFault) → IsBeginFault (keys_of k) mode i fault → EndsOr (fault_line fault) (fault_status fault) old new status
-      → ((IsUnborn i.book → ⊥) → nothing_written) → JudgesImage k mode i status old new nothing_written
-  judged_refused fault why ends written = record {
-    refused = said fault why ends;
-    ends = λ none. inl (fault, why, ends);
-    unwritten = λ none. written (λ unborn. none (blank mode 0, refl, inl (unborn, refl)));
-  }
-
-  -- it wasn't read
-  pub judged_unread : EndsIn read_line 5 old new status → nothing_written → JudgesImage k mode i status old new nothing_written
-  judged_unread ends written = record { refused = λ is. absurd (by_ends ends is); ends = λ none. inr ends; unwritten = λ none. written } where
-    by_ends : EndsIn read_line 5 old new status → IsRefused status → ⊥
-    by_ends (inl q) is = refused_low status 5 is q.0 (omega arith)
-    by_ends (inr q) is = refused_low status 6 is q.0 (omega arith)
 
 -- ---- scripts
 
@@ -256,36 +216,29 @@ module _ {D : Type 0} (reads : D → Option Image) (may_leave : D → Image → 
 
 module _ {D : Type 0} (reads : D → Option Image) (may_leave : D → Image → Type 0)
     (moment : D → ℕ) (left_since : D → ℕ → Image → Type 0) (k : Masters) (mode : Mode) (p : PlainHistory)
-    (ks : Keys) (same : ks ≡ keys_of k) (first : D) (opens : OpensAs reads may_leave k mode p first) (input old new : Option (List ℕ)) (status : ℕ) where
-  image_is : IsImageOf ks (sealed k p) opens.image
-  image_is = subst (λ (x : Keys). IsImageOf x (sealed k p) opens.image) (sym same) opens.stands
+    (first : D) (opens : OpensAs reads may_leave k mode p first) (input old new : Option (List ℕ)) (status : ℕ) where
+  leaves_plain : (last : D) → LeavesHistory reads may_leave moment left_since (keys_of k) mode first last → LeavesOnly moment left_since first last (StandsForPlain k p)
+  leaves_plain last any = any opens.image opens.told opens.settled (sealed k p) opens.mode_is opens.stands
 
-  leaves_plain : (last : D) → LeavesHistory reads may_leave moment left_since ks mode first last → LeavesOnly moment left_since first last (StandsForPlain k p)
-  leaves_plain last any =
-      subst (λ (x : Keys). LeavesOnly moment left_since first last (IsImageOf x (sealed k p))) same
-      (any opens.image opens.told opens.settled (sealed k p) opens.mode_is image_is)
-
-  pub over_refused : (last : D) (fault : BeginFault) → HasValues fault → Told (reads first) (λ i. IsBeginFault ks mode i fault)
-      → EndsOr (fault_line fault) (fault_status fault) old new status → LeavesHistory reads may_leave moment left_since ks mode first last
+  pub over_refused : (last : D) (fault : BeginFault) → Told (reads first) (λ i. Refuses k mode i fault)
+      → EndsOr (fault_line fault) (fault_status fault) old new status → LeavesHistory reads may_leave moment left_since (keys_of k) mode first last
       → ((t : ℕ) (c : Image) → t ≤ moment last → may_leave last c → left_since last t c)
       → IfSome input (λ text. EndsAs reads may_leave moment left_since k p text first last old new status (Unit {0}))
-  over_refused last fault values why ends any counts_now = by_text input where
+  over_refused last fault refuses ends any counts_now = by_text input where
     said : EndsIn disk_line 4 old new status ⊎ EndsIn memory_line 7 old new status
-    said =
-        refused_so (keys_of k) mode (sealed k p) opens.image opens.mode_is fault old new status values opens.stands
-        (subst (λ (x : Keys). IsBeginFault x mode opens.image fault) same (why opens.image opens.told)) ends
+    said = ends_in_fault fault old new status ((refuses opens.image opens.told).opens (p, opens.legal, opens.mode_is, opens.stands)) ends
 
     by_text : (input : Option (List ℕ)) → IfSome input (λ text. EndsAs reads may_leave moment left_since k p text first last old new status (Unit {0}))
     by_text None = tt
     by_text (Some text) = ends_refused reads may_leave moment left_since k p text first last old new status said (leaves_plain last any) counts_now
 
-  module _ (m : KeptOn D) (s : Opened D) (is : opened_of m ≡ s) (masters : m.kept.masters ≡ k) (fresh : IsNew ks mode s)
-      (found : Told (reads first) (λ i. FindsHistory reads may_leave ks mode i s) × StaysTold (reads first) (reads s.disk))
-      (any : LeavesHistory reads may_leave moment left_since ks mode first s.disk) where
+  module _ (m : KeptOn D) (s : Opened D) (is : opened_of m ≡ s) (masters : m.kept.masters ≡ k) (fresh : IsNew (keys_of k) mode s)
+      (found : Told (reads first) (λ i. FindsPlain reads may_leave k mode i s) × StaysTold (reads first) (reads s.disk))
+      (any : LeavesHistory reads may_leave moment left_since (keys_of k) mode first s.disk) where
     serves : Serves reads may_leave (sealed k p) (opened_of m)
     serves =
         subst (λ (o : Opened D). Serves reads may_leave (sealed k p) o) (sym is)
-        ((found.0 opens.image opens.told).each (sealed k p) opens.mode_is image_is)
+        ((found.0 opens.image opens.told).each p opens.mode_is opens.stands)
 
     sound : m.failed ≡ false
     sound = ap (λ (o : Opened D). o.failed) is ∙ fresh.1

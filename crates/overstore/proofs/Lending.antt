@@ -51,12 +51,14 @@ module _ {L D : Type 0} (now : L → D) (reads : D → Option Image) (may_leave 
   lent_lasts k p text last l =
       record { commands = l.commands; whole = l.whole; image = l.image; told = l.told; reads_it = l.reads_it; leaves_it = l.leaves_it; tokens = l.tokens }
 
-  pub lent_image : (k : Masters) (mode : Mode) (i : Image) (status : ℕ) (old new : Option (List ℕ)) (first last : L)
-      → JudgesImage k mode i status old new (LeavesAsAtStart (λ l. reads (now l)) (λ l. may_leave (now l)) (λ l. moment (now l)) (λ l. left_since (now l)) first last)
-      → JudgesImage k mode i status old new (LeavesAsAtStart reads may_leave moment left_since (now first) (now last))
-  lent_image k mode i status old new first last j = record {
+  pub lent_image : (k : Masters) (mode : Mode) (i : Image) (status : ℕ) (old new : Option (List ℕ)) (U : Type 0) (first last : L)
+      → JudgesImage k mode i status old new U (LeavesAsAtStart (λ l. reads (now l)) (λ l. may_leave (now l)) (λ l. moment (now l)) (λ l. left_since (now l)) first last)
+      → JudgesImage k mode i status old new U (LeavesAsAtStart reads may_leave moment left_since (now first) (now last))
+  lent_image k mode i status old new U first last j = record {
     refused = j.refused;
+    opened = j.opened;
     ends = j.ends;
+    unread = j.unread;
     unwritten = λ none. lent_leaves first last _ (j.unwritten none);
   }
 
@@ -115,14 +117,14 @@ module _ {L D : Type 0} (now : L → D) (reads : D → Option Image) (may_leave 
         from_each first words keys input mode is E (λ k p text. Lasts reads may_leave k p text final) (λ _. Unit {0}) (nothing keys) ends
         (λ file k p text are fact e. subst (λ d. Lasts reads may_leave k p text d) back (lent_lasts k p text last (e.lasts tt zero)))
 
-    pub run_image : (image : Option Image)
-        → IfSome keys (λ file. (k : Masters) → AreMasters file k → Told image (λ i. JudgesImage k mode i status old new
+    pub run_image : (image : Option Image) (U : Type 0)
+        → IfSome keys (λ file. (k : Masters) → AreMasters file k → Told image (λ i. JudgesImage k mode i status old new U
         (LeavesAsAtStart (λ l. reads (now l)) (λ l. may_leave (now l)) (λ l. moment (now l)) (λ l. left_since (now l)) first last)))
-        → ForImage image words keys (λ k mode i. JudgesImage k mode i status old new (LeavesAsAtStart reads may_leave moment left_since (now first) final))
-    run_image image holds =
+        → ForImage image words keys (λ k mode i. JudgesImage k mode i status old new U (LeavesAsAtStart reads may_leave moment left_since (now first) final))
+    run_image image U holds =
         for_image image words keys mode is
-        (λ k m i. JudgesImage k m i status old new
+        (λ k m i. JudgesImage k m i status old new U
         (LeavesAsAtStart (λ l. reads (now l)) (λ l. may_leave (now l)) (λ l. moment (now l)) (λ l. left_since (now l)) first last))
-        (λ k m i. JudgesImage k m i status old new (LeavesAsAtStart reads may_leave moment left_since (now first) final)) holds
-        (λ k i judged. subst (λ d. JudgesImage k mode i status old new (LeavesAsAtStart reads may_leave moment left_since (now first) d)) back
-        (lent_image k mode i status old new first last judged))
+        (λ k m i. JudgesImage k m i status old new U (LeavesAsAtStart reads may_leave moment left_since (now first) final)) holds
+        (λ k i judged. subst (λ d. JudgesImage k mode i status old new U (LeavesAsAtStart reads may_leave moment left_since (now first) d)) back
+        (lent_image k mode i status old new U first last judged))

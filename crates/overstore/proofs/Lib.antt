@@ -5,6 +5,7 @@ pub mod Creating
 pub mod DistinctUsers
 pub mod Finding
 pub mod Granting
+pub mod Judging
 pub mod KeyFiles
 pub mod Lending
 pub mod NamesIn

@@ -1,6 +1,7 @@
 pub mod Answering
 pub mod Disks
 pub mod Faults
+pub mod Judging
 pub mod Machine
 pub mod Opening
 pub mod Owner

@@ -5,16 +5,16 @@ use Rattle.std.specs.Io.KnownBytes.{Appends}
 use Rattle.ov_base.specs.declared.mode.Mode.{Mode}
 use Rattle.ov_disk.specs.Disk.{Image, Told}
 use Rattle.ov_disk.specs.Moments.{LeavesOnly}
-use Rattle.ov_images.specs.Images.{StandsIn, keys_of}
+use Rattle.ov_images.specs.Images.{Opens}
 use Rattle.ov_keyfile.specs.KeyFile.{HasMasters}
 use Rattle.ov_script.specs.Reading.{AtEnd, BadAt, TooLong}
 use Rattle.ov_history.specs.Masters.{Masters}
 use Rattle.ov_history.specs.Plain.{PlainHistory}
-use Rattle.ov_store.specs.Beginning.{IsBeginFault}
 use Rattle.ov_store.specs.declared.fault.BeginFault.{BeginFault}
 use Rattle.overstore.specs.Answering.{EndsIn, EndsOr}
 use Rattle.overstore.specs.Disks.{Lasts, OpensAs, Survives}
 use Rattle.overstore.specs.Faults.{fault_line, fault_status}
+use Rattle.overstore.specs.Judging.{IsRefusal}
 use Rattle.overstore.specs.Machine.{AreMasters}
 use Rattle.overstore.specs.Printing.{Outcome, status_of}
 use Rattle.overstore.specs.Printing.{Answered, DiskFault, ReadFault, OutOfMemory, Prints, PrintsFront}
@@ -86,18 +86,20 @@ pub record FailsForFaults (status : ℕ) (disks reads writes tags : Type 0) : Ty
 -- ---- the disk
 
 -- What a run under these masters makes of the image that its disk reads. With 8 and 9 it says why
--- the image doesn't open. Where the image stands for no history of this mode under these keys, so it
--- says, or that memory was refused, or a failed read of the key file; and a crash leaves what it
--- might have left at the start.
+-- the image doesn't open, and it ends so on no image that opens. Where the image doesn't open, so it
+-- says, or that a call of the disk failed or memory was refused, or a failed read of the key file;
+-- the script isn't read, and a crash leaves what it might have left at the start.
 pub record JudgesImage (k : Masters) (mode : Mode) (i : Image) (status : ℕ)
-    (old new : Option (List ℕ)) (nothing_written : Type 0) : Type 0 where
-  pub refused : IsRefused status → (fault : BeginFault) × IsBeginFault (keys_of k) mode i fault
+    (old new : Option (List ℕ)) (script_unread nothing_written : Type 0) : Type 0 where
+  pub refused : IsRefused status → (fault : BeginFault) × IsRefusal k mode i fault
       × (status ≡ fault_status fault) × Appends old new (fault_line fault)
-  pub ends : (StandsIn (keys_of k) mode i → ⊥)
-      → ((fault : BeginFault) × IsBeginFault (keys_of k) mode i fault
+  pub opened : Opens k mode i → IsRefused status → ⊥
+  pub ends : (Opens k mode i → ⊥)
+      → ((fault : BeginFault) × IsRefusal k mode i fault
       × EndsOr (fault_line fault) (fault_status fault) old new status)
       ⊎ EndsIn read_line 5 old new status
-  pub unwritten : (StandsIn (keys_of k) mode i → ⊥) → nothing_written
+  pub unread : (Opens k mode i → ⊥) → script_unread
+  pub unwritten : (Opens k mode i → ⊥) → nothing_written
 
 module _ {D : Type 0} (reads : D → Option Image) (may_leave : D → Image → Type 0)
     (moment : D → ℕ) (left_since : D → ℕ → Image → Type 0) where

@@ -8,6 +8,7 @@
 //! | module | what it does |
 //! |---|---|
 //! | `run` | the top call, and its contract |
+//! | `begin` | the store of a run, begun and looked at |
 //! | `answer` | the loop over the script's commands |
 //! | `finish` | the last line |
 //! | `fault_lines` | the lines on a disk that doesn't open, and on a wrong tag |
@@ -20,6 +21,7 @@
 #![tactic(auto)]
 
 mod answer;
+mod begin;
 mod fault;
 mod fault_lines;
 mod finish;

@@ -15,7 +15,7 @@ ghost use Rattle.overstore.specs.Running.{RefusesWords};
 ghost use Rattle.overstore.specs.Words.{mode_word, AreOther, IsRun};
 
 use crate::answer::answer_all;
-use crate::fault_lines::values_are_known;
+use crate::begin::begin;
 use crate::finish::{finish, put_fault, put_last};
 use crate::machine::Machine;
 use crate::status::Status;
@@ -24,8 +24,6 @@ use ov_disk::Disk;
 use ov_io::{Sink, Source};
 use ov_keyfile::{Masters, read_masters};
 use ov_script::Script;
-use ov_store::Store;
-use ov_tokens::check_value;
 use std::alloc::Global;
 
 // The mode of this word.
@@ -96,7 +94,7 @@ fn answer_over<I: Source, O: Sink, D: Disk + Drop>(
         (O.written out.old) (O.written out.new) result.0 (Unit {0})) }
     ensures image { let k = plain_masters masters in
         Told (D.reads disk) (λ i. JudgesImage k mode i result.0
-        (O.written out.old) (O.written out.new)
+        (O.written out.old) (O.written out.new) (input.new ≡ input.old)
         (LeavesAsAtStart D.reads D.may_leave D.moment D.left_since disk result.1)) }
     ensures disk { IsDiskCall D.borrow D.faults (result.0 ≡ 4) disk result.1 }
     ensures read { result.0 ≡ 5 → Rose (I.faults input.old) (I.faults input.new) }
@@ -104,17 +102,13 @@ fn answer_over<I: Source, O: Sink, D: Disk + Drop>(
     ensures tag { result.0 ≡ 12 → SaysTag (O.written out.old) (O.written out.new) }
     ensures status { IsStoreStatus result.0 }
 {
-    let base_check = check_value(&masters.base);
-    match Store::begin(alloc, disk, masters.surface, base_check, mode) {
+    match begin(alloc, disk, masters, mode) {
         Ok(store) => {
             let mut machine = Machine::of(masters, store);
             let code = answer_script(alloc, &mut machine, input, out);
             (code, machine.into_disk())
         }
-        Err(refused) => {
-            values_are_known(refused.fault);
-            (put_fault(alloc, out, refused.fault), refused.disk)
-        }
+        Err(refused) => (put_fault(alloc, out, refused.fault), refused.disk),
     }
 }
 
@@ -134,7 +128,7 @@ fn answer_with_keys<K: Source, I: Source, O: Sink, D: Disk + Drop>(
         (O.written out.old) (O.written out.new) result.0 (Unit {0}))) }
     ensures image { IfSome (K.left keys.old) (λ file. (k : PlainMasters) → AreMasters file k
         → Told (D.reads disk) (λ i. JudgesImage k mode i result.0
-        (O.written out.old) (O.written out.new)
+        (O.written out.old) (O.written out.new) (input.new ≡ input.old)
         (LeavesAsAtStart D.reads D.may_leave D.moment D.left_since disk result.1))) }
     ensures keys { JudgesKeys (Unit {0}) (K.left keys.old) result.0
         (O.written out.old) (O.written out.new)
@@ -188,9 +182,11 @@ pub fn run<K: Source, I: Source, O: Sink, D: Disk>(
     ensures lasts { result ≡ 0 → FromEach D.reads D.may_leave disk.old
         words.now (K.left keys.old) (I.left input.old) (λ k p text.
         Lasts D.reads D.may_leave k p text disk.new) }
-    // A disk without a store of these keys and mode is refused, and nothing is written.
+    // A disk that doesn't open for these masters and this mode is refused, the script isn't read,
+    // and nothing is written.
     ensures image { ForImage (D.reads disk.old) words.now (K.left keys.old) (λ k mode i.
         JudgesImage k mode i result (O.written out.old) (O.written out.new)
+        (input.new ≡ input.old)
         (LeavesAsAtStart D.reads D.may_leave D.moment D.left_since disk.old disk.new)) }
     // Without a key file the script and the disk are left as they are.
     ensures keys { JudgesKeys ((mode : Mode) × IsRun mode words.now) (K.left keys.old) result

@@ -1,12 +1,11 @@
-use Rattle.std.proofs.Common.{ap, inr, subst, sym}
-use Rattle.ov_images.specs.Images.{Keys, StandsIn, keys}
-use Rattle.ov_store.specs.Beginning.{IsBeginFault}
+use Rattle.std.proofs.Common.{inr, refl, subst, sym}
 use Rattle.overstore.specs.Machine.{plain_masters}
 use Rattle.overstore.specs.Printing.{IsStoreStatus}
 use Rattle.overstore.specs.Disks.{Holds}
 use Rattle.overstore.specs.Running.{EndsAs}
 use Rattle.std.specs.Prelude.{IfSome}
-use Rattle.overstore.proofs.Beginning.{disk_said, judged_open, judged_refused, over_begun, over_refused}
+use Rattle.overstore.proofs.Beginning.{disk_said, over_begun, over_refused}
+use Rattle.overstore.proofs.Judging.{judged_open, judged_refused}
 use Rattle.overstore.proofs.Running.{ends_or_so, fault_no_read, fault_no_tag, fault_so, not_refused, script_seven, script_six}
 use Rattle.overstore.proofs.run.answer_over.Goals as goal
 
@@ -16,8 +15,8 @@ returns-in-Err-clause-status g c =
 
 pub returns-in-Ok-clause-ends : goal.returns-in-Ok-clause-ends
 returns-in-Ok-clause-ends g c = λ p opens.
-    over_begun g.D.Disk.reads g.D.Disk.may_leave g.D.Disk.moment g.D.Disk.left_since (plain_masters c.args.masters) c.args.mode p (keys c.check_value-base_check.result c.args.masters.surface.bytes)
-    (ap (λ b. keys b c.args.masters.surface.bytes) c.check_value-base_check.ensures) c.args.disk opens (g.I.Source.left c.args.input.now) _ _ _
+    over_begun g.D.Disk.reads g.D.Disk.may_leave g.D.Disk.moment g.D.Disk.left_since (plain_masters c.args.masters) c.args.mode p c.args.disk opens
+    (g.I.Source.left c.args.input.now) _ _ _
     c.of-machine.result c.in-Ok.store c.of-machine.ensures.store c.of-machine.ensures.masters c.in-Ok.ensures.new c.in-Ok.ensures.found c.in-Ok.ensures.any_moment
     c.into_disk.result
     (λ q stands. subst (λ (last : g.row.D.Denot). IfSome (g.I.Source.left c.args.input.now) (λ text. EndsAs g.D.Disk.reads g.D.Disk.may_leave g.D.Disk.moment g.D.Disk.left_since
@@ -27,22 +26,20 @@ returns-in-Ok-clause-ends g c = λ p opens.
 
 pub returns-in-Err-clause-ends : goal.returns-in-Err-clause-ends
 returns-in-Err-clause-ends g c = λ p opens.
-    over_refused g.D.Disk.reads g.D.Disk.may_leave g.D.Disk.moment g.D.Disk.left_since (plain_masters c.args.masters) c.args.mode p (keys c.check_value-base_check.result c.args.masters.surface.bytes)
-    (ap (λ b. keys b c.args.masters.surface.bytes) c.check_value-base_check.ensures) c.args.disk opens (g.I.Source.left c.args.input.now) _ _ _
-    c.in-Err.refused.disk c.in-Err.refused.fault c.values_are_known.ensures c.in-Err.ensures.fault c.put_fault.ensures.ends c.in-Err.ensures.any_moment
+    over_refused g.D.Disk.reads g.D.Disk.may_leave g.D.Disk.moment g.D.Disk.left_since (plain_masters c.args.masters) c.args.mode p c.args.disk opens
+    (g.I.Source.left c.args.input.now) _ _ _
+    c.in-Err.refused.disk c.in-Err.refused.fault c.in-Err.ensures.fault c.put_fault.ensures.ends c.in-Err.ensures.any_moment
     (g.met.D.Disk.counts_now c.in-Err.refused.disk)
 
 pub returns-in-Ok-clause-image : goal.returns-in-Ok-clause-image
 returns-in-Ok-clause-image g c = λ i told.
-    judged_open (plain_masters c.args.masters) c.args.mode i _ _ _ _
-    (subst (λ (x : Keys). StandsIn x c.args.mode i) (ap (λ b. keys b c.args.masters.surface.bytes) c.check_value-base_check.ensures) (c.in-Ok.ensures.found.0 i told).some)
+    judged_open (plain_masters c.args.masters) c.args.mode i _ _ _ _ _ (c.in-Ok.ensures.found.0 i told).some
     (not_refused _ c.answer_script-code.ensures.status)
 
 pub returns-in-Err-clause-image : goal.returns-in-Err-clause-image
 returns-in-Err-clause-image g c = λ i told.
-    judged_refused (plain_masters c.args.masters) c.args.mode i _ _ _ _ c.in-Err.refused.fault
-    (subst (λ (x : Keys). IsBeginFault x c.args.mode i c.in-Err.refused.fault) (ap (λ b. keys b c.args.masters.surface.bytes) c.check_value-base_check.ensures) (c.in-Err.ensures.fault i told))
-    c.put_fault.ensures.ends (c.in-Err.ensures.untouched i told)
+    judged_refused (plain_masters c.args.masters) c.args.mode i _ _ _ _ _ c.in-Err.refused.fault (c.in-Err.ensures.fault i told)
+    c.put_fault.ensures.ends refl (c.in-Err.ensures.untouched i told)
 
 pub returns-in-Err-clause-disk : goal.returns-in-Err-clause-disk
 returns-in-Err-clause-disk g c = record {

@@ -1,4 +1,4 @@
-use Rattle.std.proofs.Common.{arith, inl, inr, refl, ℕ, List}
+use Rattle.std.proofs.Common.{arith, inl, inr, refl, ℕ, List, ◌≡◌}
 use Rattle.ov_disk.specs.Disk.{Told}
 use Rattle.ov_disk.proofs.Runs.{started}
 use Rattle.ov_history.specs.Masters.{Masters}
@@ -6,7 +6,7 @@ use Rattle.ov_history.specs.Plain.{PlainHistory}
 use Rattle.overstore.specs.Disks.{OpensAs}
 use Rattle.overstore.specs.Machine.{plain_masters}
 use Rattle.overstore.specs.Running.{EndsAs, JudgesImage, LeavesAsAtStart}
-use Rattle.overstore.proofs.Beginning.{judged_unread}
+use Rattle.overstore.proofs.Judging.{judged_unread}
 use Rattle.overstore.proofs.KeyFiles.{ends_untouched, from_all, from_none, from_read, image_all, image_none, image_read}
 use Rattle.overstore.specs.Printing.{IsKeysStatus}
 use Rattle.overstore.proofs.Running.{ends_so, judged_failed, judged_none, judged_with, keys_six, keys_five, not_code, not_keys}
@@ -52,17 +52,17 @@ returns-in-Err-clause-ends g c =
 
 pub returns-in-Ok-Some-clause-image : goal.returns-in-Ok-Some-clause-image
 returns-in-Ok-Some-clause-image g c =
-    image_read (λ (k : Masters). Told (g.D.Disk.reads c.args.disk) (λ i. JudgesImage k c.args.mode i c.answer_over.result.0 (g.O.Sink.written c.args.out.now) (g.O.Sink.written c.answer_over.new.out) (LeavesAsAtStart g.D.Disk.reads g.D.Disk.may_leave g.D.Disk.moment g.D.Disk.left_since c.args.disk c.answer_over.result.1)))
+    image_read (λ (k : Masters). Told (g.D.Disk.reads c.args.disk) (λ i. JudgesImage k c.args.mode i c.answer_over.result.0 (g.O.Sink.written c.args.out.now) (g.O.Sink.written c.answer_over.new.out) (c.answer_over.new.input ≡ c.args.input.now) (LeavesAsAtStart g.D.Disk.reads g.D.Disk.may_leave g.D.Disk.moment g.D.Disk.left_since c.args.disk c.answer_over.result.1)))
     (plain_masters c.in-Ok-Some.masters) (g.K.Source.left c.args.keys.now) (rw c.in-Ok-Some.field-0-is at c.in-Ok-Some.ensures.read) c.answer_over.ensures.image
 
 pub returns-in-Ok-None-clause-image : goal.returns-in-Ok-None-clause-image
 returns-in-Ok-None-clause-image g c =
-    image_none (λ (k : Masters). Told (g.D.Disk.reads c.args.disk) (λ i. JudgesImage k c.args.mode i c.put_last.result (g.O.Sink.written c.args.out.now) (g.O.Sink.written c.put_last.new.out) (LeavesAsAtStart g.D.Disk.reads g.D.Disk.may_leave g.D.Disk.moment g.D.Disk.left_since c.args.disk c.args.disk))) (g.K.Source.left c.args.keys.now) (rw c.in-Ok-None.field-0-is at c.in-Ok-None.ensures.read)
+    image_none (λ (k : Masters). Told (g.D.Disk.reads c.args.disk) (λ i. JudgesImage k c.args.mode i c.put_last.result (g.O.Sink.written c.args.out.now) (g.O.Sink.written c.put_last.new.out) (c.args.input.now ≡ c.args.input.now) (LeavesAsAtStart g.D.Disk.reads g.D.Disk.may_leave g.D.Disk.moment g.D.Disk.left_since c.args.disk c.args.disk))) (g.K.Source.left c.args.keys.now) (rw c.in-Ok-None.field-0-is at c.in-Ok-None.ensures.read)
 
 pub returns-in-Err-clause-image : goal.returns-in-Err-clause-image
 returns-in-Err-clause-image g c =
-    image_all (λ (k : Masters). Told (g.D.Disk.reads c.args.disk) (λ i. JudgesImage k c.args.mode i c.put_last-in-Err.result (g.O.Sink.written c.args.out.now) (g.O.Sink.written c.put_last-in-Err.new.out) (LeavesAsAtStart g.D.Disk.reads g.D.Disk.may_leave g.D.Disk.moment g.D.Disk.left_since c.args.disk c.args.disk))) (g.K.Source.left c.args.keys.now)
-    (λ k i told. judged_unread k c.args.mode i _ _ _ _ c.put_last-in-Err.ensures.ends
+    image_all (λ (k : Masters). Told (g.D.Disk.reads c.args.disk) (λ i. JudgesImage k c.args.mode i c.put_last-in-Err.result (g.O.Sink.written c.args.out.now) (g.O.Sink.written c.put_last-in-Err.new.out) (c.args.input.now ≡ c.args.input.now) (LeavesAsAtStart g.D.Disk.reads g.D.Disk.may_leave g.D.Disk.moment g.D.Disk.left_since c.args.disk c.args.disk))) (g.K.Source.left c.args.keys.now)
+    (λ k i told. judged_unread k c.args.mode i _ _ _ _ _ c.put_last-in-Err.ensures.ends refl
     (started g.D.Disk.moment g.D.Disk.left_since g.D.Disk.may_leave c.args.disk (g.D.Disk.may_leave c.args.disk) (g.met.D.Disk.only_now c.args.disk) (λ x left. left)))
 
 pub returns-in-Ok-None-clause-tag : goal.returns-in-Ok-None-clause-tag
