@@ -1,5 +1,5 @@
 //! What an image can keep. The functions do nothing.
-ghost use Rattle.ov_images.specs.Damage.{DamagedKeepsNone};
+ghost use Rattle.ov_images.specs.Damage.{DamageHasOnePlace, DamagedKeepsNone};
 ghost use Rattle.ov_images.specs.Laws.{KeepingGoesOn, KeepsOnce, KeptIsBorn, KeysAreKept, SameContentsKeepTheSame};
 
 /// The law of images: an image keeps at most one history. Where it keeps one under two pairs of
@@ -23,7 +23,8 @@ pub fn keeping_goes_on()
 {}
 
 /// The law of damage: an image with a record that goes on with no history, or with a length that
-/// can't be behind its last record, keeps no history.
+/// can't be behind its last record, keeps no history, and has the first of these at one place.
 pub fn damaged_images_keep_no_history()
-    ensures { DamagedKeepsNone }
+    ensures none { DamagedKeepsNone }
+    ensures one_place { DamageHasOnePlace }
 {}

@@ -10,7 +10,7 @@
 //! | file in `specs/` | says |
 //! |---|---|
 //! | `Images` | keys, header and bodies; `Keeps`, `IsImageOf`, `Opens`, `KeepsEither` |
-//! | `Damage` | a record that goes on with no history, and a length that can't be |
+//! | `Damage` | a record that goes on with no history, a length that can't be, and the place |
 //! | `Laws` | the laws |
 //!
 //! A law stands as a public function with an empty body, whose contract is the law.
@@ -20,7 +20,7 @@
 //! | an image keeps one history, under one pair of check values | [`an_image_keeps_one_history`] |
 //! | what keeps a history is a store, and not unborn | [`what_is_kept_is_born`] |
 //! | with an update's spelling more it keeps the history with the update | [`keeping_goes_on`] |
-//! | an image with a bad record keeps no history | [`damaged_images_keep_no_history`] |
+//! | a damaged image keeps none, and is damaged at one place | [`damaged_images_keep_no_history`] |
 //!
 //! Two masters may have the same check value: nothing is claimed of secrecy or of collisions.
 #![tactic(auto)]

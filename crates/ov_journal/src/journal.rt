@@ -100,6 +100,14 @@ impl Journal {
         if self.bad { Some(self.end + 1) } else { None }
     }
 
+    /// Does nothing. Its contract is what holds of every journal, whatever a disk tells: it ends at
+    /// a place of 64 bits.
+    pub fn known(&self)
+        ensures { self.now.end < 2 ^ 64 - 1 }
+    {
+        let _end = self.end;
+    }
+
     /// How many records there are.
     pub fn count(&self) -> u64
         ensures { result ≡ length self.now.offsets }

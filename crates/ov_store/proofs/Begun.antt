@@ -1,5 +1,5 @@
 -- A store that is opened again.
-use Rattle.std.proofs.Common.{◌≡◌, inr, ⊎_elim, ℕ, suc, ◌<◌, ◌^◌, List, [], ◌∷◌, length, Bool, true, false, Option, Some, refl, sym, ◌∙◌, ap, subst, arith}
+use Rattle.std.proofs.Common.{◌≡◌, inr, ⊎_elim, ℕ, suc, ◌<◌, ◌^◌, List, [], ◌∷◌, length, false, Option, Some, refl, sym, ◌∙◌, ap, subst, arith}
 use Rattle.ov_base.specs.declared.mode.Mode.{Mode}
 use Rattle.ov_disk.specs.Disk.{Image, Only, Told}
 use Rattle.ov_disk.specs.Moments.{IsUntouched}
@@ -7,7 +7,7 @@ use Rattle.ov_record.specs.Updates.{SealedUpdate}
 use Rattle.ov_history.specs.Sealed.{SealedHistory, outer_all}
 use Rattle.ov_history.proofs.Showing.{history_is_shown}
 use Rattle.ov_journal.specs.Book.{contents_of, spelled}
-use Rattle.ov_journal.specs.Finding.{IsStore, place_if}
+use Rattle.ov_journal.specs.Finding.{IsStore}
 use Rattle.ov_journal.specs.Log.{Log}
 use Rattle.ov_journal.specs.declared.header.Header.{Header}
 use Rattle.ov_vault.specs.Vaults.{Store}
@@ -25,11 +25,6 @@ length-bodies (u ∷ updates) = ap suc (length-bodies updates)
 pub length-outer : (updates : List SealedUpdate) → length (outer_all updates) ≡ length updates
 length-outer [] = refl
 length-outer (u ∷ updates) = ap suc (length-outer updates)
-
--- a place that was found says that a length can't be
-pub is_bad : (bad : Bool) (end offset : ℕ) → Some offset ≡ place_if bad end → bad ≡ true
-is_bad true end offset is = refl
-is_bad false end offset is = absurd (cc is)
 
 -- what was replayed of a store
 pub record IsFound (k : Keys) (mode : Mode) (h : Header) (log : Log) (s : Store)

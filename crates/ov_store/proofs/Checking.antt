@@ -17,7 +17,7 @@ use Rattle.ov_history.proofs.GoingOn.{histories_go_on}
 use Rattle.ov_history.proofs.Pushing.{with_updates, with_updates-all}
 use Rattle.ov_history.proofs.Showing.{history_is_shown}
 use Rattle.ov_journal.specs.Book.{Contents, contents_of}
-use Rattle.ov_journal.specs.Log.{Log, end_from, gates_from, IsLogOf}
+use Rattle.ov_journal.specs.Log.{Log, end_from, IsLogOf}
 use Rattle.ov_state.specs.Plans.{IsTaken}
 use Rattle.ov_images.specs.Images.{Keys, AllHaveForm, Keeps, bodies_of}
 use Rattle.ov_images.proofs.Damage.{front_fits}
@@ -25,6 +25,7 @@ use Rattle.ov_store.specs.Bodies.{IsBodyOf}
 use Rattle.ov_store.specs.Owners.{FollowsUpdate, HasFalseUpdate, IsOwners, with_first}
 use Rattle.ov_store.proofs.Begun.{length-bodies}
 use Rattle.ov_store.proofs.Replays.{IsNext, as_many, goes_taken}
+use Rattle.ov_store.proofs.Stopping.{gate-end}
 
 -- ---- update number `i` and its record
 
@@ -56,13 +57,6 @@ take-bodies : (us : List SealedUpdate) (i : ℕ) → take i (bodies_of us) ≡ b
 take-bodies us zero = refl
 take-bodies [] (suc i) = refl
 take-bodies (u ∷ us) (suc i) = ap (λ (l : List (List ℕ)). spelling 32 u ∷ l) (take-bodies us i)
-
-gate-end : (place : ℕ) (bodies : List (List ℕ)) (i : ℕ) → i < length bodies
-    → get_or (gates_from place bodies) i 0 ≡ end_from place (take i bodies)
-gate-end place [] i lt = absurd (omega (arith, lt))
-gate-end place (body ∷ bodies) zero lt = refl
-gate-end place (body ∷ bodies) (suc i) lt =
-    gate-end (place + 5 + length body) bodies i (omega (arith, lt))
 
 -- one more that is as its owner seals it
 owners_push : (k : Masters) (h : History) (us : List SealedUpdate) (u : SealedUpdate)

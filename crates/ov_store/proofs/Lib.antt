@@ -7,3 +7,4 @@ pub mod Looking
 pub mod Opening
 pub mod OwnersLaws
 pub mod Replays
+pub mod Stopping

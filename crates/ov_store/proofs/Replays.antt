@@ -1,6 +1,6 @@
 -- A replay, record by record.
-use Rattle.std.proofs.Common.{◌≡◌, ℕ, suc, ◌+◌, ◌<◌, ◌≤◌, List, [], ◌∷◌, ◌++◌, length, take, drop, get_or, Option, refl, sym, ◌∙◌, ap, subst, arith, length-append, take-append-drop}
-use Rattle.std.proofs.lemmas.List.{drop_more, take_more, take_all}
+use Rattle.std.proofs.Common.{◌≡◌, ℕ, suc, ◌+◌, ◌<◌, ◌≤◌, List, [], ◌∷◌, ◌++◌, length, take, get_or, Option, refl, sym, ◌∙◌, ap, subst, arith, length-append}
+use Rattle.std.proofs.lemmas.List.{take_more, take_all}
 use Rattle.std.specs.Prelude.{None}
 use Rattle.ov_base.specs.Causes.{Rose}
 use Rattle.ov_base.specs.declared.mode.Mode.{Mode}
@@ -23,13 +23,10 @@ use Rattle.ov_journal.specs.declared.fault.CheckFault.{CheckFault}
 use Rattle.ov_journal.specs.declared.fault.CheckFault.TheVariants.{Disk as CheckDisk, Memory as CheckMemory}
 use Rattle.ov_state.specs.Plans.{IsTaken}
 use Rattle.ov_vault.specs.Vaults.{Store}
-use Rattle.ov_images.specs.Damage.{HasBadRecord}
-use Rattle.ov_images.specs.Images.{bodies_of}
 use Rattle.ov_images.proofs.Keeping.{bodies-push, form-push}
 use Rattle.ov_store.specs.Faults.{begin_fault_of}
-use Rattle.ov_store.specs.Replaying.{TakesBody, IsBadBody, IsBodyFault, IsReplay, IsReplayFault}
-use Rattle.ov_store.specs.declared.fault.BeginFault.{BeginFault}
-use Rattle.ov_store.specs.declared.fault.BeginFault.TheVariants.{Disk as DiskFailed, NotAStore, Damaged, BaseDiffers, SurfaceDiffers, ModeDiffers, Memory}
+use Rattle.ov_store.specs.Replaying.{TakesBody, IsReplay, IsReplayFault}
+use Rattle.ov_store.specs.declared.fault.BeginFault.TheVariants.{Disk as DiskFailed}
 use Rattle.ov_store.proofs.Going.{bytes_go_on}
 
 -- ---- an update with which a history goes on is taken
@@ -151,43 +148,6 @@ module _ (master : List ℕ) (mode : Mode) (first : ℕ) (reads : Option Image) 
         ∙ take_all i (contents_of d.book).records.bodies
         (omega (arith, last, as_many log (contents_of d.book).records (is d at))),
   )
-
-  -- a record that isn't taken
-  pub bad_record : (i : ℕ) (s : Store) (body : List ℕ) → ReplayedTo master mode first i reads s
-      → IsBadBody s.catalogue body
-      → Told reads (λ d. IsNext i body d
-      → HasBadRecord mode first (contents_of d.book).records.bodies)
-  bad_record i s body so_far bad d at next =
-      let all = (contents_of d.book).records.bodies in
-      let g = so_far.replay.history in
-      record {
-        history = g;
-        mode_is = so_far.replay.mode_is;
-        first_is = so_far.replay.first_is;
-        form = so_far.replay.form;
-        body = body;
-        rest = drop (i + 1) all;
-        split = sym (take-append-drop i all)
-            ∙ (λ j. (sym (so_far.read d at) ∙ sym so_far.replay.bodies_are) j ++ drop i all)
-            ∙ ap (λ (l : List (List ℕ)). bodies_of g.updates ++ l) (drop_more all i [] next.0)
-            ∙ (λ j. bodies_of g.updates ++ sym next.1 j ∷ drop (i + 1) all);
-        bad = λ u form bytes sealed.
-            bad u (record { form = form; bytes = bytes })
-            (goes_taken master s.catalogue g u so_far.replay.stands.0 sealed);
-      }
-
-  pub fault_of_body : (i : ℕ) (s : Store) (body : List ℕ) (fault : BeginFault)
-      → ReplayedTo master mode first i reads s → IsBodyFault s.catalogue body fault
-      → Told reads (λ d. IsNext i body d
-      → IsReplayFault mode first (contents_of d.book).records.bodies fault)
-  fault_of_body i s body DiskFailed so_far why d at next = absurd why
-  fault_of_body i s body NotAStore so_far why d at next = absurd why
-  fault_of_body i s body (Damaged area place) so_far why d at next =
-      (why.0, bad_record i s body so_far why.1 d at next)
-  fault_of_body i s body (BaseDiffers stored given) so_far why d at next = absurd why
-  fault_of_body i s body (SurfaceDiffers stored given) so_far why d at next = absurd why
-  fault_of_body i s body (ModeDiffers stored given) so_far why d at next = absurd why
-  fault_of_body i s body Memory so_far why d at next = tt
 
   -- want of memory and a fault of the disk say nothing of the records
   pub fault_of_read : (why : CheckFault) (bodies : List (List ℕ))

@@ -19,15 +19,15 @@ use Rattle.ov_store.specs.declared.fault.BeginFault.{BeginFault}
 use Rattle.ov_store.specs.declared.fault.BeginFault.TheVariants.{Disk as DiskFailed, NotAStore, Damaged, BaseDiffers, SurfaceDiffers, ModeDiffers, Memory}
 
 -- Why no store is begun on this image. The causes are tried in this order: another file, no mode,
--- the base master, the surface master, the mode, the records. Want of memory and a fault of the
--- disk say nothing of the image.
+-- the base master, the surface master, the mode, the records. Of damage the place of Book is said.
+-- Want of memory and a fault of the disk say nothing of the image.
 abbrev pub IsBeginFault : Keys → Mode → Image → BeginFault → Type 0
 IsBeginFault k mode i DiskFailed = ⊤
 IsBeginFault k mode i NotAStore = IsForeign i.book
 IsBeginFault k mode i (Damaged area place) =
     (area ≡ Book)
     × (((place ≡ 9) × HasNoMode i.book)
-    ⊎ ((h : Header) × HasHeader h i × IsFor k mode h × HasBadRecords h i))
+    ⊎ ((h : Header) × HasHeader h i × IsFor k mode h × HasBadRecords h i place))
 IsBeginFault k mode i (BaseDiffers stored given) =
     (h : Header) × HasHeader h i × (stored ≡ h.base_check) × (given ≡ k.base_check)
     × (stored ≢ given)

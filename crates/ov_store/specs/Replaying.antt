@@ -1,5 +1,5 @@
 -- Records that are replayed, one after the other.
-use Rattle.std.specs.Prelude.{◌≡◌, ℕ, List, ⊤}
+use Rattle.std.specs.Prelude.{◌≡◌, ◌⊎◌, ℕ, ◌+◌, ◌<◌, ◌^◌, List, length, ⊤}
 use Rattle.ov_base.specs.declared.mode.Mode.{Mode}
 use Rattle.ov_disk.specs.declared.area.Area.TheVariants.{Book}
 use Rattle.ov_history.specs.Briefs.{brief, text_of}
@@ -11,7 +11,7 @@ use Rattle.ov_state.specs.Plans.{IsTaken}
 use Rattle.ov_vault.specs.Standing.{IsStoreOf}
 use Rattle.ov_vault.specs.Vaults.{Store}
 use Rattle.ov_images.specs.Images.{bodies_of, AllHaveForm}
-use Rattle.ov_images.specs.Damage.{HasBadRecord}
+use Rattle.ov_images.specs.Damage.{HasBadRecord, IsMisspelled}
 use Rattle.ov_store.specs.Bodies.{IsBodyOf}
 use Rattle.ov_store.specs.declared.fault.BeginFault.{BeginFault}
 use Rattle.ov_store.specs.declared.fault.BeginFault.TheVariants.{Disk as DiskFailed, NotAStore, Damaged, BaseDiffers, SurfaceDiffers, ModeDiffers, Memory}
@@ -25,19 +25,29 @@ pub record TakesBody (master : List ℕ) (old : Store) (body : List ℕ) (new : 
   pub rewritten : new.stored
       ≡ stored_after master (rewrites_of old.catalogue (brief update)) (text_of update) old.stored
 
--- no update that a store with this catalogue takes has this body
-abbrev pub IsBadBody : Catalogue → List ℕ → Type 0
-IsBadBody c body = (u : SealedUpdate) → IsBodyOf u body → IsTaken c (brief u) → ⊥
+-- The body of a record whose gate stands here spells an update that a store with this catalogue
+-- doesn't take. The place is that of the gate.
+pub record IsUntaken (c : Catalogue) (body : List ℕ) (gate place : ℕ) : Type 0 where
+  pub update : SealedUpdate
+  pub is : IsBodyOf update body
+  pub untaken : IsTaken c (brief update) → ⊥
+  pub place_is : place ≡ gate
 
--- why a record isn't taken
-abbrev pub IsBodyFault : Catalogue → List ℕ → BeginFault → Type 0
-IsBodyFault c body DiskFailed = ⊥
-IsBodyFault c body NotAStore = ⊥
-IsBodyFault c body (Damaged area place) = (area ≡ Book) × IsBadBody c body
-IsBodyFault c body (BaseDiffers stored given) = ⊥
-IsBodyFault c body (SurfaceDiffers stored given) = ⊥
-IsBodyFault c body (ModeDiffers stored given) = ⊥
-IsBodyFault c body Memory = ⊤
+-- Why the record isn't taken, and which place is wrong. Of a misspelled body it is said where the
+-- record ends within 64 bits, as each does that a disk tells.
+abbrev pub StopsAt : Catalogue → List ℕ → ℕ → ℕ → Type 0
+StopsAt c body gate place =
+    (gate + 5 + length body < 2 ^ 64 → IsMisspelled body gate place) ⊎ IsUntaken c body gate place
+
+-- the same of each answer
+abbrev pub IsBodyFault : Catalogue → List ℕ → ℕ → BeginFault → Type 0
+IsBodyFault c body gate DiskFailed = ⊥
+IsBodyFault c body gate NotAStore = ⊥
+IsBodyFault c body gate (Damaged area place) = (area ≡ Book) × StopsAt c body gate place
+IsBodyFault c body gate (BaseDiffers stored given) = ⊥
+IsBodyFault c body gate (SurfaceDiffers stored given) = ⊥
+IsBodyFault c body gate (ModeDiffers stored given) = ⊥
+IsBodyFault c body gate Memory = ⊤
 
 -- these bodies keep a history of this mode, from this epoch on, and this is the store after it
 pub record IsReplay (master : List ℕ) (mode : Mode) (first : ℕ) (bodies : List (List ℕ)) (s : Store)
@@ -54,7 +64,7 @@ abbrev pub IsReplayFault : Mode → ℕ → List (List ℕ) → BeginFault → T
 IsReplayFault mode first bodies DiskFailed = ⊤
 IsReplayFault mode first bodies NotAStore = ⊥
 IsReplayFault mode first bodies (Damaged area place) =
-    (area ≡ Book) × HasBadRecord mode first bodies
+    (area ≡ Book) × HasBadRecord mode first bodies place
 IsReplayFault mode first bodies (BaseDiffers stored given) = ⊥
 IsReplayFault mode first bodies (SurfaceDiffers stored given) = ⊥
 IsReplayFault mode first bodies (ModeDiffers stored given) = ⊥

@@ -26,7 +26,7 @@ fn take_record(
     gate: u64,
 ) -> Result<(), BeginFault>
     ensures taken { OnOk result (TakesBody surface.now.bytes vault.old body.now vault.new) }
-    ensures fault { IfErr result (IsBodyFault vault.old.catalogue body.now) }
+    ensures fault { IfErr result (IsBodyFault vault.old.catalogue body.now gate) }
 {
     let update = match read::<WIDTH>(alloc, body) {
         Ok(update) => update,
@@ -72,6 +72,7 @@ pub(crate) fn replay<D: Disk>(
     ensures untouched { IsUntouched D.moment D.left_since D.may_leave D.reads disk.old disk.new }
     ensures call { IsDiskCall D.borrow D.faults disk.old disk.new (IsErrOf result DiskFailed) }
 {
+    journal.known();
     let mut vault: CatalogueVault = Vault::new(alloc, mode, first)?;
     let mut body = Vec::new(alloc);
     'records: for i in 0..journal.count() {

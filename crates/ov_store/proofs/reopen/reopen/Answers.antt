@@ -1,8 +1,8 @@
-use Rattle.std.proofs.Common.{rules, ◌≡◌, ◌<◌, ◌^◌, true, inr, refl, sym, ◌∙◌}
-use Rattle.ov_journal.specs.Book.{contents_of}
+use Rattle.std.proofs.Common.{rules, ◌<◌, ◌^◌, inr, refl}
 use Rattle.ov_images.specs.Damage.{HasHeader}
 use Rattle.ov_images.specs.Images.{keys}
-use Rattle.ov_store.proofs.Begun.{IsFound, is_bad, opened_found}
+use Rattle.ov_store.proofs.Begun.{IsFound, opened_found}
+use Rattle.ov_store.proofs.Stopping.{bad_length}
 use Rattle.ov_store.proofs.reopen.reopen.Goals as goal
 
 pub returns-in-None-clause-opened : goal.returns-in-None-clause-opened
@@ -31,8 +31,8 @@ returns-in-Some-clause-fault g c i is =
     let store = (c.requires.store i is).0 in
     let header : HasHeader c.args.header i =
     record { magic = store.magic; first = low; head = store.head } in
-    let bad : (contents_of i.book).records.bad ≡ true =
-    sym store.records.bad
-    ∙ is_bad c.args.journal.now.bad c.args.journal.now.end c.in-Some.offset
-    (sym c.in-Some.is ∙ store.place) in
+    let made = c.in_ok-vault.ensures.made in
+    let bad = bad_length c.args.surface.now.bytes c.args.header.mode c.args.header.first made.0
+    c.in_ok-vault.vault c.args.journal.now c.args.header c.args.bad i.book c.in-Some.offset made.1
+    store c.in-Some.is (made.3 i is) in
     (refl, inr (c.args.header, header, c.in_ok-compare.ensures.same, inr bad))

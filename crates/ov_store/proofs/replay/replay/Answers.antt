@@ -6,7 +6,8 @@ use Rattle.ov_store.specs.Replaying.{IsReplayFault}
 use Rattle.std.specs.Prelude.{Err}
 use Rattle.ov_store.specs.declared.fault.BeginFault.{BeginFault}
 use Rattle.ov_store.specs.declared.fault.BeginFault.TheVariants.{Disk as DiskFailed}
-use Rattle.ov_store.proofs.Replays.{replayed_none, replayed_more, replayed_all, next_body, fault_of_body, fault_of_read, rises}
+use Rattle.ov_store.proofs.Replays.{replayed_none, replayed_more, replayed_all, next_body, fault_of_read, rises}
+use Rattle.ov_store.proofs.Stopping.{fault_of_body}
 use Rattle.ov_store.proofs.replay.replay.Goals as goal
 
 pub records-init : goal.records-init
@@ -53,9 +54,10 @@ returns-in_err-take_record-clause-fault g c i is =
     rw p.1 (subst (λ (fault : BeginFault). IsReplayFault c.args.mode c.args.first all fault)
     (sym p.2)
     (fault_of_body c.args.surface.now.bytes c.args.mode c.args.first
-    (g.D.Disk.reads c.args.disk.now) c.records.i c.records.vault c.as_slice.result.now
-    c.in_err-take_record.field-0.0 c.records.invariant.made c.in_err-take_record.ensures.fault i is
-    (next i is)))
+    (g.D.Disk.reads c.args.disk.now) c.args.journal.now c.requires.log c.known.ensures c.records.i
+    c.records.vault c.as_slice.result.now c.offset-gate.result c.records.invariant.made
+    c.offset-gate.ensures.place c.in_err-take_record.field-0.0 c.in_err-take_record.ensures.fault
+    i is (next i is)))
 
 pub returns-in_err-take_record-clause-untouched : goal.returns-in_err-take_record-clause-untouched
 returns-in_err-take_record-clause-untouched g c =
