@@ -11,6 +11,7 @@
 
 mod cipher;
 mod columns;
+mod front;
 mod key_schedule;
 mod lanes;
 mod rounds;
@@ -22,7 +23,9 @@ mod sbox;
 #[cfg(test)]
 mod tests;
 mod tower;
+mod weights;
 
 pub use cipher::{Aes256, TableAes256};
+pub use front::Front;
 pub use lanes::LaneAes256;
 pub use row_blocks::Blocks;

@@ -14,7 +14,7 @@ pub type Blocks = [[u8; 16]; 4];
 
 /// The rows of four blocks: first two rows of two blocks, and then each row of all four.
 #[inline(always)]
-fn rows_of(a: &[u8; 16], b: &[u8; 16], c: &[u8; 16], d: &[u8; 16]) -> Rows
+pub fn rows_of(a: &[u8; 16], b: &[u8; 16], c: &[u8; 16], d: &[u8; 16]) -> Rows
     ensures { (n : ℕ) → n < 4
         → block_in result n ≡ slice_index_or (a.now ∷ b.now ∷ c.now ∷ d.now ∷ []) n [] }
 {
