@@ -1,12 +1,9 @@
-//! Four blocks at once.
+//! Four blocks, and their rows.
 
 ghost use Rattle.std.specs.Prelude.{◌≡◌, ℕ, ◌<◌, List, ◌∷◌, [], slice_index_or};
-ghost use Rattle.ov_aes.specs.Cipher.{cipher};
 ghost use Rattle.ov_aes.specs.Rows.{block_in};
-ghost use Rattle.ov_aes.specs.RowKeys.{IsRowKeys};
 
-use crate::row_keys::{RowKeys, rows_at};
-use crate::row_rounds::{Rows, first_key, last_round, round};
+use crate::row_rounds::Rows;
 use std::simd::prelude::*;
 
 /// Four blocks of 16 bytes.
@@ -52,7 +49,7 @@ pub fn rows_of(a: &[u8; 16], b: &[u8; 16], c: &[u8; 16], d: &[u8; 16]) -> Rows
 
 /// The blocks that four rows have: first pairs of their bytes, and then columns.
 #[inline(always)]
-fn blocks_of(x: u8x16, y: u8x16, z: u8x16, t: u8x16) -> Blocks
+pub fn blocks_of(x: u8x16, y: u8x16, z: u8x16, t: u8x16) -> Blocks
     ensures { (n : ℕ) → n < 4
         → slice_index_or result n [] ≡ block_in (x ∷ y ∷ z ∷ t ∷ []) n }
 {
@@ -82,19 +79,4 @@ fn blocks_of(x: u8x16, y: u8x16, z: u8x16, t: u8x16) -> Blocks
         )
         .to_array(),
     ]
-}
-
-/// The cipher of each of four blocks (FIPS 197, 5.1).
-pub fn encrypt_four(keys: &RowKeys, blocks: &Blocks) -> Blocks
-    ensures { (w : List (List ℕ)) (b : ℕ) → IsRowKeys keys.now w → b < 4
-        → slice_index_or result b [] ≡ cipher w (slice_index_or blocks.now b []) }
-{
-    let [a, b, c, d] = blocks;
-    let mut rows = first_key(rows_of(a, b, c, d), rows_at(keys, 0));
-    for n in 1..14usize {
-        let next = round(rows, rows_at(keys, n));
-        rows = next;
-    }
-    let [x, y, z, t] = last_round(rows, rows_at(keys, 14));
-    blocks_of(x, y, z, t)
 }
