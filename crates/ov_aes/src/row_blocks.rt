@@ -7,7 +7,7 @@ use crate::row_rounds::Rows;
 use std::simd::prelude::*;
 
 /// Four blocks of 16 bytes.
-pub type Blocks = [[u8; 16]; 4];
+pub type Blocks = [u8x16; 4];
 
 /// The rows of four blocks: first two rows of two blocks, and then each row of all four.
 #[inline(always)]
@@ -64,19 +64,15 @@ pub fn blocks_of(x: u8x16, y: u8x16, z: u8x16, t: u8x16) -> Blocks
         [8, 24, 9, 25, 10, 26, 11, 27, 12, 28, 13, 29, 14, 30, 15, 31],
     );
     [
-        e.shuffle(g, [0, 1, 16, 17, 2, 3, 18, 19, 4, 5, 20, 21, 6, 7, 22, 23])
-            .to_array(),
+        e.shuffle(g, [0, 1, 16, 17, 2, 3, 18, 19, 4, 5, 20, 21, 6, 7, 22, 23]),
         e.shuffle(
             g,
             [8, 9, 24, 25, 10, 11, 26, 27, 12, 13, 28, 29, 14, 15, 30, 31],
-        )
-        .to_array(),
-        f.shuffle(h, [0, 1, 16, 17, 2, 3, 18, 19, 4, 5, 20, 21, 6, 7, 22, 23])
-            .to_array(),
+        ),
+        f.shuffle(h, [0, 1, 16, 17, 2, 3, 18, 19, 4, 5, 20, 21, 6, 7, 22, 23]),
         f.shuffle(
             h,
             [8, 9, 24, 25, 10, 11, 26, 27, 12, 13, 28, 29, 14, 15, 30, 31],
-        )
-        .to_array(),
+        ),
     ]
 }

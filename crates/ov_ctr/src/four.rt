@@ -8,24 +8,26 @@ use ov_aes::{Blocks, LaneAes256};
 use std::simd::prelude::*;
 
 // Adds a block to 16 bytes.
-fn add_block(pad: &[u8; 16], piece: &mut [u8])
+#[inline(always)]
+fn add_block(pad: u8x16, piece: &mut [u8])
     requires { length piece.old ≡ 16 }
     ensures { (i : ℕ) → i < 16
-        → slice_index piece.new i ≡ bit_xor (slice_index piece.old i) (slice_index pad.now i) }
+        → slice_index piece.new i ≡ bit_xor (slice_index piece.old i) (slice_index pad i) }
 {
-    let sum = u8x16::from_slice(piece) ^ u8x16::from_array(*pad);
+    let sum = u8x16::from_slice(piece) ^ pad;
     sum.copy_to_slice(piece);
 }
 
 // Adds four blocks to 64 bytes.
-fn add_four(pads: &Blocks, piece: &mut [u8])
+#[inline(always)]
+fn add_four(pads: Blocks, piece: &mut [u8])
     requires { length piece.old ≡ 64 }
     ensures { (i : ℕ) → i < 64 → slice_index piece.new i
         ≡ bit_xor (slice_index piece.old i)
-        (slice_index (slice_index_or pads.now (i / 16) []) (i % 16)) }
+        (slice_index (slice_index_or pads (i / 16) []) (i % 16)) }
 {
     for n in 0..4usize {
-        add_block(&pads[n], &mut piece[16 * n..16 * n + 16]);
+        add_block(pads[n], &mut piece[16 * n..16 * n + 16]);
     }
 }
 
@@ -41,6 +43,6 @@ pub fn apply_groups(aes: &LaneAes256, tag: u8, file: u32, number: u64, piece: &m
     let first = (number % 256) as usize;
     for g in 0..piece.len() / 64 {
         let pads = aes.four_blocks(&front, (first + 4 * g) as u8);
-        add_four(&pads, &mut piece[64 * g..64 * g + 64]);
+        add_four(pads, &mut piece[64 * g..64 * g + 64]);
     }
 }
