@@ -1,5 +1,5 @@
 //! What `docs/PERFORMANCE.md` times: `speed` and one of these words:
-//! `pad`, `tag`, `graph`, `chain`, `journal`, `wire`, `copy`; `lengths`, which
+//! `pad`, `pages`, `groups`, `tag`, `graph`, `chain`, `journal`, `wire`, `copy`; `lengths`, which
 //! `tools/announced_lengths.sh` runs; and `cuts`, `plain` and `starts`, whose numbers
 //! `tools/pad_vectors.py` computes by OpenSSL.
 //!
@@ -61,6 +61,8 @@ fn main(rt: HostRuntime) -> Result<(), Fail> {
             "chain" => graph::chains(alloc, 10_000)?,
             "journal" => journal::appends(rt)?,
             "cuts" => pads::cuts(100_000),
+            "pages" => pads::pages(),
+            "groups" => pads::groups(),
             "plain" => pads::plain(),
             "starts" => pads::starts(),
             "wire" => wire::reads(alloc)?,

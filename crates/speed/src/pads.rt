@@ -98,6 +98,24 @@ fn equals_plain(pad: &[u8; 4608], start: usize, length: usize) -> bool
     bytes[..length] == pad[start..start + length]
 }
 
+/// The pad over 4,096 bytes, 16,384 times: then they are zeros again.
+pub fn pages() -> usize {
+    let mut bytes = [0u8; 4096];
+    for _ in 0..16_384u16 {
+        apply_at(&[7; 32], b'B', 2, 0, &mut bytes);
+    }
+    bytes.iter().filter(|byte| **byte == 0).count()
+}
+
+/// The pad over 64 bytes, 1,048,576 times.
+pub fn groups() -> usize {
+    let mut bytes = [0u8; 64];
+    for _ in 0..1_048_576u32 {
+        apply_at(&[7; 32], b'B', 2, 0, &mut bytes);
+    }
+    bytes.iter().filter(|byte| **byte == 0).count()
+}
+
 /// How many calls of all lengths to 4,200 at all starts to 300 give that pad.
 pub fn starts() -> usize {
     let pad = plain_pad(&[7; 32], b'B', 2);
