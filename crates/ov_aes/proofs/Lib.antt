@@ -8,3 +8,5 @@ pub mod RowLanes
 pub mod RowRounds
 pub mod OneRound
 pub mod RowKeyBytes
+pub mod Changes
+pub mod WeightBytes

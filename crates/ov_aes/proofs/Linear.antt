@@ -42,7 +42,7 @@ from_into = at_byte (λ x. from_tower (into_tower x)) (λ x. x) refl
 abbrev pub sbox_at : ℕ → ℕ
 sbox_at y = sbox (from_tower y)
 
-by_sbox : (f g : ℕ → ℕ) → map f (range_with_len 0 256) ≡ map (λ y. g (get_or SBOX (from_tower y) 0)) (range_with_len 0 256) → (y : ℕ) → y < 256 → f y ≡ g (sbox_at y)
+pub by_sbox : (f g : ℕ → ℕ) → map f (range_with_len 0 256) ≡ map (λ y. g (get_or SBOX (from_tower y) 0)) (range_with_len 0 256) → (y : ℕ) → y < 256 → f y ≡ g (sbox_at y)
 by_sbox f g e y lt = at_byte f (λ x. g (get_or SBOX (from_tower x) 0)) e y lt ∙ ap g (sbox_entry (from_tower y) (from_tower-lt y lt))
 
 pub once : (y : ℕ) → y < 256 → from_tower (one_of y) ≡ bit_xor (sbox_at y) 0x63

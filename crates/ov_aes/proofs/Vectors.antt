@@ -65,11 +65,14 @@ pub record At (j : ℕ) (xs : List ℕ) (x : ℕ) : Type 0 where
   pub long : length xs ≡ 16
   pub is : get_or xs j 0 ≡ x
 
-pub xor_at : {j x y : ℕ} {xs ys : List ℕ} → j < 16 → At j xs x → At j ys y → At j (zip2 bit_xor xs ys) (bit_xor x y)
-xor_at {j} {x} {y} {xs} {ys} lt a b = record {
-  long = length-zip2 bit_xor xs ys (a.long ∙ sym b.long) ∙ a.long;
-  is = get_or-zip2 bit_xor xs ys j 0 0 0 (omega (arith, a.long)) (omega (arith, b.long)) ∙ rw (a.is, b.is) refl;
+pub zip_at : (op : ℕ → ℕ → ℕ) {j x y : ℕ} {xs ys : List ℕ} → j < 16 → At j xs x → At j ys y → At j (zip2 op xs ys) (op x y)
+zip_at op {j} {x} {y} {xs} {ys} lt a b = record {
+  long = length-zip2 op xs ys (a.long ∙ sym b.long) ∙ a.long;
+  is = get_or-zip2 op xs ys j 0 0 0 (omega (arith, a.long)) (omega (arith, b.long)) ∙ rw (a.is, b.is) refl;
 }
+
+pub xor_at : {j x y : ℕ} {xs ys : List ℕ} → j < 16 → At j xs x → At j ys y → At j (zip2 bit_xor xs ys) (bit_xor x y)
+xor_at lt a b = zip_at bit_xor lt a b
 
 pub map_at : {j x : ℕ} {xs ys : List ℕ} (f : ℕ → ℕ) → j < 16 → ys ≡ map f xs → At j xs x → At j ys (f x)
 map_at {j} {x} {xs} {ys} f lt e a = record {

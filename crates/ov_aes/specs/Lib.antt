@@ -6,3 +6,4 @@ pub mod Aes
 pub mod Tower
 pub mod Rows
 pub mod RowKeys
+pub mod Fronts

@@ -1,13 +1,16 @@
 //! The cipher of four blocks at once, under one key.
 
-ghost use Rattle.std.specs.Prelude.{◌≡◌, ℕ, ◌<◌, List, [], slice_index_or};
+ghost use Rattle.std.specs.Prelude.{◌≡◌, ℕ, ◌<◌, ◌≤◌, ◌+◌, List, [], slice_index_or};
 ghost use Rattle.ov_aes.specs.Aes.{aes256};
+ghost use Rattle.ov_aes.specs.Fronts.{IsFrontOf, with_last};
 ghost use Rattle.ov_aes.specs.KeyExpansion.{key_expansion, key_of};
 ghost use Rattle.ov_aes.specs.RowKeys.{IsRowKeys};
 
+use crate::front::Front;
 use crate::key_schedule::{KeySchedule, expand_key};
 use crate::rounds::encrypt;
-use crate::row_blocks::{Blocks, encrypt_four};
+use crate::row_blocks::Blocks;
+use crate::row_cipher::encrypt_four;
 use crate::row_keys::{RowKeys, row_keys};
 use std::marker::Model;
 
@@ -46,11 +49,21 @@ impl LaneAes256 {
         encrypt(&self.words, input)
     }
 
-    /// The cipher of each of four blocks (FIPS 197, 5.1).
-    pub fn four_blocks(&self, inputs: &Blocks) -> Blocks
-        ensures { (n : ℕ) → n < 4
-            → slice_index_or result n [] ≡ aes256 self.now (slice_index_or inputs.now n []) }
+    /// What the first two rounds have in common for the blocks that are this one but for the last
+    /// byte.
+    pub fn front(&self, block: &[u8; 16]) -> Front
+        ensures { IsFrontOf result self.now block.now }
     {
-        encrypt_four(&self.keys, inputs)
+        Front::new(&self.keys, block)
+    }
+
+    /// The cipher of each of four blocks of a front (FIPS 197, 5.1), whose last bytes are counted
+    /// from `last` on.
+    pub fn four_blocks(&self, front: &Front, last: u8) -> Blocks
+        requires { last + 4 ≤ 256 }
+        ensures { (block : List ℕ) (n : ℕ) → IsFrontOf front.now self.now block → n < 4
+            → slice_index_or result n [] ≡ aes256 self.now (with_last block (last + n)) }
+    {
+        encrypt_four(&self.keys, front, last)
     }
 }

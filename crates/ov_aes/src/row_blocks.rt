@@ -1,20 +1,17 @@
-//! Four blocks at once.
+//! Four blocks, and their rows.
 
 ghost use Rattle.std.specs.Prelude.{◌≡◌, ℕ, ◌<◌, List, ◌∷◌, [], slice_index_or};
-ghost use Rattle.ov_aes.specs.Cipher.{cipher};
 ghost use Rattle.ov_aes.specs.Rows.{block_in};
-ghost use Rattle.ov_aes.specs.RowKeys.{IsRowKeys};
 
-use crate::row_keys::{RowKeys, rows_at};
-use crate::row_rounds::{Rows, first_key, last_round, round};
+use crate::row_rounds::Rows;
 use std::simd::prelude::*;
 
 /// Four blocks of 16 bytes.
-pub type Blocks = [[u8; 16]; 4];
+pub type Blocks = [u8x16; 4];
 
 /// The rows of four blocks: first two rows of two blocks, and then each row of all four.
 #[inline(always)]
-fn rows_of(a: &[u8; 16], b: &[u8; 16], c: &[u8; 16], d: &[u8; 16]) -> Rows
+pub fn rows_of(a: &[u8; 16], b: &[u8; 16], c: &[u8; 16], d: &[u8; 16]) -> Rows
     ensures { (n : ℕ) → n < 4
         → block_in result n ≡ slice_index_or (a.now ∷ b.now ∷ c.now ∷ d.now ∷ []) n [] }
 {
@@ -52,7 +49,7 @@ fn rows_of(a: &[u8; 16], b: &[u8; 16], c: &[u8; 16], d: &[u8; 16]) -> Rows
 
 /// The blocks that four rows have: first pairs of their bytes, and then columns.
 #[inline(always)]
-fn blocks_of(x: u8x16, y: u8x16, z: u8x16, t: u8x16) -> Blocks
+pub fn blocks_of(x: u8x16, y: u8x16, z: u8x16, t: u8x16) -> Blocks
     ensures { (n : ℕ) → n < 4
         → slice_index_or result n [] ≡ block_in (x ∷ y ∷ z ∷ t ∷ []) n }
 {
@@ -67,34 +64,15 @@ fn blocks_of(x: u8x16, y: u8x16, z: u8x16, t: u8x16) -> Blocks
         [8, 24, 9, 25, 10, 26, 11, 27, 12, 28, 13, 29, 14, 30, 15, 31],
     );
     [
-        e.shuffle(g, [0, 1, 16, 17, 2, 3, 18, 19, 4, 5, 20, 21, 6, 7, 22, 23])
-            .to_array(),
+        e.shuffle(g, [0, 1, 16, 17, 2, 3, 18, 19, 4, 5, 20, 21, 6, 7, 22, 23]),
         e.shuffle(
             g,
             [8, 9, 24, 25, 10, 11, 26, 27, 12, 13, 28, 29, 14, 15, 30, 31],
-        )
-        .to_array(),
-        f.shuffle(h, [0, 1, 16, 17, 2, 3, 18, 19, 4, 5, 20, 21, 6, 7, 22, 23])
-            .to_array(),
+        ),
+        f.shuffle(h, [0, 1, 16, 17, 2, 3, 18, 19, 4, 5, 20, 21, 6, 7, 22, 23]),
         f.shuffle(
             h,
             [8, 9, 24, 25, 10, 11, 26, 27, 12, 13, 28, 29, 14, 15, 30, 31],
-        )
-        .to_array(),
+        ),
     ]
-}
-
-/// The cipher of each of four blocks (FIPS 197, 5.1).
-pub fn encrypt_four(keys: &RowKeys, blocks: &Blocks) -> Blocks
-    ensures { (w : List (List ℕ)) (b : ℕ) → IsRowKeys keys.now w → b < 4
-        → slice_index_or result b [] ≡ cipher w (slice_index_or blocks.now b []) }
-{
-    let [a, b, c, d] = blocks;
-    let mut rows = first_key(rows_of(a, b, c, d), rows_at(keys, 0));
-    for n in 1..14usize {
-        let next = round(rows, rows_at(keys, n));
-        rows = next;
-    }
-    let [x, y, z, t] = last_round(rows, rows_at(keys, 14));
-    blocks_of(x, y, z, t)
 }

@@ -64,11 +64,15 @@ fn four_blocks_of_another_implementation(rt: HostRuntime) {
     for vector in &BLOCKS {
         let aes = LaneAes256::new(&key_from(vector.key_high, vector.key_low));
         let input = vector.input.to_be_bytes();
-        let mut inputs = [[0u8; 16]; 4];
-        for place in 0..4usize {
-            inputs[place] = input;
-            let output = aes.four_blocks(&inputs)[place];
-            assert_eq!(rt; u128::from_be_bytes(output), vector.output, "at {place}");
+        let front = aes.front(&input);
+        for place in 0..4u8 {
+            let Some(last) = input[15].checked_sub(place) else {
+                continue;
+            };
+            if last <= 252 {
+                let output = aes.four_blocks(&front, last)[place as usize].to_array();
+                assert_eq!(rt; u128::from_be_bytes(output), vector.output, "at {place}");
+            }
         }
         assert_eq!(rt; u128::from_be_bytes(aes.block(&input)), vector.output);
     }

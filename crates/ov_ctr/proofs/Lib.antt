@@ -1,2 +1,3 @@
 pub mod Pad
 pub mod Places
+pub mod Groups

@@ -1,6 +1,7 @@
 //! What `docs/PERFORMANCE.md` times: `speed` and one of these words:
-//! `pad`, `tag`, `graph`, `chain`, `journal`, `wire`, `copy`, and `lengths`, which
-//! `tools/announced_lengths.sh` runs.
+//! `pad`, `pages`, `groups`, `tag`, `graph`, `chain`, `journal`, `wire`, `copy`; `lengths`, which
+//! `tools/announced_lengths.sh` runs; and `cuts`, `plain` and `starts`, whose numbers
+//! `tools/pad_vectors.py` computes by OpenSSL.
 //!
 //! Each does one piece of work and prints one line that shows that it was done. It is timed from outside.
 #![tactic(auto)]
@@ -8,6 +9,7 @@
 mod graph;
 mod journal;
 mod lengths;
+mod pads;
 mod wire;
 
 use ov_ctr::apply_at;
@@ -58,6 +60,11 @@ fn main(rt: HostRuntime) -> Result<(), Fail> {
             "graph" => graph::chains(alloc, 0)?,
             "chain" => graph::chains(alloc, 10_000)?,
             "journal" => journal::appends(rt)?,
+            "cuts" => pads::cuts(100_000),
+            "pages" => pads::pages(),
+            "groups" => pads::groups(),
+            "plain" => pads::plain(),
+            "starts" => pads::starts(),
             "wire" => wire::reads(alloc)?,
             "copy" => wire::copies(alloc)?,
             "lengths" => {

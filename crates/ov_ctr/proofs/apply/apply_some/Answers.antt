@@ -3,24 +3,28 @@ use Rattle.std.proofs.lemmas.List.{get_or-append_right, get_or-drop, get_or-take
 use Rattle.ov_ctr.proofs.Places.{pad_in_block}
 use Rattle.ov_ctr.proofs.apply.apply_some.Goals as goal
 
-pub returns-then-rest-ge64-clause-applied : goal.returns-then-rest-ge64-clause-applied
-returns-then-rest-ge64-clause-applied c i lt =
+pub returns-then-groups-gt0-clause-applied : goal.returns-then-groups-gt0-clause-applied
+returns-then-groups-gt0-clause-applied c i lt =
     let old = c.args.rest.now in
-    let new = c.apply_four.new.piece in
-    let given : length (take 64 old) ≡ 64 = simp length-take (omega arith) in
-    let long : length new ≡ 64 = c.apply_four.auto.piece ∙ given in
+    let n = 64 * c.min-groups.result in
+    let new = c.apply_groups.new.piece in
+    let count : c.min-groups.result ≡ _ = c.min-groups.ensures in
+    let given : length (take n old) ≡ n = simp length-take (omega (arith, count)) in
+    let long : length new ≡ n = c.apply_groups.auto.piece ∙ given in
     let place : 16 * (c.args.place / 16) + i ≡ c.args.place + i = omega arith in
-    let from = get_or-take 64 old i 0 lt in
-    get_or_append_left new (drop 64 old) 0 i (omega (arith, long)) ∙ c.apply_four.ensures i lt ∙ rw (from, place) refl
+    let from = get_or-take n old i 0 lt in
+    get_or_append_left new (drop n old) 0 i (omega (arith, long)) ∙ c.apply_groups.ensures i (omega (arith, given)) ∙ rw (from, place) refl
 
-pub returns-then-rest-ge64-clause-after : goal.returns-then-rest-ge64-clause-after
-returns-then-rest-ge64-clause-after c i ge =
+pub returns-then-groups-gt0-clause-after : goal.returns-then-groups-gt0-clause-after
+returns-then-groups-gt0-clause-after c i ge =
     let old = c.args.rest.now in
-    let new = c.apply_four.new.piece in
-    let given : length (take 64 old) ≡ 64 = simp length-take (omega arith) in
-    let long : length new ≡ 64 = c.apply_four.auto.piece ∙ given in
-    let place : 64 + (i - 64) ≡ i = omega arith in
-    get_or-append_right new (drop 64 old) 64 i 0 long ge ∙ get_or-drop 64 old (i - 64) 0 ∙ ap (λ k. get_or old k 0) place
+    let n = 64 * c.min-groups.result in
+    let new = c.apply_groups.new.piece in
+    let count : c.min-groups.result ≡ _ = c.min-groups.ensures in
+    let given : length (take n old) ≡ n = simp length-take (omega (arith, count)) in
+    let long : length new ≡ n = c.apply_groups.auto.piece ∙ given in
+    let place : n + (i - n) ≡ i = omega arith in
+    get_or-append_right new (drop n old) n i 0 long ge ∙ get_or-drop n old (i - n) 0 ∙ ap (λ k. get_or old k 0) place
 
 pub returns-else-skip-eq0-clause-applied : goal.returns-else-skip-eq0-clause-applied
 returns-else-skip-eq0-clause-applied c i lt =

@@ -1,9 +1,12 @@
-use Rattle.std.proofs.Common.{ap, ◌∙◌, [], get_or}
+use Rattle.std.proofs.Common.{◌≡◌, ◌∙◌, ap}
 use Rattle.ov_aes.specs.Aes.{aes256}
-use Rattle.ov_aes.specs.Cipher.{cipher}
+use Rattle.ov_aes.specs.KeyExpansion.{key_expansion}
+use Rattle.ov_aes.specs.RowKeys.{IsRowKeys}
 use Rattle.ov_aes.proofs.lanes.LaneAes256.four_blocks.Goals as goal
 
 pub returns : goal.returns
 unfolding aes256
-returns c n lt =
-    rw (← c.self.view_is) (c.encrypt_four.ensures c.self.inside.words n c.self.invariant.1 lt ∙ ap (λ w. cipher w (get_or c.args.inputs.now n [])) c.self.invariant.0)
+returns c block n front lt =
+    let words : c.self.inside.words ≡ key_expansion c.args.self.now = c.self.invariant.0 ∙ ap key_expansion c.self.view_is in
+    let keys : IsRowKeys c.self.inside.keys (key_expansion c.args.self.now) = rw words at c.self.invariant.1 in
+    c.encrypt_four.ensures (key_expansion c.args.self.now) block n keys front lt
