@@ -1,72 +1,71 @@
-use Rattle.std.proofs.Common.{◌≡◌, ap, subst}
-use Rattle.ov_disk.specs.Disk.{Told}
-use Rattle.ov_history.specs.Masters.{Masters}
-use Rattle.ov_history.specs.Sealed.{SealedHistory}
+use Rattle.std.proofs.Common.{ap, subst}
 use Rattle.ov_images.specs.Images.{Keys, keys, keys_of}
-use Rattle.ov_store.specs.Beginning.{FindsHistory, IsNew, LeavesHistory}
-use Rattle.ov_store.specs.Opened.{Serves, StaysTold}
-use Rattle.ov_store.specs.Owners.{masters as both}
-use Rattle.overstore.specs.Judging.{IsChecked}
+use Rattle.ov_store.specs.Beginning.{IsNew, LeavesHistory}
 use Rattle.overstore.specs.Machine.{plain_masters}
-use Rattle.overstore.proofs.Judging.{begin_refused, call_so, false_refused, leaves_still, new_so, plain_found, writes_still}
+use Rattle.overstore.proofs.Judging.{begin_refused, call_so, leaves_still, looked, new_so}
+use Rattle.overstore.proofs.Judging.{writes_still}
 use Rattle.overstore.proofs.begin.begin.Goals as goal
 
 pub returns-in-Ok-clause-new : goal.returns-in-Ok-clause-new
 returns-in-Ok-clause-new g c =
-    let same : keys c.check_value-base_check.result c.args.masters.surface.bytes ≡ keys_of (plain_masters c.args.masters) =
-    ap (λ b. keys b c.args.masters.surface.bytes) c.check_value-base_check.ensures in
-    new_so (keys_of (plain_masters c.args.masters)) c.args.mode c.in-Ok.store c.checked.result c.checked.ensures.same
-    (subst (λ (x : Keys). IsNew x c.args.mode c.in-Ok.store) same c.in-Ok.ensures.new)
+    new_so (keys_of (plain_masters c.args.masters)) c.args.mode c.in-Ok.store c.checked.result
+    c.checked.ensures.same
+    (subst (λ (x : Keys). IsNew x c.args.mode c.in-Ok.store)
+    (ap (λ b. keys b c.args.masters.surface.bytes) c.check_value-base_check.ensures)
+    c.in-Ok.ensures.new)
 
 pub returns-in-Ok-clause-found : goal.returns-in-Ok-clause-found
 returns-in-Ok-clause-found g c =
-    let same : keys c.check_value-base_check.result c.args.masters.surface.bytes ≡ keys_of (plain_masters c.args.masters) =
-    ap (λ b. keys b c.args.masters.surface.bytes) c.check_value-base_check.ensures in
-    let own : both c.args.masters.base.bytes c.in-Ok.store.keys.surface ≡ plain_masters c.args.masters =
-    ap (λ (x : Keys). both c.args.masters.base.bytes x.surface) c.in-Ok.ensures.new.0 in
-    plain_found g.D.Disk.reads g.D.Disk.may_leave g.D.Disk.moment g.D.Disk.left_since (plain_masters c.args.masters) c.args.mode c.args.disk c.in-Ok.store
-    (subst (λ (x : Keys). Told (g.D.Disk.reads c.args.disk) (λ i. FindsHistory g.D.Disk.reads g.D.Disk.may_leave x c.args.mode i c.in-Ok.store)
-    × StaysTold (g.D.Disk.reads c.args.disk) (g.D.Disk.reads c.in-Ok.store.disk)) same c.in-Ok.ensures.found)
-    c.checked.result
-    (subst (λ (k : Masters). (h : SealedHistory) → Serves g.D.Disk.reads g.D.Disk.may_leave h c.in-Ok.store
-    → Told (g.D.Disk.reads c.in-Ok.store.disk) (λ _. IsChecked g.D.Disk.reads g.D.Disk.may_leave k h c.checked.result)) own c.checked.ensures.owners)
-    c.checked.ensures.untouched.reads_same
+    (looked g.D.Disk.reads g.D.Disk.may_leave g.D.Disk.moment g.D.Disk.left_since
+    (plain_masters c.args.masters)
+    (keys c.check_value-base_check.result c.args.masters.surface.bytes) c.args.mode c.args.disk
+    c.in-Ok.store (ap (λ b. keys b c.args.masters.surface.bytes) c.check_value-base_check.ensures)
+    c.in-Ok.ensures.new.0 c.in-Ok.ensures.found c.checked.result c.checked.ensures.owners
+    c.checked.ensures.untouched.reads_same).0
 
 pub returns-in-Ok-clause-fault : goal.returns-in-Ok-clause-fault
 returns-in-Ok-clause-fault g c =
-    let same : keys c.check_value-base_check.result c.args.masters.surface.bytes ≡ keys_of (plain_masters c.args.masters) =
-    ap (λ b. keys b c.args.masters.surface.bytes) c.check_value-base_check.ensures in
-    let own : both c.args.masters.base.bytes c.in-Ok.store.keys.surface ≡ plain_masters c.args.masters =
-    ap (λ (x : Keys). both c.args.masters.base.bytes x.surface) c.in-Ok.ensures.new.0 in
-    false_refused g.D.Disk.reads g.D.Disk.may_leave g.D.Disk.moment g.D.Disk.left_since (plain_masters c.args.masters) c.args.mode c.args.disk c.in-Ok.store
-    (subst (λ (x : Keys). Told (g.D.Disk.reads c.args.disk) (λ i. FindsHistory g.D.Disk.reads g.D.Disk.may_leave x c.args.mode i c.in-Ok.store)
-    × StaysTold (g.D.Disk.reads c.args.disk) (g.D.Disk.reads c.in-Ok.store.disk)) same c.in-Ok.ensures.found)
-    c.checked.result
-    (subst (λ (k : Masters). (h : SealedHistory) → Serves g.D.Disk.reads g.D.Disk.may_leave h c.in-Ok.store
-    → Told (g.D.Disk.reads c.in-Ok.store.disk) (λ _. IsChecked g.D.Disk.reads g.D.Disk.may_leave k h c.checked.result)) own c.checked.ensures.owners)
+    (looked g.D.Disk.reads g.D.Disk.may_leave g.D.Disk.moment g.D.Disk.left_since
+    (plain_masters c.args.masters)
+    (keys c.check_value-base_check.result c.args.masters.surface.bytes) c.args.mode c.args.disk
+    c.in-Ok.store (ap (λ b. keys b c.args.masters.surface.bytes) c.check_value-base_check.ensures)
+    c.in-Ok.ensures.new.0 c.in-Ok.ensures.found c.checked.result c.checked.ensures.owners
+    c.checked.ensures.untouched.reads_same).1
 
 pub returns-in-Ok-clause-any_moment : goal.returns-in-Ok-clause-any_moment
 returns-in-Ok-clause-any_moment g c =
-    leaves_still g.D.Disk.reads g.D.Disk.may_leave g.D.Disk.moment g.D.Disk.left_since c.args.disk c.in-Ok.store.disk _
+    leaves_still g.D.Disk.reads g.D.Disk.may_leave g.D.Disk.moment g.D.Disk.left_since
+    c.args.disk c.in-Ok.store.disk _
     (g.met.D.Disk.counts_now c.in-Ok.store.disk) c.checked.ensures.untouched
-    (keys c.check_value-base_check.result c.args.masters.surface.bytes) (keys_of (plain_masters c.args.masters)) c.args.mode
-    (ap (λ b. keys b c.args.masters.surface.bytes) c.check_value-base_check.ensures) c.in-Ok.ensures.any_moment
+    (keys c.check_value-base_check.result c.args.masters.surface.bytes)
+    (keys_of (plain_masters c.args.masters)) c.args.mode
+    (ap (λ b. keys b c.args.masters.surface.bytes) c.check_value-base_check.ensures)
+    c.in-Ok.ensures.any_moment
 
 pub returns-in-Ok-clause-untouched : goal.returns-in-Ok-clause-untouched
 returns-in-Ok-clause-untouched g c =
-    writes_still g.D.Disk.reads g.D.Disk.may_leave g.D.Disk.moment g.D.Disk.left_since c.args.disk c.in-Ok.store.disk _
-    (g.met.D.Disk.counts_now c.in-Ok.store.disk) c.checked.ensures.untouched c.in-Ok.ensures.untouched
+    writes_still g.D.Disk.reads g.D.Disk.may_leave g.D.Disk.moment g.D.Disk.left_since
+    c.args.disk c.in-Ok.store.disk _
+    (g.met.D.Disk.counts_now c.in-Ok.store.disk) c.checked.ensures.untouched
+    c.in-Ok.ensures.untouched
 
 pub returns-in-Ok-clause-call : goal.returns-in-Ok-clause-call
 returns-in-Ok-clause-call g c =
-    call_so g.D.Disk.borrow g.D.Disk.faults c.args.disk c.in-Ok.store.disk _ _ _ c.in-Ok.ensures.call c.checked.ensures.call
+    call_so g.D.Disk.borrow g.D.Disk.faults c.args.disk c.in-Ok.store.disk _ _ _
+    c.in-Ok.ensures.call c.checked.ensures.call
 
 pub returns-in-Err-clause-fault : goal.returns-in-Err-clause-fault
 returns-in-Err-clause-fault g c = λ i read.
-    begin_refused (plain_masters c.args.masters) (keys c.check_value-base_check.result c.args.masters.surface.bytes) c.args.mode i c.in-Err.refused.fault
-    (ap (λ b. keys b c.args.masters.surface.bytes) c.check_value-base_check.ensures) c.values_are_known.ensures (c.in-Err.ensures.fault i read)
+    begin_refused (plain_masters c.args.masters)
+    (keys c.check_value-base_check.result c.args.masters.surface.bytes) c.args.mode i
+    c.in-Err.refused.fault
+    (ap (λ b. keys b c.args.masters.surface.bytes) c.check_value-base_check.ensures)
+    c.values_are_known.ensures (c.in-Err.ensures.fault i read)
 
 pub returns-in-Err-clause-any_moment : goal.returns-in-Err-clause-any_moment
 returns-in-Err-clause-any_moment g c =
-    subst (λ (x : Keys). LeavesHistory g.D.Disk.reads g.D.Disk.may_leave g.D.Disk.moment g.D.Disk.left_since x c.args.mode c.args.disk c.in-Err.refused.disk)
-    (ap (λ b. keys b c.args.masters.surface.bytes) c.check_value-base_check.ensures) c.in-Err.ensures.any_moment
+    subst
+    (λ (x : Keys). LeavesHistory g.D.Disk.reads g.D.Disk.may_leave g.D.Disk.moment
+    g.D.Disk.left_since x c.args.mode c.args.disk c.in-Err.refused.disk)
+    (ap (λ b. keys b c.args.masters.surface.bytes) c.check_value-base_check.ensures)
+    c.in-Err.ensures.any_moment

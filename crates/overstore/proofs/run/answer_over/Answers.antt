@@ -6,50 +6,64 @@ use Rattle.overstore.specs.Running.{EndsAs}
 use Rattle.std.specs.Prelude.{IfSome}
 use Rattle.overstore.proofs.Beginning.{disk_said, over_begun, over_refused}
 use Rattle.overstore.proofs.Judging.{judged_open, judged_refused}
-use Rattle.overstore.proofs.Running.{ends_or_so, fault_no_read, fault_no_tag, fault_so, not_refused, script_seven, script_six}
+use Rattle.overstore.proofs.Running.{ends_or_so, fault_no_read, fault_no_tag, fault_so, not_refused}
+use Rattle.overstore.proofs.Running.{script_seven, script_six}
 use Rattle.overstore.proofs.run.answer_over.Goals as goal
 
 pub returns-in-Err-clause-status : goal.returns-in-Err-clause-status
 returns-in-Err-clause-status g c =
-    ends_or_so IsStoreStatus _ _ _ _ _ (fault_so c.in-Err.refused.fault) (inr script_six) (inr script_seven) c.put_fault.ensures.ends
+    ends_or_so IsStoreStatus _ _ _ _ _ (fault_so c.in-Err.refused.fault) (inr script_six)
+    (inr script_seven) c.put_fault.ensures.ends
 
 pub returns-in-Ok-clause-ends : goal.returns-in-Ok-clause-ends
 returns-in-Ok-clause-ends g c = λ p opens.
-    over_begun g.D.Disk.reads g.D.Disk.may_leave g.D.Disk.moment g.D.Disk.left_since (plain_masters c.args.masters) c.args.mode p c.args.disk opens
+    over_begun g.D.Disk.reads g.D.Disk.may_leave g.D.Disk.moment g.D.Disk.left_since
+    (plain_masters c.args.masters) c.args.mode p c.args.disk opens
     (g.I.Source.left c.args.input.now) _ _ _
-    c.of-machine.result c.in-Ok.store c.of-machine.ensures.store c.of-machine.ensures.masters c.in-Ok.ensures.new c.in-Ok.ensures.found c.in-Ok.ensures.any_moment
+    c.of-machine.result c.in-Ok.store c.of-machine.ensures.store c.of-machine.ensures.masters
+    c.in-Ok.ensures.new c.in-Ok.ensures.found c.in-Ok.ensures.any_moment
     c.into_disk.result
-    (λ q stands. subst (λ (last : g.row.D.Denot). IfSome (g.I.Source.left c.args.input.now) (λ text. EndsAs g.D.Disk.reads g.D.Disk.may_leave g.D.Disk.moment g.D.Disk.left_since
-    c.of-machine.result.kept.masters q text c.of-machine.result.disk last (g.O.Sink.written c.args.out.now) (g.O.Sink.written c.answer_script-code.new.out)
-    c.answer_script-code.result (Holds g.D.Disk.reads g.D.Disk.may_leave c.of-machine.result.kept.masters q c.of-machine.result.disk)))
+    (λ q stands. subst (λ (last : g.row.D.Denot). IfSome (g.I.Source.left c.args.input.now)
+    (λ text. EndsAs g.D.Disk.reads g.D.Disk.may_leave g.D.Disk.moment g.D.Disk.left_since
+    c.of-machine.result.kept.masters q text c.of-machine.result.disk last
+    (g.O.Sink.written c.args.out.now) (g.O.Sink.written c.answer_script-code.new.out)
+    c.answer_script-code.result (Holds g.D.Disk.reads g.D.Disk.may_leave
+    c.of-machine.result.kept.masters q c.of-machine.result.disk)))
     (sym c.into_disk.ensures) (c.answer_script-code.ensures.ends q stands))
 
 pub returns-in-Err-clause-ends : goal.returns-in-Err-clause-ends
 returns-in-Err-clause-ends g c = λ p opens.
-    over_refused g.D.Disk.reads g.D.Disk.may_leave g.D.Disk.moment g.D.Disk.left_since (plain_masters c.args.masters) c.args.mode p c.args.disk opens
+    over_refused g.D.Disk.reads g.D.Disk.may_leave g.D.Disk.moment g.D.Disk.left_since
+    (plain_masters c.args.masters) c.args.mode p c.args.disk opens
     (g.I.Source.left c.args.input.now) _ _ _
-    c.in-Err.refused.disk c.in-Err.refused.fault c.in-Err.ensures.fault c.put_fault.ensures.ends c.in-Err.ensures.any_moment
+    c.in-Err.refused.disk c.in-Err.refused.fault c.in-Err.ensures.fault c.put_fault.ensures.ends
+    c.in-Err.ensures.any_moment
     (g.met.D.Disk.counts_now c.in-Err.refused.disk)
 
 pub returns-in-Ok-clause-image : goal.returns-in-Ok-clause-image
 returns-in-Ok-clause-image g c = λ i told.
-    judged_open (plain_masters c.args.masters) c.args.mode i _ _ _ _ _ (c.in-Ok.ensures.found.0 i told).some
+    judged_open (plain_masters c.args.masters) c.args.mode i _ _ _ _ _
+    (c.in-Ok.ensures.found.0 i told).some
     (not_refused _ c.answer_script-code.ensures.status)
 
 pub returns-in-Err-clause-image : goal.returns-in-Err-clause-image
 returns-in-Err-clause-image g c = λ i told.
-    judged_refused (plain_masters c.args.masters) c.args.mode i _ _ _ _ _ c.in-Err.refused.fault (c.in-Err.ensures.fault i told)
+    judged_refused (plain_masters c.args.masters) c.args.mode i _ _ _ _ _ c.in-Err.refused.fault
+    (c.in-Err.ensures.fault i told)
     c.put_fault.ensures.ends refl (c.in-Err.ensures.untouched i told)
 
 pub returns-in-Err-clause-disk : goal.returns-in-Err-clause-disk
 returns-in-Err-clause-disk g c = record {
   same = c.in-Err.ensures.call.0;
   later = c.in-Err.ensures.call.1;
-  disk = λ e. c.in-Err.ensures.call.2 (disk_said c.in-Err.refused.fault _ _ _ _ c.put_fault.ensures.ends e);
+  disk = λ e. c.in-Err.ensures.call.2
+      (disk_said c.in-Err.refused.fault _ _ _ _ c.put_fault.ensures.ends e);
 }
 
 pub returns-in-Err-clause-read : goal.returns-in-Err-clause-read
-returns-in-Err-clause-read g c = λ e. absurd (fault_no_read c.in-Err.refused.fault _ _ _ _ c.put_fault.ensures.ends e)
+returns-in-Err-clause-read g c = λ e. absurd
+    (fault_no_read c.in-Err.refused.fault _ _ _ _ c.put_fault.ensures.ends e)
 
 pub returns-in-Err-clause-tag : goal.returns-in-Err-clause-tag
-returns-in-Err-clause-tag g c = λ e. absurd (fault_no_tag c.in-Err.refused.fault _ _ _ _ c.put_fault.ensures.ends e)
+returns-in-Err-clause-tag g c = λ e. absurd
+    (fault_no_tag c.in-Err.refused.fault _ _ _ _ c.put_fault.ensures.ends e)
