@@ -14,7 +14,7 @@ returns-in-Some-clause-decided g c =
     run_decides (λ (l : MutBor g.row.D.Denot). l.now) g.D.Disk.reads g.D.Disk.may_leave g.D.Disk.moment g.D.Disk.left_since
     (record { ref_ptr = c.args.disk.ref_ptr; ghost_name = _; now = c.args.disk.now }) c.answer_with_keys-code.result.1 c.answer_with_keys-code.result.1.now refl
     c.args.words.now (g.K.Source.left c.args.keys.now) (g.I.Source.left c.args.input.now) (g.O.Sink.written c.args.out.now) (g.O.Sink.written c.answer_with_keys-code.new.out) c.answer_with_keys-code.result.0 c.in-Some.mode c.in-Some.ensures.found c.answer_with_keys-code.ensures.ends
-    _ _ _ _ c.answer_with_keys-code.ensures.keys.none (search rules) c.answer_with_keys-code.ensures.read c.answer_with_keys-code.ensures.write
+    _ _ _ _ (search rules) c.answer_with_keys-code.ensures.read c.answer_with_keys-code.ensures.write
 
 pub returns-in-Some-clause-survives : goal.returns-in-Some-clause-survives
 returns-in-Some-clause-survives g c =
