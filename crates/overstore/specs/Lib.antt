@@ -4,6 +4,7 @@ pub mod Faults
 pub mod Machine
 pub mod Opening
 pub mod Owner
+pub mod Pacing
 pub mod Printing
 pub mod Running
 pub mod Sealing
