@@ -8,7 +8,7 @@ use Rattle.ov_disk.specs.Disk.{Image, Told}
 use Rattle.ov_disk.specs.Moments.{LeavesOnly}
 use Rattle.ov_history.specs.Masters.{Masters}
 use Rattle.ov_history.specs.Plain.{PlainHistory}
-use Rattle.overstore.specs.Disks.{Lasts, OpensAs, Survives}
+use Rattle.overstore.specs.Disks.{Endures, Lasts, OpensAs, Survives}
 use Rattle.overstore.specs.Machine.{AreMasters}
 use Rattle.overstore.specs.Running.{EndsAs, ForImage, FromEach, IsDecided, JudgesImage, LeavesAsAtStart, PrintsAs}
 use Rattle.overstore.specs.Words.{IsRun}
@@ -93,17 +93,14 @@ module _ {L D : Type 0} (now : L → D) (reads : D → Option Image) (may_leave 
         from_each first words keys input mode is E (λ k p text. IsDecided text status key_faults script out disk) ends
         (λ k p text e. decided p text old new status key_faults script out disk call read write e.concluded)
 
-    pub run_survives : FromEach reads may_leave (now first) words keys input
-        (λ k p text. Survives reads may_leave moment left_since k p text (now first) final old new)
-    run_survives =
-        from_each first words keys input mode is E (λ k p text. Survives reads may_leave moment left_since k p text (now first) final old new) ends
-        (λ k p text e. subst (λ d. Survives reads may_leave moment left_since k p text (now first) d old new) back
-        (lent_survives k p text first last old new (e.survives tt)))
-
-    pub run_lasts : status ≡ 0 → FromEach reads may_leave (now first) words keys input (λ k p text. Lasts reads may_leave k p text final)
-    run_lasts zero =
-        from_each first words keys input mode is E (λ k p text. Lasts reads may_leave k p text final) ends
-        (λ k p text e. subst (λ d. Lasts reads may_leave k p text d) back (lent_lasts k p text last (e.lasts tt zero)))
+    pub run_endures : FromEach reads may_leave (now first) words keys input
+        (λ k p text. Endures reads may_leave moment left_since k p text status (now first) final old new)
+    run_endures =
+        from_each first words keys input mode is E (λ k p text. Endures reads may_leave moment left_since k p text status (now first) final old new) ends
+        (λ k p text e. subst (λ d. Endures reads may_leave moment left_since k p text status (now first) d old new) back (record {
+          survives = lent_survives k p text first last old new (e.survives tt);
+          lasts = λ zero. lent_lasts k p text last (e.lasts tt zero);
+        }))
 
     pub run_image : (image : Option Image)
         → IfSome keys (λ file. (k : Masters) → AreMasters file k → Told image (λ i. JudgesImage k mode i status old new

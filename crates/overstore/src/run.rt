@@ -6,7 +6,7 @@ ghost use Rattle.ov_disk.specs.Disk.{Told};
 ghost use Rattle.ov_history.specs.Masters.{Masters as PlainMasters};
 ghost use Rattle.ov_history.specs.Plain.{PlainHistory};
 ghost use Rattle.overstore.specs.Answering.{SaysTag};
-ghost use Rattle.overstore.specs.Disks.{Holds, IsDiskCall, Lasts, OpensAs, Survives};
+ghost use Rattle.overstore.specs.Disks.{Endures, Holds, IsDiskCall, OpensAs};
 ghost use Rattle.overstore.specs.Machine.{AreMasters, StandsFor, plain_masters};
 ghost use Rattle.overstore.specs.Printing.{IsKeysStatus, IsScriptStatus, IsStoreStatus};
 ghost use Rattle.overstore.specs.Running.{EndsAs, FailsForFaults, ForImage, FromEach, IsDecided};
@@ -179,15 +179,12 @@ pub fn run<K: Source, I: Source, O: Sink, D: Disk>(
         (Rose (I.faults input.old) (I.faults input.new))
         (Rose (O.faults out.old) (O.faults out.new))
         (Rose (D.faults disk.old) (D.faults disk.new))) }
-    // Whatever the status, a stop leaves what was acknowledged, and at most one update more.
+    // Whatever the status, a stop leaves what was acknowledged, and at most one update more; at the
+    // end of the script the disk has it all, and the published tokens are the matrix.
     ensures survives { FromEach D.reads D.may_leave disk.old
         words.now (K.left keys.old) (I.left input.old) (λ k p text.
-        Survives D.reads D.may_leave D.moment D.left_since k p text disk.old disk.new
+        Endures D.reads D.may_leave D.moment D.left_since k p text result disk.old disk.new
         (O.written out.old) (O.written out.new)) }
-    // At the end of the script the disk has it all, and the published tokens are the matrix.
-    ensures lasts { result ≡ 0 → FromEach D.reads D.may_leave disk.old
-        words.now (K.left keys.old) (I.left input.old) (λ k p text.
-        Lasts D.reads D.may_leave k p text disk.new) }
     // A disk without a store of these keys and mode is refused, and nothing is written.
     ensures image { ForImage (D.reads disk.old) words.now (K.left keys.old) (λ k mode i.
         JudgesImage k mode i result (O.written out.old) (O.written out.new)
