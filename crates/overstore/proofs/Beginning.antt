@@ -256,14 +256,31 @@ module _ {D : Type 0} (reads : D → Option Image) (may_leave : D → Image → 
 
 module _ {D : Type 0} (reads : D → Option Image) (may_leave : D → Image → Type 0)
     (moment : D → ℕ) (left_since : D → ℕ → Image → Type 0) (k : Masters) (mode : Mode) (p : PlainHistory)
-    (ks : Keys) (same : ks ≡ keys_of k) (first : D) (opens : OpensAs reads may_leave k mode p first) (input old new : Option (List ℕ)) (status : ℕ) where
+    (ks : Keys) (same : ks ≡ keys_of k) (first : D) (opens : OpensAs reads may_leave k mode p first) where
   image_is : IsImageOf ks (sealed k p) opens.image
   image_is = subst (λ (x : Keys). IsImageOf x (sealed k p) opens.image) (sym same) opens.stands
 
+  -- what was opened stands for the history
+  module _ (m : KeptOn D) (s : Opened D) (is : opened_of m ≡ s) (masters : m.kept.masters ≡ k) (fresh : IsNew ks mode s)
+      (found : Told (reads first) (λ i. FindsHistory reads may_leave ks mode i s) × StaysTold (reads first) (reads s.disk)) where
+    serves : Serves reads may_leave (sealed k p) (opened_of m)
+    serves =
+        subst (λ (o : Opened D). Serves reads may_leave (sealed k p) o) (sym is)
+        ((found.0 opens.image opens.told).each (sealed k p) opens.mode_is image_is)
+
+    sound : m.failed ≡ false
+    sound = ap (λ (o : Opened D). o.failed) is ∙ fresh.1
+
+    pub over_stands : StandsFor m.kept p
+    over_stands = begun_stands reads may_leave moment left_since k p m masters sound serves opens.legal
+
+module _ {D : Type 0} (reads : D → Option Image) (may_leave : D → Image → Type 0)
+    (moment : D → ℕ) (left_since : D → ℕ → Image → Type 0) (k : Masters) (mode : Mode) (p : PlainHistory)
+    (ks : Keys) (same : ks ≡ keys_of k) (first : D) (opens : OpensAs reads may_leave k mode p first) (input old new : Option (List ℕ)) (status : ℕ) where
   leaves_plain : (last : D) → LeavesHistory reads may_leave moment left_since ks mode first last → LeavesOnly moment left_since first last (StandsForPlain k p)
   leaves_plain last any =
       subst (λ (x : Keys). LeavesOnly moment left_since first last (IsImageOf x (sealed k p))) same
-      (any opens.image opens.told opens.settled (sealed k p) opens.mode_is image_is)
+      (any opens.image opens.told opens.settled (sealed k p) opens.mode_is (image_is reads may_leave moment left_since k mode p ks same first opens))
 
   pub over_refused : (last : D) (fault : BeginFault) → HasValues fault → Told (reads first) (λ i. IsBeginFault ks mode i fault)
       → EndsOr (fault_line fault) (fault_status fault) old new status → LeavesHistory reads may_leave moment left_since ks mode first last
@@ -282,14 +299,6 @@ module _ {D : Type 0} (reads : D → Option Image) (may_leave : D → Image → 
   module _ (m : KeptOn D) (s : Opened D) (is : opened_of m ≡ s) (masters : m.kept.masters ≡ k) (fresh : IsNew ks mode s)
       (found : Told (reads first) (λ i. FindsHistory reads may_leave ks mode i s) × StaysTold (reads first) (reads s.disk))
       (any : LeavesHistory reads may_leave moment left_since ks mode first s.disk) where
-    serves : Serves reads may_leave (sealed k p) (opened_of m)
-    serves =
-        subst (λ (o : Opened D). Serves reads may_leave (sealed k p) o) (sym is)
-        ((found.0 opens.image opens.told).each (sealed k p) opens.mode_is image_is)
-
-    sound : m.failed ≡ false
-    sound = ap (λ (o : Opened D). o.failed) is ∙ fresh.1
-
     told : (i : Image) × (reads m.disk ≡ Some i)
     told = subst (λ (o : Opened D). (i : Image) × (reads o.disk ≡ Some i)) (sym is) (found.1 opens.image opens.told)
 
@@ -300,10 +309,11 @@ module _ {D : Type 0} (reads : D → Option Image) (may_leave : D → Image → 
         → ((q : PlainHistory) → StandsFor m.kept q → IfSome input (λ text. EndsAs reads may_leave moment left_since m.kept.masters q text m.disk last old new status
         (Holds reads may_leave m.kept.masters q m.disk)))
         → IfSome input (λ text. EndsAs reads may_leave moment left_since k p text first last old new status (Unit {0}))
-    over_begun last ends = by_text input (ends p (begun_stands reads may_leave moment left_since k p m masters sound serves opens.legal)) where
+    over_begun last ends = by_text input (ends p (over_stands reads may_leave moment left_since k mode p ks same first opens m s is masters fresh found)) where
       by_text : (input : Option (List ℕ)) → IfSome input (λ text. EndsAs reads may_leave moment left_since m.kept.masters p text m.disk last old new status
           (Holds reads may_leave m.kept.masters p m.disk)) → IfSome input (λ text. EndsAs reads may_leave moment left_since k p text first last old new status (Unit {0}))
       by_text None e = tt
       by_text (Some text) e =
-          ends_begun reads may_leave moment left_since k p m masters sound serves text first last old new status told leaves
+          ends_begun reads may_leave moment left_since k p m masters (sound reads may_leave moment left_since k mode p ks same first opens m s is masters fresh found)
+          (serves reads may_leave moment left_since k mode p ks same first opens m s is masters fresh found) text first last old new status told leaves
           (subst (λ (x : Masters). EndsAs reads may_leave moment left_since x p text m.disk last old new status (Holds reads may_leave x p m.disk)) masters e)

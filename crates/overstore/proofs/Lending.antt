@@ -72,6 +72,14 @@ module _ {L D : Type 0} (now : L → D) (reads : D → Option Image) (may_leave 
         then k p text
         (holds k p are (lent_opens k mode p loan (subst (λ m. OpensAs reads may_leave k m p (now loan)) (one_mode other mode words asked is) opens)))
 
+  -- what holds over the loan and doesn't speak of the disk
+  pub lent_each : (loan : L) (words : List (String Global)) (keys input : Option (List ℕ)) (mode : Mode) → IsRun mode words
+      → (Q : Masters → PlainHistory → List ℕ → Type 0)
+      → IfSome keys (λ file. IfSome input (λ text. (k : Masters) (p : PlainHistory) → AreMasters file k
+      → OpensAs (λ l. reads (now l)) (λ l. may_leave (now l)) k mode p loan → Q k p text))
+      → FromEach reads may_leave (now loan) words keys input Q
+  lent_each loan words keys input mode is Q holds = from_each loan words keys input mode is Q Q holds (λ k p text q. q)
+
   -- The run ended so over the loan, and this is the disk that came back.
   module _ (first last : L) (final : D) (back : now last ≡ final) (words : List (String Global)) (keys input old new : Option (List ℕ)) (status : ℕ)
       (mode : Mode) (is : IsRun mode words)
