@@ -1,5 +1,5 @@
 //! A source with the bytes that were taken from it and not yet used.
-ghost use Rattle.std.specs.Prelude.{◌≡◌, ℕ, List, ◌+◌, ◌-◌, ◌≤◌, ◌<◌, [], ◌++◌, length, take, drop, vec_len, MatchResult, IfOk};
+ghost use Rattle.std.specs.Prelude.{◌≡◌, ℕ, List, ◌+◌, ◌-◌, ◌≤◌, ◌<◌, [], ◌++◌, length, take, drop, vec_len, MatchResult};
 ghost use Rattle.std.specs.Io.KnownBytes.{Consumes, Keeps, IsAtEnd};
 ghost use Rattle.ov_base.specs.Causes.{HasCause};
 ghost use Rattle.ov_script.specs.Feed.{Fed};
@@ -11,6 +11,29 @@ use std::marker::Model;
 
 // More than the longest line of an item, so that there is always room for the rest of a line.
 const CAPACITY: usize = 32_768;
+
+/// The room of a feed for bytes that were taken and not yet used.
+#[derive(Drop)]
+pub struct Buffer {
+    bytes: Vec<u8>,
+}
+
+impl Model for Buffer {
+    ghost Value = { List ℕ };
+
+    ghost view = { λ b. b.bytes.items };
+
+    ghost invariant = { λ b. vec_len b.bytes ≡ 32768 };
+}
+
+impl Buffer {
+    /// Room in which nothing stands yet.
+    pub fn new(alloc: Global) -> Result<Buffer, Memory> {
+        Ok(Buffer {
+            bytes: vec![in alloc; 0; CAPACITY]?,
+        })
+    }
+}
 
 /// A source with the bytes that were taken from it and not yet used.
 #[derive(Drop)]
@@ -66,15 +89,15 @@ fn take_behind<S: Source>(source: &mut S, buffer: &mut Vec<u8>, end: usize) -> R
 
 impl<S: Source + Drop> Feed<S> {
     /// Nothing was taken yet.
-    pub fn new(alloc: Global, source: S) -> Result<Feed<S>, Memory>
-        ensures { IfOk result (λ feed. feed ≡ record { source = source; pending = [] }) }
+    pub fn over(buffer: Buffer, source: S) -> Feed<S>
+        ensures { result ≡ record { source = source; pending = [] } }
     {
-        Ok(Feed {
+        Feed {
             source,
-            buffer: vec![in alloc; 0; CAPACITY]?,
+            buffer: buffer.bytes,
             start: 0,
             end: 0,
-        })
+        }
     }
 
     /// The allocator that it was made with.

@@ -47,6 +47,7 @@ mod tests;
 mod words;
 
 pub use command::Command;
+pub use feed::Buffer;
 pub use next::{Next, ScriptFault};
 pub use reply::{Reply, line};
 pub use script::Script;

@@ -11,7 +11,7 @@ ghost use Rattle.ov_script.specs.Taking.{IsFreshFault, TakesWhatItNeeds};
 
 use crate::command::Command;
 use crate::ended::Ended;
-use crate::feed::Feed;
+use crate::feed::{Buffer, Feed};
 use crate::item::item_of;
 use crate::next::{Next, ScriptFault};
 use ov_base::Memory;
@@ -44,16 +44,24 @@ impl<S> Model for Script<S> {
 }
 
 impl<S: Source + Drop> Script<S> {
-    /// A script that begins with what this source has left.
+    /// A script that begins with what this source has left. Where memory is refused the source is
+    /// let go.
     pub fn new(alloc: Global, source: S) -> Result<Script<S>, Memory>
         ensures { IfOk result (λ script. script ≡ start source) }
     {
-        Ok(Script {
-            feed: Feed::new(alloc, source)?,
+        Ok(Script::over(Buffer::new(alloc)?, source))
+    }
+
+    /// The same with room that was made before.
+    pub fn over(buffer: Buffer, source: S) -> Script<S>
+        ensures { result ≡ start source }
+    {
+        Script {
+            feed: Feed::over(buffer, source),
             line: 1,
             room: MAX_SCRIPT_BYTES as usize,
             ended: None,
-        })
+        }
     }
 
     /// Gives the source back.

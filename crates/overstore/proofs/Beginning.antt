@@ -216,6 +216,23 @@ module _ {D : Type 0} (reads : D → Option Image) (may_leave : D → Image → 
 
 module _ {D : Type 0} (reads : D → Option Image) (may_leave : D → Image → Type 0)
     (moment : D → ℕ) (left_since : D → ℕ → Image → Type 0) (k : Masters) (mode : Mode) (p : PlainHistory)
+    (first : D) (opens : OpensAs reads may_leave k mode p first) where
+  -- what was opened stands for the history
+  module _ (m : KeptOn D) (s : Opened D) (is : opened_of m ≡ s) (masters : m.kept.masters ≡ k) (fresh : IsNew (keys_of k) mode s)
+      (found : Told (reads first) (λ i. FindsPlain reads may_leave k mode i s) × StaysTold (reads first) (reads s.disk)) where
+    serves : Serves reads may_leave (sealed k p) (opened_of m)
+    serves =
+        subst (λ (o : Opened D). Serves reads may_leave (sealed k p) o) (sym is)
+        ((found.0 opens.image opens.told).each p opens.mode_is opens.stands)
+
+    sound : m.failed ≡ false
+    sound = ap (λ (o : Opened D). o.failed) is ∙ fresh.1
+
+    pub over_stands : StandsFor m.kept p
+    over_stands = begun_stands reads may_leave moment left_since k p m masters sound serves opens.legal
+
+module _ {D : Type 0} (reads : D → Option Image) (may_leave : D → Image → Type 0)
+    (moment : D → ℕ) (left_since : D → ℕ → Image → Type 0) (k : Masters) (mode : Mode) (p : PlainHistory)
     (first : D) (opens : OpensAs reads may_leave k mode p first) (input old new : Option (List ℕ)) (status : ℕ) where
   leaves_plain : (last : D) → LeavesHistory reads may_leave moment left_since (keys_of k) mode first last → LeavesOnly moment left_since first last (StandsForPlain k p)
   leaves_plain last any = any opens.image opens.told opens.settled (sealed k p) opens.mode_is opens.stands
@@ -235,14 +252,6 @@ module _ {D : Type 0} (reads : D → Option Image) (may_leave : D → Image → 
   module _ (m : KeptOn D) (s : Opened D) (is : opened_of m ≡ s) (masters : m.kept.masters ≡ k) (fresh : IsNew (keys_of k) mode s)
       (found : Told (reads first) (λ i. FindsPlain reads may_leave k mode i s) × StaysTold (reads first) (reads s.disk))
       (any : LeavesHistory reads may_leave moment left_since (keys_of k) mode first s.disk) where
-    serves : Serves reads may_leave (sealed k p) (opened_of m)
-    serves =
-        subst (λ (o : Opened D). Serves reads may_leave (sealed k p) o) (sym is)
-        ((found.0 opens.image opens.told).each p opens.mode_is opens.stands)
-
-    sound : m.failed ≡ false
-    sound = ap (λ (o : Opened D). o.failed) is ∙ fresh.1
-
     told : (i : Image) × (reads m.disk ≡ Some i)
     told = subst (λ (o : Opened D). (i : Image) × (reads o.disk ≡ Some i)) (sym is) (found.1 opens.image opens.told)
 
@@ -253,10 +262,11 @@ module _ {D : Type 0} (reads : D → Option Image) (may_leave : D → Image → 
         → ((q : PlainHistory) → StandsFor m.kept q → IfSome input (λ text. EndsAs reads may_leave moment left_since m.kept.masters q text m.disk last old new status
         (Holds reads may_leave m.kept.masters q m.disk)))
         → IfSome input (λ text. EndsAs reads may_leave moment left_since k p text first last old new status (Unit {0}))
-    over_begun last ends = by_text input (ends p (begun_stands reads may_leave moment left_since k p m masters sound serves opens.legal)) where
+    over_begun last ends = by_text input (ends p (over_stands reads may_leave moment left_since k mode p first opens m s is masters fresh found)) where
       by_text : (input : Option (List ℕ)) → IfSome input (λ text. EndsAs reads may_leave moment left_since m.kept.masters p text m.disk last old new status
           (Holds reads may_leave m.kept.masters p m.disk)) → IfSome input (λ text. EndsAs reads may_leave moment left_since k p text first last old new status (Unit {0}))
       by_text None e = tt
       by_text (Some text) e =
-          ends_begun reads may_leave moment left_since k p m masters sound serves text first last old new status told leaves
+          ends_begun reads may_leave moment left_since k p m masters (sound reads may_leave moment left_since k mode p first opens m s is masters fresh found)
+          (serves reads may_leave moment left_since k mode p first opens m s is masters fresh found) text first last old new status told leaves
           (subst (λ (x : Masters). EndsAs reads may_leave moment left_since x p text m.disk last old new status (Holds reads may_leave x p m.disk)) masters e)

@@ -18,7 +18,7 @@ use Rattle.ov_model.specs.Step.{after_all, reply_to}
 use Rattle.ov_model.proofs.Runs.{lines-more}
 use Rattle.overstore.specs.Answering.{AnsweredAll, AnsweredFirst, AnsweredPart, EndsIn, EndsOr, Finishes, Stops}
 use Rattle.overstore.specs.Machine.{KeptOn}
-use Rattle.overstore.specs.Printing.{BadKeys, Outcome, Answered, DiskFault, ReadFault, OutOfMemory, status_of, last_line, disk_line, memory_line, read_line, IsPrinted, Prints, PrintsFront, IsFault}
+use Rattle.overstore.specs.Printing.{Outcome, Answered, DiskFault, ReadFault, OutOfMemory, status_of, last_line, disk_line, memory_line, read_line, IsPrinted, Prints, PrintsFront, IsFault}
 use Rattle.overstore.specs.Running.{Concluded, whole, part}
 use Rattle.overstore.specs.declared.answer.Stop.{Stop}
 use Rattle.overstore.specs.declared.answer.Stop.TheVariants.{End, BadLine, Long, Read, Write, Disk, Memory, Tag}
@@ -113,7 +113,6 @@ is_done h text old new status e (whole (Answered TooLong) s p) = absurd (omega a
 is_done h text old new status e (whole DiskFault s p) = absurd (omega arith)
 is_done h text old new status e (whole ReadFault s p) = absurd (omega arith)
 is_done h text old new status e (whole OutOfMemory s p) = absurd (omega arith)
-is_done h text old new status e (whole BadKeys s p) = absurd (omega arith)
 is_done h text old new status e (part s p) = absurd (omega arith)
 
 pub is_bad : (h : PlainHistory) (text : List ℕ) (old new : Option (List ℕ)) (status : ℕ) → status ≡ 3 → Concluded h text old new status → (n : ℕ) × Prints h text (Answered (BadAt n)) old new
@@ -123,7 +122,6 @@ is_bad h text old new status e (whole (Answered TooLong) s p) = absurd (omega ar
 is_bad h text old new status e (whole DiskFault s p) = absurd (omega arith)
 is_bad h text old new status e (whole ReadFault s p) = absurd (omega arith)
 is_bad h text old new status e (whole OutOfMemory s p) = absurd (omega arith)
-is_bad h text old new status e (whole BadKeys s p) = absurd (omega arith)
 is_bad h text old new status e (part s p) = absurd (omega arith)
 
 pub is_long : (h : PlainHistory) (text : List ℕ) (old new : Option (List ℕ)) (status : ℕ) → status ≡ 11 → Concluded h text old new status → Prints h text (Answered TooLong) old new
@@ -133,7 +131,6 @@ is_long h text old new status e (whole (Answered TooLong) s p) = p
 is_long h text old new status e (whole DiskFault s p) = absurd (omega arith)
 is_long h text old new status e (whole ReadFault s p) = absurd (omega arith)
 is_long h text old new status e (whole OutOfMemory s p) = absurd (omega arith)
-is_long h text old new status e (whole BadKeys s p) = absurd (omega arith)
 is_long h text old new status e (part s p) = absurd (omega arith)
 
 pub is_disk : (h : PlainHistory) (text : List ℕ) (old new : Option (List ℕ)) (status : ℕ) → status ≡ 4 → Concluded h text old new status → Prints h text DiskFault old new
@@ -143,7 +140,6 @@ is_disk h text old new status e (whole (Answered TooLong) s p) = absurd (omega a
 is_disk h text old new status e (whole DiskFault s p) = p
 is_disk h text old new status e (whole ReadFault s p) = absurd (omega arith)
 is_disk h text old new status e (whole OutOfMemory s p) = absurd (omega arith)
-is_disk h text old new status e (whole BadKeys s p) = absurd (omega arith)
 is_disk h text old new status e (part s p) = absurd (omega arith)
 
 pub is_read : (h : PlainHistory) (text : List ℕ) (old new : Option (List ℕ)) (status : ℕ) → status ≡ 5 → Concluded h text old new status → Prints h text ReadFault old new
@@ -153,7 +149,6 @@ is_read h text old new status e (whole (Answered TooLong) s p) = absurd (omega a
 is_read h text old new status e (whole DiskFault s p) = absurd (omega arith)
 is_read h text old new status e (whole ReadFault s p) = p
 is_read h text old new status e (whole OutOfMemory s p) = absurd (omega arith)
-is_read h text old new status e (whole BadKeys s p) = absurd (omega arith)
 is_read h text old new status e (part s p) = absurd (omega arith)
 
 pub is_memory : (h : PlainHistory) (text : List ℕ) (old new : Option (List ℕ)) (status : ℕ) → status ≡ 7 → Concluded h text old new status → Prints h text OutOfMemory old new
@@ -163,7 +158,6 @@ is_memory h text old new status e (whole (Answered TooLong) s p) = absurd (omega
 is_memory h text old new status e (whole DiskFault s p) = absurd (omega arith)
 is_memory h text old new status e (whole ReadFault s p) = absurd (omega arith)
 is_memory h text old new status e (whole OutOfMemory s p) = p
-is_memory h text old new status e (whole BadKeys s p) = absurd (omega arith)
 is_memory h text old new status e (part s p) = absurd (omega arith)
 
 not_six : (outcome : Outcome) → status_of outcome ≡ 6 → ⊥
@@ -173,7 +167,6 @@ not_six (Answered TooLong) e = absurd (omega arith)
 not_six DiskFault e = absurd (omega arith)
 not_six ReadFault e = absurd (omega arith)
 not_six OutOfMemory e = absurd (omega arith)
-not_six BadKeys e = absurd (omega arith)
 
 pub is_write : (h : PlainHistory) (text : List ℕ) (old new : Option (List ℕ)) (status : ℕ) → status ≡ 6 → Concluded h text old new status → PrintsFront h text old new
 is_write h text old new status e (whole outcome s p) = absurd (not_six outcome (sym s ∙ e))
@@ -181,16 +174,15 @@ is_write h text old new status e (part s p) = p
 
 -- ---- the script decides
 
-pub exact : (h : PlainHistory) (text : List ℕ) (old new : Option (List ℕ)) (status : ℕ) → (status ≡ 10 → ⊥) → Concluded h text old new status → (commands : List Command) (ending : Ending) → IsScript text commands ending
+pub exact : (h : PlainHistory) (text : List ℕ) (old new : Option (List ℕ)) (status : ℕ) → Concluded h text old new status → (commands : List Command) (ending : Ending) → IsScript text commands ending
     → (status ≡ status_of (Answered ending)) ⊎ IsFault status
-exact h text old new status keys (whole (Answered other) s p) commands ending reads =
+exact h text old new status (whole (Answered other) s p) commands ending reads =
     let same : other ≡ ending = (one_reading 1 MAX_SCRIPT_BYTES text p.1.0 commands other ending p.1.1 reads).1 in
     inl (s ∙ ap (λ e. status_of (Answered e)) same)
-exact h text old new status keys (whole BadKeys s p) commands ending reads = absurd (keys s)
-exact h text old new status keys (whole DiskFault s p) commands ending reads = inr (inr (inr (inr s)))
-exact h text old new status keys (whole ReadFault s p) commands ending reads = inr (inl s)
-exact h text old new status keys (whole OutOfMemory s p) commands ending reads = inr (inr (inr (inl s)))
-exact h text old new status keys (part s p) commands ending reads = inr (inr (inl s))
+exact h text old new status (whole DiskFault s p) commands ending reads = inr (inr (inr (inr s)))
+exact h text old new status (whole ReadFault s p) commands ending reads = inr (inl s)
+exact h text old new status (whole OutOfMemory s p) commands ending reads = inr (inr (inr (inl s)))
+exact h text old new status (part s p) commands ending reads = inr (inr (inl s))
 
 -- where nothing fails, only memory is left
 pub complete : (status wanted : ℕ) → (status ≡ wanted) ⊎ IsFault status → (status ≡ 4 → ⊥) → (status ≡ 5 → ⊥) → (status ≡ 6 → ⊥) → (status ≡ wanted) ⊎ (status ≡ 7)

@@ -8,16 +8,11 @@ use Rattle.ov_disk.specs.Disk.{Image, Told}
 use Rattle.ov_disk.specs.Moments.{LeavesOnly}
 use Rattle.ov_history.specs.Masters.{Masters}
 use Rattle.ov_history.specs.Plain.{PlainHistory}
-use Rattle.overstore.specs.Disks.{Lasts, OpensAs, Survives}
+use Rattle.overstore.specs.Disks.{Endures, Lasts, OpensAs, Survives}
 use Rattle.overstore.specs.Machine.{AreMasters}
 use Rattle.overstore.specs.Running.{EndsAs, ForImage, FromEach, IsDecided, JudgesImage, LeavesAsAtStart, PrintsAs}
 use Rattle.overstore.specs.Words.{IsRun}
-use Rattle.ov_keyfile.specs.KeyFile.{HasMasters}
 use Rattle.overstore.proofs.Running.{decided, one_mode, prints_as}
-
-each_none : (keys : Option (List ℕ)) (status : ℕ) → (status ≡ 10 → IfSome keys (λ file. HasMasters file → ⊥)) → IfSome keys (λ file. status ≡ 10 → HasMasters file → ⊥)
-each_none None status none = tt
-each_none (Some file) status none = none
 
 -- what holds of the image in the mode that was found
 for_image : (image : Option Image) (words : List (String Global)) (keys : Option (List ℕ)) (mode : Mode) → IsRun mode words → (P Q : Masters → Mode → Image → Type 0)
@@ -64,20 +59,28 @@ module _ {L D : Type 0} (now : L → D) (reads : D → Option Image) (may_leave 
 
   -- from what holds in the mode that was found
   from_each : (loan : L) (words : List (String Global)) (keys input : Option (List ℕ)) (mode : Mode) → IsRun mode words
-      → (E Q : Masters → PlainHistory → List ℕ → Type 0) (F : List ℕ → Type 0) → IfSome keys F
+      → (E Q : Masters → PlainHistory → List ℕ → Type 0)
       → IfSome keys (λ file. IfSome input (λ text. (k : Masters) (p : PlainHistory) → AreMasters file k
       → OpensAs (λ l. reads (now l)) (λ l. may_leave (now l)) k mode p loan → E k p text))
-      → ((file : List ℕ) (k : Masters) (p : PlainHistory) (text : List ℕ) → AreMasters file k → F file → E k p text → Q k p text)
+      → ((k : Masters) (p : PlainHistory) (text : List ℕ) → E k p text → Q k p text)
       → FromEach reads may_leave (now loan) words keys input Q
-  from_each loan words keys input mode is E Q F facts holds then other asked = by_cases keys input facts holds where
-    by_cases : (keys input : Option (List ℕ)) → IfSome keys F → IfSome keys (λ file. IfSome input (λ text. (k : Masters) (p : PlainHistory) → AreMasters file k
+  from_each loan words keys input mode is E Q holds then other asked = by_cases keys input holds where
+    by_cases : (keys input : Option (List ℕ)) → IfSome keys (λ file. IfSome input (λ text. (k : Masters) (p : PlainHistory) → AreMasters file k
         → OpensAs (λ l. reads (now l)) (λ l. may_leave (now l)) k mode p loan → E k p text))
         → IfSome keys (λ file. IfSome input (λ text. (k : Masters) (p : PlainHistory) → AreMasters file k → OpensAs reads may_leave k other p (now loan) → Q k p text))
-    by_cases None input facts holds = tt
-    by_cases (Some file) None facts holds = tt
-    by_cases (Some file) (Some text) facts holds = λ k p are opens.
-        then file k p text are facts
+    by_cases None input holds = tt
+    by_cases (Some file) None holds = tt
+    by_cases (Some file) (Some text) holds = λ k p are opens.
+        then k p text
         (holds k p are (lent_opens k mode p loan (subst (λ m. OpensAs reads may_leave k m p (now loan)) (one_mode other mode words asked is) opens)))
+
+  -- what holds over the loan and doesn't speak of the disk
+  pub lent_each : (loan : L) (words : List (String Global)) (keys input : Option (List ℕ)) (mode : Mode) → IsRun mode words
+      → (Q : Masters → PlainHistory → List ℕ → Type 0)
+      → IfSome keys (λ file. IfSome input (λ text. (k : Masters) (p : PlainHistory) → AreMasters file k
+      → OpensAs (λ l. reads (now l)) (λ l. may_leave (now l)) k mode p loan → Q k p text))
+      → FromEach reads may_leave (now loan) words keys input Q
+  lent_each loan words keys input mode is Q holds = from_each loan words keys input mode is Q Q holds (λ k p text q. q)
 
   -- The run ended so over the loan, and this is the disk that came back.
   module _ (first last : L) (final : D) (back : now last ≡ final) (words : List (String Global)) (keys input old new : Option (List ℕ)) (status : ℕ)
@@ -88,34 +91,26 @@ module _ {L D : Type 0} (now : L → D) (reads : D → Option Image) (may_leave 
     abbrev E : Masters → PlainHistory → List ℕ → Type 0
     E k p text = EndsAs (λ l. reads (now l)) (λ l. may_leave (now l)) (λ l. moment (now l)) (λ l. left_since (now l)) k p text first last old new status (Unit {0})
 
-    nothing : (o : Option (List ℕ)) → IfSome o (λ file. Unit {0})
-    nothing None = tt
-    nothing (Some file) = tt
-
     pub run_prints : FromEach reads may_leave (now first) words keys input (λ k p text. PrintsAs p text status old new)
     run_prints =
-        from_each first words keys input mode is E (λ k p text. PrintsAs p text status old new) (λ _. Unit {0}) (nothing keys) ends
-        (λ file k p text are fact e. prints_as p text old new status e.concluded)
+        from_each first words keys input mode is E (λ k p text. PrintsAs p text status old new) ends
+        (λ k p text e. prints_as p text old new status e.concluded)
 
-    pub run_decides : (key_faults script out disk : Type 0) → (status ≡ 10 → IfSome keys (λ file. HasMasters file → ⊥))
+    pub run_decides : (key_faults script out disk : Type 0)
         → (status ≡ 4 → disk) → (status ≡ 5 → key_faults ⊎ script) → (status ≡ 6 → out)
         → FromEach reads may_leave (now first) words keys input (λ k p text. IsDecided text status key_faults script out disk)
-    run_decides key_faults script out disk none call read write =
-        from_each first words keys input mode is E (λ k p text. IsDecided text status key_faults script out disk) (λ file. status ≡ 10 → HasMasters file → ⊥)
-        (each_none keys status none) ends
-        (λ file k p text are no_keys e. decided p text old new status key_faults script out disk (λ ten. no_keys ten (k.base, k.surface, are)) call read write e.concluded)
+    run_decides key_faults script out disk call read write =
+        from_each first words keys input mode is E (λ k p text. IsDecided text status key_faults script out disk) ends
+        (λ k p text e. decided p text old new status key_faults script out disk call read write e.concluded)
 
-    pub run_survives : FromEach reads may_leave (now first) words keys input
-        (λ k p text. Survives reads may_leave moment left_since k p text (now first) final old new)
-    run_survives =
-        from_each first words keys input mode is E (λ k p text. Survives reads may_leave moment left_since k p text (now first) final old new) (λ _. Unit {0}) (nothing keys) ends
-        (λ file k p text are fact e. subst (λ d. Survives reads may_leave moment left_since k p text (now first) d old new) back
-        (lent_survives k p text first last old new (e.survives tt)))
-
-    pub run_lasts : status ≡ 0 → FromEach reads may_leave (now first) words keys input (λ k p text. Lasts reads may_leave k p text final)
-    run_lasts zero =
-        from_each first words keys input mode is E (λ k p text. Lasts reads may_leave k p text final) (λ _. Unit {0}) (nothing keys) ends
-        (λ file k p text are fact e. subst (λ d. Lasts reads may_leave k p text d) back (lent_lasts k p text last (e.lasts tt zero)))
+    pub run_endures : FromEach reads may_leave (now first) words keys input
+        (λ k p text. Endures reads may_leave moment left_since k p text status (now first) final old new)
+    run_endures =
+        from_each first words keys input mode is E (λ k p text. Endures reads may_leave moment left_since k p text status (now first) final old new) ends
+        (λ k p text e. subst (λ d. Endures reads may_leave moment left_since k p text status (now first) d old new) back (record {
+          survives = lent_survives k p text first last old new (e.survives tt);
+          lasts = λ zero. lent_lasts k p text last (e.lasts tt zero);
+        }))
 
     pub run_image : (image : Option Image) (U : Type 0)
         → IfSome keys (λ file. (k : Masters) → AreMasters file k → Told image (λ i. JudgesImage k mode i status old new U

@@ -10,6 +10,7 @@ pub mod KeyFiles
 pub mod Lending
 pub mod NamesIn
 pub mod Owning
+pub mod Pacing
 pub mod Reading
 pub mod Running
 pub mod Stepping

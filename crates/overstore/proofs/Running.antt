@@ -52,12 +52,12 @@ prints_as h text old new status so = record {
   write = λ e. is_write h text old new status e so;
 }
 
-pub decided : (h : PlainHistory) (text : List ℕ) (old new : Option (List ℕ)) (status : ℕ) (keys script out disk : Type 0) → (status ≡ 10 → ⊥)
+pub decided : (h : PlainHistory) (text : List ℕ) (old new : Option (List ℕ)) (status : ℕ) (keys script out disk : Type 0)
     → (status ≡ 4 → disk) → (status ≡ 5 → keys ⊎ script) → (status ≡ 6 → out) → Concluded h text old new status → IsDecided text status keys script out disk
-decided h text old new status keys script out disk ten call read write so = record {
-  exact = exact h text old new status ten so;
+decided h text old new status keys script out disk call read write so = record {
+  exact = exact h text old new status so;
   complete = λ no_keys no_script no_out no_disk commands ending reads.
-      complete status _ (exact h text old new status ten so commands ending reads) (λ four. no_disk (call four))
+      complete status _ (exact h text old new status so commands ending reads) (λ four. no_disk (call four))
       (λ five. neither keys script no_keys no_script (read five)) (λ six. no_out (write six));
 }
 

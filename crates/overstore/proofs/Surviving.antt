@@ -99,7 +99,7 @@ not_zero_or last code old new status (inl e) other zero_is = not_zero last code 
 not_zero_or last code old new status (inr e) other zero_is = not_zero memory_line 7 old new status e (λ z. omega arith) zero_is
 
 -- some bytes were put
-some_put : (last : List ℕ) (code : ℕ) (old new : Option (List ℕ)) (status : ℕ) → EndsOr last code old new status → (rest : List ℕ) × Appends old new rest
+pub some_put : (last : List ℕ) (code : ℕ) (old new : Option (List ℕ)) (status : ℕ) → EndsOr last code old new status → (rest : List ℕ) × Appends old new rest
 some_put last code old new status (inl e) = let f = front_put last code old new status e in (take f.0 last, f.1)
 some_put last code old new status (inr e) = let f = front_put memory_line 7 old new status e in (take f.0 memory_line, f.1)
 

@@ -118,3 +118,10 @@ module _ {D : Type 0} (reads : D → Option Image) (may_leave : D → Image → 
       pub at_exit : (commands : List Command) × BeginsScript text commands
           × HasAnswered p text commands old new
           × ((c : Image) → may_leave last c → KeepsNext k p text commands c)
+
+    -- What the disk keeps of a script that ends with this status, from a disk which stood for the
+    -- history: whatever the status, what a stop leaves; and with 0 what lasts of all of it.
+    pub record Endures (k : Masters) (p : PlainHistory) (text : List ℕ) (status : ℕ)
+        (first last : D) (old new : Option (List ℕ)) : Type 0 where
+      pub survives : Survives k p text first last old new
+      pub lasts : status ≡ 0 → Lasts k p text last

@@ -5,6 +5,7 @@ pub mod Judging
 pub mod Machine
 pub mod Opening
 pub mod Owner
+pub mod Pacing
 pub mod Printing
 pub mod Running
 pub mod Sealing

@@ -11,10 +11,9 @@ use Rattle.ov_history.specs.Plain.{PlainHistory, history_of}
 use Rattle.ov_model.specs.Lines.{lines}
 use Rattle.ov_model.specs.Step.{after_all}
 
--- How a run ends whose disk opens: its key file is none, or the script was read to its ending and
+-- How a run ends that has its masters and whose disk opens: the script was read to its ending and
 -- answered, a call of the disk or a read failed, or memory was refused.
 pub data Outcome : Type 0 where
-  BadKeys : Outcome
   Answered : (ending : Ending) → Outcome
   DiskFault : Outcome
   ReadFault : Outcome
@@ -22,7 +21,6 @@ pub data Outcome : Type 0 where
 
 -- the status with which a run ends so
 abbrev pub status_of : Outcome → ℕ
-status_of BadKeys = 10
 status_of (Answered AtEnd) = 0
 status_of (Answered (BadAt n)) = 3
 status_of (Answered TooLong) = 11
@@ -65,9 +63,8 @@ last_line p (BadAt n) = bad_line n
 last_line p TooLong = long_line
 
 -- What a run over this script, from this history on, that ends so prints: the machine's lines to its
--- commands, or to the first of them, and then the last line; or the line on the key file alone.
+-- commands, or to the first of them, and then the last line.
 abbrev pub IsPrinted : PlainHistory → List ℕ → Outcome → List ℕ → Type 0
-IsPrinted h text BadKeys printed = printed ≡ keys_line
 IsPrinted h text (Answered ending) printed =
     (commands : List Command) × IsScript text commands ending
     × (printed

@@ -9,6 +9,7 @@ ghost use Rattle.ov_script.specs.Place.{start, text_left};
 ghost use Rattle.overstore.specs.Answering.{Answers, Grows, IsPut, PutsOr, Stops, stop_for};
 ghost use Rattle.overstore.specs.Disks.{IsDiskCall};
 ghost use Rattle.overstore.specs.Machine.{AreOtherTags, IsCommand, StandsFor};
+ghost use Rattle.overstore.specs.Pacing.{IsPaced};
 ghost use Rattle.overstore.specs.declared.fault.BadTag.{BadTag};
 
 use crate::fault::{BadTag, StepFault};
@@ -106,6 +107,9 @@ pub fn answer_all<S: Source + Drop, O: Sink, D: Disk>(
         → IfSome (text_left S.left script.old) (λ text.
         Stops D.reads D.may_leave D.moment D.left_since machine.old.kept.masters p text result
         (O.written out.old) (O.written out.new) machine.old machine.new) }
+    ensures paced { (p : PlainHistory) → StandsFor machine.old.kept p
+        → IfSome (text_left S.left script.old) (λ _. IsPaced S.takes S.left p
+        script.old.source script.new.source (O.written out.old) (O.written out.new)) }
     ensures source { IsCallOf S.borrow S.faults (result ≡ Stop.Read)
         script.old.source script.new.source }
     ensures disk { IsDiskCall D.borrow D.faults (result ≡ Stop.Disk)

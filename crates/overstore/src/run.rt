@@ -6,8 +6,9 @@ ghost use Rattle.ov_disk.specs.Disk.{Told};
 ghost use Rattle.ov_history.specs.Masters.{Masters as PlainMasters};
 ghost use Rattle.ov_history.specs.Plain.{PlainHistory};
 ghost use Rattle.overstore.specs.Answering.{SaysTag};
-ghost use Rattle.overstore.specs.Disks.{Holds, IsDiskCall, Lasts, OpensAs, Survives};
+ghost use Rattle.overstore.specs.Disks.{Endures, Holds, IsDiskCall, OpensAs};
 ghost use Rattle.overstore.specs.Machine.{AreMasters, StandsFor, plain_masters};
+ghost use Rattle.overstore.specs.Pacing.{IsPaced};
 ghost use Rattle.overstore.specs.Printing.{IsKeysStatus, IsScriptStatus, IsStoreStatus};
 ghost use Rattle.overstore.specs.Running.{EndsAs, FailsForFaults, ForImage, FromEach, IsDecided};
 ghost use Rattle.overstore.specs.Running.{JudgesImage, JudgesKeys, LeavesAsAtStart, PrintsAs};
@@ -23,7 +24,7 @@ use ov_base::{Memory, Mode};
 use ov_disk::Disk;
 use ov_io::{Sink, Source};
 use ov_keyfile::{Masters, read_masters};
-use ov_script::Script;
+use ov_script::{Buffer, Script};
 use std::alloc::Global;
 
 // The mode of this word.
@@ -62,16 +63,21 @@ fn answer_script<I: Source, O: Sink, D: Disk>(
         EndsAs D.reads D.may_leave D.moment D.left_since k p text machine.old.disk machine.new.disk
         (O.written out.old) (O.written out.new) result
         (Holds D.reads D.may_leave k p machine.old.disk)) }
+    ensures paced { (p : PlainHistory) → StandsFor machine.old.kept p
+        → IfSome (I.left input.old) (λ _. IsPaced I.takes I.left p input.old input.new
+        (O.written out.old) (O.written out.new)) }
     ensures disk { IsDiskCall D.borrow D.faults (result ≡ 4) machine.old.disk machine.new.disk }
     ensures read { result ≡ 5 → Rose (I.faults input.old) (I.faults input.new) }
     ensures write { result ≡ 6 → Rose (O.faults out.old) (O.faults out.new) }
     ensures tag { result ≡ 12 → SaysTag (O.written out.old) (O.written out.new) }
     ensures status { IsScriptStatus result }
 {
-    let mut script = match Script::new(alloc, input) {
-        Ok(script) => script,
+    // The buffer is there before the input is lent, so that without one the input is as it was.
+    let buffer = match Buffer::new(alloc) {
+        Ok(buffer) => buffer,
         Err(Memory) => return put_last(out, b"error memory\n", Status::OutOfMemory),
     };
+    let mut script = Script::over(buffer, input);
     let stop = answer_all(alloc, &mut script, machine, out);
     // The loan ends here, and what is known of the source goes back to `input`.
     let _ = script.into_source();
@@ -92,6 +98,10 @@ fn answer_over<I: Source, O: Sink, D: Disk + Drop>(
         → IfSome (I.left input.old) (λ text.
         EndsAs D.reads D.may_leave D.moment D.left_since k p text disk result.1
         (O.written out.old) (O.written out.new) result.0 (Unit {0})) }
+    ensures paced { let k = plain_masters masters in
+        (p : PlainHistory) → OpensAs D.reads D.may_leave k mode p disk
+        → IfSome (I.left input.old) (λ _. IsPaced I.takes I.left p input.old input.new
+        (O.written out.old) (O.written out.new)) }
     ensures image { let k = plain_masters masters in
         Told (D.reads disk) (λ i. JudgesImage k mode i result.0
         (O.written out.old) (O.written out.new) (input.new ≡ input.old)
@@ -126,6 +136,10 @@ fn answer_with_keys<K: Source, I: Source, O: Sink, D: Disk + Drop>(
         → OpensAs D.reads D.may_leave k mode p disk
         → EndsAs D.reads D.may_leave D.moment D.left_since k p text disk result.1
         (O.written out.old) (O.written out.new) result.0 (Unit {0}))) }
+    ensures paced { IfSome (K.left keys.old) (λ file. IfSome (I.left input.old) (λ _.
+        (k : PlainMasters) (p : PlainHistory) → AreMasters file k
+        → OpensAs D.reads D.may_leave k mode p disk
+        → IsPaced I.takes I.left p input.old input.new (O.written out.old) (O.written out.new))) }
     ensures image { IfSome (K.left keys.old) (λ file. (k : PlainMasters) → AreMasters file k
         → Told (D.reads disk) (λ i. JudgesImage k mode i result.0
         (O.written out.old) (O.written out.new) (input.new ≡ input.old)
@@ -151,9 +165,8 @@ fn answer_with_keys<K: Source, I: Source, O: Sink, D: Disk + Drop>(
 /// `disk`, and gives the exit status. Where no store was begun there it begins one.
 ///
 /// The clauses on what is printed, on the script, the key file and the disk hold where the sources,
-/// the sink and the disk tell their bytes; those on the counts of faults hold always. Each update is
-/// on the disk before its reply line is put, and each line is put by itself, before the next
-/// command is read.
+/// the sink and the disk tell their bytes; those on the counts of faults hold always. Each update
+/// is on the disk before its reply line is put, and each line is put by itself.
 pub fn run<K: Source, I: Source, O: Sink, D: Disk>(
     alloc: Global,
     words: &[String],
@@ -173,15 +186,16 @@ pub fn run<K: Source, I: Source, O: Sink, D: Disk>(
         (Rose (I.faults input.old) (I.faults input.new))
         (Rose (O.faults out.old) (O.faults out.new))
         (Rose (D.faults disk.old) (D.faults disk.new))) }
-    // Whatever the status, a stop leaves what was acknowledged, and at most one update more.
+    // A reply is put before more of the script is taken than its command needs.
+    ensures paced { FromEach D.reads D.may_leave disk.old
+        words.now (K.left keys.old) (I.left input.old) (λ k p text.
+        IsPaced I.takes I.left p input.old input.new (O.written out.old) (O.written out.new)) }
+    // Whatever the status, a stop leaves what was acknowledged, and at most one update more; at the
+    // end of the script the disk has it all, and the published tokens are the matrix.
     ensures survives { FromEach D.reads D.may_leave disk.old
         words.now (K.left keys.old) (I.left input.old) (λ k p text.
-        Survives D.reads D.may_leave D.moment D.left_since k p text disk.old disk.new
+        Endures D.reads D.may_leave D.moment D.left_since k p text result disk.old disk.new
         (O.written out.old) (O.written out.new)) }
-    // At the end of the script the disk has it all, and the published tokens are the matrix.
-    ensures lasts { result ≡ 0 → FromEach D.reads D.may_leave disk.old
-        words.now (K.left keys.old) (I.left input.old) (λ k p text.
-        Lasts D.reads D.may_leave k p text disk.new) }
     // A disk that doesn't open for these masters and this mode is refused, the script isn't read,
     // and nothing is written.
     ensures image { ForImage (D.reads disk.old) words.now (K.left keys.old) (λ k mode i.

@@ -3,6 +3,7 @@ use Rattle.std.proofs.Common.{[], arith}
 use Rattle.std.proofs.lemmas.Grind.{common_steps}
 use Rattle.ov_script.specs.Reading.{AtEnd, BadAt, TooLong}
 use Rattle.overstore.proofs.Answering.{answered, answered_first, answered_more, answer_stops, begins_so, commands_come, goes_on, grows_on, starts_fresh}
+use Rattle.overstore.proofs.Pacing.{none_pending, paced_next, untouched}
 use Rattle.overstore.proofs.answer.answer_all.Goals as goal
 
 pub items-init : goal.items-init
@@ -10,6 +11,7 @@ items-init g c = record {
   so_far = λ p stands.
       begins_so g.D.Disk.reads g.D.Disk.may_leave g.D.Disk.moment g.D.Disk.left_since c.args.machine.now.kept.masters p c.args.machine.now stands
       (g.met.D.Disk.only_now c.args.machine.now.disk) _ _ _ _ (starts_fresh _ c.requires.start).0 (starts_fresh _ c.requires.start).1;
+  paced = λ p stands. untouched g.S.Source.takes g.S.Source.left p _ _ _ _;
   masters = grind (arith, common_steps);
   healthy = c.requires.healthy;
   grew = ([], Appends-nil _);
@@ -34,6 +36,9 @@ items-preserved g c = record {
   so_far = λ p stands.
       answered_more g.D.Disk.reads g.D.Disk.may_leave g.D.Disk.moment g.D.Disk.left_since _ p _ _ c.items.invariant.masters _ _ _ _ _ _ _ _ _ _ _ _
       (c.items.invariant.so_far p stands) (rw c.in-Ok-Command.field-0-is at (c.in-Ok-Command.ensures.says c.items.invariant.ended)) c.in-None.ensures.answer;
+  paced = λ p stands.
+      paced_next g.S.Source.takes g.S.Source.left p g.D.Disk.reads g.D.Disk.may_leave g.D.Disk.moment g.D.Disk.left_since _ _ _ _ _ _ _ _ _ _ _ _ _ _
+      (none_pending _ c.requires.start) (c.items.invariant.so_far p stands) (c.items.invariant.paced p stands) c.in-Ok-Command.ensures.needed c.in-None.ensures.grew;
   masters = grind (arith, common_steps);
   healthy = c.in-None.ensures.healthy;
   grew = grows_on _ _ _ c.items.invariant.grew c.in-None.ensures.grew;
@@ -72,3 +77,33 @@ returns-in-Err-Memory-clause-stop g c = λ p stands.
 
 pub returns-in-Some-clause-grew : goal.returns-in-Some-clause-grew
 returns-in-Some-clause-grew g c = grows_on _ _ _ c.items.invariant.grew c.in-Some.ensures.grew
+
+pub returns-in-Some-clause-paced : goal.returns-in-Some-clause-paced
+returns-in-Some-clause-paced g c = λ p stands.
+    paced_next g.S.Source.takes g.S.Source.left p g.D.Disk.reads g.D.Disk.may_leave g.D.Disk.moment g.D.Disk.left_since _ _ _ _ _ _ _ _ _ _ _ _ _ _
+    (none_pending _ c.requires.start) (c.items.invariant.so_far p stands) (c.items.invariant.paced p stands) c.in-Ok-Command.ensures.needed c.in-Some.ensures.grew
+
+pub returns-in-Ok-End-clause-paced : goal.returns-in-Ok-End-clause-paced
+returns-in-Ok-End-clause-paced g c = λ p stands.
+    paced_next g.S.Source.takes g.S.Source.left p g.D.Disk.reads g.D.Disk.may_leave g.D.Disk.moment g.D.Disk.left_since _ _ _ _ _ _ _ _ _ _ _ _ _ _
+    (none_pending _ c.requires.start) (c.items.invariant.so_far p stands) (c.items.invariant.paced p stands) c.in-Ok-End.ensures.needed ([], Appends-nil _)
+
+pub returns-in-Ok-BadLine-clause-paced : goal.returns-in-Ok-BadLine-clause-paced
+returns-in-Ok-BadLine-clause-paced g c = λ p stands.
+    paced_next g.S.Source.takes g.S.Source.left p g.D.Disk.reads g.D.Disk.may_leave g.D.Disk.moment g.D.Disk.left_since _ _ _ _ _ _ _ _ _ _ _ _ _ _
+    (none_pending _ c.requires.start) (c.items.invariant.so_far p stands) (c.items.invariant.paced p stands) c.in-Ok-BadLine.ensures.needed ([], Appends-nil _)
+
+pub returns-in-Ok-Long-clause-paced : goal.returns-in-Ok-Long-clause-paced
+returns-in-Ok-Long-clause-paced g c = λ p stands.
+    paced_next g.S.Source.takes g.S.Source.left p g.D.Disk.reads g.D.Disk.may_leave g.D.Disk.moment g.D.Disk.left_since _ _ _ _ _ _ _ _ _ _ _ _ _ _
+    (none_pending _ c.requires.start) (c.items.invariant.so_far p stands) (c.items.invariant.paced p stands) c.in-Ok-Long.ensures.needed ([], Appends-nil _)
+
+pub returns-in-Err-Read-clause-paced : goal.returns-in-Err-Read-clause-paced
+returns-in-Err-Read-clause-paced g c = λ p stands.
+    paced_next g.S.Source.takes g.S.Source.left p g.D.Disk.reads g.D.Disk.may_leave g.D.Disk.moment g.D.Disk.left_since _ _ _ _ _ _ _ _ _ _ _ _ _ _
+    (none_pending _ c.requires.start) (c.items.invariant.so_far p stands) (c.items.invariant.paced p stands) c.in-Err-Read.ensures.needed ([], Appends-nil _)
+
+pub returns-in-Err-Memory-clause-paced : goal.returns-in-Err-Memory-clause-paced
+returns-in-Err-Memory-clause-paced g c = λ p stands.
+    paced_next g.S.Source.takes g.S.Source.left p g.D.Disk.reads g.D.Disk.may_leave g.D.Disk.moment g.D.Disk.left_since _ _ _ _ _ _ _ _ _ _ _ _ _ _
+    (none_pending _ c.requires.start) (c.items.invariant.so_far p stands) (c.items.invariant.paced p stands) c.in-Err-Memory.ensures.needed ([], Appends-nil _)

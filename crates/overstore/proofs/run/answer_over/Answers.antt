@@ -4,8 +4,9 @@ use Rattle.overstore.specs.Printing.{IsStoreStatus}
 use Rattle.overstore.specs.Disks.{Holds}
 use Rattle.overstore.specs.Running.{EndsAs}
 use Rattle.std.specs.Prelude.{IfSome}
-use Rattle.overstore.proofs.Beginning.{disk_said, over_begun, over_refused}
+use Rattle.overstore.proofs.Beginning.{disk_said, over_begun, over_refused, over_stands}
 use Rattle.overstore.proofs.Judging.{judged_open, judged_refused}
+use Rattle.overstore.proofs.Pacing.{untouched}
 use Rattle.overstore.proofs.Running.{ends_or_so, fault_no_read, fault_no_tag, fault_so, not_refused}
 use Rattle.overstore.proofs.Running.{script_seven, script_six}
 use Rattle.overstore.proofs.run.answer_over.Goals as goal
@@ -67,3 +68,15 @@ returns-in-Err-clause-read g c = λ e. absurd
 pub returns-in-Err-clause-tag : goal.returns-in-Err-clause-tag
 returns-in-Err-clause-tag g c = λ e. absurd
     (fault_no_tag c.in-Err.refused.fault _ _ _ _ c.put_fault.ensures.ends e)
+
+pub returns-in-Ok-clause-paced : goal.returns-in-Ok-clause-paced
+returns-in-Ok-clause-paced g c = λ p opens.
+    c.answer_script-code.ensures.paced p
+    (over_stands g.D.Disk.reads g.D.Disk.may_leave g.D.Disk.moment g.D.Disk.left_since
+    (plain_masters c.args.masters) c.args.mode p c.args.disk opens
+    c.of-machine.result c.in-Ok.store c.of-machine.ensures.store c.of-machine.ensures.masters
+    c.in-Ok.ensures.new c.in-Ok.ensures.found)
+
+pub returns-in-Err-clause-paced : goal.returns-in-Err-clause-paced
+returns-in-Err-clause-paced g c = λ p opens.
+    untouched g.I.Source.takes g.I.Source.left p _ _ _ _

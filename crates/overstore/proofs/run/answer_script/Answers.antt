@@ -1,13 +1,14 @@
-use Rattle.std.proofs.Common.{arith, refl}
+use Rattle.std.proofs.Common.{MutBor, arith, refl, rules}
 use Rattle.overstore.proofs.Running.{ends_so, finish_disk, finish_tag, finishes_so, memory_not, script_seven, script_six}
 use Rattle.overstore.proofs.Surviving.{ends_all, ends_unread}
+use Rattle.overstore.proofs.Pacing.{finish_grows, paced_lent, paced_then, untouched}
 use Rattle.overstore.specs.Printing.{IsScriptStatus}
 use Rattle.overstore.proofs.run.answer_script.Goals as goal
 
 pub returns-clause-ends : goal.returns-clause-ends
 returns-clause-ends g c = λ p stands.
     ends_all g.D.Disk.reads g.D.Disk.may_leave g.D.Disk.moment g.D.Disk.left_since _ p (g.I.Source.left c.args.input.now) _ _ _ _ _ (g.met.D.Disk.reads_one c.answer_all-stop.new.machine.disk) _ _ _
-    (rw c.in-Ok.ensures at (c.answer_all-stop.ensures.stop p stands)) c.finish.ensures.finish c.epoch.ensures
+    (rw c.over-script.ensures at (c.answer_all-stop.ensures.stop p stands)) c.finish.ensures.finish c.epoch.ensures
 
 pub returns-in-Err-clause-ends : goal.returns-in-Err-clause-ends
 returns-in-Err-clause-ends g c = λ p stands.
@@ -39,3 +40,12 @@ returns-clause-tag g c =
 
 pub returns-in-Err-clause-tag : goal.returns-in-Err-clause-tag
 returns-in-Err-clause-tag g c = λ e. absurd (memory_not 12 _ _ _ c.put_last.ensures.ends (λ z. omega arith) (λ z. omega arith) e)
+
+pub returns-clause-paced : goal.returns-clause-paced
+returns-clause-paced g c = λ p stands.
+    paced_then g.I.Source.takes g.I.Source.left p (g.I.Source.left c.args.input.now) _ _ _ _ _
+    (paced_lent (λ (l : MutBor g.row.I.Denot). l.now) _ g.I.Source.takes g.I.Source.left p (λ a b t. t.1) (g.I.Source.left c.args.input.now) _ c.answer_all-stop.new.script.source _ _ _ (search rules)
+    (rw c.over-script.ensures at (c.answer_all-stop.ensures.paced p stands))) (finish_grows _ _ _ _ _ c.finish.ensures.finish)
+
+pub returns-in-Err-clause-paced : goal.returns-in-Err-clause-paced
+returns-in-Err-clause-paced g c = λ p stands. untouched g.I.Source.takes g.I.Source.left p _ _ _ _

@@ -5,9 +5,11 @@ use Rattle.ov_history.specs.Masters.{Masters}
 use Rattle.ov_history.specs.Plain.{PlainHistory}
 use Rattle.overstore.specs.Disks.{OpensAs}
 use Rattle.overstore.specs.Machine.{plain_masters}
+use Rattle.overstore.specs.Pacing.{IsPaced}
 use Rattle.overstore.specs.Running.{EndsAs, JudgesImage, LeavesAsAtStart}
 use Rattle.overstore.proofs.Judging.{judged_unread}
 use Rattle.overstore.proofs.KeyFiles.{ends_untouched, from_all, from_none, from_read, image_all, image_none, image_read}
+use Rattle.overstore.proofs.Pacing.{untaken}
 use Rattle.overstore.specs.Printing.{IsKeysStatus}
 use Rattle.overstore.proofs.Running.{ends_so, judged_failed, judged_none, judged_with, keys_six, keys_five, not_code, not_keys}
 use Rattle.overstore.proofs.run.answer_with_keys.Goals as goal
@@ -70,3 +72,20 @@ returns-in-Ok-None-clause-tag g c = λ e. absurd (not_code _ 10 12 _ _ _ c.put_l
 
 pub returns-in-Err-clause-tag : goal.returns-in-Err-clause-tag
 returns-in-Err-clause-tag g c = λ e. absurd (not_code _ 5 12 _ _ _ c.put_last-in-Err.ensures.ends (λ z. omega arith) (λ z. omega arith) e)
+
+pub returns-in-Ok-Some-clause-paced : goal.returns-in-Ok-Some-clause-paced
+returns-in-Ok-Some-clause-paced g c =
+    from_read (λ (k : Masters) (p : PlainHistory). OpensAs g.D.Disk.reads g.D.Disk.may_leave k c.args.mode p c.args.disk)
+    (λ (k : Masters) (p : PlainHistory) (text : List ℕ). IsPaced g.I.Source.takes g.I.Source.left p c.args.input.now c.answer_over.new.input (g.O.Sink.written c.args.out.now) (g.O.Sink.written c.answer_over.new.out))
+    (plain_masters c.in-Ok-Some.masters) (g.K.Source.left c.args.keys.now) (g.I.Source.left c.args.input.now) (rw c.in-Ok-Some.field-0-is at c.in-Ok-Some.ensures.read) c.answer_over.ensures.paced
+
+pub returns-in-Ok-None-clause-paced : goal.returns-in-Ok-None-clause-paced
+returns-in-Ok-None-clause-paced g c =
+    from_none (λ (k : Masters) (p : PlainHistory) (text : List ℕ). OpensAs g.D.Disk.reads g.D.Disk.may_leave k c.args.mode p c.args.disk
+    → IsPaced g.I.Source.takes g.I.Source.left p c.args.input.now c.args.input.now (g.O.Sink.written c.args.out.now) (g.O.Sink.written c.put_last.new.out)) (g.K.Source.left c.args.keys.now) (g.I.Source.left c.args.input.now) (rw c.in-Ok-None.field-0-is at c.in-Ok-None.ensures.read)
+
+pub returns-in-Err-clause-paced : goal.returns-in-Err-clause-paced
+returns-in-Err-clause-paced g c =
+    from_all (λ (k : Masters) (p : PlainHistory) (text : List ℕ). OpensAs g.D.Disk.reads g.D.Disk.may_leave k c.args.mode p c.args.disk
+    → IsPaced g.I.Source.takes g.I.Source.left p c.args.input.now c.args.input.now (g.O.Sink.written c.args.out.now) (g.O.Sink.written c.put_last-in-Err.new.out)) (g.K.Source.left c.args.keys.now) (g.I.Source.left c.args.input.now)
+    (λ k p text opens. untaken g.I.Source.takes g.I.Source.left p _ _ _)
