@@ -12,7 +12,6 @@ use Rattle.ov_aes.proofs.Linear.{xor_swap}
 use Rattle.ov_aes.proofs.RowLanes.{below_four}
 use Rattle.ov_aes.proofs.RowRounds.{Column, columns}
 
-
 -- ---- a sum of five, by each of its terms
 
 swap_last : (x y z : ℕ) → bit_xor (bit_xor x y) z ≡ bit_xor (bit_xor x z) y

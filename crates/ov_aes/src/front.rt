@@ -42,8 +42,14 @@ fn first_column(x: u8x16, y: u8x16, z: u8x16, t: u8x16) -> u8x16
     ensures { (b c : ℕ) → b < 4 → c < 4
         → slice_index result (4 * b + c) ≡ lane_in (x ∷ y ∷ z ∷ t ∷ []) b (row_for c) 0 }
 {
-    let ends = x.shuffle(t, [0, 16, 0, 16, 4, 20, 4, 20, 8, 24, 8, 24, 12, 28, 12, 28]);
-    let middle = z.shuffle(y, [0, 16, 0, 16, 4, 20, 4, 20, 8, 24, 8, 24, 12, 28, 12, 28]);
+    let ends = x.shuffle(
+        t,
+        [0, 16, 0, 16, 4, 20, 4, 20, 8, 24, 8, 24, 12, 28, 12, 28],
+    );
+    let middle = z.shuffle(
+        y,
+        [0, 16, 0, 16, 4, 20, 4, 20, 8, 24, 8, 24, 12, 28, 12, 28],
+    );
     ends.shuffle(
         middle,
         [0, 1, 18, 19, 4, 5, 22, 23, 8, 9, 26, 27, 12, 13, 30, 31],

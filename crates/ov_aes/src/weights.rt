@@ -41,7 +41,12 @@ pub fn last_terms(last: u8x16) -> u8x16
         ≡ weighed (weight (row_for c) 3) (from_tower (slice_index last (4 * b + c))) }
 {
     let (once, twice) = within(last);
-    chosen(once, twice, each_block([ALL, 0, ALL, ALL]), each_block([0, ALL, ALL, 0]))
+    chosen(
+        once,
+        twice,
+        each_block([ALL, 0, ALL, ALL]),
+        each_block([0, ALL, ALL, 0]),
+    )
 }
 
 /// The terms of a round that come from the bytes of the first column, which stand by the columns to
@@ -53,10 +58,30 @@ pub fn column_terms(column: u8x16) -> Rows
 {
     let (once, twice) = within(column);
     [
-        chosen(once, twice, each_block([0, ALL, ALL, ALL]), each_block([ALL, 0, 0, ALL])),
-        chosen(once, twice, each_block([ALL, ALL, ALL, 0]), each_block([0, 0, ALL, ALL])),
-        chosen(once, twice, each_block([ALL, ALL, 0, ALL]), each_block([0, ALL, ALL, 0])),
-        chosen(once, twice, each_block([ALL, 0, ALL, ALL]), each_block([ALL, ALL, 0, 0])),
+        chosen(
+            once,
+            twice,
+            each_block([0, ALL, ALL, ALL]),
+            each_block([ALL, 0, 0, ALL]),
+        ),
+        chosen(
+            once,
+            twice,
+            each_block([ALL, ALL, ALL, 0]),
+            each_block([0, 0, ALL, ALL]),
+        ),
+        chosen(
+            once,
+            twice,
+            each_block([ALL, ALL, 0, ALL]),
+            each_block([0, ALL, ALL, 0]),
+        ),
+        chosen(
+            once,
+            twice,
+            each_block([ALL, 0, ALL, ALL]),
+            each_block([ALL, ALL, 0, 0]),
+        ),
     ]
 }
 

@@ -7,6 +7,7 @@ use ov_ctr::apply_at;
 use sha2::{Digest, Sha256};
 
 const LONGEST: usize = 4200;
+
 const LAST_START: usize = 300;
 
 // Numbers that a script makes as well: the upper half of a linear congruence.
