@@ -1,5 +1,5 @@
 //! A disk over two files of the system. What a file really keeps is trusted.
-ghost use Rattle.std.specs.Prelude.{◌≡◌, ◌≤◌, length, None, ⊤, IfOk};
+ghost use Rattle.std.specs.Prelude.{◌≡◌, ◌≤◌, length, None, ⊤, IfOk, IsErr};
 ghost use Rattle.ov_base.specs.Causes.{Counts, HasCause};
 ghost use Rattle.ov_disk.specs.Disk.{Image};
 ghost use Rattle.ov_disk.specs.Untold.{none_holds};
@@ -57,7 +57,9 @@ where
 
     // Opens both files where they aren't open yet. After a failure the next call tries again.
     fn open(&mut self) -> io::Result<()>
-        ensures { self.new.faults ≡ self.old.faults }
+        ensures same { self.new.faults ≡ self.old.faults }
+        ensures lost { self.old.state ≡ State.Lost → self.new.state ≡ State.Lost }
+        ensures failed { IsErr result → (pair : Pair R.File) → self.new.state ≡ State.Open pair → ⊥ }
     {
         if matches!(self.state, State::Closed) {
             self.state = State::Open(open_pair(&self.rt, self.book.as_str(), self.blobs.as_str())?);
@@ -66,7 +68,9 @@ where
     }
 
     fn try_len(&mut self, area: Area) -> io::Result<u64>
-        ensures { self.new.faults ≡ self.old.faults }
+        ensures same { self.new.faults ≡ self.old.faults }
+        ensures lost { self.old.state ≡ State.Lost
+            → IsErr result × (self.new.state ≡ State.Lost) }
     {
         self.open()?;
         match &self.state {
@@ -76,7 +80,9 @@ where
     }
 
     fn try_read(&mut self, area: Area, at: u64, buf: &mut [u8]) -> io::Result<()>
-        ensures { self.new.faults ≡ self.old.faults }
+        ensures same { self.new.faults ≡ self.old.faults }
+        ensures lost { self.old.state ≡ State.Lost
+            → IsErr result × (self.new.state ≡ State.Lost) }
     {
         self.open()?;
         match &self.state {
@@ -86,7 +92,9 @@ where
     }
 
     fn try_write(&mut self, area: Area, at: u64, bytes: &[u8]) -> io::Result<()>
-        ensures { self.new.faults ≡ self.old.faults }
+        ensures same { self.new.faults ≡ self.old.faults }
+        ensures lost { self.old.state ≡ State.Lost
+            → IsErr result × (self.new.state ≡ State.Lost) }
     {
         self.open()?;
         match &mut self.state {
@@ -96,7 +104,10 @@ where
     }
 
     fn try_sync(&mut self) -> io::Result<()>
-        ensures { self.new.faults ≡ self.old.faults }
+        ensures same { self.new.faults ≡ self.old.faults }
+        ensures lost { self.old.state ≡ State.Lost
+            → IsErr result × (self.new.state ≡ State.Lost) }
+        ensures failed { IsErr result → (pair : Pair R.File) → self.new.state ≡ State.Open pair → ⊥ }
     {
         self.open()?;
         let answer = match &mut self.state {
@@ -111,6 +122,9 @@ where
 
     // Counts a fault.
     fn counted<T: Drop>(&mut self, answer: io::Result<T>) -> Result<T, DiskFault>
+        ensures same { self.new.state ≡ self.old.state }
+        ensures fault { IsErr answer → IsErr result }
+        ensures only { IsErr result → IsErr answer }
         ensures cause { HasCause self.old.faults self.new.faults result }
         ensures counted { Counts self.old.faults self.new.faults result }
     {
