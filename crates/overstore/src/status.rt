@@ -86,7 +86,7 @@ impl Status {
                 "standard output names a bad line; those before it stand; correct it and run again",
             ),
             Status::DiskFault => Some(
-                "store.book or store.blobs failed; check the disk and run again: what was answered lasts",
+                "store.book or store.blobs failed or is in use; check and run again: what was answered lasts",
             ),
             Status::ReadFault => {
                 Some("reading failed; check keys.hex and standard input and run again")
