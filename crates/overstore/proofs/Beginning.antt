@@ -77,18 +77,18 @@ module _ (k : Keys) (mode : Mode) (g : SealedHistory) (i : Image) (mode_is : g.m
   not_foreign (inl (unborn, blank_is)) (no_unborn, no_magic) = no_unborn unborn
   not_foreign (inr keeps) (no_unborn, no_magic) = no_magic (is_born k g i keeps).0
 
-  never_bad : IsImageOf k g i → (h : Header) → HasHeader h i → HasBadRecords h i → ⊥
-  never_bad (inl (unborn, blank_is)) h has bad = never_born i.book unborn has.magic
-  never_bad (inr keeps) h has bad = damaged_keeps_none k g h i has bad keeps
+  never_bad : (place : ℕ) → IsImageOf k g i → (h : Header) → HasHeader h i → HasBadRecords h i place → ⊥
+  never_bad place (inl (unborn, blank_is)) h has bad = never_born i.book unborn has.magic
+  never_bad place (inr keeps) h has bad = damaged_keeps_none k g h i place has bad keeps
 
   no_mode_never : IsImageOf k g i → HasNoMode i.book → ⊥
   no_mode_never (inl (unborn, blank_is)) none = never_born i.book unborn none.0
   no_mode_never (inr keeps) none = has_mode i.book (header_of k g) (ap (λ (c : Contents). c.head) keeps.book) none
 
   not_damaged : (place : ℕ) → IsImageOf k g i
-      → ((place ≡ 9) × HasNoMode i.book) ⊎ ((h : Header) × HasHeader h i × Rattle.ov_images.specs.Damage.IsFor k mode h × HasBadRecords h i) → ⊥
+      → ((place ≡ 9) × HasNoMode i.book) ⊎ ((h : Header) × HasHeader h i × Rattle.ov_images.specs.Damage.IsFor k mode h × HasBadRecords h i place) → ⊥
   not_damaged place opens (inl none) = no_mode_never opens none.1
-  not_damaged place opens (inr (h, has, for_it, bad)) = never_bad opens h has bad
+  not_damaged place opens (inr (h, has, for_it, bad)) = never_bad place opens h has bad
 
   not_base : (stored given : List ℕ) → length stored ≡ length given → IsImageOf k g i → IsBeginFault k mode i (BaseDiffers stored given) → ⊥
   not_base stored given long (inl (unborn, blank_is)) (h, has, s, v, other) = never_born i.book unborn has.magic
