@@ -1,0 +1,52 @@
+"""Times the program over a script, each run in a folder of its own with no store, or over the store
+that the script leaves: the least user and system time, the least elapsed time, and the peak of memory.
+
+Run, after `rt run` has built the program:
+
+    python3 tools/program_times.py PROGRAM full|delta SCRIPT [FOLDER]         # the script
+    python3 tools/program_times.py PROGRAM full|delta SCRIPT [FOLDER] again   # an empty script behind it
+
+FOLDER is where the stores are made: /dev/shm where it isn't given, in which a sync costs nothing.
+"""
+import os
+import pathlib
+import shutil
+import sys
+import tempfile
+import time
+
+RUNS = 7
+words = sys.argv[1:]
+again = words[-1] == "again"
+if again:
+    words.pop()
+program, mode, script = pathlib.Path(words[0]).resolve(), words[1], pathlib.Path(words[2]).resolve()
+place = words[3] if len(words) > 3 else "/dev/shm"
+keys = pathlib.Path(__file__).resolve().parent.parent / "examples" / "keys.hex"
+
+
+def timed(folder, text):
+    """User and system time, elapsed time and peak memory of one run."""
+    child = os.fork()
+    if child == 0:
+        os.chdir(folder)
+        os.dup2(os.open(text, os.O_RDONLY), 0)
+        os.dup2(os.open(os.devnull, os.O_WRONLY), 1)
+        os.execv(program, [str(program), "run", mode])
+    begun = time.monotonic()
+    _, status, used = os.wait4(child, 0)
+    elapsed = time.monotonic() - begun
+    assert status == 0, status
+    return used.ru_utime + used.ru_stime, elapsed, used.ru_maxrss / 1024
+
+
+seen = []
+for _ in range(RUNS):
+    folder = tempfile.mkdtemp(dir=place)
+    shutil.copy(keys, folder)
+    figures = timed(folder, script)
+    if again:
+        figures = timed(folder, os.devnull)
+    seen.append(figures)
+    shutil.rmtree(folder)
+print("%.3f s user and system, %.3f s elapsed, %.1f MiB" % tuple(min(column) for column in zip(*seen)))
