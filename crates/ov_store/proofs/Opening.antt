@@ -3,16 +3,17 @@ use Rattle.std.specs.Prelude.{IfOk}
 use Rattle.std.proofs.Common.{◌≡◌, inl, inr, ℕ, ◌≤◌, Option, Result, Ok, Err, refl, sym, ◌∙◌, ap, subst}
 use Rattle.ov_base.specs.declared.mode.Mode.{Mode}
 use Rattle.ov_disk.specs.Disk.{Image, Narrows, Told}
-use Rattle.ov_disk.specs.Moments.{LeavesOnly}
+use Rattle.ov_disk.specs.Moments.{IsUntouched, LeavesOnly}
 use Rattle.ov_disk.proofs.Runs.{then_on, weaker}
 use Rattle.ov_history.specs.Catalogue.{Catalogue}
 use Rattle.ov_history.specs.Sealed.{SealedHistory, blank}
-use Rattle.ov_journal.specs.Finding.{Finds}
+use Rattle.ov_journal.specs.Finding.{Finds, UnlessFaulty}
 use Rattle.ov_journal.specs.Standing.{IsUnborn}
 use Rattle.ov_journal.specs.declared.fault.CheckFault.{CheckFault}
 use Rattle.ov_journal.specs.declared.fault.CheckFault.TheVariants.{Disk as CheckDisk, Memory as CheckMemory}
 use Rattle.ov_journal.specs.declared.fault.JournalFault.{JournalFault}
 use Rattle.ov_journal.specs.declared.fault.JournalFault.TheVariants.{Disk, NotAStore, Damaged, Memory}
+use Rattle.ov_journal.specs.declared.found.Found.{Found}
 use Rattle.ov_journal.specs.Log.{Log}
 use Rattle.ov_vault.specs.Vaults.{Store}
 use Rattle.ov_images.specs.Images.{Keys, IsImageOf}
@@ -20,6 +21,7 @@ use Rattle.ov_images.proofs.Keeping.{is_born}
 use Rattle.ov_store.specs.Beginning.{FindsHistory, IsBeginFault, IsBornStore, IsOpened, LeavesHistory, WritesNoBorn}
 use Rattle.ov_store.specs.Faults.{begin_fault_of, opening_fault_of}
 use Rattle.ov_store.specs.Opened.{Opened, Serves, open_with}
+use Rattle.ov_store.specs.declared.fault.BeginFault.TheVariants.{Memory as NoMemory}
 
 -- why a journal isn't opened is why a store isn't begun
 pub fault_found : (k : Keys) (mode : Mode) (i : Image) (fault : JournalFault)
@@ -34,6 +36,21 @@ pub fault_checked : (k : Keys) (mode : Mode) (i : Image) (why : CheckFault)
     → IsBeginFault k mode i (begin_fault_of why)
 fault_checked k mode i CheckDisk = tt
 fault_checked k mode i CheckMemory = tt
+
+-- where a store isn't begun for want of memory, that of its records was wanted
+pub memory_checked : (why : CheckFault) (P : Type 0) → (why ≡ CheckMemory → P)
+    → begin_fault_of why ≡ NoMemory → P
+memory_checked CheckDisk P holds is = absurd (cc is)
+memory_checked CheckMemory P holds is = holds refl
+
+-- the same of its journal, which was opened with no fault of the disk
+pub memory_found : (why : JournalFault) (r : Result Found JournalFault) (P : Type 0)
+    → r ≡ Err why → UnlessFaulty r P → opening_fault_of why ≡ NoMemory → P
+memory_found Disk r P was holds is = absurd (cc is)
+memory_found NotAStore r P was holds is = absurd (cc is)
+memory_found (Damaged offset) r P was holds is = absurd (cc is)
+memory_found Memory r P was holds is =
+    subst (λ (x : Result Found JournalFault). UnlessFaulty x P) was holds
 
 -- of an unborn image, a history for which it stands is the one without updates
 pub history_unborn : (k : Keys) (mode : Mode) (i : Image) (g : SealedHistory) → IsUnborn i.book
@@ -59,6 +76,17 @@ module _ {D : Type 0} (reads : D → Option Image) (may_leave : D → Image → 
   both_quiet d0 d1 d2 counts_now one two =
       then_on moment left_since may_leave d0 d1 d2 (may_leave d0) (may_leave d1) one two
       (narrowed d0 d1 counts_now one)
+
+  -- a run that writes nothing, and after which the disk reads the same
+  pub quiet_untouched : (d0 d1 : D)
+      → ((t : ℕ) (x : Image) → t ≤ moment d1 → may_leave d1 x → left_since d1 t x)
+      → reads d1 ≡ reads d0 → LeavesOnly moment left_since d0 d1 (may_leave d0)
+      → IsUntouched moment left_since may_leave reads d0 d1
+  quiet_untouched d0 d1 counts_now same leaves = record {
+    reads_same = same;
+    no_more = narrowed d0 d1 counts_now leaves;
+    any_moment = leaves;
+  }
 
   -- where nothing is written the history stays
   pub quiet_leaves : (d0 d1 : D) → LeavesOnly moment left_since d0 d1 (may_leave d0)

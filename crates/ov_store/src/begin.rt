@@ -1,10 +1,11 @@
 //! Beginning a store, where there is none or where an earlier run left one.
-ghost use Rattle.std.specs.Prelude.{IfOk, IfErr, OnOk, IsErrOf};
+ghost use Rattle.std.specs.Prelude.{◌≡◌, IfOk, IfErr, OnOk, IsErrOf};
 ghost use Rattle.ov_disk.specs.Disk.{Told};
+ghost use Rattle.ov_disk.specs.Moments.{IsUntouched};
 ghost use Rattle.ov_images.specs.Images.{keys};
 ghost use Rattle.ov_store.specs.Beginning.{FindsHistory, IsBeginFault, IsDiskCall, IsDiskFault, IsNew, IsOpened, LeavesHistory, WritesNoBorn, disk_left};
 ghost use Rattle.ov_store.specs.Opened.{StaysTold, open_with};
-ghost use Rattle.ov_store.specs.declared.fault.BeginFault.TheVariants.{Disk as DiskFailed};
+ghost use Rattle.ov_store.specs.declared.fault.BeginFault.TheVariants.{Disk as DiskFailed, Memory as NoMemory};
 
 use crate::birth::birth;
 use crate::fault::BeginFault;
@@ -41,6 +42,8 @@ fn open<D: Disk>(
     ensures any_moment { LeavesHistory D.reads D.may_leave D.moment D.left_since
         (keys base_check.now surface.now.bytes) mode disk.old disk.new }
     ensures untouched { WritesNoBorn D.reads D.may_leave D.moment D.left_since disk.old disk.new }
+    ensures memory { IsErrOf result NoMemory
+        → IsUntouched D.moment D.left_since D.may_leave D.reads disk.old disk.new }
     ensures call { IsDiskCall D.borrow D.faults disk.old disk.new (IsErrOf result DiskFailed) }
 {
     match Journal::begin(alloc, disk)? {
@@ -82,6 +85,9 @@ impl<D: Disk> Store<D> {
             (keys base_check surface.bytes) mode disk (disk_left result) }
         ensures untouched { WritesNoBorn D.reads D.may_leave D.moment D.left_since
             disk (disk_left result) }
+        // All memory is wanted before anything is written, so want of it leaves the disk as it was.
+        ensures memory { IfErr result (λ refused. refused.fault ≡ NoMemory
+            → IsUntouched D.moment D.left_since D.may_leave D.reads disk refused.disk) }
 
         ensures call { IsDiskCall D.borrow D.faults disk (disk_left result) (IsDiskFault result) }
     {

@@ -7,7 +7,7 @@ ghost use Rattle.ov_journal.specs.Standing.{IsUnborn};
 ghost use Rattle.ov_images.specs.Images.{IsImageOf, keys};
 ghost use Rattle.ov_store.specs.Beginning.{IsBeginFault, IsBornStore, IsDiskCall};
 ghost use Rattle.ov_store.specs.Opened.{StaysTold, open_with};
-ghost use Rattle.ov_store.specs.declared.fault.BeginFault.TheVariants.{Disk as DiskFailed};
+ghost use Rattle.ov_store.specs.declared.fault.BeginFault.TheVariants.{Disk as DiskFailed, Memory as NoMemory};
 
 use crate::fault::BeginFault;
 use ov_base::{Key, Mode};
@@ -17,8 +17,7 @@ use ov_tokens::check_value;
 use ov_vault::{CatalogueVault, Vault};
 use std::alloc::Global;
 
-/// Begins a store without records, on a disk where there is none. Memory is wanted before the first
-/// call of the disk.
+/// Begins a store without records, on a disk where there is none.
 pub(crate) fn birth<D: Disk>(
     alloc: Global,
     disk: &mut D,
@@ -39,6 +38,8 @@ pub(crate) fn birth<D: Disk>(
     ensures any_moment { first ≡ 0 → Told (D.reads disk.old) (λ _.
         LeavesOnly D.moment D.left_since disk.old disk.new
         (IsImageOf (keys base_check.now surface.now.bytes) (blank mode 0))) }
+    // Memory is wanted before the first call of the disk.
+    ensures memory { IsErrOf result NoMemory → disk.new ≡ disk.old }
     ensures call { IsDiskCall D.borrow D.faults disk.old disk.new (IsErrOf result DiskFailed) }
 {
     let vault = Vault::new(alloc, mode, first)?;

@@ -1,4 +1,4 @@
-use Rattle.std.proofs.Common.{rules, ◌≡◌, sym, ◌<◌, ◌^◌, [], length, ap, subst}
+use Rattle.std.proofs.Common.{rules, ◌≡◌, Err, sym, ◌∙◌, ◌<◌, ◌^◌, [], length, ap, subst}
 use Rattle.std.proofs.lemmas.Result.{err_from_is_err_and}
 use Rattle.ov_disk.specs.Disk.{Image, Told}
 use Rattle.ov_history.specs.Sealed.{blank}
@@ -9,7 +9,8 @@ use Rattle.ov_images.specs.Images.{header_of, keys}
 use Rattle.ov_store.proofs.Births.{born_none, none_left}
 use Rattle.ov_store.specs.Beginning.{IsBeginFault}
 use Rattle.ov_store.specs.declared.fault.BeginFault.{BeginFault}
-use Rattle.ov_store.proofs.Opening.{fault_checked}
+use Rattle.ov_store.specs.declared.fault.BeginFault.TheVariants.{Memory as NoMemory}
+use Rattle.ov_store.proofs.Opening.{fault_checked, memory_checked}
 use Rattle.ov_store.proofs.birth.birth.Goals as goal
 
 pub returns-in_err-vault-clause-any_moment : goal.returns-in_err-vault-clause-any_moment
@@ -52,3 +53,12 @@ returns-in_err-journal-clause-fault g c =
     c.from_residual-in_err-journal.ensures.1 in
     rw p.1 (subst (λ (fault : BeginFault). (i : Image) → IsBeginFault k c.args.mode i fault)
     (sym p.2) (λ i. fault_checked k c.args.mode i c.in_err-journal.field-0.0))
+
+pub returns-in_err-journal-clause-memory : goal.returns-in_err-journal-clause-memory
+returns-in_err-journal-clause-memory g c is =
+    let p = err_from_is_err_and c.from_residual-in_err-journal.result
+    c.from_residual-in_err-journal.ensures.1 in
+    let none : p.0 ≡ NoMemory = cc (p.1, is) in
+    memory_checked c.in_err-journal.field-0.0 (c.birth.new.disk ≡ c.args.disk.now)
+    (λ same. c.birth.ensures.memory (c.in_err-journal.was ∙ (λ j. Err (same j))))
+    (sym p.2 ∙ none)
