@@ -11,6 +11,8 @@ invariant-items g l = record {
   so_far : (p : PlainHistory) → StandsFor l.fn.machine.kept p → IfSome (text_left g.S.Source.left l.fn.script) (λ text.
       SoFar g.D.Disk.reads g.D.Disk.may_leave g.D.Disk.moment g.D.Disk.left_since l.fn.machine.kept.masters p text
       (text_left g.S.Source.left l.script) l.script.line l.script.room (g.O.Sink.written l.fn.out) (g.O.Sink.written l.out) l.fn.machine l.machine);
+  kept : (p : PlainHistory) → StandsFor l.fn.machine.kept p
+      → (q : PlainHistory) × StandsFor l.machine.kept q;
   masters : l.machine.kept.masters ≡ l.fn.machine.kept.masters;
   healthy : l.machine.failed ≡ false;
   grew : Grows (g.O.Sink.written l.fn.out) (g.O.Sink.written l.out);
