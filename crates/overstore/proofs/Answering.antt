@@ -307,6 +307,30 @@ module _ {D : Type 0} (reads : D → Option Image) (may_leave : D → Image → 
       answer_stops (Some text) (Some t) (Some more) line' room' stop s says answers =
           stopped text t more says.0 s says.2 says.3 says.1 stop (answers k (after_all p s.commands) masters s.stands)
 
+-- ---- what is kept stands for a history
+
+module _ {D : Type 0} (reads : D → Option Image) (may_leave : D → Image → Type 0)
+    (moment : D → ℕ) (left_since : D → ℕ → Image → Type 0) (mid last : KeptOn D) (command : Command)
+    (old new : Option (List ℕ)) where
+  abbrev AreAnswers : Option Stop → Type 0
+  AreAnswers r =
+      (k : Masters) (p : PlainHistory) → mid.kept.masters ≡ k → StandsFor mid.kept p
+      → Answers reads may_leave moment left_since k p command r old new mid last
+
+  -- behind an answer it goes on so
+  pub kept_more : AreAnswers None → (q : PlainHistory) × StandsFor mid.kept q
+      → (q : PlainHistory) × StandsFor last.kept q
+  kept_more answers (q, stands) =
+      (after q command, (answers mid.kept.masters q refl stands).1.stands)
+
+  -- no tag is found to be another one
+  pub tag_at_none : (stop : Stop) (bad : BadTag) → stop ≡ Tag bad → AreAnswers (Some stop)
+      → (q : PlainHistory) × StandsFor mid.kept q → ⊥
+  tag_at_none stop bad is answers (q, stands) =
+      subst
+      (λ (s : Stop). Answers reads may_leave moment left_since mid.kept.masters q command (Some s)
+      old new mid last) is (answers mid.kept.masters q refl stands)
+
 -- ---- one call of `next`
 
 -- a script at its start

@@ -29,6 +29,7 @@ use Rattle.ov_store.specs.declared.fault.BeginFault.{BeginFault}
 use Rattle.ov_store.specs.declared.fault.BeginFault.TheVariants.{Disk, NotAStore, Damaged, BaseDiffers, SurfaceDiffers, ModeDiffers, Memory}
 use Rattle.overstore.specs.Answering.{EndsIn, EndsOr}
 use Rattle.overstore.specs.Disks.{Holds, KeepsFirst, OpensAs, StandsForPlain, Survives}
+use Rattle.overstore.specs.Disks.{TellsNothing}
 use Rattle.overstore.specs.Faults.{HasValues, fault_line, fault_status}
 use Rattle.overstore.specs.Judging.{FindsPlain, Refuses}
 use Rattle.overstore.specs.Machine.{KeptOn, StandsFor, opened_of}
@@ -213,6 +214,22 @@ module _ {D : Type 0} (reads : D → Option Image) (may_leave : D → Image → 
         }
 
 -- ---- from the call that opens the disk
+
+-- from a disk that tells its bytes what is kept stands for a history
+pub tells_nothing : {D : Type 0} (reads : D → Option Image) (may_leave : D → Image → Type 0)
+    (moment : D → ℕ) (left_since : D → ℕ → Image → Type 0) (k : Masters) (mode : Mode) (first : D)
+    (m : KeptOn D) (s : Opened D) → opened_of m ≡ s → m.kept.masters ≡ k → s.failed ≡ false
+    → Told (reads first) (λ i. FindsPlain reads may_leave k mode i s)
+    → ((p : PlainHistory) → StandsFor m.kept p → ⊥) → TellsNothing (reads first)
+tells_nothing {D} reads may_leave moment left_since k mode first m s is masters sound found none =
+    λ i read.
+    let f = found i read in
+    let (p, legal, mode_is, stands) = f.some in
+    let serves = subst (λ (o : Opened D). Serves reads may_leave (sealed k p) o) (sym is)
+    (f.each p mode_is stands) in
+    none p
+    (begun_stands reads may_leave moment left_since k p m masters
+    (ap (λ (o : Opened D). o.failed) is ∙ sound) serves legal)
 
 module _ {D : Type 0} (reads : D → Option Image) (may_leave : D → Image → Type 0)
     (moment : D → ℕ) (left_since : D → ℕ → Image → Type 0) (k : Masters) (mode : Mode) (p : PlainHistory)

@@ -135,20 +135,21 @@ finish_read (Tag bad) epoch old new status f e = absurd (not_code_or _ 12 5 old 
 finish_read Write epoch old new status f e = absurd (let six : status ≡ 6 = f.0 in omega arith)
 
 -- a tag is said to be wrong where the answering stopped at one
-pub finish_tag : (stop : Stop) (epoch : ℕ) (old mid new : Option (List ℕ)) (status : ℕ) → Finishes stop epoch mid new status → Grows old mid
-    → ((bad : BadTag) → stop ≡ Tag bad → AreOtherTags bad) → status ≡ 12 → SaysTag old new
-finish_tag End epoch old mid new status f grew other e = absurd (not_code_or _ 0 12 mid new status f (λ z. omega arith) (λ z. omega arith) (λ z. omega arith) e)
-finish_tag (BadLine n) epoch old mid new status f grew other e = absurd (not_code_or _ 3 12 mid new status f (λ z. omega arith) (λ z. omega arith) (λ z. omega arith) e)
-finish_tag Long epoch old mid new status f grew other e = absurd (not_code _ 11 12 mid new status f (λ z. omega arith) (λ z. omega arith) e)
-finish_tag Read epoch old mid new status f grew other e = absurd (not_code _ 5 12 mid new status f (λ z. omega arith) (λ z. omega arith) e)
-finish_tag Disk epoch old mid new status f grew other e = absurd (not_code _ 4 12 mid new status f (λ z. omega arith) (λ z. omega arith) e)
-finish_tag Memory epoch old mid new status f grew other e = absurd (not_code _ 7 12 mid new status f (λ z. omega arith) (λ z. omega arith) e)
-finish_tag Write epoch old mid new status f grew other e = absurd (let six : status ≡ 6 = f.0 in omega arith)
-finish_tag (Tag bad) epoch old mid new status (inl (inl q)) grew other e =
-    (bad, other bad refl, (grew.0, Appends-trans old mid new grew.0 (tag_line bad) grew.1 q.1))
-finish_tag (Tag bad) epoch old mid new status (inl (inr q)) grew other e = absurd (let six : status ≡ 6 = q.0 in omega arith)
-finish_tag (Tag bad) epoch old mid new status (inr (inl q)) grew other e = absurd (let seven : status ≡ 7 = q.0 in omega arith)
-finish_tag (Tag bad) epoch old mid new status (inr (inr q)) grew other e = absurd (let six : status ≡ 6 = q.0 in omega arith)
+pub finish_tag : (N : Type 0) (stop : Stop) (epoch : ℕ) (old mid new : Option (List ℕ)) (status : ℕ) → Finishes stop epoch mid new status → Grows old mid
+    → ((bad : BadTag) → stop ≡ Tag bad → AreOtherTags bad × N) → status ≡ 12 → SaysTag old new × N
+finish_tag N End epoch old mid new status f grew other e = absurd (not_code_or _ 0 12 mid new status f (λ z. omega arith) (λ z. omega arith) (λ z. omega arith) e)
+finish_tag N (BadLine n) epoch old mid new status f grew other e = absurd (not_code_or _ 3 12 mid new status f (λ z. omega arith) (λ z. omega arith) (λ z. omega arith) e)
+finish_tag N Long epoch old mid new status f grew other e = absurd (not_code _ 11 12 mid new status f (λ z. omega arith) (λ z. omega arith) e)
+finish_tag N Read epoch old mid new status f grew other e = absurd (not_code _ 5 12 mid new status f (λ z. omega arith) (λ z. omega arith) e)
+finish_tag N Disk epoch old mid new status f grew other e = absurd (not_code _ 4 12 mid new status f (λ z. omega arith) (λ z. omega arith) e)
+finish_tag N Memory epoch old mid new status f grew other e = absurd (not_code _ 7 12 mid new status f (λ z. omega arith) (λ z. omega arith) e)
+finish_tag N Write epoch old mid new status f grew other e = absurd (let six : status ≡ 6 = f.0 in omega arith)
+finish_tag N (Tag bad) epoch old mid new status (inl (inl q)) grew other e =
+    let put = Appends-trans old mid new grew.0 (tag_line bad) grew.1 q.1 in
+    ((bad, (other bad refl).0, (grew.0, put)), (other bad refl).1)
+finish_tag N (Tag bad) epoch old mid new status (inl (inr q)) grew other e = absurd (let six : status ≡ 6 = q.0 in omega arith)
+finish_tag N (Tag bad) epoch old mid new status (inr (inl q)) grew other e = absurd (let seven : status ≡ 7 = q.0 in omega arith)
+finish_tag N (Tag bad) epoch old mid new status (inr (inr q)) grew other e = absurd (let six : status ≡ 6 = q.0 in omega arith)
 
 fault_not_tag : (fault : BeginFault) → fault_status fault ≡ 12 → ⊥
 fault_not_tag BeginDisk e = omega arith

@@ -16,7 +16,7 @@ use Rattle.ov_model.specs.Step.{reply_to, after_all}
 use Rattle.ov_history.specs.Masters.{Masters}
 use Rattle.overstore.specs.Disks.{Holds, KeepsFirst, KeepsNext}
 use Rattle.overstore.specs.Faults.{tag_line}
-use Rattle.overstore.specs.Machine.{AreOtherTags, GoesOn, KeptOn, LeavesStep, StandsFor}
+use Rattle.overstore.specs.Machine.{AreOtherTags, GoesOn, Kept, KeptOn, LeavesStep, StandsFor}
 use Rattle.overstore.specs.Printing.{bad_line, disk_line, long_line, read_line, memory_line}
 use Rattle.overstore.specs.declared.fault.BadTag.{BadTag}
 use Rattle.overstore.specs.declared.fault.StepFault.{StepFault}
@@ -49,6 +49,10 @@ abbrev pub SaysTag : Option (List ℕ) → Option (List ℕ) → Type 0
 SaysTag old new =
     (bad : BadTag) × AreOtherTags bad
     × ((before : List ℕ) × Appends old new (before ++ tag_line bad))
+
+-- two tags differ, and what was kept at the start stands for no history
+abbrev pub FindsTag : Kept → BadTag → Type 0
+FindsTag kept bad = AreOtherTags bad × ((p : PlainHistory) → StandsFor kept p → ⊥)
 
 -- this line was put, and the status is this; or a front of it, and the status is 6
 abbrev pub EndsIn : List ℕ → ℕ → Option (List ℕ) → Option (List ℕ) → ℕ → Type 0

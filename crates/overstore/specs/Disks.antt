@@ -4,7 +4,7 @@ use Rattle.std.specs.Prelude.{slice_get, Option, Some}
 use Rattle.std.specs.Io.KnownBytes.{Appends}
 use Rattle.ov_base.specs.Causes.{Rose}
 use Rattle.ov_base.specs.declared.mode.Mode.{Mode}
-use Rattle.ov_disk.specs.Disk.{Image, Only}
+use Rattle.ov_disk.specs.Disk.{Image, Only, Told}
 use Rattle.ov_disk.specs.Moments.{LeavesOnly}
 use Rattle.ov_images.specs.Images.{IsImageOf, Keeps, keys_of}
 use Rattle.ov_script.specs.declared.command.Command.{Command}
@@ -71,6 +71,10 @@ PublishesMatrix k p =
     ↔ (is_listed (matrix_of (history_of p)) user file ≡ true)
 
 -- ---- disks
+
+-- a disk doesn't tell its bytes
+abbrev pub TellsNothing : Option Image → Type 0
+TellsNothing reads = Told reads (λ _. ⊥)
 
 -- Calls on a disk keep its loan. The count of its faults doesn't fall, and it rose where they failed
 -- for a fault of the disk.

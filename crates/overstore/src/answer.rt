@@ -6,9 +6,10 @@ ghost use Rattle.ov_history.specs.Masters.{Masters};
 ghost use Rattle.ov_history.specs.Plain.{PlainHistory};
 ghost use Rattle.ov_script.specs.Lines.{reply_line};
 ghost use Rattle.ov_script.specs.Place.{start, text_left};
-ghost use Rattle.overstore.specs.Answering.{Answers, Grows, IsPut, PutsOr, Stops, stop_for};
+ghost use Rattle.overstore.specs.Answering.{Answers, FindsTag, Grows, IsPut, PutsOr, Stops};
+ghost use Rattle.overstore.specs.Answering.{stop_for};
 ghost use Rattle.overstore.specs.Disks.{IsDiskCall};
-ghost use Rattle.overstore.specs.Machine.{AreOtherTags, IsCommand, StandsFor};
+ghost use Rattle.overstore.specs.Machine.{IsCommand, StandsFor};
 ghost use Rattle.overstore.specs.Pacing.{IsPaced};
 ghost use Rattle.overstore.specs.declared.fault.BadTag.{BadTag};
 
@@ -116,7 +117,7 @@ pub fn answer_all<S: Source + Drop, O: Sink, D: Disk>(
         machine.old.disk machine.new.disk }
     ensures later { O.faults out.old ≤ O.faults out.new }
     ensures write { result ≡ Stop.Write → Rose (O.faults out.old) (O.faults out.new) }
-    ensures tag { (bad : BadTag) → result ≡ Stop.Tag bad → AreOtherTags bad }
+    ensures tag { (bad : BadTag) → result ≡ Stop.Tag bad → FindsTag machine.old.kept bad }
     ensures grew { Grows (O.written out.old) (O.written out.new) }
 {
     let mut buffer = Vec::new(alloc);

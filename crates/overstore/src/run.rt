@@ -6,7 +6,7 @@ ghost use Rattle.ov_disk.specs.Disk.{Told};
 ghost use Rattle.ov_history.specs.Masters.{Masters as PlainMasters};
 ghost use Rattle.ov_history.specs.Plain.{PlainHistory};
 ghost use Rattle.overstore.specs.Answering.{SaysTag};
-ghost use Rattle.overstore.specs.Disks.{Endures, Holds, IsDiskCall, OpensAs};
+ghost use Rattle.overstore.specs.Disks.{Endures, Holds, IsDiskCall, OpensAs, TellsNothing};
 ghost use Rattle.overstore.specs.Machine.{AreMasters, StandsFor, plain_masters};
 ghost use Rattle.overstore.specs.Pacing.{IsPaced};
 ghost use Rattle.overstore.specs.Printing.{IsKeysStatus, IsScriptStatus, IsStoreStatus};
@@ -69,7 +69,8 @@ fn answer_script<I: Source, O: Sink, D: Disk>(
     ensures disk { IsDiskCall D.borrow D.faults (result ≡ 4) machine.old.disk machine.new.disk }
     ensures read { result ≡ 5 → Rose (I.faults input.old) (I.faults input.new) }
     ensures write { result ≡ 6 → Rose (O.faults out.old) (O.faults out.new) }
-    ensures tag { result ≡ 12 → SaysTag (O.written out.old) (O.written out.new) }
+    ensures tag { result ≡ 12 → SaysTag (O.written out.old) (O.written out.new)
+        × ((p : PlainHistory) → StandsFor machine.old.kept p → ⊥) }
     ensures status { IsScriptStatus result }
 {
     // The buffer is there before the input is lent, so that without one the input is as it was.
@@ -109,7 +110,8 @@ fn answer_over<I: Source, O: Sink, D: Disk + Drop>(
     ensures disk { IsDiskCall D.borrow D.faults (result.0 ≡ 4) disk result.1 }
     ensures read { result.0 ≡ 5 → Rose (I.faults input.old) (I.faults input.new) }
     ensures write { result.0 ≡ 6 → Rose (O.faults out.old) (O.faults out.new) }
-    ensures tag { result.0 ≡ 12 → SaysTag (O.written out.old) (O.written out.new) }
+    ensures tag { result.0 ≡ 12 → SaysTag (O.written out.old) (O.written out.new)
+        × TellsNothing (D.reads disk) }
     ensures status { IsStoreStatus result.0 }
 {
     match begin(alloc, disk, masters, mode) {
@@ -151,7 +153,8 @@ fn answer_with_keys<K: Source, I: Source, O: Sink, D: Disk + Drop>(
     ensures read { result.0 ≡ 5 → Rose (K.faults keys.old) (K.faults keys.new)
         ⊎ Rose (I.faults input.old) (I.faults input.new) }
     ensures write { result.0 ≡ 6 → Rose (O.faults out.old) (O.faults out.new) }
-    ensures tag { result.0 ≡ 12 → SaysTag (O.written out.old) (O.written out.new) }
+    ensures tag { result.0 ≡ 12 → SaysTag (O.written out.old) (O.written out.new)
+        × TellsNothing (D.reads disk) }
     ensures status { IsKeysStatus result.0 }
 {
     match read_masters(keys) {
@@ -209,13 +212,15 @@ pub fn run<K: Source, I: Source, O: Sink, D: Disk>(
     // Other words are refused, and all files are left as they are.
     ensures words { RefusesWords (AreOther words.now) result (O.written out.old) (O.written out.new)
         ((keys.new ≡ keys.old) × (input.new ≡ input.old) × (disk.new ≡ disk.old)) }
-    // A fault is answered only where its count of faults rose, and a wrong tag only with its line.
+    // A fault is answered only where its count of faults rose, and a wrong tag only with its line,
+    // and never over a disk that tells its bytes.
     ensures causes { FailsForFaults result
         (Rose (D.faults disk.old) (D.faults disk.new))
         (Rose (K.faults keys.old) (K.faults keys.new)
         ⊎ Rose (I.faults input.old) (I.faults input.new))
         (Rose (O.faults out.old) (O.faults out.new))
-        (SaysTag (O.written out.old) (O.written out.new)) }
+        (SaysTag (O.written out.old) (O.written out.new)
+        × TellsNothing (D.reads disk.old)) }
 {
     match mode_of(words) {
         Some(mode) => {

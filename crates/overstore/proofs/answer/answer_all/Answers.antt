@@ -1,8 +1,8 @@
 use Rattle.std.proofs.KnownBytes.{Appends-nil}
-use Rattle.std.proofs.Common.{[], arith}
+use Rattle.std.proofs.Common.{[], ap, arith, Some}
 use Rattle.std.proofs.lemmas.Grind.{common_steps}
 use Rattle.ov_script.specs.Reading.{AtEnd, BadAt, TooLong}
-use Rattle.overstore.proofs.Answering.{answered, answered_first, answered_more, answer_stops, begins_so, commands_come, goes_on, grows_on, starts_fresh}
+use Rattle.overstore.proofs.Answering.{answered, answered_first, answered_more, answer_stops, begins_so, commands_come, goes_on, grows_on, kept_more, starts_fresh, tag_at_none}
 use Rattle.overstore.proofs.Pacing.{none_pending, paced_next, untouched}
 use Rattle.overstore.proofs.answer.answer_all.Goals as goal
 
@@ -12,6 +12,7 @@ items-init g c = record {
       begins_so g.D.Disk.reads g.D.Disk.may_leave g.D.Disk.moment g.D.Disk.left_since c.args.machine.now.kept.masters p c.args.machine.now stands
       (g.met.D.Disk.only_now c.args.machine.now.disk) _ _ _ _ (starts_fresh _ c.requires.start).0 (starts_fresh _ c.requires.start).1;
   paced = λ p stands. untouched g.S.Source.takes g.S.Source.left p _ _ _ _;
+  kept = λ p stands. (p, stands);
   masters = grind (arith, common_steps);
   healthy = c.requires.healthy;
   grew = ([], Appends-nil _);
@@ -39,6 +40,9 @@ items-preserved g c = record {
   paced = λ p stands.
       paced_next g.S.Source.takes g.S.Source.left p g.D.Disk.reads g.D.Disk.may_leave g.D.Disk.moment g.D.Disk.left_since _ _ _ _ _ _ _ _ _ _ _ _ _ _
       (none_pending _ c.requires.start) (c.items.invariant.so_far p stands) (c.items.invariant.paced p stands) c.in-Ok-Command.ensures.needed c.in-None.ensures.grew;
+  kept = λ p stands.
+      kept_more g.D.Disk.reads g.D.Disk.may_leave g.D.Disk.moment g.D.Disk.left_since _ _ _ _ _
+      c.in-None.ensures.answer (c.items.invariant.kept p stands);
   masters = grind (arith, common_steps);
   healthy = c.in-None.ensures.healthy;
   grew = grows_on _ _ _ c.items.invariant.grew c.in-None.ensures.grew;
@@ -74,6 +78,14 @@ pub returns-in-Err-Memory-clause-stop : goal.returns-in-Err-Memory-clause-stop
 returns-in-Err-Memory-clause-stop g c = λ p stands.
     answered_first g.D.Disk.reads g.D.Disk.may_leave g.D.Disk.moment g.D.Disk.left_since _ p _ _ c.items.invariant.masters _ _ _ _ _ _
     (c.items.invariant.so_far p stands)
+
+pub returns-in-Some-clause-tag : goal.returns-in-Some-clause-tag
+returns-in-Some-clause-tag g c = λ bad e. (
+  c.in-Some.ensures.sink.tag bad (ap Some e),
+  λ p stands.
+      tag_at_none g.D.Disk.reads g.D.Disk.may_leave g.D.Disk.moment g.D.Disk.left_since _ _ _ _ _
+      c.in-Some.stop bad e c.in-Some.ensures.answer (c.items.invariant.kept p stands),
+)
 
 pub returns-in-Some-clause-grew : goal.returns-in-Some-clause-grew
 returns-in-Some-clause-grew g c = grows_on _ _ _ c.items.invariant.grew c.in-Some.ensures.grew

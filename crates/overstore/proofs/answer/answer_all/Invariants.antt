@@ -14,6 +14,8 @@ invariant-items g l = record {
       (text_left g.S.Source.left l.script) l.script.line l.script.room (g.O.Sink.written l.fn.out) (g.O.Sink.written l.out) l.fn.machine l.machine);
   paced : (p : PlainHistory) → StandsFor l.fn.machine.kept p → IfSome (text_left g.S.Source.left l.fn.script) (λ _.
       IsPaced g.S.Source.takes g.S.Source.left p l.fn.script.source l.script.source (g.O.Sink.written l.fn.out) (g.O.Sink.written l.out));
+  kept : (p : PlainHistory) → StandsFor l.fn.machine.kept p
+      → (q : PlainHistory) × StandsFor l.machine.kept q;
   masters : l.machine.kept.masters ≡ l.fn.machine.kept.masters;
   healthy : l.machine.failed ≡ false;
   grew : Grows (g.O.Sink.written l.fn.out) (g.O.Sink.written l.out);

@@ -4,7 +4,7 @@ use Rattle.overstore.specs.Printing.{IsStoreStatus}
 use Rattle.overstore.specs.Disks.{Holds}
 use Rattle.overstore.specs.Running.{EndsAs}
 use Rattle.std.specs.Prelude.{IfSome}
-use Rattle.overstore.proofs.Beginning.{disk_said, over_begun, over_refused, over_stands}
+use Rattle.overstore.proofs.Beginning.{disk_said, over_begun, over_refused, over_stands, tells_nothing}
 use Rattle.overstore.proofs.Judging.{judged_open, judged_refused}
 use Rattle.overstore.proofs.Pacing.{untouched}
 use Rattle.overstore.proofs.Running.{ends_or_so, fault_no_read, fault_no_tag, fault_so, not_refused}
@@ -64,6 +64,16 @@ returns-in-Err-clause-disk g c = record {
 pub returns-in-Err-clause-read : goal.returns-in-Err-clause-read
 returns-in-Err-clause-read g c = λ e. absurd
     (fault_no_read c.in-Err.refused.fault _ _ _ _ c.put_fault.ensures.ends e)
+
+pub returns-in-Ok-clause-tag : goal.returns-in-Ok-clause-tag
+returns-in-Ok-clause-tag g c = λ e.
+    let wrong = c.answer_script-code.ensures.tag e in (
+      wrong.0,
+      tells_nothing g.D.Disk.reads g.D.Disk.may_leave g.D.Disk.moment g.D.Disk.left_since
+          (plain_masters c.args.masters) c.args.mode c.args.disk c.of-machine.result c.in-Ok.store
+          c.of-machine.ensures.store c.of-machine.ensures.masters c.in-Ok.ensures.new.1
+          c.in-Ok.ensures.found.0 wrong.1,
+    )
 
 pub returns-in-Err-clause-tag : goal.returns-in-Err-clause-tag
 returns-in-Err-clause-tag g c = λ e. absurd

@@ -2,6 +2,8 @@ use Rattle.std.proofs.Common.{MutBor, arith, refl, rules}
 use Rattle.overstore.proofs.Running.{ends_so, finish_disk, finish_tag, finishes_so, memory_not, script_seven, script_six}
 use Rattle.overstore.proofs.Surviving.{ends_all, ends_unread}
 use Rattle.overstore.proofs.Pacing.{finish_grows, paced_lent, paced_then, untouched}
+use Rattle.ov_history.specs.Plain.{PlainHistory}
+use Rattle.overstore.specs.Machine.{StandsFor}
 use Rattle.overstore.specs.Printing.{IsScriptStatus}
 use Rattle.overstore.proofs.run.answer_script.Goals as goal
 
@@ -36,7 +38,8 @@ returns-in-Err-clause-disk g c = record {
 
 pub returns-clause-tag : goal.returns-clause-tag
 returns-clause-tag g c =
-    finish_tag _ _ _ _ _ _ c.finish.ensures.finish c.answer_all-stop.ensures.grew c.answer_all-stop.ensures.tag
+    finish_tag ((p : PlainHistory) → StandsFor c.args.machine.now.kept p → ⊥) _ _ _ _ _ _
+    c.finish.ensures.finish c.answer_all-stop.ensures.grew c.answer_all-stop.ensures.tag
 
 pub returns-in-Err-clause-tag : goal.returns-in-Err-clause-tag
 returns-in-Err-clause-tag g c = λ e. absurd (memory_not 12 _ _ _ c.put_last.ensures.ends (λ z. omega arith) (λ z. omega arith) e)
