@@ -1,8 +1,9 @@
 //! Books with one byte changed, or cut, and the order in which causes are told.
-use super::{begun, small_store};
-use crate::BeginFault;
+use super::{BASE_CHECK, master, small_store};
+use crate::{BeginFault, Store};
 use ov_base::{Mode, Octets};
-use ov_disk::{Area, MemDisk};
+use ov_disk::{Area, Disk, MemDisk};
+use ov_tokens::check_value;
 use std::alloc::Global;
 use std::process::Abort;
 
@@ -11,8 +12,7 @@ use std::process::Abort;
 const ALL: usize = 321;
 
 /// A place and the byte that is put there, the length to which the book is then cut, and the place
-/// that is damaged, or none where a store is begun. The places are those of a reader of books in
-/// Python, which shares nothing with this one but docs/FORMATS.md.
+/// that is damaged, or none where a store is begun: `tools/damaged_books.py` prints these rows.
 const ROWS: [(usize, u8, usize, Option<u64>); 41] = [
     // As it is; no mode; a gate that isn't open, which ends the records; one that is, at the end.
     (0, 1, ALL, None),
@@ -84,18 +84,32 @@ fn changed(
     MemDisk::of(alloc, Octets::from_vec(book), blobs)
 }
 
-/// The place of Book that is damaged, or none where a store is begun.
-fn damaged_at(rt: &impl Abort, alloc: Global, disk: MemDisk) -> Option<u64> {
-    match begun(alloc, disk, Mode::Delta) {
+/// Why no store is begun on a disk, or none where one is.
+fn refused<D: Disk + Drop>(
+    alloc: Global,
+    disk: D,
+    surface: u8,
+    base_check: [u8; 32],
+    mode: Mode,
+) -> Option<BeginFault> {
+    match Store::begin(alloc, disk, master(surface), base_check, mode) {
         Ok(store) => {
             drop(store.close());
             None
         }
-        Err(BeginFault::Damaged { area, offset }) => {
+        Err(refused) => Some(refused.fault),
+    }
+}
+
+/// The place of Book that is damaged, or none where there is no fault.
+fn damaged_at(rt: &impl Abort, fault: Option<BeginFault>) -> Option<u64> {
+    match fault {
+        None => None,
+        Some(BeginFault::Damaged { area, offset }) => {
             assert_eq!(rt; area, Area::Book);
             Some(offset)
         }
-        Err(_) => panic!(rt; "another fault"),
+        Some(_) => panic!(rt; "another fault"),
     }
 }
 
@@ -107,10 +121,39 @@ fn damage_and_where_it_is(rt: HostRuntime) {
     assert_eq!(rt; disk.book().len(), ALL);
     for (place, byte, length, damaged) in ROWS {
         let disk = changed(&rt, alloc, disk.book(), place, byte, length);
+        let fault = refused(alloc, disk, 7, BASE_CHECK, Mode::Delta);
         assert_eq!(rt;
-            damaged_at(&rt, alloc, disk),
+            damaged_at(&rt, fault),
             damaged,
             "{byte} at {place}, cut to {length}"
         );
     }
+}
+
+/// With all else wrong too, what stands first is told.
+#[test]
+fn causes_in_their_order(rt: HostRuntime) {
+    let alloc = rt.alloc();
+    let mut calls = Vec::new(alloc);
+    let disk = small_store(&rt, alloc, &mut calls);
+    let other = [0; 32];
+    let with = |place, byte| changed(&rt, alloc, disk.book(), place, byte, ALL);
+
+    let found = refused(alloc, with(8, b'1'), 8, other, Mode::Full);
+    assert_eq!(rt; found, Some(BeginFault::NotAStore));
+
+    let found = refused(alloc, with(9, 2), 8, other, Mode::Full);
+    assert_eq!(rt; damaged_at(&rt, found), Some(9));
+
+    let found = refused(alloc, with(79, 1), 8, other, Mode::Full);
+    let (stored, given) = (BASE_CHECK, other);
+    assert_eq!(rt; found, Some(BeginFault::BaseDiffers { stored, given }));
+
+    let found = refused(alloc, with(79, 1), 8, BASE_CHECK, Mode::Full);
+    let (stored, given) = (check_value(&master(7)), check_value(&master(8)));
+    assert_eq!(rt; found, Some(BeginFault::SurfaceDiffers { stored, given }));
+
+    let found = refused(alloc, with(79, 1), 7, BASE_CHECK, Mode::Full);
+    let (stored, given) = (Mode::Delta, Mode::Full);
+    assert_eq!(rt; found, Some(BeginFault::ModeDiffers { stored, given }));
 }
