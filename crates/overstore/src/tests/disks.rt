@@ -1,170 +1,223 @@
-//! Runs over one disk after the other, stops, and disks that don't open.
-
-use super::{KEYS, SIBLINGS, sink, source, words};
-use crate::run::run;
+//! Runs over one disk after the other, and disks that don't open.
+use super::running::{Pieces, Row, Wants, assert_ended, assert_row, key_bytes, ran, words};
+use super::siblings;
 use ov_base::Octets;
-use ov_disk::{MemDisk, Tear};
-use std::alloc::Global;
+use ov_disk::MemDisk;
+use std::alloc::{AllocError, Global};
+use std::process::Abort;
 use std::test::Fail;
 
-// Runs a script over a disk, and gives the status and what was put.
-fn ran_on(
-    alloc: Global,
-    mode: &str,
-    keys: &[u8],
-    script: &[u8],
-    disk: &mut MemDisk,
-) -> Result<(u8, Octets), Fail> {
-    let mut keys = source(alloc, keys, 50, b"")?;
-    let mut input = source(alloc, script, 4096, b"")?;
-    let mut out = sink(alloc, b"")?;
-    let words = words(alloc, mode)?;
-    let status = run(alloc, &words, &mut keys, &mut input, &mut out, disk);
-    Ok((status, Octets::copy(alloc, out.written())?))
-}
-
-// The disk that one run over this script leaves.
-fn left_by(alloc: Global, mode: &str, script: &[u8]) -> Result<MemDisk, Fail> {
+/// The disk that a run over this script leaves.
+pub fn left_by(rt: &impl Abort, alloc: Global, words: &[String], row: &Row<'_>) -> MemDisk {
     let mut disk = MemDisk::new(alloc);
-    let _ = ran_on(alloc, mode, KEYS, script, &mut disk)?;
-    Ok(disk)
+    assert_row(rt, alloc, words, 4096, row, &mut disk);
+    disk
 }
 
-// The disk with one byte of its book changed.
-fn changed(alloc: Global, disk: &MemDisk, place: usize, byte: u8) -> Result<MemDisk, Fail> {
-    let mut book = disk.book().to_vec(alloc)?;
-    if place < book.len() {
-        book[place] = byte;
-    }
-    let blobs = Octets::copy(alloc, disk.blobs())?;
-    Ok(MemDisk::of(alloc, Octets::from_vec(book), blobs))
+// A script over what the script with siblings leaves.
+static SECOND: Row<'static> = Row {
+    script: b"epoch\nread c f1\nread c f3\nlist f1\nenrol a\nenrol d\nrevoke c f1\nread c f1\n",
+    status: 0,
+    lines: b"epoch 9\ndata c f1 2\nx1\nrefused 4 NoPath\nlist f1 a,b,c\nrefused 1 Taken\nok 10\nok 11\nrefused 4 NoPath\nend epoch 11\n",
+};
+
+fn second() -> &'static Row<'static> {
+    &SECOND
+}
+
+// Runs both, and then a third script, over one disk.
+fn assert_goes_on(rt: &impl Abort, alloc: Global, words: &[String]) {
+    let mut disk = left_by(rt, alloc, words, siblings());
+    assert_row(rt, alloc, words, 4096, second(), &mut disk);
+    let third = Row {
+        script: b"",
+        status: 0,
+        lines: b"end epoch 11\n",
+    };
+    assert_row(rt, alloc, words, 4096, &third, &mut disk);
+    drop(disk);
 }
 
 #[test]
-fn a_second_run_goes_on(rt: HostRuntime) -> Result<(), Fail> {
-    let alloc = rt.alloc();
-    for mode in ["full", "delta"] {
-        let mut disk = left_by(alloc, mode, SIBLINGS)?;
-        let script =
-            b"epoch\nread c f1\nread c f3\nlist f1\nenrol a\nenrol d\nrevoke c f1\nread c f1\n";
-        let lines =
-            b"epoch 9\ndata c f1 2\nx1\nrefused 4 NoPath\nlist f1 a,b,c\nrefused 1 Taken\nok 10\nok 11\nrefused 4 NoPath\nend epoch 11\n";
-        let (status, put) = ran_on(alloc, mode, KEYS, script, &mut disk)?;
-        assert_eq!(rt; status, 0);
-        assert_eq!(rt; put.as_slice(), lines.as_slice());
-        let (status, put) = ran_on(alloc, mode, KEYS, b"", &mut disk)?;
-        assert_eq!(rt; status, 0);
-        assert_eq!(rt; put.as_slice(), b"end epoch 11\n".as_slice());
-    }
+fn a_second_run_goes_on_in_full(rt: HostRuntime) -> Result<(), Fail> {
+    let words = words(rt.alloc(), &["run", "full"])?;
+    assert_goes_on(&rt, rt.alloc(), &words);
     Ok(())
 }
+
+#[test]
+fn a_second_run_goes_on_in_delta(rt: HostRuntime) -> Result<(), Fail> {
+    let words = words(rt.alloc(), &["run", "delta"])?;
+    assert_goes_on(&rt, rt.alloc(), &words);
+    Ok(())
+}
+
+// The Book that a run over this script leaves.
+fn book_of(
+    rt: &impl Abort,
+    alloc: Global,
+    mode: &str,
+    row: &Row<'_>,
+) -> Result<Vec<u8>, AllocError> {
+    let words = words(alloc, &["run", mode])?;
+    let disk = left_by(rt, alloc, &words, row);
+    let book = disk.book().to_vec(alloc);
+    drop(disk);
+    book
+}
+
+// Asserts how long Book is after a run over this script, and how it ends.
+fn assert_book(
+    rt: &impl Abort,
+    alloc: Global,
+    row: &Row<'_>,
+    length: usize,
+    end: &[u8],
+) -> Result<(), AllocError> {
+    let book = book_of(rt, alloc, "full", row)?;
+    assert_eq!(rt; book.len(), length);
+    assert!(rt; book.ends_with(end));
+    Ok(())
+}
+
+static BOOKS: [Row<'static>; 3] = [
+    Row {
+        script: b"",
+        status: 0,
+        lines: b"end epoch 0\n",
+    },
+    Row {
+        script: b"enrol alice\n",
+        status: 0,
+        lines: b"ok 1\nend epoch 1\n",
+    },
+    Row {
+        script: b"enrol alice\nenrol bob\n",
+        status: 0,
+        lines: b"ok 1\nok 2\nend epoch 2\n",
+    },
+];
 
 #[test]
 fn books_of_a_run(rt: HostRuntime) -> Result<(), Fail> {
-    let alloc = rt.alloc();
-    let disk = left_by(alloc, "full", b"")?;
-    assert_eq!(rt; disk.book().len(), 79);
-    let disk = left_by(alloc, "full", b"enrol alice\n")?;
-    assert_eq!(rt; disk.book().len(), 91);
-    assert!(rt; disk.book().ends_with(b"\x01\0\0\0\x07\x01\x05alice\0"));
-    let disk = left_by(alloc, "full", b"enrol alice\nenrol bob\n")?;
-    assert_eq!(rt; disk.book().len(), 101);
+    let [none, one, two] = &BOOKS;
+    assert_book(&rt, rt.alloc(), none, 79, b"\0")?;
+    assert_book(&rt, rt.alloc(), one, 91, b"\x01\0\0\0\x07\x01\x05alice\0")?;
+    assert_book(&rt, rt.alloc(), two, 101, b"\x01\0\0\0\x05\x01\x03bob\0")?;
     Ok(())
+}
+
+/// These bytes with one of them changed.
+pub fn changed(alloc: Global, bytes: &[u8], place: usize, byte: u8) -> Result<Vec<u8>, AllocError> {
+    let mut bytes = bytes.to_vec(alloc)?;
+    if place < bytes.len() {
+        bytes[place] = byte;
+    }
+    Ok(bytes)
+}
+
+// Asserts that a run in this mode over this Book is refused so, and leaves it.
+fn assert_shut(
+    rt: &impl Abort,
+    alloc: Global,
+    mode: &str,
+    book: &[u8],
+    status: u8,
+    line: &[u8],
+) -> Result<(), Fail> {
+    let words = words(alloc, &["run", mode])?;
+    let copy = Octets::copy(alloc, book)?;
+    let mut disk = MemDisk::of(alloc, copy, Octets::new(alloc));
+    let row = Row {
+        script: b"enrol bob\n",
+        status,
+        lines: line,
+    };
+    assert_row(rt, alloc, &words, 4096, &row, &mut disk);
+    assert!(rt; disk.book() == book);
+    drop(disk);
+    Ok(())
+}
+
+// Asserts that where this byte of the Book of one user is another, a run is refused so.
+fn assert_damaged(
+    rt: &impl Abort,
+    alloc: Global,
+    place: usize,
+    byte: u8,
+    line: &[u8],
+) -> Result<(), Fail> {
+    let row = Row {
+        script: b"enrol alice\n",
+        status: 0,
+        lines: b"ok 1\nend epoch 1\n",
+    };
+    let book = book_of(rt, alloc, "delta", &row)?;
+    let damaged = changed(alloc, &book, place, byte)?;
+    assert_shut(rt, alloc, "delta", &damaged, 8, line)
 }
 
 #[test]
 fn disks_that_do_not_open(rt: HostRuntime) -> Result<(), Fail> {
     let alloc = rt.alloc();
-    let store = left_by(alloc, "delta", b"enrol alice\n")?;
-    let foreign = Octets::from_vec(vec![in alloc; b'x'; 200]?);
-    let none = Octets::from_vec(Vec::new(alloc));
-    let rows = [
-        (
-            changed(alloc, &store, 999, 0)?,
-            "full",
-            9u8,
-            b"error mode delta full\n".as_slice(),
-        ),
-        (
-            changed(alloc, &store, 84, 0)?,
-            "delta",
-            8,
-            b"error damaged book 84\n",
-        ),
-        (
-            changed(alloc, &store, 9, 7)?,
-            "delta",
-            8,
-            b"error damaged book 9\n",
-        ),
-        (
-            MemDisk::of(alloc, foreign, none),
-            "delta",
-            8,
-            b"error notastore\n",
-        ),
-    ];
-    for (disk, mode, status, line) in rows {
-        let mut disk = disk;
-        let book = disk.book().to_vec(alloc)?;
-        let (code, put) = ran_on(alloc, mode, KEYS, b"enrol bob\n", &mut disk)?;
-        assert_eq!(rt; code, status);
-        assert_eq!(rt; put.as_slice(), line);
-        assert!(rt; disk.book() == book.as_slice());
-    }
+    assert_damaged(&rt, alloc, 84, 0, b"error damaged book 84\n")?;
+    assert_damaged(&rt, alloc, 9, 7, b"error damaged book 9\n")?;
+    assert_shut(&rt, alloc, "delta", &[b'x'; 200], 8, b"error notastore\n")
+}
+
+#[test]
+fn another_mode(rt: HostRuntime) -> Result<(), Fail> {
+    let row = Row {
+        script: b"",
+        status: 0,
+        lines: b"end epoch 0\n",
+    };
+    let book = book_of(&rt, rt.alloc(), "delta", &row)?;
+    assert_shut(
+        &rt,
+        rt.alloc(),
+        "full",
+        &book,
+        9,
+        b"error mode delta full\n",
+    )
+}
+
+// Asserts that a store isn't opened with a key file in which the digit at this place is 7.
+fn assert_other_key(rt: &impl Abort, alloc: Global, place: usize, line: &[u8]) -> Result<(), Fail> {
+    let words = words(alloc, &["run", "full"])?;
+    let keys = changed(alloc, key_bytes(), place, b'7')?;
+    let row = Row {
+        script: b"",
+        status: 0,
+        lines: b"end epoch 0\n",
+    };
+    let mut out = Wants::of(line);
+    let mut disk = left_by(rt, alloc, &words, &row);
+    let source = Pieces::of(&keys, 50);
+    let code = ran(
+        alloc,
+        &words,
+        source,
+        Pieces::of(b"", 8),
+        &mut out,
+        &mut disk,
+    );
+    drop(disk);
+    assert_ended(rt, code, &out, 9);
     Ok(())
 }
+
+// The check values of both masters, and of those that begin with the byte 0x70, from Python's
+// `hmac`.
+const OTHER_BASE: &[u8] =
+    b"error key base 2a4f6d54a45f46e7a818a4f59451e9fbb0959add6660c90fc1b8bf8d4b73c745 a6babc60c7a72e8c1a4229517d3db7262af01f4c2b21d574f4ef01f8a3a18ebe\n";
+
+const OTHER_SURFACE: &[u8] =
+    b"error key surface e2e6631a005a1da74d3f291c8cd9e60c7abf3a2ab33a7199bff06c71433263d4 955ced38a79fa94c20448b34a4a9be5303a687b7eef8503dae44523b7cae214a\n";
 
 #[test]
 fn other_keys(rt: HostRuntime) -> Result<(), Fail> {
-    let alloc = rt.alloc();
-    for (place, head) in [
-        (0usize, b"error key base ".as_slice()),
-        (65, b"error key surface "),
-    ] {
-        let mut disk = left_by(alloc, "full", b"")?;
-        let mut keys = KEYS.to_vec(alloc)?;
-        if place < keys.len() {
-            keys[place] = b'7';
-        }
-        let (status, put) = ran_on(alloc, "full", &keys, b"", &mut disk)?;
-        assert_eq!(rt; status, 9);
-        assert!(rt; put.as_slice().starts_with(head));
-        assert_eq!(rt; put.as_slice().len(), head.len().saturating_add(130));
-    }
-    Ok(())
-}
-
-// How often an update was answered.
-fn acknowledged(put: &[u8]) -> usize {
-    put.windows(3)
-        .filter(|bytes| *bytes == b"ok ".as_slice())
-        .count()
-}
-
-/// Where a call of the disk fails the run says so, and what is left has the updates that were
-/// answered, or one more.
-#[test]
-fn a_fault_at_each_call(rt: HostRuntime) -> Result<(), Fail> {
-    let alloc = rt.alloc();
-    let script = b"enrol a\nenrol b\ncreate f a,b 2\nxy\n";
-    let calls = left_by(alloc, "delta", script)?.calls();
-    for call in 0..calls {
-        let mut disk = MemDisk::new(alloc);
-        disk.fail_at(call)?;
-        let (status, put) = ran_on(alloc, "delta", KEYS, script, &mut disk)?;
-        assert_eq!(rt; status, 4);
-        assert!(rt; put.as_slice().ends_with(b"error disk\n"));
-        let least = acknowledged(put.as_slice());
-        for tear in [Tear::Old, Tear::New, Tear::Fill(0), Tear::Fill(1)] {
-            let mut left = disk.image(disk.calls(), tear)?;
-            let (status, put) = ran_on(alloc, "delta", KEYS, b"", &mut left)?;
-            assert_eq!(rt; status, 0);
-            let one = format!(in alloc; "end epoch {least}\n")?;
-            let more = least.saturating_add(1);
-            let other = format!(in alloc; "end epoch {more}\n")?;
-            assert!(rt; put.as_slice() == one.as_bytes() || put.as_slice() == other.as_bytes());
-        }
-    }
-    Ok(())
+    assert_other_key(&rt, rt.alloc(), 0, OTHER_BASE)?;
+    assert_other_key(&rt, rt.alloc(), 65, OTHER_SURFACE)
 }

@@ -1,134 +1,86 @@
 //! Faults of sources and sinks, and the longest script.
-ghost use Rattle.std.specs.Prelude.{None};
-
-use super::{key_file, ran, sink, source, words};
-use crate::run::run;
+use super::running::{Pieces, Wants, assert_ended, key_bytes, ran, words};
 use ov_base::limits::MAX_SCRIPT_BYTES;
 use ov_disk::MemDisk;
-use ov_io::{Fault, Sink, Source};
+use std::alloc::Global;
+use std::process::Abort;
 use std::test::Fail;
+
+// Runs a script over a new disk.
+fn ran_anew(alloc: Global, words: &[String], input: Pieces<'_>, out: &mut Wants<'_>) -> u8 {
+    let mut disk = MemDisk::new(alloc);
+    let keys = Pieces::of(key_bytes(), 50);
+    let code = ran(alloc, words, keys, input, out, &mut disk);
+    drop(disk);
+    code
+}
+
+// Asserts what is put where this read fails. In pieces of 8 the script comes with two calls, and
+// the third finds its end.
+fn assert_read(rt: &impl Abort, alloc: Global, words: &[String], call: u64, lines: &[u8]) {
+    let mut input = Pieces::of(b"enrol a\nenrol b\n", 8);
+    input.fails = call;
+    let mut out = Wants::of(lines);
+    let code = ran_anew(alloc, words, input, &mut out);
+    assert_ended(rt, code, &out, 5);
+}
 
 #[test]
 fn a_read_fails(rt: HostRuntime) -> Result<(), Fail> {
-    let alloc = rt.alloc();
-    // In pieces of 8 the script comes with two calls, and the third finds its end.
-    let rows = [
-        (0u8, b"error read\n".as_slice()),
-        (1, b"ok 1\nerror read\n"),
-        (2, b"ok 1\nok 2\nerror read\n"),
-    ];
-    for (call, lines) in rows {
-        let mut out = sink(alloc, b"")?;
-        assert_eq!(rt; ran(alloc, b"enrol a\nenrol b\n", 8, &[call], &mut out)?, 5);
-        assert_eq!(rt; out.written(), lines);
-    }
+    let words = words(rt.alloc(), &["run", "full"])?;
+    assert_read(&rt, rt.alloc(), &words, 0, b"error read\n");
+    assert_read(&rt, rt.alloc(), &words, 1, b"ok 1\nerror read\n");
+    assert_read(&rt, rt.alloc(), &words, 2, b"ok 1\nok 2\nerror read\n");
     Ok(())
+}
+
+// Asserts that where the first put behind these lines fails, nothing else is put.
+fn assert_write(rt: &impl Abort, alloc: Global, words: &[String], lines: &[u8], puts: u64) {
+    let mut out = Wants::of(lines);
+    let code = ran_anew(alloc, words, Pieces::of(b"enrol a\nenrol a\n", 8), &mut out);
+    assert_ended(rt, code, &out, 6);
+    assert_eq!(rt; out.puts, puts);
 }
 
 #[test]
 fn a_write_fails(rt: HostRuntime) -> Result<(), Fail> {
-    let alloc = rt.alloc();
-    let rows = [
-        (0u8, b"".as_slice()),
-        (1, b"ok 1\n"),
-        (2, b"ok 1\nrefused 1 Taken\n"),
-    ];
-    for (call, lines) in rows {
-        let mut out = sink(alloc, &[call])?;
-        assert_eq!(rt; ran(alloc, b"enrol a\nenrol a\n", 8, b"", &mut out)?, 6);
-        assert_eq!(rt; out.written(), lines);
-    }
-    let mut out = sink(alloc, &[0])?;
-    let mut input = source(alloc, b"", 8, b"")?;
-    let words = words(alloc, "half")?;
-    let mut keys = key_file(alloc)?;
-    let mut disk = MemDisk::new(alloc);
-    assert_eq!(rt;
-        run(alloc, &words, &mut keys, &mut input, &mut out, &mut disk),
-        6
-    );
+    let words = words(rt.alloc(), &["run", "full"])?;
+    assert_write(&rt, rt.alloc(), &words, b"", 1);
+    assert_write(&rt, rt.alloc(), &words, b"ok 1\n", 2);
+    assert_write(&rt, rt.alloc(), &words, b"ok 1\nrefused 1 Taken\n", 3);
     Ok(())
 }
 
-// Makes one line over and over, up to so many bytes, and holds none of them.
-#[derive(Drop)]
-struct Repeats {
-    line: [u8; 64],
-    left: u64,
+#[test]
+fn a_write_of_other_words_fails(rt: HostRuntime) -> Result<(), Fail> {
+    let words = words(rt.alloc(), &["run", "half"])?;
+    assert_write(&rt, rt.alloc(), &words, b"", 1);
+    Ok(())
 }
 
-impl Source for Repeats {
-    ghost left = { λ _. None };
-
-    ghost faults = { λ _. 0 };
-
-    ghost borrow = { λ _. 0 };
-
-    ghost takes = { λ _ _. Unit {0} };
-
-    fn take(&mut self, buf: &mut [u8]) -> Result<usize, Fault> {
-        let (_, rest) = self.line.split_at((64 - self.left % 64) as usize % 64);
-        let count = rest.len().min(buf.len()).min(self.left as usize);
-        buf[..count].copy_from_slice(&rest[..count]);
-        self.left -= count as u64;
-        Ok(count)
-    }
-}
-
-// Keeps what was put last.
-#[derive(Drop)]
-struct Last {
-    bytes: Vec<u8>,
-    faults: u64,
-}
-
-impl Sink for Last {
-    ghost written = { λ _. None };
-
-    ghost faults = { λ s. s.faults };
-
-    ghost borrow = { λ _. 0 };
-
-    ghost puts = { λ _ _. Unit {0} };
-
-    fn put(&mut self, bytes: &[u8]) -> Result<(), Fault> {
-        self.bytes.clear();
-        if self.bytes.extend_from_slice(bytes).is_err() {
-            self.faults = self.faults.saturating_add(1);
-            return Err(Fault);
-        }
-        Ok(())
-    }
+// Asserts how a script ends that is one line of 64 bytes over and over.
+fn assert_ends(
+    rt: &impl Abort,
+    alloc: Global,
+    words: &[String],
+    count: u32,
+    status: u8,
+    lines: &[u8],
+) {
+    let line = b"enrol aaaaaaaaaaaaaaaaaaaaaaaaaaaaaaaaaaaaaaaaaaaaaaaaaaaaaaaaa\n";
+    let mut input = Pieces::of(line, 4096);
+    input.again = count.saturating_sub(1);
+    let mut out = Wants::of(lines);
+    out.aside = b"refused 1 Taken\n";
+    let code = ran_anew(alloc, words, input, &mut out);
+    assert_ended(rt, code, &out, status);
 }
 
 #[test]
 fn the_limit_of_a_script(rt: HostRuntime) -> Result<(), Fail> {
-    let alloc = rt.alloc();
-    let line = *b"enrol aaaaaaaaaaaaaaaaaaaaaaaaaaaaaaaaaaaaaaaaaaaaaaaaaaaaaaaaa\n";
-    let rows = [
-        (0, 0u8, b"end epoch 1\n".as_slice()),
-        (64, 11, b"error long\n"),
-    ];
-    for (more, status, last) in rows {
-        let left = u64::from(MAX_SCRIPT_BYTES) + more;
-        let mut input = Repeats { line, left };
-        let mut out = Last {
-            bytes: Vec::new(alloc),
-            faults: 0,
-        };
-        let mut disk = MemDisk::new(alloc);
-        assert_eq!(rt;
-            run(
-                alloc,
-                &words(alloc, "full")?,
-                &mut key_file(alloc)?,
-                &mut input,
-                &mut out,
-                &mut disk,
-            ),
-            status
-        );
-        assert_eq!(rt; out.bytes.as_slice(), last);
-    }
+    let words = words(rt.alloc(), &["run", "full"])?;
+    let most = MAX_SCRIPT_BYTES / 64;
+    assert_ends(&rt, rt.alloc(), &words, most, 0, b"ok 1\nend epoch 1\n");
+    assert_ends(&rt, rt.alloc(), &words, most + 1, 11, b"ok 1\nerror long\n");
     Ok(())
 }
