@@ -162,6 +162,22 @@ def stores_that_do_not_open():
         assert files_of(folder) == before
 
 
+def records_that_are_not_the_owners():
+    """A tag, a token and a file's byte that somebody else wrote: the record's place is named."""
+    good = new_folder()
+    expect(run(good, b"enrol a\nenrol b\ncreate f a 1\nx\ngrant b f\n"), 0, b"ok 1\nok 2\nok 3\nok 4\nend epoch 4\n")
+    book = (good / "store.book").read_bytes()
+    creation, grant = 94, 173
+    assert book[creation] == book[grant] == 1
+    for place, gate in [(136, creation), (167, creation), (172, creation), (188, grant), (219, grant)]:
+        (good / "store.book").write_bytes(book[:place] + bytes([book[place] ^ 1]) + book[place + 1 :])
+        before = files_of(good)
+        expect(run(good, b"enrol c\n"), 8, b"error damaged book %d\n" % gate)
+        assert files_of(good) == before
+    (good / "store.book").write_bytes(book)
+    expect(run(good), 0, b"end epoch 4\n")
+
+
 def key_files_that_are_none():
     for content in (b"", b"0" * 64, b"0" * 64 + b"\n" + b"0" * 64 + b"\n", b"x" * 200):
         folder = new_folder()
@@ -274,6 +290,7 @@ cases = [
     writes_that_fail,
     memory_that_is_refused,
     stores_that_do_not_open,
+    records_that_are_not_the_owners,
     key_files_that_are_none,
     closed_streams,
     two_at_once,
