@@ -1,23 +1,39 @@
 //! The pad over a buffer, four blocks at a time, and a block at a time beside them.
 
-ghost use Rattle.std.specs.Prelude.{ℕ, ◌≡◌, ◌<◌, ◌≤◌, ◌+◌, length, slice_index, bit_xor};
-ghost use Rattle.ov_aes.specs.Aes.{aes256};
+ghost use Rattle.std.specs.Prelude.{ℕ, ◌≡◌, ◌<◌, ◌≤◌, ◌+◌, ◌-◌, ◌*◌, ◌/◌, ◌%◌, length, slice_index, bit_xor};
 ghost use Rattle.ov_ctr.specs.Ctr.{pad_byte, xor_pad};
 
 use crate::counter::counter_block;
 use crate::four::apply_groups;
-use ov_aes::LaneAes256;
+use ov_aes::{Aes256, LaneAes256};
 
-// The pad of one block over as many bytes as `piece` has, from the block's byte `skip` on.
-fn apply_block(aes: &LaneAes256, counter: &[u8; 16], skip: usize, piece: &mut [u8])
+// Texts of fewer bytes are done a block at a time: laying out the round keys for four costs more.
+const FEW: usize = 256;
+
+// Adds a block of the pad, from its byte `skip` on, to as many bytes as `piece` has.
+fn add_pad(pad: &[u8; 16], skip: usize, piece: &mut [u8])
     requires { skip + length piece.old ≤ 16 }
     ensures { (i : ℕ) → i < length piece.old → slice_index piece.new i
-        ≡ bit_xor (slice_index piece.old i) (slice_index (aes256 aes.now counter.now) (skip + i)) }
+        ≡ bit_xor (slice_index piece.old i) (slice_index pad.now (skip + i)) }
 {
-    let pad = aes.block(counter);
     for i in 0..piece.len() {
         piece[i] ^= pad[skip + i];
     }
+}
+
+// Adds a block of the pad to the first of these bytes, which stand from `place` on: to those within the
+// block. It gives how many.
+fn add_within(pad: &[u8; 16], place: u64, rest: &mut [u8]) -> usize
+    requires { 0 < length rest.old }
+    ensures count { (0 < result) × (result ≤ length rest.old) × (result ≤ 16 - place % 16) }
+    ensures added { (i : ℕ) → i < result → slice_index rest.new i
+        ≡ bit_xor (slice_index rest.old i) (slice_index pad.now (place % 16 + i)) }
+    ensures after { (i : ℕ) → result ≤ i → slice_index rest.new i ≡ slice_index rest.old i }
+{
+    let skip = (place % 16) as usize;
+    let count = (16 - skip).min(rest.len());
+    add_pad(pad, skip, &mut rest[..count]);
+    count
 }
 
 // The pad over the first of these bytes, which stand from `place` on: where a block begins there, those
@@ -31,17 +47,54 @@ fn apply_some(aes: &LaneAes256, tag: u8, file: u32, place: u64, rest: &mut [u8])
         ≡ bit_xor (slice_index rest.old i) (pad_byte aes.now tag file (place + i)) }
     ensures after { (i : ℕ) → result ≤ i → slice_index rest.new i ≡ slice_index rest.old i }
 {
-    let skip = (place % 16) as usize;
     let room = (4096 - place % 4096) as usize;
     let groups = (room / 64).min(rest.len() / 64);
-    if skip == 0 && 0 < groups {
+    if place % 16 == 0 && 0 < groups {
         apply_groups(aes, tag, file, place / 16, &mut rest[..64 * groups]);
         64 * groups
     } else {
-        let count = (16 - skip).min(rest.len());
         let counter = counter_block(tag, file, place / 16);
-        apply_block(aes, &counter, skip, &mut rest[..count]);
-        count
+        add_within(&aes.block(&counter), place, rest)
+    }
+}
+
+// The same by one block, always.
+fn apply_one(aes: &Aes256, tag: u8, file: u32, place: u64, rest: &mut [u8]) -> usize
+    requires some { 0 < length rest.old }
+    requires place { place + length rest.old ≤ 4294967296 }
+    ensures count { (0 < result) × (result ≤ length rest.old) }
+    ensures applied { (i : ℕ) → i < result → slice_index rest.new i
+        ≡ bit_xor (slice_index rest.old i) (pad_byte aes.now tag file (place + i)) }
+    ensures after { (i : ℕ) → result ≤ i → slice_index rest.new i ≡ slice_index rest.old i }
+{
+    let block = counter_block(tag, file, place / 16);
+    add_within(&aes.block(&block), place, rest)
+}
+
+// The pad over many bytes.
+fn apply_lanes(key: &[u8; 32], tag: u8, file: u32, start: u64, buf: &mut [u8])
+    requires { start + length buf.old ≤ 4294967296 }
+    ensures { buf.new ≡ xor_pad key.now tag file start buf.old }
+{
+    let aes = LaneAes256::new(key);
+    let mut done = 0;
+    while done < buf.len() {
+        let count = apply_some(&aes, tag, file, start + done as u64, &mut buf[done..]);
+        done += count;
+    }
+}
+
+// The pad over few bytes.
+fn apply_blocks(key: &[u8; 32], tag: u8, file: u32, start: u64, buf: &mut [u8])
+    requires { start + length buf.old ≤ 4294967296 }
+    ensures { buf.new ≡ xor_pad key.now tag file start buf.old }
+{
+    let aes = Aes256::new(key);
+    let len = buf.len();
+    let mut done = 0;
+    while done < len {
+        let count = apply_one(&aes, tag, file, start + done as u64, &mut buf[done..]);
+        done += count;
     }
 }
 
@@ -52,16 +105,15 @@ fn apply_some(aes: &LaneAes256, tag: u8, file: u32, place: u64, rest: &mut [u8])
 /// the number `file` in 4 bytes and the block's number from 0 in 8, the highest byte first.
 ///
 /// The key is expanded once a call, and each block of the pad that the bytes meet is computed once:
-/// four at a time where the bytes have so many whole blocks, and else alone. What the first two
+/// four at a time where many bytes have so many whole blocks, and else alone. What the first two
 /// rounds of 256 blocks have in common is computed once for them.
 pub fn apply_at(key: &[u8; 32], tag: u8, file: u32, start: u64, buf: &mut [u8])
     requires { start + length buf.old ≤ 4294967296 }
     ensures { buf.new ≡ xor_pad key.now tag file start buf.old }
 {
-    let aes = LaneAes256::new(key);
-    let mut done = 0;
-    while done < buf.len() {
-        let count = apply_some(&aes, tag, file, start + done as u64, &mut buf[done..]);
-        done += count;
+    if FEW <= buf.len() {
+        apply_lanes(key, tag, file, start, buf);
+    } else if 0 < buf.len() {
+        apply_blocks(key, tag, file, start, buf);
     }
 }

@@ -1,4 +1,4 @@
-use Rattle.std.proofs.Common.{◌≡◌, ◌+◌, ◌-◌, ◌*◌, ◌/◌, ◌∙◌, ap, arith, drop, get_or, length, length-take, refl, take}
+use Rattle.std.proofs.Common.{◌≡◌, ◌+◌, ◌-◌, ◌*◌, ◌/◌, ◌%◌, ◌∙◌, ap, arith, bit_xor, drop, get_or, length, length-take, refl, take}
 use Rattle.std.proofs.lemmas.List.{get_or-append_right, get_or-drop, get_or-take, get_or_append_left}
 use Rattle.ov_ctr.proofs.Places.{pad_in_block}
 use Rattle.ov_ctr.proofs.apply.apply_some.Goals as goal
@@ -26,14 +26,10 @@ returns-then-groups-gt0-clause-after c i ge =
     let place : n + (i - n) ≡ i = omega arith in
     get_or-append_right new (drop n old) n i 0 long ge ∙ get_or-drop n old (i - n) 0 ∙ ap (λ k. get_or old k 0) place
 
-pub returns-else-skip-eq0-clause-applied : goal.returns-else-skip-eq0-clause-applied
-returns-else-skip-eq0-clause-applied c i lt =
-    let old = c.args.rest.now in
-    let n = c.min-count.result in
-    let new = c.apply_block.new.piece in
-    let count : n ≡ _ = c.min-count.ensures in
-    let given : length (take n old) ≡ n = simp length-take (omega (arith, count)) in
-    let long : length new ≡ n = c.apply_block.auto.piece ∙ given in
-    let from = get_or-take n old i 0 lt in
-    let pad = pad_in_block c.args.aes.now c.counter_block-counter.result c.args.tag c.args.file c.args.place i c.counter_block-counter.ensures (omega (arith, count)) in
-    get_or_append_left new (drop n old) 0 i (omega (arith, long)) ∙ c.apply_block.ensures i (omega (arith, given)) ∙ rw (from, pad) refl
+pub returns-else-place-eq0-clause-applied : goal.returns-else-place-eq0-clause-applied
+returns-else-place-eq0-clause-applied c i lt =
+    let old = get_or c.args.rest.now i 0 in
+    let pad = pad_in_block c.args.aes.now c.counter_block-counter.result c.args.tag c.args.file c.args.place i c.counter_block-counter.ensures (omega (arith, lt, c.add_within.ensures.count)) in
+    c.add_within.ensures.added i lt
+    ∙ ap (λ pads. bit_xor old (get_or pads (c.args.place % 16 + i) 0)) c.block.ensures
+    ∙ ap (bit_xor old) pad

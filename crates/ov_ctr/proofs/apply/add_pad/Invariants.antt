@@ -1,5 +1,5 @@
 use Rattle.std.proofs.Common.{◌≡◌, ℕ, ◌<◌, ◌≤◌, ◌+◌, get_or, bit_xor}
-use Rattle.ov_ctr.proofs.apply.apply_block.Given as goal
+use Rattle.ov_ctr.proofs.apply.add_pad.Given as goal
 
 abbrev pub invariant-loop-i : goal.invariant-loop-i
 invariant-loop-i l =

@@ -1,6 +1,6 @@
 use Rattle.std.proofs.Common.{◌≡◌, ℕ, ◌<◌, ◌≤◌, ◌+◌, ◌-◌, length, get_or, bit_xor}
 use Rattle.ov_ctr.specs.Ctr.{pad_byte}
-use Rattle.ov_ctr.proofs.apply.apply_at.Given as goal
+use Rattle.ov_ctr.proofs.apply.apply_lanes.Given as goal
 
 abbrev pub invariant-loop-done : goal.invariant-loop-done
 invariant-loop-done l = record {
