@@ -7,6 +7,7 @@ pub mod Refusals
 pub mod Briefs
 pub mod Catalogue
 pub mod Rewrites
+pub mod Asking
 pub mod Masters
 pub mod Sealed
 pub mod Sealing

@@ -22,7 +22,7 @@ use ov_tokens::{Base, Chain, Kind, Label, Layer, Step, Steps, Surface, Token, ac
 use std::alloc::Global;
 
 /// The root of a user: the node of the user alone.
-fn root<L: Layer, G: Graph<L, W>, const W: usize>(graph: &G, user: u32) -> u32
+pub fn root<L: Layer, G: Graph<L, W>, const W: usize>(graph: &G, user: u32) -> u32
     requires width { (1 ≤ W) × (W ≤ MAX_SET_WORDS) }
     requires user { user < 64 * W }
     requires there { Contains (G.contents graph.now).sets (single user) }

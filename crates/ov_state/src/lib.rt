@@ -65,6 +65,7 @@
 //! Nothing is claimed of secrecy, nor that memory isn't refused.
 #![tactic(auto)]
 
+mod asking;
 mod brief;
 mod chained;
 mod chains;
@@ -87,6 +88,7 @@ mod state;
 #[cfg(test)]
 mod tests;
 
+pub use asking::{Asked, Planned};
 pub use brief::Brief;
 pub use chained::Chained;
 pub use chains::access_key_by;

@@ -56,7 +56,7 @@ fn tokens_place(name: &Name, words: usize) -> u32
 
 impl<B: Graph<Base, W>, S: Graph<Surface, W>, const W: usize> State<B, S, W> {
     /// Why an enrolment is refused, if it is.
-    fn refusal_enrol(&self, name: &Name) -> Option<Refusal>
+    pub(crate) fn refusal_enrol(&self, name: &Name) -> Option<Refusal>
         ensures { result ≡ refusal_shown self.now.catalogue (BriefEnrol name.now) }
     {
         self.known();
