@@ -1,0 +1,114 @@
+"""Counts what has to be read to know what a contract says: the definitions of specs/ that its clauses
+name, those that these name, and so on, through all crates. Types of the code and the kit's own
+definitions aren't counted.
+
+    python3 tools/definition_lines.py CRATE FUNCTION [TYPE]   # definitions, lines, and lines by crate
+    python3 tools/definition_lines.py page                    # is docs/PROVED.md right? Names each row that isn't
+
+TYPE is the type or the trait of a method, where a crate has several functions of the name.
+"""
+import collections
+import pathlib
+import re
+import sys
+
+ROOT = pathlib.Path(__file__).resolve().parent.parent
+PAGE = ROOT / "docs" / "PROVED.md"
+WORD = re.compile(r"[^\s(){},.:×→⊎≡≢;λ\[\]|]+")
+IMPORT = re.compile(r"use Rattle\.([\w.]+?)\.\{([^}]*)\}")
+DEFINITION = re.compile(r"^\s{0,2}(?:abbrev|unfoldable|pub record|pub data)\s+(?:pub\s+)?([^\s:({]+)")
+
+
+def imports_of(text):
+    """By the name that a file uses, the module and the name there."""
+    found = {}
+    for module, names in IMPORT.findall(text):
+        for name in filter(None, map(str.strip, names.split(","))):
+            there, _, here = name.partition(" as ")
+            found[(here or there).strip()] = (module, there.strip())
+    return found
+
+
+def definitions_of(text):
+    """The lines of each definition of a file, without comments."""
+    found, lines = {}, None
+    for line in text.split("\n"):
+        begins = DEFINITION.match(line)
+        if begins:
+            lines = found.setdefault(begins.group(1), [])
+        if lines is not None and line.strip() and not line.startswith(("--", "use", "pub use")):
+            lines.append(line)
+    return found
+
+
+def all_specs():
+    for path in ROOT.glob("crates/*/specs/*.antt"):
+        if path.stem != "Lib":
+            text = path.read_text()
+            yield f"{path.parent.parent.name}.specs.{path.stem}", (definitions_of(text), imports_of(text))
+
+
+SPECS = dict(all_specs())
+
+
+def file_with(crate, function, owner):
+    """The text of the source file that has the function, and where the function begins in it."""
+    begins = re.compile(rf"\bfn {function}\b")
+    for path in sorted((ROOT / "crates" / crate / "src").glob("*.rt")):
+        text = path.read_text()
+        found = begins.search(text)
+        if found and path.stem != "tests":
+            heads = [line for line in text[: found.start()].split("\n") if line.startswith(("impl", "pub trait"))]
+            if owner is None or heads and re.search(rf"\b{owner}\b", heads[-1]):
+                return text, found.start()
+    sys.exit(f"{crate} has no function {owner or ''} {function}")
+
+
+def reading_of(crate, function, owner=None):
+    """The lines of all definitions that have to be read, by crate, and how many definitions they are."""
+    text, start = file_with(crate, function, owner)
+    contract = re.split(r"\n\s*\{|;\n", text[start:], maxsplit=1)[0]
+    imports = imports_of(text)
+    waiting = [imports[word] for word in WORD.findall(contract) if word in imports]
+    seen, lines, count = set(), collections.Counter(), 0
+    while waiting:
+        module, name = waiting.pop()
+        if (module, name) in seen:
+            continue
+        seen.add((module, name))
+        definitions, imported = SPECS.get(module, ({}, {}))
+        if name not in definitions:
+            continue
+        count += 1
+        lines[module.split(".")[0]] += len(definitions[name])
+        for word in set(WORD.findall("\n".join(definitions[name]))):
+            if word in definitions:
+                waiting.append((module, word))
+            elif word in imported:
+                waiting.append(imported[word])
+    return count, lines
+
+
+def page():
+    """Rows end in `FUNCTION` (CRATE) and the number of lines."""
+    wrong = rows = 0
+    for line in PAGE.read_text().split("\n"):
+        for name, crate, number in re.findall(r"\| `([\w:]+)`[^|]* \((\w+)\) \| ([\d,]+) \|$", line):
+            owner, _, function = name.rpartition("::")
+            counted = sum(reading_of(crate, function, owner or None)[1].values())
+            rows += 1
+            if counted != int(number.replace(",", "")):
+                print(f"{name} of {crate}: {number} on the page, {counted} counted")
+                wrong += 1
+    print(f"{rows} rows, {wrong} wrong")
+    sys.exit(1 if wrong or not rows else 0)
+
+
+if sys.argv[1:] == ["page"]:
+    page()
+elif len(sys.argv) in (3, 4):
+    count, lines = reading_of(*sys.argv[1:])
+    by_crate = ", ".join(f"{crate} {number}" for crate, number in sorted(lines.items()))
+    print(f"{count} definitions, {sum(lines.values())} lines: {by_crate}")
+else:
+    sys.exit(__doc__)
