@@ -115,26 +115,35 @@ def run_page(page, have):
     return ran, left, wrong
 
 
+def script_of(name):
+    """The script of this name in examples/, or the one that a program of tools/ makes."""
+    script = ROOT / "examples" / f"{name}.script"
+    if script.exists():
+        return script.read_bytes()
+    maker = [sys.executable, ROOT / "tools" / f"{name}_script.py"]
+    return subprocess.run(maker, stdout=subprocess.PIPE, check=True).stdout
+
+
 def run_examples(have):
-    """Each script of examples/ that has replies beside it, from an empty store, in both modes where
-    they are for both."""
+    """Each script that has replies beside it, from an empty store, in both modes."""
     ran = left = wrong = 0
     for replies in sorted((ROOT / "examples").glob("*.replies")):
-        name, _, mode = replies.stem.partition("@")
         if "program" not in have:
             left += 1
             continue
-        for mode in [mode] if mode else ["full", "delta"]:
+        for mode in ("full", "delta"):
             folder = new_folder()
             shutil.copy(ROOT / "examples" / "keys.hex", folder)
-            with open(ROOT / "examples" / f"{name}.script", "rb") as script:
-                done = subprocess.run(
-                    [f"{BASE}/bin/overstore", "run", mode], cwd=folder, stdin=script, stdout=subprocess.PIPE
-                )
+            done = subprocess.run(
+                [f"{BASE}/bin/overstore", "run", mode],
+                cwd=folder,
+                input=script_of(replies.stem),
+                stdout=subprocess.PIPE,
+            )
             ran += 1
             if done.returncode != 0 or done.stdout != replies.read_bytes():
                 wrong += 1
-                print(f"examples/{name}.script, {mode}: status {done.returncode}, other replies")
+                print(f"{replies.stem}, {mode}: status {done.returncode}, other replies")
     return ran, left, wrong
 
 
