@@ -76,13 +76,15 @@ def new_folder():
     return folder
 
 
-def shell(command, folder, place):
-    """What a command prints, the status, and the folder where it ends: `cd` lasts as in a terminal."""
-    last = folder / ".place"
-    whole = f"cd '{place}'\n{command}\nstatus=$?; pwd > '{last}'; exit $status"
+def shell(command, folder, place, status):
+    """What a command prints, the folder where it ends, and its status: `cd` and `$?` last as in a
+    terminal."""
+    last = folder / ".last"
+    whole = f"cd '{place}'\n(exit {status})\n{command}\nstatus=$?\necho $status $PWD > '{last}'\n"
     environment = dict(os.environ, PATH=f"{BASE}/bin:{os.environ['PATH']}")
     done = subprocess.run(["bash", "-c", whole], env=environment, stdout=subprocess.PIPE, stderr=subprocess.STDOUT)
-    return done.stdout.decode(), pathlib.Path(last.read_text().strip()) if last.exists() else place
+    status, _, place = last.read_text().strip().partition(" ")
+    return done.stdout.decode(), pathlib.Path(place), status
 
 
 def without_kit(text):
@@ -106,8 +108,9 @@ def run_page(page, have):
         for name, text in files.items():
             (folder / name).write_text(text)
         ran += 1
+        status = "0"
         for command, expected in commands:
-            printed, place = shell(command, folder, place)
+            printed, place, status = shell(command, folder, place, status)
             printed = without_kit(printed)
             if expected is not None and printed != expected:
                 wrong += 1
