@@ -28,7 +28,7 @@ import tempfile
 ROOT = pathlib.Path(__file__).resolve().parent.parent
 PAGES = [ROOT / "README.md", *sorted((ROOT / "docs").glob("*.md")), ROOT / "examples" / "README.md"]
 MARK = re.compile(r"<!-- (run|file)(?:: (.*?))? -->")
-NEEDS = ("program", "kit")
+NEEDS = {"program", "kit"}
 
 
 def blocks_of(page):
@@ -55,18 +55,19 @@ def runs_of(page):
     for place, (line, mark, language, text) in enumerate(blocks):
         if mark is None:
             continue
-        kind, words = mark[0], (mark[1] or "").split(", ") if mark[1] else []
-        if kind == "file":
-            files[words[0]] = text
-        elif language == "console":
+        if mark[0] == "file":
+            files[mark[1]] = text
+            continue
+        words = set(mark[1].split(", ")) if mark[1] else set()
+        assert words <= NEEDS | {"on"}, f"{page.name}:{line}: {mark[1]}"
+        if language == "console":
             parts = re.split(r"^\$ ", text, flags=re.M)[1:]
             yield line, words, files, [part.partition("\n")[::2] for part in parts]
-            files = {}
         else:
             after = blocks[place + 1] if place + 1 < len(blocks) else None
             printed = after[3] if after and after[1] is None and after[2] == "" else None
             yield line, words, files, [(text, printed)]
-            files = {}
+        files = {}
 
 
 def new_folder():
@@ -82,7 +83,13 @@ def shell(command, folder, place, status):
     last = folder / ".last"
     whole = f"cd '{place}'\n(exit {status})\n{command}\nstatus=$?\necho $status $PWD > '{last}'\n"
     environment = dict(os.environ, PATH=f"{BASE}/bin:{os.environ['PATH']}")
-    done = subprocess.run(["bash", "-c", whole], env=environment, stdout=subprocess.PIPE, stderr=subprocess.STDOUT)
+    done = subprocess.run(
+        ["bash", "-c", whole],
+        env=environment,
+        stdin=subprocess.DEVNULL,
+        stdout=subprocess.PIPE,
+        stderr=subprocess.STDOUT,
+    )
     status, _, place = last.read_text().strip().partition(" ")
     return done.stdout.decode(), pathlib.Path(place), status
 
@@ -96,7 +103,7 @@ def run_page(page, have):
     ran = left = wrong = 0
     folder = place = None
     for line, words, files, commands in runs_of(page):
-        if any(word in NEEDS and word not in have for word in words):
+        if words & NEEDS - have:
             left += 1
             continue
         if "on" not in words or folder is None:
@@ -112,9 +119,10 @@ def run_page(page, have):
         for command, expected in commands:
             printed, place, status = shell(command, folder, place, status)
             printed = without_kit(printed)
-            if expected is not None and printed != expected:
+            if printed != expected if expected is not None else status != "0":
                 wrong += 1
-                print(f"{page.relative_to(ROOT)}:{line}: {command.strip()}\n--- the page\n{expected}--- printed\n{printed}")
+                print(f"{page.relative_to(ROOT)}:{line}: {command.strip()}: status {status}")
+                print(f"--- the page\n{expected}--- printed\n{printed}")
     return ran, left, wrong
 
 
