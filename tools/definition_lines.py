@@ -4,6 +4,7 @@ definitions aren't counted.
 
     python3 tools/definition_lines.py CRATE FUNCTION [TYPE]   # definitions, lines, and lines by crate
     python3 tools/definition_lines.py page                    # is docs/PROVED.md right? Names each row that isn't
+    python3 tools/definition_lines.py page write              # puts the right numbers there
 
 TYPE is the type or the trait of a method, where a crate has several functions of the name.
 """
@@ -89,23 +90,31 @@ def reading_of(crate, function, owner=None):
     return count, lines
 
 
-def page():
-    """Rows end in `FUNCTION` (CRATE) and the number of lines."""
-    wrong = rows = 0
-    for line in PAGE.read_text().split("\n"):
-        for name, crate, number in re.findall(r"\| `([\w:]+)`[^|]* \((\w+)\) \| ([\d,]+) \|$", line):
-            owner, _, function = name.rpartition("::")
-            counted = sum(reading_of(crate, function, owner or None)[1].values())
-            rows += 1
-            if counted != int(number.replace(",", "")):
-                print(f"{name} of {crate}: {number} on the page, {counted} counted")
-                wrong += 1
-    print(f"{rows} rows, {wrong} wrong")
-    sys.exit(1 if wrong or not rows else 0)
+ROW = re.compile(r"(\| `([\w:]+)`[^|]* \((\w+)\) \| )([\d,]+) \|$", re.M)
 
 
-if sys.argv[1:] == ["page"]:
-    page()
+def right_row(row):
+    """The row with the right number; it ends in `FUNCTION` (CRATE) and the number of lines."""
+    front, name, crate, _ = row.groups()
+    owner, _, function = name.rpartition("::")
+    return f"{front}{sum(reading_of(crate, function, owner or None)[1].values()):,} |"
+
+
+def page(write):
+    text = PAGE.read_text()
+    rows = list(ROW.finditer(text))
+    wrong = [row for row in rows if row.group(0) != right_row(row)]
+    for row in wrong:
+        print(f"on the page {row.group(0)}, counted {right_row(row)}")
+    print(f"{len(rows)} rows, {len(wrong)} wrong")
+    if write:
+        PAGE.write_text(ROW.sub(right_row, text))
+    elif wrong or not rows:
+        sys.exit(1)
+
+
+if sys.argv[1:] in (["page"], ["page", "write"]):
+    page(write="write" in sys.argv)
 elif len(sys.argv) in (3, 4):
     count, lines = reading_of(*sys.argv[1:])
     by_crate = ", ".join(f"{crate} {number}" for crate, number in sorted(lines.items()))
