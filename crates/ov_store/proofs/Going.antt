@@ -163,9 +163,9 @@ module _ {D : Type 0} (reads : D → Option Image) (may_leave : D → Image → 
         let g = safe.some_history.0 in
         let serves = safe.some_history.1 in
         let either : (i x : Image) → reads d0 ≡ Some i → may_leave d1 x
-            → IsBeforeOrAfter (may_leave d0) i body x =
+        → IsBeforeOrAfter (may_leave d0) i body x =
         λ i x read left. (adds.leaves i read).each x
-            (counts_now (moment d0) x (adds.leaves i read).later left) in
+        (counts_now (moment d0) x (adds.leaves i read).later left) in
         record {
           whole = whole;
           count = omega (

@@ -19,7 +19,7 @@ write_at-requires-2 g c k is =
 pub returns-in_err-write_at-clause-any_moment : goal.returns-in_err-write_at-clause-any_moment
 returns-in_err-write_at-clause-any_moment g c = record {
   leaves = λ i is.
-    let begun : Begun g.D.Disk.moment g.D.Disk.left_since g.D.Disk.may_leave c.args.disk.now (Appends (g.D.Disk.may_leave c.args.disk.now) i c.args.end c.args.body.now c.deref.result.now) =
+      let begun : Begun g.D.Disk.moment g.D.Disk.left_since g.D.Disk.may_leave c.args.disk.now (Appends (g.D.Disk.may_leave c.args.disk.now) i c.args.end c.args.body.now c.deref.result.now) =
       record {
         only_now = g.met.D.Disk.only_now c.args.disk.now;
         held = record { mine = g.met.D.Disk.reads_one c.args.disk.now i is; stands = c.requires.stands i is; size = c.requires.fits.can_be; is_frame = c.deref.ensures.value ∙ c.fill.ensures.bytes };
@@ -31,7 +31,7 @@ returns-in_err-write_at-clause-any_moment g c = record {
 pub returns-in_err-sync-clause-any_moment : goal.returns-in_err-sync-clause-any_moment
 returns-in_err-sync-clause-any_moment g c = record {
   leaves = λ i is.
-    let begun : Begun g.D.Disk.moment g.D.Disk.left_since g.D.Disk.may_leave c.args.disk.now (Appends (g.D.Disk.may_leave c.args.disk.now) i c.args.end c.args.body.now c.deref.result.now) =
+      let begun : Begun g.D.Disk.moment g.D.Disk.left_since g.D.Disk.may_leave c.args.disk.now (Appends (g.D.Disk.may_leave c.args.disk.now) i c.args.end c.args.body.now c.deref.result.now) =
       record {
         only_now = g.met.D.Disk.only_now c.args.disk.now;
         held = record { mine = g.met.D.Disk.reads_one c.args.disk.now i is; stands = c.requires.stands i is; size = c.requires.fits.can_be; is_frame = c.deref.ensures.value ∙ c.fill.ensures.bytes };
@@ -43,7 +43,7 @@ returns-in_err-sync-clause-any_moment g c = record {
 pub returns-in_err-write_at-2-clause-any_moment : goal.returns-in_err-write_at-2-clause-any_moment
 returns-in_err-write_at-2-clause-any_moment g c = record {
   leaves = λ i is.
-    let begun : Begun g.D.Disk.moment g.D.Disk.left_since g.D.Disk.may_leave c.args.disk.now (Appends (g.D.Disk.may_leave c.args.disk.now) i c.args.end c.args.body.now c.deref.result.now) =
+      let begun : Begun g.D.Disk.moment g.D.Disk.left_since g.D.Disk.may_leave c.args.disk.now (Appends (g.D.Disk.may_leave c.args.disk.now) i c.args.end c.args.body.now c.deref.result.now) =
       record {
         only_now = g.met.D.Disk.only_now c.args.disk.now;
         held = record { mine = g.met.D.Disk.reads_one c.args.disk.now i is; stands = c.requires.stands i is; size = c.requires.fits.can_be; is_frame = c.deref.ensures.value ∙ c.fill.ensures.bytes };
@@ -58,7 +58,7 @@ returns-in_err-write_at-2-clause-any_moment g c = record {
 pub returns-clause-any_moment : goal.returns-clause-any_moment
 returns-clause-any_moment g c = record {
   leaves = λ i is.
-    let begun : Begun g.D.Disk.moment g.D.Disk.left_since g.D.Disk.may_leave c.args.disk.now (Appends (g.D.Disk.may_leave c.args.disk.now) i c.args.end c.args.body.now c.deref.result.now) =
+      let begun : Begun g.D.Disk.moment g.D.Disk.left_since g.D.Disk.may_leave c.args.disk.now (Appends (g.D.Disk.may_leave c.args.disk.now) i c.args.end c.args.body.now c.deref.result.now) =
       record {
         only_now = g.met.D.Disk.only_now c.args.disk.now;
         held = record { mine = g.met.D.Disk.reads_one c.args.disk.now i is; stands = c.requires.stands i is; size = c.requires.fits.can_be; is_frame = c.deref.ensures.value ∙ c.fill.ensures.bytes };
