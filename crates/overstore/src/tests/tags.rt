@@ -30,7 +30,9 @@ impl Flips<'_> {
     }
 
     // Changes the byte, where it lies in what was read for the first time.
-    fn flip(&mut self, at: usize, buf: &mut [u8]) {
+    fn flip(&mut self, at: usize, buf: &mut [u8])
+        ensures { self.new.calls ≡ self.old.calls }
+    {
         if self.given || self.place < at {
             return;
         }
