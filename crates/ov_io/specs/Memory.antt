@@ -1,5 +1,6 @@
 -- A source and a sink in memory.
-use Rattle.std.specs.Prelude.{◌≡◌, ℕ, ◌+◌, ◌-◌, ◌^◌, ◌≤◌, List, ◌++◌, length, min, Contains, Result, MatchResult}
+use Rattle.std.specs.Prelude.{◌≡◌, ℕ, ◌+◌, ◌-◌, ◌^◌, ◌≤◌, List, ◌++◌, length, min, Contains}
+use Rattle.std.specs.Prelude.{Result, MatchResult}
 
 -- What is left of a source's bytes, how many of them a call gives at most, the numbers of the calls
 -- that fail, how many calls there were, and how many of them failed.

@@ -20,9 +20,9 @@ returns-clause-step c =
       given = (
         take c.give-count.result c.give-count.new.to,
         let size : length (take c.give-count.result c.give-count.new.to) ≡ min c.give-count.result (length c.give-count.new.to)
-        = length-take c.give-count.result c.give-count.new.to in
-        let piece : c.args.self.now.piece ≡ c.self.inside.piece = sym (ap (λ (r : Reads). r.piece) c.self.view_is) in
-        omega (arith, size, count, piece),
+            = length-take c.give-count.result c.give-count.new.to in
+            let piece : c.args.self.now.piece ≡ c.self.inside.piece = sym (ap (λ (r : Reads). r.piece) c.self.view_is) in
+            omega (arith, size, count, piece),
         told ∙ rw (← c.as_slice.ensures) (drop_consumed _ _ _ _ _ c.split_at.ensures.back c.give-count.ensures.bytes),
       );
     }
