@@ -1,10 +1,8 @@
 //! Updates, which are written down before they are made.
 ghost use Rattle.std.specs.Prelude.{◌≡◌, OnOk, IsErrOf};
-ghost use Rattle.ov_disk.specs.Disk.{Told};
-ghost use Rattle.ov_disk.specs.Moments.{LeavesOnly};
 ghost use Rattle.ov_journal.specs.Book.{contents_of, with_body};
-ghost use Rattle.ov_journal.specs.Lasting.{IsAcknowledged};
-ghost use Rattle.ov_journal.specs.Log.{IsBeforeOrAfter, Stands};
+ghost use Rattle.ov_journal.specs.Lasting.{AddsAtMost, IsAcknowledged};
+ghost use Rattle.ov_journal.specs.Log.{Stands};
 ghost use Rattle.ov_journal.specs.declared.fault.CheckFault.TheVariants.{Disk as DiskFailed};
 ghost use Rattle.ov_record.specs.Updates.{sealed_update};
 ghost use Rattle.ov_history.specs.Briefs.{brief};
@@ -28,9 +26,8 @@ use std::alloc::Global;
 fn keep<D: Disk>(disk: &mut D, journal: &mut Journal, body: &[u8]) -> Result<(), CheckFault>
     requires body { MayKeep body.now journal.old }
     requires stands { Stands journal.old (D.reads disk.old) (D.may_leave disk.old) }
-    ensures any_moment { Told (D.reads disk.old) (λ i.
-        LeavesOnly D.moment D.left_since disk.old disk.new
-        (IsBeforeOrAfter (D.may_leave disk.old) i body.now)) }
+    ensures any_moment { AddsAtMost D.reads D.may_leave D.moment D.left_since body.now
+        disk.old disk.new }
     ensures acknowledged { OnOk result
         (IsAcknowledged journal.new (D.reads disk.old) (D.reads disk.new) (D.may_leave disk.new)
         (λ i. with_body body.now (contents_of i.book))) }
