@@ -130,4 +130,9 @@ module _ {D : Type 0} (reads : D → Option Image) (may_leave : D → Image → 
 
   pub opened_found : IsOpened reads may_leave log mode (reads d0)
       (open_with d1 k s.catalogue s.stored)
-  opened_found = record { safe = safe_found; mode_is = mode_found; found = finds }
+  opened_found = record {
+    safe = safe_found;
+    mode_is = mode_found;
+    found = finds;
+    told = λ i read. (i, quiet.reads_same ∙ read);
+  }

@@ -71,6 +71,10 @@ module _ {D : Type 0} (reads : D → Option Image) (may_leave : D → Image → 
 
     pub born_none : (log : Log) → log.bad ≡ false → length log.offsets ≡ 0
         → Stands log (reads d1) (may_leave d1)
-        → IsBornStore reads may_leave log mode first (open_with d1 k c stored)
-    born_none log whole count stands =
-        record { safe = safe_none log whole count stands; serves = serves_none; empty = is }
+        → IsBornStore reads may_leave log mode first (reads d0) (open_with d1 k c stored)
+    born_none log whole count stands = record {
+      safe = safe_none log whole count stands;
+      serves = serves_none;
+      empty = is;
+      told = λ i read. ((kept i read).now, (kept i read).is_read);
+    }

@@ -13,8 +13,8 @@
 //! stands for the sealed history g, and that each image which a crash may leave keeps it
 //! (ov_images), or once a call failed it with one update more. No history is kept in code: a clause
 //! reads 'for each history for which the old store stood'. That there is one is part of the store's
-//! invariant, and [`Store::known`] hands it out. What is said of images is said where the disk tells
-//! its bytes; all else holds over every disk.
+//! invariant, and [`Store::known`] hands it out. What is said of images is said where the disk
+//! tells its bytes; all else holds over every disk.
 //!
 //! | file in `specs/` | says |
 //! |---|---|

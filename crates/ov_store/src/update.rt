@@ -10,7 +10,7 @@ ghost use Rattle.ov_state.specs.Plans.{IsFitting};
 ghost use Rattle.ov_store.specs.Beginning.{IsDiskCall};
 ghost use Rattle.ov_store.specs.Bodies.{HasLogAfter, MayKeep};
 ghost use Rattle.ov_store.specs.Opened.{StaysTold};
-ghost use Rattle.ov_store.specs.Updating.{Updates, Fails, IfRefused, IsCallOf, LeavesEither, ServesMore};
+ghost use Rattle.ov_store.specs.Updating.{GoesOnAfter, IsCallOf, LeavesEither, ServesMore, Updates};
 ghost use Rattle.ov_store.specs.declared.fault.StoreFault.TheVariants.{Disk};
 
 use crate::fault::StoreFault;
@@ -49,9 +49,7 @@ impl<D: Disk> Store<D> {
         requires { IsFitting (brief (sealed_update update)) }
 
         ensures answer { Updates (sealed_update update) self.old self.new result }
-        ensures failed { Fails self.old.failed result self.new.failed }
-        // Where the update isn't made and no call of the disk failed, all is as it was.
-        ensures untouched { IfRefused result (self.new ≡ self.old) }
+        ensures state { GoesOnAfter result self.old self.new }
 
         // A crash at any moment of the call leaves the history from before, or it with this update.
         ensures any_moment { LeavesEither D.reads D.may_leave D.moment D.left_since

@@ -87,8 +87,8 @@ returns-in-Err-Memory-clause-any_moment g c =
     c.in_ok-prepared.ensures.prepared.change.taken is
     later refl c.keep.ensures.any_moment.leaves)
 
-pub invariant_of-self : goal.invariant_of-self
-invariant_of-self g c =
+pub invariant_of-self-in-Err-Disk : goal.invariant_of-self-in-Err-Disk
+invariant_of-self-in-Err-Disk g c =
     let slice : c.as_slice.result.now ≡ c.in-Some.body = search rules in
     let is : IsBodyOf (sealed_update c.args.update) c.as_slice.result.now =
     body_of_some (sealed_update c.args.update) c.in_ok-body.body c.in-Some.body
