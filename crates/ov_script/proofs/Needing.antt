@@ -3,7 +3,7 @@ use Rattle.std.proofs.Common.{◌≡◌, ◌≢◌, ℕ, ◌+◌, ◌<◌, ◌�
 use Rattle.std.proofs.lemmas.List.{nil_from_length}
 use Rattle.std.specs.Io.KnownBytes.{Consumes}
 use Rattle.std.proofs.KnownBytes.{Consumes-nil, Consumes-trans}
-use Rattle.ov_io.specs.Calls.{TakesPieces, no_piece, one_more, TakesWhile, each_gave, last_gave_none}
+use Rattle.ov_io.specs.Calls.{no_piece, one_more, each_gave, last_gave_none}
 use Rattle.ov_io.proofs.Pieces.{first_piece, pieces_as, pieces_same, while_behind}
 use Rattle.ov_script.specs.Feed.{Fed, Uses, Takes}
 use Rattle.ov_script.specs.Finding.{NeedsPieces, TakesBelow, UsesBelow}

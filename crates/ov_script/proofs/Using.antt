@@ -1,9 +1,9 @@
 -- What is used of a text.
-use Rattle.std.proofs.Common.{◌≡◌, inl, inr, ℕ, ◌+◌, ◌<◌, ◌≤◌, List, [], ◌++◌, length, sym, ◌∙◌, ap, subst, append_assoc, append-nil, length-append, arith, Option, Some, None, min}
+use Rattle.std.proofs.Common.{◌≡◌, ℕ, List, [], ◌++◌, sym, ◌∙◌, ap, subst, append_assoc, Option, Some, None}
 use Rattle.std.specs.Prelude.{IfSome}
-use Rattle.std.specs.Io.KnownBytes.{prepend_known, Consumes, Keeps, IsAtEnd}
-use Rattle.std.proofs.KnownBytes.{Consumes-trans, Consumes-nil, Consumes-kept}
-use Rattle.ov_script.specs.Feed.{Fed, Uses, Takes, text_of}
+use Rattle.std.specs.Io.KnownBytes.{prepend_known, Consumes, IsAtEnd}
+use Rattle.std.proofs.KnownBytes.{Consumes-trans}
+use Rattle.ov_script.specs.Feed.{Fed, Uses, text_of}
 
 -- the same bytes behind a longer front
 behind_front : (a b c d : List ℕ) → (a ++ b) ++ c ≡ a ++ (b ++ c)

@@ -76,7 +76,8 @@ Gathers left room size old new (Ok bytes) =
     (vec_len bytes ≡ size) × (size < room) × Uses left old new (bytes.items ++ 10 ∷ [])
 Gathers left room size old new (Err ended) = IsWhyNoBody room size (text_of left old) ended
 
--- Bytes are taken only while fewer than so many stand there, and a take that gives none is the last.
+-- Bytes are taken only while fewer than so many stand there, and a take that gives none is the
+-- last.
 abbrev pub TakesBelow : {S : Type 0} → (S → S → Type 0) → (S → Option (List ℕ)) → ℕ → List ℕ
     → Type 0 → Type 0 → S → S → Type 0
 TakesBelow takes left count pending ended failed old new =

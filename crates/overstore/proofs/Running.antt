@@ -3,6 +3,7 @@ use Rattle.std.proofs.Common.{◌≡◌, ◌⊎◌, inl, inr, ℕ, ◌≤◌, Li
 use Rattle.std.specs.Prelude.{Option, Some, None, IfSome, String}
 use Rattle.std.specs.declared.alloc.Global.{Global}
 use Rattle.std.specs.Io.KnownBytes.{Appends}
+use Rattle.ov_base.specs.Causes.{Rose}
 use Rattle.ov_base.specs.declared.mode.Mode.{Mode}
 use Rattle.ov_base.specs.declared.mode.Mode.TheVariants.{Full, Delta}
 use Rattle.ov_history.specs.Plain.{PlainHistory}
@@ -133,6 +134,15 @@ finish_read Disk epoch old new status f e = absurd (not_code _ 4 5 old new statu
 finish_read Memory epoch old new status f e = absurd (not_code _ 7 5 old new status f (λ z. omega arith) (λ z. omega arith) e)
 finish_read (Tag bad) epoch old new status f e = absurd (not_code_or _ 12 5 old new status f (λ z. omega arith) (λ z. omega arith) (λ z. omega arith) e)
 finish_read Write epoch old new status f e = absurd (let six : status ≡ 6 = f.0 in omega arith)
+
+-- a count that rose is said otherwise
+pub rose_lent : (a b c d : ℕ) → Rose a b → c ≡ a → d ≡ b → Rose c d
+rose_lent a b c d r e f = omega (arith, r, e, f)
+
+-- the count of a sink rose in what was put before, or in the last line
+pub rose_after : (P : Type 0) (a b c : ℕ) → a ≤ b → (P → Rose a b) → b ≤ c → P ⊎ Rose b c → Rose a c
+rose_after P a b c h before later (inl p) = let r : Rose a b = before p in omega (arith, r, later)
+rose_after P a b c h before later (inr r) = omega (arith, h, r)
 
 -- a tag is said to be wrong where the answering stopped at one
 pub finish_tag : (N : Type 0) (stop : Stop) (epoch : ℕ) (old mid new : Option (List ℕ)) (status : ℕ) → Finishes stop epoch mid new status → Grows old mid

@@ -76,8 +76,8 @@ PublishesMatrix k p =
 abbrev pub TellsNothing : Option Image → Type 0
 TellsNothing reads = Told reads (λ _. ⊥)
 
--- Calls on a disk keep its loan. The count of its faults doesn't fall, and it rose where they failed
--- for a fault of the disk.
+-- Calls on a disk keep its loan. The count of its faults doesn't fall, and it rose where they
+-- failed for a fault of the disk.
 pub record IsDiskCall {D : Type 0} (borrow faults : D → ℕ) (failed : Type 0) (old new : D)
     : Type 0 where
   pub same : borrow new ≡ borrow old
@@ -100,9 +100,9 @@ module _ {D : Type 0} (reads : D → Option Image) (may_leave : D → Image → 
     pub mode_is : p.mode ≡ mode
     pub stands : StandsForPlain k p image
 
-  -- What lasts of a whole script that was answered from a disk which stood for the history: the disk
-  -- as it reads, and each image that a stop may leave of it, stands for the history after all its
-  -- commands, and the tokens that are published after it are the matrix.
+  -- What lasts of a whole script that was answered from a disk which stood for the history: the
+  -- disk as it reads, and each image that a stop may leave of it, stands for the history after all
+  -- its commands, and the tokens that are published after it are the matrix.
   pub record Lasts (k : Masters) (p : PlainHistory) (text : List ℕ) (disk : D) : Type 0 where
     pub commands : List Command
     pub whole : IsScript text commands AtEnd
@@ -113,9 +113,9 @@ module _ {D : Type 0} (reads : D → Option Image) (may_leave : D → Image → 
     pub tokens : PublishesMatrix k (after_all p commands)
 
   module _ (moment : D → ℕ) (left_since : D → ℕ → Image → Type 0) where
-    -- What a stop leaves of a script that is answered from a disk which stood for the history. At any
-    -- moment since the start each image stands for the history after some first commands; and at the
-    -- exit each has all updates whose reply line was put whole, and at most one more.
+    -- What a stop leaves of a script that is answered from a disk which stood for the history. At
+    -- any moment since the start each image stands for the history after some first commands; and
+    -- at the exit each has all updates whose reply line was put whole, and at most one more.
     pub record Survives (k : Masters) (p : PlainHistory) (text : List ℕ) (first last : D)
         (old new : Option (List ℕ)) : Type 0 where
       pub any_moment : LeavesOnly moment left_since first last (KeepsFirst k p text)

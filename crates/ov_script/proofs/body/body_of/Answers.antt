@@ -1,4 +1,4 @@
-use Rattle.std.proofs.Common.{ap, is_err, refl, ◌≡◌, ◌≤◌, length, arith, vec_len}
+use Rattle.std.proofs.Common.{ap, is_err, refl, ◌≡◌, ◌≤◌, length, arith}
 use Rattle.std.proofs.lemmas.Result.{err_from_is_err_and}
 use Rattle.ov_script.proofs.Bodies.{lf_past, other_past, other_behind, taken_for_lf}
 use Rattle.ov_io.proofs.Pieces.{while_as}

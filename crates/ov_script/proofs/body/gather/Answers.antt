@@ -3,7 +3,7 @@ use Rattle.std.proofs.KnownBytes.{Consumes-nil, Consumes-kept}
 use Rattle.std.proofs.lemmas.List.{nil_from_length}
 use Rattle.std.proofs.lemmas.Result.{err_from_is_err_and}
 use Rattle.ov_io.specs.Calls.{each_gave}
-use Rattle.ov_io.proofs.Pieces.{pieces_same, while_same}
+use Rattle.ov_io.proofs.Pieces.{while_same}
 use Rattle.ov_script.proofs.Needing.{below_more, below_none, below_start, moved_below, none_given, used_below}
 use Rattle.ov_script.proofs.body.gather.Goals as goal
 

@@ -1,4 +1,4 @@
-use Rattle.std.proofs.Common.{◌≡◌, ◌≤◌, ◌+◌, ◌-◌, length, vec_len}
+use Rattle.std.proofs.Common.{◌≤◌, ◌+◌, ◌-◌, length, vec_len}
 use Rattle.ov_io.specs.Calls.{IsCallOf}
 use Rattle.ov_script.specs.Finding.{UsesBelow}
 use Rattle.ov_script.proofs.body.gather.Given as goal
