@@ -251,6 +251,7 @@ judged_with asked None status old new untouched base surface read ten = record {
   masters = λ _. tt;
   none = λ e. absurd (ten e);
   line = λ e. absurd (ten e);
+  kept = λ e. absurd (ten e);
   unread = tt;
   ends = λ _. tt;
 }
@@ -258,6 +259,7 @@ judged_with asked (Some file) status old new untouched base surface read ten = r
   masters = λ _. (base, surface, read);
   none = λ e. absurd (ten e);
   line = λ e. absurd (ten e);
+  kept = λ e. absurd (ten e);
   unread = λ no. absurd (no (base, surface, read));
   ends = λ _ no. absurd (no (base, surface, read));
 }
@@ -269,6 +271,7 @@ judged_none asked keys status old new untouched none ends left = record {
   masters = λ is. absurd (not_answered status (by_ends ends) is);
   none = λ _. none;
   line = λ e. line_put ends e;
+  kept = λ e. left;
   unread = each keys (λ file. (HasMasters file → ⊥) → untouched) (λ file no. left);
   ends = λ _. each keys (λ file. (HasMasters file → ⊥) → EndsIn keys_line 10 old new status ⊎ EndsIn read_line 5 old new status) (λ file no. inl ends);
 } where
@@ -287,6 +290,7 @@ judged_failed asked keys status old new untouched ends left = record {
   masters = λ is. absurd (not_answered status (by_ends ends) is);
   none = λ e. absurd (not_ten ends e);
   line = λ e. absurd (not_ten ends e);
+  kept = λ e. left;
   unread = each keys (λ file. (HasMasters file → ⊥) → untouched) (λ file no. left);
   ends = λ _. each keys (λ file. (HasMasters file → ⊥) → EndsIn keys_line 10 old new status ⊎ EndsIn read_line 5 old new status) (λ file no. inr ends);
 } where
@@ -305,6 +309,7 @@ judged_unasked asked keys status old new untouched not_asked ends left = record 
   masters = λ is. absurd (not_answered status (by_ends ends) is);
   none = λ e. absurd (not_ten ends e);
   line = λ e. absurd (not_ten ends e);
+  kept = λ e. left;
   unread = each keys (λ file. (HasMasters file → ⊥) → untouched) (λ file no. left);
   ends = λ is. absurd (not_asked is);
 } where
@@ -320,7 +325,7 @@ judged_unasked asked keys status old new untouched not_asked ends left = record 
 pub judged_so : (asked : Type 0) (keys : Option (List ℕ)) (status : ℕ) (old new : Option (List ℕ)) (untouched other : Type 0)
     → JudgesKeys (Unit {0}) keys status old new untouched → (untouched → other) → JudgesKeys asked keys status old new other
 judged_so asked keys status old new untouched other j so =
-    record { masters = j.masters; none = j.none; line = j.line; unread = unread keys j.unread; ends = λ _. j.ends tt } where
+    record { masters = j.masters; none = j.none; line = j.line; kept = λ e. so (j.kept e); unread = unread keys j.unread; ends = λ _. j.ends tt } where
       unread : (keys : Option (List ℕ)) → IfSome keys (λ file. (HasMasters file → ⊥) → untouched) → IfSome keys (λ file. (HasMasters file → ⊥) → other)
       unread None u = tt
       unread (Some file) u = λ none. so (u none)

@@ -55,13 +55,15 @@ pub record IsDecided (text : List ℕ) (status : ℕ) (keys input out disk : Typ
 -- ---- the key file and the words
 
 -- What a run makes of the file that is to be its key file. The script is answered only with one,
--- and only without one the status is 10; without one the script and the disk stay as they are, and
--- a run that the words ask for ends in the line on the key file or in that on a failed read.
+-- and only without one the status is 10, with which the script and the disk stay as they are.
+-- Without one they stay so whatever the status, and a run that the words ask for ends in the line
+-- on the key file or in that on a failed read.
 pub record JudgesKeys (asked : Type 0) (keys : Option (List ℕ)) (status : ℕ)
     (old new : Option (List ℕ)) (untouched : Type 0) : Type 0 where
   pub masters : IsAnswered status → IfSome keys HasMasters
   pub none : status ≡ 10 → IfSome keys (λ file. HasMasters file → ⊥)
   pub line : status ≡ 10 → Appends old new keys_line
+  pub kept : status ≡ 10 → untouched
   pub unread : IfSome keys (λ file. (HasMasters file → ⊥) → untouched)
   pub ends : asked → IfSome keys (λ file. (HasMasters file → ⊥)
       → EndsIn keys_line 10 old new status ⊎ EndsIn read_line 5 old new status)
