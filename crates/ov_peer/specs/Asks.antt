@@ -18,8 +18,8 @@ pub record Ask : Type 0 where
   pub request : List ℕ
   pub reply : List ℕ
 
--- what a peer tells of an ask that was answered: the peer before it, the request, the reply, and the
--- peer after it
+-- what a peer tells of an ask that was answered: the peer before it, the request, the reply, and
+-- the peer after it
 abbrev pub Asked : Type 0 → Type 1
 Asked P = P → List ℕ → List ℕ → P → Type 0
 
@@ -62,8 +62,8 @@ Told v request reply Then =
     (others : List SealedUpdate) × (made : List SealedUpdate)
     × IsReplyAt (later v others) request reply made × Then (later (later v others) made)
 
--- After an ask that failed what is served goes on by what others did, and perhaps by what this request
--- would have made.
+-- After an ask that failed what is served goes on by what others did, and perhaps by what this
+-- request would have made.
 abbrev pub LeavesTold : Service → List ℕ → (Service → Type 0) → Type 0
 LeavesTold v request Then =
     (others : List SealedUpdate) × (made : List SealedUpdate)

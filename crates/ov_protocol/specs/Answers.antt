@@ -21,8 +21,8 @@ welcome_of s = record {
   base_check = s.base_check;
 }
 
--- The answer of a server to a request. Want of memory and a fault of its disk stand beside this: they
--- are no answers by what it shows.
+-- The answer of a server to a request. Want of memory and a fault of its disk stand beside this:
+-- they are no answers by what it shows.
 abbrev pub Answers : Serving → Request → Answer → Type 0
 Answers s requests.Hello answer = answer ≡ answers.Welcome (welcome_of s)
 Answers s (requests.Ask question) answer = AnswersAsk s.catalogue question answer

@@ -46,8 +46,8 @@ RepliesAreFrames =
     (s : Serving) (request reply : List ℕ) (made : List SealedUpdate)
     → Replies s request reply made → IsFrame reply
 
--- what is read of a reply to a request that was sent is the server's answer to that request, and the
--- server made the updates of that answer
+-- what is read of a reply to a request that was sent is the server's answer to that request, and
+-- the server made the updates of that answer
 abbrev pub RepliesAreRead : Type 0
 RepliesAreRead =
     (s : Serving) (request : Request) (reply : List ℕ) (made : List SealedUpdate) (read : Answer)

@@ -27,8 +27,8 @@ abbrev pub file_entry_of : Option Filed → Option Entry
 file_entry_of None = None
 file_entry_of (Some f) = Some (File f.name f.node f.length f.generation f.tag f.surface)
 
--- The entry of a part with this number. Part 1 has the users, 2 the base nodes, 3 the surface nodes,
--- 4 the access tokens as they were published, and 5 the files; no other part has any.
+-- The entry of a part with this number. Part 1 has the users, 2 the base nodes, 3 the surface
+-- nodes, 4 the access tokens as they were published, and 5 the files; no other part has any.
 abbrev pub entry_of : Catalogue → ℕ → ℕ → Option Entry
 entry_of c (suc zero) number = user_entry_of c number (slice_get c.users number)
 entry_of c (suc (suc zero)) number =

@@ -22,8 +22,8 @@ abbrev pub made_of : Result Request ℕ → Answer → List SealedUpdate
 made_of (Ok request) answer = made_by request answer
 made_of (Err place) answer = []
 
--- asked this frame, the server replies that one, and makes these updates; the answer is one that can
--- be sent
+-- asked this frame, the server replies that one, and makes these updates; the answer is one that
+-- can be sent
 pub record Replies (s : Serving) (request reply : List ℕ) (made : List SealedUpdate) : Type 0 where
   pub answer : Answer
   pub answers : AnswersRead s (request_of request) answer
@@ -31,7 +31,8 @@ pub record Replies (s : Serving) (request reply : List ℕ) (made : List SealedU
   pub spelled : reply ≡ answer_bytes answer
   pub makes : made ≡ made_of (request_of request) answer
 
--- a server that is asked this replies so, and then shows what it shows after the updates that it made
+-- a server that is asked this replies so, and then shows what it shows after the updates that it
+-- made
 pub record AnswersFrame (old new : Serving) (request reply : List ℕ) : Type 0 where
   pub made : List SealedUpdate
   pub replies : Replies old request reply made
