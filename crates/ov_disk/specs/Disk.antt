@@ -1,5 +1,5 @@
 -- Two areas of bytes, what a call does to them, and what a crash may leave of a write.
-use Rattle.std.specs.Prelude.{◌≡◌, ℕ, ◌+◌, ◌≤◌, max, List, ◌++◌, length, take, drop, Option, Some}
+use Rattle.std.specs.Prelude.{◌≡◌, ℕ, ◌+◌, ◌≤◌, max, List, ◌++◌, length, take, drop, Option, Some, None}
 use Rattle.ov_disk.specs.declared.area.Area.{Area}
 use Rattle.ov_disk.specs.declared.area.Area.TheVariants.{Book, Blobs}
 
@@ -58,3 +58,7 @@ OnlyBook book outcomes = (c : Image) → outcomes c → c.book ≡ book
 -- this holds of what a disk reads, where it tells that
 abbrev pub Told : Option Image → (Image → Type 0) → Type 0
 Told reads P = (i : Image) → reads ≡ Some i → P i
+
+-- a disk that told nothing still tells nothing
+abbrev pub StaysUntold : Option Image → Option Image → Type 0
+StaysUntold old new = old ≡ None → new ≡ None

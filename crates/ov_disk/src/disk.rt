@@ -2,7 +2,7 @@
 ghost use Rattle.std.specs.Prelude.{◌≡◌, ◌≤◌, ◌+◌, ℕ, Option, Some, length, take, drop, IfOk, IsErr, OnOk};
 ghost use Rattle.std.specs.Option.{option_map};
 ghost use Rattle.ov_disk.specs.Calls.{IsDiskCall};
-ghost use Rattle.ov_disk.specs.Disk.{Image, bytes_of, written, TornIn, Follows, Narrows, Told, Only};
+ghost use Rattle.ov_disk.specs.Disk.{Image, bytes_of, written, TornIn, Follows, Narrows, Told, StaysUntold, Only};
 ghost use Rattle.ov_disk.specs.Moments.{Elapses};
 
 use crate::{Area, DiskFault};
@@ -11,8 +11,9 @@ use crate::{Area, DiskFault};
 ///
 /// Between two syncs a crash may leave any bytes in each range that was written and past the old
 /// end, and any length from the least to the greatest since the last sync. Bytes outside stay.
-/// After a sync that succeeds it leaves what a read gives. Nothing is said of what a disk reads
-/// after a write or a sync that failed, but that it is one of the images that a crash may leave.
+/// After a sync that succeeds it leaves what a read gives. After a write or a sync that failed, a
+/// disk reads one of the images that a crash may leave, and nothing says which; one that told
+/// nothing before still tells nothing.
 pub trait Disk {
     /// What a read gives in each area, where this disk tells it.
     ghost reads: { Self → Option Image };
@@ -57,6 +58,7 @@ pub trait Disk {
         requires { Told (reads self.old) (λ i. at ≤ length (bytes_of area i)) }
         ensures written { OnOk result
             (reads self.new ≡ option_map (written area at bytes.now) (reads self.old)) }
+        ensures untold { StaysUntold (reads self.old) (reads self.new) }
         ensures crash { Follows (TornIn area at (length bytes.now))
             (may_leave self.old) (may_leave self.new) }
         ensures time { Elapses moment left_since may_leave self.old self.new }
@@ -66,6 +68,7 @@ pub trait Disk {
     fn sync(&mut self) -> Result<(), DiskFault>
         ensures durable { OnOk result (Told (reads self.old) (λ i. Only i (may_leave self.new))) }
         ensures reads { OnOk result (reads self.new ≡ reads self.old) }
+        ensures untold { StaysUntold (reads self.old) (reads self.new) }
         ensures crash { Narrows (may_leave self.old) (may_leave self.new) }
         ensures time { Elapses moment left_since may_leave self.old self.new }
         ensures call { IsDiskCall borrow faults (IsErr result) self.old self.new };

@@ -59,7 +59,8 @@ where
     fn open(&mut self) -> io::Result<()>
         ensures same { self.new.faults ≡ self.old.faults }
         ensures lost { self.old.state ≡ State.Lost → self.new.state ≡ State.Lost }
-        ensures failed { IsErr result → (pair : Pair R.File) → self.new.state ≡ State.Open pair → ⊥ }
+        ensures failed { IsErr result
+            → (pair : Pair R.File) → self.new.state ≡ State.Open pair → ⊥ }
     {
         if matches!(self.state, State::Closed) {
             self.state = State::Open(open_pair(&self.rt, self.book.as_str(), self.blobs.as_str())?);
@@ -107,7 +108,8 @@ where
         ensures same { self.new.faults ≡ self.old.faults }
         ensures lost { self.old.state ≡ State.Lost
             → IsErr result × (self.new.state ≡ State.Lost) }
-        ensures failed { IsErr result → (pair : Pair R.File) → self.new.state ≡ State.Open pair → ⊥ }
+        ensures failed { IsErr result
+            → (pair : Pair R.File) → self.new.state ≡ State.Open pair → ⊥ }
     {
         self.open()?;
         let answer = match &mut self.state {

@@ -56,5 +56,5 @@ of_both c user file = record (of_user c user) { file = file; node = node_of (out
 -- those of a user who is to be granted a file: a token is needed where the user isn't a holder
 abbrev pub of_grant : Catalogue → ℕ → ℕ → Numbers
 of_grant c user file = record (of_both c user file) {
-  wants = not (has (holders (outline c) (node_of (outline c) file)) user)
+  wants = not (has (holders (outline c) (node_of (outline c) file)) user);
 }

@@ -1,5 +1,5 @@
 -- What calls do to a source that they read.
-use Rattle.std.specs.Prelude.{◌≡◌, ◌≤◌, ℕ, List, [], Option}
+use Rattle.std.specs.Prelude.{◌≡◌, ◌≢◌, ◌≤◌, ℕ, List, [], ◌++◌, Option}
 use Rattle.std.specs.Io.KnownBytes.{Consumes}
 use Rattle.ov_base.specs.Causes.{Rose}
 
@@ -11,13 +11,24 @@ pub record IsCallOf {S : Type 0} (borrow faults : S → ℕ) (failed : Type 0) (
   pub later : faults old ≤ faults new
   pub read : failed → Rose (faults old) (faults new)
 
--- A call takes from a source only while the bytes that it took leave something unsettled. It took
--- nothing; or one last take followed, and the bytes that were taken before it left that unsettled.
--- Where the call failed for a fault of the source, its last take is the one that failed, and gave
--- nothing.
+-- Pieces were taken from a source, which together are these bytes: none; or some, which left
+-- something unsettled, and then one more, which gave some bytes.
+pub data TakesPieces {S : Type 0} (takes : S → S → Type 0) (left : S → Option (List ℕ))
+    (unsettled : List ℕ → Type 0) (old : S) : S → List ℕ → Type 0 where
+  no_piece : (new : S) → new ≡ old → TakesPieces takes left unsettled old new []
+  one_more : (mid new : S) (seen piece : List ℕ)
+      → TakesPieces takes left unsettled old mid seen → unsettled seen
+      → takes mid new → Consumes (left mid) (left new) piece → piece ≢ []
+      → TakesPieces takes left unsettled old new (seen ++ piece)
+
+-- A call takes from a source only while the bytes that it took leave something unsettled, and never
+-- asks it again once it gave nothing. Each take gave some bytes, and the call didn't fail for a
+-- fault of the source; or a last take gave nothing, at the end or for a fault, and that ended what
+-- the call was for.
 pub data TakesWhile {S : Type 0} (takes : S → S → Type 0) (left : S → Option (List ℕ))
-    (unsettled : List ℕ → Type 0) (failed : Type 0) (old new : S) : Type 0 where
-  nothing : (failed → ⊥) → new ≡ old → TakesWhile takes left unsettled failed old new
-  last_take : (mid : S) (seen last : List ℕ) → Consumes (left old) (left mid) seen → unsettled seen
-      → takes mid new → Consumes (left mid) (left new) last → (failed → last ≡ [])
-      → TakesWhile takes left unsettled failed old new
+    (unsettled : List ℕ → Type 0) (ended failed : Type 0) (old new : S) : Type 0 where
+  each_gave : (seen : List ℕ) → TakesPieces takes left unsettled old new seen → (failed → ⊥)
+      → TakesWhile takes left unsettled ended failed old new
+  last_gave_none : (mid : S) (seen : List ℕ) → TakesPieces takes left unsettled old mid seen
+      → unsettled seen → takes mid new → Consumes (left mid) (left new) [] → ended
+      → TakesWhile takes left unsettled ended failed old new

@@ -1,5 +1,6 @@
 -- A source and a sink in memory.
-use Rattle.std.specs.Prelude.{◌≡◌, ℕ, ◌+◌, ◌-◌, ◌^◌, List, length, min, Contains, Result, MatchResult}
+use Rattle.std.specs.Prelude.{◌≡◌, ℕ, ◌+◌, ◌-◌, ◌^◌, ◌≤◌, List, ◌++◌, length, min, Contains}
+use Rattle.std.specs.Prelude.{Result, MatchResult}
 
 -- What is left of a source's bytes, how many of them a call gives at most, the numbers of the calls
 -- that fail, how many calls there were, and how many of them failed.
@@ -22,11 +23,12 @@ pub record Writes : Type 0 where
 abbrev pub one_call : ℕ → ℕ
 one_call calls = min (calls + 1) (2 ^ 64 - 1)
 
--- A take leaves the size of a piece and the calls that fail, and is one call.
+-- A take gives a piece at most, leaves its size and the calls that fail, and is one call.
 pub record IsTake (old new : Reads) : Type 0 where
   pub piece : new.piece ≡ old.piece
   pub fails : new.fails ≡ old.fails
   pub calls : new.calls ≡ one_call old.calls
+  pub given : (bytes : List ℕ) × (length bytes ≤ old.piece) × (old.left ≡ bytes ++ new.left)
 
 -- A put leaves the calls that fail, and is one call.
 pub record IsPut (old new : Writes) : Type 0 where

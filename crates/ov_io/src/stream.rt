@@ -1,6 +1,10 @@
 //! Streams: in memory, and over what std reads and writes.
-ghost use Rattle.std.specs.Prelude.{◌≡◌, None, Some};
-ghost use Rattle.ov_io.specs.Memory.{IsTake, IsPut};
+ghost use Rattle.std.specs.Prelude.{◌≡◌, length, None, Some, IsErr, OnErr, Contains};
+ghost use Rattle.std.specs.Io.{ReadsAtMost};
+ghost use Rattle.std.specs.Io.KnownBytes.{ReadConsumes};
+ghost use Rattle.ov_base.specs.Causes.{HasCause, Counts};
+ghost use Rattle.ov_io.specs.Memory.{IsTake, IsPut, Gives};
+ghost use Rattle.ov_io.specs.Putting.{Puts};
 
 use crate::outside::{read_some, write_all};
 use crate::{Fault, MemSink, MemSource, Sink, Source, Stream};
@@ -22,7 +26,15 @@ impl Source for MemStream {
 
     ghost takes = { λ a b. IsTake a.source b.source × (b.sink ≡ a.sink) };
 
-    fn take(&mut self, buf: &mut [u8]) -> Result<usize, Fault> {
+    fn take(&mut self, buf: &mut [u8]) -> Result<usize, Fault>
+        ensures bound { ReadsAtMost result buf.new }
+        ensures bytes { ReadConsumes (Some self.old.source.left) (Some self.new.source.left)
+            result buf.new }
+        ensures cause { HasCause self.old.source.faults self.new.source.faults result }
+        ensures counted { Counts self.old.source.faults self.new.source.faults result }
+        ensures step { IsTake self.old.source self.new.source × (self.new.sink ≡ self.old.sink) }
+        ensures gives { Gives self.old.source (length buf.old) result }
+    {
         self.source.take(buf)
     }
 }
@@ -36,7 +48,15 @@ impl Sink for MemStream {
 
     ghost puts = { λ a b. IsPut a.sink b.sink × (b.source ≡ a.source) };
 
-    fn put(&mut self, bytes: &[u8]) -> Result<(), Fault> {
+    fn put(&mut self, bytes: &[u8]) -> Result<(), Fault>
+        ensures bytes { Puts (Some self.old.sink.written) (Some self.new.sink.written)
+            result bytes.now }
+        ensures counted { Counts self.old.sink.faults self.new.sink.faults result }
+        ensures cause { HasCause self.old.sink.faults self.new.sink.faults result }
+        ensures step { IsPut self.old.sink self.new.sink × (self.new.source ≡ self.old.source) }
+        ensures fails { Contains self.old.sink.fails self.old.sink.calls → IsErr result }
+        ensures kept { OnErr result (self.new.sink.written ≡ self.old.sink.written) }
+    {
         self.sink.put(bytes)
     }
 }

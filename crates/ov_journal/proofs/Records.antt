@@ -1,9 +1,9 @@
 -- A record of a journal, where it stands in Book, and as it is read.
 use Rattle.std.proofs.Common.{◌≡◌, ℕ, zero, suc, ◌+◌, ◌≤◌, ◌<◌, List, [], ◌∷◌, ◌++◌, length, take, drop, get_or, Bool, true, false, ◌==◌, refl, sym, ◌∙◌, ap, subst, arith, length-append}
-use Rattle.std.proofs.lemmas.List.{take_at, take_all}
+use Rattle.std.proofs.lemmas.List.{take_at, take_all, append-nil, get_or_append_left}
 use Rattle.std.proofs.lemmas.Bool.Decides.{nat_tests}
 use Rattle.ov_journal.specs.Book.{length_in, is_length, body_in, Records, past_gate, records_after, contents_of}
-use Rattle.ov_journal.specs.Log.{Log, gates_from, end_from, IsLogOf, IsRecord, HasRecord}
+use Rattle.ov_journal.specs.Log.{Log, gates_from, end_from, IsLogOf, IsLogOfFirst, IsRecord, HasRecord}
 use Rattle.ov_journal.proofs.Reading.{fits, length-body_in}
 
 -- the bytes that a read put behind the old ones
@@ -78,13 +78,26 @@ records_stand (byte ∷ rest) (suc skip) i lt =
     record_later _ _ _ byte rest (gates_later skip (suc skip) (records_after skip rest).bodies i refl lt) (records_stand rest skip i lt)
 records_stand (gate ∷ rest) zero i lt = at_gate gate rest (gate == 1) (is_length rest) refl refl (records_stand rest (length_in rest + 4)) i lt
 
+-- the first gates of a list are those of its first bodies
+gates_front : (place : ℕ) (front rest : List (List ℕ)) (i : ℕ) → i < length front → get_or (gates_from place (front ++ rest)) i 0 ≡ get_or (gates_from place front) i 0
+gates_front place [] rest i lt = absurd (omega (arith, lt))
+gates_front place (body ∷ front) rest zero lt = refl
+gates_front place (body ∷ front) rest (suc i) lt = gates_front (place + 5 + length body) front rest i (omega (arith, lt))
+
+-- all records are the first ones, with none behind them
+pub all_first : (log : Log) (r : Records) → IsLogOf log r → IsLogOfFirst log r
+all_first log r is = record { front = r.bodies; rest = []; split = sym (append-nil r.bodies); offsets = is.offsets; end = is.end }
+
 -- A journal's record is the body at its place in the list.
-pub has_record : (log : Log) (book : List ℕ) (i : ℕ) → IsLogOf log (contents_of book).records → i < length log.offsets → HasRecord log i (get_or (contents_of book).records.bodies i []) book
+pub has_record : (log : Log) (book : List ℕ) (i : ℕ) → IsLogOfFirst log (contents_of book).records → i < length log.offsets → HasRecord log i (get_or (contents_of book).records.bodies i []) book
 unfolding Stand
 has_record log book i is lt =
     let bodies = (contents_of book).records.bodies in
-    let inside : i < length bodies = omega (arith, lt, ap length is.offsets, length-gates 78 bodies) in
-    let gate : get_or log.offsets i 0 ≡ get_or (gates_from 78 bodies) i 0 = ap (λ (l : List ℕ). get_or l i 0) is.offsets in (
-      subst (λ (g : ℕ). IsRecord g (get_or bodies i []) book) (sym gate) (records_stand book 78 i inside),
-      (λ k. get_or (is.offsets k ++ is.end k ∷ []) (i + 1) 0) ∙ gates_next 78 bodies i inside ∙ ap (λ (g : ℕ). g + 5 + length (get_or bodies i [])) (sym gate),
+    let first : i < length is.front = omega (arith, lt, ap length is.offsets, length-gates 78 is.front) in
+    let inside : i < length bodies = omega (arith, first, ap length is.split, length-append is.front is.rest) in
+    let body : get_or bodies i [] ≡ get_or is.front i [] = ap (λ (l : List (List ℕ)). get_or l i []) is.split ∙ get_or_append_left is.front is.rest [] i first in
+    let gate : get_or log.offsets i 0 ≡ get_or (gates_from 78 is.front) i 0 = ap (λ (l : List ℕ). get_or l i 0) is.offsets in
+    let gate_in : get_or (gates_from 78 bodies) i 0 ≡ get_or (gates_from 78 is.front) i 0 = ap (λ (l : List (List ℕ)). get_or (gates_from 78 l) i 0) is.split ∙ gates_front 78 is.front is.rest i first in (
+      subst (λ (g : ℕ). IsRecord g (get_or bodies i []) book) (gate_in ∙ sym gate) (records_stand book 78 i inside),
+      (λ k. get_or (is.offsets k ++ is.end k ∷ []) (i + 1) 0) ∙ gates_next 78 is.front i first ∙ (λ k. sym gate k + 5 + length (sym body k)),
     )

@@ -1,8 +1,9 @@
--- What a call that wrote Book has made last.
-use Rattle.std.specs.Prelude.{◌≡◌, Option, Some}
-use Rattle.ov_disk.specs.Disk.{Image, Told}
+-- What a call that wrote Book has made last, and what it leaves whatever it answers.
+use Rattle.std.specs.Prelude.{◌≡◌, ℕ, List, Option, Some}
+use Rattle.ov_disk.specs.Disk.{Image, StaysUntold, Told}
+use Rattle.ov_disk.specs.Moments.{LeavesOnly}
 use Rattle.ov_journal.specs.Book.{Contents}
-use Rattle.ov_journal.specs.Log.{Log, IsKept, Stands}
+use Rattle.ov_journal.specs.Log.{Log, IsBeforeOrAfter, IsKept, Stands}
 
 -- Where the disk told its bytes before, each image that a crash may leave now has these contents of
 -- Book and the Blobs that were read before; and a disk that tells its bytes now told them before.
@@ -16,3 +17,13 @@ pub record IsAcknowledged (log : Log) (old new : Option Image) (may_leave : Imag
     (contents : Image → Contents) : Type 0 where
   pub written : Lasts old new may_leave contents
   pub stands : Stands log new may_leave
+
+-- A call adds at most a record with this body, whatever it answers: from a disk that told its bytes
+-- a crash at any moment leaves the bodies from before, with this one or without; and a disk that
+-- told nothing still tells nothing.
+pub record AddsAtMost {D : Type 0} (reads : D → Option Image) (may_leave : D → Image → Type 0)
+    (moment : D → ℕ) (left_since : D → ℕ → Image → Type 0) (body : List ℕ) (old new : D)
+    : Type 0 where
+  pub leaves : Told (reads old) (λ i.
+      LeavesOnly moment left_since old new (IsBeforeOrAfter (may_leave old) i body))
+  pub untold : StaysUntold (reads old) (reads new)

@@ -42,6 +42,14 @@ pub record IsLogOf (log : Log) (records : Records) : Type 0 where
   pub end : log.end ≡ end_from 78 records.bodies
   pub bad : log.bad ≡ records.bad
 
+-- the journal of the first of these records, behind which others may stand
+pub record IsLogOfFirst (log : Log) (records : Records) : Type 0 where
+  pub front : List (List ℕ)
+  pub rest : List (List ℕ)
+  pub split : records.bodies ≡ front ++ rest
+  pub offsets : log.offsets ≡ gates_from 78 front
+  pub end : log.end ≡ end_from 78 front
+
 -- Where the disk tells its bytes, Book has just this journal's records, and nothing is pending
 -- there.
 abbrev pub Stands : Log → Option Image → (Image → Type 0) → Type 0

@@ -1,12 +1,11 @@
 //! A journal: where its records are, and room for the next one.
 ghost use Rattle.std.specs.Prelude.{◌≡◌, ℕ, ◌≤◌, ◌<◌, ◌+◌, ◌-◌, ◌^◌, ◌++◌, ◌∷◌, [], IsErr, OnOk, OnErr, MatchResult, length, slice_index, false, vec_len, vec_capacity};
 ghost use Rattle.ov_disk.specs.Calls.{IsDiskCall};
-ghost use Rattle.ov_disk.specs.Disk.{Image, Told};
-ghost use Rattle.ov_disk.specs.Moments.{LeavesOnly};
+ghost use Rattle.ov_disk.specs.Disk.{Image};
 ghost use Rattle.ov_journal.specs.Book.{Records, contents_of, with_body};
 ghost use Rattle.ov_journal.specs.Finding.{place_if};
-ghost use Rattle.ov_journal.specs.Lasting.{IsAcknowledged};
-ghost use Rattle.ov_journal.specs.Log.{AreInReach, HasSameRecords, IsBeforeOrAfter, IsLogOf, Stands};
+ghost use Rattle.ov_journal.specs.Lasting.{AddsAtMost, IsAcknowledged};
+ghost use Rattle.ov_journal.specs.Log.{AreInReach, HasSameRecords, IsLogOf, Stands};
 ghost use Rattle.ov_journal.specs.Log.{appended, latest_gate};
 ghost use Rattle.ov_journal.specs.Taking.{MayTake};
 ghost use Rattle.ov_journal.specs.declared.record.TheConstants.{RECORD_HEAD};
@@ -175,9 +174,8 @@ impl Journal {
         requires stands { Stands self.old (D.reads disk.old) (D.may_leave disk.old) }
 
         // A crash at any moment leaves the bodies from before the call, with this one or without.
-        ensures any_moment { Told (D.reads disk.old) (λ i.
-            LeavesOnly D.moment D.left_since disk.old disk.new
-            (IsBeforeOrAfter (D.may_leave disk.old) i body.now)) }
+        ensures any_moment { AddsAtMost D.reads D.may_leave D.moment D.left_since body.now
+            disk.old disk.new }
 
         // At `Ok` each image that a crash may leave has the body, and the journal stands for it.
         ensures acknowledged { OnOk result

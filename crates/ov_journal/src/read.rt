@@ -4,18 +4,19 @@ ghost use Rattle.ov_disk.specs.Calls.{IsDiskCall};
 ghost use Rattle.ov_disk.specs.Disk.{Told};
 ghost use Rattle.ov_disk.specs.Moments.{IsUntouched};
 ghost use Rattle.ov_journal.specs.Book.{contents_of};
-ghost use Rattle.ov_journal.specs.Log.{HasRecord, IsLogOf};
+ghost use Rattle.ov_journal.specs.Log.{HasRecord, IsLogOfFirst};
 ghost use Rattle.ov_journal.specs.declared.fault.CheckFault.TheVariants.{Disk as DiskFailed};
 
 use crate::{CheckFault, Journal};
 use ov_disk::{Area, Disk};
 
 impl Journal {
-    /// Appends the body of record `i` to `out`.
+    /// Appends the body of record `i` to `out`. Book may have more records than the journal, as
+    /// after an append that ended in a fault.
     pub fn body<D: Disk>(&self, disk: &mut D, i: u64, out: &mut Vec<u8>) -> Result<(), CheckFault>
         requires within { i < length self.now.offsets }
         requires records { Told (D.reads disk.old) (λ d.
-            IsLogOf self.now (contents_of d.book).records) }
+            IsLogOfFirst self.now (contents_of d.book).records) }
         ensures bytes { OnOk result (Told (D.reads disk.old) (λ d.
             out.new.items ≡ out.old.items
             ++ slice_index_or (contents_of d.book).records.bodies i [])) }
@@ -27,8 +28,8 @@ impl Journal {
         self.body_at_gate(disk, i, out)
     }
 
-    /// The same of a Book that may have more records than the journal, as after an append that
-    /// ended in a fault: it is enough that record `i` stands at its gate.
+    /// The same of a Book of whose other records nothing is known: it is enough that record `i`
+    /// stands at its gate.
     pub fn body_at_gate<D: Disk>(
         &self,
         disk: &mut D,

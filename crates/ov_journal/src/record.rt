@@ -3,11 +3,9 @@ ghost use Rattle.std.specs.Prelude.{◌≡◌, ◌≤◌, ◌+◌, IsErr, OnOk, 
 ghost use Rattle.ov_base.specs.declared.limits.TheConstants.{MAX_RECORD_BYTES};
 ghost use Rattle.ov_disk.specs.Calls.{IsDiskCall};
 ghost use Rattle.ov_disk.specs.Disk.{Told, OnlyBook};
-ghost use Rattle.ov_disk.specs.Moments.{LeavesOnly};
 ghost use Rattle.ov_journal.specs.Book.{contents_of, with_body};
 ghost use Rattle.ov_journal.specs.Frames.{framed, EndsAt, Fits};
-ghost use Rattle.ov_journal.specs.Lasting.{Lasts};
-ghost use Rattle.ov_journal.specs.Log.{IsBeforeOrAfter};
+ghost use Rattle.ov_journal.specs.Lasting.{AddsAtMost, Lasts};
 
 use ov_disk::{Area, Disk, DiskFault};
 
@@ -37,9 +35,8 @@ pub fn put_record<D: Disk>(
     requires fits { Fits end (vec_capacity frame.old) body.now }
     requires stands { Told (D.reads disk.old) (λ i.
         EndsAt end i.book × OnlyBook i.book (D.may_leave disk.old)) }
-    ensures any_moment { Told (D.reads disk.old) (λ i.
-        LeavesOnly D.moment D.left_since disk.old disk.new
-        (IsBeforeOrAfter (D.may_leave disk.old) i body.now)) }
+    ensures any_moment { AddsAtMost D.reads D.may_leave D.moment D.left_since body.now
+        disk.old disk.new }
     ensures lasts { OnOk result
         (Lasts (D.reads disk.old) (D.reads disk.new) (D.may_leave disk.new)
         (λ i. with_body body.now (contents_of i.book))) }

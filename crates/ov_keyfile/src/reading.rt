@@ -1,8 +1,9 @@
 //! Reading a key file.
-ghost use Rattle.std.specs.Prelude.{◌≡◌, ◌≢◌, ◌≤◌, ◌⊎◌, ◌↔◌, ℕ, List, length, take};
-ghost use Rattle.std.specs.Prelude.{IfOk, IfSome, IfNone, IsTrue};
+ghost use Rattle.std.specs.Prelude.{◌≡◌, ◌≢◌, ◌≤◌, ◌<◌, ◌⊎◌, ◌↔◌, ℕ, List, length, take, ⊤};
+ghost use Rattle.std.specs.Prelude.{IfOk, IfSome, IfNone, IsErr, IsTrue};
 ghost use Rattle.std.specs.Io.KnownBytes.{Consumes, IsAtEnd};
 ghost use Rattle.ov_base.specs.Causes.{HasCause};
+ghost use Rattle.ov_io.specs.Calls.{TakesWhile};
 ghost use Rattle.ov_keyfile.specs.KeyFile.{AreLines, IsEnd, IsKeyLine, IsReadAs};
 
 use crate::masters::Masters;
@@ -101,6 +102,8 @@ fn fill<K: Source>(source: &mut K, buffer: &mut [u8]) -> Result<usize, Fault>
     ensures taken { IfOk result (λ n.
         Consumes (K.left source.old) (K.left source.new) (take n buffer.new)) }
     ensures all { IfOk result (λ n. (n ≡ length buffer.old) ⊎ IsAtEnd (K.left source.new)) }
+    ensures needed { TakesWhile K.takes K.left (λ seen. length seen < length buffer.old)
+        ⊤ (IsErr result) source.old source.new }
     ensures same { K.borrow source.new ≡ K.borrow source.old }
     ensures cause { HasCause (K.faults source.old) (K.faults source.new) result }
 {
@@ -117,12 +120,15 @@ fn fill<K: Source>(source: &mut K, buffer: &mut [u8]) -> Result<usize, Fault>
 }
 
 /// The masters of the key file that the source has left, or none where what it has left is no key
-/// file. It takes at most one byte more than the longest key file has.
+/// file. It takes at most one byte more than the longest key file has, and doesn't ask again once
+/// the source gave nothing.
 pub fn read_masters<K: Source>(source: &mut K) -> Result<Option<Masters>, Fault>
     ensures read { IfOk result (λ masters.
         IfSome (K.left source.old) (λ file. IsReadAs file masters)) }
     ensures taken { IfOk result (λ _. (bytes : List ℕ)
         × Consumes (K.left source.old) (K.left source.new) bytes × (length bytes ≤ 131)) }
+    ensures needed { TakesWhile K.takes K.left (λ seen. length seen < 131)
+        ⊤ (IsErr result) source.old source.new }
     ensures same { K.borrow source.new ≡ K.borrow source.old }
     ensures cause { HasCause (K.faults source.old) (K.faults source.new) result }
 {

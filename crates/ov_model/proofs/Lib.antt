@@ -1,4 +1,5 @@
 pub mod Agreement
+pub mod Legality
 mod Rows
 pub mod Runs
 pub mod Spellings

@@ -1,7 +1,6 @@
 -- A stream is cut into frames in one way.
-use Rattle.std.proofs.Common.{◌≡◌, ℕ, ◌^◌, ◌<◌, List, [], ◌∷◌, ◌++◌, length, take, drop, inl, inr, refl, sym, ap, ◌∙◌, append_assoc, length-append, arith}
+use Rattle.std.proofs.Common.{◌≡◌, ℕ, List, [], ◌∷◌, ◌++◌, length, inl, inr, refl, sym, ap, ◌∙◌, append_assoc, length-append, arith}
 use Rattle.std.specs.List.{flat_map, AllByRecursion}
-use Rattle.std.proofs.lemmas.List.{take_at, drop_at}
 use Rattle.ov_fields.specs.Spelling.{u32}
 use Rattle.ov_wire.specs.Frames.{framed, IsFrame, IsCut, in_length, in_frame}
 use Rattle.ov_wire.proofs.StreamLaws.{numbers, two_frames}

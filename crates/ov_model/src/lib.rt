@@ -19,4 +19,4 @@ mod frames;
 mod machine;
 
 pub use frames::{frames_hold_spellings, frames_take_updates, streams_are_cut_one_way};
-pub use machine::{a_refusal_changes_nothing, an_update_raises_the_epoch};
+pub use machine::{a_refusal_changes_nothing, an_update_raises_the_epoch, legal_histories_go_on};

@@ -1,11 +1,12 @@
 //! The laws of the machine's step. The functions do nothing.
-ghost use Rattle.std.specs.Prelude.{◌≡◌, ℕ, ◌+◌};
+ghost use Rattle.std.specs.Prelude.{◌≡◌, ℕ, ◌+◌, List};
 ghost use Rattle.ov_base.specs.declared.refusal.Refusal.{Refusal};
 ghost use Rattle.ov_script.specs.declared.command.Command.{Command};
 ghost use Rattle.ov_script.specs.declared.reply.Reply.TheVariants.{Accepted, Refused};
 ghost use Rattle.ov_history.specs.History.{epoch_of};
 ghost use Rattle.ov_history.specs.Plain.{PlainHistory, history_of};
-ghost use Rattle.ov_model.specs.Step.{reply_to, after};
+ghost use Rattle.ov_history.specs.Refusals.{IsLegal};
+ghost use Rattle.ov_model.specs.Step.{reply_to, after, after_all};
 
 /// A command that is refused changes nothing.
 pub fn a_refusal_changes_nothing()
@@ -19,4 +20,10 @@ pub fn an_update_raises_the_epoch()
         → reply_to h command ≡ Accepted epoch
         → (epoch ≡ epoch_of (history_of h) + 1)
         × (epoch_of (history_of (after h command)) ≡ epoch) }
+{}
+
+/// A legal history is legal after any commands, and of the mode that it was of.
+pub fn legal_histories_go_on()
+    ensures { (h : PlainHistory) (commands : List Command) → IsLegal (history_of h)
+        → IsLegal (history_of (after_all h commands)) × ((after_all h commands).mode ≡ h.mode) }
 {}

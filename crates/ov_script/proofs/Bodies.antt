@@ -1,9 +1,10 @@
 -- What stands behind the line of a body, once its bytes were gathered.
 use Rattle.std.proofs.Common.{◌≡◌, ◌≢◌, ℕ, suc, ◌+◌, ◌<◌, ◌≤◌, List, [], ◌∷◌, ◌++◌, length, ap, length-append, arith, Option, Some, None, min}
 use Rattle.std.specs.Prelude.{IfSome}
+use Rattle.ov_io.specs.Calls.{TakesPieces}
 use Rattle.ov_script.specs.Feed.{Fed, Uses, text_of}
 use Rattle.ov_script.specs.Finding.{TakesBelow, IsBadBody, no_lf}
-use Rattle.ov_script.proofs.Needing.{below_wider, below_behind}
+use Rattle.ov_script.proofs.Needing.{below_behind}
 use Rattle.ov_script.proofs.Using.{text_used, fact_behind}
 
 module _ {S : Type 0} (left : S → Option (List ℕ)) (room size : ℕ) (a b : Fed S) (body : List ℕ) (used : Uses left a b body) (count : length body ≡ size) (within : size ≤ room) where
@@ -34,7 +35,8 @@ module _ {S : Type 0} (left : S → Option (List ℕ)) (room size : ℕ) (a b : 
       (λ text (c, rest, differs, e). no_lf body rest c count fits differs (ap (λ t. body ++ t) e)) (text_used left a b body used) other
 
   -- what was taken for the LF
-  pub taken_for_lf : (takes : S → S → Type 0) (F G : Type 0) (new : S) (gathered : ℕ) → gathered ≡ min (room + 1) size → TakesBelow takes left gathered a.pending F a.source b.source
-      → TakesBelow takes left 1 b.pending G b.source new → TakesBelow takes left (min room size + 1) a.pending G a.source new
-  taken_for_lf takes F G new gathered e before lf =
-      below_behind takes left 1 (min room size + 1) F G a b body new used (omega arith) (below_wider takes left gathered (min room size + 1) F a.pending a.source b.source (omega arith) before) lf
+  pub taken_for_lf : (takes : S → S → Type 0) (E F : Type 0) (new : S) (gathered : ℕ) → gathered ≡ min (room + 1) size
+      → TakesPieces takes left (λ seen. length (a.pending ++ seen) < gathered) a.source b.source used.more
+      → TakesBelow takes left 1 b.pending E F b.source new → TakesBelow takes left (min room size + 1) a.pending E F a.source new
+  taken_for_lf takes E F new gathered e before lf =
+      below_behind takes left gathered 1 (min room size + 1) E F a b body new (omega arith) (omega arith) (used, before) lf

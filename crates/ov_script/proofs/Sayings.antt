@@ -12,7 +12,7 @@ use Rattle.ov_script.specs.Feed.{Fed, text_of}
 use Rattle.ov_script.specs.Finding.{Tells}
 use Rattle.ov_script.specs.Place.{Place, text_left, answer_of}
 use Rattle.ov_script.specs.Saying.{Says}
-use Rattle.ov_script.specs.Taking.{TakesWhatItNeeds}
+use Rattle.ov_script.specs.Taking.{EndsReading, TakesWhatItNeeds}
 use Rattle.ov_script.proofs.Using.{text_used}
 
 -- an item
@@ -29,9 +29,9 @@ pub said_at : {S : Type 0} (left : S → Option (List ℕ)) (inside place : Plac
     → IfSome (text_left left place) (λ text. Says place.line place.room text next line' room' rest)
 said_at left inside place next line' room' rest e p = subst (λ (q : Place _). IfSome (text_left left q) (λ text. Says q.line q.room text next line' room' rest)) e p
 
-pub needed_at : {S : Type 0} (takes : S → S → Type 0) (left : S → Option (List ℕ)) (failed : Type 0) (inside place : Place S) (new : S) → inside ≡ place
-    → TakesWhatItNeeds takes left inside.room inside.pending failed inside.source new → TakesWhatItNeeds takes left place.room place.pending failed place.source new
-needed_at takes left failed inside place new e p = subst (λ (q : Place _). TakesWhatItNeeds takes left q.room q.pending failed q.source new) e p
+pub needed_at : {S : Type 0} (takes : S → S → Type 0) (left : S → Option (List ℕ)) (ended failed : Type 0) (inside place : Place S) (new : S) → inside ≡ place
+    → TakesWhatItNeeds takes left inside.room inside.pending ended failed inside.source new → TakesWhatItNeeds takes left place.room place.pending ended failed place.source new
+needed_at takes left ended failed inside place new e p = subst (λ (q : Place _). TakesWhatItNeeds takes left q.room q.pending ended failed q.source new) e p
 
 -- a fault is answered only where the reading ended with it
 pub fault_answered : (line : ℕ) (ended : Ended) (fault : ScriptFault) → answer_of line ended ≡ Err fault → ended ≡ Fault fault
@@ -39,3 +39,10 @@ fault_answered line End fault e = absurd (cc)
 fault_answered line Bad fault e = absurd (cc)
 fault_answered line Long fault e = absurd (cc)
 fault_answered line (Fault other) fault e = cc
+
+-- and no way that the reading ended is a command
+pub ends_reading : (line : ℕ) (ended : Ended) → EndsReading (answer_of line ended)
+ends_reading line End = tt
+ends_reading line Bad = tt
+ends_reading line Long = tt
+ends_reading line (Fault other) = tt

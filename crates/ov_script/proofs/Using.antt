@@ -1,42 +1,13 @@
 -- What is used of a text.
-use Rattle.std.proofs.Common.{◌≡◌, inl, inr, ℕ, ◌+◌, ◌<◌, ◌≤◌, List, [], ◌++◌, length, sym, ◌∙◌, ap, subst, append_assoc, append-nil, length-append, arith, Option, Some, None, min}
+use Rattle.std.proofs.Common.{◌≡◌, ℕ, List, [], ◌++◌, sym, ◌∙◌, ap, subst, append_assoc, Option, Some, None}
 use Rattle.std.specs.Prelude.{IfSome}
-use Rattle.std.specs.Io.KnownBytes.{prepend_known, Consumes, Keeps, IsAtEnd}
-use Rattle.std.proofs.KnownBytes.{Consumes-trans, Consumes-nil, Consumes-kept}
-use Rattle.ov_script.specs.Feed.{Fed, Uses, Takes, text_of}
+use Rattle.std.specs.Io.KnownBytes.{prepend_known, Consumes, IsAtEnd}
+use Rattle.std.proofs.KnownBytes.{Consumes-trans}
+use Rattle.ov_script.specs.Feed.{Fed, Uses, text_of}
 
 -- the same bytes behind a longer front
 behind_front : (a b c d : List ℕ) → (a ++ b) ++ c ≡ a ++ (b ++ c)
 behind_front a b c d = append_assoc a b c
-
--- nothing was used yet
-pub uses_nothing : {S : Type 0} (left : S → Option (List ℕ)) (feed : Fed S) → Uses left feed feed []
-uses_nothing left feed = record { more = []; source = Consumes-nil (left feed.source); pending = append-nil feed.pending }
-
--- bytes were taken, and none of them used
-pub uses_taken : {S : Type 0} (left : S → Option (List ℕ)) (a b c : Fed S) (used more : List ℕ) → Uses left a b used → Takes left b c more → Uses left a c used
-uses_taken left a b c used more u t = record {
-  more = u.more ++ more;
-  source = Consumes-trans (left a.source) (left b.source) (left c.source) u.more more u.source t.source;
-  pending = sym (append_assoc a.pending u.more more) ∙ ap (λ l. l ++ more) u.pending ∙ append_assoc used b.pending more ∙ ap (λ l. used ++ l) (sym t.pending);
-}
-
--- some of the pending bytes were used
-pub uses_more : {S : Type 0} (left : S → Option (List ℕ)) (a b c : Fed S) (used piece : List ℕ) → Uses left a b used → c.source ≡ b.source → b.pending ≡ piece ++ c.pending → Uses left a c (used ++ piece)
-uses_more left a b c used piece u same e = record {
-  more = u.more;
-  source = subst (λ s. Consumes (left a.source) (left s) u.more) (sym same) u.source;
-  pending = u.pending ∙ ap (λ l. used ++ l) e ∙ sym (append_assoc used piece c.pending);
-}
-
--- some of the pending bytes were used, and those used so far are fewer than are wanted still
-pub moved_less : {S : Type 0} (left : S → Option (List ℕ)) (a b m : Fed S) (old new : List ℕ) (count n k : ℕ) → length old ≡ n → length new ≡ k → Uses left a b old → m.source ≡ b.source
-    → (piece : List ℕ) × (new ≡ old ++ piece) × (b.pending ≡ piece ++ m.pending) × (length new ≡ min count (n + length b.pending)) → (k ≡ count → ⊥)
-    → Uses left a m new × (k ≤ count) × (length new + length m.pending < count)
-moved_less left a b m old new count n k olds news used same (piece, parts, pending, filled) less =
-    let sum : length new ≡ length old + length piece = ap length parts ∙ length-append old piece in
-    let rest : length b.pending ≡ length piece + length m.pending = ap length pending ∙ length-append piece m.pending in
-    (subst (λ l. Uses left a m l) (sym parts) (uses_more left a b m old piece used same pending), omega arith, omega (arith, less))
 
 -- one use after another
 pub uses_trans : {S : Type 0} (left : S → Option (List ℕ)) (a b c : Fed S) (xs ys : List ℕ) → Uses left a b xs → Uses left b c ys → Uses left a c (xs ++ ys)

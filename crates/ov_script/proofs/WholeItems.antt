@@ -1,18 +1,15 @@
 -- What stands behind the line of an item makes the item whole, or not.
-use Rattle.std.proofs.Common.{◌≡◌, ◌≢◌, inl, inr, ℕ, suc, ◌+◌, ◌-◌, ◌<◌, ◌≤◌, List, [], ◌∷◌, ◌++◌, length, take, drop, refl, sym, ◌∙◌, ap, subst, append_assoc, length-append, arith, Option, Result, Ok, Err, IfOk, min}
+use Rattle.std.proofs.Common.{◌≡◌, ◌≢◌, ℕ, suc, ◌+◌, ◌-◌, ◌<◌, ◌≤◌, List, [], ◌∷◌, ◌++◌, length, take, drop, refl, sym, ◌∙◌, ap, subst, append_assoc, length-append, arith, Option, Result, Ok, Err, IfOk, min}
 use Rattle.std.specs.Io.KnownBytes.{Consumes}
-use Rattle.std.proofs.KnownBytes.{Consumes-trans}
 use Rattle.std.proofs.Math.Seq.{drop-append_seam, take-append-add}
 use Rattle.std.proofs.lemmas.List.{length-take-le}
-use Rattle.ov_script.specs.declared.command.Command.{Command}
 use Rattle.ov_script.specs.declared.ended.Ended.{Ended}
 use Rattle.ov_script.specs.declared.ended.Ended.TheVariants.{End, Bad, Long, Fault}
 use Rattle.ov_script.specs.declared.find.Line.{Line}
-use Rattle.ov_script.specs.declared.first_line.FirstLine.{FirstLine}
 use Rattle.ov_script.specs.declared.first_line.FirstLine.TheVariants.{Whole, WithBody}
 use Rattle.ov_script.specs.declared.item.Item.{Item}
 use Rattle.ov_script.specs.Feed.{Fed, Uses, Takes, text_of}
-use Rattle.ov_script.specs.Finding.{Finds, Creates, Tells, IsBadBody, cut, no_lf, IsWhyNoBody, TakesBelow}
+use Rattle.ov_script.specs.Finding.{Finds, Creates, Tells, IsBadBody, cut, no_lf, IsWhyNoBody, NeedsPieces, TakesBelow}
 use Rattle.ov_script.specs.ItemLines.{SaysLine}
 use Rattle.ov_script.specs.Items.{BeginsWithItem, CanBegin}
 use Rattle.ov_script.specs.LineFeeds.{lf_count}
@@ -23,7 +20,7 @@ use Rattle.ov_script.proofs.Beginning.{can_by_body, none_in_body, body_behind, w
 use Rattle.ov_script.proofs.ByteTexts.{lf_count-append, lf_count-line, lf_count-within}
 use Rattle.ov_script.proofs.Fronts.{bad_front}
 use Rattle.ov_script.proofs.Grammar.{item_from}
-use Rattle.ov_script.proofs.Needing.{while_same, while_behind}
+use Rattle.ov_io.proofs.Pieces.{pieces_same, while_behind}
 use Rattle.ov_script.proofs.Using.{text_used, fact_behind, uses_trans}
 
 -- ---- texts behind the line of a body
@@ -147,16 +144,16 @@ module _ {S : Type 0} (left : S → Option (List ℕ)) (room : ℕ) (a b m : Fed
         (omega arith, omega arith)
     sized_created (Err ended) p = tt
 
-    pub needed_created : (takes : S → S → Type 0) (F G : Type 0) → TakesWhatItNeeds takes left room a.pending F a.source b.source
-        → TakesBelow takes left (min (room - line.size) body + 1) m.pending G m.source c.source → TakesWhatItNeeds takes left room a.pending G a.source c.source
-    needed_created takes F G before after' =
-        let u = uses_line in
-        while_behind takes left (λ seen. IsUnsettled room (a.pending ++ seen)) (λ seen. length (m.pending ++ seen) < min (room - line.size) body + 1) F G
-        a.source m.source c.source u.more u.source wider (while_same takes left (λ seen. IsUnsettled room (a.pending ++ seen)) F a.source b.source m.source line_used before) after' where
-          wider : (seen : List ℕ) → length (m.pending ++ seen) < min (room - line.size) body + 1 → IsUnsettled room (a.pending ++ (uses_line.more ++ seen))
+    pub needed_created : (takes : S → S → Type 0) (E F : Type 0) → NeedsPieces takes left room a b more
+        → TakesBelow takes left (min (room - line.size) body + 1) m.pending E F m.source c.source → TakesWhatItNeeds takes left room a.pending E F a.source c.source
+    unfolding uses_line
+    needed_created takes E F before after' =
+        while_behind takes left (λ seen. IsUnsettled room (a.pending ++ seen)) (λ seen. length (m.pending ++ seen) < min (room - line.size) body + 1) E F
+        a.source m.source c.source more wider (pieces_same takes left (λ seen. IsUnsettled room (a.pending ++ seen)) a.source b.source m.source more line_used before) after' where
+          wider : (seen : List ℕ) → length (m.pending ++ seen) < min (room - line.size) body + 1 → IsUnsettled room (a.pending ++ (more ++ seen))
           wider seen small =
               let u = uses_line in
-              let whole : a.pending ++ (u.more ++ seen) ≡ found.0 ++ 10 ∷ (m.pending ++ seen) =
-              sym (append_assoc a.pending u.more seen) ∙ ap (λ l. l ++ seen) u.pending ∙ append_assoc (found.0 ++ 10 ∷ []) m.pending seen ∙ append_assoc found.0 (10 ∷ []) (m.pending ++ seen) in
+              let whole : a.pending ++ (more ++ seen) ≡ found.0 ++ 10 ∷ (m.pending ++ seen) =
+              sym (append_assoc a.pending more seen) ∙ ap (λ l. l ++ seen) u.pending ∙ append_assoc (found.0 ++ 10 ∷ []) m.pending seen ∙ append_assoc found.0 (10 ∷ []) (m.pending ++ seen) in
               subst (IsUnsettled room) (sym whole) (unsettled_body found.0 file names body room says_body fits (m.pending ++ seen)
               (subst (λ n. length (m.pending ++ seen) < min (room - n) body + 1) (sym found.4) small))

@@ -3,7 +3,7 @@ use Rattle.std.specs.Prelude.{◌≡◌, ◌≢◌, ℕ, ◌+◌, ◌-◌, ◌<�
 use Rattle.std.specs.Io.KnownBytes.{prepend_known}
 use Rattle.std.specs.declared.alloc.Global.{Global}
 use Rattle.ov_base.specs.declared.limits.TheConstants.{MAX_LINE_BYTES}
-use Rattle.ov_io.specs.Calls.{TakesWhile}
+use Rattle.ov_io.specs.Calls.{TakesPieces, TakesWhile}
 use Rattle.ov_script.specs.Feed.{Fed, Uses, text_of}
 use Rattle.ov_script.specs.ItemLines.{SaysLine}
 use Rattle.ov_script.specs.Items.{IsItem}
@@ -62,6 +62,13 @@ IsWhyNoBody room size text Bad = IfSome text (IsBadBody room size)
 IsWhyNoBody room size text Long = IfSome text (λ t. (room < length t) × (room ≤ size))
 IsWhyNoBody room size text (Fault fault) = ⊤
 
+-- These bytes were taken in pieces, while it was unsettled what item stands there.
+abbrev pub NeedsPieces : {S : Type 0} → (S → S → Type 0) → (S → Option (List ℕ)) → ℕ → Fed S → Fed S
+    → List ℕ → Type 0
+NeedsPieces takes left room old new more =
+    TakesPieces takes left (λ seen. IsUnsettled room (old.pending ++ seen))
+    old.source new.source more
+
 -- A body of so many bytes and its LF were used, which may be read; or there is none.
 abbrev pub Gathers : {S : Type 0} → (S → Option (List ℕ)) → ℕ → ℕ → Fed S → Fed S
     → Result (Vec ℕ Global) Ended → Type 0
@@ -69,11 +76,21 @@ Gathers left room size old new (Ok bytes) =
     (vec_len bytes ≡ size) × (size < room) × Uses left old new (bytes.items ++ 10 ∷ [])
 Gathers left room size old new (Err ended) = IsWhyNoBody room size (text_of left old) ended
 
--- Bytes are taken only while fewer than so many stand there.
+-- Bytes are taken only while fewer than so many stand there, and a take that gives none is the
+-- last.
 abbrev pub TakesBelow : {S : Type 0} → (S → S → Type 0) → (S → Option (List ℕ)) → ℕ → List ℕ
-    → Type 0 → S → S → Type 0
-TakesBelow takes left count pending failed old new =
-    TakesWhile takes left (λ seen. length (pending ++ seen) < count) failed old new
+    → Type 0 → Type 0 → S → S → Type 0
+TakesBelow takes left count pending ended failed old new =
+    TakesWhile takes left (λ seen. length (pending ++ seen) < count) ended failed old new
+
+-- These bytes were used, and those of them that weren't pending were taken in pieces, while fewer
+-- than so many stood there.
+abbrev pub UsesBelow : {S : Type 0} → (S → S → Type 0) → (S → Option (List ℕ)) → ℕ → Fed S → Fed S
+    → List ℕ → Type 0
+UsesBelow takes left count old new used =
+    (uses : Uses left old new used)
+    × TakesPieces takes left (λ seen. length (old.pending ++ seen) < count)
+    old.source new.source uses.more
 
 -- An LF was used, or the text begins with another byte, or it ends.
 abbrev pub TakesLf : {S : Type 0} → (S → Option (List ℕ)) → Fed S → Fed S → Behind → Type 0

@@ -1,8 +1,8 @@
 //! The body of a file in a script, gathered over pieces of any size.
-ghost use Rattle.std.specs.Prelude.{◌≡◌, ℕ, List, ◌++◌, ◌+◌, ◌<◌, ◌≤◌, length, min, vec_len, IfOk, OnOk, IsErrOf, IfSome, IfNone};
+ghost use Rattle.std.specs.Prelude.{◌≡◌, ◌≢◌, ℕ, List, ◌++◌, ◌+◌, ◌<◌, ◌≤◌, length, min, vec_len, Ok, IfOk, OnOk, IsErr, IsErrOf, IfSome, IfNone, ⊤};
 ghost use Rattle.ov_io.specs.Calls.{IsCallOf};
-ghost use Rattle.ov_script.specs.Feed.{Uses, text_of};
-ghost use Rattle.ov_script.specs.Finding.{Gathers, TakesLf, TakesBelow};
+ghost use Rattle.ov_script.specs.Feed.{text_of};
+ghost use Rattle.ov_script.specs.Finding.{Gathers, TakesLf, TakesBelow, UsesBelow};
 ghost use Rattle.ov_script.specs.NoItem.{IsReadFault};
 
 use crate::ended::Ended;
@@ -63,11 +63,12 @@ fn gather<S: Source + Drop>(
     count: usize,
 ) -> Result<Option<Vec<u8>>, ScriptFault>
     ensures bytes { IfOk result (λ found. IfSome found (λ bytes.
-        (vec_len bytes ≡ count) × Uses S.left feed.old feed.new bytes.items)) }
+        (vec_len bytes ≡ count)
+        × UsesBelow S.takes S.left count feed.old feed.new bytes.items)) }
     ensures none { IfOk result (λ found. IfNone found
         (IfSome (text_of S.left feed.old) (λ text. length text < count))) }
     ensures needed { TakesBelow S.takes S.left count feed.old.pending
-        (IsErrOf result ScriptFault.Read) feed.old.source feed.new.source }
+        ⊤ (IsErrOf result ScriptFault.Read) feed.old.source feed.new.source }
     ensures call { IsCallOf S.borrow S.faults (IsErrOf result ScriptFault.Read)
         feed.old.source feed.new.source }
 {
@@ -87,7 +88,8 @@ fn gather<S: Source + Drop>(
 fn take_lf<S: Source + Drop>(feed: &mut Feed<S>) -> Result<Behind, ScriptFault>
     ensures found { IfOk result (TakesLf S.left feed.old feed.new) }
     ensures needed { TakesBelow S.takes S.left 1 feed.old.pending
-        (IsErrOf result ScriptFault.Read) feed.old.source feed.new.source }
+        (result ≢ Ok Behind.Lf) (IsErrOf result ScriptFault.Read)
+        feed.old.source feed.new.source }
     ensures call { IsCallOf S.borrow S.faults (IsErrOf result ScriptFault.Read)
         feed.old.source feed.new.source }
 {
@@ -119,7 +121,7 @@ pub fn body_of<S: Source + Drop>(
 ) -> Result<Vec<u8>, Ended>
     ensures found { Gathers S.left room size feed.old feed.new result }
     ensures needed { TakesBelow S.takes S.left (min room size + 1) feed.old.pending
-        (IsReadFault result) feed.old.source feed.new.source }
+        (IsErr result) (IsReadFault result) feed.old.source feed.new.source }
     ensures call { IsCallOf S.borrow S.faults (IsReadFault result) feed.old.source feed.new.source }
 {
     let Some(bytes) = gather(feed, count_of(room, size))? else {

@@ -1,10 +1,10 @@
 //! What line stands at the front of a text, found over pieces of any size.
-ghost use Rattle.std.specs.Prelude.{◌≡◌, ◌≢◌, ℕ, List, Option, ◌∷◌, ◌++◌, ◌<◌, ◌≤◌, length, take, Ok, Err, IfSome, IfNone, MatchBool};
+ghost use Rattle.std.specs.Prelude.{◌≡◌, ◌≢◌, ℕ, List, Option, ◌∷◌, ◌++◌, ◌<◌, ◌≤◌, length, take, Ok, Err, IfOk, IsErr, IfSome, IfNone, MatchBool};
 ghost use Rattle.std.specs.Io.KnownBytes.{IsAtEnd, prepend_known};
 ghost use Rattle.ov_io.specs.Calls.{IsCallOf};
 ghost use Rattle.ov_script.specs.declared.front.Front.TheVariants.{Start};
 ghost use Rattle.ov_script.specs.Feed.{Takes};
-ghost use Rattle.ov_script.specs.Finding.{Finds, IsSettled};
+ghost use Rattle.ov_script.specs.Finding.{Finds, IsSettled, NeedsPieces};
 ghost use Rattle.ov_script.specs.LineFeeds.{NoLf};
 ghost use Rattle.ov_script.specs.LineEnds.{may_go_on};
 ghost use Rattle.ov_script.specs.LineFronts.{run};
@@ -149,9 +149,10 @@ fn at_end(count: usize) -> Ended
 /// read.
 pub fn find<S: Source + Drop>(feed: &mut Feed<S>, room: usize) -> Result<Line, Ended>
     ensures found { Finds room feed.new.pending (S.left feed.new.source) result }
-    ensures taken { (more : List ℕ) × Takes S.left feed.old feed.new more }
+    ensures taken { (more : List ℕ) × Takes S.left feed.old feed.new more
+        × IfOk result (λ _. NeedsPieces S.takes S.left room feed.old feed.new more) }
     ensures needed { TakesWhatItNeeds S.takes S.left room feed.old.pending
-        (IsReadFault result) feed.old.source feed.new.source }
+        (IsErr result) (IsReadFault result) feed.old.source feed.new.source }
     ensures call { IsCallOf S.borrow S.faults (IsReadFault result) feed.old.source feed.new.source }
 {
     let alloc = feed.alloc();

@@ -1,5 +1,5 @@
 //! What item stands at the front of a text.
-ghost use Rattle.std.specs.Prelude.{◌≡◌, ◌+◌, ◌-◌, min, ◌≤◌, ◌<◌, length, IfOk};
+ghost use Rattle.std.specs.Prelude.{◌≡◌, ◌+◌, ◌-◌, min, ◌≤◌, ◌<◌, length, IfOk, IsErr};
 ghost use Rattle.ov_io.specs.Calls.{IsCallOf};
 ghost use Rattle.ov_script.specs.Finding.{Tells, Creates, TakesBelow};
 ghost use Rattle.ov_script.specs.LineFeeds.{lf_count};
@@ -51,7 +51,7 @@ fn create<S: Source + Drop>(
     requires { line ≤ room }
     ensures found { Creates S.left room names line size feed.old feed.new result }
     ensures needed { TakesBelow S.takes S.left (min (room - line) size + 1) feed.old.pending
-        (IsReadFault result) feed.old.source feed.new.source }
+        (IsErr result) (IsReadFault result) feed.old.source feed.new.source }
     ensures call { IsCallOf S.borrow S.faults (IsReadFault result) feed.old.source feed.new.source }
 {
     let bytes = body_of(feed, room - line, size)?;
@@ -73,7 +73,7 @@ pub fn item_of<S: Source + Drop>(feed: &mut Feed<S>, room: usize) -> Result<Item
     ensures found { Tells S.left room feed.old feed.new result }
     ensures size { IfOk result (λ item. (0 < item.size) × (item.lines ≤ item.size)) }
     ensures needed { TakesWhatItNeeds S.takes S.left room feed.old.pending
-        (IsReadFault result) feed.old.source feed.new.source }
+        (IsErr result) (IsReadFault result) feed.old.source feed.new.source }
     ensures call { IsCallOf S.borrow S.faults (IsReadFault result) feed.old.source feed.new.source }
 {
     let Line { said, size } = find(feed, room)?;

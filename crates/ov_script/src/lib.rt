@@ -10,8 +10,8 @@
 //! * `Reading` says what the commands of a text are and how its reading ends; that each text has a
 //!   reading, and only one, are the laws [`every_text_has_a_reading`] and [`one_reading`];
 //! * `Saying` says what one call of `next` tells of the text, and `Taking` what it may take from
-//!   the source: bytes are taken only while it isn't settled what stands next, and none are lost at
-//!   a fault;
+//!   the source: bytes are taken only while it isn't settled what stands next, a source that gave
+//!   none isn't asked again, and none are lost at a fault;
 //! * `Lines` gives the reply lines, which [`line`] appends.
 //!
 //! A command that `next` gives is that of some item, also where the source tells nothing

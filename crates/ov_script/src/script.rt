@@ -1,5 +1,5 @@
 //! Scripts, item by item.
-ghost use Rattle.std.specs.Prelude.{◌≡◌, ◌+◌, ◌<◌, ◌≤◌, [], IfOk, MatchResult, None};
+ghost use Rattle.std.specs.Prelude.{◌≡◌, ◌+◌, ◌<◌, ◌≤◌, [], IfOk, IsErr, MatchResult, None};
 ghost use Rattle.std.specs.Option.{option_map};
 ghost use Rattle.ov_base.specs.declared.limits.TheConstants.{MAX_SCRIPT_BYTES};
 ghost use Rattle.ov_io.specs.Calls.{IsCallOf};
@@ -7,7 +7,7 @@ ghost use Rattle.ov_script.specs.Finding.{Gives};
 ghost use Rattle.ov_script.specs.NoItem.{IsReadFault};
 ghost use Rattle.ov_script.specs.Place.{Place, start, answer_of, GoesOn};
 ghost use Rattle.ov_script.specs.Saying.{SaysOf, IfCommand, IsOfItem};
-ghost use Rattle.ov_script.specs.Taking.{IsFreshFault, TakesWhatItNeeds};
+ghost use Rattle.ov_script.specs.Taking.{EndsReading, IsFreshFault, TakesWhatItNeeds};
 
 use crate::command::Command;
 use crate::ended::Ended;
@@ -84,7 +84,7 @@ impl<S: Source + Drop> Script<S> {
             → IfOk result (λ next. SaysOf S.left self.old next self.new) }
         ensures item { IfOk result IsOfItem }
         ensures needed { TakesWhatItNeeds S.takes S.left self.old.room self.old.pending
-            (IsFreshFault self.old result) self.old.source self.new.source }
+            (EndsReading result) (IsFreshFault self.old result) self.old.source self.new.source }
         ensures ended { GoesOn self.old result self.new }
         ensures progress { IfOk result (λ next. IfCommand next (self.new.room < self.old.room)) }
         ensures call { IsCallOf S.borrow S.faults (IsFreshFault self.old result)
@@ -107,7 +107,7 @@ impl<S: Source + Drop> Script<S> {
         requires { self.old.ended ≡ None }
         ensures says { Gives S.left self.old result self.new }
         ensures needed { TakesWhatItNeeds S.takes S.left self.old.room self.old.pending
-            (IsReadFault result) self.old.source self.new.source }
+            (IsErr result) (IsReadFault result) self.old.source self.new.source }
         ensures moved { MatchResult result
             (λ _. self.new.room < self.old.room) (λ _. self.new.line ≡ self.old.line) }
         ensures ended { self.new.ended ≡ None }

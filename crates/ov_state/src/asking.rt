@@ -1,5 +1,5 @@
 //! What an owner is told before an update.
-ghost use Rattle.std.specs.Prelude.{◌≡◌, ◌<◌, ◌≤◌, ◌*◌, Contains, None, not, length};
+ghost use Rattle.std.specs.Prelude.{◌≡◌, ◌<◌, ◌≤◌, ◌*◌, Contains, None, false, not, length};
 ghost use Rattle.ov_base.specs.Sets.{has, single};
 ghost use Rattle.ov_base.specs.declared.limits.TheConstants.{MAX_FILE_BYTES, MAX_SET_WORDS};
 ghost use Rattle.ov_history.specs.Asking.{key_refusal, newcomer, of_both, of_grant, of_user, refusal_at};
@@ -109,6 +109,7 @@ impl<B: Graph<Base, W>, S: Graph<Surface, W>, const W: usize> State<B, S, W> {
         ensures { let c = self.now.catalogue in AsksWhether (refusal_at c (Granted user file))
             (not (has (holders (outline c) (node_of (outline c) file)) user)) result }
     {
+        self.known();
         match self.plan_grant(alloc, &any_key(), user, file, None) {
             Ok(_) => Ok(false),
             Err(PrepareFault::BadPlan { .. }) => Ok(true),
@@ -121,6 +122,7 @@ impl<B: Graph<Base, W>, S: Graph<Surface, W>, const W: usize> State<B, S, W> {
     fn passes_revoke(&self, alloc: Global, user: u32, file: u32) -> Result<bool, ChainFault>
         ensures { AsksWhether (refusal_at self.now.catalogue (Revoked user file)) false result }
     {
+        self.known();
         match self.plan_revoke(alloc, &any_key(), user, file) {
             Ok(_) => Ok(false),
             Err(PrepareFault::BadPlan { .. }) => unreachable!(),
@@ -156,6 +158,7 @@ impl<B: Graph<Base, W>, S: Graph<Surface, W>, const W: usize> State<B, S, W> {
             let u = user_named c user.now in let f = file_named c file.now in
             Asks (refusal_at c (Granted u f)) (of_grant c u f) result }
     {
+        self.known();
         let user = self.user_or_next(user);
         let file = self.file_or_next(file);
         let wants = self.wants_access(alloc, user, file)?;
@@ -171,6 +174,7 @@ impl<B: Graph<Base, W>, S: Graph<Surface, W>, const W: usize> State<B, S, W> {
             let u = user_named c user.now in let f = file_named c file.now in
             Asks (refusal_at c (Revoked u f)) (of_both c u f) result }
     {
+        self.known();
         let user = self.user_or_next(user);
         let file = self.file_or_next(file);
         self.passes_revoke(alloc, user, file)?;

@@ -9,6 +9,7 @@ use Rattle.ov_history.proofs.Showing.{history_is_shown}
 use Rattle.ov_journal.specs.Book.{contents_of, spelled}
 use Rattle.ov_journal.specs.Finding.{IsStore}
 use Rattle.ov_journal.specs.Log.{Log}
+use Rattle.ov_journal.proofs.Records.{all_first}
 use Rattle.ov_journal.specs.declared.header.Header.{Header}
 use Rattle.ov_vault.specs.Vaults.{Store}
 use Rattle.ov_images.specs.Damage.{IsFor}
@@ -76,6 +77,7 @@ module _ {D : Type 0} (reads : D → Option Image) (may_leave : D → Image → 
         let old = sym quiet.reads_same ∙ read in
         subst (Keeps k found.replay.history) (sym (settled i old x (quiet.no_more x left)))
         (keeps_found i old);
+    after_fault = λ bad. absurd (cc bad);
   }
 
   pub finds : Told (reads d0) (λ i.
@@ -111,7 +113,14 @@ module _ {D : Type 0} (reads : D → Option Image) (may_leave : D → Image → 
               (store i old).records,
               λ x left. ap (λ (j : Image). j.book) (settled i old x (quiet.no_more x left)),
             );
-        some_history = (g, serves_found);
+        first = λ i read.
+            all_first log (contents_of i.book).records
+            (store i (sym quiet.reads_same ∙ read)).records;
+        some_history = (
+          g,
+          serves_found,
+          sym (length-bodies g.updates) ∙ ap length found.replay.bodies_are ∙ found.count,
+        );
       }
 
   pub mode_found : s.catalogue.mode ≡ mode
@@ -121,4 +130,9 @@ module _ {D : Type 0} (reads : D → Option Image) (may_leave : D → Image → 
 
   pub opened_found : IsOpened reads may_leave log mode (reads d0)
       (open_with d1 k s.catalogue s.stored)
-  opened_found = record { safe = safe_found; mode_is = mode_found; found = finds }
+  opened_found = record {
+    safe = safe_found;
+    mode_is = mode_found;
+    found = finds;
+    told = λ i read. (i, quiet.reads_same ∙ read);
+  }

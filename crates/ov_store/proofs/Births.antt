@@ -9,6 +9,7 @@ use Rattle.ov_history.specs.Sealed.{blank}
 use Rattle.ov_journal.specs.Book.{contents_of, born}
 use Rattle.ov_journal.specs.Log.{Log, IsUnbornOrEmpty, IsKept, Stands}
 use Rattle.ov_journal.specs.Standing.{IsUnborn}
+use Rattle.ov_journal.proofs.Records.{all_first}
 use Rattle.ov_images.specs.Images.{Keys, header_of, Keeps, IsImageOf}
 use Rattle.ov_store.specs.Beginning.{IsBornStore}
 use Rattle.ov_store.specs.Opened.{Serves, IsSafe, open_with}
@@ -54,6 +55,7 @@ module _ {D : Type 0} (reads : D → Option Image) (may_leave : D → Image → 
           let one = kept before.0 before.1 in
           keeps_none k mode first x low
           (ap (λ (j : Image). contents_of j.book) (one.only x left) ∙ one.book);
+      after_fault = λ bad. absurd (cc bad);
     }
 
     pub safe_none : (log : Log) → log.bad ≡ false → length log.offsets ≡ 0
@@ -63,11 +65,16 @@ module _ {D : Type 0} (reads : D → Option Image) (may_leave : D → Image → 
       whole = whole;
       count = omega (arith, count);
       stands = λ ok. stands;
-      some_history = (blank mode first, serves_none);
+      first = λ i read. all_first log (contents_of i.book).records (stands i read).0;
+      some_history = (blank mode first, serves_none, sym count);
     }
 
     pub born_none : (log : Log) → log.bad ≡ false → length log.offsets ≡ 0
         → Stands log (reads d1) (may_leave d1)
-        → IsBornStore reads may_leave log mode first (open_with d1 k c stored)
-    born_none log whole count stands =
-        record { safe = safe_none log whole count stands; serves = serves_none; empty = is }
+        → IsBornStore reads may_leave log mode first (reads d0) (open_with d1 k c stored)
+    born_none log whole count stands = record {
+      safe = safe_none log whole count stands;
+      serves = serves_none;
+      empty = is;
+      told = λ i read. ((kept i read).now, (kept i read).is_read);
+    }

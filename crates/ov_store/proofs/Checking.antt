@@ -1,6 +1,6 @@
 -- Records that are followed, one after the other.
 use Rattle.std.proofs.Common.{◌≡◌, ℕ, zero, suc, ◌+◌, ◌<◌, List, [], ◌∷◌, ◌++◌, length, take, get_or, true, false, refl, sym, ◌∙◌, ap, subst, arith}
-use Rattle.std.proofs.lemmas.List.{take_all}
+use Rattle.std.proofs.lemmas.List.{get_or_append_left, take_all, take_at}
 use Rattle.ov_base.specs.declared.mode.Mode.{Mode}
 use Rattle.ov_disk.specs.Disk.{Image}
 use Rattle.ov_record.specs.Updates.{SealedUpdate}
@@ -16,15 +16,15 @@ use Rattle.ov_history.specs.Sealed.{with_sealed}
 use Rattle.ov_history.proofs.GoingOn.{histories_go_on}
 use Rattle.ov_history.proofs.Pushing.{with_updates, with_updates-all}
 use Rattle.ov_history.proofs.Showing.{history_is_shown}
-use Rattle.ov_journal.specs.Book.{Contents, contents_of}
-use Rattle.ov_journal.specs.Log.{Log, end_from, IsLogOf}
+use Rattle.ov_journal.specs.Book.{contents_of}
+use Rattle.ov_journal.specs.Log.{Log, end_from, gates_from, IsLogOfFirst}
 use Rattle.ov_state.specs.Plans.{IsTaken}
-use Rattle.ov_images.specs.Images.{Keys, AllHaveForm, Keeps, bodies_of}
+use Rattle.ov_images.specs.Images.{AllHaveForm, bodies_of}
 use Rattle.ov_images.proofs.Damage.{front_fits}
 use Rattle.ov_store.specs.Bodies.{IsBodyOf}
-use Rattle.ov_store.specs.Owners.{FollowsUpdate, HasFalseUpdate, IsOwners, with_first}
+use Rattle.ov_store.specs.Owners.{BeginsWith, FollowsUpdate, HasFalseUpdate, IsHistoryOf, IsOwners, with_first}
 use Rattle.ov_store.proofs.Begun.{length-bodies}
-use Rattle.ov_store.proofs.Replays.{IsNext, as_many, goes_taken}
+use Rattle.ov_store.proofs.Replays.{IsNext, goes_taken, length-gates}
 use Rattle.ov_store.proofs.Stopping.{gate-end}
 
 -- ---- update number `i` and its record
@@ -73,29 +73,43 @@ pub record FollowedTo (k : Masters) (g : SealedHistory) (i : ℕ) (c : Catalogue
   pub stands : StandsFor k.surface c (with_first g (take i g.updates))
   pub owners : AllAreOwners k (start_of (outer_of g)) (take i g.updates)
 
--- so it is of each history that the image keeps, from this mode and epoch on
-abbrev pub FollowsImage : Masters → Mode → ℕ → ℕ → Catalogue → Image → Type 0
-FollowsImage k mode first i c d =
-    (any : Keys) (g : SealedHistory) → Keeps any g d → g.mode ≡ mode → g.first ≡ first
-    → FollowedTo k g i c
+-- so it is of each history whose records are the journal's, which are the first of the image's
+abbrev pub FollowsImage : Masters → Log → Mode → ℕ → ℕ → Catalogue → Image → Type 0
+FollowsImage k log mode first i c d =
+    (g : SealedHistory) → IsHistoryOf log mode first g d → FollowedTo k g i c
 
-pub followed_none : (k : Masters) (mode : Mode) (first : ℕ) (c : Catalogue) (d : Image)
-    → c ≡ empty_catalogue mode first → FollowsImage k mode first 0 c d
-followed_none k mode first c d is any g keeps is_mode is_first = record {
-  stands = (tt, is ∙ (λ j. empty_catalogue (sym is_mode j) (sym is_first j)));
+pub followed_none : (k : Masters) (log : Log) (mode : Mode) (first : ℕ) (c : Catalogue) (d : Image)
+    → c ≡ empty_catalogue mode first → FollowsImage k log mode first 0 c d
+followed_none k log mode first c d is g history = record {
+  stands = (tt, is ∙ (λ j. empty_catalogue (sym history.1 j) (sym history.2 j)));
   owners = tt;
 }
 
-module _ (k : Masters) (any : Keys) (g : SealedHistory) (d : Image) (keeps : Keeps any g d) (i : ℕ)
-    (c : Catalogue) (so_far : FollowedTo k g i c) (body : List ℕ) (next : IsNext i body d) where
-  bodies_same : (contents_of d.book).records.bodies ≡ bodies_of g.updates
-  bodies_same = ap (λ (x : Contents). x.records.bodies) keeps.book
+-- the journal of the first records has those of the history
+first_bodies : (g : SealedHistory) (d : Image) (log : Log) → BeginsWith g d
+    → (is : IsLogOfFirst log (contents_of d.book).records)
+    → length g.updates ≡ length log.offsets → is.front ≡ bodies_of g.updates
+first_bodies g d log begins is many =
+    let n = length log.offsets in
+    let long : length is.front ≡ n =
+    sym (length-gates 78 is.front) ∙ ap length (sym is.offsets) in
+    let same : is.front ++ is.rest ≡ bodies_of g.updates ++ begins.rest =
+    sym is.split ∙ begins.split in
+    sym (take_at is.front is.rest n long) ∙ ap (λ (l : List (List ℕ)). take n l) same
+    ∙ take_at (bodies_of g.updates) begins.rest n (length-bodies g.updates ∙ many)
 
-  low : i < length g.updates
-  low = omega (arith, next.0, ap length bodies_same, length-bodies g.updates)
+module _ (k : Masters) (g : SealedHistory) (d : Image) (begins : BeginsWith g d) (i : ℕ)
+    (low : i < length g.updates) (c : Catalogue) (so_far : FollowedTo k g i c) (body : List ℕ)
+    (next : IsNext i body d) where
+  low_body : i < length (bodies_of g.updates)
+  low_body = omega (arith, low, length-bodies g.updates)
+
+  bodies_same : get_or (contents_of d.book).records.bodies i [] ≡ get_or (bodies_of g.updates) i []
+  bodies_same = ap (λ (l : List (List ℕ)). get_or l i []) begins.split
+      ∙ get_or_append_left (bodies_of g.updates) begins.rest [] i low_body
 
   abbrev n : Nth g.updates i
-  n = nth g.updates i keeps.form low
+  n = nth g.updates i begins.form low
 
   abbrev front : List SealedUpdate
   front = take i g.updates
@@ -103,13 +117,13 @@ module _ (k : Masters) (any : Keys) (g : SealedHistory) (d : Image) (keeps : Kee
   is_body : IsBodyOf n.update body
   is_body = record {
     form = n.form;
-    bytes = next.1 ∙ ap (λ (l : List (List ℕ)). get_or l i []) bodies_same ∙ n.body;
+    bytes = next.1 ∙ bodies_same ∙ n.body;
   }
 
   longer : IsSealed (with_sealed (with_first g front) n.update)
   longer =
       front_fits (start_of (outer_of g)) front n.update n.rest
-      (subst (AllFit (start_of (outer_of g))) n.split keeps.sealed)
+      (subst (AllFit (start_of (outer_of g))) n.split begins.sealed)
 
   taken : IsTaken c (brief n.update)
   taken = goes_taken k.surface c (with_first g front) n.update so_far.stands longer
@@ -139,9 +153,9 @@ module _ (k : Masters) (any : Keys) (g : SealedHistory) (d : Image) (keeps : Kee
   pub found_false : (later : Catalogue) (log : Log) (place : ℕ)
       → ((u : SealedUpdate) → IsBodyOf u body → IsTaken c (brief u) → FollowsUpdate k c u later
       false)
-      → IsLogOf log (contents_of d.book).records → place ≡ get_or log.offsets i 0
-      → HasFalseUpdate k g place
-  found_false later log place follows is at_gate =
+      → IsLogOfFirst log (contents_of d.book).records → length g.updates ≡ length log.offsets
+      → place ≡ get_or log.offsets i 0 → HasFalseUpdate k g place
+  found_false later log place follows is many at_gate =
       let wrong = follows n.update is_body taken in
       record {
         front = front;
@@ -151,17 +165,15 @@ module _ (k : Masters) (any : Keys) (g : SealedHistory) (d : Image) (keeps : Kee
         owners = so_far.owners;
         wrong = subst (λ (y : Layers). IsOwners k y n.update → ⊥) layers wrong;
         gate = at_gate ∙ ap (λ (l : List ℕ). get_or l i 0) is.offsets
-            ∙ gate-end 78 (contents_of d.book).records.bodies i next.0
-            ∙ ap (λ (l : List (List ℕ)). end_from 78 (take i l)) bodies_same
+            ∙ ap (λ (l : List (List ℕ)). get_or (gates_from 78 l) i 0)
+            (first_bodies g d log begins is many)
+            ∙ gate-end 78 (bodies_of g.updates) i low_body
             ∙ ap (end_from 78) (take-bodies g.updates i);
       }
 
 -- after the last record
-pub followed_all : (k : Masters) (any : Keys) (g : SealedHistory) (d : Image) (i : ℕ)
-    (c : Catalogue) (log : Log) → Keeps any g d → FollowedTo k g i c → i ≡ length log.offsets
-    → IsLogOf log (contents_of d.book).records → AllAreOwners k (start_of (outer_of g)) g.updates
-followed_all k any g d i c log keeps so_far last is =
-    let many : i ≡ length g.updates = last ∙ as_many log (contents_of d.book).records is
-    ∙ ap (λ (x : Contents). length x.records.bodies) keeps.book ∙ length-bodies g.updates in
+pub followed_all : (k : Masters) (g : SealedHistory) (i : ℕ) (c : Catalogue) → FollowedTo k g i c
+    → i ≡ length g.updates → AllAreOwners k (start_of (outer_of g)) g.updates
+followed_all k g i c so_far last =
     subst (AllAreOwners k (start_of (outer_of g)))
-    (take_all i g.updates (omega (arith, many))) so_far.owners
+    (take_all i g.updates (omega (arith, last))) so_far.owners

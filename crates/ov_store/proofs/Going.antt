@@ -1,5 +1,6 @@
 -- What the record of an update makes of the histories for which a store stands.
-use Rattle.std.proofs.Common.{◌≡◌, inl, inr, ⊎_elim, ℕ, ◌+◌, List, length, Bool, true, false, Option, Some, refl, sym, ◌∙◌, ap, subst, arith}
+use Rattle.std.proofs.Common.{◌≡◌, inl, inr, ⊎_elim, ℕ, ◌+◌, ◌≤◌, List, [], ◌∷◌, length, Bool, true, false, Option, Some, None, refl, sym, ◌∙◌, ap, subst, arith, length-append}
+use Rattle.std.proofs.lemmas.List.{append-nil}
 use Rattle.ov_record.specs.Updates.{SealedUpdate}
 use Rattle.ov_history.specs.Briefs.{Brief, BriefEnrol, BriefCreate, BriefGrant, BriefRevoke, brief, text_of}
 use Rattle.ov_history.specs.Catalogue.{Catalogue, catalogue_after}
@@ -7,11 +8,14 @@ use Rattle.ov_history.specs.Rewrites.{rewrites_of, stored_after}
 use Rattle.ov_history.specs.Sealed.{SealedHistory, KeepsBytes, StandsFor, with_sealed}
 use Rattle.ov_history.proofs.GoingOn.{histories_go_on, stored-push}
 use Rattle.ov_state.specs.Plans.{IsTaken}
-use Rattle.ov_disk.specs.Disk.{Image, Told}
+use Rattle.ov_disk.specs.Disk.{Image, StaysUntold, Told}
 use Rattle.ov_disk.specs.Moments.{LeavesOnly}
 use Rattle.ov_disk.proofs.Runs.{started, weaker}
-use Rattle.ov_journal.specs.Book.{contents_of, with_body}
-use Rattle.ov_journal.specs.Log.{Log, IsBeforeOrAfter, IsKept, Stands}
+use Rattle.ov_journal.specs.Book.{Contents, contents_of, with_body}
+use Rattle.ov_journal.specs.Lasting.{AddsAtMost}
+use Rattle.ov_journal.specs.Log.{Log, HasSameRecords, IsBeforeOrAfter, IsKept, IsLogOf}
+use Rattle.ov_journal.specs.Log.{IsLogOfFirst, Stands}
+use Rattle.ov_journal.proofs.Records.{all_first}
 use Rattle.ov_images.specs.Images.{Keys, Keeps, KeepsEither}
 use Rattle.ov_images.proofs.Keeping.{keeps_same, keeps_more}
 use Rattle.ov_store.specs.Bodies.{IsBodyOf, IsSpelled}
@@ -34,6 +38,32 @@ pub bytes_go_on : (master : List ℕ) (c : Catalogue) (stored : List (List ℕ))
 bytes_go_on master c stored g u stands keeps =
     (λ j. stored_after master (rewrites_of (stands.1 j) (brief u)) (text_of u) (keeps j))
     ∙ sym (stored-push master g u)
+
+-- what a disk tells it told before, where one that told nothing still tells nothing
+told_before : (old new : Option Image) → StaysUntold old new
+    → Told new (λ _. (i : Image) × (old ≡ Some i))
+told_before (Some i) new still k read = (i, refl)
+told_before None new still k read = absurd (cc (still refl, read))
+
+-- with a record more or without, the first records are the journal's
+first_after : (log other : Log) (i x : Image) (body : List ℕ) (may_leave : Image → Type 0)
+    → IsLogOf log (contents_of i.book).records → HasSameRecords log other
+    → IsBeforeOrAfter may_leave i body x → IsLogOfFirst other (contents_of x.book).records
+first_after log other i x body may_leave is same (inl old) = record {
+  front = (contents_of i.book).records.bodies;
+  rest = [];
+  split = ap (λ (k : Contents). k.records.bodies) old.0
+      ∙ sym (append-nil (contents_of i.book).records.bodies);
+  offsets = same.offsets ∙ is.offsets;
+  end = same.end ∙ is.end;
+}
+first_after log other i x body may_leave is same (inr more) = record {
+  front = (contents_of i.book).records.bodies;
+  rest = body ∷ [];
+  split = ap (λ (k : Contents). k.records.bodies) more.0;
+  offsets = same.offsets ∙ is.offsets;
+  end = same.end ∙ is.end;
+}
 
 -- an open store with these parts
 abbrev pub store_of : {D : Type 0} → D → Keys → Catalogue → List (List ℕ) → Bool → Opened D
@@ -63,6 +93,12 @@ module _ {D : Type 0} (reads : D → Option Image) (may_leave : D → Image → 
           keeps_more k g u i x (read_keeps sound i read) goes_on.0 is.form
           (more ∙ ap (λ (b : List ℕ). with_body b (contents_of i.book)) is.bytes)
 
+      either_keeps : f ≡ false → (i x : Image) → reads d0 ≡ Some i
+          → IsBeforeOrAfter (may_leave d0) i body x → KeepsEither k g u x
+      either_keeps sound i x read =
+          ⊎_elim (λ old. inl (keeps_same k g i x (read_keeps sound i read) old.0))
+          (λ more. inr (more_keeps sound i x read more.0))
+
     pub leaves_either : (later : Opened D) → later.disk ≡ d1
         → Told (reads d0) (λ i. LeavesOnly moment left_since d0 d1
         (IsBeforeOrAfter (may_leave d0) i body))
@@ -70,9 +106,7 @@ module _ {D : Type 0} (reads : D → Option Image) (may_leave : D → Image → 
     leaves_either later same leaves g serves sound i read =
         subst (λ (d : D). LeavesOnly moment left_since d0 d (KeepsEither k g u)) (sym same)
         (weaker moment left_since may_leave d0 d1 (IsBeforeOrAfter (may_leave d0) i body)
-        (KeepsEither k g u) (leaves i read)
-        (λ x. ⊎_elim (λ old. inl (keeps_same k g i x (read_keeps g serves sound i read) old.0))
-        (λ more. inr (more_keeps g serves sound i x read more.0))))
+        (KeepsEither k g u) (leaves i read) (λ x. either_keeps g serves sound i x read))
 
     module _ (told : Told (reads d1) (λ _. (i : Image) × (reads d0 ≡ Some i))) (sound : f ≡ false)
         (kept : Told (reads d0) (λ i.
@@ -92,6 +126,7 @@ module _ {D : Type 0} (reads : D → Option Image) (may_leave : D → Image → 
             let one = kept before.0 before.1 in
             more_keeps g serves sound before.0 x before.1
             (ap (λ (j : Image). contents_of j.book) (one.only x left) ∙ one.book);
+        after_fault = λ bad. absurd (cc (sound, bad));
       }
 
       pub safe_more : (log more : Log) → IsSafe reads may_leave log (store_of d0 k c stored f)
@@ -108,11 +143,60 @@ module _ {D : Type 0} (reads : D → Option Image) (may_leave : D → Image → 
           epoch_after k.surface c (brief u),
         );
         stands = λ ok. stands;
+        first = λ i read. all_first more (contents_of i.book).records (stands i read).0;
         some_history = (
           with_sealed safe.some_history.0 u,
           serves_more safe.some_history.0 safe.some_history.1,
+          length-append safe.some_history.0.updates (u ∷ [])
+              ∙ ap (λ (n : ℕ). n + 1) safe.some_history.2 ∙ sym count,
         );
       }
+
+    -- after a call of the disk that failed
+    pub safe_failed : (log other : Log) → IsSafe reads may_leave log (store_of d0 k c stored f)
+        → f ≡ false → other.bad ≡ false → HasSameRecords log other
+        → AddsAtMost reads may_leave moment left_since body d0 d1
+        → ((t : ℕ) (x : Image) → t ≤ moment d1 → may_leave d1 x → left_since d1 t x)
+        → (now : Catalogue) (bytes : List (List ℕ)) → now ≡ c → bytes ≡ stored
+        → IsSafe reads may_leave other (store_of d1 k now bytes true)
+    safe_failed log other safe sound whole same adds counts_now now bytes is_now is_bytes =
+        let g = safe.some_history.0 in
+        let serves = safe.some_history.1 in
+        let either : (i x : Image) → reads d0 ≡ Some i → may_leave d1 x
+        → IsBeforeOrAfter (may_leave d0) i body x =
+        λ i x read left. (adds.leaves i read).each x
+        (counts_now (moment d0) x (adds.leaves i read).later left) in
+        record {
+          whole = whole;
+          count = omega (
+            arith,
+            ap length same.offsets,
+            safe.count,
+            ap (λ (x : Catalogue). x.epoch) is_now,
+          );
+          stands = λ ok. absurd (cc ok);
+          first = λ i read.
+              let before = told_before (reads d0) (reads d1) adds.untold i read in
+              first_after log other before.0 i body (may_leave d0)
+              (safe.stands sound before.0 before.1).0 same
+              (either before.0 i before.1 (reads_one d1 i read));
+          some_history = (
+            g,
+            record {
+              catalogue = subst (λ (x : Catalogue). StandsFor k.surface x g) (sym is_now)
+                  serves.catalogue;
+              bytes = is_bytes ∙ serves.bytes;
+              disk = λ ok. absurd (cc ok);
+              after_fault = λ bad i read.
+                  let before = told_before (reads d0) (reads d1) adds.untold i read in (
+                    u,
+                    λ x left. either_keeps g serves sound before.0 x before.1
+                        (either before.0 x before.1 left),
+                  );
+            },
+            safe.some_history.2 ∙ ap length (sym same.offsets),
+          );
+        }
 
   -- before the first call of the disk
   pub not_begun : (u : SealedUpdate) (s later : Opened D) → later.disk ≡ s.disk
@@ -122,25 +206,6 @@ module _ {D : Type 0} (reads : D → Option Image) (may_leave : D → Image → 
       subst (λ (d : D). LeavesOnly moment left_since s.disk d (KeepsEither s.keys g u)) (sym same)
       (started moment left_since may_leave s.disk (KeepsEither s.keys g u) only_now
       (λ x left. inl (serves.disk sound i read x left)))
-
-  -- after a call of the disk that failed
-  pub safe_failed : (k : Keys) (d0 d1 : D) (c : Catalogue) (stored : List (List ℕ)) (f : Bool)
-      (log other : Log) → IsSafe reads may_leave log (store_of d0 k c stored f)
-      → other.bad ≡ false → length other.offsets ≡ length log.offsets
-      → IsSafe reads may_leave other (store_of d1 k c stored true)
-  safe_failed k d0 d1 c stored f log other safe whole count = record {
-    whole = whole;
-    count = omega (arith, count, safe.count);
-    stands = λ ok. absurd (cc ok);
-    some_history = (
-      safe.some_history.0,
-      record {
-        catalogue = safe.some_history.1.catalogue;
-        bytes = safe.some_history.1.bytes;
-        disk = λ ok. absurd (cc ok);
-      },
-    );
-  }
 
 -- the body of a record that was spelled
 pub body_of_some : (u : SealedUpdate) (spelled : Option (List ℕ)) (body slice : List ℕ)

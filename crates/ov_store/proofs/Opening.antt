@@ -121,14 +121,15 @@ module _ {D : Type 0} (reads : D → Option Image) (may_leave : D → Image → 
     }
 
     -- a store that was just born is open
-    pub opened_at_birth : {E : Type 0} (r : Result (Store × Log) E)
-        → IfOk r (λ parts. IsBornStore reads may_leave parts.1 mode 0
+    pub opened_at_birth : {E : Type 0} (r : Result (Store × Log) E) → reads d1 ≡ reads d0
+        → IfOk r (λ parts. IsBornStore reads may_leave parts.1 mode 0 (reads d1)
         (open_with d2 k parts.0.catalogue parts.0.stored))
         → IfOk r (λ parts. IsOpened reads may_leave parts.1 mode (reads d0)
         (open_with d2 k parts.0.catalogue parts.0.stored))
-    opened_at_birth (Ok parts) born = record {
+    opened_at_birth (Ok parts) same born = record {
       safe = born.safe;
       mode_is = ap (λ (c : Catalogue). c.mode) born.empty;
       found = birth_finds (open_with d2 k parts.0.catalogue parts.0.stored) born.serves;
+      told = λ i at. born.told i (same ∙ at);
     }
-    opened_at_birth (Err fault) none = none
+    opened_at_birth (Err fault) same none = none

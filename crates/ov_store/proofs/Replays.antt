@@ -18,7 +18,7 @@ use Rattle.ov_history.proofs.GoingOn.{histories_go_on}
 use Rattle.ov_history.proofs.Pushing.{with_updates, with_updates-all}
 use Rattle.ov_history.proofs.Showing.{history_is_shown, refusals_shown}
 use Rattle.ov_journal.specs.Book.{contents_of, Records}
-use Rattle.ov_journal.specs.Log.{Log, gates_from, IsLogOf}
+use Rattle.ov_journal.specs.Log.{Log, gates_from, IsLogOf, IsLogOfFirst}
 use Rattle.ov_journal.specs.declared.fault.CheckFault.{CheckFault}
 use Rattle.ov_journal.specs.declared.fault.CheckFault.TheVariants.{Disk as CheckDisk, Memory as CheckMemory}
 use Rattle.ov_state.specs.Plans.{IsTaken}
@@ -61,7 +61,7 @@ pub record ReplayedTo (master : List ℕ) (mode : Mode) (first i : ℕ) (reads :
   pub count : length bodies ≡ i
   pub read : Told reads (λ d. bodies ≡ take i (contents_of d.book).records.bodies)
 
-length-gates : (place : ℕ) (bodies : List (List ℕ))
+pub length-gates : (place : ℕ) (bodies : List (List ℕ))
     → length (gates_from place bodies) ≡ length bodies
 length-gates place [] = refl
 length-gates place (body ∷ bodies) = ap suc (length-gates (place + 5 + length body) bodies)
@@ -78,13 +78,21 @@ IsNext i body d =
 
 -- the body that a journal read is the next one
 pub next_body : (log : Log) (i : ℕ) (before out slice : List ℕ) (reads : Option Image)
-    → i < length log.offsets → Told reads (λ d. IsLogOf log (contents_of d.book).records)
+    → i < length log.offsets → Told reads (λ d. IsLogOfFirst log (contents_of d.book).records)
     → Told reads (λ d. out ≡ before ++ get_or (contents_of d.book).records.bodies i [])
     → before ≡ [] → slice ≡ out → Told reads (IsNext i slice)
 next_body log i before out slice reads lt is bytes none same d at =
     let all = (contents_of d.book).records.bodies in
-    let body = get_or all i [] in (
-      omega (arith, lt, as_many log (contents_of d.book).records (is d at)),
+    let body = get_or all i [] in
+    let first = is d at in (
+      omega (
+        arith,
+        lt,
+        ap length first.offsets,
+        length-gates 78 first.front,
+        ap length first.split,
+        length-append first.front first.rest,
+      ),
       same ∙ bytes d at ∙ ap (λ (l : List ℕ). l ++ body) none,
     )
 

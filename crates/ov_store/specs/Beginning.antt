@@ -13,7 +13,7 @@ use Rattle.ov_journal.specs.Standing.{IsUnborn, IsForeign, HasNoMode}
 use Rattle.ov_journal.specs.declared.header.Header.{Header}
 use Rattle.ov_images.specs.Images.{Keys, IsImageOf, StandsIn}
 use Rattle.ov_images.specs.Damage.{HasHeader, IsFor, HasBadRecords}
-use Rattle.ov_store.specs.Opened.{IsSafe, Opened, Serves}
+use Rattle.ov_store.specs.Opened.{IsSafe, Opened, Serves, StaysTold}
 use Rattle.ov_store.specs.declared.begin.BeginRefused.{BeginRefused}
 use Rattle.ov_store.specs.declared.fault.BeginFault.{BeginFault}
 use Rattle.ov_store.specs.declared.fault.BeginFault.TheVariants.{Disk as DiskFailed, NotAStore, Damaged, BaseDiffers, SurfaceDiffers, ModeDiffers, Memory}
@@ -47,20 +47,24 @@ pub record FindsHistory {D : Type 0} (reads : D → Option Image) (may_leave : D
   pub each : (g : SealedHistory) → g.mode ≡ mode → IsImageOf k g i → Serves reads may_leave g s
 
 -- A store that was just opened on a disk: it is safe with its journal, has this mode, and stands
--- for each history of the mode for which the image stood that was read.
+-- for each history of the mode for which the image stood that was read, and which the disk still
+-- tells.
 pub record IsOpened {D : Type 0} (reads : D → Option Image) (may_leave : D → Image → Type 0)
     (log : Log) (mode : Mode) (read : Option Image) (s : Opened D) : Type 0 where
   pub safe : IsSafe reads may_leave log s
   pub mode_is : s.catalogue.mode ≡ mode
   pub found : Told read (λ i. FindsHistory reads may_leave s.keys mode i s)
+  pub told : StaysTold read (reads s.disk)
 
 -- A store that was just begun without updates, from this epoch on: it is safe with its journal,
--- stands for the history without updates, and has an empty catalogue.
+-- stands for the history without updates, and has an empty catalogue; and the disk still tells what
+-- it told.
 pub record IsBornStore {D : Type 0} (reads : D → Option Image) (may_leave : D → Image → Type 0)
-    (log : Log) (mode : Mode) (first : ℕ) (s : Opened D) : Type 0 where
+    (log : Log) (mode : Mode) (first : ℕ) (read : Option Image) (s : Opened D) : Type 0 where
   pub safe : IsSafe reads may_leave log s
   pub serves : Serves reads may_leave (blank mode first) s
   pub empty : s.catalogue ≡ empty_catalogue mode first
+  pub told : StaysTold read (reads s.disk)
 
 -- From a disk with nothing pending, whose image stands for a history of this mode, a crash at any
 -- moment leaves that history.
@@ -86,6 +90,14 @@ WritesNoBorn reads may_leave moment left_since old new =
 -- a store that was just begun under these keys and in this mode
 abbrev pub IsNew : {D : Type 0} → Keys → Mode → Opened D → Type 0
 IsNew k mode s = (s.keys ≡ k) × (s.failed ≡ false) × (s.catalogue.mode ≡ mode)
+
+-- What a caller gets: a store that was just begun, which stands for each history of the mode for
+-- which the image stood that was read, and whose disk still tells what it told.
+pub record IsBegun {D : Type 0} (reads : D → Option Image) (may_leave : D → Image → Type 0)
+    (k : Keys) (mode : Mode) (read : Option Image) (s : Opened D) : Type 0 where
+  pub new : IsNew k mode s
+  pub found : Told read (λ i. FindsHistory reads may_leave k mode i s)
+  pub told : StaysTold read (reads s.disk)
 
 -- the disk after the call, wherever it is
 abbrev pub disk_left : {D : Type 0} → Result (Opened D) (BeginRefused D) → D

@@ -1,10 +1,12 @@
 -- An open store as a value, and for which history it stands.
-use Rattle.std.specs.Prelude.{◌≡◌, ℕ, ◌≤◌, List, length, Bool, false, Option, Some}
+use Rattle.std.specs.Prelude.{◌≡◌, ℕ, ◌≤◌, List, length, Bool, true, false, Option, Some}
+use Rattle.ov_record.specs.Updates.{SealedUpdate}
 use Rattle.ov_history.specs.Catalogue.{Catalogue}
 use Rattle.ov_history.specs.Sealed.{SealedHistory, StandsFor, KeepsBytes}
 use Rattle.ov_disk.specs.Disk.{Image, Told}
-use Rattle.ov_journal.specs.Log.{Log, Stands}
-use Rattle.ov_images.specs.Images.{Keys, Keeps}
+use Rattle.ov_journal.specs.Book.{contents_of}
+use Rattle.ov_journal.specs.Log.{IsLogOfFirst, Log, Stands}
+use Rattle.ov_images.specs.Images.{Keys, Keeps, KeepsEither}
 
 -- the disk, the keys with which it was opened, both halves of the store (its catalogue, and the
 -- stored bytes by file number), and whether a call of its disk failed in an update
@@ -24,23 +26,33 @@ open_with disk k catalogue stored =
 abbrev pub Lasts : Keys → SealedHistory → Option Image → (Image → Type 0) → Type 0
 Lasts k g reads may_leave = Told reads (λ _. (c : Image) → may_leave c → Keeps k g c)
 
+-- where the disk tells its bytes, each image that a crash may leave of it keeps the history, or it
+-- with one update more, which is the same for all of them
+abbrev pub LastsEither : Keys → SealedHistory → Option Image → (Image → Type 0) → Type 0
+LastsEither k g reads may_leave =
+    Told reads (λ _. (u : SealedUpdate) × ((c : Image) → may_leave c → KeepsEither k g u c))
+
 -- a disk that told its bytes still tells them
 abbrev pub StaysTold : Option Image → Option Image → Type 0
 StaysTold old new = Told old (λ _. (k : Image) × (new ≡ Some k))
 
--- The store stands for the history: both halves are those of a store after it and, unless a call
--- of the disk failed, the history lasts on the disk.
+-- The store stands for the history: both halves are those of a store after it, and it lasts on the
+-- disk; once a call of the disk failed in an update, it lasts there, or it with one update more.
 pub record Serves {D : Type 0} (reads : D → Option Image) (may_leave : D → Image → Type 0)
     (g : SealedHistory) (s : Opened D) : Type 0 where
   pub catalogue : StandsFor s.keys.surface s.catalogue g
   pub bytes : KeepsBytes s.keys.surface s.stored g
   pub disk : s.failed ≡ false → Lasts s.keys g (reads s.disk) (may_leave s.disk)
+  pub after_fault : s.failed ≡ true → LastsEither s.keys g (reads s.disk) (may_leave s.disk)
 
--- What holds of every open store with this journal: the journal is whole and, unless a call of the
--- disk failed, is that of the disk; and the store stands for some history.
+-- What holds of every open store with this journal: the journal is whole, and is that of the disk
+-- or, once a call of the disk failed, that of the first of its records; and the store stands for
+-- some history with as many updates as the journal has records.
 pub record IsSafe {D : Type 0} (reads : D → Option Image) (may_leave : D → Image → Type 0)
     (log : Log) (s : Opened D) : Type 0 where
   pub whole : log.bad ≡ false
   pub count : length log.offsets ≤ s.catalogue.epoch
   pub stands : s.failed ≡ false → Stands log (reads s.disk) (may_leave s.disk)
+  pub first : Told (reads s.disk) (λ i. IsLogOfFirst log (contents_of i.book).records)
   pub some_history : (g : SealedHistory) × Serves reads may_leave g s
+      × (length g.updates ≡ length log.offsets)

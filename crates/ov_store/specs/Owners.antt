@@ -1,5 +1,6 @@
 -- Updates that are as their owner seals them, and the first record that isn't.
-use Rattle.std.specs.Prelude.{◌≡◌, ℕ, Bool, true, false, List, ◌∷◌, ◌++◌, Option, Some, None}
+use Rattle.std.specs.Prelude.{◌≡◌, ℕ, Bool, true, false, List, ◌∷◌, ◌++◌, length, Option, Some, None}
+use Rattle.ov_base.specs.declared.mode.Mode.{Mode}
 use Rattle.ov_record.specs.Updates.{SealedUpdate}
 use Rattle.ov_history.specs.History.{start_of}
 use Rattle.ov_history.specs.Plain.{PlainUpdate}
@@ -7,11 +8,13 @@ use Rattle.ov_history.specs.Layers.{Layers, layers_of}
 use Rattle.ov_history.specs.Briefs.{brief}
 use Rattle.ov_history.specs.Catalogue.{Catalogue, catalogue_after, outline}
 use Rattle.ov_history.specs.Masters.{Masters}
-use Rattle.ov_history.specs.Sealed.{SealedHistory, outer_of}
+use Rattle.ov_history.specs.Sealed.{SealedHistory, IsSealed, outer_of}
 use Rattle.ov_history.specs.Sealing.{sealed_update}
 use Rattle.ov_history.specs.KeptLaws.{AllAreOwners}
-use Rattle.ov_journal.specs.Log.{end_from}
-use Rattle.ov_images.specs.Images.{bodies_of}
+use Rattle.ov_disk.specs.Disk.{Image}
+use Rattle.ov_journal.specs.Book.{contents_of}
+use Rattle.ov_journal.specs.Log.{Log, end_from}
+use Rattle.ov_images.specs.Images.{AllHaveForm, bodies_of}
 
 -- these two
 abbrev pub masters : List ℕ → List ℕ → Masters
@@ -48,6 +51,20 @@ Checks k g None = AllAreOwners k (start_of (outer_of g)) g.updates
 Checks k g (Some place) = HasFalseUpdate k g place
 
 -- ---- one record after the other
+
+-- The first records of Book are those of the history's updates. Others may stand behind them.
+pub record BeginsWith (g : SealedHistory) (i : Image) : Type 0 where
+  pub sealed : IsSealed g
+  pub form : AllHaveForm g.updates
+  pub rest : List (List ℕ)
+  pub split : (contents_of i.book).records.bodies ≡ bodies_of g.updates ++ rest
+
+-- The records of this journal, which are the first of Book, are those of the history's updates, and
+-- the history is of this mode and begins at this epoch.
+abbrev pub IsHistoryOf : Log → Mode → ℕ → SealedHistory → Image → Type 0
+IsHistoryOf log mode first g i =
+    BeginsWith g i × (g.mode ≡ mode) × (g.first ≡ first)
+    × (length g.updates ≡ length log.offsets)
 
 -- What is done with a record's update: where it is as its owner seals it the catalogue goes on with
 -- it, under the surface master; else it isn't, and nothing is said of the catalogue.

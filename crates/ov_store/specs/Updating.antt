@@ -66,6 +66,13 @@ IfRefused (Err DiskFailed) P = ⊤
 IfRefused (Err Failed) P = P
 IfRefused (Err Memory) P = P
 
+-- Whether the store has failed after an update with this answer; and where the update isn't made
+-- and no call of the disk failed, all is as it was.
+pub record GoesOnAfter {D : Type 0} (result : Result ℕ StoreFault) (old new : Opened D) : Type 0
+  where
+    pub failed : Fails old.failed result new.failed
+    pub untouched : IfRefused result (new ≡ old)
+
 -- ---- what is left
 
 -- A crash at any moment of the call leaves a history for which the store stood, or this with the

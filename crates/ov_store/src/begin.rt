@@ -1,10 +1,10 @@
 //! Beginning a store, where there is none or where an earlier run left one.
-ghost use Rattle.std.specs.Prelude.{◌≡◌, IfOk, IfErr, OnOk, IsErrOf};
+ghost use Rattle.std.specs.Prelude.{◌≡◌, IfOk, IfErr, IsErrOf};
 ghost use Rattle.ov_disk.specs.Disk.{Told};
 ghost use Rattle.ov_disk.specs.Moments.{IsUntouched};
 ghost use Rattle.ov_images.specs.Images.{keys};
-ghost use Rattle.ov_store.specs.Beginning.{FindsHistory, IsBeginFault, IsDiskCall, IsDiskFault, IsNew, IsOpened, LeavesHistory, WritesNoBorn, disk_left};
-ghost use Rattle.ov_store.specs.Opened.{StaysTold, open_with};
+ghost use Rattle.ov_store.specs.Beginning.{IsBeginFault, IsBegun, IsDiskCall, IsDiskFault, IsOpened, LeavesHistory, WritesNoBorn, disk_left};
+ghost use Rattle.ov_store.specs.Opened.{open_with};
 ghost use Rattle.ov_store.specs.declared.fault.BeginFault.TheVariants.{Disk as DiskFailed, Memory as NoMemory};
 
 use crate::birth::birth;
@@ -36,7 +36,6 @@ fn open<D: Disk>(
         IsOpened D.reads D.may_leave parts.1 mode (D.reads disk.old)
         (open_with disk.new (keys base_check.now surface.now.bytes)
         parts.0.catalogue parts.0.stored)) }
-    ensures told { OnOk result (StaysTold (D.reads disk.old) (D.reads disk.new)) }
     ensures fault { Told (D.reads disk.old) (λ i.
         IfErr result (IsBeginFault (keys base_check.now surface.now.bytes) mode i)) }
     ensures any_moment { LeavesHistory D.reads D.may_leave D.moment D.left_since
@@ -72,11 +71,9 @@ impl<D: Disk> Store<D> {
         base_check: [u8; 32],
         mode: Mode,
     ) -> Result<Store<D>, BeginRefused<D>>
-        ensures new { IfOk result (IsNew (keys base_check surface.bytes) mode) }
         // The image stands for a history, which the store shows and which lasts.
-        ensures found { IfOk result (λ s. Told (D.reads disk) (λ i.
-            FindsHistory D.reads D.may_leave (keys base_check surface.bytes) mode i s)
-            × StaysTold (D.reads disk) (D.reads s.disk)) }
+        ensures begun { IfOk result (IsBegun D.reads D.may_leave
+            (keys base_check surface.bytes) mode (D.reads disk)) }
         ensures fault { IfErr result (λ refused. Told (D.reads disk) (λ i.
             IsBeginFault (keys base_check surface.bytes) mode i refused.fault)) }
 

@@ -1,12 +1,12 @@
 //! A store on a disk where there is none.
-ghost use Rattle.std.specs.Prelude.{◌≡◌, IfErr, IfOk, OnOk, IsErrOf};
+ghost use Rattle.std.specs.Prelude.{◌≡◌, IfErr, IfOk, IsErrOf};
 ghost use Rattle.ov_disk.specs.Disk.{Image, Told, OnlyBook};
 ghost use Rattle.ov_disk.specs.Moments.{LeavesOnly};
 ghost use Rattle.ov_history.specs.Sealed.{blank};
 ghost use Rattle.ov_journal.specs.Standing.{IsUnborn};
 ghost use Rattle.ov_images.specs.Images.{IsImageOf, keys};
 ghost use Rattle.ov_store.specs.Beginning.{IsBeginFault, IsBornStore, IsDiskCall};
-ghost use Rattle.ov_store.specs.Opened.{StaysTold, open_with};
+ghost use Rattle.ov_store.specs.Opened.{open_with};
 ghost use Rattle.ov_store.specs.declared.fault.BeginFault.TheVariants.{Disk as DiskFailed, Memory as NoMemory};
 
 use crate::fault::BeginFault;
@@ -29,9 +29,8 @@ pub(crate) fn birth<D: Disk>(
     requires unborn { Told (D.reads disk.old) (λ i.
         IsUnborn i.book × OnlyBook i.book (D.may_leave disk.old)) }
     ensures born { IfOk result (λ parts. IsBornStore D.reads D.may_leave parts.1 mode first
-        (open_with disk.new (keys base_check.now surface.now.bytes)
+        (D.reads disk.old) (open_with disk.new (keys base_check.now surface.now.bytes)
         parts.0.catalogue parts.0.stored)) }
-    ensures told { OnOk result (StaysTold (D.reads disk.old) (D.reads disk.new)) }
     ensures fault { IfErr result (λ fault. (i : Image)
         → IsBeginFault (keys base_check.now surface.now.bytes) mode i fault) }
     // A crash at any moment leaves no store, or this one without records.

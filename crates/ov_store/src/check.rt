@@ -1,11 +1,10 @@
 //! Whether all updates of a store are as their owner seals them.
-ghost use Rattle.std.specs.Prelude.{◌≡◌, ◌≤◌, IfOk, IsErrOf, false};
+ghost use Rattle.std.specs.Prelude.{◌≡◌, ◌≤◌, IfOk, IsErrOf};
 ghost use Rattle.ov_disk.specs.Disk.{Told};
 ghost use Rattle.ov_disk.specs.Moments.{IsUntouched};
 ghost use Rattle.ov_history.specs.Sealed.{SealedHistory};
-ghost use Rattle.ov_images.specs.Images.{Keeps, Keys};
 ghost use Rattle.ov_journal.specs.Book.{contents_of};
-ghost use Rattle.ov_journal.specs.Log.{IsLogOf};
+ghost use Rattle.ov_journal.specs.Log.{IsLogOfFirst};
 ghost use Rattle.ov_journal.specs.declared.fault.CheckFault.TheVariants.{Disk as DiskFailed};
 ghost use Rattle.ov_record.specs.Updates.{SealedUpdate};
 ghost use Rattle.ov_history.specs.Briefs.{brief};
@@ -13,7 +12,7 @@ ghost use Rattle.ov_state.specs.Plans.{IsTaken};
 ghost use Rattle.ov_store.specs.Beginning.{IsDiskCall};
 ghost use Rattle.ov_store.specs.Bodies.{IsBodyOf};
 ghost use Rattle.ov_store.specs.Opened.{Serves};
-ghost use Rattle.ov_store.specs.Owners.{Checks, FollowsUpdate, masters};
+ghost use Rattle.ov_store.specs.Owners.{Checks, FollowsUpdate, IsHistoryOf, masters};
 ghost use Rattle.ov_store.specs.Updating.{IsCallOf};
 
 use crate::owners::is_owners;
@@ -69,9 +68,9 @@ fn first_false<D: Disk>(
     first: u32,
 ) -> Result<Option<u64>, CheckFault>
     requires log { Told (D.reads disk.old) (λ i.
-        IsLogOf journal.now (contents_of i.book).records) }
+        IsLogOfFirst journal.now (contents_of i.book).records) }
     ensures checked { IfOk result (λ found. Told (D.reads disk.old) (λ i.
-        (k : Keys) (g : SealedHistory) → Keeps k g i → g.mode ≡ mode → g.first ≡ first
+        (g : SealedHistory) → IsHistoryOf journal.now mode first g i
         → Checks (masters base.now.bytes surface.now.bytes) g found)) }
     ensures untouched { IsUntouched D.moment D.left_since D.may_leave D.reads disk.old disk.new }
     ensures call { IsDiskCall D.borrow D.faults disk.old disk.new (IsErrOf result DiskFailed) }
@@ -91,8 +90,8 @@ fn first_false<D: Disk>(
 impl<D: Disk> Store<D> {
     /// The place in Book of the gate of the first record with a token or a tag that isn't what the
     /// owner with this base master sends, and None where there is none. It reads all records again.
+    /// After an update in which the disk failed these are the records of the updates before it.
     pub fn check(&mut self, alloc: Global, base: &Key) -> Result<Option<u64>, CheckFault>
-        requires { self.old.failed ≡ false }
         // Of each history for which the store stands.
         ensures checked { IfOk result (λ found. (g : SealedHistory)
             → Serves D.reads D.may_leave g self.old → Told (D.reads self.old.disk)

@@ -11,10 +11,10 @@
 //! **What a contract sees** is one value, `Opened` (`specs/Opened`): the disk, the keys, both
 //! halves, and whether a call of the disk failed in an update. `Serves g s` says that the store
 //! stands for the sealed history g, and that each image which a crash may leave keeps it
-//! (ov_images). No history is kept in code: a clause reads 'for each history for which the old
-//! store stood'. That there is one is part of the store's invariant, and [`Store::known`] hands it
-//! out. What is said of images is said where the disk tells its bytes; all else holds over every
-//! disk.
+//! (ov_images), or once a call failed it with one update more. No history is kept in code: a clause
+//! reads 'for each history for which the old store stood'. That there is one is part of the store's
+//! invariant, and [`Store::known`] hands it out. What is said of images is said where the disk
+//! tells its bytes; all else holds over every disk.
 //!
 //! | file in `specs/` | says |
 //! |---|---|

@@ -1,10 +1,8 @@
 //! Updates, which are written down before they are made.
 ghost use Rattle.std.specs.Prelude.{◌≡◌, OnOk, IsErrOf};
-ghost use Rattle.ov_disk.specs.Disk.{Told};
-ghost use Rattle.ov_disk.specs.Moments.{LeavesOnly};
 ghost use Rattle.ov_journal.specs.Book.{contents_of, with_body};
-ghost use Rattle.ov_journal.specs.Lasting.{IsAcknowledged};
-ghost use Rattle.ov_journal.specs.Log.{IsBeforeOrAfter, Stands};
+ghost use Rattle.ov_journal.specs.Lasting.{AddsAtMost, IsAcknowledged};
+ghost use Rattle.ov_journal.specs.Log.{Stands};
 ghost use Rattle.ov_journal.specs.declared.fault.CheckFault.TheVariants.{Disk as DiskFailed};
 ghost use Rattle.ov_record.specs.Updates.{sealed_update};
 ghost use Rattle.ov_history.specs.Briefs.{brief};
@@ -12,7 +10,7 @@ ghost use Rattle.ov_state.specs.Plans.{IsFitting};
 ghost use Rattle.ov_store.specs.Beginning.{IsDiskCall};
 ghost use Rattle.ov_store.specs.Bodies.{HasLogAfter, MayKeep};
 ghost use Rattle.ov_store.specs.Opened.{StaysTold};
-ghost use Rattle.ov_store.specs.Updating.{Updates, Fails, IfRefused, IsCallOf, LeavesEither, ServesMore};
+ghost use Rattle.ov_store.specs.Updating.{GoesOnAfter, IsCallOf, LeavesEither, ServesMore, Updates};
 ghost use Rattle.ov_store.specs.declared.fault.StoreFault.TheVariants.{Disk};
 
 use crate::fault::StoreFault;
@@ -28,9 +26,8 @@ use std::alloc::Global;
 fn keep<D: Disk>(disk: &mut D, journal: &mut Journal, body: &[u8]) -> Result<(), CheckFault>
     requires body { MayKeep body.now journal.old }
     requires stands { Stands journal.old (D.reads disk.old) (D.may_leave disk.old) }
-    ensures any_moment { Told (D.reads disk.old) (λ i.
-        LeavesOnly D.moment D.left_since disk.old disk.new
-        (IsBeforeOrAfter (D.may_leave disk.old) i body.now)) }
+    ensures any_moment { AddsAtMost D.reads D.may_leave D.moment D.left_since body.now
+        disk.old disk.new }
     ensures acknowledged { OnOk result
         (IsAcknowledged journal.new (D.reads disk.old) (D.reads disk.new) (D.may_leave disk.new)
         (λ i. with_body body.now (contents_of i.book))) }
@@ -52,9 +49,7 @@ impl<D: Disk> Store<D> {
         requires { IsFitting (brief (sealed_update update)) }
 
         ensures answer { Updates (sealed_update update) self.old self.new result }
-        ensures failed { Fails self.old.failed result self.new.failed }
-        // Where the update isn't made and no call of the disk failed, all is as it was.
-        ensures untouched { IfRefused result (self.new ≡ self.old) }
+        ensures state { GoesOnAfter result self.old self.new }
 
         // A crash at any moment of the call leaves the history from before, or it with this update.
         ensures any_moment { LeavesEither D.reads D.may_leave D.moment D.left_since

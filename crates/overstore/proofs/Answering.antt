@@ -1,6 +1,6 @@
 -- One more command answered, and how the answering stops.
 use Rattle.std.proofs.Common.{◌≡◌, inl, inr, ℕ, ◌+◌, ◌-◌, ◌≤◌, List, [], ◌∷◌, ◌++◌, length, take, refl, sym, ◌∙◌, ap, subst, arith, Option, Some, None}
-use Rattle.std.specs.Prelude.{IfSome, MatchOption, Result, Ok, Err}
+use Rattle.std.specs.Prelude.{IfNone, IfSome, MatchOption, Result, Ok, Err}
 use Rattle.std.specs.Io.KnownBytes.{Appends, Keeps}
 use Rattle.std.proofs.KnownBytes.{Appends-trans, Appends-kept, Appends-nil}
 use Rattle.ov_base.specs.Causes.{Rose}
@@ -28,7 +28,7 @@ use Rattle.ov_model.specs.Step.{reply_to, after, after_all}
 use Rattle.ov_model.proofs.Runs.{after_all-more, lines-more}
 use Rattle.overstore.specs.Disks.{Holds, KeepsFirst, KeepsNext, KeepsPlain, KeepsStep}
 use Rattle.overstore.specs.Machine.{AreOtherTags, GoesOn, IsCommand, KeptOn, LeavesStep, StandsFor, StepsAt}
-use Rattle.overstore.specs.Answering.{Answers, AnsweredAll, AnsweredFirst, AnsweredPart, AnsweredSoFar, Grows, IsPut, PutsOr, Reaches, SoFar, Stops, stop_for}
+use Rattle.overstore.specs.Answering.{Answers, AnsweredAll, AnsweredFirst, AnsweredPart, AnsweredSoFar, Grows, PutsOr, Reaches, SoFar, Stops, stop_for}
 use Rattle.overstore.specs.declared.answer.Stop.{Stop}
 use Rattle.overstore.specs.declared.answer.Stop.TheVariants.{End, BadLine, Long, Read, Write, Disk, Memory, Tag}
 use Rattle.overstore.specs.declared.fault.BadTag.{BadTag}
@@ -85,15 +85,26 @@ put_grows (Some Long) old new bytes puts = absurd puts
 put_grows (Some Read) old new bytes puts = absurd puts
 put_grows (Some (Tag bad)) old new bytes puts = absurd puts
 
--- a step that isn't answered puts nothing
-pub sink_so : (fault : StepFault) (stop : Stop) (n : ℕ) → stop ≡ stop_for fault → ((bad : BadTag) → fault ≡ WrongTag bad → AreOtherTags bad)
-    → IsPut n n (Some stop)
-sink_so fault stop n is tag = record {
-  later = omega arith;
-  write = λ e. absurd (no_write fault (sym is ∙ one stop Write e));
-  no_read = λ e. no_read fault (sym is ∙ one stop Read e);
-  tag = λ bad e. tag bad (tag_only fault bad (sym is ∙ one stop (Tag bad) e));
-}
+-- a count that rose later rose
+pub rose_since : (a b c : ℕ) → a ≤ b → Rose b c → Rose a c
+rose_since a b c h r = omega (arith, h, r)
+
+-- a fact that holds holds where there is none
+pub if_none : {T : Type 0} (r : Option T) (P : Type 0) → P → IfNone r P
+if_none None P p = p
+if_none (Some x) P p = tt
+
+-- a step that isn't answered puts nothing, and stops in no write and no read
+pub never_write : (fault : StepFault) (stop : Stop) → stop ≡ stop_for fault → Some stop ≡ Some Write → ⊥
+never_write fault stop is e = no_write fault (sym is ∙ one stop Write e)
+
+pub never_read : (fault : StepFault) (stop : Stop) → stop ≡ stop_for fault → Some stop ≡ Some Read → ⊥
+never_read fault stop is e = no_read fault (sym is ∙ one stop Read e)
+
+-- it stops for a tag only where that is wrong
+pub tag_so : (fault : StepFault) (stop : Stop) (bad : BadTag) → stop ≡ stop_for fault → ((bad : BadTag) → fault ≡ WrongTag bad → AreOtherTags bad)
+    → Some stop ≡ Some (Tag bad) → AreOtherTags bad
+tag_so fault stop bad is tag e = tag bad (tag_only fault bad (sym is ∙ one stop (Tag bad) e))
 
 -- it stops at a call of the disk only where that failed
 pub disk_so : (fault : StepFault) (stop : Stop) (R : Type 0) → stop ≡ stop_for fault → (fault ≡ NoDisk → R) → Some stop ≡ Some Disk → R
@@ -107,12 +118,6 @@ put_never r old new bytes puts = (
   λ e. subst (λ (x : Option Stop). PutsOr x old new bytes) e puts,
   λ bad e. subst (λ (x : Option Stop). PutsOr x old new bytes) e puts,
 )
-
-pub put_sink : (r : Option Stop) (old new : Option (List ℕ)) (bytes : List ℕ) (before now : ℕ) → PutsOr r old new bytes
-    → before ≤ now → (r ≡ Some Write → Rose before now) → IsPut before now r
-put_sink r old new bytes before now puts later write =
-    let never = put_never r old new bytes puts in
-    record { later = later; write = write; no_read = never.0; tag = λ bad e. absurd (never.2 bad e) }
 
 module _ {D : Type 0} (reads : D → Option Image) (may_leave : D → Image → Type 0)
     (moment : D → ℕ) (left_since : D → ℕ → Image → Type 0) where

@@ -3,6 +3,7 @@ use Rattle.std.proofs.Common.{◌≡◌, ◌⊎◌, inl, inr, ℕ, ◌≤◌, Li
 use Rattle.std.specs.Prelude.{Option, Some, None, IfSome, String}
 use Rattle.std.specs.declared.alloc.Global.{Global}
 use Rattle.std.specs.Io.KnownBytes.{Appends}
+use Rattle.ov_base.specs.Causes.{Rose}
 use Rattle.ov_base.specs.declared.mode.Mode.{Mode}
 use Rattle.ov_base.specs.declared.mode.Mode.TheVariants.{Full, Delta}
 use Rattle.ov_history.specs.Plain.{PlainHistory}
@@ -134,6 +135,15 @@ finish_read Memory epoch old new status f e = absurd (not_code _ 7 5 old new sta
 finish_read (Tag bad) epoch old new status f e = absurd (not_code_or _ 12 5 old new status f (λ z. omega arith) (λ z. omega arith) (λ z. omega arith) e)
 finish_read Write epoch old new status f e = absurd (let six : status ≡ 6 = f.0 in omega arith)
 
+-- a count that rose is said otherwise
+pub rose_lent : (a b c d : ℕ) → Rose a b → c ≡ a → d ≡ b → Rose c d
+rose_lent a b c d r e f = omega (arith, r, e, f)
+
+-- the count of a sink rose in what was put before, or in the last line
+pub rose_after : (P : Type 0) (a b c : ℕ) → a ≤ b → (P → Rose a b) → b ≤ c → P ⊎ Rose b c → Rose a c
+rose_after P a b c h before later (inl p) = let r : Rose a b = before p in omega (arith, r, later)
+rose_after P a b c h before later (inr r) = omega (arith, h, r)
+
 -- a tag is said to be wrong where the answering stopped at one
 pub finish_tag : (N : Type 0) (stop : Stop) (epoch : ℕ) (old mid new : Option (List ℕ)) (status : ℕ) → Finishes stop epoch mid new status → Grows old mid
     → ((bad : BadTag) → stop ≡ Tag bad → AreOtherTags bad × N) → status ≡ 12 → SaysTag old new × N
@@ -241,6 +251,7 @@ judged_with asked None status old new untouched base surface read ten = record {
   masters = λ _. tt;
   none = λ e. absurd (ten e);
   line = λ e. absurd (ten e);
+  kept = λ e. absurd (ten e);
   unread = tt;
   ends = λ _. tt;
 }
@@ -248,6 +259,7 @@ judged_with asked (Some file) status old new untouched base surface read ten = r
   masters = λ _. (base, surface, read);
   none = λ e. absurd (ten e);
   line = λ e. absurd (ten e);
+  kept = λ e. absurd (ten e);
   unread = λ no. absurd (no (base, surface, read));
   ends = λ _ no. absurd (no (base, surface, read));
 }
@@ -259,6 +271,7 @@ judged_none asked keys status old new untouched none ends left = record {
   masters = λ is. absurd (not_answered status (by_ends ends) is);
   none = λ _. none;
   line = λ e. line_put ends e;
+  kept = λ e. left;
   unread = each keys (λ file. (HasMasters file → ⊥) → untouched) (λ file no. left);
   ends = λ _. each keys (λ file. (HasMasters file → ⊥) → EndsIn keys_line 10 old new status ⊎ EndsIn read_line 5 old new status) (λ file no. inl ends);
 } where
@@ -277,6 +290,7 @@ judged_failed asked keys status old new untouched ends left = record {
   masters = λ is. absurd (not_answered status (by_ends ends) is);
   none = λ e. absurd (not_ten ends e);
   line = λ e. absurd (not_ten ends e);
+  kept = λ e. left;
   unread = each keys (λ file. (HasMasters file → ⊥) → untouched) (λ file no. left);
   ends = λ _. each keys (λ file. (HasMasters file → ⊥) → EndsIn keys_line 10 old new status ⊎ EndsIn read_line 5 old new status) (λ file no. inr ends);
 } where
@@ -295,6 +309,7 @@ judged_unasked asked keys status old new untouched not_asked ends left = record 
   masters = λ is. absurd (not_answered status (by_ends ends) is);
   none = λ e. absurd (not_ten ends e);
   line = λ e. absurd (not_ten ends e);
+  kept = λ e. left;
   unread = each keys (λ file. (HasMasters file → ⊥) → untouched) (λ file no. left);
   ends = λ is. absurd (not_asked is);
 } where
@@ -310,7 +325,7 @@ judged_unasked asked keys status old new untouched not_asked ends left = record 
 pub judged_so : (asked : Type 0) (keys : Option (List ℕ)) (status : ℕ) (old new : Option (List ℕ)) (untouched other : Type 0)
     → JudgesKeys (Unit {0}) keys status old new untouched → (untouched → other) → JudgesKeys asked keys status old new other
 judged_so asked keys status old new untouched other j so =
-    record { masters = j.masters; none = j.none; line = j.line; unread = unread keys j.unread; ends = λ _. j.ends tt } where
+    record { masters = j.masters; none = j.none; line = j.line; kept = λ e. so (j.kept e); unread = unread keys j.unread; ends = λ _. j.ends tt } where
       unread : (keys : Option (List ℕ)) → IfSome keys (λ file. (HasMasters file → ⊥) → untouched) → IfSome keys (λ file. (HasMasters file → ⊥) → other)
       unread None u = tt
       unread (Some file) u = λ none. so (u none)

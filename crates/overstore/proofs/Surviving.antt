@@ -16,13 +16,16 @@ use Rattle.ov_script.specs.Reading.{IsScript, BeginsScript, BeginsWith, Reads, E
 use Rattle.ov_script.proofs.Grammar.{item_once}
 use Rattle.ov_script.proofs.Readings.{goes_on, Reads-begins}
 use Rattle.ov_history.specs.Masters.{Masters}
-use Rattle.ov_history.specs.Plain.{PlainHistory}
+use Rattle.ov_history.specs.Plain.{PlainHistory, history_of}
+use Rattle.ov_history.specs.Refusals.{IsLegal}
+use Rattle.ov_history.proofs.DerivedKeys.{closure_keys}
 use Rattle.ov_history.proofs.Published.{published_is_matrix}
+use Rattle.ov_history.proofs.TrueHistories.{tokens_are_true}
 use Rattle.ov_model.specs.Lines.{lines}
 use Rattle.ov_model.specs.Step.{after_all, reply_to}
 use Rattle.ov_model.proofs.Runs.{lines-more}
 use Rattle.overstore.specs.Answering.{AnsweredAll, AnsweredFirst, AnsweredPart, EndsIn, EndsOr, Finishes, Stops}
-use Rattle.overstore.specs.Disks.{HasAnswered, Holds, KeepsFirst, KeepsNext, Lasts, Survives}
+use Rattle.overstore.specs.Disks.{HasAnswered, Holds, KeepsFirst, KeepsNext, Lasts, PublishesMatrix, Survives, published}
 use Rattle.overstore.specs.Machine.{KeptOn}
 use Rattle.overstore.specs.Printing.{OutOfMemory, disk_line, long_line, memory_line, read_line}
 use Rattle.overstore.specs.Running.{EndsAs}
@@ -30,6 +33,17 @@ use Rattle.overstore.specs.declared.answer.Stop.{Stop}
 use Rattle.overstore.specs.declared.answer.Stop.TheVariants.{End, BadLine, Long, Read, Write, Disk, Memory, Tag}
 use Rattle.overstore.proofs.Concluding.{at_once, concluded_at, memory_printed, none_read}
 use Rattle.overstore.proofs.Reading.{take_whole}
+
+-- ---- tokens
+
+-- after each legal history the published tokens are the matrix
+publishes_matrix : (k : Masters) (p : PlainHistory) → IsLegal (history_of p) → PublishesMatrix k p
+publishes_matrix k p legal =
+    let true_tokens = tokens_are_true k p legal in record {
+      tokens = true_tokens;
+      derived = λ user label key. closure_keys k (published k p) user label key true_tokens;
+      matrix = λ user file f. published_is_matrix k p user file f legal;
+    }
 
 -- ---- scripts
 
@@ -227,9 +241,9 @@ module _ {D : Type 0} (reads : D → Option Image) (may_leave : D → Image → 
           whole = a.read;
           image = held.told.0;
           told = held.told.1;
-          reads_it = inr (held.each held.told.0 (reads_one held.told.0 held.told.1));
-          leaves_it = λ c left. inr (held.each c left);
-          tokens = λ user file f. published_is_matrix k (after_all p a.commands) user file f a.stands.0.0;
+          reads_it = held.each held.told.0 (reads_one held.told.0 held.told.1);
+          leaves_it = λ c left. held.each c left;
+          tokens = publishes_matrix k (after_all p a.commands) a.stands.0.0;
         }
 
     lasts_at : ((i : Image) → reads last.disk ≡ Some i → may_leave last.disk i) → (stop : Stop) (n status : ℕ)

@@ -1,5 +1,5 @@
 -- What an update of the store makes of the history for which the machine stands, and of its disk.
-use Rattle.std.proofs.Common.{◌≡◌, inl, inr, ◌+◌, ◌≤◌, ℕ, List, false, refl, sym, ◌∙◌, ap, subst}
+use Rattle.std.proofs.Common.{◌≡◌, inl, inr, ◌+◌, ◌≤◌, ℕ, List, false, refl, sym, ◌∙◌, ap, subst, true≢false}
 use Rattle.std.specs.Prelude.{Option, Some, None, Result, Ok, Err, OnOk}
 use Rattle.ov_base.specs.declared.refusal.Refusal.{Refusal}
 use Rattle.ov_record.specs.Updates.{SealedUpdate}
@@ -108,6 +108,7 @@ module _ {D : Type 0} (reads : D → Option Image) (may_leave : D → Image → 
           catalogue = subst (λ m. Rattle.ov_history.specs.Sealed.StandsFor m s.catalogue (sealed k p)) (sym surface) (kept_stands_for k p s.catalogue stands.0);
           bytes = subst (λ m. Rattle.ov_history.specs.Sealed.KeepsBytes m s.stored (sealed k p)) (sym surface) stands.1;
           disk = λ _ i read c left. subst (λ (x : Keys). Keeps x (sealed k p) c) (sym keys) (holds.each c left);
+          after_fault = λ failed. absurd (true≢false (sym failed ∙ sound));
         }
 
     module _ (p : PlainHistory) (stands : StandsFor (machine_of k s).kept p) (none : refusal_shown s.catalogue (brief u) ≡ None) where

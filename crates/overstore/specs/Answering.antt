@@ -1,5 +1,6 @@
 -- What answering a script does, command by command.
-use Rattle.std.specs.Prelude.{◌≡◌, ◌⊎◌, ℕ, ◌≤◌, List, [], ◌∷◌, ◌++◌, take, Option, Some, None}
+use Rattle.std.specs.Prelude.{◌≡◌, ◌⊎◌, ℕ, ◌≤◌, List, [], ◌∷◌, ◌++◌, take}
+use Rattle.std.specs.Prelude.{Option, Some, None, IfNone, false}
 use Rattle.std.specs.Io.KnownBytes.{Appends, Keeps}
 use Rattle.ov_base.specs.Causes.{Rose}
 use Rattle.ov_base.specs.declared.limits.TheConstants.{MAX_SCRIPT_BYTES}
@@ -14,7 +15,7 @@ use Rattle.ov_history.specs.Plain.{PlainHistory}
 use Rattle.ov_model.specs.Lines.{lines}
 use Rattle.ov_model.specs.Step.{reply_to, after_all}
 use Rattle.ov_history.specs.Masters.{Masters}
-use Rattle.overstore.specs.Disks.{Holds, KeepsFirst, KeepsNext}
+use Rattle.overstore.specs.Disks.{Holds, IsDiskCall, KeepsFirst, KeepsNext}
 use Rattle.overstore.specs.Faults.{tag_line}
 use Rattle.overstore.specs.Machine.{AreOtherTags, GoesOn, Kept, KeptOn, LeavesStep, StandsFor}
 use Rattle.overstore.specs.Printing.{bad_line, disk_line, long_line, read_line, memory_line}
@@ -62,7 +63,8 @@ EndsIn last code old new status =
 
 -- so it is, or so it is of the line that says that memory was refused for this one
 abbrev pub EndsOr : List ℕ → ℕ → Option (List ℕ) → Option (List ℕ) → ℕ → Type 0
-EndsOr last code old new status = EndsIn last code old new status ⊎ EndsIn memory_line 7 old new status
+EndsOr last code old new status =
+    EndsIn last code old new status ⊎ EndsIn memory_line 7 old new status
 
 -- the last line that is put at this epoch, or the one that says that memory was refused for it
 abbrev pub Finishes : Stop → ℕ → Option (List ℕ) → Option (List ℕ) → ℕ → Type 0
@@ -83,13 +85,30 @@ stop_for NoDisk = Disk
 stop_for NoMemory = Memory
 stop_for (WrongTag bad) = Tag bad
 
--- An answer doesn't lower the sink's count of faults, and the count rose where it stopped in a write.
--- It stops in no read, and at two tags that differ.
-pub record IsPut (before now : ℕ) (result : Option Stop) : Type 0 where
-  pub later : before ≤ now
-  pub write : result ≡ Some Write → Rose before now
+-- Puts add some bytes to a sink. Its count of faults doesn't fall, and it rose where a put failed.
+pub record PutsTo {O : Type 0} (written : O → Option (List ℕ)) (faults : O → ℕ) (failed : Type 0)
+    (old new : O) : Type 0 where
+  pub grew : Grows (written old) (written new)
+  pub later : faults old ≤ faults new
+  pub write : failed → Rose (faults old) (faults new)
+
+-- An answer keeps the masters and is a call on the disk, at which it stops only where that failed.
+-- Where it doesn't stop, the store hasn't failed. It stops in no read, and for a tag only where two
+-- differ.
+pub record IsAnswer {D : Type 0} (borrow faults : D → ℕ) (old new : KeptOn D)
+    (result : Option Stop) : Type 0 where
+  pub masters : new.kept.masters ≡ old.kept.masters
+  pub call : IsDiskCall borrow faults (result ≡ Some Disk) old.disk new.disk
+  pub sound : IfNone result (new.failed ≡ false)
   pub no_read : result ≡ Some Read → ⊥
   pub tag : (bad : BadTag) → result ≡ Some (Tag bad) → AreOtherTags bad
+
+-- The answering of a script is calls on the disk, at which it stopped only where one failed. It
+-- stopped for a tag only where two differ, and what was kept at the start stands for no history.
+pub record StopsAt {D : Type 0} (borrow faults : D → ℕ) (old new : KeptOn D) (stop : Stop)
+    : Type 0 where
+  pub call : IsDiskCall borrow faults (stop ≡ Disk) old.disk new.disk
+  pub tag : (bad : BadTag) → stop ≡ Tag bad → FindsTag old.kept bad
 
 module _ {D : Type 0} (reads : D → Option Image) (may_leave : D → Image → Type 0)
     (moment : D → ℕ) (left_since : D → ℕ → Image → Type 0) where

@@ -10,9 +10,11 @@ use Rattle.ov_images.specs.Images.{IsImageOf, Keeps, keys_of}
 use Rattle.ov_script.specs.declared.command.Command.{Command}
 use Rattle.ov_script.specs.Lines.{reply_line}
 use Rattle.ov_script.specs.Reading.{AtEnd, BeginsScript, IsScript}
-use Rattle.ov_history.specs.Catalogue.{Filed}
-use Rattle.ov_history.specs.Closure.{HoldsFile}
+use Rattle.ov_tokens.specs.declared.label.Label.{Label}
+use Rattle.ov_history.specs.Catalogue.{Catalogue, Filed}
+use Rattle.ov_history.specs.Closure.{HoldsFile, Holds as HoldsLabel}
 use Rattle.ov_history.specs.History.{matrix_of}
+use Rattle.ov_history.specs.Keys.{AreTrueTokens, DerivesKey, IsKeyOf}
 use Rattle.ov_history.specs.Lists.{is_listed}
 use Rattle.ov_history.specs.Masters.{Masters}
 use Rattle.ov_history.specs.Plain.{PlainHistory, history_of}
@@ -61,14 +63,22 @@ HasAnswered p text commands old new =
 
 -- ---- tokens
 
--- Each user's closure over the tokens that are published after this history, as it is sealed under
--- the two masters, has all the labels that protect a file exactly where the matrix lists the user.
-abbrev pub PublishesMatrix : Masters → PlainHistory → Type 0
-PublishesMatrix k p =
-    (user file : ℕ) (f : Filed) → user < length (matrix_of (history_of p)).users
-    → slice_get (catalogue_of k.surface (sealed k p)).files file ≡ Some f
-    → HoldsFile (catalogue_of k.surface (sealed k p)) user f
-    ↔ (is_listed (matrix_of (history_of p)) user file ≡ true)
+-- what is published after this history, as it is sealed under the two masters
+abbrev pub published : Masters → PlainHistory → Catalogue
+published k p = catalogue_of k.surface (sealed k p)
+
+-- The tokens that are published after this history lead to the keys of their labels under the two
+-- masters. Over them a user derives exactly the keys of the labels in the user's closure. And this
+-- closure has all the labels that protect a file exactly where the matrix lists the user.
+pub record PublishesMatrix (k : Masters) (p : PlainHistory) : Type 0 where
+  pub tokens : AreTrueTokens k (published k p)
+  pub derived : (user : ℕ) (label : Label) (key : List ℕ)
+      → DerivesKey k (published k p) user label key
+      ↔ IsKeyOf k (HoldsLabel (published k p) user) label key
+  pub matrix : (user file : ℕ) (f : Filed) → user < length (matrix_of (history_of p)).users
+      → slice_get (published k p).files file ≡ Some f
+      → HoldsFile (published k p) user f
+      ↔ (is_listed (matrix_of (history_of p)) user file ≡ true)
 
 -- ---- disks
 
@@ -76,8 +86,8 @@ PublishesMatrix k p =
 abbrev pub TellsNothing : Option Image → Type 0
 TellsNothing reads = Told reads (λ _. ⊥)
 
--- Calls on a disk keep its loan. The count of its faults doesn't fall, and it rose where they failed
--- for a fault of the disk.
+-- Calls on a disk keep its loan. The count of its faults doesn't fall, and it rose where they
+-- failed for a fault of the disk.
 pub record IsDiskCall {D : Type 0} (borrow faults : D → ℕ) (failed : Type 0) (old new : D)
     : Type 0 where
   pub same : borrow new ≡ borrow old
@@ -100,22 +110,22 @@ module _ {D : Type 0} (reads : D → Option Image) (may_leave : D → Image → 
     pub mode_is : p.mode ≡ mode
     pub stands : StandsForPlain k p image
 
-  -- What lasts of a whole script that was answered from a disk which stood for the history: the disk
-  -- as it reads, and each image that a stop may leave of it, stands for the history after all its
-  -- commands, and the tokens that are published after it are the matrix.
+  -- What lasts of a whole script that was answered from a disk which stood for the history: the
+  -- disk as it reads, and each image that a stop may leave of it, keeps the history after all its
+  -- commands, so a store was begun there; and what is published after it is the matrix.
   pub record Lasts (k : Masters) (p : PlainHistory) (text : List ℕ) (disk : D) : Type 0 where
     pub commands : List Command
     pub whole : IsScript text commands AtEnd
     pub image : Image
     pub told : reads disk ≡ Some image
-    pub reads_it : StandsForPlain k (after_all p commands) image
-    pub leaves_it : (c : Image) → may_leave disk c → StandsForPlain k (after_all p commands) c
+    pub reads_it : KeepsPlain k (after_all p commands) image
+    pub leaves_it : (c : Image) → may_leave disk c → KeepsPlain k (after_all p commands) c
     pub tokens : PublishesMatrix k (after_all p commands)
 
   module _ (moment : D → ℕ) (left_since : D → ℕ → Image → Type 0) where
-    -- What a stop leaves of a script that is answered from a disk which stood for the history. At any
-    -- moment since the start each image stands for the history after some first commands; and at the
-    -- exit each has all updates whose reply line was put whole, and at most one more.
+    -- What a stop leaves of a script that is answered from a disk which stood for the history. At
+    -- any moment since the start each image stands for the history after some first commands; and
+    -- at the exit each has all updates whose reply line was put whole, and at most one more.
     pub record Survives (k : Masters) (p : PlainHistory) (text : List ℕ) (first last : D)
         (old new : Option (List ℕ)) : Type 0 where
       pub any_moment : LeavesOnly moment left_since first last (KeepsFirst k p text)

@@ -1,5 +1,6 @@
 -- What the program keeps of a history, and what it does to it.
-use Rattle.std.specs.Prelude.{◌≡◌, ◌≢◌, ℕ, ◌≤◌, List, length, Bool, Option, None, Result, Ok, Err, OnOk}
+use Rattle.std.specs.Prelude.{◌≡◌, ◌≢◌, ℕ, ◌≤◌, List, length, Bool, Option, None}
+use Rattle.std.specs.Prelude.{Result, Ok, Err, OnOk}
 use Rattle.ov_base.specs.declared.limits.TheConstants.{MAX_FILE_BYTES}
 use Rattle.ov_disk.specs.Disk.{Image}
 use Rattle.ov_disk.specs.Moments.{LeavesOnly}
@@ -88,7 +89,8 @@ pub record IsSentAt (old : Kept) (p : PlainHistory) (command : Command) (sent : 
     : Type 0 where
   pub plain : PlainUpdate
   pub asked : step p command ≡ update p plain
-  pub refused : refusal_shown old.catalogue (brief sent) ≡ refusal_of (history_of p) (measured plain)
+  pub refused : refusal_shown old.catalogue (brief sent)
+      ≡ refusal_of (history_of p) (measured plain)
   pub sealed : refusal_of (history_of p) (measured plain) ≡ None
       → sent ≡ sealed_update old.masters (layers_of (history_of p)) plain
 

@@ -1,5 +1,5 @@
 -- How far a script may be taken before its replies are put.
-use Rattle.std.specs.Prelude.{ℕ, List, ◌++◌, Option}
+use Rattle.std.specs.Prelude.{ℕ, List, ◌++◌, Option, ⊤}
 use Rattle.std.specs.Io.KnownBytes.{Appends}
 use Rattle.ov_base.specs.declared.limits.TheConstants.{MAX_SCRIPT_BYTES}
 use Rattle.ov_io.specs.Calls.{TakesWhile}
@@ -22,10 +22,11 @@ pub record AwaitsMore (p : PlainHistory) (seen : List ℕ) (old new : Option (Li
   pub more : List ℕ
   pub put : Appends old new (lines p commands ++ more)
 
--- A reply is put before more of the script is taken than its command needs. Nothing was taken; or
--- one last take followed, and the bytes that were taken before it awaited more. This speaks of the
--- end alone, and orders all takes and puts, since any put may be the one that fails and ends a run.
+-- A reply is put before more of the script is taken than its command needs: each take was made
+-- only while what was taken before it awaited more, and none behind one that gave nothing. This
+-- speaks of the end alone, and orders all takes and puts, since any put may be the one that fails
+-- and ends a run.
 abbrev pub IsPaced : {S : Type 0} → (S → S → Type 0) → (S → Option (List ℕ)) → PlainHistory
     → S → S → Option (List ℕ) → Option (List ℕ) → Type 0
 IsPaced takes left p old new put_old put_new =
-    TakesWhile takes left (λ seen. AwaitsMore p seen put_old put_new) ⊥ old new
+    TakesWhile takes left (λ seen. AwaitsMore p seen put_old put_new) ⊤ ⊥ old new

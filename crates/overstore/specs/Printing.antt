@@ -62,8 +62,8 @@ last_line p AtEnd = reply_line (End (epoch_of (history_of p)))
 last_line p (BadAt n) = bad_line n
 last_line p TooLong = long_line
 
--- What a run over this script, from this history on, that ends so prints: the machine's lines to its
--- commands, or to the first of them, and then the last line.
+-- What a run over this script, from this history on, that ends so prints: the machine's lines to
+-- its commands, or to the first of them, and then the last line.
 abbrev pub IsPrinted : PlainHistory → List ℕ → Outcome → List ℕ → Type 0
 IsPrinted h text (Answered ending) printed =
     (commands : List Command) × IsScript text commands ending

@@ -12,12 +12,12 @@ use Rattle.ov_history.specs.Masters.{Masters}
 use Rattle.ov_history.specs.Plain.{PlainHistory}
 use Rattle.ov_store.specs.declared.fault.BeginFault.{BeginFault}
 use Rattle.overstore.specs.Answering.{EndsIn, EndsOr}
-use Rattle.overstore.specs.Disks.{Lasts, OpensAs, Survives}
+use Rattle.overstore.specs.Disks.{IsDiskCall, Lasts, OpensAs, Survives}
 use Rattle.overstore.specs.Faults.{fault_line, fault_status}
 use Rattle.overstore.specs.Judging.{IsRefusal}
 use Rattle.overstore.specs.Machine.{AreMasters}
-use Rattle.overstore.specs.Printing.{Outcome, status_of}
-use Rattle.overstore.specs.Printing.{Answered, DiskFault, ReadFault, OutOfMemory, Prints, PrintsFront}
+use Rattle.overstore.specs.Printing.{Outcome, status_of, Prints, PrintsFront}
+use Rattle.overstore.specs.Printing.{Answered, DiskFault, ReadFault, OutOfMemory}
 use Rattle.overstore.specs.Printing.{keys_line, read_line, usage_line}
 use Rattle.overstore.specs.Printing.{IsAnswered, IsFault, IsMemory, IsRefused, IsStatus, StatusIsOf}
 use Rattle.overstore.specs.Words.{IsRun}
@@ -55,13 +55,15 @@ pub record IsDecided (text : List ℕ) (status : ℕ) (keys input out disk : Typ
 -- ---- the key file and the words
 
 -- What a run makes of the file that is to be its key file. The script is answered only with one,
--- and only without one the status is 10; without one the script and the disk stay as they are, and
--- a run that the words ask for ends in the line on the key file or in that on a failed read.
+-- and only without one the status is 10, with which the script and the disk stay as they are.
+-- Without one they stay so whatever the status, and a run that the words ask for ends in the line
+-- on the key file or in that on a failed read.
 pub record JudgesKeys (asked : Type 0) (keys : Option (List ℕ)) (status : ℕ)
     (old new : Option (List ℕ)) (untouched : Type 0) : Type 0 where
   pub masters : IsAnswered status → IfSome keys HasMasters
   pub none : status ≡ 10 → IfSome keys (λ file. HasMasters file → ⊥)
   pub line : status ≡ 10 → Appends old new keys_line
+  pub kept : status ≡ 10 → untouched
   pub unread : IfSome keys (λ file. (HasMasters file → ⊥) → untouched)
   pub ends : asked → IfSome keys (λ file. (HasMasters file → ⊥)
       → EndsIn keys_line 10 old new status ⊎ EndsIn read_line 5 old new status)
@@ -75,8 +77,8 @@ pub record RefusesWords (other : Type 0) (status : ℕ) (old new : Option (List 
 
 -- The status is one of those that a run has. A call of the disk is said to have failed only where
 -- its count of faults rose, a read only where a count of what is read did, and a write only where
--- that of the sink did; and a tag to be wrong only with the line on it, and over a disk that doesn't
--- tell its bytes.
+-- that of the sink did; and a tag to be wrong only with the line on it, and over a disk that
+-- doesn't tell its bytes.
 pub record FailsForFaults (status : ℕ) (disks reads writes tags : Type 0) : Type 0 where
   pub some : IsStatus status
   pub tag : status ≡ 12 → tags
@@ -84,12 +86,22 @@ pub record FailsForFaults (status : ℕ) (disks reads writes tags : Type 0) : Ty
   pub read : status ≡ 5 → reads
   pub write : status ≡ 6 → writes
 
+-- What a run leaves of its disk, and why it ends with the status of a fault: with 4 only where the
+-- disk's count of faults rose, with 5 only where one of what is read did, with 6 only where that of
+-- the sink did, and with 12 only for a tag that is wrong.
+pub record EndsFor {D : Type 0} (borrow faults : D → ℕ) (old new : D) (status : ℕ)
+    (reads writes tags : Type 0) : Type 0 where
+  pub disk : IsDiskCall borrow faults (status ≡ 4) old new
+  pub read : status ≡ 5 → reads
+  pub write : status ≡ 6 → writes
+  pub tag : status ≡ 12 → tags
+
 -- ---- the disk
 
 -- What a run under these masters makes of the image that its disk reads. With 8 and 9 it says why
--- the image doesn't open, and it ends so on no image that opens. Where the image doesn't open, so it
--- says, or that a call of the disk failed or memory was refused, or a failed read of the key file;
--- the script isn't read, and a crash leaves what it might have left at the start.
+-- the image doesn't open, and it ends so on no image that opens. Where the image doesn't open, so
+-- it says, or that a call of the disk failed or memory was refused, or a failed read of the key
+-- file; the script isn't read, and a crash leaves what it might have left at the start.
 pub record JudgesImage (k : Masters) (mode : Mode) (i : Image) (status : ℕ)
     (old new : Option (List ℕ)) (script_unread nothing_written : Type 0) : Type 0 where
   pub refused : IsRefused status → (fault : BeginFault) × IsRefusal k mode i fault

@@ -1,17 +1,15 @@
 //! A script, answered command by command.
-ghost use Rattle.std.specs.Prelude.{◌≡◌, ◌≤◌, false, IfNone, IfSome, Some};
+ghost use Rattle.std.specs.Prelude.{◌≡◌, ◌≤◌, false, IfSome, Some};
 ghost use Rattle.ov_base.specs.Causes.{Rose};
 ghost use Rattle.ov_io.specs.Calls.{IsCallOf};
 ghost use Rattle.ov_history.specs.Masters.{Masters};
 ghost use Rattle.ov_history.specs.Plain.{PlainHistory};
 ghost use Rattle.ov_script.specs.Lines.{reply_line};
 ghost use Rattle.ov_script.specs.Place.{start, text_left};
-ghost use Rattle.overstore.specs.Answering.{Answers, FindsTag, Grows, IsPut, PutsOr, Stops};
+ghost use Rattle.overstore.specs.Answering.{Answers, IsAnswer, PutsOr, PutsTo, Stops, StopsAt};
 ghost use Rattle.overstore.specs.Answering.{stop_for};
-ghost use Rattle.overstore.specs.Disks.{IsDiskCall};
 ghost use Rattle.overstore.specs.Machine.{IsCommand, StandsFor};
 ghost use Rattle.overstore.specs.Pacing.{IsPaced};
-ghost use Rattle.overstore.specs.declared.fault.BadTag.{BadTag};
 
 use crate::fault::{BadTag, StepFault};
 use crate::machine::Machine;
@@ -81,12 +79,8 @@ fn answer<D: Disk, O: Sink>(
         → StandsFor machine.old.kept p
         → Answers D.reads D.may_leave D.moment D.left_since k p command result
         (O.written out.old) (O.written out.new) machine.old machine.new }
-    ensures masters { machine.new.kept.masters ≡ machine.old.kept.masters }
-    ensures healthy { IfNone result (machine.new.failed ≡ false) }
-    ensures disk { IsDiskCall D.borrow D.faults (result ≡ Some Stop.Disk)
-        machine.old.disk machine.new.disk }
-    ensures sink { IsPut (O.faults out.old) (O.faults out.new) result }
-    ensures grew { Grows (O.written out.old) (O.written out.new) }
+    ensures step { IsAnswer D.borrow D.faults machine.old machine.new result }
+    ensures sink { PutsTo O.written O.faults (result ≡ Some Stop.Write) out.old out.new }
 {
     let alloc = *buffer.allocator();
     match machine.step(alloc, command) {
@@ -113,12 +107,8 @@ pub fn answer_all<S: Source + Drop, O: Sink, D: Disk>(
         script.old.source script.new.source (O.written out.old) (O.written out.new)) }
     ensures source { IsCallOf S.borrow S.faults (result ≡ Stop.Read)
         script.old.source script.new.source }
-    ensures disk { IsDiskCall D.borrow D.faults (result ≡ Stop.Disk)
-        machine.old.disk machine.new.disk }
-    ensures later { O.faults out.old ≤ O.faults out.new }
-    ensures write { result ≡ Stop.Write → Rose (O.faults out.old) (O.faults out.new) }
-    ensures tag { (bad : BadTag) → result ≡ Stop.Tag bad → FindsTag machine.old.kept bad }
-    ensures grew { Grows (O.written out.old) (O.written out.new) }
+    ensures machine { StopsAt D.borrow D.faults machine.old machine.new result }
+    ensures sink { PutsTo O.written O.faults (result ≡ Stop.Write) out.old out.new }
 {
     let mut buffer = Vec::new(alloc);
     'items: loop {

@@ -6,13 +6,13 @@ ghost use Rattle.ov_disk.specs.Disk.{Told};
 ghost use Rattle.ov_history.specs.Masters.{Masters as PlainMasters};
 ghost use Rattle.ov_history.specs.Plain.{PlainHistory};
 ghost use Rattle.overstore.specs.Answering.{SaysTag};
-ghost use Rattle.overstore.specs.Disks.{Endures, Holds, IsDiskCall, OpensAs, TellsNothing};
+ghost use Rattle.overstore.specs.Disks.{Endures, Holds, OpensAs, TellsNothing};
 ghost use Rattle.overstore.specs.Machine.{AreMasters, StandsFor, plain_masters};
 ghost use Rattle.overstore.specs.Pacing.{IsPaced};
 ghost use Rattle.overstore.specs.Printing.{IsKeysStatus, IsScriptStatus, IsStoreStatus};
-ghost use Rattle.overstore.specs.Running.{EndsAs, FailsForFaults, ForImage, FromEach, IsDecided};
-ghost use Rattle.overstore.specs.Running.{JudgesImage, JudgesKeys, LeavesAsAtStart, PrintsAs};
-ghost use Rattle.overstore.specs.Running.{RefusesWords};
+ghost use Rattle.overstore.specs.Running.{EndsAs, EndsFor, FailsForFaults, ForImage, FromEach};
+ghost use Rattle.overstore.specs.Running.{IsDecided, JudgesImage, JudgesKeys, LeavesAsAtStart};
+ghost use Rattle.overstore.specs.Running.{PrintsAs, RefusesWords};
 ghost use Rattle.overstore.specs.Words.{mode_word, AreOther, IsRun};
 
 use crate::answer::answer_all;
@@ -66,11 +66,11 @@ fn answer_script<I: Source, O: Sink, D: Disk>(
     ensures paced { (p : PlainHistory) → StandsFor machine.old.kept p
         → IfSome (I.left input.old) (λ _. IsPaced I.takes I.left p input.old input.new
         (O.written out.old) (O.written out.new)) }
-    ensures disk { IsDiskCall D.borrow D.faults (result ≡ 4) machine.old.disk machine.new.disk }
-    ensures read { result ≡ 5 → Rose (I.faults input.old) (I.faults input.new) }
-    ensures write { result ≡ 6 → Rose (O.faults out.old) (O.faults out.new) }
-    ensures tag { result ≡ 12 → SaysTag (O.written out.old) (O.written out.new)
-        × ((p : PlainHistory) → StandsFor machine.old.kept p → ⊥) }
+    ensures causes { EndsFor D.borrow D.faults machine.old.disk machine.new.disk result
+        (Rose (I.faults input.old) (I.faults input.new))
+        (Rose (O.faults out.old) (O.faults out.new))
+        (SaysTag (O.written out.old) (O.written out.new)
+        × ((p : PlainHistory) → StandsFor machine.old.kept p → ⊥)) }
     ensures status { IsScriptStatus result }
 {
     // The buffer is there before the input is lent, so that without one the input is as it was.
@@ -107,11 +107,10 @@ fn answer_over<I: Source, O: Sink, D: Disk + Drop>(
         Told (D.reads disk) (λ i. JudgesImage k mode i result.0
         (O.written out.old) (O.written out.new) (input.new ≡ input.old)
         (LeavesAsAtStart D.reads D.may_leave D.moment D.left_since disk result.1)) }
-    ensures disk { IsDiskCall D.borrow D.faults (result.0 ≡ 4) disk result.1 }
-    ensures read { result.0 ≡ 5 → Rose (I.faults input.old) (I.faults input.new) }
-    ensures write { result.0 ≡ 6 → Rose (O.faults out.old) (O.faults out.new) }
-    ensures tag { result.0 ≡ 12 → SaysTag (O.written out.old) (O.written out.new)
-        × TellsNothing (D.reads disk) }
+    ensures causes { EndsFor D.borrow D.faults disk result.1 result.0
+        (Rose (I.faults input.old) (I.faults input.new))
+        (Rose (O.faults out.old) (O.faults out.new))
+        (SaysTag (O.written out.old) (O.written out.new) × TellsNothing (D.reads disk)) }
     ensures status { IsStoreStatus result.0 }
 {
     match begin(alloc, disk, masters, mode) {
@@ -149,12 +148,11 @@ fn answer_with_keys<K: Source, I: Source, O: Sink, D: Disk + Drop>(
     ensures keys { JudgesKeys (Unit {0}) (K.left keys.old) result.0
         (O.written out.old) (O.written out.new)
         ((input.new ≡ input.old) × (result.1 ≡ disk)) }
-    ensures disk { IsDiskCall D.borrow D.faults (result.0 ≡ 4) disk result.1 }
-    ensures read { result.0 ≡ 5 → Rose (K.faults keys.old) (K.faults keys.new)
-        ⊎ Rose (I.faults input.old) (I.faults input.new) }
-    ensures write { result.0 ≡ 6 → Rose (O.faults out.old) (O.faults out.new) }
-    ensures tag { result.0 ≡ 12 → SaysTag (O.written out.old) (O.written out.new)
-        × TellsNothing (D.reads disk) }
+    ensures causes { EndsFor D.borrow D.faults disk result.1 result.0
+        (Rose (K.faults keys.old) (K.faults keys.new)
+        ⊎ Rose (I.faults input.old) (I.faults input.new))
+        (Rose (O.faults out.old) (O.faults out.new))
+        (SaysTag (O.written out.old) (O.written out.new) × TellsNothing (D.reads disk)) }
     ensures status { IsKeysStatus result.0 }
 {
     match read_masters(keys) {

@@ -83,18 +83,20 @@ impl Status {
                 "unknown words; use `overstore run full` or `run delta` or `overstore --help`",
             ),
             Status::BadLine => Some(
-                "standard output names a bad line; those before it stand; correct it and run again",
+                "standard output names a bad line; what was answered before lasts; correct it and run the rest",
             ),
             Status::DiskFault => Some(
-                "store.book or store.blobs failed or is in use; check and run again: what was answered lasts",
+                "store.book or store.blobs failed or is in use; what was answered lasts; ask for the epoch, and run the rest",
             ),
-            Status::ReadFault => {
-                Some("reading failed; check keys.hex and standard input and run again")
-            }
-            Status::WriteFault => {
-                Some("writing the replies failed; check standard output and run again")
-            }
-            Status::OutOfMemory => Some("the system refused memory; free some and run again"),
+            Status::ReadFault => Some(
+                "reading keys.hex or standard input failed; what was answered lasts; run the rest",
+            ),
+            Status::WriteFault => Some(
+                "writing the replies failed; what was put lasts; ask for the epoch, and run the rest",
+            ),
+            Status::OutOfMemory => Some(
+                "the system refused memory; what was answered lasts; free some, and run the rest",
+            ),
             Status::NotAStore => Some(
                 "store.book is damaged or no store; put a good copy in its place or run elsewhere",
             ),
@@ -108,7 +110,7 @@ impl Status {
                 "the script is past 268435456 bytes; run what follows as a script of its own",
             ),
             Status::WrongTag => Some(
-                "a file in store.book isn't what its owner sent; put a good copy in its place",
+                "a file isn't what its owner sent; run again, and if it stays so put a good store.book in its place",
             ),
         }
     }

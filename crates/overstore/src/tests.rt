@@ -7,6 +7,7 @@ mod faults;
 mod full;
 mod running;
 mod stops;
+mod tags;
 
 use ov_disk::MemDisk;
 use running::{Pieces, Row, Wants, assert_anew, assert_ended, assert_row, key_bytes, ran, words};

@@ -165,6 +165,61 @@ fn disks_that_do_not_open(rt: HostRuntime) -> Result<(), Fail> {
     assert_shut(&rt, alloc, "delta", &[b'x'; 200], 8, b"error notastore\n")
 }
 
+// The Book of one user and one file of one byte under these keys, in `full`: what a program in
+// Python gives that was written from the formats alone. In `delta` byte 9 is 1.
+const ONE_FILE: &[u8] = b"\x01OVERENC0\0\0\0\0\0\
+    \x2a\x4f\x6d\x54\xa4\x5f\x46\xe7\xa8\x18\xa4\xf5\x94\x51\xe9\xfb\
+    \xb0\x95\x9a\xdd\x66\x60\xc9\x0f\xc1\xb8\xbf\x8d\x4b\x73\xc7\x45\
+    \xe2\xe6\x63\x1a\x00\x5a\x1d\xa7\x4d\x3f\x29\x1c\x8c\xd9\xe6\x0c\
+    \x7a\xbf\x3a\x2a\xb3\x3a\x71\x99\xbf\xf0\x6c\x71\x43\x32\x63\xd4\
+    \x01\0\0\0\x03\x01\x01a\
+    \x01\0\0\0J\x02\x01f\
+    \x01\0\0\0\0\0\0\0\0\0\0\0\0\0\0\0\0\0\0\0\0\0\0\0\0\0\0\0\0\0\0\0\0\0\
+    \xa8\x63\x5f\xae\xc7\x82\xbb\x11\xcb\xd1\x66\x67\xd9\xa3\x28\xa5\
+    \xbf\x77\xf6\x38\xe6\x49\x97\xf3\x42\x6e\x66\xa1\x9e\x85\x5d\xe7\
+    \0\0\0\x01\x7f\0";
+
+/// That Book, in a mode of this byte.
+pub fn one_file(alloc: Global, mode: u8) -> Result<Vec<u8>, AllocError> {
+    changed(alloc, ONE_FILE, 9, mode)
+}
+
+static CREATION: Row<'static> = Row {
+    script: b"enrol a\ncreate f a 1\nx\n",
+    status: 0,
+    lines: b"ok 1\nok 2\nend epoch 2\n",
+};
+
+fn creation() -> &'static Row<'static> {
+    &CREATION
+}
+
+#[test]
+fn books_of_a_file(rt: HostRuntime) -> Result<(), Fail> {
+    let alloc = rt.alloc();
+    let full = book_of(&rt, alloc, "full", creation())?;
+    let delta = book_of(&rt, alloc, "delta", creation())?;
+    assert_eq!(rt; full, one_file(alloc, 0)?);
+    assert_eq!(rt; delta, one_file(alloc, 1)?);
+    Ok(())
+}
+
+// Asserts that where this byte of that Book is another, the record of the creation, whose gate
+// stands at 86, isn't taken for the owner's.
+fn assert_false(rt: &impl Abort, alloc: Global, place: usize, byte: u8) -> Result<(), Fail> {
+    let book = one_file(alloc, 1)?;
+    let damaged = changed(alloc, &book, place, byte)?;
+    assert_shut(rt, alloc, "delta", &damaged, 8, b"error damaged book 86\n")
+}
+
+// One bit of the tag's first byte, of its last, and of the file's only byte.
+#[test]
+fn a_record_that_is_not_the_owners(rt: HostRuntime) -> Result<(), Fail> {
+    assert_false(&rt, rt.alloc(), 128, 0xa9)?;
+    assert_false(&rt, rt.alloc(), 159, 0x67)?;
+    assert_false(&rt, rt.alloc(), 164, 0x7e)
+}
+
 #[test]
 fn another_mode(rt: HostRuntime) -> Result<(), Fail> {
     let row = Row {

@@ -17,47 +17,59 @@ write_at-requires-2 g c k is =
     gate_inside from.0 k c.args.end (c.requires.stands from.0 from.1).0 c.args.body.now c.deref.result.now (c.deref.ensures.value ∙ c.fill.ensures.bytes) from.2
 
 pub returns-in_err-write_at-clause-any_moment : goal.returns-in_err-write_at-clause-any_moment
-returns-in_err-write_at-clause-any_moment g c i is =
-    let begun : Begun g.D.Disk.moment g.D.Disk.left_since g.D.Disk.may_leave c.args.disk.now (Appends (g.D.Disk.may_leave c.args.disk.now) i c.args.end c.args.body.now c.deref.result.now) =
-    record {
-      only_now = g.met.D.Disk.only_now c.args.disk.now;
-      held = record { mine = g.met.D.Disk.reads_one c.args.disk.now i is; stands = c.requires.stands i is; size = c.requires.fits.can_be; is_frame = c.deref.ensures.value ∙ c.fill.ensures.bytes };
-    } in
-    first begun c.write_at.new.self c.write_at.ensures.time c.write_at.ensures.crash
+returns-in_err-write_at-clause-any_moment g c = record {
+  leaves = λ i is.
+      let begun : Begun g.D.Disk.moment g.D.Disk.left_since g.D.Disk.may_leave c.args.disk.now (Appends (g.D.Disk.may_leave c.args.disk.now) i c.args.end c.args.body.now c.deref.result.now) =
+      record {
+        only_now = g.met.D.Disk.only_now c.args.disk.now;
+        held = record { mine = g.met.D.Disk.reads_one c.args.disk.now i is; stands = c.requires.stands i is; size = c.requires.fits.can_be; is_frame = c.deref.ensures.value ∙ c.fill.ensures.bytes };
+      } in
+      first begun c.write_at.new.self c.write_at.ensures.time c.write_at.ensures.crash;
+  untold = c.write_at.ensures.untold;
+}
 
 pub returns-in_err-sync-clause-any_moment : goal.returns-in_err-sync-clause-any_moment
-returns-in_err-sync-clause-any_moment g c i is =
-    let begun : Begun g.D.Disk.moment g.D.Disk.left_since g.D.Disk.may_leave c.args.disk.now (Appends (g.D.Disk.may_leave c.args.disk.now) i c.args.end c.args.body.now c.deref.result.now) =
-    record {
-      only_now = g.met.D.Disk.only_now c.args.disk.now;
-      held = record { mine = g.met.D.Disk.reads_one c.args.disk.now i is; stands = c.requires.stands i is; size = c.requires.fits.can_be; is_frame = c.deref.ensures.value ∙ c.fill.ensures.bytes };
-    } in
-    second begun c.write_at.new.self c.write_at.ensures.time c.write_at.ensures.crash c.sync.new.self c.sync.ensures.time c.sync.ensures.crash
+returns-in_err-sync-clause-any_moment g c = record {
+  leaves = λ i is.
+      let begun : Begun g.D.Disk.moment g.D.Disk.left_since g.D.Disk.may_leave c.args.disk.now (Appends (g.D.Disk.may_leave c.args.disk.now) i c.args.end c.args.body.now c.deref.result.now) =
+      record {
+        only_now = g.met.D.Disk.only_now c.args.disk.now;
+        held = record { mine = g.met.D.Disk.reads_one c.args.disk.now i is; stands = c.requires.stands i is; size = c.requires.fits.can_be; is_frame = c.deref.ensures.value ∙ c.fill.ensures.bytes };
+      } in
+      second begun c.write_at.new.self c.write_at.ensures.time c.write_at.ensures.crash c.sync.new.self c.sync.ensures.time c.sync.ensures.crash;
+  untold = λ none. c.sync.ensures.untold (c.write_at.ensures.untold none);
+}
 
 pub returns-in_err-write_at-2-clause-any_moment : goal.returns-in_err-write_at-2-clause-any_moment
-returns-in_err-write_at-2-clause-any_moment g c i is =
-    let begun : Begun g.D.Disk.moment g.D.Disk.left_since g.D.Disk.may_leave c.args.disk.now (Appends (g.D.Disk.may_leave c.args.disk.now) i c.args.end c.args.body.now c.deref.result.now) =
-    record {
-      only_now = g.met.D.Disk.only_now c.args.disk.now;
-      held = record { mine = g.met.D.Disk.reads_one c.args.disk.now i is; stands = c.requires.stands i is; size = c.requires.fits.can_be; is_frame = c.deref.ensures.value ∙ c.fill.ensures.bytes };
-    } in
-    let reads1 : g.D.Disk.reads c.write_at.new.self ≡ Some (written Book (c.args.end + 1) c.deref.result.now i) =
-    c.in_ok-write_at.ensures.written ∙ ap (option_map (written Book (c.args.end + 1) c.deref.result.now)) is in
-    third begun c.write_at.new.self c.write_at.ensures.time c.write_at.ensures.crash c.sync.new.self c.sync.ensures.time c.sync.ensures.crash
-    (c.in_ok-sync.ensures.durable (written Book (c.args.end + 1) c.deref.result.now i) reads1) c.write_at-2.new.self c.write_at-2.ensures.time c.write_at-2.ensures.crash
+returns-in_err-write_at-2-clause-any_moment g c = record {
+  leaves = λ i is.
+      let begun : Begun g.D.Disk.moment g.D.Disk.left_since g.D.Disk.may_leave c.args.disk.now (Appends (g.D.Disk.may_leave c.args.disk.now) i c.args.end c.args.body.now c.deref.result.now) =
+      record {
+        only_now = g.met.D.Disk.only_now c.args.disk.now;
+        held = record { mine = g.met.D.Disk.reads_one c.args.disk.now i is; stands = c.requires.stands i is; size = c.requires.fits.can_be; is_frame = c.deref.ensures.value ∙ c.fill.ensures.bytes };
+      } in
+      let reads1 : g.D.Disk.reads c.write_at.new.self ≡ Some (written Book (c.args.end + 1) c.deref.result.now i) =
+      c.in_ok-write_at.ensures.written ∙ ap (option_map (written Book (c.args.end + 1) c.deref.result.now)) is in
+      third begun c.write_at.new.self c.write_at.ensures.time c.write_at.ensures.crash c.sync.new.self c.sync.ensures.time c.sync.ensures.crash
+      (c.in_ok-sync.ensures.durable (written Book (c.args.end + 1) c.deref.result.now i) reads1) c.write_at-2.new.self c.write_at-2.ensures.time c.write_at-2.ensures.crash;
+  untold = λ none. c.write_at-2.ensures.untold (c.sync.ensures.untold (c.write_at.ensures.untold none));
+}
 
 pub returns-clause-any_moment : goal.returns-clause-any_moment
-returns-clause-any_moment g c i is =
-    let begun : Begun g.D.Disk.moment g.D.Disk.left_since g.D.Disk.may_leave c.args.disk.now (Appends (g.D.Disk.may_leave c.args.disk.now) i c.args.end c.args.body.now c.deref.result.now) =
-    record {
-      only_now = g.met.D.Disk.only_now c.args.disk.now;
-      held = record { mine = g.met.D.Disk.reads_one c.args.disk.now i is; stands = c.requires.stands i is; size = c.requires.fits.can_be; is_frame = c.deref.ensures.value ∙ c.fill.ensures.bytes };
-    } in
-    let reads1 : g.D.Disk.reads c.write_at.new.self ≡ Some (written Book (c.args.end + 1) c.deref.result.now i) =
-    c.in_ok-write_at.ensures.written ∙ ap (option_map (written Book (c.args.end + 1) c.deref.result.now)) is in
-    fourth begun c.write_at.new.self c.write_at.ensures.time c.write_at.ensures.crash c.sync.new.self c.sync.ensures.time c.sync.ensures.crash
-    (c.in_ok-sync.ensures.durable (written Book (c.args.end + 1) c.deref.result.now i) reads1) c.write_at-2.new.self c.write_at-2.ensures.time c.write_at-2.ensures.crash
-    c.sync-2.new.self c.sync-2.ensures.time c.sync-2.ensures.crash
+returns-clause-any_moment g c = record {
+  leaves = λ i is.
+      let begun : Begun g.D.Disk.moment g.D.Disk.left_since g.D.Disk.may_leave c.args.disk.now (Appends (g.D.Disk.may_leave c.args.disk.now) i c.args.end c.args.body.now c.deref.result.now) =
+      record {
+        only_now = g.met.D.Disk.only_now c.args.disk.now;
+        held = record { mine = g.met.D.Disk.reads_one c.args.disk.now i is; stands = c.requires.stands i is; size = c.requires.fits.can_be; is_frame = c.deref.ensures.value ∙ c.fill.ensures.bytes };
+      } in
+      let reads1 : g.D.Disk.reads c.write_at.new.self ≡ Some (written Book (c.args.end + 1) c.deref.result.now i) =
+      c.in_ok-write_at.ensures.written ∙ ap (option_map (written Book (c.args.end + 1) c.deref.result.now)) is in
+      fourth begun c.write_at.new.self c.write_at.ensures.time c.write_at.ensures.crash c.sync.new.self c.sync.ensures.time c.sync.ensures.crash
+      (c.in_ok-sync.ensures.durable (written Book (c.args.end + 1) c.deref.result.now i) reads1) c.write_at-2.new.self c.write_at-2.ensures.time c.write_at-2.ensures.crash
+      c.sync-2.new.self c.sync-2.ensures.time c.sync-2.ensures.crash;
+  untold = λ none. c.sync-2.ensures.untold (c.write_at-2.ensures.untold (c.sync.ensures.untold (c.write_at.ensures.untold none)));
+}
 
 pub returns-clause-lasts : goal.returns-clause-lasts
 returns-clause-lasts g c =

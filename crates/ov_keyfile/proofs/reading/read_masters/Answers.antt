@@ -1,3 +1,5 @@
+use Rattle.std.proofs.Common.{refl}
+use Rattle.ov_io.proofs.Pieces.{while_as}
 use Rattle.ov_keyfile.proofs.Parts.{read_all, few}
 use Rattle.ov_keyfile.proofs.reading.read_masters.Goals as goal
 
@@ -8,3 +10,7 @@ returns-clause-read g c =
 pub returns-clause-taken : goal.returns-clause-taken
 returns-clause-taken g c =
     (_, c.in_ok-count.ensures.taken, few _ _ c.in_ok-count.ensures.within)
+
+pub returns-in_err-count-clause-needed : goal.returns-in_err-count-clause-needed
+returns-in_err-count-clause-needed g c =
+    while_as g.K.Source.takes g.K.Source.left _ _ _ _ _ _ _ (λ e. e) (λ e. refl) c.in_err-count.ensures.needed

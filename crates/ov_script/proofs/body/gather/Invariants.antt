@@ -1,14 +1,12 @@
-use Rattle.std.proofs.Common.{◌≡◌, ◌≤◌, ◌+◌, ◌-◌, length, vec_len}
+use Rattle.std.proofs.Common.{◌≤◌, ◌+◌, ◌-◌, length, vec_len}
 use Rattle.ov_io.specs.Calls.{IsCallOf}
-use Rattle.ov_script.specs.Feed.{Uses}
-use Rattle.ov_script.specs.Finding.{TakesBelow}
+use Rattle.ov_script.specs.Finding.{UsesBelow}
 use Rattle.ov_script.proofs.body.gather.Given as goal
 
 abbrev pub invariant-pieces : goal.invariant-pieces
 invariant-pieces g l = record {
   within : vec_len l.bytes ≤ l.fn.count;
-  used : Uses g.S.Source.left l.fn.feed l.feed l.bytes.items;
-  needed : TakesBelow g.S.Source.takes g.S.Source.left l.fn.count l.fn.feed.pending ⊥ l.fn.feed.source l.feed.source;
+  used : UsesBelow g.S.Source.takes g.S.Source.left l.fn.count l.fn.feed l.feed l.bytes.items;
   call : IsCallOf g.S.Source.borrow g.S.Source.faults ⊥ l.fn.feed.source l.feed.source;
 }
 

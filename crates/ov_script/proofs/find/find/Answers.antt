@@ -1,15 +1,23 @@
-use Rattle.std.proofs.Common.{◌≡◌, length, arith, ap, sym, refl, ◌∙◌}
-use Rattle.std.proofs.lemmas.Bool.Decides.{nat_tests}
-use Rattle.std.proofs.lemmas.Grind.{common_steps}
+use Rattle.std.proofs.Common.{◌≡◌, [], is_err, append-nil, length, arith, ap, sym, refl, ◌∙◌}
 use Rattle.std.proofs.lemmas.List.{nil_from_length}
 use Rattle.std.proofs.lemmas.Result.{err_from_is_err_and}
 use Rattle.std.proofs.KnownBytes.{Consumes-nil, Consumes-kept}
+use Rattle.ov_io.specs.Calls.{no_piece, each_gave}
 use Rattle.ov_script.specs.Feed.{Takes}
 use Rattle.ov_script.specs.declared.front.Front.TheVariants.{Start}
 use Rattle.ov_script.specs.LineFronts.{run}
-use Rattle.ov_script.proofs.Needing.{needs_more, while_as}
+use Rattle.ov_script.proofs.Needing.{needs_more, needs_none, none_given}
 use Rattle.ov_script.proofs.Taking.{seen_again, Takes-trans, seen_behind, none_taken}
 use Rattle.ov_script.proofs.find.find.Goals as goal
+
+pub pieces-init : goal.pieces-init
+pieces-init g c = record {
+  within = omega arith;
+  no_lf = tt;
+  front = refl;
+  taken = ([], record { pending = sym (append-nil _); source = Consumes-nil _ }, no_piece _ refl);
+  call = record { same = refl; later = omega arith; read = λ f. absurd f };
+}
 
 pub returns-in_err-line-clause-found : goal.returns-in_err-line-clause-found
 returns-in_err-line-clause-found g c =
@@ -20,7 +28,7 @@ returns-in_err-line-clause-found g c =
 pub returns-in_err-line-clause-needed : goal.returns-in_err-line-clause-needed
 returns-in_err-line-clause-needed g c =
     let p = err_from_is_err_and c.from_residual.result c.from_residual.ensures.1 in
-    while_as g.S.Source.takes g.S.Source.left _ ⊥ _ _ _ (λ e. c.in_err-line.ensures.no_fault (let is = p.1 in let that = p.2 in cc)) c.pieces.invariant.needed
+    each_gave _ c.pieces.invariant.taken.2 (λ e. c.in_err-line.ensures.no_fault (let is = p.1 in let that = p.2 in cc))
 
 pub returns-in-Whole-clause-found : goal.returns-in-Whole-clause-found
 returns-in-Whole-clause-found g c =
@@ -28,14 +36,16 @@ returns-in-Whole-clause-found g c =
     rw (← c.pending-bytes.ensures) (told (g.S.Source.left c.pieces.feed.source))
 
 pub returns-in-Whole-clause-needed : goal.returns-in-Whole-clause-needed
-returns-in-Whole-clause-needed g c = while_as g.S.Source.takes g.S.Source.left _ ⊥ _ _ _ (λ e. absurd (cc)) c.pieces.invariant.needed
+returns-in-Whole-clause-needed g c = each_gave _ c.pieces.invariant.taken.2 (λ e. absurd (cc))
 
 pub returns-in_err-fill-in-Open-clause-needed : goal.returns-in_err-fill-in-Open-clause-needed
 returns-in_err-fill-in-Open-clause-needed g c =
     let opened = rw c.in-Open.is at c.in_ok-line.ensures.settled in
     let unsettled = rw c.pending-bytes.ensures at opened.1.unsettled in
-    needs_more g.S.Source.takes g.S.Source.left c.args.room _ c.args.feed.now c.pieces.feed c.fill.new.self _ _ c.pieces.invariant.taken.1 unsettled c.in_err-fill-in-Open.ensures.step
-    (Consumes-kept _ _ _ _ (Consumes-nil _) c.in_err-fill-in-Open.ensures.taken.1) (λ f. refl)
+    let inv = c.pieces.invariant in
+    let p = err_from_is_err_and c.from_residual-in_err-fill-in-Open.result c.from_residual-in_err-fill-in-Open.ensures.1 in
+    needs_none g.S.Source.takes g.S.Source.left c.args.room _ _ c.args.feed.now c.pieces.feed c.fill.new.self _ inv.taken.1 inv.taken.2 unsettled c.in_err-fill-in-Open.ensures.step
+    (Consumes-kept _ _ _ _ (Consumes-nil _) c.in_err-fill-in-Open.ensures.taken.1) (ap is_err p.1)
 
 pub returns-then-branch-eq0-clause-found : goal.returns-then-branch-eq0-clause-found
 returns-then-branch-eq0-clause-found g c =
@@ -49,7 +59,7 @@ returns-then-branch-eq0-clause-found g c =
 pub returns-then-branch-eq0-clause-taken : goal.returns-then-branch-eq0-clause-taken
 returns-then-branch-eq0-clause-taken g c =
     let more = c.in_ok-fill-in-Open.ensures.taken in
-    (_, Takes-trans _ _ _ _ _ _ c.pieces.invariant.taken.1 (record { pending = more.1; source = more.3 }))
+    (_, Takes-trans _ _ _ _ _ _ c.pieces.invariant.taken.1 (record { pending = more.1; source = more.3 }), tt)
 
 pub returns-then-branch-eq0-clause-needed : goal.returns-then-branch-eq0-clause-needed
 returns-then-branch-eq0-clause-needed g c =
@@ -57,7 +67,9 @@ returns-then-branch-eq0-clause-needed g c =
     let unsettled = rw c.pending-bytes.ensures at opened.1.unsettled in
     let more = c.in_ok-fill-in-Open.ensures.taken in
     let zero : c.in_ok-fill-in-Open.field-0 ≡ 0 = c.if-branch-eq0.true in
-    needs_more g.S.Source.takes g.S.Source.left c.args.room _ c.args.feed.now c.pieces.feed c.fill.new.self _ more.0 c.pieces.invariant.taken.1 unsettled c.in_ok-fill-in-Open.ensures.step more.3 (λ f. nil_from_length more.0 (more.2 ∙ zero))
+    let inv = c.pieces.invariant in
+    needs_none g.S.Source.takes g.S.Source.left c.args.room _ _ c.args.feed.now c.pieces.feed c.fill.new.self _ inv.taken.1 inv.taken.2 unsettled c.in_ok-fill-in-Open.ensures.step
+    (none_given _ _ more.0 more.3 (nil_from_length more.0 (more.2 ∙ zero))) refl
 
 pub pieces-preserved : goal.pieces-preserved
 pieces-preserved g c =
@@ -72,8 +84,12 @@ pieces-preserved g c =
       within = rw c.pending-bytes.ensures behind.0;
       no_lf = rw c.pending-bytes.ensures behind.1;
       front = opened.0 ∙ ap (run Start) (seen_again _ _ _ _ c.pending-bytes.ensures more.1);
-      taken = (_, Takes-trans _ _ _ _ _ _ inv.taken.1 takes);
-      needed = needs_more g.S.Source.takes g.S.Source.left c.args.room ⊥ c.args.feed.now c.pieces.feed c.fill.new.self _ more.0 inv.taken.1 unsettled c.in_ok-fill-in-Open.ensures.step more.3 (λ f. absurd f);
+      taken = (
+        _,
+        Takes-trans _ _ _ _ _ _ inv.taken.1 takes,
+        needs_more g.S.Source.takes g.S.Source.left c.args.room c.args.feed.now c.pieces.feed c.fill.new.self _ more.0 inv.taken.1 inv.taken.2 unsettled c.in_ok-fill-in-Open.ensures.step more.3
+            (λ none. c.if-branch-eq0.false (sym more.2 ∙ ap length none)),
+      );
       call = record {
         same = c.in_ok-fill-in-Open.ensures.same ∙ inv.call.same;
         later = omega (arith, inv.call.later, c.in_ok-fill-in-Open.ensures.cause.later);

@@ -3,7 +3,7 @@ use Rattle.ov_base.specs.declared.limits.TheConstants.{MAX_LINE_BYTES}
 use Rattle.ov_io.specs.Calls.{IsCallOf}
 use Rattle.ov_script.specs.declared.front.Front.TheVariants.{Start}
 use Rattle.ov_script.specs.Feed.{Takes}
-use Rattle.ov_script.specs.Taking.{TakesWhatItNeeds}
+use Rattle.ov_script.specs.Finding.{NeedsPieces}
 use Rattle.ov_script.specs.LineFeeds.{NoLf}
 use Rattle.ov_script.specs.LineFronts.{run}
 use Rattle.ov_script.proofs.find.find.Given as goal
@@ -13,8 +13,8 @@ invariant-pieces g l = record {
   within : l.seen ≤ length l.feed.pending;
   no_lf : NoLf (take l.seen l.feed.pending);
   front : l.front ≡ run Start (take l.seen l.feed.pending);
-  taken : (more : List ℕ) × Takes g.S.Source.left l.fn.feed l.feed more;
-  needed : TakesWhatItNeeds g.S.Source.takes g.S.Source.left l.fn.room l.fn.feed.pending ⊥ l.fn.feed.source l.feed.source;
+  taken : (more : List ℕ) × Takes g.S.Source.left l.fn.feed l.feed more
+      × NeedsPieces g.S.Source.takes g.S.Source.left l.fn.room l.fn.feed l.feed more;
   call : IsCallOf g.S.Source.borrow g.S.Source.faults ⊥ l.fn.feed.source l.feed.source;
 }
 

@@ -18,7 +18,7 @@ returns-in-Unborn-clause-opened g c =
     (c.in_ok-begin.ensures.finds i is) in
     opened_at_birth g.D.Disk.reads g.D.Disk.may_leave g.D.Disk.moment g.D.Disk.left_since
     (keys c.args.base_check.now c.args.surface.now.bytes) c.args.mode c.args.disk.now
-    c.begin.new.disk c.birth.new.disk unborn c.birth.result
+    c.begin.new.disk c.birth.new.disk unborn c.birth.result c.in_ok-begin.ensures.reads
     c.birth.ensures.born
 
 pub returns-in_ok-vault-in-Born-clause-any_moment :

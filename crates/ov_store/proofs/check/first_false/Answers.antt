@@ -28,23 +28,24 @@ returns-then-not-branch-clause-untouched g c =
     c.body.ensures.untouched
 
 pub returns-then-not-branch-clause-checked : goal.returns-then-not-branch-clause-checked
-returns-then-not-branch-clause-checked g c = λ d read any h keeps is_mode is_first.
+returns-then-not-branch-clause-checked g c = λ d read h history.
     let lt : c.records.i < length c.args.journal.now.offsets = search rules in
     let next = next_body c.args.journal.now c.records.i c.clear.new.self.items c.body.new.out.items
     c.as_slice.result.now (g.D.Disk.reads c.args.disk.now) lt c.requires.log
     (λ d read. c.in_ok-body.ensures.bytes d (c.records.invariant.untouched.reads_same ∙ read))
     c.clear.ensures.items c.as_slice.ensures.value in
     let no : c.in_ok-follow.field-0 ≡ false = search rules in
-    let so_far = c.records.invariant.made d read any h keeps is_mode is_first in
-    found_false (masters c.args.base.now.bytes c.args.surface.now.bytes) any h d keeps c.records.i
-    c.records.state.catalogue so_far
+    let low : c.records.i < length h.updates = omega (arith, lt, history.3) in
+    let so_far = c.records.invariant.made d read h history in
+    found_false (masters c.args.base.now.bytes c.args.surface.now.bytes) h d history.0 c.records.i
+    low c.records.state.catalogue so_far
     c.as_slice.result.now (next d read) c.follow.new.state.catalogue c.args.journal.now
     c.offset.result
     (λ u is taken. subst (λ (b : Bool).
     FollowsUpdate (masters c.args.base.now.bytes c.args.surface.now.bytes) c.records.state.catalogue
     u c.follow.new.state.catalogue b) no
     (c.in_ok-follow.ensures u is taken))
-    (c.requires.log d read) (search rules)
+    (c.requires.log d read) history.3 (search rules)
 
 pub records-preserved : goal.records-preserved
 records-preserved g c =
@@ -58,10 +59,11 @@ records-preserved g c =
       untouched = looks_then g.D.Disk.moment g.D.Disk.left_since g.D.Disk.may_leave g.D.Disk.reads
           c.args.disk.now c.records.disk c.body.new.disk c.records.invariant.untouched
           c.body.ensures.untouched;
-      made = λ d read any h keeps is_mode is_first.
-          followed_more (masters c.args.base.now.bytes c.args.surface.now.bytes) any h d keeps
-          c.records.i c.records.state.catalogue
-          (c.records.invariant.made d read any h keeps is_mode is_first) c.as_slice.result.now
+      made = λ d read h history.
+          let low : c.records.i < length h.updates = omega (arith, lt, history.3) in
+          followed_more (masters c.args.base.now.bytes c.args.surface.now.bytes) h d history.0
+          c.records.i low c.records.state.catalogue
+          (c.records.invariant.made d read h history) c.as_slice.result.now
           (next d read) c.follow.new.state.catalogue
           (λ u is taken. subst (λ (b : Bool).
           FollowsUpdate (masters c.args.base.now.bytes c.args.surface.now.bytes)
@@ -72,9 +74,9 @@ records-preserved g c =
     }
 
 pub returns-clause-checked : goal.returns-clause-checked
-returns-clause-checked g c = λ d read any h keeps is_mode is_first.
+returns-clause-checked g c = λ d read h history.
     let last : c.records.i ≡ length c.args.journal.now.offsets =
     omega (arith, c.count-i-end.ensures) in
-    followed_all (masters c.args.base.now.bytes c.args.surface.now.bytes) any h d c.records.i
-    c.records.state.catalogue c.args.journal.now keeps
-    (c.records.invariant.made d read any h keeps is_mode is_first) last (c.requires.log d read)
+    followed_all (masters c.args.base.now.bytes c.args.surface.now.bytes) h c.records.i
+    c.records.state.catalogue (c.records.invariant.made d read h history)
+    (last ∙ sym history.3)

@@ -2,6 +2,7 @@ use Rattle.std.proofs.Common.{rules, ◌≡◌, ◌<◌, length, sym, ◌∙◌,
 use Rattle.std.proofs.lemmas.Result.{err_from_is_err_and}
 use Rattle.ov_disk.proofs.Runs.{untouched, looks_then}
 use Rattle.ov_journal.specs.Book.{contents_of}
+use Rattle.ov_journal.proofs.Records.{all_first}
 use Rattle.ov_store.specs.Replaying.{IsReplayFault}
 use Rattle.std.specs.Prelude.{Err}
 use Rattle.ov_store.specs.declared.fault.BeginFault.{BeginFault}
@@ -23,7 +24,7 @@ records-init g c = record {
 
 pub body-requires-clause-records : goal.body-requires-clause-records
 body-requires-clause-records g c i is =
-    c.requires.log i (sym c.records.invariant.untouched.reads_same ∙ is)
+    all_first _ _ (c.requires.log i (sym c.records.invariant.untouched.reads_same ∙ is))
 
 pub returns-in_err-body-clause-fault : goal.returns-in_err-body-clause-fault
 returns-in_err-body-clause-fault g c i is =
@@ -45,7 +46,8 @@ pub returns-in_err-take_record-clause-fault : goal.returns-in_err-take_record-cl
 returns-in_err-take_record-clause-fault g c i is =
     let lt : c.records.i < length c.args.journal.now.offsets = search rules in
     let next = next_body c.args.journal.now c.records.i c.clear.new.self.items c.body.new.out.items
-    c.as_slice.result.now (g.D.Disk.reads c.args.disk.now) lt c.requires.log
+    c.as_slice.result.now (g.D.Disk.reads c.args.disk.now) lt
+    (λ d at. all_first _ _ (c.requires.log d at))
     (λ d at. c.in_ok-body.ensures.bytes d (c.records.invariant.untouched.reads_same ∙ at))
     c.clear.ensures.items c.as_slice.ensures.value in
     let all = (contents_of i.book).records.bodies in
@@ -69,7 +71,8 @@ pub records-preserved : goal.records-preserved
 records-preserved g c =
     let lt : c.records.i < length c.args.journal.now.offsets = search rules in
     let next = next_body c.args.journal.now c.records.i c.clear.new.self.items c.body.new.out.items
-    c.as_slice.result.now (g.D.Disk.reads c.args.disk.now) lt c.requires.log
+    c.as_slice.result.now (g.D.Disk.reads c.args.disk.now) lt
+    (λ d at. all_first _ _ (c.requires.log d at))
     (λ d at. c.in_ok-body.ensures.bytes d (c.records.invariant.untouched.reads_same ∙ at))
     c.clear.ensures.items c.as_slice.ensures.value in
     record {

@@ -1,9 +1,9 @@
 use Rattle.std.proofs.KnownBytes.{Appends-nil}
-use Rattle.std.proofs.Common.{[], ap, subst, sym}
+use Rattle.std.proofs.Common.{[], ap, arith, subst, sym, ◌∙◌}
 use Rattle.std.specs.Prelude.{Err, Some}
 use Rattle.overstore.specs.Answering.{Answers}
 use Rattle.overstore.specs.declared.answer.Stop.{Stop}
-use Rattle.overstore.proofs.Answering.{disk_so, put_grows, put_never, put_sink, put_so, sink_so, unanswered_so}
+use Rattle.overstore.proofs.Answering.{disk_so, if_none, never_read, never_write, put_grows, put_never, put_so, tag_so, unanswered_so}
 use Rattle.overstore.proofs.answer.answer.Goals as goal
 
 pub returns-in-Ok-clause-answer : goal.returns-in-Ok-clause-answer
@@ -18,30 +18,44 @@ returns-in-Err-clause-answer g c = λ k p at stands.
     (unanswered_so g.D.Disk.reads g.D.Disk.may_leave g.D.Disk.moment g.D.Disk.left_since k p c.args.command c.args.machine.now c.step.new.self c.in-Err.fault
     (g.O.Sink.written c.args.out.now) (g.met.D.Disk.only_now c.args.machine.now.disk) (c.in-Err.ensures.steps k p at stands))
 
-pub returns-in-Ok-clause-disk : goal.returns-in-Ok-clause-disk
-returns-in-Ok-clause-disk g c = record {
-  same = c.step.ensures.step.call.same;
-  later = c.step.ensures.step.call.later;
-  disk = λ e. absurd ((put_never c.put_reply.result _ _ _ c.put_reply.ensures.put).1 e);
-}
+pub returns-in-Ok-clause-step : goal.returns-in-Ok-clause-step
+returns-in-Ok-clause-step g c =
+    let never = put_never c.put_reply.result _ _ _ c.put_reply.ensures.put in
+    record {
+      masters = c.step.ensures.step.masters;
+      call = record {
+        same = c.step.ensures.step.call.same;
+        later = c.step.ensures.step.call.later;
+        disk = λ e. absurd (never.1 e);
+      };
+      sound = if_none c.put_reply.result _ (c.in-Ok.ensures.step.sound ∙ c.requires.healthy);
+      no_read = never.0;
+      tag = λ bad e. absurd (never.2 bad e);
+    }
 
-pub returns-in-Err-clause-disk : goal.returns-in-Err-clause-disk
-returns-in-Err-clause-disk g c = record {
-  same = c.step.ensures.step.call.same;
-  later = c.step.ensures.step.call.later;
-  disk = disk_so c.in-Err.fault c.stop_of.result _ c.stop_of.ensures (λ e. c.in-Err.ensures.step.call.disk (ap Err e));
+pub returns-in-Err-clause-step : goal.returns-in-Err-clause-step
+returns-in-Err-clause-step g c = record {
+  masters = c.step.ensures.step.masters;
+  call = record {
+    same = c.step.ensures.step.call.same;
+    later = c.step.ensures.step.call.later;
+    disk = disk_so c.in-Err.fault c.stop_of.result _ c.stop_of.ensures (λ e. c.in-Err.ensures.step.call.disk (ap Err e));
+  };
+  sound = tt;
+  no_read = never_read c.in-Err.fault c.stop_of.result c.stop_of.ensures;
+  tag = λ bad. tag_so c.in-Err.fault c.stop_of.result bad c.stop_of.ensures (λ bad e. c.in-Err.ensures.step.tag bad (ap Err e));
 }
 
 pub returns-in-Ok-clause-sink : goal.returns-in-Ok-clause-sink
-returns-in-Ok-clause-sink g c =
-    put_sink c.put_reply.result _ _ _ _ _ c.put_reply.ensures.put c.put_reply.ensures.later c.put_reply.ensures.write
+returns-in-Ok-clause-sink g c = record {
+  grew = put_grows c.put_reply.result _ _ _ c.put_reply.ensures.put;
+  later = c.put_reply.ensures.later;
+  write = c.put_reply.ensures.write;
+}
 
 pub returns-in-Err-clause-sink : goal.returns-in-Err-clause-sink
-returns-in-Err-clause-sink g c =
-    sink_so c.in-Err.fault c.stop_of.result _ c.stop_of.ensures (λ bad e. c.in-Err.ensures.step.tag bad (ap Err e))
-
-pub returns-in-Ok-clause-grew : goal.returns-in-Ok-clause-grew
-returns-in-Ok-clause-grew g c = put_grows c.put_reply.result _ _ _ c.put_reply.ensures.put
-
-pub returns-in-Err-clause-grew : goal.returns-in-Err-clause-grew
-returns-in-Err-clause-grew g c = ([], Appends-nil _)
+returns-in-Err-clause-sink g c = record {
+  grew = ([], Appends-nil _);
+  later = omega arith;
+  write = λ e. absurd (never_write c.in-Err.fault c.stop_of.result c.stop_of.ensures e);
+}

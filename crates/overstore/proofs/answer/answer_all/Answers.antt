@@ -1,9 +1,9 @@
 use Rattle.std.proofs.KnownBytes.{Appends-nil}
-use Rattle.std.proofs.Common.{[], ap, arith, Some}
+use Rattle.std.proofs.Common.{[], ap, arith, ◌∙◌, Some}
 use Rattle.std.proofs.lemmas.Grind.{common_steps}
 use Rattle.ov_script.specs.Reading.{AtEnd, BadAt, TooLong}
-use Rattle.overstore.proofs.Answering.{answered, answered_first, answered_more, answer_stops, begins_so, commands_come, goes_on, grows_on, kept_more, starts_fresh, tag_at_none}
-use Rattle.overstore.proofs.Pacing.{none_pending, paced_next, untouched}
+use Rattle.overstore.proofs.Answering.{answered, answered_first, answered_more, answer_stops, begins_so, commands_come, goes_on, grows_on, kept_more, rose_since, starts_fresh, tag_at_none}
+use Rattle.overstore.proofs.Pacing.{command_goes_on, none_pending, none_yet, paced_more, paced_next}
 use Rattle.overstore.proofs.answer.answer_all.Goals as goal
 
 pub items-init : goal.items-init
@@ -11,7 +11,7 @@ items-init g c = record {
   so_far = λ p stands.
       begins_so g.D.Disk.reads g.D.Disk.may_leave g.D.Disk.moment g.D.Disk.left_since c.args.machine.now.kept.masters p c.args.machine.now stands
       (g.met.D.Disk.only_now c.args.machine.now.disk) _ _ _ _ (starts_fresh _ c.requires.start).0 (starts_fresh _ c.requires.start).1;
-  paced = λ p stands. untouched g.S.Source.takes g.S.Source.left p _ _ _ _;
+  paced = λ p stands. none_yet g.S.Source.takes g.S.Source.left p _ _ _ _;
   kept = λ p stands. (p, stands);
   masters = grind (arith, common_steps);
   healthy = c.requires.healthy;
@@ -38,20 +38,21 @@ items-preserved g c = record {
       answered_more g.D.Disk.reads g.D.Disk.may_leave g.D.Disk.moment g.D.Disk.left_since _ p _ _ c.items.invariant.masters _ _ _ _ _ _ _ _ _ _ _ _
       (c.items.invariant.so_far p stands) (rw c.in-Ok-Command.field-0-is at (c.in-Ok-Command.ensures.says c.items.invariant.ended)) c.in-None.ensures.answer;
   paced = λ p stands.
-      paced_next g.S.Source.takes g.S.Source.left p g.D.Disk.reads g.D.Disk.may_leave g.D.Disk.moment g.D.Disk.left_since _ _ _ _ _ _ _ _ _ _ _ _ _ _
-      (none_pending _ c.requires.start) (c.items.invariant.so_far p stands) (c.items.invariant.paced p stands) c.in-Ok-Command.ensures.needed c.in-None.ensures.grew;
+      paced_more g.S.Source.takes g.S.Source.left p g.D.Disk.reads g.D.Disk.may_leave g.D.Disk.moment g.D.Disk.left_since _ _ _ _ _ _ _ _ _ _ _ _ _ _ _
+      (none_pending _ c.requires.start) (c.items.invariant.so_far p stands) (c.items.invariant.paced p stands) c.in-Ok-Command.ensures.needed c.in-None.ensures.sink.grew
+      (command_goes_on _ c.in-Ok-Command.command c.in-Ok-Command.field-0-is);
   kept = λ p stands.
       kept_more g.D.Disk.reads g.D.Disk.may_leave g.D.Disk.moment g.D.Disk.left_since _ _ _ _ _
       c.in-None.ensures.answer (c.items.invariant.kept p stands);
-  masters = grind (arith, common_steps);
-  healthy = c.in-None.ensures.healthy;
-  grew = grows_on _ _ _ c.items.invariant.grew c.in-None.ensures.grew;
+  masters = c.in-None.ensures.step.masters ∙ c.items.invariant.masters;
+  healthy = c.in-None.ensures.step.sound;
+  grew = grows_on _ _ _ c.items.invariant.grew c.in-None.ensures.sink.grew;
   ended = goes_on _ _ _ c.in-Ok-Command.command c.items.invariant.ended c.in-Ok-Command.ensures.ended c.in-Ok-Command.field-0-is;
   same = grind (arith, common_steps);
   read_later = grind (arith, common_steps);
-  same_disk = grind (arith, common_steps);
-  disk_later = grind (arith, common_steps);
-  write_later = grind (arith, common_steps);
+  same_disk = c.in-None.ensures.step.call.same ∙ c.items.invariant.same_disk;
+  disk_later = omega (arith, c.items.invariant.disk_later, c.in-None.ensures.step.call.later);
+  write_later = omega (arith, c.items.invariant.write_later, c.in-None.ensures.sink.later);
 }
 
 pub returns-in-Ok-End-clause-stop : goal.returns-in-Ok-End-clause-stop
@@ -79,43 +80,104 @@ returns-in-Err-Memory-clause-stop g c = λ p stands.
     answered_first g.D.Disk.reads g.D.Disk.may_leave g.D.Disk.moment g.D.Disk.left_since _ p _ _ c.items.invariant.masters _ _ _ _ _ _
     (c.items.invariant.so_far p stands)
 
-pub returns-in-Some-clause-tag : goal.returns-in-Some-clause-tag
-returns-in-Some-clause-tag g c = λ bad e. (
-  c.in-Some.ensures.sink.tag bad (ap Some e),
-  λ p stands.
-      tag_at_none g.D.Disk.reads g.D.Disk.may_leave g.D.Disk.moment g.D.Disk.left_since _ _ _ _ _
-      c.in-Some.stop bad e c.in-Some.ensures.answer (c.items.invariant.kept p stands),
-)
+pub returns-in-Some-clause-machine : goal.returns-in-Some-clause-machine
+returns-in-Some-clause-machine g c = record {
+  call = record {
+    same = c.in-Some.ensures.step.call.same ∙ c.items.invariant.same_disk;
+    later = omega (arith, c.items.invariant.disk_later, c.in-Some.ensures.step.call.later);
+    disk = λ e. rose_since _ _ _ c.items.invariant.disk_later (c.in-Some.ensures.step.call.disk (ap Some e));
+  };
+  tag = λ bad e. (
+    c.in-Some.ensures.step.tag bad (ap Some e),
+    λ p stands.
+        tag_at_none g.D.Disk.reads g.D.Disk.may_leave g.D.Disk.moment g.D.Disk.left_since _ _ _ _ _
+        c.in-Some.stop bad e c.in-Some.ensures.answer (c.items.invariant.kept p stands),
+  );
+}
 
-pub returns-in-Some-clause-grew : goal.returns-in-Some-clause-grew
-returns-in-Some-clause-grew g c = grows_on _ _ _ c.items.invariant.grew c.in-Some.ensures.grew
+pub returns-in-Some-clause-sink : goal.returns-in-Some-clause-sink
+returns-in-Some-clause-sink g c = record {
+  grew = grows_on _ _ _ c.items.invariant.grew c.in-Some.ensures.sink.grew;
+  later = omega (arith, c.items.invariant.write_later, c.in-Some.ensures.sink.later);
+  write = λ e. rose_since _ _ _ c.items.invariant.write_later (c.in-Some.ensures.sink.write (ap Some e));
+}
+
+pub returns-in-Ok-End-clause-machine : goal.returns-in-Ok-End-clause-machine
+returns-in-Ok-End-clause-machine g c =
+    let inv = c.items.invariant in
+    record { call = record { same = inv.same_disk; later = inv.disk_later; disk = λ e. absurd (cc) }; tag = λ bad e. absurd (cc) }
+
+pub returns-in-Ok-End-clause-sink : goal.returns-in-Ok-End-clause-sink
+returns-in-Ok-End-clause-sink g c =
+    let inv = c.items.invariant in
+    record { grew = inv.grew; later = inv.write_later; write = λ e. absurd (cc) }
+
+pub returns-in-Ok-BadLine-clause-machine : goal.returns-in-Ok-BadLine-clause-machine
+returns-in-Ok-BadLine-clause-machine g c =
+    let inv = c.items.invariant in
+    record { call = record { same = inv.same_disk; later = inv.disk_later; disk = λ e. absurd (cc) }; tag = λ bad e. absurd (cc) }
+
+pub returns-in-Ok-BadLine-clause-sink : goal.returns-in-Ok-BadLine-clause-sink
+returns-in-Ok-BadLine-clause-sink g c =
+    let inv = c.items.invariant in
+    record { grew = inv.grew; later = inv.write_later; write = λ e. absurd (cc) }
+
+pub returns-in-Ok-Long-clause-machine : goal.returns-in-Ok-Long-clause-machine
+returns-in-Ok-Long-clause-machine g c =
+    let inv = c.items.invariant in
+    record { call = record { same = inv.same_disk; later = inv.disk_later; disk = λ e. absurd (cc) }; tag = λ bad e. absurd (cc) }
+
+pub returns-in-Ok-Long-clause-sink : goal.returns-in-Ok-Long-clause-sink
+returns-in-Ok-Long-clause-sink g c =
+    let inv = c.items.invariant in
+    record { grew = inv.grew; later = inv.write_later; write = λ e. absurd (cc) }
+
+pub returns-in-Err-Read-clause-machine : goal.returns-in-Err-Read-clause-machine
+returns-in-Err-Read-clause-machine g c =
+    let inv = c.items.invariant in
+    record { call = record { same = inv.same_disk; later = inv.disk_later; disk = λ e. absurd (cc) }; tag = λ bad e. absurd (cc) }
+
+pub returns-in-Err-Read-clause-sink : goal.returns-in-Err-Read-clause-sink
+returns-in-Err-Read-clause-sink g c =
+    let inv = c.items.invariant in
+    record { grew = inv.grew; later = inv.write_later; write = λ e. absurd (cc) }
+
+pub returns-in-Err-Memory-clause-machine : goal.returns-in-Err-Memory-clause-machine
+returns-in-Err-Memory-clause-machine g c =
+    let inv = c.items.invariant in
+    record { call = record { same = inv.same_disk; later = inv.disk_later; disk = λ e. absurd (cc) }; tag = λ bad e. absurd (cc) }
+
+pub returns-in-Err-Memory-clause-sink : goal.returns-in-Err-Memory-clause-sink
+returns-in-Err-Memory-clause-sink g c =
+    let inv = c.items.invariant in
+    record { grew = inv.grew; later = inv.write_later; write = λ e. absurd (cc) }
 
 pub returns-in-Some-clause-paced : goal.returns-in-Some-clause-paced
 returns-in-Some-clause-paced g c = λ p stands.
-    paced_next g.S.Source.takes g.S.Source.left p g.D.Disk.reads g.D.Disk.may_leave g.D.Disk.moment g.D.Disk.left_since _ _ _ _ _ _ _ _ _ _ _ _ _ _
-    (none_pending _ c.requires.start) (c.items.invariant.so_far p stands) (c.items.invariant.paced p stands) c.in-Ok-Command.ensures.needed c.in-Some.ensures.grew
+    paced_next g.S.Source.takes g.S.Source.left p g.D.Disk.reads g.D.Disk.may_leave g.D.Disk.moment g.D.Disk.left_since _ _ _ _ _ _ _ _ _ _ _ _ _ _ _
+    (none_pending _ c.requires.start) (c.items.invariant.so_far p stands) (c.items.invariant.paced p stands) c.in-Ok-Command.ensures.needed c.in-Some.ensures.sink.grew
 
 pub returns-in-Ok-End-clause-paced : goal.returns-in-Ok-End-clause-paced
 returns-in-Ok-End-clause-paced g c = λ p stands.
-    paced_next g.S.Source.takes g.S.Source.left p g.D.Disk.reads g.D.Disk.may_leave g.D.Disk.moment g.D.Disk.left_since _ _ _ _ _ _ _ _ _ _ _ _ _ _
+    paced_next g.S.Source.takes g.S.Source.left p g.D.Disk.reads g.D.Disk.may_leave g.D.Disk.moment g.D.Disk.left_since _ _ _ _ _ _ _ _ _ _ _ _ _ _ _
     (none_pending _ c.requires.start) (c.items.invariant.so_far p stands) (c.items.invariant.paced p stands) c.in-Ok-End.ensures.needed ([], Appends-nil _)
 
 pub returns-in-Ok-BadLine-clause-paced : goal.returns-in-Ok-BadLine-clause-paced
 returns-in-Ok-BadLine-clause-paced g c = λ p stands.
-    paced_next g.S.Source.takes g.S.Source.left p g.D.Disk.reads g.D.Disk.may_leave g.D.Disk.moment g.D.Disk.left_since _ _ _ _ _ _ _ _ _ _ _ _ _ _
+    paced_next g.S.Source.takes g.S.Source.left p g.D.Disk.reads g.D.Disk.may_leave g.D.Disk.moment g.D.Disk.left_since _ _ _ _ _ _ _ _ _ _ _ _ _ _ _
     (none_pending _ c.requires.start) (c.items.invariant.so_far p stands) (c.items.invariant.paced p stands) c.in-Ok-BadLine.ensures.needed ([], Appends-nil _)
 
 pub returns-in-Ok-Long-clause-paced : goal.returns-in-Ok-Long-clause-paced
 returns-in-Ok-Long-clause-paced g c = λ p stands.
-    paced_next g.S.Source.takes g.S.Source.left p g.D.Disk.reads g.D.Disk.may_leave g.D.Disk.moment g.D.Disk.left_since _ _ _ _ _ _ _ _ _ _ _ _ _ _
+    paced_next g.S.Source.takes g.S.Source.left p g.D.Disk.reads g.D.Disk.may_leave g.D.Disk.moment g.D.Disk.left_since _ _ _ _ _ _ _ _ _ _ _ _ _ _ _
     (none_pending _ c.requires.start) (c.items.invariant.so_far p stands) (c.items.invariant.paced p stands) c.in-Ok-Long.ensures.needed ([], Appends-nil _)
 
 pub returns-in-Err-Read-clause-paced : goal.returns-in-Err-Read-clause-paced
 returns-in-Err-Read-clause-paced g c = λ p stands.
-    paced_next g.S.Source.takes g.S.Source.left p g.D.Disk.reads g.D.Disk.may_leave g.D.Disk.moment g.D.Disk.left_since _ _ _ _ _ _ _ _ _ _ _ _ _ _
+    paced_next g.S.Source.takes g.S.Source.left p g.D.Disk.reads g.D.Disk.may_leave g.D.Disk.moment g.D.Disk.left_since _ _ _ _ _ _ _ _ _ _ _ _ _ _ _
     (none_pending _ c.requires.start) (c.items.invariant.so_far p stands) (c.items.invariant.paced p stands) c.in-Err-Read.ensures.needed ([], Appends-nil _)
 
 pub returns-in-Err-Memory-clause-paced : goal.returns-in-Err-Memory-clause-paced
 returns-in-Err-Memory-clause-paced g c = λ p stands.
-    paced_next g.S.Source.takes g.S.Source.left p g.D.Disk.reads g.D.Disk.may_leave g.D.Disk.moment g.D.Disk.left_since _ _ _ _ _ _ _ _ _ _ _ _ _ _
+    paced_next g.S.Source.takes g.S.Source.left p g.D.Disk.reads g.D.Disk.may_leave g.D.Disk.moment g.D.Disk.left_since _ _ _ _ _ _ _ _ _ _ _ _ _ _ _
     (none_pending _ c.requires.start) (c.items.invariant.so_far p stands) (c.items.invariant.paced p stands) c.in-Err-Memory.ensures.needed ([], Appends-nil _)

@@ -4,7 +4,7 @@ use Rattle.ov_history.specs.Plain.{PlainHistory}
 use Rattle.ov_script.specs.Place.{text_left}
 use Rattle.overstore.specs.Answering.{Grows, SoFar}
 use Rattle.overstore.specs.Machine.{StandsFor}
-use Rattle.overstore.specs.Pacing.{IsPaced}
+use Rattle.overstore.proofs.Pacing.{IsPacedSoFar}
 use Rattle.overstore.proofs.answer.answer_all.Given as goal
 
 abbrev pub invariant-items : goal.invariant-items
@@ -13,7 +13,7 @@ invariant-items g l = record {
       SoFar g.D.Disk.reads g.D.Disk.may_leave g.D.Disk.moment g.D.Disk.left_since l.fn.machine.kept.masters p text
       (text_left g.S.Source.left l.script) l.script.line l.script.room (g.O.Sink.written l.fn.out) (g.O.Sink.written l.out) l.fn.machine l.machine);
   paced : (p : PlainHistory) → StandsFor l.fn.machine.kept p → IfSome (text_left g.S.Source.left l.fn.script) (λ _.
-      IsPaced g.S.Source.takes g.S.Source.left p l.fn.script.source l.script.source (g.O.Sink.written l.fn.out) (g.O.Sink.written l.out));
+      IsPacedSoFar g.S.Source.takes g.S.Source.left p l.fn.script.source l.script.source (g.O.Sink.written l.fn.out) (g.O.Sink.written l.out));
   kept : (p : PlainHistory) → StandsFor l.fn.machine.kept p
       → (q : PlainHistory) × StandsFor l.machine.kept q;
   masters : l.machine.kept.masters ≡ l.fn.machine.kept.masters;

@@ -12,7 +12,7 @@ returns-in-Ok-clause-new g c =
     c.checked.ensures.same
     (subst (λ (x : Keys). IsNew x c.args.mode c.in-Ok.store)
     (ap (λ b. keys b c.args.masters.surface.bytes) c.check_value-base_check.ensures)
-    c.in-Ok.ensures.new)
+    c.in-Ok.ensures.begun.new)
 
 pub returns-in-Ok-clause-found : goal.returns-in-Ok-clause-found
 returns-in-Ok-clause-found g c =
@@ -20,7 +20,8 @@ returns-in-Ok-clause-found g c =
     (plain_masters c.args.masters)
     (keys c.check_value-base_check.result c.args.masters.surface.bytes) c.args.mode c.args.disk
     c.in-Ok.store (ap (λ b. keys b c.args.masters.surface.bytes) c.check_value-base_check.ensures)
-    c.in-Ok.ensures.new.0 c.in-Ok.ensures.found c.checked.result c.checked.ensures.owners
+    c.in-Ok.ensures.begun.new.0 (c.in-Ok.ensures.begun.found, c.in-Ok.ensures.begun.told)
+    c.checked.result c.checked.ensures.owners
     c.checked.ensures.untouched.reads_same).0
 
 pub returns-in-Ok-clause-fault : goal.returns-in-Ok-clause-fault
@@ -29,7 +30,8 @@ returns-in-Ok-clause-fault g c =
     (plain_masters c.args.masters)
     (keys c.check_value-base_check.result c.args.masters.surface.bytes) c.args.mode c.args.disk
     c.in-Ok.store (ap (λ b. keys b c.args.masters.surface.bytes) c.check_value-base_check.ensures)
-    c.in-Ok.ensures.new.0 c.in-Ok.ensures.found c.checked.result c.checked.ensures.owners
+    c.in-Ok.ensures.begun.new.0 (c.in-Ok.ensures.begun.found, c.in-Ok.ensures.begun.told)
+    c.checked.result c.checked.ensures.owners
     c.checked.ensures.untouched.reads_same).1
 
 pub returns-in-Ok-clause-any_moment : goal.returns-in-Ok-clause-any_moment

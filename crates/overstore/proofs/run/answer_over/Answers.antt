@@ -1,4 +1,5 @@
-use Rattle.std.proofs.Common.{inr, refl, subst, sym}
+use Rattle.std.proofs.Common.{arith, inr, refl, subst, sym}
+use Rattle.std.proofs.lemmas.Grind.{common_steps}
 use Rattle.overstore.specs.Machine.{plain_masters}
 use Rattle.overstore.specs.Printing.{IsStoreStatus}
 use Rattle.overstore.specs.Disks.{Holds}
@@ -53,31 +54,42 @@ returns-in-Err-clause-image g c = λ i told.
     (c.in-Err.ensures.fault i told)
     c.put_fault.ensures.ends refl (c.in-Err.ensures.untouched i told)
 
-pub returns-in-Err-clause-disk : goal.returns-in-Err-clause-disk
-returns-in-Err-clause-disk g c = record {
-  same = c.in-Err.ensures.call.0;
-  later = c.in-Err.ensures.call.1;
-  disk = λ e. c.in-Err.ensures.call.2
-      (disk_said c.in-Err.refused.fault _ _ _ _ c.put_fault.ensures.ends e);
-}
+pub returns-in-Ok-clause-causes : goal.returns-in-Ok-clause-causes
+returns-in-Ok-clause-causes g c =
+    let causes = c.answer_script-code.ensures.causes in
+    let answered = causes.disk in
+    let begun = c.in-Ok.ensures.call in
+    record {
+      disk = record {
+        same = grind (arith, common_steps);
+        later = grind (arith, common_steps);
+        disk = λ e. let rose = answered.disk e in grind (arith, common_steps);
+      };
+      read = causes.read;
+      write = causes.write;
+      tag = λ e.
+          let wrong = causes.tag e in (
+            wrong.0,
+            tells_nothing g.D.Disk.reads g.D.Disk.may_leave g.D.Disk.moment g.D.Disk.left_since
+                (plain_masters c.args.masters) c.args.mode c.args.disk c.of-machine.result c.in-Ok.store
+                c.of-machine.ensures.store c.of-machine.ensures.masters c.in-Ok.ensures.new.1
+                c.in-Ok.ensures.found.0 wrong.1,
+          );
+    }
 
-pub returns-in-Err-clause-read : goal.returns-in-Err-clause-read
-returns-in-Err-clause-read g c = λ e. absurd
-    (fault_no_read c.in-Err.refused.fault _ _ _ _ c.put_fault.ensures.ends e)
-
-pub returns-in-Ok-clause-tag : goal.returns-in-Ok-clause-tag
-returns-in-Ok-clause-tag g c = λ e.
-    let wrong = c.answer_script-code.ensures.tag e in (
-      wrong.0,
-      tells_nothing g.D.Disk.reads g.D.Disk.may_leave g.D.Disk.moment g.D.Disk.left_since
-          (plain_masters c.args.masters) c.args.mode c.args.disk c.of-machine.result c.in-Ok.store
-          c.of-machine.ensures.store c.of-machine.ensures.masters c.in-Ok.ensures.new.1
-          c.in-Ok.ensures.found.0 wrong.1,
-    )
-
-pub returns-in-Err-clause-tag : goal.returns-in-Err-clause-tag
-returns-in-Err-clause-tag g c = λ e. absurd
-    (fault_no_tag c.in-Err.refused.fault _ _ _ _ c.put_fault.ensures.ends e)
+pub returns-in-Err-clause-causes : goal.returns-in-Err-clause-causes
+returns-in-Err-clause-causes g c =
+    let ends = c.put_fault.ensures.ends in
+    record {
+      disk = record {
+        same = c.in-Err.ensures.call.0;
+        later = c.in-Err.ensures.call.1;
+        disk = λ e. c.in-Err.ensures.call.2 (disk_said c.in-Err.refused.fault _ _ _ _ ends e);
+      };
+      read = λ e. absurd (fault_no_read c.in-Err.refused.fault _ _ _ _ ends e);
+      write = c.put_fault.ensures.write;
+      tag = λ e. absurd (fault_no_tag c.in-Err.refused.fault _ _ _ _ ends e);
+    }
 
 pub returns-in-Ok-clause-paced : goal.returns-in-Ok-clause-paced
 returns-in-Ok-clause-paced g c = λ p opens.

@@ -1,5 +1,5 @@
-use Rattle.std.proofs.Common.{MutBor, arith, refl, rules}
-use Rattle.overstore.proofs.Running.{ends_so, finish_disk, finish_tag, finishes_so, memory_not, script_seven, script_six}
+use Rattle.std.proofs.Common.{MutBor, ℕ, arith, refl, rules}
+use Rattle.overstore.proofs.Running.{ends_so, finish_disk, finish_read, finish_tag, finishes_so, memory_not, rose_after, rose_lent, script_seven, script_six}
 use Rattle.overstore.proofs.Surviving.{ends_all, ends_unread}
 use Rattle.overstore.proofs.Pacing.{finish_grows, paced_lent, paced_then, untouched}
 use Rattle.ov_history.specs.Plain.{PlainHistory}
@@ -22,27 +22,30 @@ returns-clause-status g c = finishes_so _ _ _ _ _ c.finish.ensures.finish
 pub returns-in-Err-clause-status : goal.returns-in-Err-clause-status
 returns-in-Err-clause-status g c = ends_so IsScriptStatus _ 7 _ _ _ script_seven script_six c.put_last.ensures.ends
 
-pub returns-clause-disk : goal.returns-clause-disk
-returns-clause-disk g c = record {
-  same = c.answer_all-stop.ensures.disk.same;
-  later = c.answer_all-stop.ensures.disk.later;
-  disk = λ e. c.answer_all-stop.ensures.disk.disk (finish_disk _ _ _ _ _ c.finish.ensures.finish e);
-}
+pub returns-clause-causes : goal.returns-clause-causes
+returns-clause-causes g c =
+    let stopped = c.answer_all-stop.ensures in
+    record {
+      disk = record {
+        same = stopped.machine.call.same;
+        later = stopped.machine.call.later;
+        disk = λ e. stopped.machine.call.disk (finish_disk _ _ _ _ _ c.finish.ensures.finish e);
+      };
+      read = λ e. rose_lent _ _ _ _ (stopped.source.read (finish_read _ _ _ _ _ c.finish.ensures.finish e)) (search rules) (search rules);
+      write = λ e. rose_after _ _ _ _ stopped.sink.later stopped.sink.write c.finish.ensures.later (c.finish.ensures.write e);
+      tag = finish_tag ((p : PlainHistory) → StandsFor c.args.machine.now.kept p → ⊥) _ _ _ _ _ _
+          c.finish.ensures.finish stopped.sink.grew stopped.machine.tag;
+    }
 
-pub returns-in-Err-clause-disk : goal.returns-in-Err-clause-disk
-returns-in-Err-clause-disk g c = record {
-  same = refl;
-  later = omega arith;
-  disk = λ e. absurd (memory_not 4 _ _ _ c.put_last.ensures.ends (λ z. omega arith) (λ z. omega arith) e);
-}
-
-pub returns-clause-tag : goal.returns-clause-tag
-returns-clause-tag g c =
-    finish_tag ((p : PlainHistory) → StandsFor c.args.machine.now.kept p → ⊥) _ _ _ _ _ _
-    c.finish.ensures.finish c.answer_all-stop.ensures.grew c.answer_all-stop.ensures.tag
-
-pub returns-in-Err-clause-tag : goal.returns-in-Err-clause-tag
-returns-in-Err-clause-tag g c = λ e. absurd (memory_not 12 _ _ _ c.put_last.ensures.ends (λ z. omega arith) (λ z. omega arith) e)
+pub returns-in-Err-clause-causes : goal.returns-in-Err-clause-causes
+returns-in-Err-clause-causes g c =
+    let never = λ (n : ℕ). memory_not n _ _ _ c.put_last.ensures.ends in
+    record {
+      disk = record { same = refl; later = omega arith; disk = λ e. absurd (never 4 (λ z. omega arith) (λ z. omega arith) e) };
+      read = λ e. absurd (never 5 (λ z. omega arith) (λ z. omega arith) e);
+      write = c.put_last.ensures.write (λ e. cc);
+      tag = λ e. absurd (never 12 (λ z. omega arith) (λ z. omega arith) e);
+    }
 
 pub returns-clause-paced : goal.returns-clause-paced
 returns-clause-paced g c = λ p stands.

@@ -1,4 +1,4 @@
-use Rattle.std.proofs.Common.{arith, inl, inr, refl, ℕ, List, ◌≡◌}
+use Rattle.std.proofs.Common.{arith, inl, inr, refl, rules, ℕ, List, ◌≡◌}
 use Rattle.ov_disk.specs.Disk.{Told}
 use Rattle.ov_disk.proofs.Runs.{started}
 use Rattle.ov_history.specs.Masters.{Masters}
@@ -67,11 +67,30 @@ returns-in-Err-clause-image g c =
     (λ k i told. judged_unread k c.args.mode i _ _ _ _ _ c.put_last-in-Err.ensures.ends refl
     (started g.D.Disk.moment g.D.Disk.left_since g.D.Disk.may_leave c.args.disk (g.D.Disk.may_leave c.args.disk) (g.met.D.Disk.only_now c.args.disk) (λ x left. left)))
 
-pub returns-in-Ok-None-clause-tag : goal.returns-in-Ok-None-clause-tag
-returns-in-Ok-None-clause-tag g c = λ e. absurd (not_code _ 10 12 _ _ _ c.put_last.ensures.ends (λ z. omega arith) (λ z. omega arith) e)
+pub returns-in-Ok-Some-clause-causes : goal.returns-in-Ok-Some-clause-causes
+returns-in-Ok-Some-clause-causes g c =
+    let causes = c.answer_over.ensures.causes in
+    record { disk = causes.disk; read = λ e. inr (causes.read e); write = causes.write; tag = causes.tag }
 
-pub returns-in-Err-clause-tag : goal.returns-in-Err-clause-tag
-returns-in-Err-clause-tag g c = λ e. absurd (not_code _ 5 12 _ _ _ c.put_last-in-Err.ensures.ends (λ z. omega arith) (λ z. omega arith) e)
+pub returns-in-Ok-None-clause-causes : goal.returns-in-Ok-None-clause-causes
+returns-in-Ok-None-clause-causes g c =
+    let never = λ (n : ℕ). not_code _ 10 n _ _ _ c.put_last.ensures.ends in
+    record {
+      disk = record { same = refl; later = omega arith; disk = λ e. absurd (never 4 (λ z. omega arith) (λ z. omega arith) e) };
+      read = λ e. absurd (never 5 (λ z. omega arith) (λ z. omega arith) e);
+      write = c.put_last.ensures.write (λ e. cc);
+      tag = λ e. absurd (never 12 (λ z. omega arith) (λ z. omega arith) e);
+    }
+
+pub returns-in-Err-clause-causes : goal.returns-in-Err-clause-causes
+returns-in-Err-clause-causes g c =
+    let never = λ (n : ℕ). not_code _ 5 n _ _ _ c.put_last-in-Err.ensures.ends in
+    record {
+      disk = record { same = refl; later = omega arith; disk = λ e. absurd (never 4 (λ z. omega arith) (λ z. omega arith) e) };
+      read = λ e. inl (search rules);
+      write = c.put_last-in-Err.ensures.write (λ e. cc);
+      tag = λ e. absurd (never 12 (λ z. omega arith) (λ z. omega arith) e);
+    }
 
 pub returns-in-Ok-Some-clause-paced : goal.returns-in-Ok-Some-clause-paced
 returns-in-Ok-Some-clause-paced g c =

@@ -1,4 +1,4 @@
-use Rattle.std.proofs.Common.{MutBor, ℕ, List, refl, rules}
+use Rattle.std.proofs.Common.{MutBor, inr, ℕ, List, refl, rules}
 use Rattle.ov_history.specs.Masters.{Masters}
 use Rattle.ov_history.specs.Plain.{PlainHistory}
 use Rattle.overstore.specs.Pacing.{IsPaced}
@@ -17,7 +17,7 @@ returns-in-Some-clause-decided g c =
     run_decides (λ (l : MutBor g.row.D.Denot). l.now) g.D.Disk.reads g.D.Disk.may_leave g.D.Disk.moment g.D.Disk.left_since
     (record { ref_ptr = c.args.disk.ref_ptr; ghost_name = _; now = c.args.disk.now }) c.answer_with_keys-code.result.1 c.answer_with_keys-code.result.1.now refl
     c.args.words.now (g.K.Source.left c.args.keys.now) (g.I.Source.left c.args.input.now) (g.O.Sink.written c.args.out.now) (g.O.Sink.written c.answer_with_keys-code.new.out) c.answer_with_keys-code.result.0 c.in-Some.mode c.in-Some.ensures.found c.answer_with_keys-code.ensures.ends
-    _ _ _ _ (search rules) c.answer_with_keys-code.ensures.read c.answer_with_keys-code.ensures.write
+    _ _ _ _ (search rules) c.answer_with_keys-code.ensures.causes.read c.answer_with_keys-code.ensures.causes.write
 
 pub returns-in-Some-clause-paced : goal.returns-in-Some-clause-paced
 returns-in-Some-clause-paced g c =
@@ -38,6 +38,17 @@ returns-in-Some-clause-image g c =
     run_image (λ (l : MutBor g.row.D.Denot). l.now) g.D.Disk.reads g.D.Disk.may_leave g.D.Disk.moment g.D.Disk.left_since
     (record { ref_ptr = c.args.disk.ref_ptr; ghost_name = _; now = c.args.disk.now }) c.answer_with_keys-code.result.1 _ (search rules)
     c.args.words.now (g.K.Source.left c.args.keys.now) (g.I.Source.left c.args.input.now) (g.O.Sink.written c.args.out.now) (g.O.Sink.written c.answer_with_keys-code.new.out) c.answer_with_keys-code.result.0 c.in-Some.mode c.in-Some.ensures.found c.answer_with_keys-code.ensures.ends (g.D.Disk.reads c.args.disk.now) _ c.answer_with_keys-code.ensures.image
+
+pub returns-in-Some-clause-causes : goal.returns-in-Some-clause-causes
+returns-in-Some-clause-causes g c =
+    let causes = c.answer_with_keys-code.ensures.causes in
+    record {
+      some = inr c.answer_with_keys-code.ensures.status;
+      tag = causes.tag;
+      disk = search rules;
+      read = causes.read;
+      write = causes.write;
+    }
 
 pub returns-in-Some-clause-keys : goal.returns-in-Some-clause-keys
 returns-in-Some-clause-keys g c =

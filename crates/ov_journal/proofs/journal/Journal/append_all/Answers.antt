@@ -21,7 +21,7 @@ returns-in_err-append-clause-any_moment g c i is =
     let item : get_or c.args.bodies.now c.bodies.body-index [] ≡ c.as_slice-body.result.now = item_is c.args.bodies.now c.bodies.body-index c.body-item.result lt c.body-item.is ∙ sym c.as_slice-body.ensures in
     let held = c.bodies.invariant.held i is in
     longer_front g.D.Disk.moment g.D.Disk.left_since g.D.Disk.may_leave c.args.disk.now c.bodies.disk c.append.new.disk (g.D.Disk.may_leave c.bodies.disk) i held.0 c.args.bodies.now c.bodies.body-index c.as_slice-body.result.now
-    lt item held.2 (c.bodies.invariant.past i is) (c.append.ensures.any_moment held.0 held.1)
+    lt item held.2 (c.bodies.invariant.past i is) (c.append.ensures.any_moment.leaves held.0 held.1)
 
 pub bodies-preserved : goal.bodies-preserved
 bodies-preserved g c =
@@ -41,7 +41,7 @@ bodies-preserved g c =
       past = λ i is.
           let held = c.bodies.invariant.held i is in
           longer_front g.D.Disk.moment g.D.Disk.left_since g.D.Disk.may_leave c.args.disk.now c.bodies.disk c.append.new.disk (g.D.Disk.may_leave c.bodies.disk) i held.0 c.args.bodies.now c.bodies.body-index c.as_slice-body.result.now
-          lt item held.2 (c.bodies.invariant.past i is) (c.append.ensures.any_moment held.0 held.1);
+          lt item held.2 (c.bodies.invariant.past i is) (c.append.ensures.any_moment.leaves held.0 held.1);
       same = c.append.ensures.call.same ∙ c.bodies.invariant.same;
       later = omega (arith, c.bodies.invariant.later, c.append.ensures.call.later);
     }

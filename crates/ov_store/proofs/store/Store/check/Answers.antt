@@ -1,4 +1,4 @@
-use Rattle.std.proofs.Common.{◌≡◌, ◌-◌, false, length, sym, ◌∙◌, ap, subst}
+use Rattle.std.proofs.Common.{◌≡◌, ◌-◌, length, sym, ◌∙◌, ap, subst}
 use Rattle.std.specs.Prelude.{IfOk}
 use Rattle.ov_disk.specs.Disk.{Told}
 use Rattle.ov_history.specs.Catalogue.{Catalogue}
@@ -41,8 +41,6 @@ returns-clause-checked g c =
       base_check = c.self.inside.base_check;
       surface = c.self.inside.surface.bytes;
     } in
-    let sound : c.self.inside.failed ≡ false =
-    ap (λ (s : Opened g.row.D.Denot). s.failed) c.self.view_is ∙ c.requires in
     let mode : c.mode-mode.result ≡ c.self.inside.vault.catalogue.mode =
     c.mode-mode.ensures ∙ ap (λ (x : Catalogue). x.mode) c.catalogue.ensures.catalogue in
     let epoch : c.epoch.result ≡ c.self.inside.vault.catalogue.epoch =
@@ -60,4 +58,4 @@ returns-clause-checked g c =
     (store_of c.self.inside.disk k c.self.inside.vault.catalogue c.self.inside.vault.stored
     c.self.inside.failed)
     c.self.inside.journal c.mode-mode.result (c.epoch.result - c.count.result)
-    c.first_false.result c.self.invariant sound mode first c.first_false.ensures.checked)
+    c.first_false.result c.self.invariant mode first c.first_false.ensures.checked)

@@ -6,11 +6,12 @@ use Rattle.ov_history.specs.Catalogue.{Catalogue, outline, catalogue_after}
 use Rattle.ov_history.specs.Rewrites.{rewrites_of, stored_after}
 use Rattle.ov_state.specs.Changes.{applied}
 use Rattle.ov_vault.specs.Prepared.{stored_with}
+use Rattle.ov_journal.specs.Log.{HasSameRecords}
 use Rattle.ov_images.specs.Images.{Keys}
 use Rattle.ov_store.specs.Bodies.{IsBodyOf, IsSpelled}
 use Rattle.ov_store.specs.Opened.{Opened}
 use Rattle.ov_store.specs.Updating.{LeavesEither, ServesMore}
-use Rattle.ov_store.proofs.Going.{store_of, not_begun, body_of_some, leaves_either, serves_more, safe_more}
+use Rattle.ov_store.proofs.Going.{store_of, not_begun, body_of_some, leaves_either, serves_more, safe_failed, safe_more}
 use Rattle.ov_store.proofs.store.Store.update.Goals as goal
 
 pub returns-in_err-body-clause-any_moment : goal.returns-in_err-body-clause-any_moment
@@ -84,7 +85,30 @@ returns-in-Err-Memory-clause-any_moment g c =
     c.self.inside.failed
     (sealed_update c.args.update) c.as_slice.result.now
     c.in_ok-prepared.ensures.prepared.change.taken is
-    later refl c.keep.ensures.any_moment)
+    later refl c.keep.ensures.any_moment.leaves)
+
+pub invariant_of-self-in-Err-Disk : goal.invariant_of-self-in-Err-Disk
+invariant_of-self-in-Err-Disk g c =
+    let slice : c.as_slice.result.now ≡ c.in-Some.body = search rules in
+    let is : IsBodyOf (sealed_update c.args.update) c.as_slice.result.now =
+    body_of_some (sealed_update c.args.update) c.in_ok-body.body c.in-Some.body
+    c.as_slice.result.now c.in_ok-body.ensures c.in-Some.is slice in
+    let k : Keys = record {
+      base_check = c.self.inside.base_check;
+      surface = c.self.inside.surface.bytes;
+    } in
+    let same : HasSameRecords c.self.inside.journal c.keep.new.journal = search rules in
+    safe_failed g.D.Disk.reads g.D.Disk.may_leave g.D.Disk.moment g.D.Disk.left_since
+    g.met.D.Disk.reads_one k
+    c.self.inside.disk c.keep.new.disk c.self.inside.vault.catalogue c.self.inside.vault.stored
+    c.self.inside.failed
+    (sealed_update c.args.update) c.as_slice.result.now
+    c.in_ok-prepared.ensures.prepared.change.taken is
+    c.self.inside.journal c.keep.new.journal c.self.invariant c.if-self.false
+    c.keep.ensures.log.whole same c.keep.ensures.any_moment
+    (g.met.D.Disk.counts_now c.keep.new.disk)
+    c.prepare.new.self.catalogue c.prepare.new.self.stored
+    c.in_ok-prepared.ensures.catalogue c.in_ok-prepared.ensures.stored
 
 pub returns-in-Err-Disk-clause-any_moment : goal.returns-in-Err-Disk-clause-any_moment
 returns-in-Err-Disk-clause-any_moment g c =
@@ -106,7 +130,7 @@ returns-in-Err-Disk-clause-any_moment g c =
     c.self.inside.failed
     (sealed_update c.args.update) c.as_slice.result.now
     c.in_ok-prepared.ensures.prepared.change.taken is
-    later refl c.keep.ensures.any_moment)
+    later refl c.keep.ensures.any_moment.leaves)
 
 pub returns-clause-any_moment : goal.returns-clause-any_moment
 returns-clause-any_moment g c =
@@ -129,7 +153,7 @@ returns-clause-any_moment g c =
     c.self.inside.failed
     (sealed_update c.args.update) c.as_slice.result.now
     c.in_ok-prepared.ensures.prepared.change.taken is
-    later refl c.keep.ensures.any_moment)
+    later refl c.keep.ensures.any_moment.leaves)
 
 pub invariant_of-self-2 : goal.invariant_of-self-2
 invariant_of-self-2 g c =

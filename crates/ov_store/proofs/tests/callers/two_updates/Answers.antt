@@ -13,7 +13,7 @@ returns g c h serves sound i read x left =
     let same : c.update-2.new.self.keys ≡ c.args.store.keys =
     c.update-2.ensures.call.0 ∙ c.update.ensures.call.0 in
     let still : c.update-2.new.self.failed ≡ false =
-    c.in_ok-_second.ensures.failed.0 ∙ c.in_ok-_first.ensures.failed.0 ∙ sound in
+    c.in_ok-_second.ensures.state.failed.0 ∙ c.in_ok-_first.ensures.state.failed.0 ∙ sound in
     let before : g.D.Disk.reads c.update-2.new.self.disk ≡ Some i =
     ap g.D.Disk.reads (sym c.close.ensures) ∙ read in
     subst (λ (k : Keys). Keeps k both x) same

@@ -19,5 +19,5 @@ returns-clause-steps g c =
     stepped_from g.D.Disk.reads g.D.Disk.may_leave g.D.Disk.moment g.D.Disk.left_since (plain_masters c.self.inside.masters)
     c.self.inside.store c.update.new.self (sealed_update c.args.update) c.self.invariant sound
     (g.met.D.Disk.counts_now c.update.new.self.disk) (g.met.D.Disk.only_now c.self.inside.store.disk) c.args.self.now c.self.view_is
-    c.update.result c.match-update.result reply c.update.ensures.answer c.update.ensures.failed c.update.ensures.untouched
+    c.update.result c.match-update.result reply c.update.ensures.answer c.update.ensures.state.failed c.update.ensures.state.untouched
     c.update.ensures.any_moment c.update.ensures.served c.update.ensures.call.0

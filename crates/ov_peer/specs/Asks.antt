@@ -1,0 +1,91 @@
+-- Lists of asks, and what they say of a peer that tells which history it serves.
+use Rattle.std.specs.Prelude.{◌≡◌, ◌⊎◌, ℕ, List, [], ◌∷◌, Option, Some, None}
+use Rattle.ov_record.specs.Updates.{SealedUpdate}
+use Rattle.ov_history.specs.Plain.{PlainHistory, history_of}
+use Rattle.ov_history.specs.Refusals.{IsLegal}
+use Rattle.ov_history.specs.Masters.{Masters}
+use Rattle.ov_history.specs.Sealed.{SealedHistory}
+use Rattle.ov_history.specs.Sealing.{sealed}
+use Rattle.ov_wire.specs.declared.answer.Answer.TheVariants.{DeviceFault}
+use Rattle.ov_wire.specs.AnswerBytes.{answer_bytes}
+use Rattle.ov_protocol.specs.Serving.{Service, followed, later, served}
+use Rattle.ov_protocol.specs.Replies.{MayMake, Replies}
+
+-- ---- asks of any peer
+
+-- a request and its reply, as frames without their length fields
+pub record Ask : Type 0 where
+  pub request : List ℕ
+  pub reply : List ℕ
+
+-- what a peer tells of an ask that was answered: the peer before it, the request, the reply, and
+-- the peer after it
+abbrev pub Asked : Type 0 → Type 1
+Asked P = P → List ℕ → List ℕ → P → Type 0
+
+-- what a peer tells of an ask that failed: the peer before it, the request, and the peer after it
+abbrev pub Failed : Type 0 → Type 1
+Failed P = P → List ℕ → P → Type 0
+
+-- the asks lead from one peer to another
+abbrev pub Leads : {P : Type 0} → Asked P → P → List Ask → P → Type 0
+Leads asked p [] q = p ≡ q
+Leads {P} asked p (a ∷ asks) q = (m : P) × asked p a.request a.reply m × Leads asked m asks q
+
+-- a call ended after an ask that was answered, or at this request, which failed
+abbrev pub EndsAt : {P : Type 0} → Failed P → P → Option (List ℕ) → P → Type 0
+EndsAt failed p None q = p ≡ q
+EndsAt failed p (Some request) q = failed p request q
+
+-- these are the asks of a call that found the one peer and left the other
+abbrev pub AreAsks : {P : Type 0} → Asked P → Failed P → P → List Ask → Option (List ℕ) → P → Type 0
+AreAsks {P} asked failed p asks unanswered q =
+    (m : P) × Leads asked p asks m × EndsAt failed m unanswered q
+
+-- ---- asks of a peer that tells its history
+
+-- the server's disk failed, and it made nothing, or what it was asked for
+pub record IsDiskFault (request reply : List ℕ) (made : List SealedUpdate) : Type 0 where
+  pub spelled : reply ≡ answer_bytes DeviceFault
+  pub makes : MayMake request made
+
+-- the reply is the one at this history, with the updates that are made by it, or the server's disk
+-- failed
+abbrev pub IsReplyAt : Service → List ℕ → List ℕ → List SealedUpdate → Type 0
+IsReplyAt v request reply made =
+    Replies (served v) request reply made ⊎ IsDiskFault request reply made
+
+-- Asked this, who serves that history replies so: the reply is the one at a history that goes on
+-- from it by what others did, and what is served then goes on by what this request made.
+abbrev pub Told : Service → List ℕ → List ℕ → (Service → Type 0) → Type 0
+Told v request reply Then =
+    (others : List SealedUpdate) × (made : List SealedUpdate)
+    × IsReplyAt (later v others) request reply made × Then (later (later v others) made)
+
+-- After an ask that failed what is served goes on by what others did, and perhaps by what this
+-- request would have made.
+abbrev pub LeavesTold : Service → List ℕ → (Service → Type 0) → Type 0
+LeavesTold v request Then =
+    (others : List SealedUpdate) × (made : List SealedUpdate)
+    × MayMake request made × Then (later (later v others) made)
+
+-- each ask was answered at one of these histories, each of which goes on from the one before, and
+-- the last service goes on from all of them
+abbrev pub Along : Service → List Ask → List SealedHistory → Service → Type 0
+Along v [] [] last = v ≡ last
+Along v [] (at_one ∷ more) last = ⊥
+Along v (a ∷ asks) [] last = ⊥
+Along v (a ∷ asks) (at_one ∷ more) last =
+    (others : List SealedUpdate) × (made : List SealedUpdate)
+    × (at_one ≡ followed v.history others)
+    × IsReplyAt (later v others) a.request a.reply made
+    × Along (later (later v others) made) asks more last
+
+-- a history is right under these masters: it is the sealed form of a legal one
+abbrev pub IsRight : Masters → SealedHistory → Type 0
+IsRight k g = (p : PlainHistory) × IsLegal (history_of p) × (g ≡ sealed k p)
+
+-- so is each of these histories
+abbrev pub AreRight : Masters → List SealedHistory → Type 0
+AreRight k [] = Unit {0}
+AreRight k (g ∷ more) = IsRight k g × AreRight k more

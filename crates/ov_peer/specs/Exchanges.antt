@@ -1,0 +1,52 @@
+-- One request, and the answer that is read.
+use Rattle.std.specs.Prelude.{◌≡◌, ◌⊎◌, ℕ, List, Result, Ok, Err}
+use Rattle.ov_fields.specs.Fronts.{AreAllBytes}
+use Rattle.ov_record.specs.Updates.{SealedUpdate}
+use Rattle.ov_wire.specs.declared.request.Request.{Request}
+use Rattle.ov_wire.specs.declared.answer.Answer.{Answer}
+use Rattle.ov_wire.specs.declared.answer.Answer.TheVariants.{DeviceFault}
+use Rattle.ov_wire.specs.AnswerReading.{answer_of}
+use Rattle.ov_wire.specs.Requests.{request_bytes}
+use Rattle.ov_protocol.specs.Serving.{Service, later, served}
+use Rattle.ov_protocol.specs.Answers.{Answers, made_by}
+use Rattle.ov_protocol.specs.Replies.{MayMake}
+use Rattle.ov_peer.specs.Asks.{Asked, Failed}
+use Rattle.ov_peer.specs.declared.fault.ExchangeFault.{ExchangeFault}
+use Rattle.ov_peer.specs.declared.fault.ExchangeFault.TheVariants.{BadReply, Link, Memory}
+
+-- the peer was asked this request, and its reply reads so
+pub record Answered {P : Type 0} (asked : Asked P) (p q : P) (request : Request)
+    (read : Result Answer ℕ) : Type 0 where
+  pub reply : List ℕ
+  pub sent : asked p (request_bytes request) reply q
+  pub bytes : AreAllBytes reply
+  pub reads : answer_of request reply ≡ read
+
+-- memory ran out before the ask, in it, or after it was answered
+abbrev pub Forgets : {P : Type 0} → Asked P → Failed P → P → P → Request → Type 0
+Forgets asked failed p q request =
+    (q ≡ p)
+    ⊎ (failed p (request_bytes request) q
+    ⊎ ((reply : List ℕ) × asked p (request_bytes request) reply q))
+
+-- the peer was asked this request and the answer was read, or why not
+abbrev pub Exchanges : {P : Type 0} → Asked P → Failed P → P → P → Request
+    → Result Answer ExchangeFault → Type 0
+Exchanges asked failed p q request (Ok answer) = Answered asked p q request (Ok answer)
+Exchanges asked failed p q request (Err (BadReply place)) = Answered asked p q request (Err place)
+Exchanges asked failed p q request (Err Link) = failed p (request_bytes request) q
+Exchanges asked failed p q request (Err Memory) = Forgets asked failed p q request
+
+-- the answer is the one at this history, with the updates that are made by it, or the server's disk
+-- failed
+abbrev pub IsAnswerAt : Service → Request → Answer → List SealedUpdate → Type 0
+IsAnswerAt v request answer made =
+    (Answers (served v) request answer × (made ≡ made_by request answer))
+    ⊎ ((answer ≡ DeviceFault) × MayMake (request_bytes request) made)
+
+-- asked this request, who serves that history answers so, and then serves a history that goes on by
+-- what others did and by what the request made
+abbrev pub Tells : Service → Request → Answer → (Service → Type 0) → Type 0
+Tells v request answer Then =
+    (others : List SealedUpdate) × (made : List SealedUpdate)
+    × IsAnswerAt (later v others) request answer made × Then (later (later v others) made)

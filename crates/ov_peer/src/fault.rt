@@ -1,0 +1,29 @@
+//! Why an ask has no answer.
+
+use thiserror::Error;
+
+/// Why an ask has no answer.
+#[derive(Clone, Copy, Debug, PartialEq, Eq, Error)]
+pub enum PeerFault {
+    /// The link failed. Whether the request came isn't known.
+    #[error("the link failed")]
+    Link,
+    /// Memory was refused.
+    #[error("out of memory")]
+    Memory,
+}
+
+/// Why an ask has no answer that can be read.
+#[derive(Clone, Copy, Debug, PartialEq, Eq, Error)]
+pub enum ExchangeFault {
+    /// The link failed. Whether the request came isn't known.
+    #[error("the link failed")]
+    Link,
+    /// The reply isn't in the grammar of answers to its request; `at` is the place of its first wrong
+    /// byte.
+    #[error("the reply is no answer (byte {at})")]
+    BadReply { at: u32 },
+    /// Memory was refused.
+    #[error("out of memory")]
+    Memory,
+}

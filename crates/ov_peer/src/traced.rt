@@ -1,0 +1,82 @@
+//! A peer whose frames are put to a sink.
+ghost use Rattle.std.specs.Prelude.{◌≡◌, ◌+◌, OnErr, OnOk};
+ghost use Rattle.ov_base.specs.Causes.{HasCause};
+ghost use Rattle.ov_io.specs.Putting.{Puts};
+ghost use Rattle.ov_wire.specs.Frames.{IsFrame, framed};
+ghost use Rattle.ov_peer.specs.Causes.{HasLinkCause};
+ghost use Rattle.ov_peer.specs.Leaving.{fault_leaves};
+ghost use Rattle.ov_peer.specs.Tracing.{TracesAsk, TracesFault};
+
+use crate::{Peer, PeerFault};
+use ov_io::{Fault, Sink};
+
+/// A peer, each frame of which is put to a sink, behind its length field: the request before it is
+/// asked, and the reply after it came. Where the request can't be put, nothing is asked.
+#[derive(Drop)]
+pub struct Traced<P, T> {
+    pub peer: P,
+    pub sink: T,
+}
+
+impl<P: Peer + Drop, T: Sink + Drop> Traced<P, T> {
+    /// Puts the frames of the peer to the sink.
+    pub fn new(peer: P, sink: T) -> Traced<P, T>
+        ensures peer { result.peer ≡ peer }
+        ensures sink { result.sink ≡ sink }
+    {
+        Traced { peer, sink }
+    }
+
+    /// Gives both back.
+    pub fn into_parts(self) -> (P, T)
+        ensures peer { result.0 ≡ self.peer }
+        ensures sink { result.1 ≡ self.sink }
+    {
+        (self.peer, self.sink)
+    }
+}
+
+/// Puts a frame behind its length field.
+fn put_frame<T: Sink>(sink: &mut T, frame: &[u8]) -> Result<(), Fault>
+    requires { IsFrame frame.now }
+    ensures bytes { Puts (T.written sink.old) (T.written sink.new) result (framed frame.now) }
+    ensures same { T.borrow sink.new ≡ T.borrow sink.old }
+    ensures cause { HasCause (T.faults sink.old) (T.faults sink.new) result }
+{
+    match sink.put(&(frame.len() as u32).to_be_bytes()) {
+        Ok(()) => sink.put(frame),
+        Err(Fault) => Err(Fault),
+    }
+}
+
+impl<P: Peer + Drop, T: Sink + Drop> Peer for Traced<P, T> {
+    ghost asked = { λ p request reply q.
+        TracesAsk P.asked p.peer q.peer (T.written p.sink) (T.written q.sink) request reply };
+
+    ghost failed = { λ p request q.
+        TracesFault P.asked P.failed p.peer q.peer (T.written p.sink) (T.written q.sink) request };
+
+    ghost serves = { λ p v. P.serves p.peer v };
+
+    ghost faults = { λ p. P.faults p.peer + T.faults p.sink };
+
+    ghost borrow = { λ p. P.borrow p.peer };
+
+    ghost told = { λ p q request reply v a s. P.told p.peer q.peer request reply v a.peer s };
+
+    ghost left = { λ p q request v f s.
+        fault_leaves P.asked P.failed P.serves P.told P.left
+        p.peer q.peer (T.written p.sink) (T.written q.sink) request v f s };
+
+    fn ask(&mut self, request: &[u8], reply: &mut Vec<u8>) -> Result<(), PeerFault> {
+        match put_frame(&mut self.sink, request) {
+            Ok(()) => {}
+            Err(Fault) => return Err(PeerFault::Link),
+        }
+        self.peer.ask(request, reply)?;
+        match put_frame(&mut self.sink, reply) {
+            Ok(()) => Ok(()),
+            Err(Fault) => Err(PeerFault::Link),
+        }
+    }
+}

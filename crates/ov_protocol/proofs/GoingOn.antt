@@ -1,0 +1,107 @@
+-- A server goes on with what it makes.
+use Rattle.std.proofs.Common.{◌≡◌, ℕ, ◌+◌, List, [], ◌∷◌, length, Result, Ok, Err}
+use Rattle.std.proofs.Common.{refl, sym, ◌∙◌, ap, subst, arith}
+use Rattle.std.specs.Prelude.{None}
+use Rattle.std.proofs.lemmas.List.{append-nil}
+use Rattle.ov_record.specs.Reading.{update_of}
+use Rattle.ov_record.specs.Updates.{SealedUpdate, SealedEnrol, SealedCreate, SealedGrant}
+use Rattle.ov_record.specs.Updates.{SealedRevoke}
+use Rattle.ov_history.specs.Briefs.{brief}
+use Rattle.ov_history.specs.Catalogue.{Catalogue, catalogue_after, outline}
+use Rattle.ov_history.specs.Sealed.{HasParts, refusal_shown}
+use Rattle.ov_history.specs.Sealed.{catalogue_all, stored_all}
+use Rattle.ov_history.proofs.GoingOn.{histories_go_on}
+use Rattle.ov_history.proofs.Keeping.{stored_goes_on}
+use Rattle.ov_wire.specs.declared.request.Request.{Request}
+use Rattle.ov_wire.specs.declared.request.Request.TheVariants as requests
+use Rattle.ov_wire.specs.declared.answer.Answer.{Answer}
+use Rattle.ov_wire.specs.declared.answer.Answer.TheVariants as answers
+use Rattle.ov_wire.specs.RequestReading.{request_of}
+use Rattle.ov_protocol.specs.Serving.{IsService, Service, Serving, later, served, serving_after}
+use Rattle.ov_protocol.specs.Updating.{AnswersSpelled, spelled_by}
+use Rattle.ov_protocol.specs.Replies.{AnswersRead, made_of}
+use Rattle.ov_protocol.specs.Laws.{EpochsGoOn, ServersGoOn, ServicesAreServed}
+
+pub services_are_served : ServicesAreServed
+services_are_served s v is =
+    ap (λ (c : Catalogue). record s { catalogue = c }) is.stands.1
+    ∙ ap (λ (bytes : List (List ℕ)). record (served v) {
+      stored = bytes;
+      surface = s.surface;
+      base_check = s.base_check;
+    }) is.keeps
+    ∙ ap (λ (key : List ℕ). record (served v) { surface = key; base_check = s.base_check }) is.surface
+    ∙ ap (λ (check : List ℕ). record (served v) { base_check = check }) is.base_check
+
+-- ---- one update
+
+-- the server serves the history with these updates, after it made them
+abbrev GoesOn : Serving → Service → List SealedUpdate → Type 0
+GoesOn s v made = IsService (serving_after s made) (later v made)
+
+nothing_made : (s : Serving) (v : Service) → IsService s v → GoesOn s v []
+nothing_made s v is =
+    subst (λ (us : List SealedUpdate). IsService s
+    (record v { history = record v.history { updates = us } }))
+    (sym (append-nil v.history.updates)) is
+
+-- what the server shows after one update, were this its surface master
+abbrev after_one : List ℕ → Serving → SealedUpdate → Serving
+after_one surface s u = record s {
+  catalogue = catalogue_all surface s.catalogue (u ∷ []);
+  stored = stored_all surface s.catalogue s.stored (u ∷ []);
+}
+
+one_made : (s : Serving) (v : Service) (u : SealedUpdate) → IsService s v
+    → refusal_shown s.catalogue (brief u) ≡ None → HasParts (outline s.catalogue) (brief u)
+    → GoesOn s v (u ∷ [])
+one_made s v u is none parts =
+    subst (λ (m : List ℕ). IsService (after_one m s u) (later v (u ∷ []))) (sym is.surface)
+    (record {
+      stands = histories_go_on v.surface s.catalogue v.history u is.stands none parts;
+      keeps = stored_goes_on v.surface s.catalogue s.stored v.history u is.stands is.keeps;
+      surface = is.surface;
+      base_check = is.base_check;
+    })
+
+spelled_made : (s : Serving) (v : Service) (read : Result SealedUpdate ℕ) (n : ℕ) → IsService s v
+    → AnswersSpelled s.catalogue read (answers.Accepted n) → GoesOn s v (spelled_by read)
+spelled_made s v (Ok u) n is (none, parts, epoch) = one_made s v u is none parts
+spelled_made s v (Err place) n is wrong = absurd (cc)
+
+goes_on : (s : Serving) (v : Service) (read : Result Request ℕ) (a : Answer) → IsService s v
+    → AnswersRead s read a → GoesOn s v (made_of read a)
+goes_on s v (Ok (requests.Update epoch spelling tag)) (answers.Accepted n) is (t, e, made) =
+    spelled_made s v (update_of 32 spelling) n is made
+goes_on s v (Ok request) a is answered = nothing_made s v is
+goes_on s v (Err place) a is answered = nothing_made s v is
+
+pub servers_go_on : ServersGoOn
+servers_go_on old new v request reply answered is =
+    subst (λ (s : Serving). IsService s (later v answered.made)) (sym answered.next)
+    (subst (GoesOn old v) (sym answered.replies.makes)
+    (goes_on old v (request_of request) answered.replies.answer is answered.replies.answers))
+
+-- ---- epochs
+
+epoch_after : (master : List ℕ) (c : Catalogue) (u : SealedUpdate)
+    → (catalogue_after master c (brief u)).epoch ≡ c.epoch + 1
+epoch_after master c (SealedEnrol name) = refl
+epoch_after master c (SealedCreate name list tokens tag bytes) = refl
+epoch_after master c (SealedGrant user file token) = refl
+epoch_after master c (SealedRevoke user file) = refl
+
+pub epochs_all : (master : List ℕ) (c : Catalogue) (updates : List SealedUpdate)
+    → (catalogue_all master c updates).epoch ≡ c.epoch + length updates
+epochs_all master c [] = omega arith
+epochs_all master c (u ∷ updates) =
+    let next : Catalogue = catalogue_after master c (brief u) in
+    let rest : (catalogue_all master next updates).epoch ≡ next.epoch + length updates =
+    epochs_all master next updates in
+    let here : next.epoch ≡ c.epoch + 1 = epoch_after master c u in
+    omega (arith, rest, here)
+
+pub epochs_go_on : EpochsGoOn
+epochs_go_on old new request reply answered =
+    ap (λ (s : Serving). s.catalogue.epoch) answered.next
+    ∙ epochs_all old.surface old.catalogue answered.made

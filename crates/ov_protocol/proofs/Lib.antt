@@ -1,0 +1,6 @@
+pub mod GoingOn
+pub mod OneChain
+pub mod OneAnswer
+pub mod Reading
+pub mod Leaving
+mod Rows

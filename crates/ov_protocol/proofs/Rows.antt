@@ -1,0 +1,94 @@
+-- Worked frames, whose bytes another program made.
+use Rattle.std.proofs.Common.{◌≡◌, ℕ, List, [], ◌∷◌, ◌++◌, Some, refl, arith}
+use Rattle.std.specs.Prelude.{length, replicate}
+use Rattle.ov_base.specs.Sets.{bytes_of}
+use Rattle.ov_base.specs.declared.mode.Mode.TheVariants.{Delta}
+use Rattle.ov_base.specs.declared.refusal.Refusal.TheVariants.{NoPath}
+use Rattle.ov_tokens.specs.declared.token.Token.{Token}
+use Rattle.ov_tokens.specs.declared.edge.Edge.{Edge}
+use Rattle.ov_record.specs.Updates.{SealedUpdate, SealedEnrol, SealedCreate, SealedGrant}
+use Rattle.ov_wire.specs.declared.request.Question.TheVariants as questions
+use Rattle.ov_wire.specs.declared.answer.Answer.TheVariants as answers
+use Rattle.ov_wire.specs.AnswerBytes.{answer_bytes}
+use Rattle.ov_wire.specs.Entries.{Node}
+use Rattle.ov_wire.specs.RequestReading.{question_at}
+use Rattle.ov_wire.specs.declared.request.Request.TheVariants as requests
+use Rattle.ov_protocol.specs.Serving.{Serving, Service, served}
+use Rattle.ov_protocol.specs.Asking.{numbers_for}
+use Rattle.ov_protocol.specs.Answers.{Answers}
+use Rattle.ov_protocol.specs.Pages.{entry_of, page_of}
+use Rattle.ov_protocol.specs.Replies.{Replies}
+
+-- ---- three users, two files for the first two of them, and a grant of the first file to the third
+
+abbrev token : Token
+token = record { bytes = replicate 32 7 }
+
+abbrev users : List SealedUpdate
+users = SealedEnrol (97 ∷ []) ∷ SealedEnrol (98 ∷ []) ∷ SealedEnrol (99 ∷ []) ∷ []
+
+abbrev first : List ℕ
+first = 0x66 ∷ 0x31 ∷ []
+
+abbrev second : List ℕ
+second = 0x66 ∷ 0x32 ∷ []
+
+abbrev files : List SealedUpdate
+files =
+    SealedCreate first 3 (token ∷ token ∷ []) (replicate 32 8) (1 ∷ 2 ∷ [])
+    ∷ SealedCreate second 3 [] (replicate 32 9) (3 ∷ 4 ∷ []) ∷ []
+
+abbrev service : List SealedUpdate → Service
+service updates = record {
+  history = record { mode = Delta; first = 0; updates = updates };
+  surface = replicate 32 17;
+  base_check = replicate 32 0;
+}
+
+abbrev before : Serving
+before = served (service (users ++ files))
+
+abbrev after : Serving
+after = served (service (users ++ files ++ SealedGrant 2 0 (Some token) ∷ []))
+
+-- the third user is to be granted the first file, and needs an access token
+granted_numbers : answer_bytes (answers.Known (numbers_for before.catalogue (questions.Grant (99 ∷ []) first)))
+    ≡ 0x82 ∷ 0 ∷ 0 ∷ 0 ∷ 5 ∷ 0 ∷ 0 ∷ 0 ∷ 2 ∷ 0 ∷ 0 ∷ 0 ∷ 2 ∷ 0 ∷ 0 ∷ 0 ∷ 2 ∷ 0 ∷ 0 ∷ 0 ∷ 0 ∷ 0 ∷ 0 ∷ 0
+    ∷ 3 ∷ 1 ∷ []
+granted_numbers = refl
+
+-- after it the third user may not read the second file
+no_path : Answers after (requests.Chain (99 ∷ []) second) (answers.Refused NoPath)
+no_path = refl
+
+no_path_bytes : answer_bytes (answers.Refused NoPath) ≡ 0x88 ∷ 4 ∷ []
+no_path_bytes = refl
+
+abbrev from_node : ℕ → Edge
+from_node node = record { from = node; token = token }
+
+-- the node of both files, into which an edge goes from each of its users' nodes; there is none behind
+-- it
+fourth_node : entry_of after.catalogue 2 3 ≡ Some (Node 3 (from_node 0 ∷ from_node 1 ∷ []))
+unfolding lib.Count.ones
+fourth_node = refl
+
+-- its entry has 106 bytes, behind a kind byte and a flag
+fourth_length : length (answer_bytes (answers.PageOf (page_of (entry_of after.catalogue 2 3)))) ≡ 108
+unfolding lib.Count.ones bytes_of
+fourth_length = refl
+
+no_node : answer_bytes (answers.PageOf (page_of (entry_of after.catalogue 2 4))) ≡ 0x87 ∷ 0 ∷ []
+no_node = refl
+
+-- ---- a frame that is no request
+
+no_verb : (s : Serving) → Replies s (2 ∷ 9 ∷ []) (0x8b ∷ 0 ∷ 0 ∷ 0 ∷ 1 ∷ []) []
+unfolding question_at
+no_verb s = record {
+  answer = answers.BadRequest 1;
+  answers = refl;
+  form = omega arith;
+  spelled = refl;
+  makes = refl;
+}

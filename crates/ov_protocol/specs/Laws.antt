@@ -1,0 +1,56 @@
+-- The laws of servers.
+use Rattle.std.specs.Prelude.{◌≡◌, ◌<◌, ◌+◌, ℕ, List, length, get_or, Ok}
+use Rattle.ov_record.specs.Updates.{SealedUpdate}
+use Rattle.ov_wire.specs.declared.request.Request.{Request}
+use Rattle.ov_wire.specs.declared.answer.Answer.{Answer}
+use Rattle.ov_wire.specs.AnswerReading.{answer_of}
+use Rattle.ov_wire.specs.Frames.{IsFrame}
+use Rattle.ov_wire.specs.Requests.{HasRequestForm, request_bytes}
+use Rattle.ov_protocol.specs.Serving.{Serving, Service, IsService, later, served}
+use Rattle.ov_protocol.specs.Answers.{Answers, made_by}
+use Rattle.ov_protocol.specs.Replies.{AnswersFrame, Replies}
+
+-- a server that serves a history shows what follows from that history and its keys
+abbrev pub ServicesAreServed : Type 0
+ServicesAreServed = (s : Serving) (v : Service) → IsService s v → s ≡ served v
+
+-- two answers of a server that serves a history to one request are the same
+abbrev pub OneAnswer : Type 0
+OneAnswer =
+    (s : Serving) (v : Service) (request : Request) (one other : Answer)
+    → IsService s v → Answers s request one → Answers s request other → one ≡ other
+
+-- two servers that show the same reply the same to one frame, and then show the same again
+abbrev pub OneReply : Type 0
+OneReply =
+    (old new other : Serving) (v : Service) (request reply again : List ℕ)
+    → IsService old v → AnswersFrame old new request reply → AnswersFrame old other request again
+    → (reply ≡ again) × (new ≡ other)
+
+-- a server that serves a history serves, after it replied, the history followed by what it made
+abbrev pub ServersGoOn : Type 0
+ServersGoOn =
+    (old new : Serving) (v : Service) (request reply : List ℕ)
+    (answers : AnswersFrame old new request reply)
+    → IsService old v → IsService new (later v answers.made)
+
+-- its epoch is then as much higher as it made updates
+abbrev pub EpochsGoOn : Type 0
+EpochsGoOn =
+    (old new : Serving) (request reply : List ℕ) (answers : AnswersFrame old new request reply)
+    → new.catalogue.epoch ≡ old.catalogue.epoch + length answers.made
+
+-- a reply is one frame
+abbrev pub RepliesAreFrames : Type 0
+RepliesAreFrames =
+    (s : Serving) (request reply : List ℕ) (made : List SealedUpdate)
+    → Replies s request reply made → IsFrame reply
+
+-- what is read of a reply to a request that was sent is the server's answer to that request, and
+-- the server made the updates of that answer
+abbrev pub RepliesAreRead : Type 0
+RepliesAreRead =
+    (s : Serving) (request : Request) (reply : List ℕ) (made : List SealedUpdate) (read : Answer)
+    → ((i : ℕ) → get_or reply i 0 < 256) → HasRequestForm request
+    → Replies s (request_bytes request) reply made → answer_of request reply ≡ Ok read
+    → Answers s request read × (made ≡ made_by request read)

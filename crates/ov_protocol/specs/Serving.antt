@@ -1,0 +1,52 @@
+-- What a server answers by, and histories as they are served.
+use Rattle.std.specs.Prelude.{◌≡◌, ℕ, List, ◌++◌}
+use Rattle.ov_record.specs.Updates.{SealedUpdate}
+use Rattle.ov_history.specs.Catalogue.{Catalogue}
+use Rattle.ov_history.specs.Sealed.{SealedHistory, StandsFor, KeepsBytes}
+use Rattle.ov_history.specs.Sealed.{catalogue_all, catalogue_of, stored_all, stored_of}
+
+-- all that a server's answers follow from: both halves of its store, the surface master, and the
+-- check value of the base master
+pub record Serving : Type 0 where
+  pub catalogue : Catalogue
+  pub stored : List (List ℕ)
+  pub surface : List ℕ
+  pub base_check : List ℕ
+
+-- a sealed history, and the keys under which it is served
+pub record Service : Type 0 where
+  pub history : SealedHistory
+  pub surface : List ℕ
+  pub base_check : List ℕ
+
+-- what a server of this history answers by
+abbrev pub served : Service → Serving
+served v = record {
+  catalogue = catalogue_of v.surface v.history;
+  stored = stored_of v.surface v.history;
+  surface = v.surface;
+  base_check = v.base_check;
+}
+
+-- the server serves this history under these keys: it is a sealed one, and both halves of the store
+-- are those after it
+pub record IsService (s : Serving) (v : Service) : Type 0 where
+  pub stands : StandsFor v.surface s.catalogue v.history
+  pub keeps : KeepsBytes v.surface s.stored v.history
+  pub surface : s.surface ≡ v.surface
+  pub base_check : s.base_check ≡ v.base_check
+
+-- what a server answers by after these updates
+abbrev pub serving_after : Serving → List SealedUpdate → Serving
+serving_after s updates = record s {
+  catalogue = catalogue_all s.surface s.catalogue updates;
+  stored = stored_all s.surface s.catalogue s.stored updates;
+}
+
+-- the history with these updates behind its own
+abbrev pub followed : SealedHistory → List SealedUpdate → SealedHistory
+followed g updates = record g { updates = g.updates ++ updates }
+
+-- the same keys, and the history with these updates behind its own
+abbrev pub later : Service → List SealedUpdate → Service
+later v updates = record v { history = followed v.history updates }

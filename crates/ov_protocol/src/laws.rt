@@ -1,0 +1,25 @@
+//! The laws of servers, for the proofs of callers. The functions do nothing.
+ghost use Rattle.ov_protocol.specs.Laws.{EpochsGoOn, OneAnswer, OneReply, RepliesAreFrames};
+ghost use Rattle.ov_protocol.specs.Laws.{RepliesAreRead, ServersGoOn, ServicesAreServed};
+
+/// A server that serves a history has one answer to each request, and one reply to each frame: two
+/// that show the same reply the same, and then show the same again.
+pub fn one_answer()
+    ensures answer { OneAnswer }
+    ensures reply { OneReply }
+{}
+
+/// A server that serves a history shows just what follows from it. After a reply it serves the
+/// history followed by what it made, at an epoch one higher for each update.
+pub fn servers_go_on()
+    ensures served { ServicesAreServed }
+    ensures goes_on { ServersGoOn }
+    ensures epochs { EpochsGoOn }
+{}
+
+/// A reply is one frame, and what is read of it, by the request that was sent, is the server's answer
+/// to that request.
+pub fn replies_are_read()
+    ensures frames { RepliesAreFrames }
+    ensures read { RepliesAreRead }
+{}

@@ -1,0 +1,123 @@
+"""Counts what has to be read to know what a contract says: the definitions of specs/ that its clauses
+name, those that these name, and so on, through all crates. Types of the code and the kit's own
+definitions aren't counted.
+
+    python3 tools/definition_lines.py CRATE FUNCTION [TYPE]   # definitions, lines, and lines by crate
+    python3 tools/definition_lines.py page                    # is docs/PROVED.md right? Names each row that isn't
+    python3 tools/definition_lines.py page write              # puts the right numbers there
+
+TYPE is the type or the trait of a method, where a crate has several functions of the name.
+"""
+import collections
+import pathlib
+import re
+import sys
+
+ROOT = pathlib.Path(__file__).resolve().parent.parent
+PAGE = ROOT / "docs" / "PROVED.md"
+WORD = re.compile(r"[^\s(){},.:×→⊎≡≢;λ\[\]|]+")
+IMPORT = re.compile(r"use Rattle\.([\w.]+?)\.\{([^}]*)\}")
+DEFINITION = re.compile(r"^\s{0,2}(?:abbrev|unfoldable|pub record|pub data)\s+(?:pub\s+)?([^\s:({]+)")
+
+
+def imports_of(text):
+    """By the name that a file uses, the module and the name there."""
+    found = {}
+    for module, names in IMPORT.findall(text):
+        for name in filter(None, map(str.strip, names.split(","))):
+            there, _, here = name.partition(" as ")
+            found[(here or there).strip()] = (module, there.strip())
+    return found
+
+
+def definitions_of(text):
+    """The lines of each definition of a file, without comments."""
+    found, lines = {}, None
+    for line in text.split("\n"):
+        begins = DEFINITION.match(line)
+        if begins:
+            lines = found.setdefault(begins.group(1), [])
+        if lines is not None and line.strip() and not line.startswith(("--", "use", "pub use")):
+            lines.append(line)
+    return found
+
+
+def all_specs():
+    for path in ROOT.glob("crates/*/specs/*.antt"):
+        if path.stem != "Lib":
+            text = path.read_text()
+            yield f"{path.parent.parent.name}.specs.{path.stem}", (definitions_of(text), imports_of(text))
+
+
+SPECS = dict(all_specs())
+
+
+def file_with(crate, function, owner):
+    """The text of the source file that has the function, and where the function begins in it."""
+    begins = re.compile(rf"\bfn {function}\b")
+    for path in sorted((ROOT / "crates" / crate / "src").glob("*.rt")):
+        text = path.read_text()
+        found = begins.search(text)
+        if found and path.stem != "tests":
+            heads = [line for line in text[: found.start()].split("\n") if line.startswith(("impl", "pub trait"))]
+            if owner is None or heads and re.search(rf"\b{owner}\b", heads[-1]):
+                return text, found.start()
+    sys.exit(f"{crate} has no function {owner or ''} {function}")
+
+
+def reading_of(crate, function, owner=None):
+    """The lines of all definitions that have to be read, by crate, and how many definitions they are."""
+    text, start = file_with(crate, function, owner)
+    contract = re.split(r"\n\s*\{|;\n", text[start:], maxsplit=1)[0]
+    imports = imports_of(text)
+    waiting = [imports[word] for word in WORD.findall(contract) if word in imports]
+    seen, lines, count = set(), collections.Counter(), 0
+    while waiting:
+        module, name = waiting.pop()
+        if (module, name) in seen:
+            continue
+        seen.add((module, name))
+        definitions, imported = SPECS.get(module, ({}, {}))
+        if name not in definitions:
+            continue
+        count += 1
+        lines[module.split(".")[0]] += len(definitions[name])
+        for word in set(WORD.findall("\n".join(definitions[name]))):
+            if word in definitions:
+                waiting.append((module, word))
+            elif word in imported:
+                waiting.append(imported[word])
+    return count, lines
+
+
+ROW = re.compile(r"(\| `([\w:]+)`[^|]* \((\w+)\) \| )([\d,]+) \|$", re.M)
+
+
+def right_row(row):
+    """The row with the right number; it ends in `FUNCTION` (CRATE) and the number of lines."""
+    front, name, crate, _ = row.groups()
+    owner, _, function = name.rpartition("::")
+    return f"{front}{sum(reading_of(crate, function, owner or None)[1].values()):,} |"
+
+
+def page(write):
+    text = PAGE.read_text()
+    rows = list(ROW.finditer(text))
+    wrong = [row for row in rows if row.group(0) != right_row(row)]
+    for row in wrong:
+        print(f"on the page {row.group(0)}, counted {right_row(row)}")
+    print(f"{len(rows)} rows, {len(wrong)} wrong")
+    if write:
+        PAGE.write_text(ROW.sub(right_row, text))
+    elif wrong or not rows:
+        sys.exit(1)
+
+
+if sys.argv[1:] in (["page"], ["page", "write"]):
+    page(write="write" in sys.argv)
+elif len(sys.argv) in (3, 4):
+    count, lines = reading_of(*sys.argv[1:])
+    by_crate = ", ".join(f"{crate} {number}" for crate, number in sorted(lines.items()))
+    print(f"{count} definitions, {sum(lines.values())} lines: {by_crate}")
+else:
+    sys.exit(__doc__)

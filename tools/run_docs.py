@@ -1,0 +1,172 @@
+"""Runs the commands of README.md and docs/, and the scripts of examples/, and compares what they print
+with what stands on the page or beside the script.
+
+    python3 tools/run_docs.py                 # what needs no proved program
+    python3 tools/run_docs.py PROGRAM         # and what needs one, as crates/overstore/out/overstore
+    python3 tools/run_docs.py [PROGRAM] kit   # and what calls the kit, which proves nothing here
+
+A block of a page is run where a comment stands above it:
+
+    <!-- run -->             in a new folder that has tools/ and examples/
+    <!-- run: program -->    so, with the example key file, and PROGRAM as `overstore`
+    <!-- run: .., on -->     in the folder of the block before it
+    <!-- run: kit -->        in this repository
+    <!-- file: NAME -->      it isn't run: it is written to NAME in the folder of the next block
+
+A block of `sh` is one script, and what it prints is the next block, if that has no language and nothing
+but text stands between them. In a block of `console` each line behind `$ ` is run and the lines below
+it are what it prints. Commands that aren't marked aren't run, and PERFORMANCE.md has no marks.
+"""
+import os
+import pathlib
+import re
+import shutil
+import subprocess
+import sys
+import tempfile
+
+ROOT = pathlib.Path(__file__).resolve().parent.parent
+PAGES = [ROOT / "README.md", *sorted((ROOT / "docs").glob("*.md")), ROOT / "examples" / "README.md"]
+MARK = re.compile(r"<!-- (run|file)(?:: (.*?))? -->")
+NEEDS = {"program", "kit"}
+
+
+def blocks_of(page):
+    """Each block of a page: its line, its mark if it has one, its language and its text."""
+    mark, language, begun, text = None, None, 0, []
+    for number, line in enumerate(page.read_text().split("\n"), 1):
+        if language is None and line.startswith("```"):
+            language, begun, text = line[3:], number, []
+        elif language is not None and line == "```":
+            yield begun, mark, language, "".join(text)
+            mark, language = None, None
+        elif language is not None:
+            text.append(line + "\n")
+        elif found := MARK.fullmatch(line):
+            mark = found.groups()
+        elif line.strip():
+            mark = None
+
+
+def runs_of(page):
+    """Each run of a page: its line, its words, the files to write before it, and commands with what
+    they print, or None where that isn't said."""
+    blocks, files = list(blocks_of(page)), {}
+    for place, (line, mark, language, text) in enumerate(blocks):
+        if mark is None:
+            continue
+        if mark[0] == "file":
+            files[mark[1]] = text
+            continue
+        words = set(mark[1].split(", ")) if mark[1] else set()
+        assert words <= NEEDS | {"on"}, f"{page.name}:{line}: {mark[1]}"
+        if language == "console":
+            parts = re.split(r"^\$ ", text, flags=re.M)[1:]
+            yield line, words, files, [part.partition("\n")[::2] for part in parts]
+        else:
+            after = blocks[place + 1] if place + 1 < len(blocks) else None
+            printed = after[3] if after and after[1] is None and after[2] == "" else None
+            yield line, words, files, [(text, printed)]
+        files = {}
+
+
+def new_folder():
+    folder = pathlib.Path(tempfile.mkdtemp(dir=BASE))
+    for name in ("tools", "examples"):
+        (folder / name).symlink_to(ROOT / name)
+    return folder
+
+
+def shell(command, folder, place, status):
+    """What a command prints, the folder where it ends, and its status: `cd` and `$?` last as in a
+    terminal."""
+    last = folder / ".last"
+    whole = f"cd '{place}'\n(exit {status})\n{command}\nstatus=$?\necho $status $PWD > '{last}'\n"
+    environment = dict(os.environ, PATH=f"{BASE}/bin:{os.environ['PATH']}")
+    done = subprocess.run(
+        ["bash", "-c", whole],
+        env=environment,
+        stdin=subprocess.DEVNULL,
+        stdout=subprocess.PIPE,
+        stderr=subprocess.STDOUT,
+    )
+    status, _, place = last.read_text().strip().partition(" ")
+    return done.stdout.decode(), pathlib.Path(place), status
+
+
+def without_kit(text):
+    return "".join(line for line in text.splitlines(True) if not re.match(r"checked: ended|run=ended", line))
+
+
+def run_page(page, have):
+    """The numbers of blocks that ran, of those left out, and of commands that printed something else."""
+    ran = left = wrong = 0
+    folder = place = None
+    for line, words, files, commands in runs_of(page):
+        if words & NEEDS - have:
+            left += 1
+            continue
+        if "on" not in words or folder is None:
+            folder = place = new_folder()
+            if "program" in words:
+                shutil.copy(ROOT / "examples" / "keys.hex", folder)
+        if "kit" in words:
+            place = ROOT
+        for name, text in files.items():
+            (folder / name).write_text(text)
+        ran += 1
+        status = "0"
+        for command, expected in commands:
+            printed, place, status = shell(command, folder, place, status)
+            printed = without_kit(printed)
+            if printed != expected if expected is not None else status != "0":
+                wrong += 1
+                print(f"{page.relative_to(ROOT)}:{line}: {command.strip()}: status {status}")
+                print(f"--- the page\n{expected}--- printed\n{printed}")
+    return ran, left, wrong
+
+
+def script_of(name):
+    """The script of this name in examples/, or the one that a program of tools/ makes."""
+    script = ROOT / "examples" / f"{name}.script"
+    if script.exists():
+        return script.read_bytes()
+    maker = [sys.executable, ROOT / "tools" / f"{name}_script.py"]
+    return subprocess.run(maker, stdout=subprocess.PIPE, check=True).stdout
+
+
+def run_examples(have):
+    """Each script that has replies beside it, from an empty store, in both modes."""
+    ran = left = wrong = 0
+    for replies in sorted((ROOT / "examples").glob("*.replies")):
+        if "program" not in have:
+            left += 1
+            continue
+        for mode in ("full", "delta"):
+            folder = new_folder()
+            shutil.copy(ROOT / "examples" / "keys.hex", folder)
+            done = subprocess.run(
+                [f"{BASE}/bin/overstore", "run", mode],
+                cwd=folder,
+                input=script_of(replies.stem),
+                stdout=subprocess.PIPE,
+            )
+            ran += 1
+            if done.returncode != 0 or done.stdout != replies.read_bytes():
+                wrong += 1
+                print(f"{replies.stem}, {mode}: status {done.returncode}, other replies")
+    return ran, left, wrong
+
+
+words = sys.argv[1:]
+have = {"kit"} if "kit" in words else set()
+programs = [word for word in words if word != "kit"]
+with tempfile.TemporaryDirectory() as BASE:
+    if programs:
+        have.add("program")
+        (pathlib.Path(BASE) / "bin").mkdir()
+        (pathlib.Path(BASE) / "bin" / "overstore").symlink_to(pathlib.Path(programs[0]).resolve())
+    results = [run_page(page, have) for page in PAGES if page.exists()] + [run_examples(have)]
+ran, left, wrong = (sum(column) for column in zip(*results))
+print(f"{ran} blocks and scripts ran, {left} left out, {wrong} printed something else")
+sys.exit(1 if wrong else 0)
