@@ -23,10 +23,13 @@ use Rattle.ov_wire.specs.declared.answer.Answer.TheVariants as answers
 use Rattle.ov_wire.specs.AnswerBytes.{answer_bytes}
 use Rattle.ov_wire.specs.RequestReading.{request_of}
 use Rattle.ov_protocol.specs.Serving.{IsService, Service, Serving, serving_after}
-use Rattle.ov_protocol.specs.Asking.{AnswersAsk, AnswersCover, file_named, numbers_for, plan_for}
-use Rattle.ov_protocol.specs.Asking.{refusal_at, refusal_to, user_named}
+use Rattle.ov_protocol.specs.Asking.{AnswersAsk, AnswersCover, known_at, numbers_for, plan_for}
+use Rattle.ov_history.specs.Asking.{file_named}
+use Rattle.ov_history.specs.Asking.{refusal_at, user_named}
+use Rattle.ov_protocol.specs.Asking.{refusal_to}
 use Rattle.ov_protocol.specs.Updating.{AnswersSealed, AnswersSpelled, AnswersUpdate, owner_tag}
-use Rattle.ov_protocol.specs.Updating.{part_place, spelling_place}
+use Rattle.ov_history.specs.Briefs.{part_place}
+use Rattle.ov_protocol.specs.Updating.{spelling_place}
 use Rattle.ov_protocol.specs.Reading.{AnswersChain, AnswersChunk, AnswersList, IsChainedFor}
 use Rattle.ov_protocol.specs.Replies.{AnswersRead, made_of}
 use Rattle.ov_protocol.specs.Laws.{OneAnswer, OneReply}
@@ -40,7 +43,7 @@ told (Some why) answer = answers.Refused why
 -- ---- Ask, Cover and List
 
 ask_is : (c : Catalogue) (q : Question) (a : Answer) → AnswersAsk c q a
-    → a ≡ told (refusal_to c q) (answers.Known (numbers_for c q))
+    → a ≡ told (refusal_to c q) (answers.Known (known_at c (numbers_for c q)))
 ask_is c q (answers.Known known) (none, is) = rw (none, is) refl
 ask_is c q (answers.Refused why) is = rw is refl
 ask_is c q a is = absurd is
@@ -69,7 +72,7 @@ data Judged (c : Catalogue) (u : SealedUpdate) (a : Answer) : Type 0 where
   accepted : refusal_shown c (brief u) ≡ None → HasParts (outline c) (brief u)
       → a ≡ answers.Accepted (c.epoch + 1) → Judged c u a
   unfit : refusal_shown c (brief u) ≡ None → (HasParts (outline c) (brief u) → ⊥)
-      → a ≡ answers.BadRequest (spelling_place + part_place (brief u)) → Judged c u a
+      → a ≡ answers.BadRequest (spelling_place + part_place 4 (brief u)) → Judged c u a
 
 judged : (c : Catalogue) (u : SealedUpdate) (a : Answer) → AnswersSealed c u a → Judged c u a
 judged c u (answers.Accepted epoch) (none, parts, is) =

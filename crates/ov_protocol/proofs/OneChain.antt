@@ -19,8 +19,8 @@ use Rattle.ov_base_layer.proofs.HolderLaws.{holders_are}
 use Rattle.ov_history.specs.Layers.{root_of}
 use Rattle.ov_history.specs.Catalogue.{Catalogue, Nodes, filed_at}
 use Rattle.ov_wire.specs.declared.answer.Chained.{Chained}
-use Rattle.ov_protocol.specs.Chains.{IsAccessChain, IsBaseChainIf, IsEdgeChain}
-use Rattle.ov_protocol.specs.Chains.{IsSurfaceChain, graph_of}
+use Rattle.ov_history.specs.Chains.{IsAccessChain, IsBaseChainIf, IsEdgeChain}
+use Rattle.ov_history.specs.Chains.{IsSurfaceChain, graph_of}
 use Rattle.ov_protocol.specs.Reading.{IsChainedFor}
 
 edges_once : (kind : Kind) (nodes : Nodes) (user node : ℕ) (one other : Chain)

@@ -14,7 +14,7 @@ use Rattle.ov_wire.specs.Entries.{Node}
 use Rattle.ov_wire.specs.RequestReading.{question_at}
 use Rattle.ov_wire.specs.declared.request.Request.TheVariants as requests
 use Rattle.ov_protocol.specs.Serving.{Serving, Service, served}
-use Rattle.ov_protocol.specs.Asking.{numbers_for}
+use Rattle.ov_protocol.specs.Asking.{known_at, numbers_for}
 use Rattle.ov_protocol.specs.Answers.{Answers}
 use Rattle.ov_protocol.specs.Pages.{entry_of, page_of}
 use Rattle.ov_protocol.specs.Replies.{Replies}
@@ -52,7 +52,8 @@ abbrev after : Serving
 after = served (service (users ++ files ++ SealedGrant 2 0 (Some token) ∷ []))
 
 -- the third user is to be granted the first file, and needs an access token
-granted_numbers : answer_bytes (answers.Known (numbers_for before.catalogue (questions.Grant (99 ∷ []) first)))
+granted_numbers : answer_bytes
+    (answers.Known (known_at before.catalogue (numbers_for before.catalogue (questions.Grant (99 ∷ []) first))))
     ≡ 0x82 ∷ 0 ∷ 0 ∷ 0 ∷ 5 ∷ 0 ∷ 0 ∷ 0 ∷ 2 ∷ 0 ∷ 0 ∷ 0 ∷ 2 ∷ 0 ∷ 0 ∷ 0 ∷ 2 ∷ 0 ∷ 0 ∷ 0 ∷ 0 ∷ 0 ∷ 0 ∷ 0
     ∷ 3 ∷ 1 ∷ []
 granted_numbers = refl

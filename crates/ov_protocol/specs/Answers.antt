@@ -8,7 +8,8 @@ use Rattle.ov_wire.specs.declared.answer.Answer.{Answer}
 use Rattle.ov_wire.specs.declared.answer.Answer.TheVariants as answers
 use Rattle.ov_wire.specs.declared.answer.Welcome.{Welcome}
 use Rattle.ov_protocol.specs.Serving.{Serving}
-use Rattle.ov_protocol.specs.Asking.{AnswersAsk, AnswersCover, file_named, user_named}
+use Rattle.ov_protocol.specs.Asking.{AnswersAsk, AnswersCover}
+use Rattle.ov_history.specs.Asking.{file_named, user_named}
 use Rattle.ov_protocol.specs.Updating.{AnswersUpdate, updates_in}
 use Rattle.ov_protocol.specs.Reading.{AnswersChain, AnswersChunk, AnswersList}
 use Rattle.ov_protocol.specs.Pages.{entry_of, page_of}

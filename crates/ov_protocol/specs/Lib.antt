@@ -1,5 +1,4 @@
 pub mod Serving
-pub mod Chains
 pub mod Asking
 pub mod Updating
 pub mod Reading

@@ -7,7 +7,7 @@ use Rattle.ov_history.specs.Catalogue.{Catalogue, Filed, filed_at, matrix_shown}
 use Rattle.ov_wire.specs.declared.answer.Chained.{Chained}
 use Rattle.ov_wire.specs.declared.answer.Answer.{Answer}
 use Rattle.ov_wire.specs.declared.answer.Answer.TheVariants as answers
-use Rattle.ov_protocol.specs.Chains.{IsBaseChain, IsSurfaceChain}
+use Rattle.ov_history.specs.Chains.{IsBaseChain, IsSurfaceChain}
 
 -- both chains of a user to a file, with what else a reader needs of it
 pub record IsChainedFor (c : Catalogue) (user number : ℕ) (chained : Chained) : Type 0 where

@@ -6,7 +6,7 @@ use Rattle.ov_keyed.specs.Hmac.{hmac}
 use Rattle.ov_tokens.specs.Keys.{update_key_of}
 use Rattle.ov_record.specs.Reading.{update_of}
 use Rattle.ov_record.specs.Updates.{SealedUpdate}
-use Rattle.ov_history.specs.Briefs.{Brief, BriefEnrol, BriefCreate, BriefGrant, BriefRevoke, brief}
+use Rattle.ov_history.specs.Briefs.{brief, part_place}
 use Rattle.ov_history.specs.Catalogue.{Catalogue, outline}
 use Rattle.ov_history.specs.Sealed.{HasParts, refusal_shown}
 use Rattle.ov_wire.specs.declared.answer.Answer.{Answer}
@@ -15,14 +15,6 @@ use Rattle.ov_wire.specs.declared.answer.Answer.TheVariants as answers
 -- the owner's tag of an update that is made at an epoch, under the surface master
 abbrev pub owner_tag : List ℕ → ℕ → List ℕ → List ℕ
 owner_tag surface epoch spelling = hmac (update_key_of surface) (u32 epoch ++ spelling)
-
--- the place, in the spelling of an update, of the number of its tokens or of the flag of its access
--- token: behind the fields that come before, of which a list has 32 bytes
-abbrev pub part_place : Brief → ℕ
-part_place (BriefEnrol name) = 0
-part_place (BriefCreate name list tokens tag size) = 1 + (1 + length name) + 32
-part_place (BriefGrant user file token) = 1 + 4 + 4
-part_place (BriefRevoke user file) = 0
 
 -- the place in a frame of an Update at which its spelling begins, behind kind and epoch
 abbrev pub spelling_place : ℕ
@@ -36,7 +28,7 @@ AnswersSealed c u (answers.Accepted epoch) =
 AnswersSealed c u (answers.Refused why) = refusal_shown c (brief u) ≡ Some why
 AnswersSealed c u (answers.BadRequest place) =
     (refusal_shown c (brief u) ≡ None) × (HasParts (outline c) (brief u) → ⊥)
-    × (place ≡ spelling_place + part_place (brief u))
+    × (place ≡ spelling_place + part_place 4 (brief u))
 AnswersSealed c u answer = ⊥
 
 -- the same of a spelling, as a record's reader reads it

@@ -20,7 +20,7 @@
 //! | `Serving` | what a server answers by; histories as they are served, and how they go on |
 //! | `Asking` | the numbers, the plan or the refusal that an owner is told before an update |
 //! | `Updating` | the owner's tag; what is answered to an update, in which order; spellings |
-//! | `Chains`, `Reading` | the chains to a file, its stored bytes, the names in its list |
+//! | `Reading` | the chains to a file, its stored bytes, the names in its list |
 //! | `Pages` | the entries of the public catalogue |
 //! | `Answers` | the answer to each request, and the updates that it makes |
 //! | `Replies` | the same of frames |

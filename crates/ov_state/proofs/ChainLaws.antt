@@ -29,7 +29,8 @@ use Rattle.ov_history.specs.Masters.{Masters, access_key}
 use Rattle.ov_history.specs.Layers.{root_of}
 use Rattle.ov_history.specs.Catalogue.{Nodes, Catalogue}
 use Rattle.ov_state.specs.Contents.{nodes_of}
-use Rattle.ov_state.specs.Chains.{graph_of, access_along, access_from, IsAccessChain, IsBaseChain, IsBaseChainIf, IsEdgeChain, IsSurfaceChain, LeadsToAccess, LeadsToSurface}
+use Rattle.ov_history.specs.Chains.{graph_of, IsAccessChain, IsBaseChain, IsBaseChainIf, IsEdgeChain, IsSurfaceChain}
+use Rattle.ov_state.specs.Chains.{access_along, access_from, LeadsToAccess, LeadsToSurface}
 
 -- ---- chains over edges
 

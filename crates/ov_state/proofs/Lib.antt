@@ -16,6 +16,8 @@ pub mod CreationChange
 pub mod Sites
 pub mod ChainLaws
 pub mod QueryLaws
+pub mod Questions
+pub mod Naming
 pub mod AnswerLaws
 pub mod Readers
 pub mod AccessCounts

@@ -6,7 +6,7 @@ use Rattle.ov_history.specs.Lists.{file_at, file_names, is_file, is_user, no_fil
 use Rattle.ov_history.specs.Places.{place_of as place_among, IsNumber}
 use Rattle.ov_history.specs.Catalogue.{Filed, Catalogue, filed_at, files_shown, matrix_shown, no_filed, outline, place_of_file}
 use Rattle.ov_state.specs.Entries.{filed_names}
-use Rattle.ov_state.specs.Queries.{file_named, user_named}
+use Rattle.ov_history.specs.Asking.{file_named, user_named}
 use Rattle.ov_base.proofs.Tests.{lt_is_true, lt_is_false, lt_of_true}
 
 -- ---- files

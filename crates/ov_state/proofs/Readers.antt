@@ -8,7 +8,8 @@ use Rattle.ov_history.specs.Catalogue.{Filed, Catalogue, filed_at, outline, plac
 use Rattle.ov_history.specs.Sound.{IsPlaced}
 use Rattle.ov_history.specs.Keys.{AreTrueTokens}
 use Rattle.ov_history.specs.Masters.{Masters}
-use Rattle.ov_state.specs.Chains.{IsBaseChain, IsChained, IsSurfaceChain, LeadsToKeys}
+use Rattle.ov_history.specs.Chains.{IsBaseChain, IsSurfaceChain}
+use Rattle.ov_state.specs.Chains.{IsChained, LeadsToKeys}
 use Rattle.ov_state.specs.Contents.{IsWell}
 use Rattle.ov_state.specs.Entries.{plain_file}
 use Rattle.ov_state.specs.declared.chained.Chained.{Chained}

@@ -1,63 +1,21 @@
 -- The chains by which a reader derives the keys of a file, and where they lead.
-use Rattle.std.specs.Prelude.{◌≡◌, ℕ, Bool, true, false, List, [], ◌∷◌, slice_index}
-use Rattle.std.specs.Prelude.{Contains, Option, Some, None, Result, Ok, Err}
-use Rattle.ov_base.specs.Sets.{has}
+use Rattle.std.specs.Prelude.{◌≡◌, ℕ, List, Option, Some, None, Result, Ok, Err}
 use Rattle.ov_tokens.specs.declared.chain.Chain.{Chain}
 use Rattle.ov_tokens.specs.declared.label.Kind.{Kind}
 use Rattle.ov_tokens.specs.declared.label.Kind.TheVariants.{Derive, Access, Surface}
-use Rattle.ov_tokens.specs.declared.token.Token.{Token}
 use Rattle.ov_tokens.specs.Keys.{access_key_of, node_key}
 use Rattle.ov_tokens.specs.Labels.{label_of}
-use Rattle.ov_graph.specs.Contents.{Contents}
-use Rattle.ov_graph.specs.Chain.{IsChain}
 use Rattle.ov_chain.specs.Walk.{walked, last_label}
-use Rattle.ov_base_layer.specs.declared.grant.Grant.{Grant}
 use Rattle.ov_history.specs.Keys.{AreTrueTokens}
 use Rattle.ov_history.specs.Refusals.{read_refusal}
-use Rattle.ov_history.specs.Layers.{root_of}
 use Rattle.ov_history.specs.Masters.{Masters, access_key}
-use Rattle.ov_history.specs.Catalogue.{Nodes, Filed, Catalogue, filed_at, matrix_shown}
+use Rattle.ov_history.specs.Catalogue.{Filed, Catalogue, filed_at, matrix_shown}
+use Rattle.ov_history.specs.Chains.{IsBaseChain, IsSurfaceChain}
 use Rattle.ov_state.specs.declared.chained.Chained.{Chained}
 use Rattle.ov_state.specs.declared.fault.ChainFault.{ChainFault}
 use Rattle.ov_state.specs.declared.fault.ChainFault.TheVariants.{Refused, Memory}
 
 -- ---- which chains they are
-
--- a graph with these nodes, whatever room it has
-abbrev pub graph_of : Nodes → Contents
-graph_of nodes = record { sets = nodes.sets; edges = nodes.edges; spare_sets = 0; spare_edges = 0 }
-
--- the chosen chain over the edges of a layer, from the root of the user to the node
-abbrev pub IsEdgeChain : Kind → Nodes → ℕ → ℕ → Chain → Type 0
-IsEdgeChain kind nodes user node chain =
-    (chain.root ≡ root_of nodes.sets user)
-    × IsChain kind (graph_of nodes) chain.root node chain.steps
-
--- the one step from the root of the user over an access token of the user to the node
-abbrev pub IsAccessChain : Nodes → List Grant → ℕ → ℕ → Chain → Type 0
-IsAccessChain nodes grants user node chain =
-    (token : Token) × Contains grants (record { user = user; node = node; token = token })
-    × (chain ≡ record {
-      root = root_of nodes.sets user;
-      steps = record { to = label_of Access node; token = token } ∷ [];
-    })
-
--- the first of these where the user is in the node's set, and the other where not
-abbrev pub IsBaseChainIf : Bool → Nodes → List Grant → ℕ → ℕ → Chain → Type 0
-IsBaseChainIf true nodes grants user node chain = IsEdgeChain Derive nodes user node chain
-IsBaseChainIf false nodes grants user node chain = IsAccessChain nodes grants user node chain
-
--- the base chain of a user to a base node
-abbrev pub IsBaseChain : Nodes → List Grant → ℕ → ℕ → Chain → Type 0
-IsBaseChain nodes grants user node chain =
-    IsBaseChainIf (has (slice_index nodes.sets node) user) nodes grants user node chain
-
--- the surface chain of a user to a file's surface, where it has one
-abbrev pub IsSurfaceChain : Nodes → ℕ → Option ℕ → Option Chain → Type 0
-IsSurfaceChain nodes user None None = Unit {0}
-IsSurfaceChain nodes user None (Some chain) = ⊥
-IsSurfaceChain nodes user (Some node) None = ⊥
-IsSurfaceChain nodes user (Some node) (Some chain) = IsEdgeChain Surface nodes user node chain
 
 -- both chains of a user to a file, with what else a reader needs of it
 pub record IsChained (s : Catalogue) (user number : ℕ) (c : Chained) : Type 0 where

@@ -9,6 +9,7 @@ pub mod NewFiles
 pub mod Creations
 pub mod Standing
 pub mod Queries
+pub mod Asking
 pub mod Chains
 pub use Rattle.ov_history.specs.Briefs
 pub use Rattle.ov_history.specs.Catalogue

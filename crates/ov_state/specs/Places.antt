@@ -5,7 +5,7 @@ use Rattle.ov_record.specs.Spelling.{spelling}
 use Rattle.ov_record.specs.Updates.{SealedUpdate, SealedCreate, SealedEnrol, SealedGrant}
 use Rattle.ov_record.specs.Updates.{SealedRevoke}
 use Rattle.ov_history.specs.Briefs.{brief}
-use Rattle.ov_state.specs.Plans.{part_place}
+use Rattle.ov_history.specs.Briefs.{part_place}
 
 -- the parts of an update as they are spelled: its tokens behind their number, or its access token
 -- behind a flag; an enrolment and a revocation have none

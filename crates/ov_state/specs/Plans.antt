@@ -2,7 +2,7 @@
 use Rattle.std.specs.Prelude.{◌≡◌, ℕ, ◌+◌, ◌*◌, ◌<◌, ◌≤◌, List, length, Some, None, Result, Ok, Err}
 use Rattle.ov_base.specs.declared.limits.TheConstants.{MAX_FILES, MAX_FILE_BYTES, MAX_USERS}
 use Rattle.ov_history.specs.Briefs.{Brief as PlainBrief, BriefEnrol, BriefCreate, BriefGrant}
-use Rattle.ov_history.specs.Briefs.{BriefRevoke}
+use Rattle.ov_history.specs.Briefs.{BriefRevoke, part_place}
 use Rattle.ov_history.specs.Catalogue.{Catalogue, outline, catalogue_after}
 use Rattle.ov_history.specs.Rewrites.{rewrites_of}
 use Rattle.ov_history.specs.Sealed.{HasParts, refusal_shown}
@@ -37,14 +37,6 @@ IsWithinLimits (BriefCreate name list tokens tag size) =
     (length tokens ≤ MAX_USERS) × (size ≤ MAX_FILE_BYTES)
 IsWithinLimits (BriefGrant user file token) = (user < MAX_USERS) × (file < MAX_FILES)
 IsWithinLimits (BriefRevoke user file) = (user < MAX_USERS) × (file < MAX_FILES)
-
--- The place, in the spelling of an update whose set has so many words, of the number of its tokens
--- or of the flag of its access token.
-abbrev pub part_place : ℕ → PlainBrief → ℕ
-part_place words (BriefEnrol name) = 0
-part_place words (BriefCreate name list tokens tag size) = 1 + (1 + length name) + 8 * words
-part_place words (BriefGrant user file token) = 1 + 4 + 4
-part_place words (BriefRevoke user file) = 0
 
 -- ---- what is answered
 

@@ -1,7 +1,8 @@
 -- What a state answers of its catalogue.
 use Rattle.std.specs.Prelude.{◌≡◌, ℕ, List, length, Some, None, Result, Ok, Err}
 use Rattle.ov_base.specs.declared.refusal.Refusal.{Refusal}
-use Rattle.ov_history.specs.Lists.{byte_sum, file_at, file_number, user_number}
+use Rattle.ov_history.specs.Asking.{file_named, user_named}
+use Rattle.ov_history.specs.Lists.{byte_sum, file_at}
 use Rattle.ov_history.specs.Refusals.{list_refusal, read_refusal}
 use Rattle.ov_history.specs.Catalogue.{Catalogue, matrix_shown}
 use Rattle.ov_state.specs.declared.queries.Sizes.{Sizes}
@@ -16,14 +17,6 @@ sizes_of c = record {
   grants = length c.grants;
   bytes = byte_sum (matrix_shown c).files;
 }
-
--- the number of the user of this name in the matrix
-abbrev pub user_named : Catalogue → List ℕ → ℕ
-user_named c name = user_number (matrix_shown c) name
-
--- the number of the file of this name in the matrix
-abbrev pub file_named : Catalogue → List ℕ → ℕ
-file_named c name = file_number (matrix_shown c) name
 
 -- the list of the file of this name, or why there is none
 abbrev pub AnswersList : Catalogue → List ℕ → Result ℕ Refusal → Type 0

@@ -5,7 +5,8 @@ ghost use Rattle.ov_history.specs.Keys.{AreTrueTokens};
 ghost use Rattle.ov_history.specs.Layers.{list_at};
 ghost use Rattle.ov_history.specs.Masters.{Masters};
 ghost use Rattle.ov_history.specs.Catalogue.{filed_at, outline, place_of_file};
-ghost use Rattle.ov_state.specs.Queries.{file_named, user_named, AnswersReader};
+ghost use Rattle.ov_history.specs.Asking.{file_named, user_named};
+ghost use Rattle.ov_state.specs.Queries.{AnswersReader};
 ghost use Rattle.ov_state.specs.Chains.{AnswersChain, IsChained, LeadsToKeys};
 
 use crate::chains::{base_chain, surface_chain};

@@ -12,7 +12,7 @@ ghost use Rattle.ov_chain.specs.Walk.{last_label};
 ghost use Rattle.ov_history.specs.Layers.{root_of};
 ghost use Rattle.ov_state.specs.Contents.{nodes_of};
 ghost use Rattle.ov_state.specs.Chains.{access_along, LeadsToAccess};
-ghost use Rattle.ov_state.specs.Chains.{IsAccessChain, IsBaseChain, IsEdgeChain, IsSurfaceChain};
+ghost use Rattle.ov_history.specs.Chains.{IsAccessChain, IsBaseChain, IsEdgeChain, IsSurfaceChain};
 
 use ov_base::{Key, Memory, UserSet};
 use ov_base_layer::{BaseLayer, Grant};
@@ -22,7 +22,7 @@ use ov_tokens::{Base, Chain, Kind, Label, Layer, Step, Steps, Surface, Token, ac
 use std::alloc::Global;
 
 /// The root of a user: the node of the user alone.
-fn root<L: Layer, G: Graph<L, W>, const W: usize>(graph: &G, user: u32) -> u32
+pub fn root<L: Layer, G: Graph<L, W>, const W: usize>(graph: &G, user: u32) -> u32
     requires width { (1 ≤ W) × (W ≤ MAX_SET_WORDS) }
     requires user { user < 64 * W }
     requires there { Contains (G.contents graph.now).sets (single user) }

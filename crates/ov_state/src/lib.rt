@@ -42,6 +42,8 @@
 //!   catalogue is sound, each file has its wanted surface, and no limit is passed.
 //! * The queries give the epoch, the mode, sizes, numbers and names, files, and the list of a file,
 //!   which is read off the layers.
+//! * `ask_enrol`, `ask_grant`, `ask_revoke` and `cover` tell an owner, before an update, the numbers
+//!   that it needs, or why the update would be refused. They touch no bytes.
 //! * [`State::chain`] is refused exactly where a read is, unless memory is. It gives a reader of a
 //!   file the chains from the reader's two roots to the file's keys ([`Chained`]); over true tokens
 //!   they lead to these keys, and [`access_key_by`] walks the one of the base layer.
@@ -55,6 +57,7 @@
 //! | `Changes` | what a change makes, where it suits, and the room that it takes |
 //! | `Standing` | what a catalogue stands for, before and after a change |
 //! | `Queries` | numbers, sizes and lists |
+//! | `Asking` | what an owner is told before an update |
 //! | `Chains` | chains to a file's keys, and where they lead |
 //! | `Faults` | a graph's refusal as a fault of `prepare` |
 //! | `Relistings`, `NewFiles`, `Creations` | how changes are planned: for the inside alone |
@@ -65,11 +68,13 @@
 //! Nothing is claimed of secrecy, nor that memory isn't refused.
 #![tactic(auto)]
 
+mod asking;
 mod brief;
 mod chained;
 mod chains;
 mod change;
 mod commit;
+mod covering;
 mod fault;
 mod files;
 mod lookup;
@@ -87,9 +92,11 @@ mod state;
 #[cfg(test)]
 mod tests;
 
+pub use asking::Asked;
 pub use brief::Brief;
 pub use chained::Chained;
 pub use chains::access_key_by;
+pub use covering::Planned;
 pub use change::{Change, Rewrite};
 pub use fault::{ChainFault, PrepareFault};
 pub use files::FileEntry;

@@ -6,7 +6,8 @@ use Rattle.ov_history.specs.Briefs.{Brief, brief, text_of}
 use Rattle.ov_history.specs.Catalogue.{Catalogue, outline, catalogue_after}
 use Rattle.ov_history.specs.Rewrites.{rewrites_of, stored_after}
 use Rattle.ov_history.specs.Sealed.{SealedHistory, HasParts, refusal_shown, with_sealed}
-use Rattle.ov_state.specs.Plans.{IsTaken, part_place}
+use Rattle.ov_state.specs.Plans.{IsTaken}
+use Rattle.ov_history.specs.Briefs.{part_place}
 use Rattle.ov_disk.specs.Disk.{Image, Told}
 use Rattle.ov_disk.specs.Moments.{LeavesOnly}
 use Rattle.ov_images.specs.Images.{KeepsEither}

@@ -28,8 +28,10 @@ use Rattle.ov_history.proofs.Showing.{history_is_shown}
 use Rattle.ov_history.proofs.Storing.{stored_is_coated}
 use Rattle.ov_history.proofs.TrueHistories.{tokens_are_true}
 use Rattle.ov_model.specs.Step.{reply_or, bytes_reply, names_reply}
-use Rattle.ov_state.specs.Chains.{AnswersChain, IsSurfaceChain, LeadsToSurface}
-use Rattle.ov_state.specs.Queries.{file_named, user_named, AnswersList}
+use Rattle.ov_state.specs.Chains.{AnswersChain, LeadsToSurface}
+use Rattle.ov_history.specs.Chains.{IsSurfaceChain}
+use Rattle.ov_history.specs.Asking.{file_named, user_named}
+use Rattle.ov_state.specs.Queries.{AnswersList}
 use Rattle.ov_state.specs.declared.chained.Chained.{Chained}
 use Rattle.overstore.specs.Machine.{Kept, StandsFor, Replies}
 use Rattle.overstore.specs.Opening.{IsOpenedAs, IsReadAs, IsThere, LeadsTo, surface_along}

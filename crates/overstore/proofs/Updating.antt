@@ -25,7 +25,7 @@ use Rattle.ov_history.proofs.Keeping.{keeping_goes_on, kept_stands_for}
 use Rattle.ov_history.proofs.Sealing.{sealing_goes_on}
 use Rattle.ov_model.specs.Step.{reply_to, after, update_step}
 use Rattle.ov_state.specs.Chains.{AnswersChain}
-use Rattle.ov_state.specs.Queries.{file_named, user_named}
+use Rattle.ov_history.specs.Asking.{file_named, user_named}
 use Rattle.ov_state.specs.declared.fault.ChainFault.{ChainFault}
 use Rattle.ov_state.specs.declared.fault.ChainFault.TheVariants.{Refused as ChainRefused, Memory as ChainMemory}
 use Rattle.ov_script.specs.declared.command.Command.TheVariants.{Read}

@@ -7,7 +7,7 @@ use Rattle.ov_tokens.specs.Keys.{node_key}
 use Rattle.ov_tokens.specs.declared.chain.Chain.{Chain}
 use Rattle.ov_tokens.specs.declared.label.Kind.TheVariants.{Derive, Surface}
 use Rattle.ov_state.specs.Chains.{AnswersChain, LeadsToKeys, access_along}
-use Rattle.ov_state.specs.Queries.{file_named, user_named}
+use Rattle.ov_history.specs.Asking.{file_named, user_named}
 use Rattle.ov_state.specs.declared.chained.Chained.{Chained}
 use Rattle.ov_state.specs.declared.fault.ChainFault.{ChainFault}
 use Rattle.ov_state.specs.declared.fault.ChainFault.TheVariants.{Refused as ChainRefused}

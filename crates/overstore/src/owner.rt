@@ -1,9 +1,7 @@
 //! Updates, as their owner finds and sends them.
-ghost use Rattle.std.specs.Prelude.{◌≡◌, ◌<◌, ◌≤◌, false, length, IfNone, IfOk, IfSome};
-ghost use Rattle.ov_base.specs.Sets.{within};
+ghost use Rattle.std.specs.Prelude.{◌≡◌, ◌<◌, ◌≤◌, false, length, IfOk, IfSome};
 ghost use Rattle.ov_base.specs.declared.limits.TheConstants.{MAX_FILE_BYTES};
 ghost use Rattle.ov_history.specs.Catalogue.{matrix_shown, outline};
-ghost use Rattle.ov_history.specs.Lists.{everyone, set_named};
 ghost use Rattle.ov_history.specs.Plain.{PlainGrant};
 ghost use Rattle.ov_history.specs.Sealing.{sealed_update as sealed_by_owner};
 ghost use Rattle.ov_record.specs.Updates.{sealed_update};
@@ -33,23 +31,6 @@ impl<D: Disk> Machine<D> {
         ensures step { IsStep D.borrow D.faults self.old self.new result }
     {
         self.apply(alloc, Update::Enrol { name: user })
-    }
-
-    /// The users of these names, or None where one isn't enrolled.
-    fn users_of(&self, names: &[Name]) -> Option<Users>
-        ensures set { let users = self.now.kept.catalogue.users in
-            IfSome result (λ set. set ≡ set_named users names.now) }
-        ensures none { let users = self.now.kept.catalogue.users in
-            IfNone result (within (set_named users names.now) (everyone (length users)) ≡ false) }
-    {
-        let catalogue = self.catalogue();
-        catalogue.known();
-        let mut set = UserSet::empty();
-        for name in names {
-            let user = catalogue.user_number(name)?;
-            set = set.with(user);
-        }
-        Some(set)
     }
 
     /// The update of a creation. Where the base layer has no room for the list's node the bytes are
@@ -99,7 +80,7 @@ impl<D: Disk> Machine<D> {
         if self.catalogue().file_number(&file).is_some() {
             return Ok(Reply::Refused(Refusal::Taken));
         }
-        match self.users_of(list.as_slice()) {
+        match self.catalogue().users_named(list.as_slice()) {
             Some(users) => {
                 let update = self.creation(alloc, file, users, bytes)?;
                 self.apply(alloc, update)

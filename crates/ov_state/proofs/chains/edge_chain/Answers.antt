@@ -1,7 +1,7 @@
 use Rattle.std.proofs.Common.{◌≡◌, ◌∙◌, sym, subst}
 use Rattle.ov_graph.specs.Chain.{IsChain}
 use Rattle.ov_state.specs.Contents.{nodes_of}
-use Rattle.ov_state.specs.Chains.{graph_of}
+use Rattle.ov_history.specs.Chains.{graph_of}
 use Rattle.ov_state.proofs.ChainLaws.{chain_of}
 use Rattle.ov_state.proofs.chains.edge_chain.Goals as goal
 

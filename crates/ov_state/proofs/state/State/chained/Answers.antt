@@ -1,5 +1,5 @@
 use Rattle.std.proofs.Common.{◌*◌, ap, refl, rules, subst, sym}
-use Rattle.ov_state.specs.Chains.{IsBaseChain, IsSurfaceChain}
+use Rattle.ov_history.specs.Chains.{IsBaseChain, IsSurfaceChain}
 use Rattle.ov_state.specs.Contents.{Held}
 use Rattle.ov_state.specs.declared.chained.Chained.{Chained}
 use Rattle.ov_state.proofs.Readers.{IsReader, chained_of, listed_reads}

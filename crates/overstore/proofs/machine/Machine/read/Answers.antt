@@ -2,7 +2,7 @@ use Rattle.std.proofs.Common.{subst}
 use Rattle.std.specs.Prelude.{Err}
 use Rattle.ov_history.specs.Catalogue.{Catalogue}
 use Rattle.ov_state.specs.Chains.{AnswersChain}
-use Rattle.ov_state.specs.Queries.{file_named, user_named}
+use Rattle.ov_history.specs.Asking.{file_named, user_named}
 use Rattle.overstore.specs.Opening.{LeadsTo}
 use Rattle.overstore.proofs.Updating.{read_faulted}
 use Rattle.overstore.proofs.machine.Machine.read.Goals as goal

@@ -1,0 +1,57 @@
+-- What a state tells an owner who asks before an update.
+use Rattle.std.specs.Prelude.{◌≡◌, ℕ, Bool, List, Option, Some, None, Result, Ok, Err, length}
+use Rattle.ov_base.specs.declared.refusal.Refusal.{Refusal}
+use Rattle.ov_graph.specs.declared.cover.Cover.{Cover}
+use Rattle.ov_graph.specs.Contents.{plan_of}
+use Rattle.ov_history.specs.Asking.{Numbers, refusal_at}
+use Rattle.ov_history.specs.Catalogue.{Catalogue}
+use Rattle.ov_history.specs.History.{Created}
+use Rattle.ov_state.specs.declared.asking.Asked.{Asked}
+use Rattle.ov_state.specs.declared.covering.Planned.{Planned}
+use Rattle.ov_state.specs.declared.fault.ChainFault.{ChainFault}
+use Rattle.ov_state.specs.declared.fault.ChainFault.TheVariants.{Refused, Memory}
+
+-- the numbers that are told
+abbrev pub numbers_of : Asked → Numbers
+numbers_of a = record {
+  user = a.user;
+  base_root = a.base_root;
+  surface_root = a.surface_root;
+  file = a.file;
+  node = a.node;
+  wants = a.wants;
+}
+
+-- the numbers are told, or why not
+abbrev pub Tells : Option Refusal → Numbers → Result Asked Refusal → Type 0
+Tells refusal numbers (Ok asked) = (refusal ≡ None) × (numbers_of asked ≡ numbers)
+Tells refusal numbers (Err why) = refusal ≡ Some why
+
+-- the question is refused for this; memory is free
+abbrev pub IsRefusedFor : Option Refusal → ChainFault → Type 0
+IsRefusedFor refusal (Refused why) = refusal ≡ Some why
+IsRefusedFor refusal Memory = Unit {0}
+
+-- the numbers are told, or why not, or memory was refused
+abbrev pub Asks : Option Refusal → Numbers → Result Asked ChainFault → Type 0
+Asks refusal numbers (Ok asked) = (refusal ≡ None) × (numbers_of asked ≡ numbers)
+Asks refusal numbers (Err fault) = IsRefusedFor refusal fault
+
+-- whether an access token is needed, or why the update is refused
+abbrev pub AsksWhether : Option Refusal → Bool → Result Bool ChainFault → Type 0
+AsksWhether refusal wants (Ok told) = (refusal ≡ None) × (told ≡ wants)
+AsksWhether refusal wants (Err fault) = IsRefusedFor refusal fault
+
+-- the cover of a new file's list in the base layer, or why the creation is refused
+abbrev pub Covers : Catalogue → List ℕ → ℕ → ℕ → Result Cover ChainFault → Type 0
+Covers c name list size (Ok cover) =
+    (refusal_at c (Created name list size) ≡ None) × (cover ≡ plan_of c.base.sets list)
+Covers c name list size (Err fault) = IsRefusedFor (refusal_at c (Created name list size)) fault
+
+-- The number that a file to be created will have, the set of its list, and the cover of this set in
+-- the base layer; or why the creation is refused.
+abbrev pub Plans : {W : ℕ} → Catalogue → List ℕ → ℕ → ℕ → Result (Planned W) ChainFault → Type 0
+Plans c name list size (Ok planned) =
+    (refusal_at c (Created name list size) ≡ None) × (planned.file ≡ length c.files)
+    × (planned.list ≡ list) × (planned.cover ≡ plan_of c.base.sets list)
+Plans c name list size (Err fault) = IsRefusedFor (refusal_at c (Created name list size)) fault
