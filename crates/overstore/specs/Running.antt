@@ -77,8 +77,8 @@ pub record RefusesWords (other : Type 0) (status : ℕ) (old new : Option (List 
 
 -- The status is one of those that a run has. A call of the disk is said to have failed only where
 -- its count of faults rose, a read only where a count of what is read did, and a write only where
--- that of the sink did; and a tag to be wrong only with the line on it, and over a disk that
--- doesn't tell its bytes.
+-- that of the sink did; and a tag to be wrong only with the line on it, and where the disk doesn't
+-- tell its bytes.
 pub record FailsForFaults (status : ℕ) (disks reads writes tags : Type 0) : Type 0 where
   pub some : IsStatus status
   pub tag : status ≡ 12 → tags
