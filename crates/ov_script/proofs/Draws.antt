@@ -1,9 +1,8 @@
 -- What is drawn from the words of a number.
-use Rattle.std.proofs.Common.{◌≡◌, ℕ, zero, suc, ◌+◌, ◌*◌, ◌%◌, ◌^◌, ◌<◌, ◌≤◌, refl, ◌∙◌, sym, ap, arith}
+use Rattle.std.proofs.Common.{◌≡◌, ℕ, zero, suc, ◌+◌, ◌*◌, ◌%◌, ◌^◌, ◌<◌, ◌≤◌, ◌∙◌, ap, arith}
 use Rattle.rand_chacha.specs.ChaCha.{ChaCha, next_word}
 use Rattle.ov_script.specs.WordPlace.{generator}
 use Rattle.ov_script.specs.Workload.{word, kind_of, created, creations, drawn_at}
-use Rattle.ov_script.specs.declared.drawn.Drawn.{Drawn}
 use Rattle.ov_script.specs.declared.drawn.Kind.{Kind}
 use Rattle.ov_script.specs.declared.drawn.Kind.TheVariants.{Creates, Grants, Revokes, Reads, Lists}
 

@@ -8,7 +8,7 @@ use Rattle.ov_base.specs.Names.{IsName}
 use Rattle.ov_base.specs.Sets.{has}
 use Rattle.ov_script.specs.Items.{IsItem, line_of, create_line}
 use Rattle.ov_script.specs.Workload.{and_if, body, command_at, command_by, creations, drawn_at, enrols_or_draws, file, user, users_in}
-use Rattle.ov_script.specs.WrittenLists.{AreNames, IsList, list_text, with_commas, without_repeats}
+use Rattle.ov_script.specs.WrittenLists.{AreNames, list_text, with_commas, without_repeats}
 use Rattle.ov_script.specs.declared.command.Command.{Command}
 use Rattle.ov_script.specs.declared.command.Command.TheVariants.{Create}
 use Rattle.ov_script.specs.declared.drawn.Kind.{Kind}
@@ -93,9 +93,10 @@ creation_said i made who size small few =
     let bytes : length (body i size) ≡ size = body_size i size in
     let low : length (body i size) ≤ 1048576 = omega arith in
     let short : length (create_line (file made) list (length (body i size))) ≤ 20000 =
-        omega (arith, line_size (file made) list (length (body i size)), name_short (file made) (file_named made small), size_short (length (body i size)) low, list_short names are, users_few who WORKLOAD_USERS) in
-    (create_line (file made) list (length (body i size)) ++ body i size ++ 10 ∷ [],
-    (list, file_named made small, (names, are, refl, users_once who WORKLOAD_USERS (omega arith)), low, short, refl))
+    omega (arith, line_size (file made) list (length (body i size)), name_short (file made) (file_named made small), size_short (length (body i size)) low, list_short names are, users_few who WORKLOAD_USERS) in (
+      create_line (file made) list (length (body i size)) ++ body i size ++ 10 ∷ [],
+      (list, file_named made small, (names, are, refl, users_once who WORKLOAD_USERS (omega arith)), low, short, refl),
+    )
 
 asked : (who : ℕ) → IsName (user (who % WORKLOAD_USERS))
 asked who = user_named (who % WORKLOAD_USERS) (omega arith)

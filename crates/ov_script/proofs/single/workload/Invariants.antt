@@ -1,5 +1,4 @@
 use Rattle.std.proofs.Common.{◌≡◌}
-use Rattle.ov_script.specs.Workload.{Progress}
 use Rattle.ov_script.proofs.single.workload.Given as goal
 
 abbrev pub invariant-places : goal.invariant-places
