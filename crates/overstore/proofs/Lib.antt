@@ -1,4 +1,5 @@
 pub mod Answering
+pub mod Asking
 pub mod Beginning
 pub mod Concluding
 pub mod Creating

@@ -2,6 +2,8 @@ pub mod Answering
 pub mod Disks
 pub mod Faults
 pub mod Judging
+pub mod LoadWords
+pub mod Loading
 pub mod Machine
 pub mod Opening
 pub mod Owner
@@ -10,4 +12,6 @@ pub mod Printing
 pub mod Running
 pub mod Sealing
 pub mod Status
+pub mod Summary
+pub mod Tallying
 pub mod Words

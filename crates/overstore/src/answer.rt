@@ -55,8 +55,8 @@ fn put_reply<O: Sink>(reply: &Reply, buffer: &mut Vec<u8>, out: &mut O) -> Optio
     }
 }
 
-// Why a command that isn't answered stops the answering.
-fn stop_of(fault: StepFault) -> Stop
+/// Why a command that isn't answered stops the answering.
+pub fn stop_of(fault: StepFault) -> Stop
     ensures { result ≡ stop_for fault }
 {
     match fault {

@@ -65,8 +65,8 @@ fn line_on_damage(alloc: Global, area: Area, offset: u64) -> Result<Vec<u8>, Mem
     Ok(text.as_bytes().to_vec(alloc)?)
 }
 
-// The word for a mode.
-fn word_of(mode: Mode) -> &'static str
+/// The word for a mode.
+pub fn word_of(mode: Mode) -> &'static str
     ensures { result.now ≡ mode_word mode }
 {
     match mode {

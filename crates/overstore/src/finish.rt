@@ -1,17 +1,23 @@
 //! The last line of a run, and its status.
-ghost use Rattle.std.specs.Prelude.{◌≡◌, ◌≢◌, ◌⊎◌, ◌≤◌};
+ghost use Rattle.std.specs.Prelude.{◌≡◌, ◌≢◌, ◌⊎◌, ◌≤◌, ◌++◌, ℕ, List};
 ghost use Rattle.ov_base.specs.Causes.{Rose};
 ghost use Rattle.ov_script.specs.Lines.{reply_line};
 ghost use Rattle.ov_script.specs.declared.reply.Reply.TheVariants.{End as EndReply};
+ghost use Rattle.sha2.specs.Hashers.{Holds256};
+ghost use Rattle.sha2.specs.Sha256.{sha256};
 ghost use Rattle.overstore.specs.Answering.{EndsIn, EndsOr, Finishes};
 ghost use Rattle.overstore.specs.Faults.{fault_line, fault_status, tag_line};
 ghost use Rattle.overstore.specs.Printing.{bad_line, memory_line};
 ghost use Rattle.overstore.specs.Status.{status_code};
+ghost use Rattle.overstore.specs.Summary.{seven_lines};
 
 use crate::answer::Stop;
 use crate::fault::BadTag;
 use crate::fault_lines::{line_on_fault, line_on_tag, status_of};
+use crate::load_words::Load;
 use crate::status::Status;
+use crate::summary::summary_of;
+use crate::tally::Tally;
 use ov_io::Sink;
 use ov_script::{Reply, line};
 use ov_store::BeginFault;
@@ -50,6 +56,28 @@ fn put_end<O: Sink>(alloc: Global, out: &mut O, epoch: u32) -> u8
     let mut bytes = Vec::new(alloc);
     match line(&Reply::End(epoch), &mut bytes) {
         Ok(()) => put_last(out, &bytes, Status::Done),
+        Err(_) => put_memory(out),
+    }
+}
+
+/// Puts the lines of a load whose replies were tallied, or the line that says that memory was
+/// refused for them.
+pub fn put_summary<O: Sink>(
+    alloc: Global,
+    load: &Load,
+    tally: Tally,
+    epoch: u32,
+    out: &mut O,
+) -> u8
+    ensures ends { (hashed : List ℕ) → Holds256 tally.hasher hashed
+        → EndsOr (seven_lines load.now tally.counts epoch
+        (sha256 (hashed ++ reply_line (EndReply epoch)))) 0
+        (O.written out.old) (O.written out.new) result }
+    ensures later { O.faults out.old ≤ O.faults out.new }
+    ensures write { result ≡ 6 → Rose (O.faults out.old) (O.faults out.new) }
+{
+    match summary_of(alloc, load, tally, epoch) {
+        Ok(lines) => put_last(out, &lines, Status::Done),
         Err(_) => put_memory(out),
     }
 }

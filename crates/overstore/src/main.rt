@@ -4,10 +4,13 @@
 //! the store in the program's folder, under the masters of the key file there. The contract of
 //! [`run`] says what it prints for every script, and what a stop leaves; `main` makes the real
 //! sources, the sink and the disk, calls it, and ends with the status that it gives.
+//! `overstore load` answers the commands of a stated workload in a script's place, by [`load`],
+//! and prints their counts and one hash of their replies.
 //!
 //! | module | what it does |
 //! |---|---|
 //! | `run` | the top call, and its contract |
+//! | `load` | the other one: a stated workload in a script's place |
 //! | `begin` | the store of a run, begun and looked at |
 //! | `answer` | the loop over the script's commands |
 //! | `finish` | the last line |
@@ -17,6 +20,9 @@
 //! | `sealing` | what an owner seals, from plain values |
 //! | `reader` | files and lists, as readers are given them |
 //! | `opening` | what a reader opens, with plain keys |
+//! | `load_words` | the words that ask for a load |
+//! | `loading`, `tally` | the loop over its commands, and what is kept of their replies |
+//! | `summary` | its seven lines |
 //! | `fault`, `status` | why a command isn't answered; the exit statuses |
 #![tactic(auto)]
 
@@ -25,6 +31,9 @@ mod begin;
 mod fault;
 mod fault_lines;
 mod finish;
+mod load;
+mod load_words;
+mod loading;
 mod machine;
 mod opening;
 mod owner;
@@ -32,10 +41,13 @@ mod reader;
 mod run;
 mod sealing;
 mod status;
+mod summary;
+mod tally;
 #[cfg(test)]
 mod tests;
 
 use finish::put_last;
+use load::load;
 use ov_disk::FileDisk;
 use ov_io::{FileSource, StdSink, StdSource};
 use run::run;
@@ -47,6 +59,7 @@ use std::process::ExitCode;
 
 const HELP: &str = "\
 Usage: overstore run full|delta < SCRIPT
+       overstore load full|delta NUMBER COUNT
 
 Answers the script on standard input, one reply line for each command. In `full`
 each file has a surface layer; in `delta` only where more users hold its key than
@@ -69,7 +82,12 @@ The store is in this folder too, in `store.book` and `store.blobs`; the first ru
 makes them. An update is on the disk before its `ok` is put, so that what was
 answered outlasts a stop.
 
-The last line is `end epoch EPOCH`, or `error ..` where the script could not be
+`load` makes COUNT commands out of NUMBER, and eight enrolments before them, and
+answers them in a script's place. It prints how many updates were accepted, how many
+commands refused, files given and lists given, the epoch, and the SHA-256 of all
+reply lines. NUMBER is below 18446744073709551616, COUNT is 1 to 20000.
+
+The last line of `run` is `end epoch EPOCH`, or `error ..` where the script could not be
 answered to its end. Exit status: 0 answered, 2 words not known, 3 bad line,
 4 disk failed, 5 read failed or no `keys.hex`, 6 write failed, 7 out of memory,
 8 `store.book` is damaged or no store, 9 it is of other keys or the other mode,
@@ -121,7 +139,15 @@ fn explain(rt: &HostRuntime, code: u8) {
     }
 }
 
-// Answers `--help` and `--version`, and calls `run` with all other words.
+// Whether the words ask for a load, in form or not.
+fn is_load(words: &[String]) -> bool {
+    match words {
+        [first, ..] => first.as_str() == "load",
+        [] => false,
+    }
+}
+
+// Answers `--help` and `--version`, and calls `load` or, with all other words, `run`.
 fn answer_words(rt: &HostRuntime, words: &[String]) -> u8 {
     match told_by(words) {
         Some(text) => match rt.print(text) {
@@ -136,6 +162,9 @@ fn answer_words(rt: &HostRuntime, words: &[String]) -> u8 {
             let Ok(mut disk) = FileDisk::new(*rt, BOOK_FILE, BLOBS_FILE) else {
                 return put_last(&mut out, b"error memory\n", Status::OutOfMemory);
             };
+            if is_load(words) {
+                return load(rt.alloc(), words, &mut keys, &mut out, &mut disk);
+            }
             let mut input = StdSource::new(rt.stdin());
             run(
                 rt.alloc(),

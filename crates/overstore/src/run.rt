@@ -27,8 +27,8 @@ use ov_keyfile::{Masters, read_masters};
 use ov_script::{Buffer, Script};
 use std::alloc::Global;
 
-// The mode of this word.
-fn mode_of_word(word: &str) -> Option<Mode>
+/// The mode of this word.
+pub fn mode_of_word(word: &str) -> Option<Mode>
     ensures found { IfSome result (λ mode. word.now ≡ mode_word mode) }
     ensures none { IfNone result ((mode : Mode) → word.now ≡ mode_word mode → ⊥) }
 {

@@ -80,7 +80,7 @@ impl Status {
         match self {
             Status::Done => None,
             Status::Usage => Some(
-                "unknown words; use `overstore run full` or `run delta` or `overstore --help`",
+                "unknown words; use `overstore run full`, `run delta`, `load MODE NUMBER COUNT` or `--help`",
             ),
             Status::BadLine => Some(
                 "standard output names a bad line; what was answered before lasts; correct it and run the rest",

@@ -5,6 +5,7 @@
 mod disks;
 mod faults;
 mod full;
+mod loads;
 mod running;
 mod stops;
 mod tags;
