@@ -1,6 +1,6 @@
 """Runs the program where `run` can't be run in a proof: every exit status over real files, standard
 streams that are closed at the start, files that are folders, two programs at once, a stop after each
-write of a grant, and 300 kills.
+write of a grant, 300 kills, and two loads of one number, which print the same.
 
 Run, after `rt run` has built the program: python3 tools/program_cases.py crates/overstore/out/overstore
 """
@@ -40,6 +40,12 @@ def run(folder, script=b"", mode="delta", **streams):
     return done.returncode, done.stdout
 
 
+def load(folder, *words):
+    """The status of a load, and what it put."""
+    done = subprocess.run([PROGRAM, "load", *words], cwd=folder, stdin=subprocess.DEVNULL, capture_output=True)
+    return done.returncode, done.stdout
+
+
 def expect(found, status, lines):
     assert found == (status, lines), (found, status, lines)
 
@@ -61,6 +67,21 @@ def good_and_bad_scripts():
     assert (folder / "store.book").stat().st_size == 101
     expect(run(folder, b"epoch\n"), 0, b"epoch 2\nend epoch 2\n")
     expect(run(folder, mode="half"), 2, b"error usage\n")
+
+
+def loads():
+    for words in (["full", "01", "5"], ["full", "18446744073709551616", "5"], ["full", "1", "0"], ["full", "1", "20001"]):
+        folder = new_folder()
+        expect(load(folder, *words), 2, b"error usage\n")
+        assert not (folder / "store.book").exists()
+    folder = new_folder()
+    status, lines = load(folder, "delta", "7", "2000")
+    assert status == 0
+    expect(load(new_folder(), "delta", "7", "2000"), 0, lines)
+    values = dict(line.split(" ", 1) for line in lines.decode().splitlines())
+    assert list(values) == ["load", "ok", "refused", "bytes", "lists", "epoch", "sha256"]
+    assert sum(int(values[word]) for word in ("ok", "refused", "bytes", "lists")) == 2_008
+    expect(run(folder), 0, b"end epoch %s\n" % values["epoch"].encode())
 
 
 def a_script_that_is_too_long():
@@ -284,6 +305,7 @@ def killed_at_random():
 
 cases = [
     good_and_bad_scripts,
+    loads,
     a_script_that_is_too_long,
     disks_that_fail,
     reads_that_fail,

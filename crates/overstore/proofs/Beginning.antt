@@ -190,7 +190,7 @@ module _ {D : Type 0} (reads : D → Option Image) (may_leave : D → Image → 
           serves.bytes ∙ ap (λ (x : Masters). Rattle.ov_history.specs.Sealed.stored_of x.surface (sealed k p)) masters,
         )
 
-    begun_holds : (i : Image) × (reads m.disk ≡ Some i) → Holds reads may_leave k p m.disk
+    pub begun_holds : (i : Image) × (reads m.disk ≡ Some i) → Holds reads may_leave k p m.disk
     begun_holds told = record {
       told = told;
       each = λ c left. subst (λ (x : Masters). Keeps (keys_of x) (sealed k p) c) masters (serves.disk sound told.0 told.1 c left);
@@ -237,12 +237,12 @@ module _ {D : Type 0} (reads : D → Option Image) (may_leave : D → Image → 
   -- what was opened stands for the history
   module _ (m : KeptOn D) (s : Opened D) (is : opened_of m ≡ s) (masters : m.kept.masters ≡ k) (fresh : IsNew (keys_of k) mode s)
       (found : Told (reads first) (λ i. FindsPlain reads may_leave k mode i s) × StaysTold (reads first) (reads s.disk)) where
-    serves : Serves reads may_leave (sealed k p) (opened_of m)
+    pub serves : Serves reads may_leave (sealed k p) (opened_of m)
     serves =
         subst (λ (o : Opened D). Serves reads may_leave (sealed k p) o) (sym is)
         ((found.0 opens.image opens.told).each p opens.mode_is opens.stands)
 
-    sound : m.failed ≡ false
+    pub sound : m.failed ≡ false
     sound = ap (λ (o : Opened D). o.failed) is ∙ fresh.1
 
     pub over_stands : StandsFor m.kept p
@@ -251,7 +251,7 @@ module _ {D : Type 0} (reads : D → Option Image) (may_leave : D → Image → 
 module _ {D : Type 0} (reads : D → Option Image) (may_leave : D → Image → Type 0)
     (moment : D → ℕ) (left_since : D → ℕ → Image → Type 0) (k : Masters) (mode : Mode) (p : PlainHistory)
     (first : D) (opens : OpensAs reads may_leave k mode p first) (input old new : Option (List ℕ)) (status : ℕ) where
-  leaves_plain : (last : D) → LeavesHistory reads may_leave moment left_since (keys_of k) mode first last → LeavesOnly moment left_since first last (StandsForPlain k p)
+  pub leaves_plain : (last : D) → LeavesHistory reads may_leave moment left_since (keys_of k) mode first last → LeavesOnly moment left_since first last (StandsForPlain k p)
   leaves_plain last any = any opens.image opens.told opens.settled (sealed k p) opens.mode_is opens.stands
 
   pub over_refused : (last : D) (fault : BeginFault) → Told (reads first) (λ i. Refuses k mode i fault)
@@ -269,10 +269,10 @@ module _ {D : Type 0} (reads : D → Option Image) (may_leave : D → Image → 
   module _ (m : KeptOn D) (s : Opened D) (is : opened_of m ≡ s) (masters : m.kept.masters ≡ k) (fresh : IsNew (keys_of k) mode s)
       (found : Told (reads first) (λ i. FindsPlain reads may_leave k mode i s) × StaysTold (reads first) (reads s.disk))
       (any : LeavesHistory reads may_leave moment left_since (keys_of k) mode first s.disk) where
-    told : (i : Image) × (reads m.disk ≡ Some i)
+    pub told : (i : Image) × (reads m.disk ≡ Some i)
     told = subst (λ (o : Opened D). (i : Image) × (reads o.disk ≡ Some i)) (sym is) (found.1 opens.image opens.told)
 
-    leaves : LeavesOnly moment left_since first m.disk (StandsForPlain k p)
+    pub leaves : LeavesOnly moment left_since first m.disk (StandsForPlain k p)
     leaves = subst (λ (o : Opened D). LeavesOnly moment left_since first o.disk (StandsForPlain k p)) (sym is) (leaves_plain s.disk any)
 
     pub over_begun : (last : D)

@@ -42,7 +42,7 @@ runs_well reads may_leave disk words (Some file) (Some text) P Q R S printed dec
 -- This is how a loan shows its disk.
 module _ {L D : Type 0} (now : L → D) (reads : D → Option Image) (may_leave : D → Image → Type 0)
     (moment : D → ℕ) (left_since : D → ℕ → Image → Type 0) where
-  lent_opens : (k : Masters) (mode : Mode) (p : PlainHistory) (loan : L) → OpensAs reads may_leave k mode p (now loan)
+  pub lent_opens : (k : Masters) (mode : Mode) (p : PlainHistory) (loan : L) → OpensAs reads may_leave k mode p (now loan)
       → OpensAs (λ l. reads (now l)) (λ l. may_leave (now l)) k mode p loan
   lent_opens k mode p loan o =
       record { image = o.image; told = o.told; settled = o.settled; legal = o.legal; mode_is = o.mode_is; stands = o.stands }

@@ -9,6 +9,8 @@ pub mod Granting
 pub mod Judging
 pub mod KeyFiles
 pub mod Lending
+pub mod LendingLoads
+pub mod LoadEnds
 pub mod NamesIn
 pub mod Owning
 pub mod Pacing
@@ -19,3 +21,4 @@ pub mod Stored
 pub mod Surviving
 pub mod TwoWords
 pub mod Updating
+pub mod WorkloadSteps

@@ -37,7 +37,7 @@ use Rattle.overstore.proofs.Reading.{take_whole}
 -- ---- tokens
 
 -- after each legal history the published tokens are the matrix
-publishes_matrix : (k : Masters) (p : PlainHistory) → IsLegal (history_of p) → PublishesMatrix k p
+pub publishes_matrix : (k : Masters) (p : PlainHistory) → IsLegal (history_of p) → PublishesMatrix k p
 publishes_matrix k p legal =
     let true_tokens = tokens_are_true k p legal in record {
       tokens = true_tokens;

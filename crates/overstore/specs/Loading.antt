@@ -18,8 +18,8 @@ use Rattle.overstore.specs.Answering.{EndsIn, EndsOr}
 use Rattle.overstore.specs.Disks.{Holds, KeepsPlain, OpensAs, PublishesMatrix, StandsForPlain}
 use Rattle.overstore.specs.LoadWords.{IsLoad}
 use Rattle.overstore.specs.Machine.{AreMasters, GoesOn, KeptOn, LeavesStep, StandsFor}
-use Rattle.overstore.specs.Printing.{disk_line, read_line}
-use Rattle.overstore.specs.Summary.{load_lines}
+use Rattle.overstore.specs.Printing.{disk_line, memory_line, read_line}
+use Rattle.overstore.specs.Summary.{IsSummary, load_lines}
 use Rattle.overstore.specs.Tallying.{Takes, counted, counted_all, none_counted}
 use Rattle.overstore.specs.declared.fault.StepFault.{StepFault}
 use Rattle.overstore.specs.declared.fault.StepFault.TheVariants.{Disk, Memory, Tag}
@@ -62,6 +62,13 @@ abbrev pub EndsLoad : Load → PlainHistory → Option (List ℕ) → Option (Li
 EndsLoad load h old new status =
     EndsOr (load_lines load h) 0 old new status
     ⊎ (EndsIn disk_line 4 old new status ⊎ EndsIn read_line 5 old new status)
+
+-- The lines of a load whose replies were tallied so were put, or a front of them; or the one that
+-- says that memory was refused for them.
+abbrev pub PutsSummary : Load → Tally → ℕ → Option (List ℕ) → Option (List ℕ) → ℕ → Type 0
+PutsSummary load tally epoch old new status =
+    ((text : List ℕ) × IsSummary load tally epoch text × EndsIn text 0 old new status)
+    ⊎ EndsIn memory_line 7 old new status
 
 -- where no count of faults rose the load was answered to its end, but for memory that was refused
 abbrev pub IsComplete : ℕ → Type 0 → Type 0 → Type 0 → Type 0

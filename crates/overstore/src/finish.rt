@@ -1,15 +1,13 @@
 //! The last line of a run, and its status.
-ghost use Rattle.std.specs.Prelude.{◌≡◌, ◌≢◌, ◌⊎◌, ◌≤◌, ◌++◌, ℕ, List};
+ghost use Rattle.std.specs.Prelude.{◌≡◌, ◌≢◌, ◌⊎◌, ◌≤◌};
 ghost use Rattle.ov_base.specs.Causes.{Rose};
 ghost use Rattle.ov_script.specs.Lines.{reply_line};
 ghost use Rattle.ov_script.specs.declared.reply.Reply.TheVariants.{End as EndReply};
-ghost use Rattle.sha2.specs.Hashers.{Holds256};
-ghost use Rattle.sha2.specs.Sha256.{sha256};
 ghost use Rattle.overstore.specs.Answering.{EndsIn, EndsOr, Finishes};
 ghost use Rattle.overstore.specs.Faults.{fault_line, fault_status, tag_line};
+ghost use Rattle.overstore.specs.Loading.{PutsSummary};
 ghost use Rattle.overstore.specs.Printing.{bad_line, memory_line};
 ghost use Rattle.overstore.specs.Status.{status_code};
-ghost use Rattle.overstore.specs.Summary.{seven_lines};
 
 use crate::answer::Stop;
 use crate::fault::BadTag;
@@ -69,9 +67,7 @@ pub fn put_summary<O: Sink>(
     epoch: u32,
     out: &mut O,
 ) -> u8
-    ensures ends { (hashed : List ℕ) → Holds256 tally.hasher hashed
-        → EndsOr (seven_lines load.now tally.counts epoch
-        (sha256 (hashed ++ reply_line (EndReply epoch)))) 0
+    ensures ends { PutsSummary load.now tally epoch
         (O.written out.old) (O.written out.new) result }
     ensures later { O.faults out.old ≤ O.faults out.new }
     ensures write { result ≡ 6 → Rose (O.faults out.old) (O.faults out.new) }

@@ -1,0 +1,168 @@
+-- A workload that is answered command by command.
+use Rattle.std.proofs.Common.{◌≡◌, inl, inr, ℕ, suc, ◌+◌, ◌<◌, ◌≤◌, List, [], ◌∷◌, ◌++◌, refl, sym, ◌∙◌, ap, subst, arith, Option}
+use Rattle.std.specs.Prelude.{Result, Ok, Err}
+use Rattle.sha2.specs.Hashers.{Holds256}
+use Rattle.ov_disk.specs.Disk.{Image}
+use Rattle.ov_disk.specs.Moments.{LeavesOnly}
+use Rattle.ov_disk.proofs.Runs.{started, then_on}
+use Rattle.ov_script.specs.declared.command.Command.{Command}
+use Rattle.ov_script.specs.declared.drawn.TheConstants.{MAX_WORKLOAD, WORKLOAD_USERS}
+use Rattle.ov_script.specs.declared.next.Next.TheVariants.{Command as Next-Command}
+use Rattle.ov_script.specs.declared.reply.Reply.{Reply}
+use Rattle.ov_script.specs.declared.reply.Reply.TheVariants.{Accepted, Bytes, List as Listed, Epoch as EpochIs, Refused, End}
+use Rattle.ov_script.specs.Lines.{reply_line}
+use Rattle.ov_script.specs.Workload.{command_at, first_commands}
+use Rattle.ov_script.proofs.WorkloadItems.{said}
+use Rattle.ov_history.specs.Masters.{Masters}
+use Rattle.ov_history.specs.Plain.{PlainHistory}
+use Rattle.ov_model.specs.Lines.{lines}
+use Rattle.ov_model.specs.Step.{after, after_all, reply_to}
+use Rattle.ov_model.proofs.Runs.{after_all-more, lines-more}
+use Rattle.overstore.specs.Disks.{Holds, KeepsPlain, KeepsStep}
+use Rattle.overstore.specs.Loading.{KeepsSome, LoadedTo, Loads, TalliesAt, after_first}
+use Rattle.overstore.specs.Machine.{GoesOn, IsCommand, KeptOn, LeavesStep, StandsFor, StepsAt}
+use Rattle.overstore.specs.Tallying.{AreAtMost, Takes, TalliesNothing, counted, counted_all}
+use Rattle.overstore.specs.declared.fault.BadTag.{BadTag}
+use Rattle.overstore.specs.declared.fault.StepFault.{StepFault}
+use Rattle.overstore.specs.declared.fault.StepFault.TheVariants.{Disk, Memory, Tag}
+use Rattle.overstore.specs.declared.load_words.Load.{Load}
+use Rattle.overstore.specs.declared.tally.Counts.{Counts}
+use Rattle.overstore.specs.declared.tally.Tally.{Tally}
+use Rattle.overstore.proofs.Answering.{commands_come}
+
+-- ---- counts
+
+counted_all-more : (n : Counts) (h : PlainHistory) (commands : List Command) (command : Command)
+    → counted_all n h (commands ++ command ∷ []) ≡ counted (counted_all n h commands) (reply_to (after_all h commands) command)
+counted_all-more n h [] command = refl
+counted_all-more n h (c ∷ commands) command = counted_all-more (counted n (reply_to h c)) (after h c) commands command
+
+-- one more reply adds one at most
+counted_low : (n : Counts) (most : ℕ) (r : Reply) → AreAtMost n most → AreAtMost (counted n r) (most + 1)
+counted_low n most (Accepted epoch) low =
+    record { accepted = omega (arith, low.accepted); refused = omega (arith, low.refused); given = omega (arith, low.given); listed = omega (arith, low.listed) }
+counted_low n most (Refused why) low =
+    record { accepted = omega (arith, low.accepted); refused = omega (arith, low.refused); given = omega (arith, low.given); listed = omega (arith, low.listed) }
+counted_low n most (Bytes user file bytes) low =
+    record { accepted = omega (arith, low.accepted); refused = omega (arith, low.refused); given = omega (arith, low.given); listed = omega (arith, low.listed) }
+counted_low n most (Listed file names) low =
+    record { accepted = omega (arith, low.accepted); refused = omega (arith, low.refused); given = omega (arith, low.given); listed = omega (arith, low.listed) }
+counted_low n most (EpochIs epoch) low =
+    record { accepted = omega (arith, low.accepted); refused = omega (arith, low.refused); given = omega (arith, low.given); listed = omega (arith, low.listed) }
+counted_low n most (End epoch) low =
+    record { accepted = omega (arith, low.accepted); refused = omega (arith, low.refused); given = omega (arith, low.given); listed = omega (arith, low.listed) }
+
+pub low_more : (a b : Counts) (most : ℕ) → AreAtMost a most → (reply : Reply) × (b ≡ counted a reply) → AreAtMost b (most + 1)
+low_more a b most low (reply, is) = subst (λ (n : Counts). AreAtMost n (most + 1)) (sym is) (counted_low a most reply low)
+
+pub low_none : (n : Counts) → n ≡ Rattle.overstore.specs.Tallying.none_counted → AreAtMost n 0
+low_none n is =
+    subst (λ (m : Counts). AreAtMost m 0) (sym is)
+    (record { accepted = omega arith; refused = omega arith; given = omega arith; listed = omega arith })
+
+-- what is low stays so below a higher bound
+pub low_so : (n : Counts) (most more : ℕ) → AreAtMost n most → most ≤ more → AreAtMost n more
+low_so n most more low le = record {
+  accepted = omega (arith, low.accepted, le);
+  refused = omega (arith, low.refused, le);
+  given = omega (arith, low.given, le);
+  listed = omega (arith, low.listed, le);
+}
+
+-- ---- commands
+
+-- the commands of a workload may come
+pub workload_comes : (number place : ℕ) (command : Command) → place < WORKLOAD_USERS + MAX_WORKLOAD → command ≡ command_at number place → IsCommand command
+workload_comes number place command low is =
+    subst IsCommand (sym is) (commands_come (Next-Command (command_at number place)) (command_at number place) (said number place low) refl)
+
+first_more : (number place next : ℕ) → next ≡ place + 1 → first_commands number next ≡ first_commands number place ++ command_at number place ∷ []
+first_more number place next is = let one : next ≡ suc place = omega (arith, is) in ap (first_commands number) one
+
+module _ {D : Type 0} (reads : D → Option Image) (may_leave : D → Image → Type 0)
+    (moment : D → ℕ) (left_since : D → ℕ → Image → Type 0) where
+  -- ---- one command
+
+  module _ (k : Masters) (h : PlainHistory) (command : Command) (before now : Tally) (first last : KeptOn D) where
+    -- it is answered and its reply tallied
+    pub tallied : {T : Type 0} (done : T) (reply : Reply) (line : List ℕ) → line ≡ reply_line reply
+        → StepsAt reads may_leave moment left_since k h command first last (Ok reply) → Takes before reply line now
+        → TalliesAt reads may_leave moment left_since k h command before now first last (Ok done)
+    tallied done reply line is (same, goes) takes =
+        (subst (λ (r : Reply). Takes before r (reply_line r) now) same (subst (λ (l : List ℕ). Takes before reply l now) is takes), goes)
+
+    -- memory is refused for its line
+    pub untold : {T : Type 0} (reply : Reply) → StepsAt reads may_leave moment left_since k h command first last (Ok reply)
+        → TalliesAt {T = T} reads may_leave moment left_since k h command before now first last (Err Memory)
+    untold reply (same, goes) = goes.leaves
+
+    -- it isn't answered
+    pub unanswered : {T : Type 0} (fault : StepFault) → ((c : Image) → left_since first.disk (moment first.disk) c → may_leave first.disk c)
+        → StepsAt reads may_leave moment left_since k h command first last (Err fault)
+        → TalliesAt {T = T} reads may_leave moment left_since k h command before now first last (Err fault)
+    unanswered Disk only_now steps = steps
+    unanswered Memory only_now steps =
+        λ holds. subst (λ (m : KeptOn D). LeavesStep reads may_leave moment left_since k h command first.disk m.disk) (sym steps) (record {
+          moments = started moment left_since may_leave first.disk (KeepsStep k h command) only_now (λ c left. inl (holds.each c left));
+          now = λ c left. inl (holds.each c left);
+        })
+    unanswered (Tag bad) only_now steps = absurd steps
+
+  -- ---- the commands so far
+
+  module _ (k : Masters) (h : PlainHistory) (load : Load) (first : KeptOn D) where
+    pub loads_none : (tally : Tally) → TalliesNothing tally → StandsFor first.kept h
+        → ((c : Image) → left_since first.disk (moment first.disk) c → may_leave first.disk c)
+        → LoadedTo reads may_leave moment left_since k h load 0 tally first first
+    loads_none tally none stands only_now = record {
+      counts = none.0;
+      hashed = none.1;
+      stands = stands;
+      holds = λ holds. holds;
+      moments = λ holds. started moment left_since may_leave first.disk (KeepsSome k h load) only_now
+          (λ c left. (0, omega arith, inr (holds.each c left)));
+    }
+
+    module _ (place next : ℕ) (is : next ≡ place + 1) (low : place < WORKLOAD_USERS + load.count) (before : Tally) (mid last : KeptOn D)
+        (s : LoadedTo reads may_leave moment left_since k h load place before first mid) where
+      abbrev command : Command
+      command = command_at load.number place
+
+      abbrev q : PlainHistory
+      q = after_first h load place
+
+      after_is : after_first h load next ≡ after q command
+      after_is = ap (after_all h) (first_more load.number place next is) ∙ after_all-more h (first_commands load.number place) command
+
+      step_some : (c : Image) → KeepsStep k q command c → KeepsSome k h load c
+      step_some c (inl keeps) = (place, omega (arith, low), inr keeps)
+      step_some c (inr keeps) = (next, omega (arith, low, is), inr (subst (λ x. KeepsPlain k x c) (sym after_is) keeps))
+
+      moments_so : LeavesStep reads may_leave moment left_since k q command mid.disk last.disk → Holds reads may_leave k h first.disk
+          → LeavesOnly moment left_since first.disk last.disk (KeepsSome k h load)
+      moments_so leaves holds =
+          then_on moment left_since may_leave first.disk mid.disk last.disk (KeepsSome k h load) (KeepsStep k q command)
+          (s.moments holds) leaves.moments step_some
+
+      -- one more is answered
+      pub loads_more : {T : Type 0} (done : T) (now : Tally) → TalliesAt reads may_leave moment left_since k q command before now mid last (Ok done)
+          → LoadedTo reads may_leave moment left_since k h load next now first last
+      loads_more done now (takes, goes) = record {
+        counts = takes.0 ∙ ap (λ (n : Counts). counted n (reply_to q command)) s.counts
+            ∙ sym (counted_all-more _ h (first_commands load.number place) command)
+            ∙ ap (counted_all _ h) (sym (first_more load.number place next is));
+        hashed = subst (λ (l : List ℕ). Holds256 now.hasher l)
+            (sym (ap (lines h) (first_more load.number place next is) ∙ lines-more h (first_commands load.number place) command))
+            (takes.1 (lines h (first_commands load.number place)) s.hashed);
+        stands = subst (StandsFor last.kept) (sym after_is) goes.stands;
+        holds = λ holds. subst (λ x. Holds reads may_leave k x last.disk) (sym after_is) (goes.holds (s.holds holds));
+        moments = λ holds. moments_so (goes.leaves (s.holds holds)) holds;
+      }
+
+      -- or it isn't
+      pub loads_stop : {T : Type 0} (now : Tally) (fault : StepFault)
+          → TalliesAt {T = T} reads may_leave moment left_since k q command before now mid last (Err fault)
+          → Loads reads may_leave moment left_since k h load first last (Err fault)
+      loads_stop now Disk stops = λ holds. moments_so (stops (s.holds holds)) holds
+      loads_stop now Memory stops = λ holds. moments_so (stops (s.holds holds)) holds
+      loads_stop now (Tag bad) stops = absurd stops
