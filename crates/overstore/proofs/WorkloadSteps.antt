@@ -108,6 +108,14 @@ module _ {D : Type 0} (reads : D → Option Image) (may_leave : D → Image → 
         })
     unanswered (Tag bad) only_now steps = absurd steps
 
+    pub unanswered_as : {T : Type 0} (result : Result T StepFault) (fault : StepFault) → result ≡ Err fault
+        → ((c : Image) → left_since first.disk (moment first.disk) c → may_leave first.disk c)
+        → StepsAt reads may_leave moment left_since k h command first last (Err fault)
+        → TalliesAt reads may_leave moment left_since k h command before now first last result
+    unanswered_as {T} result fault is only_now steps =
+        subst (λ (r : Result T StepFault). TalliesAt reads may_leave moment left_since k h command before now first last r) (sym is)
+        (unanswered fault only_now steps)
+
   -- ---- the commands so far
 
   module _ (k : Masters) (h : PlainHistory) (load : Load) (first : KeptOn D) where
