@@ -1,5 +1,5 @@
 -- A workload that is answered command by command.
-use Rattle.std.proofs.Common.{◌≡◌, inl, inr, ℕ, suc, ◌+◌, ◌<◌, ◌≤◌, List, [], ◌∷◌, ◌++◌, refl, sym, ◌∙◌, ap, subst, arith, Option}
+use Rattle.std.proofs.Common.{◌≡◌, inl, inr, ℕ, suc, ◌+◌, ◌<◌, ◌≤◌, List, [], ◌∷◌, ◌++◌, refl, sym, ◌∙◌, ap, subst, arith, Option, Some}
 use Rattle.std.specs.Prelude.{Result, Ok, Err}
 use Rattle.sha2.specs.Hashers.{Holds256}
 use Rattle.ov_disk.specs.Disk.{Image}
@@ -11,7 +11,7 @@ use Rattle.ov_script.specs.declared.next.Next.TheVariants.{Command as Next-Comma
 use Rattle.ov_script.specs.declared.reply.Reply.{Reply}
 use Rattle.ov_script.specs.declared.reply.Reply.TheVariants.{Accepted, Bytes, List as Listed, Epoch as EpochIs, Refused, End}
 use Rattle.ov_script.specs.Lines.{reply_line}
-use Rattle.ov_script.specs.Workload.{command_at, first_commands}
+use Rattle.ov_script.specs.Workload.{Gives, Progress, command_at, first_commands}
 use Rattle.ov_script.proofs.WorkloadItems.{said}
 use Rattle.ov_history.specs.Masters.{Masters}
 use Rattle.ov_history.specs.Plain.{PlainHistory}
@@ -91,22 +91,17 @@ module _ {D : Type 0} (reads : D → Option Image) (may_leave : D → Image → 
     tallied done reply line is (same, goes) takes =
         (subst (λ (r : Reply). Takes before r (reply_line r) now) same (subst (λ (l : List ℕ). Takes before reply l now) is takes), goes)
 
-    -- memory is refused for its line
-    pub untold : {T : Type 0} (reply : Reply) → StepsAt reads may_leave moment left_since k h command first last (Ok reply)
-        → TalliesAt {T = T} reads may_leave moment left_since k h command before now first last (Err Memory)
-    untold reply (same, goes) = goes.leaves
-
     -- it isn't answered
-    pub unanswered : {T : Type 0} (fault : StepFault) → ((c : Image) → left_since first.disk (moment first.disk) c → may_leave first.disk c)
+    unanswered : (T : Type 0) (fault : StepFault) → ((c : Image) → left_since first.disk (moment first.disk) c → may_leave first.disk c)
         → StepsAt reads may_leave moment left_since k h command first last (Err fault)
-        → TalliesAt {T = T} reads may_leave moment left_since k h command before now first last (Err fault)
-    unanswered Disk only_now steps = steps
-    unanswered Memory only_now steps =
+        → TalliesAt reads may_leave moment left_since {T = T} k h command before now first last (Err fault)
+    unanswered T Disk only_now steps = steps
+    unanswered T Memory only_now steps =
         λ holds. subst (λ (m : KeptOn D). LeavesStep reads may_leave moment left_since k h command first.disk m.disk) (sym steps) (record {
           moments = started moment left_since may_leave first.disk (KeepsStep k h command) only_now (λ c left. inl (holds.each c left));
           now = λ c left. inl (holds.each c left);
         })
-    unanswered (Tag bad) only_now steps = absurd steps
+    unanswered T (Tag bad) only_now steps = absurd steps
 
     pub unanswered_as : {T : Type 0} (result : Result T StepFault) (fault : StepFault) → result ≡ Err fault
         → ((c : Image) → left_since first.disk (moment first.disk) c → may_leave first.disk c)
@@ -114,7 +109,7 @@ module _ {D : Type 0} (reads : D → Option Image) (may_leave : D → Image → 
         → TalliesAt reads may_leave moment left_since k h command before now first last result
     unanswered_as {T} result fault is only_now steps =
         subst (λ (r : Result T StepFault). TalliesAt reads may_leave moment left_since k h command before now first last r) (sym is)
-        (unanswered fault only_now steps)
+        (unanswered T fault only_now steps)
 
   -- ---- the commands so far
 
@@ -168,9 +163,41 @@ module _ {D : Type 0} (reads : D → Option Image) (may_leave : D → Image → 
       }
 
       -- or it isn't
-      pub loads_stop : {T : Type 0} (now : Tally) (fault : StepFault)
-          → TalliesAt {T = T} reads may_leave moment left_since k q command before now mid last (Err fault)
+      loads_stop : (T : Type 0) (now : Tally) (fault : StepFault)
+          → TalliesAt reads may_leave moment left_since {T = T} k q command before now mid last (Err fault)
           → Loads reads may_leave moment left_since k h load first last (Err fault)
-      loads_stop now Disk stops = λ holds. moments_so (stops (s.holds holds)) holds
-      loads_stop now Memory stops = λ holds. moments_so (stops (s.holds holds)) holds
-      loads_stop now (Tag bad) stops = absurd stops
+      loads_stop T now Disk stops = λ holds. moments_so (stops (s.holds holds)) holds
+      loads_stop T now Memory stops = λ holds. moments_so (stops (s.holds holds)) holds
+      loads_stop T now (Tag bad) stops = absurd stops
+
+    -- ---- by what the workload gives
+
+    module _ (w next : Progress) (command : Command) (numbers : w.number ≡ load.number) (counts : w.count ≡ load.count) (gives : Gives w (Some command) next)
+        (before now : Tally) (mid last : KeptOn D) (masters : mid.kept.masters ≡ k) (s : LoadedTo reads may_leave moment left_since k h load w.place before first mid) where
+      abbrev AreTallies : {T : Type 0} → Result T StepFault → Type 0
+      AreTallies r =
+          (j : Masters) (q : PlainHistory) → mid.kept.masters ≡ j → StandsFor mid.kept q
+          → TalliesAt reads may_leave moment left_since j q command before now mid last r
+
+      next_is : next.place ≡ w.place + 1
+      next_is = ap (λ (x : Progress). x.place) gives.2
+
+      low : w.place < WORKLOAD_USERS + load.count
+      low = omega (arith, gives.0, counts)
+
+      tallies_so : {T : Type 0} (r : Result T StepFault) → AreTallies r
+          → TalliesAt reads may_leave moment left_since k (after_first h load w.place) (command_at load.number w.place) before now mid last r
+      tallies_so r tallies =
+          subst (λ c. TalliesAt reads may_leave moment left_since k (after_first h load w.place) c before now mid last r)
+          (gives.1 ∙ ap (λ n. command_at n w.place) numbers) (tallies k (after_first h load w.place) masters s.stands)
+
+      pub goes_on : {T : Type 0} (done : T) → AreTallies (Ok done) → LoadedTo reads may_leave moment left_since k h load next.place now first last
+      goes_on done tallies = loads_more w.place next.place next_is low before mid last s done now (tallies_so (Ok done) tallies)
+
+      pub stops : {T : Type 0} (r : Result T StepFault) (fault : StepFault) → r ≡ Err fault → AreTallies r
+          → (result : Result Tally StepFault) → result ≡ Err fault → Loads reads may_leave moment left_since k h load first last result
+      stops {T} r fault at tallies result is =
+          let stopped = subst (λ (x : Result T StepFault). TalliesAt reads may_leave moment left_since k (after_first h load w.place)
+          (command_at load.number w.place) before now mid last x) at (tallies_so r tallies) in
+          subst (λ (x : Result Tally StepFault). Loads reads may_leave moment left_since k h load first last x) (sym is)
+          (loads_stop w.place next.place next_is low before mid last s T now fault stopped)

@@ -1,4 +1,4 @@
-use Rattle.std.proofs.Common.{rules}
+use Rattle.std.proofs.Common.{rules, ℕ}
 use Rattle.overstore.proofs.WorkloadSteps.{tallied, unanswered_as}
 use Rattle.overstore.proofs.loading.answer.Goals as goal
 
@@ -9,5 +9,5 @@ returns-in_err-reply-clause-answer g c = λ k h at stands.
 
 pub returns-clause-answer : goal.returns-clause-answer
 returns-clause-answer g c = λ k h at stands.
-    tallied g.D.Disk.reads g.D.Disk.may_leave g.D.Disk.moment g.D.Disk.left_since k h c.args.command _ _ _ _ 0 c.in_ok-reply.reply c.deref.result.now (search rules)
+    tallied g.D.Disk.reads g.D.Disk.may_leave g.D.Disk.moment g.D.Disk.left_since k h c.args.command _ _ _ _ {T = ℕ} 0 c.in_ok-reply.reply c.deref.result.now (search rules)
     (c.in_ok-reply.ensures.steps k h at stands) c.take.ensures
