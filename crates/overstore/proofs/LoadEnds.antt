@@ -72,8 +72,8 @@ no_tag reads may_leave moment left_since k h load first last fault bad is loads 
 
 -- of two causes it is the other one
 pub wrote : (P Q : Type 0) → (P → ⊥) → P ⊎ Q → Q
-wrote P Q no (inl p) = absurd (no p)
-wrote P Q no (inr q) = q
+wrote P Q never (inl p) = absurd (never p)
+wrote P Q never (inr q) = q
 
 -- nor does a disk that doesn't open
 begin_not : (fault : BeginFault) → (fault_status fault ≡ 3 → ⊥) × (fault_status fault ≡ 11 → ⊥)
