@@ -1,6 +1,6 @@
 use Rattle.std.proofs.Common.{MutBor, inr, refl, rules}
 use Rattle.overstore.proofs.LendingLoads.{load_image, load_well}
-use Rattle.overstore.proofs.Running.{judged_so, judged_unasked, words_refused}
+use Rattle.overstore.proofs.Running.{judged_so, judged_unasked, not_usage, words_known, words_refused}
 use Rattle.overstore.proofs.load.load.Goals as goal
 
 pub returns-in-Some-clause-opened : goal.returns-in-Some-clause-opened
@@ -46,3 +46,7 @@ returns-in-None-clause-keys g c =
 
 pub returns-in-None-clause-words : goal.returns-in-None-clause-words
 returns-in-None-clause-words g c = words_refused _ _ _ _ _ c.in-None.ensures.none (refl, refl) c.put_last.ensures.ends
+
+pub returns-in-Some-clause-words : goal.returns-in-Some-clause-words
+returns-in-Some-clause-words g c =
+    words_known _ _ _ _ _ (λ other. other c.in-Some.load c.in-Some.ensures.found) (not_usage _ c.load_with_keys-code.ensures.status.0)

@@ -64,6 +64,7 @@ returns-in-Err-clause-causes g c =
       tag = finish_tag ((h : PlainHistory) → StandsFor c.args.machine.now.kept h → ⊥) _ _ _ _ _ _ finished ([], Appends-nil _)
           (λ bad is. let wrong = tag_only c.in-Err.fault bad is in (
             step.tag bad (ap Err wrong),
-            λ h stands. no_tag g.D.Disk.reads g.D.Disk.may_leave g.D.Disk.moment g.D.Disk.left_since _ h c.args.load.now _ _ _ bad wrong (c.in-Err.ensures.loads h stands),
+            λ h stands. no_tag g.D.Disk.reads g.D.Disk.may_leave g.D.Disk.moment g.D.Disk.left_since _ h c.args.load.now
+                c.args.machine.now c.answer_workload.new.machine c.in-Err.fault bad wrong (c.in-Err.ensures.loads h stands),
           ));
     }
