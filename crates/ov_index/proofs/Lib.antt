@@ -1,0 +1,6 @@
+pub mod OrderLaws
+pub mod PlaceLaws
+pub mod NodeLaws
+pub mod SortedLists
+pub mod LargerFirst
+pub mod KeepSteps
