@@ -4,3 +4,4 @@ pub mod NodeLaws
 pub mod SortedLists
 pub mod LargerFirst
 pub mod KeepSteps
+pub mod AddLaws
