@@ -1,7 +1,7 @@
 //! Two graphs with the same sets and edges give the same answers, and the same calls keep them so,
 //! however each is kept.
 ghost use Rattle.std.specs.Prelude.{◌≡◌, ◌≤◌, ◌+◌, true, length, IfOk, OnOk};
-ghost use Rattle.ov_base.specs.declared.limits.TheConstants.{MAX_LAYER_NODES};
+ghost use Rattle.ov_base.specs.declared.limits.TheConstants.{MAX_LAYER_NODES, MAX_SET_WORDS};
 ghost use Rattle.ov_graph.specs.Contents.{HasNode};
 ghost use Rattle.ov_index.specs.Agreement.{Agree};
 
@@ -60,6 +60,7 @@ fn node_alike<L: Layer, A: Graph<L, W>, B: Graph<L, W>, const W: usize>(
     other: &B,
     node: u32,
 ) -> bool
+    requires width { (1 ≤ W) × (W ≤ MAX_SET_WORDS) }
     requires same { Agree (A.contents one.now) (B.contents other.now) }
     requires node { HasNode (A.contents one.now) node }
     ensures { result ≡ true }
@@ -78,6 +79,7 @@ pub fn answer_alike<L: Layer, A: Graph<L, W>, B: Graph<L, W>, const W: usize>(
     set: &UserSet<W>,
     root: u32,
 ) -> Result<bool, GraphRefusal>
+    requires width { (1 ≤ W) × (W ≤ MAX_SET_WORDS) }
     requires same { Agree (A.contents one.now) (B.contents other.now) }
     requires nodes { length (A.contents one.now).sets + length before.now ≤ MAX_LAYER_NODES }
     requires root { HasNode (A.contents one.now) root }
