@@ -62,7 +62,7 @@ module _ (all : List ℕ) (set : ℕ) (order : List ℕ) (i node earlier : ℕ) 
   pub covered_step : within earlier covered ≡ true → from2 ≡ from → covered2 ≡ covered
       → from2 ++ kept all covered2 (ahead all set order (i + 1)) ≡ from ++ kept all covered (ahead all set order i)
   covered_step done same still = by_test (is_candidate set earlier) refl where
-      by_test : (b : Bool) → is_candidate set earlier ≡ b
-          → from2 ++ kept all covered2 (ahead all set order (i + 1)) ≡ from ++ kept all covered (ahead all set order i)
-      by_test true test = rw (with_it test, ← is, done, same, still, union_within_left earlier covered (within-Within earlier covered done)) refl
-      by_test false test = rw (without_it test, same, still) refl
+    by_test : (b : Bool) → is_candidate set earlier ≡ b
+        → from2 ++ kept all covered2 (ahead all set order (i + 1)) ≡ from ++ kept all covered (ahead all set order i)
+    by_test true test = rw (with_it test, ← is, done, same, still, union_within_left earlier covered (within-Within earlier covered done)) refl
+    by_test false test = rw (without_it test, same, still) refl

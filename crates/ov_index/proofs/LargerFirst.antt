@@ -41,9 +41,10 @@ module _ (sets : List ℕ) where
   same_size : (users : ℕ) (nodes : List ℕ) → Sorted (λ m n. m < n) nodes
       → ((n : ℕ) → Contains nodes n → size (get_or sets n 0) ≡ users) → Sorted (IsLarger sets) nodes
   same_size users [] up all = tt
-  same_size users (node ∷ nodes) up all =
-      (λ n there. let e = all node (0, omega arith, refl) in let f = all n (Contains-later node nodes n there) in (omega arith, λ same. up.0 n there),
-      same_size users nodes up.1 (λ n there. all n (Contains-later node nodes n there)))
+  same_size users (node ∷ nodes) up all = (
+    λ n there. let e = all node (0, omega arith, refl) in let f = all n (Contains-later node nodes n there) in (omega arith, λ same. up.0 n there),
+    same_size users nodes up.1 (λ n there. all n (Contains-later node nodes n there)),
+  )
 
   -- those that come later are smaller
   larger-size : (users : ℕ) (nodes : List ℕ) (x : ℕ) → Contains (larger_first sets users nodes) x
@@ -82,15 +83,15 @@ in_cover_order sets set order below =
     (filter-Sorted (IsLarger sets) (candidate_at sets set) order (ascends-Sorted (IsLarger sets) order below.ascends))
     (larger-Sorted sets (size set) (candidates_from set 0 sets) (by_number set 0 sets))
     (λ n there.
-      let test = kept_passes (candidate_at sets set) order n there in
-      let (k, inside, is) = Contains-place order n (Contains-filter (candidate_at sets set) order n there) in
-      let few : n < length sets = subst (λ m. m < length sets) is (below.inside k 0 inside) in
-      to_larger sets (size set) _ n (to_candidates set 0 sets n n few (omega arith) test) (candidate-size set (get_or sets n 0) test))
+    let test = kept_passes (candidate_at sets set) order n there in
+    let (k, inside, is) = Contains-place order n (Contains-filter (candidate_at sets set) order n there) in
+    let few : n < length sets = subst (λ m. m < length sets) is (below.inside k 0 inside) in
+    to_larger sets (size set) _ n (to_candidates set 0 sets n n few (omega arith) test) (candidate-size set (get_or sets n 0) test))
     (λ n there.
-      let r = from_candidates set 0 sets n (from_larger sets (size set) _ n there) in
-      let here : n ≡ r.0 = omega (arith, r.2) in
-      let test : candidate_at sets set n ≡ true = subst (λ m. candidate_at sets set m ≡ true) (sym here) r.3 in
-      filter-Contains (candidate_at sets set) order n (below.whole n (omega (arith, r.1)) test) test)
+    let r = from_candidates set 0 sets n (from_larger sets (size set) _ n there) in
+    let here : n ≡ r.0 = omega (arith, r.2) in
+    let test : candidate_at sets set n ≡ true = subst (λ m. candidate_at sets set m ≡ true) (sym here) r.3 in
+    filter-Contains (candidate_at sets set) order n (below.whole n (omega (arith, r.1)) test) test)
 
 -- what stands from the place of a size on has all candidates of a set of the size
 pub order_below : (sets : List ℕ) (set : ℕ) (order : List ℕ) (first : ℕ)

@@ -31,10 +31,10 @@ before_none a b same p = true≢false (sym p ∙ ap (λ s. is_lt (set_cmp s b)) 
 -- of two sets the one comes before the other
 before_or_after : (a b : ℕ) → is_lt (set_cmp a b) ≡ false → a ≢ b → is_lt (set_cmp b a) ≡ true
 before_or_after a b not other = turned (set_cmp a b) refl not where
-    turned : (o : Ordering) → set_cmp a b ≡ o → is_lt o ≡ false → is_lt (set_cmp b a) ≡ true
-    turned Less is e = absurd (true≢false e)
-    turned Equal is e = absurd (other (set_cmp-same a b is))
-    turned Greater is e = ap is_lt (set_cmp-total.antisymm b a ∙ ap ordering_reverse is)
+  turned : (o : Ordering) → set_cmp a b ≡ o → is_lt o ≡ false → is_lt (set_cmp b a) ≡ true
+  turned Less is e = absurd (true≢false e)
+  turned Equal is e = absurd (other (set_cmp-same a b is))
+  turned Greater is e = ap is_lt (set_cmp-total.antisymm b a ∙ ap ordering_reverse is)
 
 -- ---- halves by sets
 

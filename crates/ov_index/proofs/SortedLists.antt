@@ -13,9 +13,10 @@ module _ (IsTo : ℕ → ℕ → Type 0) where
 
   pub ascends-Sorted : (xs : List ℕ) → Ascends IsTo xs → Sorted xs
   ascends-Sorted [] up = tt
-  ascends-Sorted (x ∷ xs) up =
-      (λ y there. let (k, below, is) = Contains-place xs y there in subst (IsTo x) is (up 0 (suc k) (omega arith) (omega arith)),
-      ascends-Sorted xs (λ i j less below. up (suc i) (suc j) (omega arith) (omega arith)))
+  ascends-Sorted (x ∷ xs) up = (
+    λ y there. let (k, below, is) = Contains-place xs y there in subst (IsTo x) is (up 0 (suc k) (omega arith) (omega arith)),
+    ascends-Sorted xs (λ i j less below. up (suc i) (suc j) (omega arith) (omega arith)),
+  )
 
   pub filter-Sorted : (p : ℕ → Bool) (xs : List ℕ) → Sorted xs → Sorted (filter p xs)
   filter-Sorted p [] up = tt
@@ -27,12 +28,13 @@ module _ (IsTo : ℕ → ℕ → Type 0) where
   pub append-Sorted : (xs ys : List ℕ) → Sorted xs → Sorted ys
       → ((x y : ℕ) → Contains xs x → Contains ys y → IsTo x y) → Sorted (xs ++ ys)
   append-Sorted [] ys up later across = later
-  append-Sorted (x ∷ xs) ys up later across =
-      (λ y there. elim (Contains-append_cases xs ys y there) [
-        | inl first ↦ up.0 y first
-        | inr second ↦ across x y (Contains-first x xs) second
-      ],
-      append-Sorted xs ys up.1 later (λ m n hm hn. across m n (Contains-later x xs m hm) hn))
+  append-Sorted (x ∷ xs) ys up later across = (
+    λ y there. elim (Contains-append_cases xs ys y there) [
+      | inl first ↦ up.0 y first
+      | inr second ↦ across x y (Contains-first x xs) second
+    ],
+    append-Sorted xs ys up.1 later (λ m n hm hn. across m n (Contains-later x xs m hm) hn),
+  )
 
   module _ (irreflexive : (x : ℕ) → IsTo x x → ⊥) (through : (x y z : ℕ) → IsTo x y → IsTo y z → IsTo x z) where
     -- the rests of two lists with one head have the same items, where the lists have

@@ -25,9 +25,11 @@ fn plan_alike<L: Layer, A: Graph<L, W>, B: Graph<L, W>, const W: usize>(
 {
     let cover = one.plan(alloc, before, set)?;
     let again = other.plan(alloc, before, set)?;
-    Ok(cover.node == again.node
-        && cover.fresh == again.fresh
-        && cover.from.as_slice() == again.from.as_slice())
+    Ok(
+        cover.node == again.node
+            && cover.fresh == again.fresh
+            && cover.from.as_slice() == again.from.as_slice(),
+    )
 }
 
 /// Whether both have the same chain between two nodes.

@@ -43,20 +43,34 @@ insert-requires g c =
     let is : c.deref.result.now ≡ sets ++ c.args.set.now ∷ [] = c.deref.ensures.value ∙ c.push_within-2.ensures.items ∙ ap (λ s. sets ++ s ∷ []) c.copy.ensures in
     let same = sym (ap (λ k. k.sets) c.self.view_is) in
     let plan : c.args.cover ≡ plan_of sets c.args.set.now = subst (λ s. c.args.cover ≡ plan_of s c.args.set.now) same c.requires.cover in
-    let next : c.len-node.result ≡ length sets = omega arith in
-    (search rules, (omega (arith, ap length is, length-append sets (c.args.set.now ∷ [])), (
-    still_by_set sets c.deref.result.now c.args.set.now c.len-node.result is next c.self.inside.by_set.items c.self.invariant.order_by_set, (
-    is_new sets c.deref.result.now c.args.set.now c.len-node.result is next (fresh_plan sets c.args.set.now c.args.cover plan c.requires.fresh).0,
-    omega (arith, c.requires.room.0, ap (λ k. k.spare_sets) c.self.view_is)))))
+    let next : c.len-node.result ≡ length sets = omega arith in (
+      search rules,
+      (
+        omega (arith, ap length is, length-append sets (c.args.set.now ∷ [])),
+        (
+          still_by_set sets c.deref.result.now c.args.set.now c.len-node.result is next c.self.inside.by_set.items c.self.invariant.order_by_set,
+          (
+            is_new sets c.deref.result.now c.args.set.now c.len-node.result is next (fresh_plan sets c.args.set.now c.args.cover plan c.requires.fresh).0,
+            omega (arith, c.requires.room.0, ap (λ k. k.spare_sets) c.self.view_is),
+          ),
+        ),
+      ),
+    )
 
 pub insert-requires-2 : goal.insert-requires-2
 insert-requires-2 g c =
     let sets : List ℕ = c.self.inside.sets.items in
     let is : c.deref-2.result.now ≡ sets ++ c.args.set.now ∷ [] = c.deref-2.ensures.value ∙ c.push_within-2.ensures.items ∙ ap (λ s. sets ++ s ∷ []) c.copy.ensures in
-    let next : c.len-node.result ≡ length sets = omega arith in
-    (search rules, (omega (arith, ap length is, length-append sets (c.args.set.now ∷ [])), (
-    still_by_size sets c.deref-2.result.now c.args.set.now c.len-node.result is next c.self.inside.by_size.items c.self.invariant.order_by_size,
-    omega (arith, c.requires.room.0, ap (λ k. k.spare_sets) c.self.view_is))))
+    let next : c.len-node.result ≡ length sets = omega arith in (
+      search rules,
+      (
+        omega (arith, ap length is, length-append sets (c.args.set.now ∷ [])),
+        (
+          still_by_size sets c.deref-2.result.now c.args.set.now c.len-node.result is next c.self.inside.by_size.items c.self.invariant.order_by_size,
+          omega (arith, c.requires.room.0, ap (λ k. k.spare_sets) c.self.view_is),
+        ),
+      ),
+    )
 
 pub invariant_of-self : goal.invariant_of-self
 invariant_of-self g c =
