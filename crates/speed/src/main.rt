@@ -1,8 +1,8 @@
 //! What `docs/PERFORMANCE.md` times: `speed` and one of these words:
-//! `pad`, `pages`, `short`, `tag`, `graph`, `list_graph`, `chain`, `journal`, `wire`, `copy`; a number
-//! of nodes, and then `find`, `list_find`, `plan` or `list_plan`, where `list_` is of the graph that
-//! looks at every node; `lengths`, which `tools/announced_lengths.sh` runs; and `cuts`, `plain` and
-//! `starts`, whose numbers `tools/pad_vectors.py` computes by OpenSSL.
+//! `pad`, `pages`, `short`, `tag`, `graph`, `chain`, `journal`, `wire`, `copy`; a number of nodes and
+//! then `fill`, `find` or `plan`, or these behind `list_`, over the graph that looks at every node;
+//! `lengths`, which `tools/announced_lengths.sh` runs; and `cuts`, `plain` and `starts`, whose numbers
+//! `tools/pad_vectors.py` computes by OpenSSL.
 //!
 //! Each does one piece of work and prints one line that shows that it was done. It is timed from outside.
 #![tactic(auto)]
@@ -67,8 +67,9 @@ fn main(rt: HostRuntime) -> Result<(), Fail> {
             "pad" => pad(alloc)?,
             "tag" => tag(alloc)?,
             "graph" => graph::chains::<Indexed>(alloc, 0)?,
-            "list_graph" => graph::chains::<Listed>(alloc, 0)?,
             "chain" => graph::chains::<Indexed>(alloc, 10_000)?,
+            "fill" => graph::finds::<Indexed>(alloc, nodes, 0)?,
+            "list_fill" => graph::finds::<Listed>(alloc, nodes, 0)?,
             "find" => graph::finds::<Indexed>(alloc, nodes, 100)?,
             "list_find" => graph::finds::<Listed>(alloc, nodes, 100)?,
             "plan" => graph::plans::<Indexed>(alloc, nodes, 100)?,
