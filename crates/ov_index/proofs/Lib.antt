@@ -6,3 +6,4 @@ pub mod LargerFirst
 pub mod KeepSteps
 pub mod AddLaws
 pub mod SameLists
+pub mod AgreementLaws

@@ -3,13 +3,22 @@
 ghost use Rattle.std.specs.Prelude.{◌≡◌, ◌≤◌, ◌+◌, true, length, IfOk, OnOk};
 ghost use Rattle.ov_base.specs.declared.limits.TheConstants.{MAX_LAYER_NODES, MAX_SET_WORDS};
 ghost use Rattle.ov_graph.specs.Contents.{HasNode};
-ghost use Rattle.ov_index.specs.Agreement.{Agree};
+ghost use Rattle.ov_index.specs.Agreement.{Agree, AnswerAlike, ArePut};
 
 use ov_base::{Key, Memory, UserSet};
 use ov_chain::shortest;
 use ov_graph::{Graph, GraphRefusal, has_roots, plan_and_add};
 use ov_tokens::Layer;
 use std::alloc::Global;
+
+/// Does nothing. Its contract is that two graphs with the same sets and edges have the same answers.
+pub fn graphs_answer_alike<L: Layer, A: Graph<L, W>, B: Graph<L, W>, const W: usize>(
+    one: &A,
+    other: &B,
+)
+    requires { Agree (A.contents one.now) (B.contents other.now) }
+    ensures { AnswerAlike L.label_kind (A.contents one.now) (B.contents other.now) }
+{}
 
 /// Whether both plan the same for a set that comes after theirs and those of `before`.
 fn plan_alike<L: Layer, A: Graph<L, W>, B: Graph<L, W>, const W: usize>(
@@ -70,7 +79,7 @@ fn node_alike<L: Layer, A: Graph<L, W>, B: Graph<L, W>, const W: usize>(
     one.set_of(node) == other.set_of(node) && one.in_tokens(node) == other.in_tokens(node)
 }
 
-/// Whether two graphs with the same sets and edges answer alike: they do. Asked are how many nodes
+/// Asks two graphs with the same sets and edges whether they answer alike, as they do: how many nodes
 /// there are, the node of a set, what is planned for it after the sets of `before`, and for that
 /// node its set, its edges and its chain from a root.
 pub fn answer_alike<L: Layer, A: Graph<L, W>, B: Graph<L, W>, const W: usize>(
@@ -98,8 +107,28 @@ pub fn answer_alike<L: Layer, A: Graph<L, W>, B: Graph<L, W>, const W: usize>(
     }
 }
 
-/// Puts the same sets into two graphs with the same sets and edges, each with tokens under the same
-/// master, and passes over those that have no roots. The graphs keep the same sets and edges.
+/// Puts sets into a graph, one after the other, each with tokens under the master, and passes over
+/// those whose users have no roots.
+fn put_each<L: Layer, G: Graph<L, W>, const W: usize>(
+    alloc: Global,
+    graph: &mut G,
+    master: &Key,
+    sets: &[UserSet<W>],
+) -> Result<(), GraphRefusal>
+    ensures { let old = G.contents graph.old in let new = G.contents graph.new in
+        OnOk result (ArePut L.label_kind master.now.bytes sets.now old new) }
+{
+    for set in sets {
+        if has_roots::<L, G, W>(graph, set) {
+            plan_and_add::<L, G, W>(alloc, graph, master, set)?;
+        }
+    }
+    Ok(())
+}
+
+/// Puts the same sets into two graphs with the same sets and edges, one after the other, each with
+/// tokens under the same master, and passes over those whose users have no roots. The graphs have
+/// the same sets and edges again.
 pub fn put_in_both<L: Layer, A: Graph<L, W>, B: Graph<L, W>, const W: usize>(
     alloc: Global,
     one: &mut A,
@@ -108,13 +137,11 @@ pub fn put_in_both<L: Layer, A: Graph<L, W>, B: Graph<L, W>, const W: usize>(
     sets: &[UserSet<W>],
 ) -> Result<(), GraphRefusal>
     requires same { Agree (A.contents one.old) (B.contents other.old) }
+    ensures put { let old = A.contents one.old in let new = A.contents one.new in
+        OnOk result (ArePut L.label_kind master.now.bytes sets.now old new) }
     ensures same { OnOk result (Agree (A.contents one.new) (B.contents other.new)) }
 {
-    for set in sets {
-        if has_roots::<L, A, W>(one, set) {
-            plan_and_add::<L, A, W>(alloc, one, master, set)?;
-            plan_and_add::<L, B, W>(alloc, other, master, set)?;
-        }
-    }
+    put_each::<L, A, W>(alloc, one, master, sets)?;
+    put_each::<L, B, W>(alloc, other, master, sets)?;
     Ok(())
 }

@@ -6,7 +6,7 @@
 //! sorts nothing, passes over the sets that are too large for it, and ends where its cover is whole.
 //!
 //! Whoever knows [`Graph`](ov_graph::Graph) alone can't tell the two graphs apart:
-//! [`answer_alike`] and [`put_in_both`] say so of any two.
+//! [`graphs_answer_alike`] and [`put_in_both`] say so of any two.
 #![tactic(auto)]
 
 mod agreement;
@@ -17,5 +17,5 @@ mod insertion;
 #[cfg(test)]
 mod tests;
 
-pub use agreement::{answer_alike, put_in_both};
+pub use agreement::{answer_alike, graphs_answer_alike, put_in_both};
 pub use index::IndexGraph;
