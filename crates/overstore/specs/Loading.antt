@@ -1,5 +1,6 @@
 -- What a load does: the commands of a stated workload are answered, and their replies tallied.
-use Rattle.std.specs.Prelude.{◌≡◌, ◌⊎◌, ℕ, ◌+◌, ◌≤◌, List, Option, Some, Result, Ok, Err, IfSome, String}
+use Rattle.std.specs.Prelude.{◌≡◌, ◌⊎◌, ℕ, ◌+◌, ◌≤◌, List, Option, Some, IfSome}
+use Rattle.std.specs.Prelude.{Result, Ok, Err, String}
 use Rattle.std.specs.declared.alloc.Global.{Global}
 use Rattle.sha2.specs.Hashers.{Holds256}
 use Rattle.ov_base.specs.declared.mode.Mode.{Mode}
