@@ -1,10 +1,12 @@
-"""Times the program over a script, each run in a folder of its own with no store, or over the store
-that the script leaves: the least user and system time, the least elapsed time, and the peak of memory.
+"""Times the program over a script or over a stated workload, each run in a folder of its own with no
+store, or over the store that the script leaves: the least user and system time, the least elapsed time,
+and the peak of memory.
 
 Run, after `rt run` has built the program:
 
     python3 tools/program_times.py PROGRAM full|delta SCRIPT [FOLDER]         # the script
     python3 tools/program_times.py PROGRAM full|delta SCRIPT [FOLDER] again   # an empty script behind it
+    python3 tools/program_times.py PROGRAM load full|delta NUMBER COUNT [FOLDER]
 
 FOLDER is where the stores are made: /dev/shm where it isn't given, in which a sync costs nothing.
 """
@@ -20,8 +22,12 @@ words = sys.argv[1:]
 again = words[-1] == "again"
 if again:
     words.pop()
-program, mode, script = pathlib.Path(words[0]).resolve(), words[1], pathlib.Path(words[2]).resolve()
-place = words[3] if len(words) > 3 else "/dev/shm"
+program, asked = pathlib.Path(words[0]).resolve(), words[1:5]
+if asked[0] == "load":
+    script, places = os.devnull, words[5:]
+else:
+    asked, script, places = ["run", words[1]], pathlib.Path(words[2]).resolve(), words[3:]
+place = places[0] if places else "/dev/shm"
 keys = pathlib.Path(__file__).resolve().parent.parent / "examples" / "keys.hex"
 
 
@@ -32,7 +38,7 @@ def timed(folder, text):
         os.chdir(folder)
         os.dup2(os.open(text, os.O_RDONLY), 0)
         os.dup2(os.open(os.devnull, os.O_WRONLY), 1)
-        os.execv(program, [str(program), "run", mode])
+        os.execv(program, [str(program), *asked])
     begun = time.monotonic()
     _, status, used = os.wait4(child, 0)
     elapsed = time.monotonic() - begun
