@@ -60,13 +60,7 @@ fn put_end<O: Sink>(alloc: Global, out: &mut O, epoch: u32) -> u8
 
 /// Puts the lines of a load whose replies were tallied, or the line that says that memory was
 /// refused for them.
-pub fn put_summary<O: Sink>(
-    alloc: Global,
-    load: &Load,
-    tally: Tally,
-    epoch: u32,
-    out: &mut O,
-) -> u8
+pub fn put_summary<O: Sink>(alloc: Global, load: &Load, tally: Tally, epoch: u32, out: &mut O) -> u8
     ensures ends { PutsSummary load.now tally epoch
         (O.written out.old) (O.written out.new) result }
     ensures later { O.faults out.old ≤ O.faults out.new }

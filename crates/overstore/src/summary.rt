@@ -65,12 +65,7 @@ fn lines_of(
 
 /// The lines of a load whose replies were tallied, at the end of its commands. The end line is
 /// hashed behind the reply lines.
-pub fn summary_of(
-    alloc: Global,
-    load: &Load,
-    tally: Tally,
-    epoch: u32,
-) -> Result<Vec<u8>, Memory>
+pub fn summary_of(alloc: Global, load: &Load, tally: Tally, epoch: u32) -> Result<Vec<u8>, Memory>
     ensures { IfOk result (λ lines. IsSummary load.now tally epoch lines.items) }
 {
     let Tally { counts, mut hasher } = tally;

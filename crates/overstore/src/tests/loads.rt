@@ -42,6 +42,18 @@ fn words_of_a_load(rt: HostRuntime) -> Result<(), Fail> {
 
 #[test]
 fn lines_of_loads(rt: HostRuntime) -> Result<(), Fail> {
-    assert_load(&rt, rt.alloc(), &["load", "full", "1", "3"], 0, b"load full 1 3\nok 9\nrefused 2\nbytes 0\nlists 0\nepoch 9\nsha256 2c280cab744477c3f48aaecfd25b73530423887e59fd0d70a1ea99df8914fda5\n")?;
-    assert_load(&rt, rt.alloc(), &["load", "delta", "7", "20"], 0, b"load delta 7 20\nok 18\nrefused 3\nbytes 2\nlists 5\nepoch 18\nsha256 558e96637949debe82cfe6e8f0ed4be19b0ce424f606958606506380dfed97fb\n")
+    assert_load(
+        &rt,
+        rt.alloc(),
+        &["load", "full", "1", "3"],
+        0,
+        b"load full 1 3\nok 9\nrefused 2\nbytes 0\nlists 0\nepoch 9\nsha256 2c280cab744477c3f48aaecfd25b73530423887e59fd0d70a1ea99df8914fda5\n",
+    )?;
+    assert_load(
+        &rt,
+        rt.alloc(),
+        &["load", "delta", "7", "20"],
+        0,
+        b"load delta 7 20\nok 18\nrefused 3\nbytes 2\nlists 5\nepoch 18\nsha256 558e96637949debe82cfe6e8f0ed4be19b0ce424f606958606506380dfed97fb\n",
+    )
 }

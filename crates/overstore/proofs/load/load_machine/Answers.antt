@@ -25,8 +25,10 @@ pub returns-in-Ok-clause-status : goal.returns-in-Ok-clause-status
 returns-in-Ok-clause-status g c =
     let ends = c.put_summary.ensures.ends in (
       summary_status _ _ _ _ _ _ ends,
-      (summary_not 3 _ _ _ _ _ _ ends (λ z. omega arith) (λ z. omega arith) (λ z. omega arith),
-      summary_not 11 _ _ _ _ _ _ ends (λ z. omega arith) (λ z. omega arith) (λ z. omega arith)),
+      (
+        summary_not 3 _ _ _ _ _ _ ends (λ z. omega arith) (λ z. omega arith) (λ z. omega arith),
+        summary_not 11 _ _ _ _ _ _ ends (λ z. omega arith) (λ z. omega arith) (λ z. omega arith),
+      ),
     )
 
 pub returns-in-Err-clause-status : goal.returns-in-Err-clause-status
