@@ -8,7 +8,7 @@ use Rattle.std.proofs.lemmas.Fmt.{decimal_injective, parse-decimal}
 use Rattle.ov_base.specs.declared.mode.Mode.{Mode}
 use Rattle.ov_base.specs.declared.mode.Mode.TheVariants.{Full, Delta}
 use Rattle.ov_script.specs.declared.drawn.TheConstants.{MAX_WORKLOAD}
-use Rattle.overstore.specs.LoadWords.{AreNoLoad, IsAsked, IsLoad, IsWorkload}
+use Rattle.overstore.specs.LoadWords.{AreNoLoad, IsAsked, IsLoad}
 use Rattle.overstore.specs.Words.{mode_word}
 use Rattle.overstore.specs.declared.load_words.Load.{Load}
 

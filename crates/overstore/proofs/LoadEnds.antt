@@ -1,9 +1,6 @@
 -- How a load ends, by how the answering of its commands did.
-use Rattle.std.proofs.Common.{◌≡◌, ◌⊎◌, inl, inr, ℕ, ◌+◌, ◌≤◌, List, [], ◌++◌, refl, sym, ◌∙◌, ap, subst, arith, Option, Some, None, Err, Ok, false}
-use Rattle.std.specs.Prelude.{IfSome, Result}
-use Rattle.std.proofs.KnownBytes.{Appends-nil}
+use Rattle.std.proofs.Common.{◌≡◌, ◌⊎◌, inl, inr, ℕ, ◌+◌, List, ◌++◌, refl, sym, ◌∙◌, ap, subst, arith, Option, Some, None, Err}
 use Rattle.sha2.specs.Sha256.{sha256}
-use Rattle.ov_base.specs.declared.mode.Mode.{Mode}
 use Rattle.ov_disk.specs.Disk.{Image, Told}
 use Rattle.ov_disk.specs.Moments.{LeavesOnly}
 use Rattle.ov_disk.proofs.Runs.{started, then_on, weaker}
@@ -35,7 +32,7 @@ use Rattle.overstore.specs.declared.fault.StepFault.TheVariants.{Disk, Memory, T
 use Rattle.overstore.specs.declared.load_words.Load.{Load}
 use Rattle.overstore.specs.declared.tally.Counts.{Counts}
 use Rattle.overstore.specs.declared.tally.Tally.{Tally}
-use Rattle.overstore.proofs.Beginning.{begun_holds, ends_in_fault, leaves, leaves_plain, over_stands, serves, sound, told}
+use Rattle.overstore.proofs.Beginning.{begun_holds, ends_in_fault, leaves, over_stands, serves, sound, told}
 use Rattle.overstore.proofs.Running.{ends_so, not_code, not_code_or, script_seven, script_six}
 use Rattle.overstore.proofs.Stepping.{shows}
 use Rattle.overstore.proofs.Surviving.{not_zero, publishes_matrix}

@@ -20,9 +20,8 @@ use Rattle.ov_model.specs.Step.{after, after_all, reply_to}
 use Rattle.ov_model.proofs.Runs.{after_all-more, lines-more}
 use Rattle.overstore.specs.Disks.{Holds, KeepsPlain, KeepsStep}
 use Rattle.overstore.specs.Loading.{KeepsSome, LoadedTo, Loads, TalliesAt, after_first}
-use Rattle.overstore.specs.Machine.{GoesOn, IsCommand, KeptOn, LeavesStep, StandsFor, StepsAt}
+use Rattle.overstore.specs.Machine.{IsCommand, KeptOn, LeavesStep, StandsFor, StepsAt}
 use Rattle.overstore.specs.Tallying.{AreAtMost, Takes, TalliesNothing, counted, counted_all}
-use Rattle.overstore.specs.declared.fault.BadTag.{BadTag}
 use Rattle.overstore.specs.declared.fault.StepFault.{StepFault}
 use Rattle.overstore.specs.declared.fault.StepFault.TheVariants.{Disk, Memory, Tag}
 use Rattle.overstore.specs.declared.load_words.Load.{Load}

@@ -1,6 +1,5 @@
 //! What is kept of the replies of a load: their counts, and the hash of their lines.
-ghost use Rattle.std.specs.Prelude.{◌≡◌, ◌-◌, ◌^◌, ◌++◌, []};
-ghost use Rattle.sha2.specs.Sha256.{sha256};
+ghost use Rattle.std.specs.Prelude.{◌≡◌, ◌-◌, ◌^◌};
 
 use ov_script::Reply;
 use sha2::{Digest, Sha256};

@@ -1,7 +1,6 @@
-use Rattle.std.proofs.Common.{ap, arith, inl, inr, refl, subst, sym, Err, [], ◌≡◌, ◌∙◌}
+use Rattle.std.proofs.Common.{ap, arith, sym, Err, [], ◌≡◌, ◌∙◌}
 use Rattle.std.proofs.KnownBytes.{Appends-nil}
 use Rattle.ov_history.specs.Plain.{PlainHistory}
-use Rattle.overstore.specs.Answering.{Finishes}
 use Rattle.overstore.specs.Machine.{StandsFor}
 use Rattle.overstore.specs.declared.answer.Stop.{Stop}
 use Rattle.overstore.proofs.Answering.{disk_only, no_read, no_write, tag_only}

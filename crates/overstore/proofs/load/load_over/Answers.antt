@@ -1,4 +1,4 @@
-use Rattle.std.proofs.Common.{arith, inr, refl, subst, sym}
+use Rattle.std.proofs.Common.{arith, inr, subst, sym}
 use Rattle.std.proofs.lemmas.Grind.{common_steps}
 use Rattle.overstore.specs.Machine.{plain_masters}
 use Rattle.overstore.specs.Printing.{IsStoreStatus}

@@ -1,4 +1,4 @@
-use Rattle.std.proofs.Common.{arith, inl, inr, refl, rules, ℕ, List, ◌≡◌, [], Some}
+use Rattle.std.proofs.Common.{arith, inl, inr, refl, rules, ℕ, List, [], Some}
 use Rattle.ov_disk.specs.Disk.{Told}
 use Rattle.ov_disk.proofs.Runs.{started}
 use Rattle.ov_history.specs.Masters.{Masters}

@@ -1,6 +1,6 @@
 use Rattle.std.proofs.Common.{◌≡◌, ◌∙◌, sym}
 use Rattle.std.proofs.lemmas.Slice.Eq.{bytes_eq-Decides}
-use Rattle.std.specs.Prelude.{codes, map, string_bytes, [], ◌∷◌}
+use Rattle.std.specs.Prelude.{codes}
 use Rattle.overstore.proofs.Asking.{asked_none, asked_some, four_texts, list_of_four}
 use Rattle.overstore.proofs.load_words.load_of.Goals as goal
 
