@@ -146,3 +146,11 @@ abbrev pub ForImage : Option Image → List (String Global) → Option (List ℕ
 ForImage image words keys P =
     (mode : Mode) → IsRun mode words → IfSome keys (λ file.
     (k : Masters) → AreMasters file k → Told image (P k mode))
+
+-- what a run promises of its script where the disk opens: the lines that it prints, its status, when
+-- it takes and puts, and what a stop leaves
+pub record RunsWell (Lines Status Pace Stops : Type 0) : Type 0 where
+  pub printed : Lines
+  pub decided : Status
+  pub paced : Pace
+  pub survives : Stops
