@@ -1,6 +1,6 @@
 -- Over true tokens the chains that a reader is told lead to the keys of the file.
-use Rattle.std.proofs.Common.{◌≡◌, ◌∙◌, ℕ, Bool, true, false, List, [], ◌∷◌, Option, Some, None}
-use Rattle.std.proofs.Common.{ap, refl, sym}
+use Rattle.std.proofs.Common.{◌≡◌, ◌∙◌, ◌+◌, ℕ, zero, suc, Bool, true, false, List, [], ◌∷◌}
+use Rattle.std.proofs.Common.{Option, Some, None, ap, arith, get_or, length, refl, sym}
 use Rattle.std.specs.Prelude.{slice_index}
 use Rattle.ov_base.specs.Sets.{has}
 use Rattle.ov_tokens.specs.declared.chain.Chain.{Chain}
@@ -98,3 +98,22 @@ surface_chain_leads k c user root (Some node) (Some chain) tokens begins is =
     ap Some
     (ap (λ (n : ℕ). walked (node_key Surface k.surface n) chain.steps) (sym begins)
     ∙ edge_chain_leads Surface k.surface c.surface user node chain tokens.surface is)
+
+-- ---- the last label
+
+-- that of the last step
+pub last_is : (from : Label) (steps : List Step) (n : ℕ) (d : Step) → n + 1 ≡ length steps
+    → (get_or steps n d).to ≡ last_label from steps
+last_is from [] n d e = absurd (omega arith)
+last_is from (step ∷ []) zero d e = refl
+last_is from (step ∷ []) (suc n) d e = absurd (omega arith)
+last_is from (step ∷ next ∷ steps) zero d e = absurd (omega arith)
+last_is from (step ∷ next ∷ steps) (suc n) d e = last_is step.to (next ∷ steps) n d (omega arith)
+
+-- by the kind of the last label, and the key at the end
+pub access_is : (root_key : List ℕ) (chain : Chain) (kind : Kind) (key : List ℕ)
+    → kind ≡ (last_label (label_of Derive chain.root) chain.steps).kind
+    → key ≡ walked root_key chain.steps
+    → access_from kind key ≡ access_along root_key chain
+access_is root_key chain kind key last end =
+    ap (access_from kind) end ∙ ap (λ (l : Kind). access_from l (walked root_key chain.steps)) last

@@ -3,7 +3,7 @@ use Rattle.std.proofs.Common.{◌≡◌, ◌∙◌, ◌<◌, ◌≤◌, ℕ, zer
 use Rattle.std.proofs.Common.{List, [], ◌∷◌, ◌++◌, length, take, drop, Option, Some, None}
 use Rattle.std.proofs.Common.{Result, Ok, Err, refl, sym, ap, subst, inl, inr, arith, append_assoc}
 use Rattle.std.proofs.Common.{length-append}
-use Rattle.std.specs.Prelude.{◌⊎◌, ◌==◌, nat_lt, if◌then◌else◌, slice_get, slice_index_or}
+use Rattle.std.specs.Prelude.{◌⊎◌, ◌+◌, ◌*◌, min, ◌==◌, nat_lt, if◌then◌else◌, slice_get, slice_index_or}
 use Rattle.std.proofs.Math.Seq.{drop-append_seam}
 use Rattle.std.proofs.lemmas.Bool.Decides.{nat_tests}
 use Rattle.std.proofs.lemmas.List.{append-nil, take-append-drop}
@@ -222,7 +222,7 @@ module _ (k : Masters) (r : Reader) (file : List ℕ) (holds : HoldsRootKeys k r
     goes_to =
         sym at_q ∙ ap (λ (g : SealedHistory). followed g others) f.goes
         ∙ ap (λ (us : List SealedUpdate). record (sealed k f.plain) { updates = us })
-        (append_assoc {xs = (sealed k f.plain).updates} {ys = f.more} {zs = others})
+        (append_assoc (sealed k f.plain).updates f.more others)
 
     low : c.file < length before.files
     low =
@@ -293,7 +293,7 @@ module _ (k : Masters) (r : Reader) (file : List ℕ) (holds : HoldsRootKeys k r
           surface = f.surface;
           rest = drop MAX_CHUNK_BYTES f.rest;
           front = f.front ∙ ap (λ (t : List ℕ). stored ++ t) split
-              ∙ sym (append_assoc {xs = stored} {ys = bytes} {zs = drop MAX_CHUNK_BYTES f.rest});
+              ∙ sym (append_assoc stored bytes (drop MAX_CHUNK_BYTES f.rest));
         })
 
     chunk_stands : (answer : Answer)
@@ -397,39 +397,39 @@ module _ (k : Masters) (r : Reader) (file : List ℕ) (holds : HoldsRootKeys k r
 
       by_stage : (s : Stage) → s ≡ stage → IsAfter r stage moves.asks.request a.reply next
           → StandsAt (later u made) next (now_if (is_chain a.request) (sealed k p) at_one)
-      by_stage (AsksChain tries least) is then =
+      by_stage (AsksChain tries least) is moved =
           let request : requests.Chain r.name file ≡ moves.asks.request =
           cc (ap (asked_at r file) is, moves.asks.is_asked) in
           let asked = chain_asked tries least a.reply (answer_of (requests.Chain r.name file) a.reply)
-          (subst HasRequestForm (sym request) moves.asks.form) then.bytes refl
+          (subst HasRequestForm (sym request) moves.asks.form) moved.bytes refl
           (subst (λ (x : Request). IsReplyAt u (request_bytes x) a.reply made) (sym request) at_it) in
           let goes : after r (AsksChain tries least) (answer_of (requests.Chain r.name file) a.reply) ≡ next =
-          (λ i. after r (is i) (answer_of (request i) a.reply)) ∙ sym then.moves in
+          (λ i. after r (is i) (answer_of (request i) a.reply)) ∙ sym moved.moves in
           let kind : is_chain a.request ≡ true =
           ap is_chain (spelled ∙ ap request_bytes (sym request)) in
           subst (λ (b : Bool). StandsAt (later u made) next (now_if b (sealed k p) at_one)) (sym kind)
           (subst (λ (s : Stage). StandsAt (later u made) s (Some (sealed k p))) goes asked)
-      by_stage (AsksChunk tries c stored) is then =
+      by_stage (AsksChunk tries c stored) is moved =
           let chunk : Request = requests.Chunk c.file c.generation (length stored) MAX_CHUNK_BYTES in
           let request : chunk ≡ moves.asks.request =
           cc (ap (asked_at r file) is, moves.asks.is_asked) in
           let f : IsFetching v c stored at_one =
           subst (λ (s : Stage). StandsAt v s at_one) (sym is) stands in
           let asked = chunk_asked tries c stored at_one f a.reply (answer_of chunk a.reply)
-          (subst HasRequestForm (sym request) moves.asks.form) then.bytes refl
+          (subst HasRequestForm (sym request) moves.asks.form) moved.bytes refl
           (subst (λ (x : Request). IsReplyAt u (request_bytes x) a.reply made) (sym request) at_it) in
           let goes : after r (AsksChunk tries c stored) (answer_of chunk a.reply) ≡ next =
-          (λ i. after r (is i) (answer_of (request i) a.reply)) ∙ sym then.moves in
+          (λ i. after r (is i) (answer_of (request i) a.reply)) ∙ sym moved.moves in
           let kind : is_chain a.request ≡ false =
           ap is_chain (spelled ∙ ap request_bytes (sym request)) in
           subst (λ (b : Bool). StandsAt (later u made) next (now_if b (sealed k p) at_one)) (sym kind)
           (subst (λ (s : Stage). StandsAt (later u made) s at_one) goes asked)
-      by_stage (Ends result) is then =
+      by_stage (Ends result) is moved =
           absurd (let none = ap (asked_at r file) is in cc (none, moves.asks.is_asked))
 
       by_read : (IsAfter r stage moves.asks.request a.reply next) ⊎ (next ≡ Ends (Err client.Memory))
           → StandsAt (later u made) next (now_if (is_chain a.request) (sealed k p) at_one)
-      by_read (inl then) = by_stage stage refl then
+      by_read (inl moved) = by_stage stage refl moved
       by_read (inr memory) =
           subst (λ (s : Stage). StandsAt (later u made) s (now_if (is_chain a.request) (sealed k p) at_one))
           (sym memory) tt

@@ -71,7 +71,7 @@ module _ {P : Type 0} (asked : Asked P) (failed : Failed P) (r : Reader) (file :
 
   module _ (stage : Stage) (request : Request) (at_stage : asked_at r file stage ≡ Some request)
       (form : HasRequestForm request) where
-    asked_so : IsAskedAt r file stage (request_bytes request)
+    abbrev asked_so : IsAskedAt r file stage (request_bytes request)
     asked_so = record { request = request; is_asked = at_stage; form = form; spelled = refl }
 
     -- its reply was read
@@ -100,10 +100,10 @@ module _ {P : Type 0} (asked : Asked P) (failed : Failed P) (r : Reader) (file :
       ),
     )
 
-    fails : (p q : P) (fault : ClientFault) → failed p (request_bytes request) q
-        → (Err {T = List ℕ} fault ≡ Err client.Link) ⊎ (Err {T = List ℕ} fault ≡ Err client.Memory)
-        → ReadsFrom asked failed p q r file stage (Err fault)
-    fails p q fault f why =
+    fails : (p q : P) (result : Result (List ℕ) ClientFault) → failed p (request_bytes request) q
+        → (result ≡ Err client.Link) ⊎ (result ≡ Err client.Memory)
+        → ReadsFrom asked failed p q r file stage result
+    fails p q result f why =
         ([], Some (request_bytes request), (p, refl, f), (stage, refl, (asked_so, why)))
 
     -- it has no answer
@@ -111,13 +111,13 @@ module _ {P : Type 0} (asked : Asked P) (failed : Failed P) (r : Reader) (file :
         → ((place : ℕ) → after r stage (Err place) ≡ Ends (Err (client.BadReply place)))
         → Exchanges asked failed p q request (Err fault)
         → ReadsFrom asked failed p q r file stage (Err (client_fault fault))
-    unanswered p q exchange.Link bad x = fails p q client.Link x (inl refl)
+    unanswered p q exchange.Link bad x = fails p q (Err client.Link) x (inl refl)
     unanswered p q (exchange.BadReply place) bad x =
         ended p q stage (Err (client.BadReply place))
         (subst (λ (s : Stage). Reaches asked p q r file stage s) (bad place) (answered p q (Err place) x))
     unanswered p q exchange.Memory bad (inl same) =
         subst (λ (n : P). ReadsFrom asked failed p n r file stage (Err client.Memory)) (sym same) (forgot p stage)
-    unanswered p q exchange.Memory bad (inr (inl f)) = fails p q client.Memory f (inr refl)
+    unanswered p q exchange.Memory bad (inr (inl f)) = fails p q (Err client.Memory) f (inr refl)
     unanswered p q exchange.Memory bad (inr (inr (reply, a))) = lost p q reply a
 
   -- ---- parts of a read

@@ -1,0 +1,21 @@
+use Rattle.std.proofs.Common.{◌≡◌, ◌∙◌, inl, inr, sym}
+use Rattle.ov_tokens.specs.declared.label.Kind.TheVariants.{Access, Derive, Surface}
+use Rattle.ov_client.specs.Readers.{access_along}
+use Rattle.ov_client.proofs.Leading.{access_is}
+use Rattle.ov_client.proofs.keys.access_key_by.Goals as goal
+
+pub returns-in-Derive : goal.returns-in-Derive
+returns-in-Derive c =
+    c.access_key.ensures
+    ∙ access_is c.args.root_key.now.bytes c.args.chain.now Derive c.walk-end.result.bytes
+    c.in-Derive.ensures c.walk-end.ensures.walked
+
+pub returns-in-Access : goal.returns-in-Access
+returns-in-Access c =
+    let root_key = c.args.root_key.now.bytes in
+    let chain = c.args.chain.now in
+    let end = c.walk-end.result.bytes in
+    elim c.in-Access.is [
+      | inl is ↦ access_is root_key chain Access end (sym is ∙ c.last_kind.ensures) c.walk-end.ensures.walked
+      | inr is ↦ access_is root_key chain Surface end (sym is ∙ c.last_kind.ensures) c.walk-end.ensures.walked
+    ]
