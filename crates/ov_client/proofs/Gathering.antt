@@ -1,7 +1,7 @@
 -- How the chunks of a file and the tries of a read follow one another.
 use Rattle.std.proofs.Common.{◌≡◌, ◌∙◌, ◌<◌, ◌≤◌, ◌+◌, ℕ, Bool, true, false}
 use Rattle.std.proofs.Common.{List, [], ◌∷◌, ◌++◌, length, take, Result, Ok, Err}
-use Rattle.std.proofs.Common.{refl, sym, ap, subst, arith, eq-eqb}
+use Rattle.std.proofs.Common.{refl, sym, ap, subst, arith, eq-eqb, length-append}
 use Rattle.std.specs.Prelude.{◌==◌, nat_lt, if◌then◌else◌}
 use Rattle.std.proofs.lemmas.Bool.Decides.{nat_tests}
 use Rattle.ov_base.proofs.Tests.{lt_is_false, lt_is_true}
@@ -120,3 +120,11 @@ module _ {P : Type 0} (asked : Asked P) (failed : Failed P) (r : Reader) (file :
   no_more_tries tries least full =
       ap (λ (b : Bool). if b then Ends (Err (client.Unsettled tries)) else AsksChain tries least)
       (eq-eqb (length tries) TRIES full)
+
+-- how many bytes there are with a chunk
+pub longer : (keys : FileKeys) (file start : ℕ) (plain chunk next : List ℕ)
+    → next ≡ plain ++ uncovered keys file start chunk → length next ≡ length plain + length chunk
+longer keys file start plain chunk next is =
+    let all = ap length is in
+    omega
+    (arith, all, length-append plain (uncovered keys file start chunk), length-uncovered keys file start chunk)
