@@ -106,20 +106,32 @@ module _ {P : Type 0} (asked : Asked P) (failed : Failed P) (r : Reader) (file :
     reaches = ([], refl, refl);
   }
 
-  -- ---- tries
+-- ---- tries
 
-  pub try_again : (tries : List ℕ) (least : ℕ) → length tries < TRIES → again tries least ≡ AsksChain tries least
-  try_again tries least low = by_count (length tries == TRIES) refl where
-    by_count : (b : Bool) → (length tries == TRIES) ≡ b
-        → (if b then Ends (Err (client.Unsettled tries)) else AsksChain tries least) ≡ AsksChain tries least
-    by_count true is = absurd (let same : length tries ≡ TRIES = grind (arith, nat_tests) in omega arith)
-    by_count false is = refl
+pub try_again : (tries : List ℕ) (least : ℕ) → length tries < TRIES → again tries least ≡ AsksChain tries least
+try_again tries least low = by_count (length tries == TRIES) refl where
+  by_count : (b : Bool) → (length tries == TRIES) ≡ b
+      → (if b then Ends (Err (client.Unsettled tries)) else AsksChain tries least) ≡ AsksChain tries least
+  by_count true is = absurd (let same : length tries ≡ TRIES = grind (arith, nat_tests) in omega arith)
+  by_count false is = refl
 
-  pub no_more_tries : (tries : List ℕ) (least : ℕ) → length tries ≡ TRIES
-      → again tries least ≡ Ends (Err (client.Unsettled tries))
-  no_more_tries tries least full =
-      ap (λ (b : Bool). if b then Ends (Err (client.Unsettled tries)) else AsksChain tries least)
-      (eq-eqb (length tries) TRIES full)
+pub no_more_tries : (tries : List ℕ) (least : ℕ) → length tries ≡ TRIES
+    → again tries least ≡ Ends (Err (client.Unsettled tries))
+no_more_tries tries least full =
+    ap (λ (b : Bool). if b then Ends (Err (client.Unsettled tries)) else AsksChain tries least)
+    (eq-eqb (length tries) TRIES full)
+
+module _ {P : Type 0} (asked : Asked P) (failed : Failed P) (r : Reader) (file : List ℕ) where
+  -- one more try
+  pub tried_on : (p m q : P) (tries : List ℕ) (least : ℕ) (result : Result Tried ClientFault)
+      → length tries < TRIES
+      → Reaches asked p m r file (AsksChain [] 0) (again tries least)
+      → GoesOn asked failed m q r file (AsksChain tries least) (after_tried tries) result
+      → GoesOn asked failed p q r file (AsksChain [] 0) (after_tried tries) result
+  tried_on p m q tries least result low reaches on =
+      behind asked failed r file p m q (AsksChain [] 0) (AsksChain tries least) (after_tried tries) result
+      (subst (λ (s : Stage). Reaches asked p m r file (AsksChain [] 0) s) (try_again tries least low) reaches)
+      on
 
 -- how many bytes there are with a chunk
 pub longer : (keys : FileKeys) (file start : ℕ) (plain chunk next : List ℕ)
