@@ -6,3 +6,4 @@ pub mod Leading
 pub mod Staying
 pub mod Opening
 pub mod Machine
+pub mod Settled

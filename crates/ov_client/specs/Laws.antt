@@ -1,21 +1,25 @@
 -- What a read gives over a peer that tells its history.
-use Rattle.std.specs.Prelude.{◌≡◌, ℕ, ◌==◌, Bool, true, false, List, [], ◌∷◌}
+use Rattle.std.specs.Prelude.{◌≡◌, ◌≢◌, ℕ, ◌==◌, Bool, true, false, List, [], ◌∷◌}
 use Rattle.std.specs.Prelude.{Option, Some, None, Result, Ok, Err, if◌then◌else◌}
 use Rattle.ov_tokens.specs.declared.label.Kind.TheVariants.{Derive, Surface}
 use Rattle.ov_tokens.specs.Keys.{node_key}
 use Rattle.ov_history.specs.History.{Matrix, matrix_of}
+use Rattle.ov_history.specs.Layers.{layers_of, root_of}
 use Rattle.ov_history.specs.Lists.{file_number, user_number}
 use Rattle.ov_history.specs.Masters.{Masters}
 use Rattle.ov_history.specs.Plain.{PlainHistory, bytes_of, history_of}
 use Rattle.ov_history.specs.Refusals.{IsLegal, read_refusal}
 use Rattle.ov_history.specs.Sealed.{SealedHistory}
 use Rattle.ov_history.specs.Sealing.{sealed}
+use Rattle.ov_wire.specs.declared.answer.Answer.TheVariants.{DeviceFault}
+use Rattle.ov_wire.specs.AnswerBytes.{answer_bytes}
 use Rattle.ov_protocol.specs.Serving.{Service}
 use Rattle.ov_peer.specs.Asks.{Along, AreRight, Ask}
 use Rattle.ov_client.specs.Readers.{Reader}
 use Rattle.ov_client.specs.Talks.{Talks}
 use Rattle.ov_client.specs.declared.fault.ClientFault.{ClientFault}
-use Rattle.ov_client.specs.declared.fault.ClientFault.TheVariants.{Damaged, Refused}
+use Rattle.ov_client.specs.declared.fault.ClientFault.TheVariants.{BadReply, Damaged, Refused}
+use Rattle.ov_client.specs.declared.fault.ClientFault.TheVariants.{Unsettled}
 
 -- the reader's keys are those of its roots, under these masters
 pub record HoldsRootKeys (k : Masters) (r : Reader) : Type 0 where
@@ -79,3 +83,43 @@ ReadsAreTheMachines =
     → Talks r file asks unanswered result
     → Along v asks histories last → AreRight k histories
     → IsAsMachine k (last_chain None asks histories) r.name file result
+
+-- ---- a history that nobody changes meanwhile
+
+-- the reader's roots are those of the user of its name at this history
+pub record HasRoots (p : PlainHistory) (r : Reader) : Type 0 where
+  pub base : r.base_root
+      ≡ root_of (layers_of (history_of p)).base (user_number (matrix_of (history_of p)) r.name)
+  pub surface : r.surface_root
+      ≡ root_of (layers_of (history_of p)).surface (user_number (matrix_of (history_of p)) r.name)
+
+-- each of these histories is this one
+abbrev pub AllAre : SealedHistory → List SealedHistory → Type 0
+AllAre g [] = Unit {0}
+AllAre g (other ∷ histories) = (other ≡ g) × AllAre g histories
+
+-- to no Chain of these asks it was answered that the server's disk failed
+abbrev pub NoChainFails : List Ask → Type 0
+NoChainFails [] = Unit {0}
+NoChainFails (a ∷ asks) =
+    (is_chain a.request ≡ true → a.reply ≢ answer_bytes DeviceFault) × NoChainFails asks
+
+-- the read gave bytes or a refusal, or was cut off: by the link, the server's disk, or want of memory
+abbrev pub IsAnsweredOrCut : Result (List ℕ) ClientFault → Type 0
+IsAnsweredOrCut (Err (BadReply place)) = ⊥
+IsAnsweredOrCut (Err (Damaged stored computed)) = ⊥
+IsAnsweredOrCut (Err (Unsettled generations)) = ⊥
+IsAnsweredOrCut result = Unit {0}
+
+-- A read of asks that were all answered at one history, which is right under the masters of the
+-- reader's root keys and at which these are of the user's roots, is answered or cut off.
+abbrev pub ReadsAreAnswered : Type 0
+ReadsAreAnswered =
+    (k : Masters) (r : Reader) (file : List ℕ) (asks : List Ask) (unanswered : Option (List ℕ))
+    (result : Result (List ℕ) ClientFault)
+    (v last : Service) (histories : List SealedHistory) (p : PlainHistory)
+    → HoldsRootKeys k r → HasRoots p r → v.surface ≡ k.surface
+    → Talks r file asks unanswered result
+    → Along v asks histories last → IsLegal (history_of p) → AllAre (sealed k p) histories
+    → NoChainFails asks
+    → IsAnsweredOrCut result

@@ -21,8 +21,9 @@
 //! disk's fault that was answered, the place of the first byte that can't be, both tags, the nine
 //! generations. A fault of the link comes only where the peer's count of faults rose.
 //!
-//! Which peer it is doesn't matter. Of one that tells its history, a law says what the result is
-//! worth ([`reads_are_the_machines`]).
+//! Which peer it is doesn't matter. Of one that tells its history, laws say what the result is worth:
+//! bytes and refusals are the machine's ([`reads_are_the_machines`]), and where nobody changes the
+//! history meanwhile there are no others ([`reads_are_answered`]).
 //!
 //! | file in `specs/` | says |
 //! |---|---|
@@ -49,4 +50,4 @@ mod tests;
 
 pub use client::Client;
 pub use fault::ClientFault;
-pub use laws::reads_are_the_machines;
+pub use laws::{reads_are_answered, reads_are_the_machines};

@@ -1,0 +1,408 @@
+-- A read of a history that nobody changes meanwhile is answered.
+use Rattle.std.proofs.Common.{◌≡◌, ◌∙◌, ◌<◌, ◌≤◌, ◌+◌, ◌-◌, ℕ, zero, suc, Bool, true, false}
+use Rattle.std.proofs.Common.{List, [], ◌∷◌, ◌++◌, length, take, drop, Option, Some, None}
+use Rattle.std.proofs.Common.{Result, Ok, Err, refl, sym, ap, subst, inl, inr, arith, append_assoc}
+use Rattle.std.proofs.Common.{eq-eqb, length-append}
+use Rattle.std.specs.Prelude.{◌⊎◌, ◌≢◌, ◌*◌, min, ◌==◌, nat_lt, if◌then◌else◌, slice_get, slice_index_or}
+use Rattle.std.proofs.Math.Seq.{drop-append_seam}
+use Rattle.std.proofs.lemmas.List.{append-nil, length-take, take-append-drop}
+use Rattle.ov_base.proofs.Tests.{ge_of_false, lt_is_false, lt_of_true}
+use Rattle.ov_base.specs.declared.limits.TheConstants.{MAX_CHUNK_BYTES, MAX_FRAME_BYTES}
+use Rattle.ov_base.specs.declared.refusal.Refusal.{Refusal}
+use Rattle.ov_base.specs.declared.refusal.Refusal.TheVariants.{NoUser, NoFile, NoPath}
+use Rattle.ov_base.specs.Sets.{has}
+use Rattle.std.specs.Prelude.{slice_index}
+use Rattle.ov_fields.specs.Reading.{all_of, by_rows, placed}
+use Rattle.ov_fields.specs.Spelling.{IsOneOf}
+use Rattle.ov_record.specs.Updates.{SealedUpdate}
+use Rattle.ov_tokens.specs.declared.chain.Chain.{Chain}
+use Rattle.ov_base_layer.specs.declared.grant.Grant.{Grant}
+use Rattle.ov_history.specs.Asking.{file_named, user_named}
+use Rattle.ov_history.specs.Catalogue.{Catalogue, Filed, Nodes, matrix_shown}
+use Rattle.ov_history.specs.Chains.{IsBaseChain, IsBaseChainIf, IsSurfaceChain}
+use Rattle.ov_history.specs.History.{Matrix, matrix_of}
+use Rattle.ov_history.specs.Layers.{Layers, layers_of, root_of}
+use Rattle.ov_history.specs.Lists.{user_number}
+use Rattle.ov_history.specs.Masters.{Masters}
+use Rattle.ov_history.specs.Plain.{PlainHistory, history_of}
+use Rattle.ov_history.specs.Refusals.{IsLegal, first_of_tests, read_refusal}
+use Rattle.ov_history.specs.Sealed.{SealedHistory, catalogue_of, stored_of}
+use Rattle.ov_history.specs.Sealing.{sealed}
+use Rattle.ov_history.proofs.Keeping.{kept_shows}
+use Rattle.ov_wire.specs.declared.request.Request.{Request}
+use Rattle.ov_wire.specs.declared.request.Request.TheVariants as requests
+use Rattle.ov_wire.specs.declared.answer.Answer.{Answer}
+use Rattle.ov_wire.specs.declared.answer.Answer.TheVariants as answers
+use Rattle.ov_wire.specs.declared.answer.Chained.{Chained}
+use Rattle.ov_wire.specs.AnswerBytes.{answer_bytes}
+use Rattle.ov_wire.specs.AnswerForm.{HasAnswerForm}
+use Rattle.ov_wire.specs.AnswerReading.{answer_of, answer_rows}
+use Rattle.ov_wire.specs.AnswersTo.{IsAnswer, read_refusals}
+use Rattle.ov_wire.specs.Requests.{HasRequestForm, request_bytes}
+use Rattle.ov_wire.proofs.AnswerForms.{answer_is_frame}
+use Rattle.ov_wire.proofs.AnswerLaws.{answer_again}
+use Rattle.ov_wire.proofs.LongFrames.{not_long}
+use Rattle.ov_protocol.specs.Answers.{Answers}
+use Rattle.ov_protocol.specs.Reading.{AnswersChain, AnswersChunk, IsChainedFor}
+use Rattle.ov_protocol.specs.Replies.{AnswersRead, Replies}
+use Rattle.ov_protocol.specs.Serving.{Service, followed, later, served}
+use Rattle.ov_protocol.proofs.Reading.{request_back}
+use Rattle.ov_peer.specs.Asks.{Along, Ask, IsReplyAt}
+use Rattle.ov_client.specs.Laws.{AllAre, HasRoots, HoldsRootKeys, IsAnsweredOrCut, NoChainFails}
+use Rattle.ov_client.specs.Laws.{ReadsAreAnswered, is_chain}
+use Rattle.ov_client.specs.Readers.{Reader, judged, keys_along, uncovered}
+use Rattle.ov_client.specs.Talks.{AsksChain, AsksChunk, Closes, Ends, Goes, IsAfter, Moves, Stage}
+use Rattle.ov_client.specs.Talks.{after, after_fetched, asked_at, goes_on, then_or}
+use Rattle.ov_client.specs.Telling.{chained_unless, chunk_bytes, wrong_field, wrong_surface}
+use Rattle.ov_client.specs.declared.fault.ClientFault.{ClientFault}
+use Rattle.ov_client.specs.declared.fault.ClientFault.TheVariants as client
+use Rattle.ov_client.specs.declared.telling.Fetched.TheVariants.{Bytes, Moved}
+use Rattle.ov_client.proofs.Leading.{BeginsAt}
+use Rattle.ov_client.proofs.Opening.{judged_is, length_is, there}
+use Rattle.ov_client.proofs.Staying.{file_in, found_file}
+
+-- ---- answers that are read
+
+-- an answer to the request, which can be sent, is read as itself
+reads_back : (request : Request) (a : Answer) → IsAnswer request a → HasAnswerForm a
+    → answer_of request (answer_bytes a) ≡ Ok a
+reads_back request a is form =
+    not_long (answer_bytes a)
+    (placed (length (answer_bytes a)) (all_of (by_rows (answer_rows request) (answer_bytes a))))
+    (answer_is_frame a form).1
+    ∙ ap (placed (length (answer_bytes a))) (answer_again request a is)
+
+refusal_of_read : (a b c : Bool) (why : Refusal)
+    → first_of_tests ((NoUser, a) ∷ (NoFile, b) ∷ (NoPath, c) ∷ []) ≡ Some why
+    → IsOneOf why read_refusals
+refusal_of_read true b c why is = inl (let same : Some NoUser ≡ Some why = is in cc)
+refusal_of_read false true c why is = inr (inl (let same : Some NoFile ≡ Some why = is in cc))
+refusal_of_read false false true why is =
+    inr (inr (inl (let same : Some NoPath ≡ Some why = is in cc)))
+refusal_of_read false false false why is = absurd (let none : None ≡ Some why = is in cc)
+
+chain_is_answer : (s : Catalogue) (user file : List ℕ) (u n : ℕ) (a : Answer)
+    → AnswersChain s u n a → HasAnswerForm a → IsAnswer (requests.Chain user file) a
+chain_is_answer s user file u n (answers.Chained c) is form = form.0
+chain_is_answer s user file u n (answers.Refused why) is form = refusal_of_read _ _ _ why is
+chain_is_answer s user file u n a is form = absurd is
+
+-- ---- roots
+
+base_begins : (b : Bool) (nodes : Nodes) (grants : List Grant) (user node : ℕ) (chain : Chain)
+    → IsBaseChainIf b nodes grants user node chain → chain.root ≡ root_of nodes.sets user
+base_begins true nodes grants user node chain is = is.0
+base_begins false nodes grants user node chain (token, there, is) = ap (λ (c : Chain). c.root) is
+
+surface_begins : (nodes : Nodes) (user : ℕ) (surface : Option ℕ) (chain : Option Chain)
+    → IsSurfaceChain nodes user surface chain → BeginsAt (root_of nodes.sets user) chain
+surface_begins nodes user None None is = tt
+surface_begins nodes user None (Some chain) is = absurd is
+surface_begins nodes user (Some node) None is = absurd is
+surface_begins nodes user (Some node) (Some chain) is = is.0
+
+right_surface : (r : Reader) (steps : ℕ) (chain : Option Chain) → BeginsAt r.surface_root chain
+    → wrong_surface r steps chain ≡ None
+right_surface r steps None begins = refl
+right_surface r steps (Some chain) begins =
+    ap (λ (b : Bool). if b then None else Some (56 + 37 * steps)) (eq-eqb chain.root r.surface_root begins)
+
+right_field : (r : Reader) (c : Chained) → c.base.root ≡ r.base_root → BeginsAt r.surface_root c.surface
+    → wrong_field r 0 c ≡ None
+right_field r c base surface =
+    ap
+    (λ (b : Bool). if b then Some 13
+    else if c.base.root == r.base_root then wrong_surface r (length c.base.steps) c.surface else Some 49)
+    (lt_is_false c.generation 0 (omega arith))
+    ∙ ap (λ (b : Bool). if b then wrong_surface r (length c.base.steps) c.surface else Some 49)
+    (eq-eqb c.base.root r.base_root base)
+    ∙ right_surface r (length c.base.steps) c.surface surface
+
+no_rest : (xs rest : List ℕ) → length (xs ++ rest) ≤ length xs → xs ++ rest ≡ xs
+no_rest xs [] few = append-nil xs
+no_rest xs (x ∷ rest) few = absurd (omega (arith, length-append xs (x ∷ rest)))
+
+module _ (k : Masters) (r : Reader) (file : List ℕ) (p : PlainHistory) (legal : IsLegal (history_of p))
+    (holds : HoldsRootKeys k r) (roots : HasRoots p r) where
+  abbrev s : Catalogue
+  s = catalogue_of k.surface (sealed k p)
+
+  abbrev u : ℕ
+  u = user_named s r.name
+
+  abbrev n : ℕ
+  n = file_named s file
+
+  -- the chains to the file were told, and these stored bytes are a front of its own
+  record IsFetching (c : Chained) (stored : List ℕ) : Type 0 where
+    allowed : read_refusal (matrix_shown s) u n ≡ None
+    told : IsChainedFor s u n c
+    base : c.base.root ≡ r.base_root
+    surface : BeginsAt r.surface_root c.surface
+    rest : List ℕ
+    front : slice_index_or (stored_of k.surface (sealed k p)) c.file [] ≡ stored ++ rest
+
+  Stands : Stage → Type 0
+  Stands (AsksChain tries least) = least ≡ 0
+  Stands (AsksChunk tries c stored) = IsFetching c stored
+  Stands (Ends result) = IsAnsweredOrCut result
+
+  module _ (c : Chained) (stored : List ℕ) (f : IsFetching c stored) where
+    low : n < length s.files
+    low = there k p legal u n f.allowed
+
+    low_told : c.file < length s.files
+    low_told = subst (λ m. m < length s.files) (sym f.told.file) low
+
+    size : length (slice_index_or (stored_of k.surface (sealed k p)) c.file []) ≡ c.length
+    size =
+        ap (λ m. length (slice_index_or (stored_of k.surface (sealed k p)) m [])) f.told.file
+        ∙ length_is k p legal n low ∙ sym f.told.length
+
+    goes_on_stands : (tries : List ℕ) → Stands (goes_on r tries c stored)
+    unfolding Stands
+    goes_on_stands tries = by_test (nat_lt (length stored) c.length) refl where
+      by_test : (b : Bool) → nat_lt (length stored) c.length ≡ b
+          → Stands
+          (if b then AsksChunk tries c stored
+          else Ends (judged (keys_along r c) c (uncovered (keys_along r c) c.file 0 stored)))
+      by_test true is = f
+      by_test false is =
+          let enough : c.length ≤ length stored = ge_of_false (length stored) c.length is in
+          let long = ap length f.front in
+          let whole : stored ≡ slice_index_or (stored_of k.surface (sealed k p)) n [] =
+          sym (f.front ∙ no_rest stored f.rest (omega (arith, size, enough, long)))
+          ∙ ap (λ m. slice_index_or (stored_of k.surface (sealed k p)) m []) f.told.file in
+          subst IsAnsweredOrCut
+          (sym (judged_is k p legal r holds u n c low f.told f.base f.surface stored whole)) tt
+
+  -- ---- an answer to Chain
+
+  chained_stands : (tries : List ℕ) (c : Chained) → AnswersChain s u n (answers.Chained c)
+      → Stands (then_or (λ (d : Chained). goes_on r tries d []) (chained_unless (wrong_field r 0 c) c))
+  chained_stands tries c (allowed, told) =
+      let shows = kept_shows k p s (legal, refl) in
+      let user : u ≡ user_number (matrix_of (history_of p)) r.name =
+      ap (λ (m : Matrix). user_number m r.name) shows.matrix in
+      let base : c.base.root ≡ r.base_root =
+      base_begins (has (slice_index s.base.sets (file_in s.files n).node) u) s.base s.grants u (file_in s.files n).node c.base told.base
+      ∙ (λ i. root_of (shows.layers i).base (user i)) ∙ sym roots.base in
+      let surface : BeginsAt r.surface_root c.surface =
+      subst (λ m. BeginsAt m c.surface) ((λ i. root_of (shows.layers i).surface (user i)) ∙ sym roots.surface)
+      (surface_begins s.surface u (file_in s.files n).surface c.surface told.surface) in
+      subst (λ (o : Option ℕ). Stands (then_or (λ (d : Chained). goes_on r tries d []) (chained_unless o c)))
+      (sym (right_field r c base surface))
+      (goes_on_stands c [] (record {
+        allowed = allowed;
+        told = told;
+        base = base;
+        surface = surface;
+        rest = slice_index_or (stored_of k.surface (sealed k p)) c.file [];
+        front = refl;
+      }) tries)
+
+  chain_stands : (tries : List ℕ) (least : ℕ) (a : Answer) → least ≡ 0 → AnswersChain s u n a
+      → Stands (after r (AsksChain tries least) (Ok a))
+  unfolding Stands
+  chain_stands tries least (answers.Chained c) none is =
+      subst (λ m. Stands (after r (AsksChain tries m) (Ok (answers.Chained c)))) (sym none) (chained_stands tries c is)
+  chain_stands tries least (answers.Refused why) none is = tt
+  chain_stands tries least a none is = absurd is
+
+  -- ---- an answer to Chunk
+
+  module _ (tries : List ℕ) (c : Chained) (stored : List ℕ) (f : IsFetching c stored) where
+    bytes_stand : (bytes : List ℕ)
+        → bytes ≡ take MAX_CHUNK_BYTES (drop (length stored) (slice_index_or (stored_of k.surface (sealed k p)) c.file []))
+        → Stands (after r (AsksChunk tries c stored) (Ok (answers.Bytes bytes)))
+    unfolding Stands
+    bytes_stand bytes are =
+        let taken : bytes ≡ take MAX_CHUNK_BYTES f.rest =
+        are
+        ∙ ap (take MAX_CHUNK_BYTES) (ap (drop (length stored)) f.front ∙ drop-append_seam stored f.rest) in
+        let split : f.rest ≡ bytes ++ drop MAX_CHUNK_BYTES f.rest =
+        sym (take-append-drop MAX_CHUNK_BYTES f.rest)
+        ∙ ap (λ (t : List ℕ). t ++ drop MAX_CHUNK_BYTES f.rest) (sym taken) in
+        let long = ap length f.front in
+        let some = ap length taken in
+        let count : length bytes ≡ chunk_bytes c.length (length stored) =
+        omega (arith, size c stored f, long, some, length-append stored f.rest, length-take MAX_CHUNK_BYTES f.rest) in
+        subst
+        (λ (b : Bool). Stands
+        (then_or (after_fetched r tries c stored)
+        (if b then Ok (Bytes bytes) else Err (client.BadReply (1 + min (length bytes) (chunk_bytes c.length (length stored)))))))
+        (sym (eq-eqb (length bytes) (chunk_bytes c.length (length stored)) count))
+        (goes_on_stands c (stored ++ bytes) (record {
+          allowed = f.allowed;
+          told = f.told;
+          base = f.base;
+          surface = f.surface;
+          rest = drop MAX_CHUNK_BYTES f.rest;
+          front = f.front ∙ ap (λ (t : List ℕ). stored ++ t) split
+              ∙ sym (append_assoc stored bytes (drop MAX_CHUNK_BYTES f.rest));
+        }) tries)
+
+    chunk_stands : (a : Answer)
+        → AnswersChunk (Some (file_in s.files c.file)) (slice_index_or (stored_of k.surface (sealed k p)) c.file [])
+        c.generation (length stored) MAX_CHUNK_BYTES a
+        → HasAnswerForm a
+        → IsAnswer (requests.Chunk c.file c.generation (length stored) MAX_CHUNK_BYTES) a
+        × Stands (after r (AsksChunk tries c stored) (Ok a))
+    chunk_stands (answers.Bytes bytes) is form = (form, bytes_stand bytes is.1)
+    chunk_stands (answers.Moved now) is form =
+        absurd
+        (is.0
+        (ap (λ m. (file_in s.files m).generation) f.told.file ∙ sym f.told.generation))
+    chunk_stands (answers.Refused why) is form = absurd is
+    chunk_stands a is form = absurd is
+
+  -- ---- one ask
+
+  module _ (v : Service) (under_k : v.surface ≡ k.surface) (at_p : v.history ≡ sealed k p)
+      (made : List SealedUpdate) where
+    catalogue_is : catalogue_of v.surface v.history ≡ s
+    catalogue_is = λ i. catalogue_of (under_k i) (at_p i)
+
+    stored_is : stored_of v.surface v.history ≡ stored_of k.surface (sealed k p)
+    stored_is = λ i. stored_of (under_k i) (at_p i)
+
+    -- the answer in a reply
+    answers_so : (request : Request) (reply : List ℕ) → HasRequestForm request
+        → (replies : Replies (served v) (request_bytes request) reply made)
+        → Answers (served v) request replies.answer
+    answers_so request reply form replies =
+        subst (λ (x : Result Request ℕ). AnswersRead (served v) x replies.answer) (request_back request form)
+        replies.answers
+
+    chain_asked : (tries : List ℕ) (least : ℕ) (reply : List ℕ) → least ≡ 0
+        → HasRequestForm (requests.Chain r.name file)
+        → Replies (served v) (request_bytes (requests.Chain r.name file)) reply made
+        → Stands (after r (AsksChain tries least) (answer_of (requests.Chain r.name file) reply))
+    chain_asked tries least reply none form replies =
+        let is : AnswersChain s u n replies.answer =
+        subst
+        (λ (d : Catalogue). AnswersChain d (user_named d r.name) (file_named d file) replies.answer)
+        catalogue_is (answers_so (requests.Chain r.name file) reply form replies) in
+        let read : answer_of (requests.Chain r.name file) reply ≡ Ok replies.answer =
+        ap (answer_of (requests.Chain r.name file)) replies.spelled
+        ∙ reads_back (requests.Chain r.name file) replies.answer
+        (chain_is_answer s r.name file u n replies.answer is replies.form) replies.form in
+        subst (λ (x : Result Answer ℕ). Stands (after r (AsksChain tries least) x)) (sym read)
+        (chain_stands tries least replies.answer none is)
+
+    chunk_asked : (tries : List ℕ) (c : Chained) (stored : List ℕ) (f : IsFetching c stored) (reply : List ℕ)
+        → HasRequestForm (requests.Chunk c.file c.generation (length stored) MAX_CHUNK_BYTES)
+        → Replies (served v) (request_bytes (requests.Chunk c.file c.generation (length stored) MAX_CHUNK_BYTES)) reply made
+        → Stands (after r (AsksChunk tries c stored) (answer_of (requests.Chunk c.file c.generation (length stored) MAX_CHUNK_BYTES) reply))
+    chunk_asked tries c stored f reply form replies =
+        let request : Request = requests.Chunk c.file c.generation (length stored) MAX_CHUNK_BYTES in
+        let at_v : AnswersChunk (slice_get (catalogue_of v.surface v.history).files c.file)
+        (slice_index_or (stored_of v.surface v.history) c.file []) c.generation (length stored) MAX_CHUNK_BYTES replies.answer =
+        answers_so request reply form replies in
+        let at_k : AnswersChunk (slice_get s.files c.file) (slice_index_or (stored_of k.surface (sealed k p)) c.file [])
+        c.generation (length stored) MAX_CHUNK_BYTES replies.answer =
+        subst (λ (t : List (List ℕ)). AnswersChunk (slice_get s.files c.file) (slice_index_or t c.file []) c.generation (length stored) MAX_CHUNK_BYTES replies.answer)
+        stored_is
+        (subst (λ (d : Catalogue). AnswersChunk (slice_get d.files c.file) (slice_index_or (stored_of v.surface v.history) c.file []) c.generation (length stored) MAX_CHUNK_BYTES replies.answer)
+        catalogue_is at_v) in
+        let both = chunk_stands tries c stored f replies.answer
+        (subst (λ (o : Option Filed). AnswersChunk o (slice_index_or (stored_of k.surface (sealed k p)) c.file []) c.generation (length stored) MAX_CHUNK_BYTES replies.answer)
+        (found_file s.files c.file (low_told c stored f)) at_k) replies.form in
+        let read : answer_of request reply ≡ Ok replies.answer =
+        ap (answer_of request) replies.spelled ∙ reads_back request replies.answer both.0 replies.form in
+        subst (λ (x : Result Answer ℕ). Stands (after r (AsksChunk tries c stored) x)) (sym read) both.1
+
+    -- the disk failed at a Chunk
+    chunk_failed : (tries : List ℕ) (c : Chained) (stored reply : List ℕ)
+        → reply ≡ answer_bytes answers.DeviceFault
+        → Stands (after r (AsksChunk tries c stored) (answer_of (requests.Chunk c.file c.generation (length stored) MAX_CHUNK_BYTES) reply))
+    unfolding Stands
+    chunk_failed tries c stored reply spelled =
+        let request : Request = requests.Chunk c.file c.generation (length stored) MAX_CHUNK_BYTES in
+        let read : answer_of request reply ≡ Ok answers.DeviceFault =
+        ap (answer_of request) spelled ∙ reads_back request answers.DeviceFault tt tt in
+        subst (λ (x : Result Answer ℕ). Stands (after r (AsksChunk tries c stored) x)) (sym read) tt
+
+    -- the stage after an ask
+    asked_stands : (stage next : Stage) (a : Ask) → Stands stage → Moves r file stage a next
+        → IsReplyAt v a.request a.reply made
+        → (is_chain a.request ≡ true → a.reply ≢ answer_bytes answers.DeviceFault)
+        → Stands next
+    unfolding Stands
+    asked_stands stage next a stands moves at_v honest = by_read moves.reads where
+      spelled : a.request ≡ request_bytes moves.asks.request
+      spelled = moves.asks.spelled
+
+      at_it : IsReplyAt v (request_bytes moves.asks.request) a.reply made
+      at_it = subst (λ (frame : List ℕ). IsReplyAt v frame a.reply made) spelled at_v
+
+      by_stage : (t : Stage) → t ≡ stage → IsAfter r stage moves.asks.request a.reply next → Stands next
+      by_stage (AsksChain tries least) is moved =
+          let chain : Request = requests.Chain r.name file in
+          let request : chain ≡ moves.asks.request = cc (ap (asked_at r file) is, moves.asks.is_asked) in
+          let goes : after r (AsksChain tries least) (answer_of chain a.reply) ≡ next =
+          (λ i. after r (is i) (answer_of (request i) a.reply)) ∙ sym moved.moves in
+          let none : least ≡ 0 = subst Stands (sym is) stands in
+          let at_chain : IsReplyAt v (request_bytes chain) a.reply made =
+          subst (λ (x : Request). IsReplyAt v (request_bytes x) a.reply made) (sym request) at_it in
+          let form : HasRequestForm chain = subst HasRequestForm (sym request) moves.asks.form in
+          let kind : is_chain a.request ≡ true = ap is_chain (spelled ∙ ap request_bytes (sym request)) in
+          subst Stands goes
+          (elim at_chain [
+            | inl replies ↦ chain_asked tries least a.reply none form replies
+            | inr fault ↦ absurd (honest kind fault.spelled)
+          ])
+      by_stage (AsksChunk tries c stored) is moved =
+          let chunk : Request = requests.Chunk c.file c.generation (length stored) MAX_CHUNK_BYTES in
+          let request : chunk ≡ moves.asks.request = cc (ap (asked_at r file) is, moves.asks.is_asked) in
+          let goes : after r (AsksChunk tries c stored) (answer_of chunk a.reply) ≡ next =
+          (λ i. after r (is i) (answer_of (request i) a.reply)) ∙ sym moved.moves in
+          let f : IsFetching c stored = subst Stands (sym is) stands in
+          let at_chunk : IsReplyAt v (request_bytes chunk) a.reply made =
+          subst (λ (x : Request). IsReplyAt v (request_bytes x) a.reply made) (sym request) at_it in
+          let form : HasRequestForm chunk = subst HasRequestForm (sym request) moves.asks.form in
+          subst Stands goes
+          (elim at_chunk [
+            | inl replies ↦ chunk_asked tries c stored f a.reply form replies
+            | inr fault ↦ chunk_failed tries c stored a.reply fault.spelled
+          ])
+      by_stage (Ends result) is moved =
+          absurd (let none = ap (asked_at r file) is in cc (none, moves.asks.is_asked))
+
+      by_read : (IsAfter r stage moves.asks.request a.reply next) ⊎ (next ≡ Ends (Err client.Memory))
+          → Stands next
+      by_read (inl moved) = by_stage stage refl moved
+      by_read (inr memory) = subst Stands (sym memory) tt
+
+  -- ---- all asks
+
+  all_stand : (asks : List Ask) (stage last : Stage) (v end : Service) (histories : List SealedHistory)
+      → v.surface ≡ k.surface → Stands stage → Goes r file stage asks last
+      → Along v asks histories end → AllAre (sealed k p) histories → NoChainFails asks
+      → Stands last
+  all_stand [] stage last v end histories under_k stands goes along same honest = subst Stands goes stands
+  all_stand (a ∷ asks) stage last v end [] under_k stands goes along same honest = absurd along
+  all_stand (a ∷ asks) stage last v end (g ∷ histories) under_k stands (next, moves, goes)
+      (others, made, at_g, at_u, along) (is, same) (first, honest) =
+      all_stand asks next last (later (later v others) made) end histories under_k
+      (asked_stands (later v others) under_k (sym at_g ∙ is) made stage next a stands moves at_u first)
+      goes along same honest
+
+  closed_so : (last : Stage) (unanswered : Option (List ℕ)) (result : Result (List ℕ) ClientFault)
+      → Stands last → Closes r file last unanswered result → IsAnsweredOrCut result
+  unfolding Stands
+  closed_so last None result stands (inl is) = subst Stands is stands
+  closed_so last None result stands (inr memory) = subst IsAnsweredOrCut (sym memory) tt
+  closed_so last (Some frame) result stands (asks, inl link) = subst IsAnsweredOrCut (sym link) tt
+  closed_so last (Some frame) result stands (asks, inr memory) = subst IsAnsweredOrCut (sym memory) tt
+
+  begins : Stands (AsksChain [] 0)
+  unfolding Stands
+  begins = refl
+
+pub reads_are_answered : ReadsAreAnswered
+reads_are_answered k r file asks unanswered result v last histories p holds roots under_k (end, goes, closes) along legal same honest =
+    closed_so k r file p legal holds roots end unanswered result
+    (all_stand k r file p legal holds roots asks (AsksChain [] 0) end v last histories under_k
+    (begins k r file p legal holds roots) goes along same honest)
+    closes
