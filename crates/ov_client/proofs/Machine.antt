@@ -157,12 +157,15 @@ module _ (k : Masters) (r : Reader) (file : List ℕ) (holds : HoldsRootKeys k r
           let whole : stored ≡ text =
           sym (split ∙ no_rest stored f.rest (omega (arith, size, enough, long))) in
           let ok = judged_is k f.plain f.legal r holds (user_named s r.name) n c low f.told f.base f.surface stored whole in
-          subst (IsAsMachine k at_one r.name file) (sym ok)
-          (f.plain,
-          f.legal,
-          f.chained_at,
-          (sym (read_named k f.plain f.legal r.name file) ∙ f.allowed,
-          ap (bytes_of f.plain) (file_is k f.plain f.legal file)))
+          subst (IsAsMachine k at_one r.name file) (sym ok) (
+            f.plain,
+            f.legal,
+            f.chained_at,
+            (
+              sym (read_named k f.plain f.legal r.name file) ∙ f.allowed,
+              ap (bytes_of f.plain) (file_is k f.plain f.legal file),
+            ),
+          )
 
   -- ---- an answer to Chain
 

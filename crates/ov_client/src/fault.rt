@@ -18,7 +18,9 @@ pub enum ClientFault {
     /// A reply isn't in the grammar of answers to its request, or can't be by what was told before;
     /// `at` is the place of its first wrong byte.
     #[error("a reply is no answer (byte {at})")]
-    BadReply { at: u32 },
+    BadReply {
+        at: u32,
+    },
     /// The bytes under both coats have another tag than the file.
     #[error("the file's tag is not that of its bytes")]
     Damaged {
@@ -30,7 +32,9 @@ pub enum ClientFault {
     Device,
     /// The file's surface changed in each of nine tries, which were made at these generations.
     #[error("the file changed while it was read, in each of nine tries")]
-    Unsettled { generations: [u32; 9] },
+    Unsettled {
+        generations: [u32; 9],
+    },
     /// Memory was refused, here or at the server.
     #[error("out of memory")]
     Memory,

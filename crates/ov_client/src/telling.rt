@@ -21,8 +21,11 @@ pub enum Fetched {
 
 // Where the fields of a Chained stand in its frame, and how many bytes a step has.
 const GENERATION: u32 = 13;
+
 const BASE_ROOT: u32 = 49;
+
 const SURFACE_ROOT: u32 = 56;
+
 const STEP: u32 = 37;
 
 impl Client {

@@ -76,7 +76,10 @@ fn a_file_that_moved_is_read_again(rt: HostRuntime) -> Result<(), Fail> {
     ];
     let mut peer = peer_of(rt.alloc(), &replies)?;
     let bytes = reader_a()?.fetch(rt.alloc(), &mut peer, &name(b"f2")?);
-    assert_eq!(rt; bytes.map(|bytes| bytes.as_slice() == b"x2".as_slice()), Ok(true));
+    assert_eq!(rt;
+        bytes.map(|bytes| bytes.as_slice() == b"x2".as_slice()),
+        Ok(true)
+    );
     Ok(())
 }
 
@@ -155,7 +158,10 @@ fn answers_without_bytes_are_faults(rt: HostRuntime) -> Result<(), Fail> {
     assert_eq!(rt; fault, Err(ClientFault::Refused(ov_base::Refusal::NoPath)));
     let fault = fault_over(rt.alloc(), &[&CHAINED_A_F2, &[0x8d]])?;
     assert_eq!(rt; fault, Err(ClientFault::Device));
-    assert_eq!(rt; fault_over(rt.alloc(), &[&[0x8e]])?, Err(ClientFault::Memory));
+    assert_eq!(rt;
+        fault_over(rt.alloc(), &[&[0x8e]])?,
+        Err(ClientFault::Memory)
+    );
     let fault = fault_over(rt.alloc(), &[&CHAINED_A_F2])?;
     assert_eq!(rt; fault, Err(ClientFault::Link));
     let text = format!(in rt.alloc(); "{}", ClientFault::BadReply { at: 13 })?;

@@ -37,9 +37,7 @@ pub const CHAINED_C_F1: [u8; 93] = [
 ];
 
 /// The chunk of f1.
-pub const BYTES_F1: [u8; 3] = [
-    0x86, 0xa8, 0x27,
-];
+pub const BYTES_F1: [u8; 3] = [0x86, 0xa8, 0x27];
 
 /// The chains of a to f2: a step in each layer.
 pub const CHAINED_A_F2: [u8; 136] = [
@@ -55,14 +53,10 @@ pub const CHAINED_A_F2: [u8; 136] = [
 ];
 
 /// The chunk of f2.
-pub const BYTES_F2: [u8; 3] = [
-    0x86, 0xc8, 0xa5,
-];
+pub const BYTES_F2: [u8; 3] = [0x86, 0xc8, 0xa5];
 
 /// The answer to that chunk after c was granted f2.
-pub const MOVED_F2: [u8; 5] = [
-    0x8c, 0x00, 0x00, 0x00, 0x07,
-];
+pub const MOVED_F2: [u8; 5] = [0x8c, 0x00, 0x00, 0x00, 0x07];
 
 /// The chains of a to f2 after that: it has no surface.
 pub const CHAINED_AGAIN_A_F2: [u8; 93] = [
@@ -75,6 +69,4 @@ pub const CHAINED_AGAIN_A_F2: [u8; 93] = [
 ];
 
 /// The chunk of f2 after that.
-pub const BYTES_AGAIN_F2: [u8; 3] = [
-    0x86, 0x26, 0xf7,
-];
+pub const BYTES_AGAIN_F2: [u8; 3] = [0x86, 0x26, 0xf7];
