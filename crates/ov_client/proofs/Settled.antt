@@ -60,67 +60,8 @@ use Rattle.ov_client.specs.declared.telling.Fetched.TheVariants.{Bytes, Moved}
 use Rattle.ov_client.proofs.Leading.{BeginsAt}
 use Rattle.ov_client.proofs.Opening.{judged_is, length_is, there}
 use Rattle.ov_client.proofs.Staying.{file_in, found_file}
-
--- ---- answers that are read
-
--- an answer to the request, which can be sent, is read as itself
-reads_back : (request : Request) (a : Answer) → IsAnswer request a → HasAnswerForm a
-    → answer_of request (answer_bytes a) ≡ Ok a
-reads_back request a is form =
-    not_long (answer_bytes a)
-    (placed (length (answer_bytes a)) (all_of (by_rows (answer_rows request) (answer_bytes a))))
-    (answer_is_frame a form).1
-    ∙ ap (placed (length (answer_bytes a))) (answer_again request a is)
-
-refusal_of_read : (a b c : Bool) (why : Refusal)
-    → first_of_tests ((NoUser, a) ∷ (NoFile, b) ∷ (NoPath, c) ∷ []) ≡ Some why
-    → IsOneOf why read_refusals
-refusal_of_read true b c why is = inl (let same : Some NoUser ≡ Some why = is in cc)
-refusal_of_read false true c why is = inr (inl (let same : Some NoFile ≡ Some why = is in cc))
-refusal_of_read false false true why is =
-    inr (inr (inl (let same : Some NoPath ≡ Some why = is in cc)))
-refusal_of_read false false false why is = absurd (let none : None ≡ Some why = is in cc)
-
-chain_is_answer : (s : Catalogue) (user file : List ℕ) (u n : ℕ) (a : Answer)
-    → AnswersChain s u n a → HasAnswerForm a → IsAnswer (requests.Chain user file) a
-chain_is_answer s user file u n (answers.Chained c) is form = form.0
-chain_is_answer s user file u n (answers.Refused why) is form = refusal_of_read _ _ _ why is
-chain_is_answer s user file u n a is form = absurd is
-
--- ---- roots
-
-base_begins : (b : Bool) (nodes : Nodes) (grants : List Grant) (user node : ℕ) (chain : Chain)
-    → IsBaseChainIf b nodes grants user node chain → chain.root ≡ root_of nodes.sets user
-base_begins true nodes grants user node chain is = is.0
-base_begins false nodes grants user node chain (token, there, is) = ap (λ (c : Chain). c.root) is
-
-surface_begins : (nodes : Nodes) (user : ℕ) (surface : Option ℕ) (chain : Option Chain)
-    → IsSurfaceChain nodes user surface chain → BeginsAt (root_of nodes.sets user) chain
-surface_begins nodes user None None is = tt
-surface_begins nodes user None (Some chain) is = absurd is
-surface_begins nodes user (Some node) None is = absurd is
-surface_begins nodes user (Some node) (Some chain) is = is.0
-
-right_surface : (r : Reader) (steps : ℕ) (chain : Option Chain) → BeginsAt r.surface_root chain
-    → wrong_surface r steps chain ≡ None
-right_surface r steps None begins = refl
-right_surface r steps (Some chain) begins =
-    ap (λ (b : Bool). if b then None else Some (56 + 37 * steps)) (eq-eqb chain.root r.surface_root begins)
-
-right_field : (r : Reader) (c : Chained) → c.base.root ≡ r.base_root → BeginsAt r.surface_root c.surface
-    → wrong_field r 0 c ≡ None
-right_field r c base surface =
-    ap
-    (λ (b : Bool). if b then Some 13
-    else if c.base.root == r.base_root then wrong_surface r (length c.base.steps) c.surface else Some 49)
-    (lt_is_false c.generation 0 (omega arith))
-    ∙ ap (λ (b : Bool). if b then wrong_surface r (length c.base.steps) c.surface else Some 49)
-    (eq-eqb c.base.root r.base_root base)
-    ∙ right_surface r (length c.base.steps) c.surface surface
-
-no_rest : (xs rest : List ℕ) → length (xs ++ rest) ≤ length xs → xs ++ rest ≡ xs
-no_rest xs [] few = append-nil xs
-no_rest xs (x ∷ rest) few = absurd (omega (arith, length-append xs (x ∷ rest)))
+use Rattle.ov_client.proofs.Quiet.{IsFetching, StandsQuiet, chain_stands, chunk_stands, low_told}
+use Rattle.ov_client.proofs.ReadingBack.{chain_is_answer, reads_back}
 
 module _ (k : Masters) (r : Reader) (file : List ℕ) (p : PlainHistory) (legal : IsLegal (history_of p))
     (holds : HoldsRootKeys k r) (roots : HasRoots p r) where
@@ -133,128 +74,8 @@ module _ (k : Masters) (r : Reader) (file : List ℕ) (p : PlainHistory) (legal 
   abbrev n : ℕ
   n = file_named s file
 
-  -- the chains to the file were told, and these stored bytes are a front of its own
-  record IsFetching (c : Chained) (stored : List ℕ) : Type 0 where
-    allowed : read_refusal (matrix_shown s) u n ≡ None
-    told : IsChainedFor s u n c
-    base : c.base.root ≡ r.base_root
-    surface : BeginsAt r.surface_root c.surface
-    rest : List ℕ
-    front : slice_index_or (stored_of k.surface (sealed k p)) c.file [] ≡ stored ++ rest
-
-  Stands : Stage → Type 0
-  Stands (AsksChain tries least) = least ≡ 0
-  Stands (AsksChunk tries c stored) = IsFetching c stored
-  Stands (Ends result) = IsAnsweredOrCut result
-
-  module _ (c : Chained) (stored : List ℕ) (f : IsFetching c stored) where
-    low : n < length s.files
-    low = there k p legal u n f.allowed
-
-    low_told : c.file < length s.files
-    low_told = subst (λ m. m < length s.files) (sym f.told.file) low
-
-    size : length (slice_index_or (stored_of k.surface (sealed k p)) c.file []) ≡ c.length
-    size =
-        ap (λ m. length (slice_index_or (stored_of k.surface (sealed k p)) m [])) f.told.file
-        ∙ length_is k p legal n low ∙ sym f.told.length
-
-    goes_on_stands : (tries : List ℕ) → Stands (goes_on r tries c stored)
-    unfolding Stands
-    goes_on_stands tries = by_test (nat_lt (length stored) c.length) refl where
-      by_test : (b : Bool) → nat_lt (length stored) c.length ≡ b
-          → Stands
-          (if b then AsksChunk tries c stored
-          else Ends (judged (keys_along r c) c (uncovered (keys_along r c) c.file 0 stored)))
-      by_test true is = f
-      by_test false is =
-          let enough : c.length ≤ length stored = ge_of_false (length stored) c.length is in
-          let long = ap length f.front in
-          let whole : stored ≡ slice_index_or (stored_of k.surface (sealed k p)) n [] =
-          sym (f.front ∙ no_rest stored f.rest (omega (arith, size, enough, long)))
-          ∙ ap (λ m. slice_index_or (stored_of k.surface (sealed k p)) m []) f.told.file in
-          subst IsAnsweredOrCut
-          (sym (judged_is k p legal r holds u n c low f.told f.base f.surface stored whole)) tt
-
-  -- ---- an answer to Chain
-
-  chained_stands : (tries : List ℕ) (c : Chained) → AnswersChain s u n (answers.Chained c)
-      → Stands (then_or (λ (d : Chained). goes_on r tries d []) (chained_unless (wrong_field r 0 c) c))
-  chained_stands tries c (allowed, told) =
-      let shows = kept_shows k p s (legal, refl) in
-      let user : u ≡ user_number (matrix_of (history_of p)) r.name =
-      ap (λ (m : Matrix). user_number m r.name) shows.matrix in
-      let base : c.base.root ≡ r.base_root =
-      base_begins (has (slice_index s.base.sets (file_in s.files n).node) u) s.base s.grants u (file_in s.files n).node c.base told.base
-      ∙ (λ i. root_of (shows.layers i).base (user i)) ∙ sym roots.base in
-      let surface : BeginsAt r.surface_root c.surface =
-      subst (λ m. BeginsAt m c.surface) ((λ i. root_of (shows.layers i).surface (user i)) ∙ sym roots.surface)
-      (surface_begins s.surface u (file_in s.files n).surface c.surface told.surface) in
-      subst (λ (o : Option ℕ). Stands (then_or (λ (d : Chained). goes_on r tries d []) (chained_unless o c)))
-      (sym (right_field r c base surface))
-      (goes_on_stands c [] (record {
-        allowed = allowed;
-        told = told;
-        base = base;
-        surface = surface;
-        rest = slice_index_or (stored_of k.surface (sealed k p)) c.file [];
-        front = refl;
-      }) tries)
-
-  chain_stands : (tries : List ℕ) (least : ℕ) (a : Answer) → least ≡ 0 → AnswersChain s u n a
-      → Stands (after r (AsksChain tries least) (Ok a))
-  unfolding Stands
-  chain_stands tries least (answers.Chained c) none is =
-      subst (λ m. Stands (after r (AsksChain tries m) (Ok (answers.Chained c)))) (sym none) (chained_stands tries c is)
-  chain_stands tries least (answers.Refused why) none is = tt
-  chain_stands tries least a none is = absurd is
-
-  -- ---- an answer to Chunk
-
-  module _ (tries : List ℕ) (c : Chained) (stored : List ℕ) (f : IsFetching c stored) where
-    bytes_stand : (bytes : List ℕ)
-        → bytes ≡ take MAX_CHUNK_BYTES (drop (length stored) (slice_index_or (stored_of k.surface (sealed k p)) c.file []))
-        → Stands (after r (AsksChunk tries c stored) (Ok (answers.Bytes bytes)))
-    unfolding Stands
-    bytes_stand bytes are =
-        let taken : bytes ≡ take MAX_CHUNK_BYTES f.rest =
-        are
-        ∙ ap (take MAX_CHUNK_BYTES) (ap (drop (length stored)) f.front ∙ drop-append_seam stored f.rest) in
-        let split : f.rest ≡ bytes ++ drop MAX_CHUNK_BYTES f.rest =
-        sym (take-append-drop MAX_CHUNK_BYTES f.rest)
-        ∙ ap (λ (t : List ℕ). t ++ drop MAX_CHUNK_BYTES f.rest) (sym taken) in
-        let long = ap length f.front in
-        let some = ap length taken in
-        let count : length bytes ≡ chunk_bytes c.length (length stored) =
-        omega (arith, size c stored f, long, some, length-append stored f.rest, length-take MAX_CHUNK_BYTES f.rest) in
-        subst
-        (λ (b : Bool). Stands
-        (then_or (after_fetched r tries c stored)
-        (if b then Ok (Bytes bytes) else Err (client.BadReply (1 + min (length bytes) (chunk_bytes c.length (length stored)))))))
-        (sym (eq-eqb (length bytes) (chunk_bytes c.length (length stored)) count))
-        (goes_on_stands c (stored ++ bytes) (record {
-          allowed = f.allowed;
-          told = f.told;
-          base = f.base;
-          surface = f.surface;
-          rest = drop MAX_CHUNK_BYTES f.rest;
-          front = f.front ∙ ap (λ (t : List ℕ). stored ++ t) split
-              ∙ sym (append_assoc stored bytes (drop MAX_CHUNK_BYTES f.rest));
-        }) tries)
-
-    chunk_stands : (a : Answer)
-        → AnswersChunk (Some (file_in s.files c.file)) (slice_index_or (stored_of k.surface (sealed k p)) c.file [])
-        c.generation (length stored) MAX_CHUNK_BYTES a
-        → HasAnswerForm a
-        → IsAnswer (requests.Chunk c.file c.generation (length stored) MAX_CHUNK_BYTES) a
-        × Stands (after r (AsksChunk tries c stored) (Ok a))
-    chunk_stands (answers.Bytes bytes) is form = (form, bytes_stand bytes is.1)
-    chunk_stands (answers.Moved now) is form =
-        absurd
-        (is.0
-        (ap (λ m. (file_in s.files m).generation) f.told.file ∙ sym f.told.generation))
-    chunk_stands (answers.Refused why) is form = absurd is
-    chunk_stands a is form = absurd is
+  abbrev Stands : Stage → Type 0
+  Stands stage = StandsQuiet k r file p legal holds roots stage
 
   -- ---- one ask
 
@@ -288,9 +109,9 @@ module _ (k : Masters) (r : Reader) (file : List ℕ) (p : PlainHistory) (legal 
         ∙ reads_back (requests.Chain r.name file) replies.answer
         (chain_is_answer s r.name file u n replies.answer is replies.form) replies.form in
         subst (λ (x : Result Answer ℕ). Stands (after r (AsksChain tries least) x)) (sym read)
-        (chain_stands tries least replies.answer none is)
+        (chain_stands k r file p legal holds roots tries least replies.answer none is)
 
-    chunk_asked : (tries : List ℕ) (c : Chained) (stored : List ℕ) (f : IsFetching c stored) (reply : List ℕ)
+    chunk_asked : (tries : List ℕ) (c : Chained) (stored : List ℕ) (f : IsFetching k r file p legal holds roots c stored) (reply : List ℕ)
         → HasRequestForm (requests.Chunk c.file c.generation (length stored) MAX_CHUNK_BYTES)
         → Replies (served v) (request_bytes (requests.Chunk c.file c.generation (length stored) MAX_CHUNK_BYTES)) reply made
         → Stands (after r (AsksChunk tries c stored) (answer_of (requests.Chunk c.file c.generation (length stored) MAX_CHUNK_BYTES) reply))
@@ -305,9 +126,9 @@ module _ (k : Masters) (r : Reader) (file : List ℕ) (p : PlainHistory) (legal 
         stored_is
         (subst (λ (d : Catalogue). AnswersChunk (slice_get d.files c.file) (slice_index_or (stored_of v.surface v.history) c.file []) c.generation (length stored) MAX_CHUNK_BYTES replies.answer)
         catalogue_is at_v) in
-        let both = chunk_stands tries c stored f replies.answer
+        let both = chunk_stands k r file p legal holds roots tries c stored f replies.answer
         (subst (λ (o : Option Filed). AnswersChunk o (slice_index_or (stored_of k.surface (sealed k p)) c.file []) c.generation (length stored) MAX_CHUNK_BYTES replies.answer)
-        (found_file s.files c.file (low_told c stored f)) at_k) replies.form in
+        (found_file s.files c.file (low_told k r file p legal holds roots c stored f)) at_k) replies.form in
         let read : answer_of request reply ≡ Ok replies.answer =
         ap (answer_of request) replies.spelled ∙ reads_back request replies.answer both.0 replies.form in
         subst (λ (x : Result Answer ℕ). Stands (after r (AsksChunk tries c stored) x)) (sym read) both.1
@@ -316,7 +137,7 @@ module _ (k : Masters) (r : Reader) (file : List ℕ) (p : PlainHistory) (legal 
     chunk_failed : (tries : List ℕ) (c : Chained) (stored reply : List ℕ)
         → reply ≡ answer_bytes answers.DeviceFault
         → Stands (after r (AsksChunk tries c stored) (answer_of (requests.Chunk c.file c.generation (length stored) MAX_CHUNK_BYTES) reply))
-    unfolding Stands
+    unfolding StandsQuiet
     chunk_failed tries c stored reply spelled =
         let request : Request = requests.Chunk c.file c.generation (length stored) MAX_CHUNK_BYTES in
         let read : answer_of request reply ≡ Ok answers.DeviceFault =
@@ -328,7 +149,7 @@ module _ (k : Masters) (r : Reader) (file : List ℕ) (p : PlainHistory) (legal 
         → IsReplyAt v a.request a.reply made
         → (is_chain a.request ≡ true → a.reply ≢ answer_bytes answers.DeviceFault)
         → Stands next
-    unfolding Stands
+    unfolding StandsQuiet
     asked_stands stage next a stands moves at_v honest = by_read moves.reads where
       spelled : a.request ≡ request_bytes moves.asks.request
       spelled = moves.asks.spelled
@@ -357,7 +178,7 @@ module _ (k : Masters) (r : Reader) (file : List ℕ) (p : PlainHistory) (legal 
           let request : chunk ≡ moves.asks.request = cc (ap (asked_at r file) is, moves.asks.is_asked) in
           let goes : after r (AsksChunk tries c stored) (answer_of chunk a.reply) ≡ next =
           (λ i. after r (is i) (answer_of (request i) a.reply)) ∙ sym moved.moves in
-          let f : IsFetching c stored = subst Stands (sym is) stands in
+          let f : IsFetching k r file p legal holds roots c stored = subst Stands (sym is) stands in
           let at_chunk : IsReplyAt v (request_bytes chunk) a.reply made =
           subst (λ (x : Request). IsReplyAt v (request_bytes x) a.reply made) (sym request) at_it in
           let form : HasRequestForm chunk = subst HasRequestForm (sym request) moves.asks.form in
@@ -390,14 +211,14 @@ module _ (k : Masters) (r : Reader) (file : List ℕ) (p : PlainHistory) (legal 
 
   closed_so : (last : Stage) (unanswered : Option (List ℕ)) (result : Result (List ℕ) ClientFault)
       → Stands last → Closes r file last unanswered result → IsAnsweredOrCut result
-  unfolding Stands
+  unfolding StandsQuiet
   closed_so last None result stands (inl is) = subst Stands is stands
   closed_so last None result stands (inr memory) = subst IsAnsweredOrCut (sym memory) tt
   closed_so last (Some frame) result stands (asks, inl link) = subst IsAnsweredOrCut (sym link) tt
   closed_so last (Some frame) result stands (asks, inr memory) = subst IsAnsweredOrCut (sym memory) tt
 
   begins : Stands (AsksChain [] 0)
-  unfolding Stands
+  unfolding StandsQuiet
   begins = refl
 
 pub reads_are_answered : ReadsAreAnswered
