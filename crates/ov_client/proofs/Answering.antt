@@ -32,7 +32,8 @@ answer_is request reply a bytes e =
     (placed_ok (length reply) (all_of (by_rows (answer_rows request) reply)) a (long_ok _ _ a e))).0
 
 -- a Chained has as many base steps as a frame can announce
-pub few_steps : (user file : List ℕ) (a : Answer) → IsAnswer (requests.Chain user file) a → TellsFewSteps a
+pub few_steps : (user file : List ℕ) (a : Answer) → IsAnswer (requests.Chain user file) a
+    → TellsFewSteps a
 few_steps user file (answers.Chained c) is = is.5.1.0
 few_steps user file a is = tt
 

@@ -1,20 +1,16 @@
 -- Where a read stands at histories that are right.
-use Rattle.std.proofs.Common.{◌≡◌, ◌∙◌, ◌<◌, ◌≤◌, ℕ, zero, suc, Bool, true, false}
+use Rattle.std.proofs.Common.{◌≡◌, ◌∙◌, ◌<◌, ◌≤◌, ℕ, Bool, true, false}
 use Rattle.std.proofs.Common.{List, [], ◌∷◌, ◌++◌, length, take, drop, Option, Some, None}
-use Rattle.std.proofs.Common.{Result, Ok, Err, refl, sym, ap, subst, inl, inr, arith, append_assoc}
-use Rattle.std.proofs.Common.{length-append}
-use Rattle.std.specs.Prelude.{◌⊎◌, ◌+◌, ◌*◌, min, ◌==◌, nat_lt, if◌then◌else◌, slice_get, slice_index_or}
+use Rattle.std.proofs.Common.{Ok, Err, refl, sym, ap, subst, arith, append_assoc}
+use Rattle.std.specs.Prelude.{◌+◌, min, ◌==◌, nat_lt, if◌then◌else◌, slice_index_or}
 use Rattle.std.proofs.Math.Seq.{drop-append_seam}
-use Rattle.std.proofs.lemmas.Bool.Decides.{nat_tests}
 use Rattle.std.proofs.lemmas.List.{append-nil, take-append-drop}
 use Rattle.ov_base.proofs.Tests.{ge_of_false}
 use Rattle.ov_base.specs.declared.limits.TheConstants.{MAX_CHUNK_BYTES}
-use Rattle.ov_fields.specs.Fronts.{AreAllBytes}
 use Rattle.ov_record.specs.Updates.{SealedUpdate}
 use Rattle.ov_surface.specs.Coats.{stored_under}
-use Rattle.ov_tokens.specs.declared.chain.Chain.{Chain}
 use Rattle.ov_history.specs.Asking.{file_named, user_named}
-use Rattle.ov_history.specs.Catalogue.{Catalogue, Filed, matrix_shown}
+use Rattle.ov_history.specs.Catalogue.{Catalogue, matrix_shown}
 use Rattle.ov_history.specs.Masters.{Masters}
 use Rattle.ov_history.specs.Plain.{PlainHistory, bytes_of, history_of}
 use Rattle.ov_history.specs.Refusals.{IsLegal, read_refusal}
@@ -23,30 +19,19 @@ use Rattle.ov_history.specs.Sealed.{SealedHistory, catalogue_of, sent_of, stored
 use Rattle.ov_history.specs.Sealing.{sealed}
 use Rattle.ov_history.proofs.Sealing.{sealed_is_sealed}
 use Rattle.ov_history.proofs.Storing.{stored_is_coated}
-use Rattle.ov_wire.specs.declared.request.Request.{Request}
-use Rattle.ov_wire.specs.declared.request.Request.TheVariants as requests
 use Rattle.ov_wire.specs.declared.answer.Answer.{Answer}
 use Rattle.ov_wire.specs.declared.answer.Answer.TheVariants as answers
 use Rattle.ov_wire.specs.declared.answer.Chained.{Chained}
-use Rattle.ov_wire.specs.AnswerReading.{answer_of}
-use Rattle.ov_wire.specs.Requests.{HasRequestForm, request_bytes}
-use Rattle.ov_wire.proofs.AnswerForms.{read_alike}
-use Rattle.ov_protocol.specs.Answers.{Answers, made_by}
 use Rattle.ov_protocol.specs.Reading.{AnswersChain, AnswersChunk, IsChainedFor}
-use Rattle.ov_protocol.specs.Serving.{Service, followed, later, served}
-use Rattle.ov_protocol.proofs.Leaving.{later-nil}
-use Rattle.ov_protocol.proofs.Reading.{replies_are_read}
-use Rattle.ov_peer.specs.Asks.{Along, AreRight, Ask, IsReplyAt, IsRight}
-use Rattle.ov_client.specs.Laws.{HoldsRootKeys, IsAsMachine, ReadsAreTheMachines, is_chain}
-use Rattle.ov_client.specs.Laws.{last_chain, now_if}
+use Rattle.ov_protocol.specs.Serving.{Service, followed, later}
+use Rattle.ov_client.specs.Laws.{HoldsRootKeys, IsAsMachine}
 use Rattle.ov_client.specs.Readers.{Reader, judged, keys_along, uncovered}
-use Rattle.ov_client.specs.Talks.{AsksChain, AsksChunk, Closes, Ends, Goes, IsAfter, Moves, Stage}
-use Rattle.ov_client.specs.Talks.{after, after_fetched, again, asked_at, goes_on, then_or}
-use Rattle.ov_client.specs.Telling.{chained_unless, chunk_bytes, sized, wrong_field, wrong_surface}
-use Rattle.ov_client.specs.declared.fault.ClientFault.{ClientFault}
+use Rattle.ov_client.specs.Talks.{AsksChain, AsksChunk, Ends, Stage}
+use Rattle.ov_client.specs.Talks.{after, after_fetched, again, goes_on, then_or}
+use Rattle.ov_client.specs.Telling.{chained_unless, chunk_bytes, wrong_field}
 use Rattle.ov_client.specs.declared.fault.ClientFault.TheVariants as client
 use Rattle.ov_client.specs.declared.reading.TheConstants.{TRIES}
-use Rattle.ov_client.specs.declared.telling.Fetched.TheVariants.{Bytes, Moved}
+use Rattle.ov_client.specs.declared.telling.Fetched.TheVariants.{Bytes}
 use Rattle.ov_client.proofs.Leading.{BeginsAt}
 use Rattle.ov_client.proofs.Opening.{file_is, judged_is, length_is, read_named, there}
 use Rattle.ov_client.proofs.Staying.{file_in, found_file, same_file, same_text, stays_followed}
@@ -55,8 +40,8 @@ use Rattle.ov_client.proofs.Fields.{no_field, no_rest}
 module _ (k : Masters) (r : Reader) (file : List ℕ) (holds : HoldsRootKeys k r) where
   -- The file's chains were told at this history, which is right, and these stored bytes are a front
   -- of those that it has there; what is served goes on from that history.
-  pub record IsFetching (v : Service) (c : Chained) (stored : List ℕ) (at_one : Option SealedHistory)
-      : Type 0 where
+  pub record IsFetching (v : Service) (c : Chained) (stored : List ℕ)
+      (at_one : Option SealedHistory) : Type 0 where
     pub plain : PlainHistory
     pub legal : IsLegal (history_of plain)
     pub chained_at : at_one ≡ Some (sealed k plain)
@@ -85,7 +70,8 @@ module _ (k : Masters) (r : Reader) (file : List ℕ) (holds : HoldsRootKeys k r
     unfolding StandsAt
     again_stands least = by_count (length tries == TRIES) where
       by_count : (b : Bool)
-          → StandsAt v (if b then Ends (Err (client.Unsettled tries)) else AsksChain tries least) at_one
+          → StandsAt v (if b then Ends (Err (client.Unsettled tries)) else AsksChain tries least)
+          at_one
       by_count true = tt
       by_count false = tt
 
@@ -102,16 +88,19 @@ module _ (k : Masters) (r : Reader) (file : List ℕ) (holds : HoldsRootKeys k r
           let s : Catalogue = catalogue_of k.surface (sealed k f.plain) in
           let n : ℕ = file_named s file in
           let text : List ℕ = slice_index_or (stored_of k.surface (sealed k f.plain)) n [] in
-          let low : n < length s.files = there k f.plain f.legal (user_named s r.name) n f.allowed in
+          let low : n < length s.files = there k f.plain f.legal (user_named s r.name) n
+          f.allowed in
           let split : text ≡ stored ++ f.rest =
-          ap (λ m. slice_index_or (stored_of k.surface (sealed k f.plain)) m []) (sym f.told.file) ∙ f.front in
+          ap (λ m. slice_index_or (stored_of k.surface (sealed k f.plain)) m []) (sym f.told.file)
+          ∙ f.front in
           let size : length text ≡ c.length =
           length_is k f.plain f.legal n low ∙ sym f.told.length in
           let enough : c.length ≤ length stored = ge_of_false (length stored) c.length is in
           let long : length text ≡ length (stored ++ f.rest) = ap length split in
           let whole : stored ≡ text =
           sym (split ∙ no_rest stored f.rest (omega (arith, size, enough, long))) in
-          let ok = judged_is k f.plain f.legal r holds (user_named s r.name) n c low f.told f.base f.surface stored whole in
+          let ok = judged_is k f.plain f.legal r holds (user_named s r.name) n c low f.told f.base
+          f.surface stored whole in
           subst (IsAsMachine k at_one r.name file) (sym ok) (
             f.plain,
             f.legal,
@@ -124,7 +113,8 @@ module _ (k : Masters) (r : Reader) (file : List ℕ) (holds : HoldsRootKeys k r
 
   -- ---- an answer to Chain
 
-  module _ (v : Service) (tries : List ℕ) (least : ℕ) (p : PlainHistory) (legal : IsLegal (history_of p))
+  module _ (v : Service) (tries : List ℕ) (least : ℕ) (p : PlainHistory)
+      (legal : IsLegal (history_of p))
       (at_p : v.history ≡ sealed k p) where
     abbrev c_at : Catalogue
     c_at = catalogue_of k.surface (sealed k p)
@@ -132,7 +122,8 @@ module _ (k : Masters) (r : Reader) (file : List ℕ) (holds : HoldsRootKeys k r
     told_stands : (c : Chained)
         → AnswersChain c_at (user_named c_at r.name) (file_named c_at file) (answers.Chained c)
         → (o : Option ℕ) → wrong_field r least c ≡ o
-        → StandsAt v (then_or (λ (d : Chained). goes_on r tries d []) (chained_unless o c)) (Some (sealed k p))
+        → StandsAt v (then_or (λ (d : Chained). goes_on r tries d []) (chained_unless o c))
+        (Some (sealed k p))
     unfolding StandsAt
     told_stands c (allowed, told) (Some place) wrong = tt
     told_stands c (allowed, told) None wrong =
@@ -142,7 +133,8 @@ module _ (k : Masters) (r : Reader) (file : List ℕ) (holds : HoldsRootKeys k r
           legal = legal;
           chained_at = refl;
           more = [];
-          goes = at_p ∙ sym (ap (λ (us : List SealedUpdate). record (sealed k p) { updates = us }) (append-nil (sealed k p).updates));
+          goes = at_p ∙ sym (ap (λ (us : List SealedUpdate). record (sealed k p) { updates = us })
+          (append-nil (sealed k p).updates));
           allowed = allowed;
           told = told;
           base = base;
@@ -163,7 +155,8 @@ module _ (k : Masters) (r : Reader) (file : List ℕ) (holds : HoldsRootKeys k r
 
   -- ---- an answer to Chunk
 
-  module _ (v : Service) (tries : List ℕ) (c : Chained) (stored : List ℕ) (at_one : Option SealedHistory)
+  module _ (v : Service) (tries : List ℕ) (c : Chained) (stored : List ℕ)
+      (at_one : Option SealedHistory)
       (f : IsFetching v c stored at_one) (others : List SealedUpdate)
       (q : PlainHistory) (legal : IsLegal (history_of q))
       (at_q : followed v.history others ≡ sealed k q) where
@@ -189,7 +182,8 @@ module _ (k : Masters) (r : Reader) (file : List ℕ) (holds : HoldsRootKeys k r
 
     pub still : c.file < length now.files
     still =
-        subst (λ (g : SealedHistory). c.file < length (catalogue_of k.surface g).files) (sym goes_to)
+        subst (λ (g : SealedHistory). c.file < length (catalogue_of k.surface g).files)
+        (sym goes_to)
         (stays_followed k.surface (sealed k f.plain) all_more c.file low).low
 
     generation_before : c.generation ≡ (file_in before.files c.file).generation
@@ -206,14 +200,18 @@ module _ (k : Masters) (r : Reader) (file : List ℕ) (holds : HoldsRootKeys k r
         let now_is : file_in now.files n ≡ file_in before.files n =
         ap (λ (h : SealedHistory). file_in (catalogue_of k.surface h).files n) goes_to
         ∙ same_file k.surface (sealed k f.plain) all_more n low
-        (ap (λ (h : SealedHistory). (file_in (catalogue_of k.surface h).files n).generation) (sym goes_to)
+        (ap (λ (h : SealedHistory). (file_in (catalogue_of k.surface h).files n).generation)
+        (sym goes_to)
         ∙ generation ∙ generation_before) in
-        let text_is : slice_index_or (sent_of (sealed k q)) n [] ≡ slice_index_or (sent_of (sealed k f.plain)) n [] =
+        let text_is : slice_index_or (sent_of (sealed k q)) n [] ≡ slice_index_or
+        (sent_of (sealed k f.plain)) n [] =
         ap (λ (h : SealedHistory). slice_index_or (sent_of h) n []) goes_to
         ∙ same_text k.surface (sealed k f.plain) all_more n low in
-        let coated_now = stored_is_coated k.surface now (stored_of k.surface (sealed k q)) (sealed k q)
+        let coated_now = stored_is_coated k.surface now (stored_of k.surface (sealed k q))
+        (sealed k q)
         (sealed_is_sealed k q legal, refl) refl in
-        let coated_before = stored_is_coated k.surface before (stored_of k.surface (sealed k f.plain)) (sealed k f.plain)
+        let coated_before = stored_is_coated k.surface before
+        (stored_of k.surface (sealed k f.plain)) (sealed k f.plain)
         (sealed_is_sealed k f.plain f.legal, refl) refl in
         coated_now.coats n (file_in now.files n) (found_file now.files n still)
         ∙ (λ i. stored_under (surface_key k.surface (now_is i).surface) n (text_is i))
@@ -223,11 +221,13 @@ module _ (k : Masters) (r : Reader) (file : List ℕ) (holds : HoldsRootKeys k r
     goes_on_from = at_q ∙ goes_to
 
     bytes_stand : (bytes : List ℕ) → (file_in now.files c.file).generation ≡ c.generation
-        → bytes ≡ take MAX_CHUNK_BYTES (drop (length stored) (slice_index_or (stored_of k.surface (sealed k q)) c.file []))
+        → bytes ≡ take MAX_CHUNK_BYTES
+        (drop (length stored) (slice_index_or (stored_of k.surface (sealed k q)) c.file []))
         → (b : Bool)
         → StandsAt (later v others)
         (then_or (after_fetched r tries c stored)
-        (if b then Ok (Bytes bytes) else Err (client.BadReply (1 + min (length bytes) (chunk_bytes c.length (length stored)))))) at_one
+        (if b then Ok (Bytes bytes) else Err
+        (client.BadReply (1 + min (length bytes) (chunk_bytes c.length (length stored)))))) at_one
     unfolding StandsAt
     bytes_stand bytes generation are false = tt
     bytes_stand bytes generation are true =
@@ -235,10 +235,12 @@ module _ (k : Masters) (r : Reader) (file : List ℕ) (holds : HoldsRootKeys k r
         let left : drop (length stored) text ≡ f.rest =
         ap (drop (length stored)) f.front ∙ drop-append_seam stored f.rest in
         let taken : bytes ≡ take MAX_CHUNK_BYTES f.rest =
-        are ∙ ap (λ (t : List ℕ). take MAX_CHUNK_BYTES (drop (length stored) t)) (same_stored generation)
+        are ∙ ap (λ (t : List ℕ). take MAX_CHUNK_BYTES (drop (length stored) t))
+        (same_stored generation)
         ∙ ap (take MAX_CHUNK_BYTES) left in
         let split : f.rest ≡ bytes ++ drop MAX_CHUNK_BYTES f.rest =
-        sym (take-append-drop MAX_CHUNK_BYTES f.rest) ∙ ap (λ (t : List ℕ). t ++ drop MAX_CHUNK_BYTES f.rest) (sym taken) in
+        sym (take-append-drop MAX_CHUNK_BYTES f.rest)
+        ∙ ap (λ (t : List ℕ). t ++ drop MAX_CHUNK_BYTES f.rest) (sym taken) in
         goes_on_stands (later v others) tries at_one c (stored ++ bytes) (record {
           plain = f.plain;
           legal = f.legal;
@@ -255,12 +257,14 @@ module _ (k : Masters) (r : Reader) (file : List ℕ) (holds : HoldsRootKeys k r
         })
 
     pub chunk_stands : (answer : Answer)
-        → AnswersChunk (Some (file_in now.files c.file)) (slice_index_or (stored_of k.surface (sealed k q)) c.file [])
+        → AnswersChunk (Some (file_in now.files c.file))
+        (slice_index_or (stored_of k.surface (sealed k q)) c.file [])
         c.generation (length stored) MAX_CHUNK_BYTES answer
         → StandsAt (later v others) (after r (AsksChunk tries c stored) (Ok answer)) at_one
     unfolding StandsAt
     chunk_stands (answers.Bytes bytes) (generation, are) =
         bytes_stand bytes generation are (length bytes == chunk_bytes c.length (length stored))
-    chunk_stands (answers.Moved to) is = again_stands (later v others) (tries ++ c.generation ∷ []) at_one to
+    chunk_stands (answers.Moved to) is = again_stands (later v others) (tries ++ c.generation ∷ [])
+        at_one to
     chunk_stands (answers.Refused why) is = absurd is
     chunk_stands answer is = tt

@@ -13,7 +13,8 @@ use Rattle.ov_client.proofs.Leading.{BeginsAt}
 
 -- ---- no field is wrong
 
-surface_begins : (r : Reader) (steps : ℕ) (chain : Option Chain) → wrong_surface r steps chain ≡ None
+surface_begins : (r : Reader) (steps : ℕ) (chain : Option Chain)
+    → wrong_surface r steps chain ≡ None
     → BeginsAt r.surface_root chain
 surface_begins r steps None none = tt
 surface_begins r steps (Some chain) none = by_test (chain.root == r.surface_root) refl where
@@ -39,14 +40,16 @@ no_field r least c none = by_low (nat_lt c.generation least) refl where
       let wrong : wrong_field r least c ≡ Some 13 =
       ap
       (λ (b : Bool). if b then Some 13
-      else if c.base.root == r.base_root then wrong_surface r (length c.base.steps) c.surface else Some 49)
+      else if c.base.root == r.base_root then wrong_surface r (length c.base.steps) c.surface else
+      Some 49)
       is in absurd (cc)
   by_low false is =
       by_root (c.base.root == r.base_root) refl
       (sym
       (ap
       (λ (b : Bool). if b then Some 13
-      else if c.base.root == r.base_root then wrong_surface r (length c.base.steps) c.surface else Some 49)
+      else if c.base.root == r.base_root then wrong_surface r (length c.base.steps) c.surface else
+      Some 49)
       is)
       ∙ none)
 
@@ -56,14 +59,17 @@ right_surface : (r : Reader) (steps : ℕ) (chain : Option Chain) → BeginsAt r
     → wrong_surface r steps chain ≡ None
 right_surface r steps None begins = refl
 right_surface r steps (Some chain) begins =
-    ap (λ (b : Bool). if b then None else Some (56 + 37 * steps)) (eq-eqb chain.root r.surface_root begins)
+    ap (λ (b : Bool). if b then None else Some (56 + 37 * steps))
+    (eq-eqb chain.root r.surface_root begins)
 
-pub right_field : (r : Reader) (c : Chained) → c.base.root ≡ r.base_root → BeginsAt r.surface_root c.surface
+pub right_field : (r : Reader) (c : Chained) → c.base.root ≡ r.base_root
+    → BeginsAt r.surface_root c.surface
     → wrong_field r 0 c ≡ None
 right_field r c base surface =
     ap
     (λ (b : Bool). if b then Some 13
-    else if c.base.root == r.base_root then wrong_surface r (length c.base.steps) c.surface else Some 49)
+    else if c.base.root == r.base_root then wrong_surface r (length c.base.steps) c.surface else
+    Some 49)
     (lt_is_false c.generation 0 (omega arith))
     ∙ ap (λ (b : Bool). if b then wrong_surface r (length c.base.steps) c.surface else Some 49)
     (eq-eqb c.base.root r.base_root base)

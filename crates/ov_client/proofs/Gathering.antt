@@ -1,8 +1,8 @@
 -- How the chunks of a file and the tries of a read follow one another.
 use Rattle.std.proofs.Common.{◌≡◌, ◌∙◌, ◌<◌, ◌≤◌, ◌+◌, ℕ, Bool, true, false}
-use Rattle.std.proofs.Common.{List, [], ◌∷◌, ◌++◌, length, take, Result, Ok, Err}
+use Rattle.std.proofs.Common.{List, [], ◌∷◌, ◌++◌, length, Result, Err}
 use Rattle.std.proofs.Common.{refl, sym, ap, subst, arith, eq-eqb, length-append}
-use Rattle.std.specs.Prelude.{◌==◌, nat_lt, if◌then◌else◌}
+use Rattle.std.specs.Prelude.{◌==◌, if◌then◌else◌}
 use Rattle.std.proofs.lemmas.Bool.Decides.{nat_tests}
 use Rattle.ov_base.proofs.Tests.{lt_is_false, lt_is_true}
 use Rattle.ov_wire.specs.declared.answer.Chained.{Chained}
@@ -16,9 +16,9 @@ use Rattle.ov_client.specs.declared.fault.ClientFault.TheVariants as client
 use Rattle.ov_client.specs.declared.reading.Tried.{Tried}
 use Rattle.ov_client.specs.declared.reading.TheConstants.{TRIES}
 use Rattle.ov_client.specs.declared.telling.Fetched.{Fetched}
-use Rattle.ov_client.specs.declared.telling.Fetched.TheVariants.{Bytes, Moved}
+use Rattle.ov_client.specs.declared.telling.Fetched.TheVariants.{Bytes}
 use Rattle.ov_client.proofs.Coats.{length-uncovered, uncovered-append}
-use Rattle.ov_client.proofs.Talking.{behind, ended, forgot, then_reaches, then_reads}
+use Rattle.ov_client.proofs.Talking.{behind, forgot, then_reads}
 
 no_bytes : (bytes : List ℕ) → length bytes ≡ 0 → bytes ≡ []
 no_bytes [] none = refl
@@ -31,12 +31,14 @@ module _ (r : Reader) (tries : List ℕ) (c : Chained) (stored : List ℕ) where
   -- bytes are left
   pub asks_more : length stored < c.length → goes_on r tries c stored ≡ AsksChunk tries c stored
   asks_more low =
-      ap (λ (b : Bool). if b then AsksChunk tries c stored else whole) (lt_is_true (length stored) c.length low)
+      ap (λ (b : Bool). if b then AsksChunk tries c stored else whole)
+      (lt_is_true (length stored) c.length low)
 
   -- all came
   pub asks_no_more : c.length ≤ length stored → goes_on r tries c stored ≡ whole
   asks_no_more high =
-      ap (λ (b : Bool). if b then AsksChunk tries c stored else whole) (lt_is_false (length stored) c.length high)
+      ap (λ (b : Bool). if b then AsksChunk tries c stored else whole)
+      (lt_is_false (length stored) c.length high)
 
 module _ {P : Type 0} (asked : Asked P) (failed : Failed P) (r : Reader) (file : List ℕ) where
   -- What came so far of a file: these bytes, without their coats, to which the asks led.
@@ -55,7 +57,8 @@ module _ {P : Type 0} (asked : Asked P) (failed : Failed P) (r : Reader) (file :
     pub fetched_on : (result : Result Fetched ClientFault) → length plain < c.length
         → GoesOn asked failed m q r file (AsksChunk tries c so_far.stored)
         (after_fetched r tries c so_far.stored) result
-        → GoesOn asked failed p q r file (goes_on r tries c []) (after_fetched r tries c so_far.stored)
+        → GoesOn asked failed p q r file (goes_on r tries c [])
+        (after_fetched r tries c so_far.stored)
         result
     fetched_on result low on =
         behind asked failed r file p m q (goes_on r tries c []) (AsksChunk tries c so_far.stored)
@@ -66,7 +69,8 @@ module _ {P : Type 0} (asked : Asked P) (failed : Failed P) (r : Reader) (file :
 
     -- its bytes came
     pub gathers_more : (chunk next : List ℕ)
-        → Reaches asked p q r file (goes_on r tries c []) (goes_on r tries c (so_far.stored ++ chunk))
+        → Reaches asked p q r file (goes_on r tries c [])
+        (goes_on r tries c (so_far.stored ++ chunk))
         → next ≡ plain ++ uncovered keys c.file (length plain) chunk
         → Gathers p q tries c keys next
     gathers_more chunk next reaches is =
@@ -80,7 +84,8 @@ module _ {P : Type 0} (asked : Asked P) (failed : Failed P) (r : Reader) (file :
 
     -- memory ran out for them
     pub no_room : (chunk : List ℕ)
-        → Reaches asked p q r file (goes_on r tries c []) (goes_on r tries c (so_far.stored ++ chunk))
+        → Reaches asked p q r file (goes_on r tries c [])
+        (goes_on r tries c (so_far.stored ++ chunk))
         → ReadsFrom asked failed p q r file (goes_on r tries c []) (Err client.Memory)
     no_room chunk reaches =
         then_reads asked failed r file p q q (goes_on r tries c [])
@@ -92,14 +97,16 @@ module _ {P : Type 0} (asked : Asked P) (failed : Failed P) (r : Reader) (file :
         → Reaches asked p m r file (goes_on r tries c []) (after_gathered r tries c (Bytes plain))
     gathers_all same high =
         let bytes : uncovered (keys_along r c) c.file 0 so_far.stored ≡ plain =
-        ap (λ (k : FileKeys). uncovered k c.file 0 so_far.stored) (sym same) ∙ sym so_far.is_plain in
+        ap (λ (k : FileKeys). uncovered k c.file 0 so_far.stored) (sym same)
+        ∙ sym so_far.is_plain in
         subst (λ (s : Stage). Reaches asked p m r file (goes_on r tries c []) s)
         (asks_no_more r tries c so_far.stored (omega (arith, size_is))
         ∙ ap (λ (b : List ℕ). Ends (judged (keys_along r c) c b)) bytes)
         so_far.reaches
 
   -- nothing came so far
-  pub gathers_none : (p : P) (tries : List ℕ) (c : Chained) (keys : FileKeys) → Gathers p p tries c keys []
+  pub gathers_none : (p : P) (tries : List ℕ) (c : Chained) (keys : FileKeys)
+      → Gathers p p tries c keys []
   gathers_none p tries c keys = record {
     stored = [];
     is_plain = sym (no_bytes (uncovered keys c.file 0 []) (length-uncovered keys c.file 0 []));
@@ -108,11 +115,14 @@ module _ {P : Type 0} (asked : Asked P) (failed : Failed P) (r : Reader) (file :
 
 -- ---- tries
 
-pub try_again : (tries : List ℕ) (least : ℕ) → length tries < TRIES → again tries least ≡ AsksChain tries least
+pub try_again : (tries : List ℕ) (least : ℕ) → length tries < TRIES
+    → again tries least ≡ AsksChain tries least
 try_again tries least low = by_count (length tries == TRIES) refl where
   by_count : (b : Bool) → (length tries == TRIES) ≡ b
-      → (if b then Ends (Err (client.Unsettled tries)) else AsksChain tries least) ≡ AsksChain tries least
-  by_count true is = absurd (let same : length tries ≡ TRIES = grind (arith, nat_tests) in omega arith)
+      → (if b then Ends (Err (client.Unsettled tries)) else AsksChain tries least) ≡ AsksChain tries
+      least
+  by_count true is = absurd (let same : length tries ≡ TRIES = grind (arith, nat_tests) in omega
+      arith)
   by_count false is = refl
 
 pub no_more_tries : (tries : List ℕ) (least : ℕ) → length tries ≡ TRIES
@@ -129,8 +139,10 @@ module _ {P : Type 0} (asked : Asked P) (failed : Failed P) (r : Reader) (file :
       → GoesOn asked failed m q r file (AsksChain tries least) (after_tried tries) result
       → GoesOn asked failed p q r file (AsksChain [] 0) (after_tried tries) result
   tried_on p m q tries least result low reaches on =
-      behind asked failed r file p m q (AsksChain [] 0) (AsksChain tries least) (after_tried tries) result
-      (subst (λ (s : Stage). Reaches asked p m r file (AsksChain [] 0) s) (try_again tries least low) reaches)
+      behind asked failed r file p m q (AsksChain [] 0) (AsksChain tries least) (after_tried tries)
+      result
+      (subst (λ (s : Stage). Reaches asked p m r file (AsksChain [] 0) s)
+      (try_again tries least low) reaches)
       on
 
 -- how many bytes there are with a chunk
@@ -138,5 +150,5 @@ pub longer : (keys : FileKeys) (file start : ℕ) (plain chunk next : List ℕ)
     → next ≡ plain ++ uncovered keys file start chunk → length next ≡ length plain + length chunk
 longer keys file start plain chunk next is =
     let all = ap length is in
-    omega
-    (arith, all, length-append plain (uncovered keys file start chunk), length-uncovered keys file start chunk)
+    let chunks = length-uncovered keys file start chunk in
+    omega (arith, all, chunks, length-append plain (uncovered keys file start chunk))

@@ -37,7 +37,8 @@ path_label kind graph from to (step ∷ steps) (near, first, path) =
 
 sealed_edges : (kind : Kind) (master : List ℕ) (nodes : Nodes) → AreTrueEdges kind master nodes
     → IsSealed kind master (graph_of nodes)
-sealed_edges kind master nodes edges to edge there = ap (λ (t : Token). t.bytes) (edges to edge there)
+sealed_edges kind master nodes edges to edge there = ap (λ (t : Token). t.bytes)
+    (edges to edge there)
 
 -- over true edges a chain leads to the key of its node
 edge_chain_leads : (kind : Kind) (master : List ℕ) (nodes : Nodes) (user node : ℕ) (chain : Chain)
@@ -55,7 +56,8 @@ access_by_edges k c user node chain tokens is =
     let end : last_label (label_of Derive chain.root) chain.steps ≡ label_of Derive node =
     path_label Derive (graph_of c.base) chain.root node chain.steps
     (chosen_path Derive (graph_of c.base) chain.root node is.1.edges chain.steps is.1.chosen) in
-    ap (λ (l : Label). access_from l.kind (walked (node_key Derive k.base chain.root) chain.steps)) end
+    ap (λ (l : Label). access_from l.kind (walked (node_key Derive k.base chain.root) chain.steps))
+    end
     ∙ ap access_key_of (edge_chain_leads Derive k.base c.base user node chain tokens.base is)
 
 access_by_token : (k : Masters) (c : Catalogue) (user node : ℕ) (chain : Chain)
@@ -75,11 +77,12 @@ access_by_token k c user node chain tokens (token, there, is) =
 pub base_chain_leads : (k : Masters) (c : Catalogue) (user node : ℕ) (chain : Chain)
     → AreTrueTokens k c → IsBaseChain c.base c.grants user node chain
     → access_along (node_key Derive k.base chain.root) chain ≡ access_key k.base node
-base_chain_leads k c user node chain tokens is = by_set (has (slice_index c.base.sets node) user) is where
-  by_set : (b : Bool) → IsBaseChainIf b c.base c.grants user node chain
-      → access_along (node_key Derive k.base chain.root) chain ≡ access_key k.base node
-  by_set true edges = access_by_edges k c user node chain tokens edges
-  by_set false access = access_by_token k c user node chain tokens access
+base_chain_leads k c user node chain tokens is =
+    by_set (has (slice_index c.base.sets node) user) is where
+    by_set : (b : Bool) → IsBaseChainIf b c.base c.grants user node chain
+        → access_along (node_key Derive k.base chain.root) chain ≡ access_key k.base node
+    by_set true edges = access_by_edges k c user node chain tokens edges
+    by_set false access = access_by_token k c user node chain tokens access
 
 -- the surface chain, where there is one, begins at this root
 abbrev pub BeginsAt : ℕ → Option Chain → Type 0

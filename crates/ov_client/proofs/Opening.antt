@@ -1,18 +1,16 @@
 -- What a reader finds of a file, after a history that is right under the masters of its keys.
-use Rattle.std.proofs.Common.{◌≡◌, ◌∙◌, ◌<◌, ◌≤◌, ℕ, Bool, true, false, List, [], ◌∷◌, length}
-use Rattle.std.proofs.Common.{Option, Some, None, Result, Ok, Err, refl, sym, ap, subst, arith}
+use Rattle.std.proofs.Common.{◌≡◌, ◌∙◌, ◌<◌, ℕ, Bool, true, false, List, [], ◌∷◌, length}
+use Rattle.std.proofs.Common.{None, Ok, Err, refl, sym, ap, arith}
 use Rattle.std.specs.Prelude.{slice_index_or, if◌then◌else◌, bytes_eq, not}
 use Rattle.std.proofs.lemmas.Slice.Eq.{bytes_eq-Decides}
-use Rattle.std.proofs.lemmas.Bool.Decides.{nat_tests}
 use Rattle.ov_base.proofs.Tests.{lt_of_true}
 use Rattle.ov_base.specs.declared.refusal.Refusal.TheVariants.{NoUser, NoFile, NoPath}
-use Rattle.ov_tokens.specs.declared.chain.Chain.{Chain}
-use Rattle.ov_tokens.specs.declared.label.Kind.TheVariants.{Derive, Surface}
+use Rattle.ov_tokens.specs.declared.label.Kind.TheVariants.{Derive}
 use Rattle.ov_tokens.specs.Keys.{node_key}
 use Rattle.ov_surface.specs.Tags.{tag_of_file}
 use Rattle.ov_wire.specs.declared.answer.Chained.{Chained}
 use Rattle.ov_history.specs.Asking.{file_named, user_named}
-use Rattle.ov_history.specs.Catalogue.{Catalogue, Filed, filed_at, matrix_shown, outline}
+use Rattle.ov_history.specs.Catalogue.{Catalogue, Filed, matrix_shown, outline}
 use Rattle.ov_history.specs.History.{Matrix, matrix_of}
 use Rattle.ov_history.specs.Kept.{AreKept, IsKept, opened}
 use Rattle.ov_history.specs.Keys.{AreTrueTokens}
@@ -21,7 +19,7 @@ use Rattle.ov_history.specs.Masters.{Masters, access_key}
 use Rattle.ov_history.specs.Plain.{PlainHistory, bytes_of, history_of}
 use Rattle.ov_history.specs.Refusals.{IsLegal, first_of_tests, read_refusal}
 use Rattle.ov_history.specs.Rewrites.{surface_key}
-use Rattle.ov_history.specs.Sealed.{SealedHistory, catalogue_of, stored_of}
+use Rattle.ov_history.specs.Sealed.{catalogue_of, stored_of}
 use Rattle.ov_history.specs.Sealing.{sealed}
 use Rattle.ov_history.proofs.Filing.{readers_get_bytes}
 use Rattle.ov_history.proofs.Keeping.{kept_shows, kept_stands_for}
@@ -29,11 +27,10 @@ use Rattle.ov_history.proofs.SoundTests.{files_shown-length}
 use Rattle.ov_history.proofs.Storing.{stored_is_coated}
 use Rattle.ov_history.proofs.TrueHistories.{tokens_are_true}
 use Rattle.ov_protocol.specs.Reading.{IsChainedFor}
-use Rattle.ov_client.specs.Laws.{HoldsRootKeys, IsReadAt}
+use Rattle.ov_client.specs.Laws.{HoldsRootKeys}
 use Rattle.ov_client.specs.Readers.{Reader, access_along, judged, keys_along, surface_along}
 use Rattle.ov_client.specs.Readers.{uncovered}
-use Rattle.ov_client.specs.declared.fault.ClientFault.{ClientFault}
-use Rattle.ov_client.specs.declared.fault.ClientFault.TheVariants.{Damaged, Refused}
+use Rattle.ov_client.specs.declared.fault.ClientFault.TheVariants.{Damaged}
 use Rattle.ov_client.proofs.Leading.{BeginsAt, base_chain_leads, surface_chain_leads}
 use Rattle.ov_client.proofs.Staying.{file_in, found_file}
 
@@ -85,17 +82,20 @@ module _ (k : Masters) (p : PlainHistory) (legal : IsLegal (history_of p)) where
   file_is file = ap (λ (m : Matrix). file_number m file) matrix_is
 
   -- a file that may be read is there
-  pub there : (user n : ℕ) → read_refusal (matrix_shown shown) user n ≡ None → n < length shown.files
+  pub there : (user n : ℕ) → read_refusal (matrix_shown shown) user n ≡ None
+      → n < length shown.files
   there user n none =
       let test = not_is _ (file_there _ _ _ none) in
-      let low : n < length (matrix_shown shown).files = lt_of_true n (length (matrix_shown shown).files) test in
+      let low : n < length (matrix_shown shown).files = lt_of_true n
+      (length (matrix_shown shown).files) test in
       omega (arith, files_shown-length (outline shown) shown.files)
 
   -- what is stored of a file has the file's length
   pub length_is : (n : ℕ) → n < length shown.files
       → length (slice_index_or texts n []) ≡ (file_in shown.files n).length
   length_is n low =
-      (stored_is_coated k.surface shown texts (sealed k p) (kept_stands_for k p shown is_kept) are_kept).lengths
+      (stored_is_coated k.surface shown texts (sealed k p) (kept_stands_for k p shown is_kept)
+      are_kept).lengths
       n (file_in shown.files n) (found_file shown.files n low)
 
   module _ (r : Reader) (holds : HoldsRootKeys k r) (user number : ℕ) (c : Chained)
@@ -109,21 +109,26 @@ module _ (k : Masters) (p : PlainHistory) (legal : IsLegal (history_of p)) where
 
     access_is : access_along r.base c.base ≡ access_key k.base filed.node
     access_is =
-        ap (λ (key : List ℕ). access_along key c.base) (holds.base ∙ ap (node_key Derive k.base) (sym base))
+        ap (λ (key : List ℕ). access_along key c.base)
+        (holds.base ∙ ap (node_key Derive k.base) (sym base))
         ∙ base_chain_leads k shown user filed.node c.base tokens is.base
 
     surface_is : surface_along r.surface c.surface ≡ surface_key k.surface filed.surface
     surface_is =
         ap (λ (key : List ℕ). surface_along key c.surface) holds.surface
-        ∙ surface_chain_leads k shown user r.surface_root filed.surface c.surface tokens surface is.surface
+        ∙ surface_chain_leads k shown user r.surface_root filed.surface c.surface tokens surface
+        is.surface
 
     -- the reader finds the file's bytes, and the tag is theirs
     pub judged_is : (stored : List ℕ) → stored ≡ slice_index_or texts number []
-        → judged (keys_along r c) c (uncovered (keys_along r c) c.file 0 stored) ≡ Ok (bytes_of p number)
+        → judged (keys_along r c) c (uncovered (keys_along r c) c.file 0 stored) ≡ Ok
+        (bytes_of p number)
     judged_is stored whole =
-        let readers = readers_get_bytes k p shown texts number filed is_kept are_kept (found_file shown.files number low) in
+        let readers = readers_get_bytes k p shown texts number filed is_kept are_kept
+        (found_file shown.files number low) in
         let bytes : List ℕ = uncovered (keys_along r c) c.file 0 stored in
-        let found : bytes ≡ opened (access_key k.base filed.node) (surface_key k.surface filed.surface) number (slice_index_or texts number []) =
+        let found : bytes ≡ opened (access_key k.base filed.node)
+        (surface_key k.surface filed.surface) number (slice_index_or texts number []) =
         λ i. opened (access_is i) (surface_is i) (is.file i) (whole i) in
         let plain : bytes ≡ bytes_of p number = found ∙ readers.0 in
         let tag : tag_of_file (access_along r.base c.base) c.file bytes ≡ c.tag =

@@ -1,70 +1,48 @@
 -- Where a read stands at a history that nobody changes.
-use Rattle.std.proofs.Common.{◌≡◌, ◌∙◌, ◌<◌, ◌≤◌, ◌+◌, ◌-◌, ℕ, zero, suc, Bool, true, false}
-use Rattle.std.proofs.Common.{List, [], ◌∷◌, ◌++◌, length, take, drop, Option, Some, None}
-use Rattle.std.proofs.Common.{Result, Ok, Err, refl, sym, ap, subst, inl, inr, arith, append_assoc}
+use Rattle.std.proofs.Common.{◌≡◌, ◌∙◌, ◌<◌, ◌≤◌, ◌+◌, ℕ, Bool, true, false}
+use Rattle.std.proofs.Common.{List, [], ◌++◌, length, take, drop, Option, Some, None}
+use Rattle.std.proofs.Common.{Ok, Err, refl, sym, ap, subst, arith, append_assoc}
 use Rattle.std.proofs.Common.{eq-eqb, length-append}
-use Rattle.std.specs.Prelude.{◌⊎◌, ◌≢◌, ◌*◌, min, ◌==◌, nat_lt, if◌then◌else◌, slice_get, slice_index_or}
+use Rattle.std.specs.Prelude.{min, nat_lt, if◌then◌else◌, slice_index_or}
 use Rattle.std.proofs.Math.Seq.{drop-append_seam}
-use Rattle.std.proofs.lemmas.List.{append-nil, length-take, take-append-drop}
-use Rattle.ov_base.proofs.Tests.{ge_of_false, lt_is_false, lt_of_true}
-use Rattle.ov_base.specs.declared.limits.TheConstants.{MAX_CHUNK_BYTES, MAX_FRAME_BYTES}
-use Rattle.ov_base.specs.declared.refusal.Refusal.{Refusal}
-use Rattle.ov_base.specs.declared.refusal.Refusal.TheVariants.{NoUser, NoFile, NoPath}
+use Rattle.std.proofs.lemmas.List.{length-take, take-append-drop}
+use Rattle.ov_base.proofs.Tests.{ge_of_false}
+use Rattle.ov_base.specs.declared.limits.TheConstants.{MAX_CHUNK_BYTES}
 use Rattle.ov_base.specs.Sets.{has}
 use Rattle.std.specs.Prelude.{slice_index}
-use Rattle.ov_fields.specs.Reading.{all_of, by_rows, placed}
-use Rattle.ov_fields.specs.Spelling.{IsOneOf}
-use Rattle.ov_record.specs.Updates.{SealedUpdate}
-use Rattle.ov_tokens.specs.declared.chain.Chain.{Chain}
-use Rattle.ov_base_layer.specs.declared.grant.Grant.{Grant}
 use Rattle.ov_history.specs.Asking.{file_named, user_named}
-use Rattle.ov_history.specs.Catalogue.{Catalogue, Filed, Nodes, matrix_shown}
-use Rattle.ov_history.specs.Chains.{IsBaseChain, IsBaseChainIf, IsSurfaceChain}
+use Rattle.ov_history.specs.Catalogue.{Catalogue, matrix_shown}
 use Rattle.ov_history.specs.History.{Matrix, matrix_of}
-use Rattle.ov_history.specs.Layers.{Layers, layers_of, root_of}
+use Rattle.ov_history.specs.Layers.{root_of}
 use Rattle.ov_history.specs.Lists.{user_number}
 use Rattle.ov_history.specs.Masters.{Masters}
 use Rattle.ov_history.specs.Plain.{PlainHistory, history_of}
-use Rattle.ov_history.specs.Refusals.{IsLegal, first_of_tests, read_refusal}
-use Rattle.ov_history.specs.Sealed.{SealedHistory, catalogue_of, stored_of}
+use Rattle.ov_history.specs.Refusals.{IsLegal, read_refusal}
+use Rattle.ov_history.specs.Sealed.{catalogue_of, stored_of}
 use Rattle.ov_history.specs.Sealing.{sealed}
 use Rattle.ov_history.proofs.Keeping.{kept_shows}
-use Rattle.ov_wire.specs.declared.request.Request.{Request}
 use Rattle.ov_wire.specs.declared.request.Request.TheVariants as requests
 use Rattle.ov_wire.specs.declared.answer.Answer.{Answer}
 use Rattle.ov_wire.specs.declared.answer.Answer.TheVariants as answers
 use Rattle.ov_wire.specs.declared.answer.Chained.{Chained}
-use Rattle.ov_wire.specs.AnswerBytes.{answer_bytes}
 use Rattle.ov_wire.specs.AnswerForm.{HasAnswerForm}
-use Rattle.ov_wire.specs.AnswerReading.{answer_of, answer_rows}
-use Rattle.ov_wire.specs.AnswersTo.{IsAnswer, read_refusals}
-use Rattle.ov_wire.specs.Requests.{HasRequestForm, request_bytes}
-use Rattle.ov_wire.proofs.AnswerForms.{answer_is_frame}
-use Rattle.ov_wire.proofs.AnswerLaws.{answer_again}
-use Rattle.ov_wire.proofs.LongFrames.{not_long}
-use Rattle.ov_protocol.specs.Answers.{Answers}
+use Rattle.ov_wire.specs.AnswersTo.{IsAnswer}
 use Rattle.ov_protocol.specs.Reading.{AnswersChain, AnswersChunk, IsChainedFor}
-use Rattle.ov_protocol.specs.Replies.{AnswersRead, Replies}
-use Rattle.ov_protocol.specs.Serving.{Service, followed, later, served}
-use Rattle.ov_protocol.proofs.Reading.{request_back}
-use Rattle.ov_peer.specs.Asks.{Along, Ask, IsReplyAt}
-use Rattle.ov_client.specs.Laws.{AllAre, HasRoots, HoldsRootKeys, IsAnsweredOrCut, NoChainFails}
-use Rattle.ov_client.specs.Laws.{ReadsAreAnswered, is_chain}
+use Rattle.ov_client.specs.Laws.{HasRoots, HoldsRootKeys, IsAnsweredOrCut}
 use Rattle.ov_client.specs.Readers.{Reader, judged, keys_along, uncovered}
-use Rattle.ov_client.specs.Talks.{AsksChain, AsksChunk, Closes, Ends, Goes, IsAfter, Moves, Stage}
-use Rattle.ov_client.specs.Talks.{after, after_fetched, asked_at, goes_on, then_or}
-use Rattle.ov_client.specs.Telling.{chained_unless, chunk_bytes, wrong_field, wrong_surface}
-use Rattle.ov_client.specs.declared.fault.ClientFault.{ClientFault}
+use Rattle.ov_client.specs.Talks.{AsksChain, AsksChunk, Ends, Stage}
+use Rattle.ov_client.specs.Talks.{after, after_fetched, goes_on, then_or}
+use Rattle.ov_client.specs.Telling.{chained_unless, chunk_bytes, wrong_field}
 use Rattle.ov_client.specs.declared.fault.ClientFault.TheVariants as client
-use Rattle.ov_client.specs.declared.telling.Fetched.TheVariants.{Bytes, Moved}
+use Rattle.ov_client.specs.declared.telling.Fetched.TheVariants.{Bytes}
 use Rattle.ov_client.proofs.Leading.{BeginsAt}
 use Rattle.ov_client.proofs.Opening.{judged_is, length_is, there}
-use Rattle.ov_client.proofs.Staying.{file_in, found_file}
+use Rattle.ov_client.proofs.Staying.{file_in}
 use Rattle.ov_client.proofs.Fields.{no_rest, right_field}
 use Rattle.ov_client.proofs.ReadingBack.{base_begins, surface_begins}
 
-module _ (k : Masters) (r : Reader) (file : List ℕ) (p : PlainHistory) (legal : IsLegal (history_of p))
-    (holds : HoldsRootKeys k r) (roots : HasRoots p r) where
+module _ (k : Masters) (r : Reader) (file : List ℕ) (p : PlainHistory)
+    (legal : IsLegal (history_of p)) (holds : HoldsRootKeys k r) (roots : HasRoots p r) where
   abbrev pub s : Catalogue
   s = catalogue_of k.surface (sealed k p)
 
@@ -120,18 +98,22 @@ module _ (k : Masters) (r : Reader) (file : List ℕ) (p : PlainHistory) (legal 
   -- ---- an answer to Chain
 
   chained_stands : (tries : List ℕ) (c : Chained) → AnswersChain s u n (answers.Chained c)
-      → StandsQuiet (then_or (λ (d : Chained). goes_on r tries d []) (chained_unless (wrong_field r 0 c) c))
+      → StandsQuiet (then_or (λ (d : Chained). goes_on r tries d [])
+      (chained_unless (wrong_field r 0 c) c))
   chained_stands tries c (allowed, told) =
       let shows = kept_shows k p s (legal, refl) in
       let user : u ≡ user_number (matrix_of (history_of p)) r.name =
       ap (λ (m : Matrix). user_number m r.name) shows.matrix in
       let base : c.base.root ≡ r.base_root =
-      base_begins (has (slice_index s.base.sets (file_in s.files n).node) u) s.base s.grants u (file_in s.files n).node c.base told.base
+      base_begins (has (slice_index s.base.sets (file_in s.files n).node) u) s.base s.grants u
+      (file_in s.files n).node c.base told.base
       ∙ (λ i. root_of (shows.layers i).base (user i)) ∙ sym roots.base in
       let surface : BeginsAt r.surface_root c.surface =
-      subst (λ m. BeginsAt m c.surface) ((λ i. root_of (shows.layers i).surface (user i)) ∙ sym roots.surface)
+      subst (λ m. BeginsAt m c.surface)
+      ((λ i. root_of (shows.layers i).surface (user i)) ∙ sym roots.surface)
       (surface_begins s.surface u (file_in s.files n).surface c.surface told.surface) in
-      subst (λ (o : Option ℕ). StandsQuiet (then_or (λ (d : Chained). goes_on r tries d []) (chained_unless o c)))
+      subst (λ (o : Option ℕ). StandsQuiet
+      (then_or (λ (d : Chained). goes_on r tries d []) (chained_unless o c)))
       (sym (right_field r c base surface))
       (goes_on_stands c [] (record {
         allowed = allowed;
@@ -146,7 +128,8 @@ module _ (k : Masters) (r : Reader) (file : List ℕ) (p : PlainHistory) (legal 
       → StandsQuiet (after r (AsksChain tries least) (Ok a))
   unfolding StandsQuiet
   chain_stands tries least (answers.Chained c) none is =
-      subst (λ m. StandsQuiet (after r (AsksChain tries m) (Ok (answers.Chained c)))) (sym none) (chained_stands tries c is)
+      subst (λ m. StandsQuiet (after r (AsksChain tries m) (Ok (answers.Chained c)))) (sym none)
+      (chained_stands tries c is)
   chain_stands tries least (answers.Refused why) none is = tt
   chain_stands tries least a none is = absurd is
 
@@ -154,24 +137,28 @@ module _ (k : Masters) (r : Reader) (file : List ℕ) (p : PlainHistory) (legal 
 
   module _ (tries : List ℕ) (c : Chained) (stored : List ℕ) (f : IsFetching c stored) where
     bytes_stand : (bytes : List ℕ)
-        → bytes ≡ take MAX_CHUNK_BYTES (drop (length stored) (slice_index_or (stored_of k.surface (sealed k p)) c.file []))
+        → bytes ≡ take MAX_CHUNK_BYTES
+        (drop (length stored) (slice_index_or (stored_of k.surface (sealed k p)) c.file []))
         → StandsQuiet (after r (AsksChunk tries c stored) (Ok (answers.Bytes bytes)))
     unfolding StandsQuiet
     bytes_stand bytes are =
         let taken : bytes ≡ take MAX_CHUNK_BYTES f.rest =
         are
-        ∙ ap (take MAX_CHUNK_BYTES) (ap (drop (length stored)) f.front ∙ drop-append_seam stored f.rest) in
+        ∙ ap (take MAX_CHUNK_BYTES)
+        (ap (drop (length stored)) f.front ∙ drop-append_seam stored f.rest) in
         let split : f.rest ≡ bytes ++ drop MAX_CHUNK_BYTES f.rest =
         sym (take-append-drop MAX_CHUNK_BYTES f.rest)
         ∙ ap (λ (t : List ℕ). t ++ drop MAX_CHUNK_BYTES f.rest) (sym taken) in
         let long = ap length f.front in
         let some = ap length taken in
         let count : length bytes ≡ chunk_bytes c.length (length stored) =
-        omega (arith, size c stored f, long, some, length-append stored f.rest, length-take MAX_CHUNK_BYTES f.rest) in
+        omega (arith, size c stored f, long, some, length-append stored f.rest, length-take
+        MAX_CHUNK_BYTES f.rest) in
         subst
         (λ (b : Bool). StandsQuiet
         (then_or (after_fetched r tries c stored)
-        (if b then Ok (Bytes bytes) else Err (client.BadReply (1 + min (length bytes) (chunk_bytes c.length (length stored)))))))
+        (if b then Ok (Bytes bytes) else Err
+        (client.BadReply (1 + min (length bytes) (chunk_bytes c.length (length stored)))))))
         (sym (eq-eqb (length bytes) (chunk_bytes c.length (length stored)) count))
         (goes_on_stands c (stored ++ bytes) (record {
           allowed = f.allowed;
@@ -184,7 +171,8 @@ module _ (k : Masters) (r : Reader) (file : List ℕ) (p : PlainHistory) (legal 
         }) tries)
 
     pub chunk_stands : (a : Answer)
-        → AnswersChunk (Some (file_in s.files c.file)) (slice_index_or (stored_of k.surface (sealed k p)) c.file [])
+        → AnswersChunk (Some (file_in s.files c.file))
+        (slice_index_or (stored_of k.surface (sealed k p)) c.file [])
         c.generation (length stored) MAX_CHUNK_BYTES a
         → HasAnswerForm a
         → IsAnswer (requests.Chunk c.file c.generation (length stored) MAX_CHUNK_BYTES) a

@@ -22,7 +22,8 @@ use Rattle.ov_protocol.specs.Serving.{followed}
 abbrev pub file_in : List Filed → ℕ → Filed
 file_in files n = slice_index_or files n no_filed
 
-pub found_file : (files : List Filed) (n : ℕ) → n < length files → slice_get files n ≡ Some (file_in files n)
+pub found_file : (files : List Filed) (n : ℕ) → n < length files
+    → slice_get files n ≡ Some (file_in files n)
 found_file [] n low = absurd (omega arith)
 found_file (f ∷ files) zero low = refl
 found_file (f ∷ files) (suc n) low = found_file files n (omega arith)
@@ -88,7 +89,8 @@ grown_up_to c (BriefCreate file list tokens tag size) up n low =
     elim (cases_lt n (length c.files)) [
       | inl old ↦
           let was = up n old in
-          let same = ap (λ (g : Filed). g.generation) (get_or_append_left c.files (f ∷ []) no_filed n old) in
+          let same = ap (λ (g : Filed). g.generation)
+          (get_or_append_left c.files (f ∷ []) no_filed n old) in
           omega arith
       | inr past ↦
           let here : n ≡ length c.files = omega (arith, length-append c.files (f ∷ [])) in
@@ -150,7 +152,8 @@ stays_all master c [] n low = record { low = low; epoch = omega arith; same = in
 stays_all master c (u ∷ updates) n low =
     let one = stays_one master c (brief u) n low in
     let all = stays_all master (catalogue_after master c (brief u)) updates n one.low in
-    let end : Catalogue = catalogue_all master (catalogue_after master c (brief u)) updates in record {
+    let end : Catalogue = catalogue_all master (catalogue_after master c (brief u)) updates in
+    record {
       low = all.low;
       epoch = omega (arith, one.epoch, all.epoch);
       same = elim all.same [
@@ -162,7 +165,8 @@ stays_all master c (u ∷ updates) n low =
       ];
     }
 
-up_to_all : (master : List ℕ) (c : Catalogue) (updates : List SealedUpdate) → AreUpTo c.epoch c.files
+up_to_all : (master : List ℕ) (c : Catalogue) (updates : List SealedUpdate)
+    → AreUpTo c.epoch c.files
     → AreUpTo (catalogue_all master c updates).epoch (catalogue_all master c updates).files
 up_to_all master c [] up = up
 up_to_all master c (u ∷ updates) up =
@@ -170,7 +174,8 @@ up_to_all master c (u ∷ updates) up =
 
 up_to_of : (master : List ℕ) (g : SealedHistory)
     → AreUpTo (catalogue_of master g).epoch (catalogue_of master g).files
-up_to_of master g = up_to_all master (empty_catalogue g.mode g.first) g.updates (λ n low. absurd (omega arith))
+up_to_of master g = up_to_all master (empty_catalogue g.mode g.first) g.updates
+    (λ n low. absurd (omega arith))
 
 catalogue_both : (master : List ℕ) (c : Catalogue) (updates more : List SealedUpdate)
     → catalogue_all master c (updates ++ more)
@@ -249,7 +254,8 @@ module _ (master : List ℕ) (g : SealedHistory) (updates : List SealedUpdate) (
   ]
 
   -- the texts that were sent stay
-  pub same_text : slice_index_or (sent_of (followed g updates)) n [] ≡ slice_index_or (sent_of g) n []
+  pub same_text : slice_index_or (sent_of (followed g updates)) n [] ≡ slice_index_or (sent_of g) n
+      []
   same_text =
       let many : length (sent_of g) ≡ length (catalogue_of master g).files =
       many_all master (empty_catalogue g.mode g.first) [] g.updates refl in

@@ -1,19 +1,18 @@
 -- How the asks of a read lead from stage to stage.
-use Rattle.std.proofs.Common.{◌≡◌, ◌∙◌, ℕ, List, [], ◌∷◌, ◌++◌, Option, Some, None, Result, Ok, Err}
+use Rattle.std.proofs.Common.{◌≡◌, ℕ, List, [], ◌∷◌, ◌++◌, Some, None, Result, Ok, Err}
 use Rattle.std.proofs.Common.{refl, sym, ap, subst, inl, inr}
 use Rattle.std.specs.Prelude.{◌⊎◌}
 use Rattle.ov_wire.specs.declared.request.Request.{Request}
 use Rattle.ov_wire.specs.declared.answer.Answer.{Answer}
-use Rattle.ov_wire.specs.AnswerReading.{answer_of}
 use Rattle.ov_wire.specs.Requests.{HasRequestForm, request_bytes}
-use Rattle.ov_peer.specs.Asks.{Ask, Asked, Failed, Leads, AreAsks}
+use Rattle.ov_peer.specs.Asks.{Ask, Asked, Failed, Leads}
 use Rattle.ov_peer.specs.Exchanges.{Answered, Exchanges}
 use Rattle.ov_peer.specs.declared.fault.ExchangeFault.{ExchangeFault}
 use Rattle.ov_peer.specs.declared.fault.ExchangeFault.TheVariants as exchange
 use Rattle.ov_client.specs.Causes.{client_fault}
 use Rattle.ov_client.specs.Readers.{Reader}
 use Rattle.ov_client.specs.Reads.{GoesOn, Reaches, ReadsFrom}
-use Rattle.ov_client.specs.Talks.{Closes, Ends, Goes, IsAskedAt, Moves, Stage, after, asked_at}
+use Rattle.ov_client.specs.Talks.{Ends, Goes, IsAskedAt, Stage, after, asked_at}
 use Rattle.ov_client.specs.Talks.{then_or}
 use Rattle.ov_client.specs.declared.fault.ClientFault.{ClientFault}
 use Rattle.ov_client.specs.declared.fault.ClientFault.TheVariants as client
@@ -24,11 +23,13 @@ module _ {P : Type 0} (asked : Asked P) (failed : Failed P) (r : Reader) (file :
   leads_both : (p m q : P) (asks more : List Ask) → Leads asked p asks m → Leads asked m more q
       → Leads asked p (asks ++ more) q
   leads_both p m q [] more same leads = subst (λ (n : P). Leads asked n more q) (sym same) leads
-  leads_both p m q (a ∷ asks) more (n, one, leads) then = (n, one, leads_both n m q asks more leads then)
+  leads_both p m q (a ∷ asks) more (n, one, leads) then =
+      (n, one, leads_both n m q asks more leads then)
 
   goes_both : (stage mid last : Stage) (asks more : List Ask) → Goes r file stage asks mid
       → Goes r file mid more last → Goes r file stage (asks ++ more) last
-  goes_both stage mid last [] more same goes = subst (λ (s : Stage). Goes r file s more last) (sym same) goes
+  goes_both stage mid last [] more same goes = subst (λ (s : Stage). Goes r file s more last)
+      (sym same) goes
   goes_both stage mid last (a ∷ asks) more (next, one, goes) then =
       (next, one, goes_both next mid last asks more goes then)
 
@@ -38,34 +39,44 @@ module _ {P : Type 0} (asked : Asked P) (failed : Failed P) (r : Reader) (file :
 
   pub then_reaches : (p m q : P) (stage mid last : Stage) → Reaches asked p m r file stage mid
       → Reaches asked m q r file mid last → Reaches asked p q r file stage last
-  then_reaches p m q stage mid last (asks, leads, goes) (more, leads_on, goes_further) =
-      (asks ++ more, leads_both p m q asks more leads leads_on, goes_both stage mid last asks more goes goes_further)
+  then_reaches p m q stage mid last (asks, leads, goes) (more, leads_on, goes_further) = (
+    asks ++ more,
+    leads_both p m q asks more leads leads_on,
+    goes_both stage mid last asks more
+        goes goes_further,
+  )
 
   pub then_reads : (p m q : P) (stage mid : Stage) (result : Result (List ℕ) ClientFault)
       → Reaches asked p m r file stage mid → ReadsFrom asked failed m q r file mid result
       → ReadsFrom asked failed p q r file stage result
-  then_reads p m q stage mid result (asks, leads, goes) (more, unanswered, (n, leads_on, ends), (last, goes_further, closes)) = (
-    asks ++ more,
-    unanswered,
-    (n, leads_both p m n asks more leads leads_on, ends),
-    (last, goes_both stage mid last asks more goes goes_further, closes),
-  )
+  then_reads p m q stage mid result (asks, leads, goes)
+      (more, unanswered, (n, leads_on, ends), (last, goes_further, closes)) = (
+        asks ++ more,
+        unanswered,
+        (n, leads_both p m n asks more leads leads_on, ends),
+        (last, goes_both stage mid last asks more goes goes_further, closes),
+      )
 
   -- a stage at which the read is done
   pub ended : (p q : P) (stage : Stage) (result : Result (List ℕ) ClientFault)
-      → Reaches asked p q r file stage (Ends result) → ReadsFrom asked failed p q r file stage result
-  ended p q stage result (asks, leads, goes) = (asks, None, (q, leads, refl), (Ends result, goes, inl refl))
+      → Reaches asked p q r file stage (Ends result)
+      → ReadsFrom asked failed p q r file stage result
+  ended p q stage result (asks, leads, goes) =
+      (asks, None, (q, leads, refl), (Ends result, goes, inl refl))
 
   -- memory runs out between two asks
   pub forgot : (p : P) (stage : Stage) → ReadsFrom asked failed p p r file stage (Err client.Memory)
   forgot p stage = ([], None, (p, refl, refl), (stage, refl, inr refl))
 
   -- and after a read that is done
-  pub forgot_bytes : (p q : P) (stage : Stage) (bytes : List ℕ) → ReadsFrom asked failed p q r file stage (Ok bytes)
+  pub forgot_bytes : (p q : P) (stage : Stage) (bytes : List ℕ)
+      → ReadsFrom asked failed p q r file stage (Ok bytes)
       → ReadsFrom asked failed p q r file stage (Err client.Memory)
-  forgot_bytes p q stage bytes (asks, None, leads, (last, goes, closes)) = (asks, None, leads, (last, goes, inr refl))
+  forgot_bytes p q stage bytes (asks, None, leads, (last, goes, closes)) =
+      (asks, None, leads, (last, goes, inr refl))
   forgot_bytes p q stage bytes (asks, Some frame, leads, (last, goes, (is, inl link))) = absurd (cc)
-  forgot_bytes p q stage bytes (asks, Some frame, leads, (last, goes, (is, inr memory))) = absurd (cc)
+  forgot_bytes p q stage bytes (asks, Some frame, leads, (last, goes, (is, inr memory))) = absurd
+      (cc)
 
   -- ---- one ask
 
@@ -82,7 +93,11 @@ module _ {P : Type 0} (asked : Asked P) (failed : Failed P) (r : Reader) (file :
       (q, a.sent, refl),
       (
         after r stage read,
-        record { asks = asked_so; reads = inl (record { bytes = a.bytes; moves = ap (after r stage) (sym a.reads) }) },
+        record {
+          asks = asked_so;
+          reads = inl
+              (record { bytes = a.bytes; moves = ap (after r stage) (sym a.reads) });
+        },
         refl,
       ),
     )
@@ -114,23 +129,29 @@ module _ {P : Type 0} (asked : Asked P) (failed : Failed P) (r : Reader) (file :
     unanswered p q exchange.Link bad x = fails p q (Err client.Link) x (inl refl)
     unanswered p q (exchange.BadReply place) bad x =
         ended p q stage (Err (client.BadReply place))
-        (subst (λ (s : Stage). Reaches asked p q r file stage s) (bad place) (answered p q (Err place) x))
+        (subst (λ (s : Stage). Reaches asked p q r file stage s) (bad place)
+        (answered p q (Err place) x))
     unanswered p q exchange.Memory bad (inl same) =
-        subst (λ (n : P). ReadsFrom asked failed p n r file stage (Err client.Memory)) (sym same) (forgot p stage)
+        subst (λ (n : P). ReadsFrom asked failed p n r file stage (Err client.Memory)) (sym same)
+        (forgot p stage)
     unanswered p q exchange.Memory bad (inr (inl f)) = fails p q (Err client.Memory) f (inr refl)
     unanswered p q exchange.Memory bad (inr (inr (reply, a))) = lost p q reply a
 
   -- ---- parts of a read
 
   -- it came to the stage after what was told
-  pub told : {T : Type 0} (p q : P) (stage : Stage) (next : T → Stage) (result : Result T ClientFault)
-      → Reaches asked p q r file stage (then_or next result) → GoesOn asked failed p q r file stage next result
+  pub told : {T : Type 0} (p q : P) (stage : Stage) (next : T → Stage)
+      (result : Result T ClientFault)
+      → Reaches asked p q r file stage (then_or next result)
+      → GoesOn asked failed p q r file stage next result
   told p q stage next (Ok t) reaches = reaches
   told p q stage next (Err fault) reaches = ended p q stage (Err fault) reaches
 
   -- it began at a stage to which asks led
-  pub behind : {T : Type 0} (p m q : P) (stage mid : Stage) (next : T → Stage) (result : Result T ClientFault)
+  pub behind : {T : Type 0} (p m q : P) (stage mid : Stage) (next : T → Stage)
+      (result : Result T ClientFault)
       → Reaches asked p m r file stage mid → GoesOn asked failed m q r file mid next result
       → GoesOn asked failed p q r file stage next result
   behind p m q stage mid next (Ok t) reaches on = then_reaches p m q stage mid (next t) reaches on
-  behind p m q stage mid next (Err fault) reaches on = then_reads p m q stage mid (Err fault) reaches on
+  behind p m q stage mid next (Err fault) reaches on = then_reads p m q stage mid (Err fault)
+      reaches on

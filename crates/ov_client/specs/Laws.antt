@@ -1,9 +1,9 @@
 -- What a read gives over a peer that tells its history.
 use Rattle.std.specs.Prelude.{◌≡◌, ◌≢◌, ℕ, ◌==◌, Bool, true, false, List, [], ◌∷◌}
-use Rattle.std.specs.Prelude.{Option, Some, None, Result, Ok, Err, if◌then◌else◌}
+use Rattle.std.specs.Prelude.{Option, Some, None, Result, Ok, Err}
 use Rattle.ov_tokens.specs.declared.label.Kind.TheVariants.{Derive, Surface}
 use Rattle.ov_tokens.specs.Keys.{node_key}
-use Rattle.ov_history.specs.History.{Matrix, matrix_of}
+use Rattle.ov_history.specs.History.{matrix_of}
 use Rattle.ov_history.specs.Layers.{layers_of, root_of}
 use Rattle.ov_history.specs.Lists.{file_number, user_number}
 use Rattle.ov_history.specs.Masters.{Masters}

@@ -1,6 +1,5 @@
-use Rattle.std.proofs.Common.{◌≡◌, ◌∙◌, inl, inr, sym}
+use Rattle.std.proofs.Common.{◌∙◌, inl, inr, sym}
 use Rattle.ov_tokens.specs.declared.label.Kind.TheVariants.{Access, Derive, Surface}
-use Rattle.ov_client.specs.Readers.{access_along}
 use Rattle.ov_client.proofs.Leading.{access_is}
 use Rattle.ov_client.proofs.keys.access_key_by.Goals as goal
 
@@ -16,6 +15,8 @@ returns-in-Access c =
     let chain = c.args.chain.now in
     let end = c.walk-end.result.bytes in
     elim c.in-Access.is [
-      | inl is ↦ access_is root_key chain Access end (sym is ∙ c.last_kind.ensures) c.walk-end.ensures.walked
-      | inr is ↦ access_is root_key chain Surface end (sym is ∙ c.last_kind.ensures) c.walk-end.ensures.walked
+      | inl is ↦ access_is root_key chain Access end (sym is ∙ c.last_kind.ensures)
+          c.walk-end.ensures.walked
+      | inr is ↦ access_is root_key chain Surface end (sym is ∙ c.last_kind.ensures)
+          c.walk-end.ensures.walked
     ]
