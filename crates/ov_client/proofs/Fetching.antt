@@ -134,7 +134,7 @@ module _ (k : Masters) (r : Reader) (file : List ℕ) (holds : HoldsRootKeys k r
           chained_at = refl;
           more = [];
           goes = at_p ∙ sym (ap (λ (us : List SealedUpdate). record (sealed k p) { updates = us })
-          (append-nil (sealed k p).updates));
+              (append-nil (sealed k p).updates));
           allowed = allowed;
           told = told;
           base = base;

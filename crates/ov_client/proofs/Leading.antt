@@ -79,10 +79,10 @@ pub base_chain_leads : (k : Masters) (c : Catalogue) (user node : ℕ) (chain : 
     → access_along (node_key Derive k.base chain.root) chain ≡ access_key k.base node
 base_chain_leads k c user node chain tokens is =
     by_set (has (slice_index c.base.sets node) user) is where
-    by_set : (b : Bool) → IsBaseChainIf b c.base c.grants user node chain
-        → access_along (node_key Derive k.base chain.root) chain ≡ access_key k.base node
-    by_set true edges = access_by_edges k c user node chain tokens edges
-    by_set false access = access_by_token k c user node chain tokens access
+      by_set : (b : Bool) → IsBaseChainIf b c.base c.grants user node chain
+          → access_along (node_key Derive k.base chain.root) chain ≡ access_key k.base node
+      by_set true edges = access_by_edges k c user node chain tokens edges
+      by_set false access = access_by_token k c user node chain tokens access
 
 -- the surface chain, where there is one, begins at this root
 abbrev pub BeginsAt : ℕ → Option Chain → Type 0

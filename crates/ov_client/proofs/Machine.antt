@@ -43,7 +43,7 @@ module _ (k : Masters) (r : Reader) (file : List ℕ) (holds : HoldsRootKeys k r
 
   -- ---- one ask
 
-  -- what was read of a reply: the server's answer, by which nothing is made, or that its disk failed
+  -- what was read of a reply: the server's answer, with what it made, or that its disk failed
   read_at : (u : Service) (request : Request) (reply : List ℕ) (made : List SealedUpdate)
       (answer : Answer)
       → HasRequestForm request → AreAllBytes reply → answer_of request reply ≡ Ok answer

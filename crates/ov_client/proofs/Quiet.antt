@@ -152,8 +152,15 @@ module _ (k : Masters) (r : Reader) (file : List ℕ) (p : PlainHistory)
         let long = ap length f.front in
         let some = ap length taken in
         let count : length bytes ≡ chunk_bytes c.length (length stored) =
-        omega (arith, size c stored f, long, some, length-append stored f.rest, length-take
-        MAX_CHUNK_BYTES f.rest) in
+        omega (
+          arith,
+          size c stored f,
+          long,
+          some,
+          length-append stored f.rest,
+          length-take
+              MAX_CHUNK_BYTES f.rest,
+        ) in
         subst
         (λ (b : Bool). StandsQuiet
         (then_or (after_fetched r tries c stored)

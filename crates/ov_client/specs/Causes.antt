@@ -17,7 +17,7 @@ abbrev pub IsClientCause : {T : Type 0} → ℕ → ℕ → Result T ClientFault
 IsClientCause before now (Err Link) = Rose before now
 IsClientCause before now result = Unit {0}
 
--- and the count never falls
+-- the count of faults never falls, and a fault of the link has its cause
 pub record HasClientCause {T : Type 0} (before now : ℕ) (result : Result T ClientFault)
     : Type 0 where
   pub later : before ≤ now

@@ -104,7 +104,8 @@ NoChainFails [] = Unit {0}
 NoChainFails (a ∷ asks) =
     (is_chain a.request ≡ true → a.reply ≢ answer_bytes DeviceFault) × NoChainFails asks
 
--- the read gave bytes or a refusal, or was cut off: by the link, the server's disk, or want of memory
+-- the read gave bytes or a refusal, or was cut off: by the link, the server's disk, or want of
+-- memory
 abbrev pub IsAnsweredOrCut : Result (List ℕ) ClientFault → Type 0
 IsAnsweredOrCut (Err (BadReply place)) = ⊥
 IsAnsweredOrCut (Err (Damaged stored computed)) = ⊥

@@ -20,21 +20,20 @@ use Rattle.ov_client.specs.declared.telling.Fetched.TheVariants.{Bytes, Moved}
 abbrev pub HasFewSteps : Chained → Type 0
 HasFewSteps c = length c.base.steps < 2 ^ 16
 
--- so has a Chained
+-- a Chained has as many base steps as a frame can announce
 abbrev pub TellsFewSteps : Answer → Type 0
 TellsFewSteps (answers.Chained c) = HasFewSteps c
 TellsFewSteps answer = Unit {0}
 
--- the places of a Chained's fields in its frame: the generation, the base root, and the surface root
--- behind so many base steps
+-- the place of the generation in the frame of a Chained
 abbrev pub generation_place : ℕ
 generation_place = 13
 
--- behind the tag
+-- the place of the base root in that frame, behind the tag
 abbrev pub base_root_place : ℕ
 base_root_place = 49
 
--- behind the base root, the number of base steps, these, and the flag
+-- the place of the surface root in that frame, behind so many base steps and the flag
 abbrev pub surface_root_place : ℕ → ℕ
 surface_root_place steps = 56 + 37 * steps
 

@@ -44,8 +44,8 @@ fn last_kind(chain: &Chain) -> Kind
 }
 
 /// The access key to which a base chain leads from the derivation key of its root. Steps over edges
-/// end at a derivation key, from which the access key is derived; an access token leads to the access
-/// key itself.
+/// end at a derivation key, from which the access key is derived; an access token leads to the
+/// access key itself.
 fn access_key_by(root_key: &Key, chain: &Chain) -> Key
     ensures { result.bytes ≡ access_along root_key.now.bytes chain.now }
 {
@@ -77,7 +77,8 @@ impl Keys {
         }
     }
 
-    /// Takes both coats off stored bytes, the first of which stands at the place `start` of the file.
+    /// Takes both coats off stored bytes, the first of which stands at the place `start` of the
+    /// file.
     fn uncover(&self, file: u32, start: u64, bytes: &mut [u8])
         requires { start + length bytes.old ≤ 4294967296 }
         ensures { bytes.new ≡ uncovered self.now file start bytes.old }

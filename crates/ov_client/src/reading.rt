@@ -25,8 +25,8 @@ const TRIES: usize = 9;
 pub enum Tried {
     /// The file's bytes.
     Read(Octets),
-    /// The file's surface changed: the generation of the chains that were told, and that of the file
-    /// now.
+    /// The file's surface changed: the generation of the chains that were told, and that of the
+    /// file now.
     Moved { generation: u32, now: u32 },
 }
 
@@ -111,9 +111,10 @@ impl Client {
 
     /// The bytes of a file, by the user's keys alone.
     ///
-    /// Asks for the chains from the user's two roots to the file's nodes, and then for its stored bytes,
-    /// chunk after chunk. Where the file's surface changes meanwhile it begins again, nine times in all.
-    /// The bytes are given only if the file's tag is theirs. A file without bytes asks for no chunk.
+    /// Asks for the chains from the user's two roots to the file's nodes, and then for its stored
+    /// bytes, chunk after chunk. Where the file's surface changes meanwhile it begins again, nine times
+    /// in all. The bytes are given only if the file's tag is theirs. A file without bytes asks for no
+    /// chunk.
     pub fn fetch<P: Peer>(
         &self,
         alloc: Global,
@@ -139,8 +140,8 @@ impl Client {
         Err(ClientFault::Unsettled { generations })
     }
 
-    /// Appends the bytes of a file to a list, as [`Client::fetch`] gives them. At a fault the list is
-    /// as before.
+    /// Appends the bytes of a file to a list, as [`Client::fetch`] gives them. At a fault the list
+    /// is as before.
     pub fn read<P: Peer>(
         &self,
         alloc: Global,

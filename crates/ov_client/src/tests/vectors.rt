@@ -1,6 +1,6 @@
 //! What a server replied to reads, from an implementation in Python that shares nothing with this
-//! one. The masters are the bytes 0 to 31, and 32 to 63; the mode is Delta. Users a, b and c have the
-//! numbers 0 to 2; f1 and f2 were created for a and b, and f1 was granted to c.
+//! one. The masters are the bytes 0 to 31, and 32 to 63; the mode is Delta. Users a, b and c have
+//! the numbers 0 to 2; f1 and f2 were created for a and b, and f1 was granted to c.
 
 /// The key of the base root of c, node 2.
 pub const BASE_KEY_C: [u8; 32] = [

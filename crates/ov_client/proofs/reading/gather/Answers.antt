@@ -92,7 +92,8 @@ returns-in-Err-append-clause-talk g c = λ r file tries same.
       arith,
       c.len-in-loop-alloc.ensures,
       size_is g.P.Peer.asked g.P.Peer.failed r file
-          c.args.peer.now c.loop-alloc.peer c.ask_chunk.new.peer tries d c.args.keys.now plain so_far,
+          c.args.peer.now c.loop-alloc.peer c.ask_chunk.new.peer tries d c.args.keys.now plain
+          so_far,
     )) in
     no_room g.P.Peer.asked g.P.Peer.failed r file c.args.peer.now c.loop-alloc.peer
     c.ask_chunk.new.peer tries d c.args.keys.now
@@ -116,7 +117,8 @@ returns-in-Ok-Moved-clause-talk g c = λ r file tries same.
       arith,
       c.len-in-loop-alloc.ensures,
       size_is g.P.Peer.asked g.P.Peer.failed r file
-          c.args.peer.now c.loop-alloc.peer c.ask_chunk.new.peer tries d c.args.keys.now plain so_far,
+          c.args.peer.now c.loop-alloc.peer c.ask_chunk.new.peer tries d c.args.keys.now plain
+          so_far,
     )) in
     fetched_on g.P.Peer.asked g.P.Peer.failed r file c.args.peer.now c.loop-alloc.peer
     c.ask_chunk.new.peer tries d c.args.keys.now
@@ -137,7 +139,8 @@ returns-in-Err-ask_chunk-clause-talk g c = λ r file tries same.
       arith,
       c.len-in-loop-alloc.ensures,
       size_is g.P.Peer.asked g.P.Peer.failed r file
-          c.args.peer.now c.loop-alloc.peer c.ask_chunk.new.peer tries d c.args.keys.now plain so_far,
+          c.args.peer.now c.loop-alloc.peer c.ask_chunk.new.peer tries d c.args.keys.now plain
+          so_far,
     )) in
     fetched_on g.P.Peer.asked g.P.Peer.failed r file c.args.peer.now c.loop-alloc.peer
     c.ask_chunk.new.peer tries d c.args.keys.now
