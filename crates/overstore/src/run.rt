@@ -175,7 +175,7 @@ fn answer_with_keys<K: Source, I: Source, O: Sink, D: Disk + Drop>(
 /// * `keys`: without a key file the script and the disk are left as they are.
 /// * `words`: other words are refused, and all files are left as they are.
 /// * `causes`: a fault is answered only where its count of faults rose, and a wrong tag only with
-///   its line, and never over a disk that tells its bytes.
+///   its line, and never where the disk tells its bytes.
 ///
 /// The clauses on what is printed, on the script, the key file and the disk hold where the sources,
 /// the sink and the disk tell their bytes; those on the counts of faults hold always. Each update
