@@ -13,7 +13,7 @@ use Rattle.ov_tokens.specs.Keys.{access_key_of, derived_key, node_key}
 use Rattle.ov_tokens.specs.Labels.{label_of}
 use Rattle.ov_graph.specs.Contents.{Contents}
 use Rattle.ov_chain.specs.Path.{IsPath}
-use Rattle.ov_chain.specs.Walk.{IsSealed, last_label, walked}
+use Rattle.ov_chain.specs.Walk.{IsSealed, access_along, access_from, last_label, walked}
 use Rattle.ov_chain.proofs.PathLaws.{chosen_path}
 use Rattle.ov_chain.proofs.WalkLaws.{walked-path}
 use Rattle.ov_base_layer.specs.Seals.{access_token}
@@ -25,7 +25,7 @@ use Rattle.ov_history.specs.Keys.{AreTrueEdges, AreTrueTokens}
 use Rattle.ov_history.specs.Layers.{root_of}
 use Rattle.ov_history.specs.Masters.{Masters, access_key}
 use Rattle.ov_history.specs.Rewrites.{surface_key}
-use Rattle.ov_client.specs.Readers.{access_along, access_from, surface_along}
+use Rattle.ov_client.specs.Readers.{surface_along}
 
 -- a path leads to the label of its end
 path_label : (kind : Kind) (graph : Contents) (from to : ℕ) (steps : List Step)
@@ -101,22 +101,3 @@ surface_chain_leads k c user root (Some node) (Some chain) tokens begins is =
     ap Some
     (ap (λ (n : ℕ). walked (node_key Surface k.surface n) chain.steps) (sym begins)
     ∙ edge_chain_leads Surface k.surface c.surface user node chain tokens.surface is)
-
--- ---- the last label
-
--- that of the last step
-pub last_is : (from : Label) (steps : List Step) (n : ℕ) (d : Step) → n + 1 ≡ length steps
-    → (get_or steps n d).to ≡ last_label from steps
-last_is from [] n d e = absurd (omega arith)
-last_is from (step ∷ []) zero d e = refl
-last_is from (step ∷ []) (suc n) d e = absurd (omega arith)
-last_is from (step ∷ next ∷ steps) zero d e = absurd (omega arith)
-last_is from (step ∷ next ∷ steps) (suc n) d e = last_is step.to (next ∷ steps) n d (omega arith)
-
--- by the kind of the last label, and the key at the end
-pub access_is : (root_key : List ℕ) (chain : Chain) (kind : Kind) (key : List ℕ)
-    → kind ≡ (last_label (label_of Derive chain.root) chain.steps).kind
-    → key ≡ walked root_key chain.steps
-    → access_from kind key ≡ access_along root_key chain
-access_is root_key chain kind key last end =
-    ap (access_from kind) end ∙ ap (λ (l : Kind). access_from l (walked root_key chain.steps)) last

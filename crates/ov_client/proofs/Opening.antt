@@ -7,6 +7,7 @@ use Rattle.ov_base.proofs.Tests.{lt_of_true}
 use Rattle.ov_base.specs.declared.refusal.Refusal.TheVariants.{NoUser, NoFile, NoPath}
 use Rattle.ov_tokens.specs.declared.label.Kind.TheVariants.{Derive}
 use Rattle.ov_tokens.specs.Keys.{node_key}
+use Rattle.ov_chain.specs.Walk.{access_along}
 use Rattle.ov_surface.specs.Tags.{tag_of_file}
 use Rattle.ov_wire.specs.declared.answer.Chained.{Chained}
 use Rattle.ov_history.specs.Asking.{file_named, user_named}
@@ -28,7 +29,7 @@ use Rattle.ov_history.proofs.Storing.{stored_is_coated}
 use Rattle.ov_history.proofs.TrueHistories.{tokens_are_true}
 use Rattle.ov_protocol.specs.Reading.{IsChainedFor}
 use Rattle.ov_client.specs.Laws.{HoldsRootKeys}
-use Rattle.ov_client.specs.Readers.{Reader, access_along, judged, keys_along, surface_along}
+use Rattle.ov_client.specs.Readers.{Reader, judged, keys_along, surface_along}
 use Rattle.ov_client.specs.Readers.{uncovered}
 use Rattle.ov_client.specs.declared.fault.ClientFault.TheVariants.{Damaged}
 use Rattle.ov_client.proofs.Leading.{BeginsAt, base_chain_leads, surface_chain_leads}

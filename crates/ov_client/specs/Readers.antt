@@ -2,11 +2,7 @@
 use Rattle.std.specs.Prelude.{ℕ, List, Option, Some, None, Result, Ok, Err, bytes_eq}
 use Rattle.std.specs.Prelude.{if◌then◌else◌}
 use Rattle.ov_tokens.specs.declared.chain.Chain.{Chain}
-use Rattle.ov_tokens.specs.declared.label.Kind.{Kind}
-use Rattle.ov_tokens.specs.declared.label.Kind.TheVariants.{Derive, Access, Surface}
-use Rattle.ov_tokens.specs.Keys.{access_key_of}
-use Rattle.ov_tokens.specs.Labels.{label_of}
-use Rattle.ov_chain.specs.Walk.{walked, last_label}
+use Rattle.ov_chain.specs.Walk.{access_along, walked}
 use Rattle.ov_surface.specs.Coats.{base_coat, coated}
 use Rattle.ov_surface.specs.Tags.{tag_of_file}
 use Rattle.ov_wire.specs.declared.answer.Chained.{Chained}
@@ -25,17 +21,6 @@ pub record Reader : Type 0 where
 pub record FileKeys : Type 0 where
   pub access : List ℕ
   pub surface : Option (List ℕ)
-
--- the access key of a node, from the key of a label of this kind
-abbrev pub access_from : Kind → List ℕ → List ℕ
-access_from Derive key = access_key_of key
-access_from Access key = key
-access_from Surface key = key
-
--- the access key to which a base chain leads, from the derivation key of its root
-abbrev pub access_along : List ℕ → Chain → List ℕ
-access_along key chain =
-    access_from (last_label (label_of Derive chain.root) chain.steps).kind (walked key chain.steps)
 
 -- the key to which a surface chain leads, from the key of its root, where there is one
 abbrev pub surface_along : List ℕ → Option Chain → Option (List ℕ)

@@ -1,19 +1,15 @@
 //! The keys of a file, and what is done with them.
 ghost use Rattle.std.specs.Prelude.{◌≡◌, ◌≤◌, ◌+◌, ◌++◌, length, OnErr, OnOk};
 ghost use Rattle.ov_base.specs.declared.limits.TheConstants.{MAX_FILE_BYTES};
-ghost use Rattle.ov_tokens.specs.Labels.{label_of};
-ghost use Rattle.ov_tokens.specs.declared.label.Kind.TheVariants.{Derive};
-ghost use Rattle.ov_chain.specs.Walk.{last_label};
 ghost use Rattle.ov_surface.specs.Coats.{key_bytes};
-ghost use Rattle.ov_client.specs.Readers.{access_along, judged, keys_along, surface_along};
-ghost use Rattle.ov_client.specs.Readers.{uncovered};
+ghost use Rattle.ov_client.specs.Readers.{judged, keys_along, surface_along, uncovered};
 
 use crate::{Client, ClientFault};
 use ov_base::{Key, Memory, Octets};
-use ov_chain::walk;
+use ov_chain::{walk, walk_to_access};
 use ov_keyed::same;
 use ov_surface::{base_encrypt, file_tag, reencrypt};
-use ov_tokens::{Chain, Kind, access_key};
+use ov_tokens::Chain;
 use ov_wire::Chained;
 use std::marker::Model;
 
@@ -33,29 +29,6 @@ impl Model for Keys {
     ghost view = { λ k. record { access = k.access.bytes; surface = key_bytes k.surface } };
 }
 
-/// The kind of the label that a base chain leads to.
-fn last_kind(chain: &Chain) -> Kind
-    ensures { result ≡ (last_label (label_of Derive chain.now.root) chain.now.steps).kind }
-{
-    match chain.steps.as_slice() {
-        [.., last] => last.to.kind,
-        [] => Kind::Derive,
-    }
-}
-
-/// The access key to which a base chain leads from the derivation key of its root. Steps over edges
-/// end at a derivation key, from which the access key is derived; an access token leads to the
-/// access key itself.
-fn access_key_by(root_key: &Key, chain: &Chain) -> Key
-    ensures { result.bytes ≡ access_along root_key.now.bytes chain.now }
-{
-    let end = walk(root_key, chain);
-    match last_kind(chain) {
-        Kind::Derive => access_key(&end),
-        Kind::Access | Kind::Surface => end,
-    }
-}
-
 /// The key to which a surface chain leads from the key of its root, where there is one.
 fn surface_key_by(root_key: &Key, chain: &Option<Chain>) -> Option<Key>
     ensures { key_bytes result ≡ surface_along root_key.now.bytes chain.now }
@@ -72,7 +45,7 @@ impl Keys {
         ensures { result ≡ keys_along client.now chained.now }
     {
         Keys {
-            access: access_key_by(&client.base, &chained.base),
+            access: walk_to_access(&client.base, &chained.base),
             surface: surface_key_by(&client.surface, &chained.surface),
         }
     }
