@@ -1,6 +1,5 @@
 //! The two requests of a read.
-ghost use Rattle.std.specs.Prelude.{◌≡◌, ◌<◌, ◌≤◌, ℕ, List, [], length, IfOk};
-ghost use Rattle.ov_base.specs.declared.limits.TheConstants.{MAX_FILE_BYTES};
+ghost use Rattle.std.specs.Prelude.{◌≡◌, ◌<◌, ℕ, List, [], length, IfOk};
 ghost use Rattle.ov_wire.specs.AnswersTo.{IsChained};
 ghost use Rattle.ov_client.specs.Causes.{HasClientCause};
 ghost use Rattle.ov_client.specs.Readers.{Reader};

@@ -1,5 +1,5 @@
 //! The keys of a file, and what is done with them.
-ghost use Rattle.std.specs.Prelude.{◌≡◌, ◌≤◌, ◌+◌, ◌++◌, length, OnErr, OnOk};
+ghost use Rattle.std.specs.Prelude.{◌≡◌, ◌≤◌, ◌+◌, ◌++◌, length, OnOk};
 ghost use Rattle.ov_base.specs.declared.limits.TheConstants.{MAX_FILE_BYTES};
 ghost use Rattle.ov_surface.specs.Coats.{key_bytes};
 ghost use Rattle.ov_client.specs.Readers.{judged, keys_along, surface_along, uncovered};

@@ -1,5 +1,5 @@
 //! What a reader is told by an answer.
-ghost use Rattle.std.specs.Prelude.{◌≡◌, ◌≤◌, ◌<◌, ◌^◌, length, IfOk};
+ghost use Rattle.std.specs.Prelude.{◌≡◌, ◌≤◌, ◌<◌, ◌^◌, IfOk};
 ghost use Rattle.ov_base.specs.declared.limits.TheConstants.{MAX_CHUNK_BYTES};
 ghost use Rattle.ov_client.specs.Telling.{HasFewSteps, HasSize, TellsFewSteps, chained_in};
 ghost use Rattle.ov_client.specs.Telling.{chained_unless, fetched_in, sized, wrong_field};
