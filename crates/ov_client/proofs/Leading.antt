@@ -1,6 +1,6 @@
 -- Over true tokens the chains that a reader is told lead to the keys of the file.
-use Rattle.std.proofs.Common.{◌≡◌, ◌∙◌, ◌+◌, ℕ, zero, suc, Bool, true, false, List, [], ◌∷◌}
-use Rattle.std.proofs.Common.{Option, Some, None, ap, arith, get_or, length, refl, sym}
+use Rattle.std.proofs.Common.{◌≡◌, ◌∙◌, ℕ, Bool, true, false, List, [], ◌∷◌}
+use Rattle.std.proofs.Common.{Option, Some, None, ap, refl, sym}
 use Rattle.std.specs.Prelude.{slice_index}
 use Rattle.ov_base.specs.Sets.{has}
 use Rattle.ov_tokens.specs.declared.chain.Chain.{Chain}
