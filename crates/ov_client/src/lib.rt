@@ -2,9 +2,9 @@
 //!
 //! A [`Client`] has a user's name and, of the user's root in each layer, the number and the key.
 //! From these alone it reads a file: it asks a peer for the chains from the roots to the file's
-//! nodes, derives the keys along them, asks for the stored bytes chunk after chunk, takes both coats
-//! off, and gives the bytes only if the file's tag is theirs. Where the file's surface changes
-//! meanwhile, it begins again, nine times in all.
+//! nodes, derives the keys along them, asks for the stored bytes chunk after chunk, takes both
+//! coats off, and gives the bytes only if the file's tag is theirs. Where the file's surface
+//! changes meanwhile, it begins again, nine times in all.
 //!
 //! ```text
 //! fetch ──► try_once ──► ask_chain     Chain: the chains, or a refusal
@@ -19,11 +19,12 @@
 //! (`Talks`). [`Client::read`] promises that its asks lead from the peer that it found to the one
 //! that it left, and are such a talk with just its result. So each fault has its cause there: the
 //! refusal or the disk's fault that was answered, the place of the first byte that can't be, both
-//! tags, the nine generations. A fault of the link comes only where the peer's count of faults rose.
+//! tags, the nine generations. A fault of the link comes only where the peer's count of faults
+//! rose.
 //!
 //! Which peer it is doesn't matter. Of one that tells its history, laws say what the result is
-//! worth: bytes and refusals are the machine's ([`reads_are_the_machines`]), and where nobody changes
-//! the history meanwhile a read ends so unless it is cut off ([`reads_are_answered`]).
+//! worth: bytes and refusals are the machine's ([`reads_are_the_machines`]), and where nobody
+//! changes the history meanwhile a read ends so unless it is cut off ([`reads_are_answered`]).
 //!
 //! | file in `specs/` | says |
 //! |---|---|

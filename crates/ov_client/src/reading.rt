@@ -112,9 +112,9 @@ impl Client {
     /// The bytes of a file, by the user's keys alone.
     ///
     /// Asks for the chains from the user's two roots to the file's nodes, and then for its stored
-    /// bytes, chunk after chunk. Where the file's surface changes meanwhile it begins again, nine times
-    /// in all. The bytes are given only if the file's tag is theirs. A file without bytes asks for no
-    /// chunk.
+    /// bytes, chunk after chunk. Where the file's surface changes meanwhile it begins again, nine
+    /// times in all. The bytes are given only if the file's tag is theirs. A file without bytes
+    /// asks for no chunk.
     pub fn fetch<P: Peer>(
         &self,
         alloc: Global,
