@@ -1,0 +1,37 @@
+-- The laws of an owner's talks.
+use Rattle.std.specs.Prelude.{◌≡◌, ℕ, ◌<◌, List, [], ◌∷◌, length, Option, Result, Err}
+use Rattle.ov_script.specs.declared.command.Command.{Command}
+use Rattle.ov_history.specs.Masters.{Masters}
+use Rattle.ov_history.specs.Sealed.{SealedHistory}
+use Rattle.ov_protocol.specs.Serving.{Service}
+use Rattle.ov_peer.specs.Asks.{Along, AreRight, Ask}
+use Rattle.ov_owner.specs.Errands.{Errand}
+use Rattle.ov_owner.specs.Steps.{IsErrandFor, IsMachines}
+use Rattle.ov_owner.specs.Talks.{Talks}
+use Rattle.ov_owner.specs.declared.limits.TheConstants.{MAX_TRIES}
+use Rattle.ov_owner.specs.declared.fault.OwnerFault.{OwnerFault}
+use Rattle.ov_owner.specs.declared.fault.OwnerFault.TheVariants.{Unsettled}
+
+-- An Accepted and a Refused of a talk are the machine's replies at the history of its last ask,
+-- whatever others update between the asks, where the asks are answered under the owner's surface
+-- master at histories that are right.
+abbrev pub TalksAreSteps : Type 0
+TalksAreSteps =
+    (k : Masters) (command : Command) (e : Errand) (asks : List Ask) (unanswered : Option (List ℕ))
+    (result : Result ℕ OwnerFault) (v last : Service) (histories : List SealedHistory)
+    → IsErrandFor k.base command e → Talks k.surface e asks unanswered result
+    → v.surface ≡ k.surface → Along v asks histories last → AreRight k histories
+    → IsMachines k command histories last.history result
+
+-- each is less than the next
+abbrev pub Rises : List ℕ → Type 0
+Rises [] = Unit {0}
+Rises (n ∷ []) = Unit {0}
+Rises (n ∷ (m ∷ more)) = (n < m) × Rises (m ∷ more)
+
+-- the epochs of tries that were all stale rise, and are as many as the tries
+abbrev pub StaleEpochsRise : Type 0
+StaleEpochsRise =
+    (surface : List ℕ) (e : Errand) (asks : List Ask) (unanswered : Option (List ℕ))
+    (epochs : List ℕ) → Talks surface e asks unanswered (Err (Unsettled epochs))
+    → (length epochs ≡ MAX_TRIES) × Rises epochs

@@ -1,0 +1,13 @@
+//! The laws of an owner's talks, for the proofs of callers. The functions do nothing.
+ghost use Rattle.ov_owner.specs.Laws.{StaleEpochsRise, TalksAreSteps};
+
+/// What an owner was answered is the machine's step of its command, at the history by which its last
+/// ask was answered, whatever others updated between the asks.
+pub fn talks_are_steps()
+    ensures { TalksAreSteps }
+{}
+
+/// The epochs of tries that were all stale rise.
+pub fn stale_epochs_rise()
+    ensures { StaleEpochsRise }
+{}
