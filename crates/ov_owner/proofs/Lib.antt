@@ -1,0 +1,9 @@
+pub mod Answering
+pub mod Copying
+pub mod Questioning
+pub mod Talking
+pub mod Histories
+pub mod Telling
+pub mod Stepping
+pub mod Rising
+pub mod Leaving

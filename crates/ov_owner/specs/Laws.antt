@@ -2,9 +2,13 @@
 use Rattle.std.specs.Prelude.{◌≡◌, ℕ, ◌<◌, List, [], ◌∷◌, length, Option, Result, Err}
 use Rattle.ov_script.specs.declared.command.Command.{Command}
 use Rattle.ov_history.specs.Masters.{Masters}
+use Rattle.ov_history.specs.Plain.{PlainHistory, history_of}
+use Rattle.ov_history.specs.Refusals.{IsLegal}
 use Rattle.ov_history.specs.Sealed.{SealedHistory}
+use Rattle.ov_history.specs.Sealing.{sealed}
 use Rattle.ov_protocol.specs.Serving.{Service}
 use Rattle.ov_peer.specs.Asks.{Along, AreRight, Ask}
+use Rattle.ov_owner.specs.Alone.{AskedAlone, IsOneOrNone}
 use Rattle.ov_owner.specs.Errands.{Errand}
 use Rattle.ov_owner.specs.Steps.{IsErrandFor, IsMachines}
 use Rattle.ov_owner.specs.Talks.{Talks}
@@ -32,6 +36,18 @@ Rises (n ∷ (m ∷ more)) = (n < m) × Rises (m ∷ more)
 -- the epochs of tries that were all stale rise, and are as many as the tries
 abbrev pub StaleEpochsRise : Type 0
 StaleEpochsRise =
-    (surface : List ℕ) (e : Errand) (asks : List Ask) (unanswered : Option (List ℕ))
-    (epochs : List ℕ) → Talks surface e asks unanswered (Err (Unsettled epochs))
+    (surface base : List ℕ) (command : Command) (e : Errand) (asks : List Ask)
+    (unanswered : Option (List ℕ)) (epochs : List ℕ)
+    → IsErrandFor base command e → Talks surface e asks unanswered (Err (Unsettled epochs))
     → (length epochs ≡ MAX_TRIES) × Rises epochs
+
+-- Of a server under the owner's surface master that nobody else updates meanwhile, a call leaves the
+-- history that it found, were it right, or that with the update of its command; so it does after
+-- want of memory and after a fault.
+abbrev pub OneUpdateAtMost : Type 0
+OneUpdateAtMost =
+    (k : Masters) (command : Command) (e : Errand) (asks : List Ask) (unanswered : Option (List ℕ))
+    (result : Result ℕ OwnerFault) (v last : Service) (p : PlainHistory)
+    → IsErrandFor k.base command e → Talks k.surface e asks unanswered result
+    → v.surface ≡ k.surface → IsLegal (history_of p) → v.history ≡ sealed k p
+    → AskedAlone v asks unanswered last → IsOneOrNone k p command last.history

@@ -4,5 +4,6 @@ pub mod Calls
 pub mod Questions
 pub mod Causes
 pub mod Steps
+pub mod Alone
 pub mod Laws
 pub mod Tasks

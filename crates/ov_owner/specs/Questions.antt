@@ -10,7 +10,9 @@ use Rattle.ov_wire.specs.declared.answer.Welcome.{Welcome}
 use Rattle.ov_wire.specs.declared.answer.Answer.{Answer}
 use Rattle.ov_wire.specs.declared.answer.Answer.TheVariants as answers
 use Rattle.ov_wire.specs.Requests.{request_bytes}
+use Rattle.ov_script.specs.declared.command.Command.{Command}
 use Rattle.ov_script.specs.declared.command.Command.TheVariants.{List as ListNames}
+use Rattle.ov_script.specs.declared.reply.Reply.{Reply}
 use Rattle.ov_script.specs.declared.reply.Reply.TheVariants.{List as Listed, Refused}
 use Rattle.ov_model.specs.Step.{reply_to}
 use Rattle.ov_protocol.specs.Serving.{Service, later, served}
@@ -60,16 +62,18 @@ IsWelcomeOf v Then (Ok welcome) =
     × (welcome ≡ welcome_of (served (later v others))) × Then (later v others)
 IsWelcomeOf v Then (Err fault) = Unit {0}
 
--- the machine answers so to a question for a file's list
-abbrev pub IsListAt : PlainHistory → List ℕ → Result (List (List ℕ)) OwnerFault → Type 0
-IsListAt p file (Ok names) = reply_to p (ListNames file) ≡ Listed file names
-IsListAt p file (Err (faults.Refused why)) = reply_to p (ListNames file) ≡ Refused why
-IsListAt p file (Err fault) = Unit {0}
+-- what is served is this history, with what others made of it, and there the machine replies so to
+-- the command, where the history is the sealed form of a legal one
+abbrev pub RepliesThere : Service → (Service → Type 0) → Command → Reply → Type 0
+RepliesThere v Then command reply =
+    (others : List SealedUpdate) × Then (later v others)
+    × ((k : Masters) (p : PlainHistory) → v.surface ≡ k.surface → IsLegal (history_of p)
+    → (later v others).history ≡ sealed k p → reply_to p command ≡ reply)
 
--- so it does at what is served, where that is the sealed form of a legal history: the history that
--- was served, with what others made of it
+-- names that are listed, and a refusal, are the machine's reply at what is served
 abbrev pub IsListOf : Service → (Service → Type 0) → List ℕ → Result (List (List ℕ)) OwnerFault
     → Type 0
-IsListOf v Then file result =
-    (others : List SealedUpdate) × ((k : Masters) (p : PlainHistory) → v.surface ≡ k.surface
-    → IsLegal (history_of p) → (later v others).history ≡ sealed k p → IsListAt p file result)
+IsListOf v Then file (Ok names) = RepliesThere v Then (ListNames file) (Listed file names)
+IsListOf v Then file (Err (faults.Refused why)) =
+    RepliesThere v Then (ListNames file) (Refused why)
+IsListOf v Then file (Err fault) = Unit {0}

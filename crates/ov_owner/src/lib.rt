@@ -19,12 +19,14 @@
 //! | `Calls`, `Causes` | the same of a peer; a fault of the link comes only where its count rose |
 //! | `Questions` | one question and what comes of it |
 //! | `Steps` | a result is the machine's, at the history of the last ask |
+//! | `Alone` | asks of a server that nobody else updates |
 //! | `Laws` | the laws |
 //!
 //! | law | function |
 //! |---|---|
 //! | an Accepted and a Refused are the machine's replies at the last ask | [`talks_are_steps`] |
 //! | the epochs of nine stale tries rise | [`stale_epochs_rise`] |
+//! | nothing was accepted, or this one update, where nobody else makes any | [`one_update_at_most`] |
 #![tactic(auto)]
 
 mod fault;
@@ -41,5 +43,5 @@ mod task;
 mod tests;
 
 pub use fault::OwnerFault;
-pub use laws::{stale_epochs_rise, talks_are_steps};
+pub use laws::{one_update_at_most, stale_epochs_rise, talks_are_steps};
 pub use owner::Owner;
