@@ -4,8 +4,8 @@ use Rattle.ov_tokens.specs.declared.label.Kind.TheVariants.{Derive}
 use Rattle.ov_tokens.specs.declared.label.Label.{Label}
 use Rattle.ov_tokens.specs.Labels.{label_of}
 use Rattle.ov_chain.specs.Walk.{last_label}
-use Rattle.ov_state.proofs.ChainLaws.{last_is}
-use Rattle.ov_state.proofs.chains.last_kind.Goals as goal
+use Rattle.ov_chain.proofs.WalkLaws.{last_is}
+use Rattle.ov_chain.proofs.keys.last_kind.Goals as goal
 
 pub returns-in-len1-up : goal.returns-in-len1-up
 returns-in-len1-up c =
