@@ -54,9 +54,9 @@ read_back u form = ap (placed (length (spelling 32 u))) (all_again (update_reads
 longer : (k : Masters) (command : Command) (h : SealedHistory) (more : List SealedHistory)
     (last : SealedHistory) (result : Result ℕ OwnerFault)
     → IsMachines k command more last result → IsMachines k command (h ∷ more) last result
-longer k command h [] last (Ok n) none = none
+longer k command h [] last (Ok n) none = absurd none
 longer k command h (g ∷ more) last (Ok n) is = is
-longer k command h [] last (Err (faults.Refused why)) none = none
+longer k command h [] last (Err (faults.Refused why)) none = absurd none
 longer k command h (g ∷ more) last (Err (faults.Refused why)) is = is
 longer k command h more last (Err fault) is = tt
 
@@ -396,7 +396,8 @@ module _ (k : Masters) (command : Command) (e : Errand) (plain : PlainHistory �
     steps [] stage g histories ready same along rights =
         none_left stage g unanswered histories ready
         (subst (λ (s : Stage). Closes k.surface e s unanswered result) (sym same) closes)
-    steps (a ∷ asks) = one_ask a asks (steps asks)
+    steps (a ∷ asks) stage g histories ready goes along rights =
+        one_ask a asks (steps asks) stage g histories ready goes along rights
 
   -- a whole talk
   pub made_steps : (asks : List Ask) (unanswered : Option (List ℕ)) (result : Result ℕ OwnerFault)
