@@ -2,6 +2,7 @@ pub mod Answering
 pub mod Copying
 pub mod Questioning
 pub mod Talking
+pub mod Trying
 pub mod Histories
 pub mod Telling
 pub mod Stepping

@@ -1,16 +1,17 @@
 //! One ask and one update, and again after Stale.
-ghost use Rattle.std.specs.Prelude.{◌≡◌, IfOk};
+ghost use Rattle.std.specs.Prelude.{◌≡◌, ℕ, List, IfOk};
 ghost use Rattle.ov_record.specs.Spelling.{IsWithinLimits};
 ghost use Rattle.ov_record.specs.Updates.{sealed_update};
 ghost use Rattle.ov_owner.specs.Calls.{Runs};
 ghost use Rattle.ov_owner.specs.Causes.{HasOwnerCause};
 ghost use Rattle.ov_owner.specs.Tasks.{HasTaskLimits, IsAsked, errand_of};
 
+use crate::OwnerFault;
 use crate::limits::MAX_TRIES;
 use crate::sealing::{Sealed, seal};
 use crate::sending::{Sent, fault_of, send};
 use crate::task::{Task, first_request};
-use crate::{Owner, OwnerFault};
+use ov_base::Key;
 use ov_peer::{Peer, exchange};
 use std::alloc::Global;
 
@@ -19,13 +20,13 @@ use std::alloc::Global;
 fn ask<P: Peer>(
     alloc: Global,
     peer: &mut P,
-    owner: &Owner,
+    base: &Key,
     task: &Task<'_>,
     least: u32,
 ) -> Result<Sealed, OwnerFault>
     requires { HasTaskLimits task.now }
-    ensures asked { IsAsked P.asked P.failed owner.now.surface (errand_of owner.now.base task.now)
-        least peer.old peer.new result }
+    ensures asked { (surface : List ℕ) → IsAsked P.asked P.failed surface
+        (errand_of base.now.bytes task.now) least peer.old peer.new result }
     ensures limits { IfOk result (λ made. IsWithinLimits (sealed_update made.update)) }
     ensures same { P.borrow peer.new ≡ P.borrow peer.old }
     ensures cause { HasOwnerCause (P.faults peer.old) (P.faults peer.new) result }
@@ -35,7 +36,7 @@ fn ask<P: Peer>(
         Ok(answer) => answer,
         Err(fault) => return Err(fault_of(fault)),
     };
-    let sealed = seal(alloc, &owner.base, task, answer)?;
+    let sealed = seal(alloc, base, task, answer)?;
     // The epoch stands right behind the kind byte.
     if sealed.epoch < least {
         return Err(OwnerFault::BadReply { at: 1 });
@@ -48,11 +49,12 @@ fn ask<P: Peer>(
 pub fn settle<P: Peer>(
     alloc: Global,
     peer: &mut P,
-    owner: &Owner,
+    base: &Key,
+    surface: &Key,
     task: &Task<'_>,
 ) -> Result<u32, OwnerFault>
     requires { HasTaskLimits task.now }
-    ensures runs { Runs P.asked P.failed owner.now.surface (errand_of owner.now.base task.now)
+    ensures runs { Runs P.asked P.failed surface.now.bytes (errand_of base.now.bytes task.now)
         peer.old peer.new result }
     ensures same { P.borrow peer.new ≡ P.borrow peer.old }
     ensures cause { HasOwnerCause (P.faults peer.old) (P.faults peer.new) result }
@@ -60,8 +62,8 @@ pub fn settle<P: Peer>(
     let mut epochs = [0; MAX_TRIES];
     let mut least = 0;
     for i in 0..MAX_TRIES {
-        let sealed = ask(alloc, peer, owner, task, least)?;
-        match send(alloc, peer, &owner.surface, &sealed)? {
+        let sealed = ask(alloc, peer, base, task, least)?;
+        match send(alloc, peer, surface, &sealed)? {
             Sent::Accepted(epoch) => return Ok(epoch),
             Sent::Stale(epoch) => least = epoch,
         }

@@ -1,5 +1,5 @@
 //! Changes that an owner is to make.
-ghost use Rattle.std.specs.Prelude.{◌≡◌, [], IfOk};
+ghost use Rattle.std.specs.Prelude.{◌≡◌, ℕ, List, IfOk};
 ghost use Rattle.ov_wire.specs.Requests.{HasRequestLimits};
 ghost use Rattle.ov_owner.specs.Tasks.{HasTaskLimits, errand_of};
 
@@ -28,7 +28,8 @@ pub enum Task<'a> {
 /// What is asked first.
 pub fn first_request(alloc: Global, task: &Task<'_>) -> Result<Request, Memory>
     requires { HasTaskLimits task.now }
-    ensures request { IfOk result (λ request. request ≡ (errand_of [] task.now).first) }
+    ensures request { IfOk result (λ request.
+        (base : List ℕ) → request ≡ (errand_of base task.now).first) }
     ensures limits { IfOk result HasRequestLimits }
 {
     match task {
