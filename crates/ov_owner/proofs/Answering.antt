@@ -1,5 +1,5 @@
 -- What is read of a reply, and what is made by it.
-use Rattle.std.proofs.Common.{◌≡◌, ℕ, ◌∙◌, Bool, true, false, List, [], length, Result, Ok, Err, refl, sym, ap, subst, inl, inr}
+use Rattle.std.proofs.Common.{◌≡◌, ℕ, Bool, true, false, List, [], length, Result, Ok, Err, refl, sym, inl, inr}
 use Rattle.ov_fields.specs.Fronts.{AreAllBytes}
 use Rattle.ov_fields.specs.Reading.{all_of, by_rows, placed}
 use Rattle.ov_record.specs.Updates.{SealedUpdate}

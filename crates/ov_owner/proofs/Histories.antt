@@ -1,8 +1,8 @@
 -- Histories at one epoch.
-use Rattle.std.proofs.Common.{◌≡◌, ℕ, ◌+◌, ◌∙◌, List, [], ◌∷◌, ◌++◌, length, refl, sym, ap, subst, arith}
+use Rattle.std.proofs.Common.{◌≡◌, ℕ, ◌+◌, ◌∙◌, List, [], ◌∷◌, ◌++◌, length, refl, ap, arith}
 use Rattle.std.proofs.lemmas.List.{append-nil, length-append}
 use Rattle.ov_record.specs.Updates.{SealedUpdate}
-use Rattle.ov_history.specs.Catalogue.{Catalogue, empty_catalogue}
+use Rattle.ov_history.specs.Catalogue.{empty_catalogue}
 use Rattle.ov_history.specs.Sealed.{SealedHistory, catalogue_of}
 use Rattle.ov_protocol.specs.Serving.{followed}
 use Rattle.ov_protocol.proofs.GoingOn.{epochs_all}

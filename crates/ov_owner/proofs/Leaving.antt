@@ -13,18 +13,17 @@ use Rattle.ov_history.specs.Layers.{layers_of}
 use Rattle.ov_history.specs.Masters.{Masters}
 use Rattle.ov_history.specs.Plain.{PlainHistory, PlainUpdate, history_of, measured, with_plain}
 use Rattle.ov_history.specs.Refusals.{IsLegal, refusal_of}
-use Rattle.ov_history.specs.Sealed.{SealedHistory, with_sealed}
+use Rattle.ov_history.specs.Sealed.{SealedHistory, catalogue_of, with_sealed}
 use Rattle.ov_history.specs.Sealing.{sealed, sealed_update}
 use Rattle.ov_history.proofs.Sealing.{sealing_goes_on}
-use Rattle.ov_model.specs.Step.{after as after_command, step, update, update_step}
+use Rattle.ov_model.specs.Step.{step, update, update_step}
 use Rattle.ov_wire.specs.declared.request.Request.{Request}
 use Rattle.ov_wire.specs.declared.answer.Answer.{Answer}
 use Rattle.ov_wire.specs.declared.answer.Answer.TheVariants as answers
 use Rattle.ov_wire.specs.AnswerReading.{answer_of}
-use Rattle.ov_wire.specs.RequestReading.{request_of}
 use Rattle.ov_wire.specs.Requests.{HasRequestForm, request_bytes}
-use Rattle.ov_protocol.specs.Serving.{Service, followed, later, served}
-use Rattle.ov_protocol.specs.Answers.{Answers, made_by}
+use Rattle.ov_protocol.specs.Serving.{Service, followed, served}
+use Rattle.ov_protocol.specs.Answers.{Answers}
 use Rattle.ov_protocol.specs.Replies.{MayMake, updates_asked}
 use Rattle.ov_protocol.specs.Updating.{spelled_by}
 use Rattle.ov_protocol.proofs.Leaving.{replies_may_make}
@@ -34,7 +33,7 @@ use Rattle.ov_peer.specs.Exchanges.{IsAnswerAt}
 use Rattle.ov_owner.specs.Alone.{AnsweredAlone, AskedAlone, IsOneOrNone, LeftAlone}
 use Rattle.ov_owner.specs.Errands.{Errand, creating, enrolling, granting, revoking}
 use Rattle.ov_owner.specs.Laws.{OneUpdateAtMost}
-use Rattle.ov_owner.specs.Talks.{Asks, CanSend, Closes, Ends, Goes, IsAfter, IsDue, Moves, Sends, Stage, Talks, after as stage_after, after_first, after_update, again_if, sends_if, start, update_request}
+use Rattle.ov_owner.specs.Talks.{Asks, Closes, Ends, Goes, IsAfter, IsDue, Moves, Sends, Stage, Talks, after as stage_after, after_first, after_update, again_if, sends_if, start, update_request}
 use Rattle.ov_owner.specs.declared.limits.TheConstants.{MAX_TRIES}
 use Rattle.ov_owner.specs.declared.fault.OwnerFault.{OwnerFault}
 use Rattle.ov_owner.specs.declared.fault.OwnerFault.TheVariants as faults
@@ -59,18 +58,19 @@ module _ (k : Masters) (command : Command) (e : Errand) (plain : PlainHistory �
     (makes : Makes k e plain)
     (as_update : (p : PlainHistory) → step p command ≡ update p (plain p))
     (base_check : List ℕ) (p : PlainHistory) (legal : IsLegal (history_of p)) where
-  abbrev serving : SealedHistory → Service
+  abbrev pub serving : SealedHistory → Service
   serving g = under k.surface base_check g
 
   -- the update was sealed of an answer at this history, which doesn't refuse it
-  record IsReady (u : SealedUpdate) : Type 0 where
-    is_sealed : u ≡ sealed_update k (layers_of (history_of p)) (plain p)
-    free : refusal_of (history_of p) (measured (plain p)) ≡ None
+  pub record IsReady (epoch : ℕ) (u : SealedUpdate) : Type 0 where
+    pub at_epoch : epoch ≡ (catalogue_of k.surface (sealed k p)).epoch
+    pub is_sealed : u ≡ sealed_update k (layers_of (history_of p)) (plain p)
+    pub free : refusal_of (history_of p) (measured (plain p)) ≡ None
 
   -- what is served at a stage
-  abbrev Serves : Stage → SealedHistory → Type 0
+  abbrev pub Serves : Stage → SealedHistory → Type 0
   Serves (Asks tries least) g = g ≡ sealed k p
-  Serves (Sends tries epoch u) g = (g ≡ sealed k p) × IsReady u
+  Serves (Sends tries epoch u) g = (g ≡ sealed k p) × IsReady epoch u
   Serves (Ends result) g = IsOneOrNone k p command g
 
   -- the first ask makes nothing
@@ -88,26 +88,26 @@ module _ (k : Masters) (command : Command) (e : Errand) (plain : PlainHistory �
 
   -- and an update makes nothing, or the plain update
   update_makes : (g : SealedHistory) (epoch : ℕ) (u : SealedUpdate) (made : List SealedUpdate)
-      → g ≡ sealed k p → IsReady u → HasForm 32 u
+      → g ≡ sealed k p → IsReady epoch u → HasForm 32 u
       → HasRequestForm (update_request k.surface epoch u)
       → MayMake (request_bytes (update_request k.surface epoch u)) made
       → IsOneOrNone k p command (followed g made)
   update_makes g epoch u made same ready form sendable may =
       by_cases (may_make (update_request k.surface epoch u) made sendable may) where
-    next : step p command ≡ (replies.Accepted (epoch_of (history_of p) + 1), with_plain p (plain p))
-    next = as_update p ∙ ap (update_step p (plain p)) ready.free
+        next : step p command ≡ (replies.Accepted (epoch_of (history_of p) + 1), with_plain p (plain p))
+        next = as_update p ∙ ap (update_step p (plain p)) ready.free
 
-    by_cases : (made ≡ []) ⊎ (made ≡ updates_asked (Ok (update_request k.surface epoch u)))
-        → IsOneOrNone k p command (followed g made)
-    by_cases (inl none) = inl (stays g made same none)
-    by_cases (inr some) =
-        inr ((λ i. followed (same i) ((some ∙ ap spelled_by (read_back u form)) i))
-        ∙ ap (with_sealed (sealed k p)) ready.is_sealed ∙ sym (sealing_goes_on k p (plain p))
-        ∙ ap (λ (x : Reply × PlainHistory). sealed k x.1) (sym next))
+        by_cases : (made ≡ []) ⊎ (made ≡ updates_asked (Ok (update_request k.surface epoch u)))
+            → IsOneOrNone k p command (followed g made)
+        by_cases (inl none) = inl (stays g made same none)
+        by_cases (inr some) =
+            inr ((λ i. followed (same i) ((some ∙ ap spelled_by (read_back u form)) i))
+            ∙ ap (with_sealed (sealed k p)) ready.is_sealed ∙ sym (sealing_goes_on k p (plain p))
+            ∙ ap (λ (x : Reply × PlainHistory). sealed k x.1) (sym next))
 
   -- ---- after the first ask
   module _ (g : SealedHistory) (same : g ≡ sealed k p) (made : List SealedUpdate) (none : made ≡ []) where
-    sends_on : (b : Bool) (tries : List ℕ) (epoch : ℕ) (u : SealedUpdate) → IsReady u
+    sends_on : (b : Bool) (tries : List ℕ) (epoch : ℕ) (u : SealedUpdate) → IsReady epoch u
         → Serves (sends_if b tries epoch u) (followed g made)
     sends_on true tries epoch u ready = inl (stays g made same none)
     sends_on false tries epoch u ready = (stays g made same none, ready)
@@ -124,7 +124,8 @@ module _ (k : Masters) (command : Command) (e : Errand) (plain : PlainHistory �
         let at_p : Answers (served (serving (sealed k p))) e.first answer =
         subst (λ (x : SealedHistory). Answers (served (serving x)) e.first answer) same answered in
         let (at_epoch, is_sealed, free) = makes.told base_check p answer epoch u legal at_p is in
-        sends_on (nat_lt epoch least) tries epoch u (record { is_sealed = is_sealed; free = free })
+        sends_on (nat_lt epoch least) tries epoch u 
+        (record { at_epoch = at_epoch; is_sealed = is_sealed; free = free })
 
     read_on : (read : Result Answer ℕ) (reply : List ℕ) (tries : List ℕ) (least : ℕ)
         → HasRequestForm e.first → AreAllBytes reply → answer_of e.first reply ≡ read
@@ -167,20 +168,20 @@ module _ (k : Masters) (command : Command) (e : Errand) (plain : PlainHistory �
 
   -- ---- one ask, and all
 
-  is_first : (tries : List ℕ) (least : ℕ) (frame : List ℕ)
+  pub is_first : (tries : List ℕ) (least : ℕ) (frame : List ℕ)
       (due : IsDue k.surface e (Asks tries least) frame) → e.first ≡ due.request
   is_first tries least frame due = let same : Some e.first ≡ Some due.request = due.due in cc same
 
-  is_update : (tries : List ℕ) (epoch : ℕ) (u : SealedUpdate) (frame : List ℕ)
+  pub is_update : (tries : List ℕ) (epoch : ℕ) (u : SealedUpdate) (frame : List ℕ)
       (due : IsDue k.surface e (Sends tries epoch u) frame)
       → update_request k.surface epoch u ≡ due.request
   is_update tries epoch u frame due =
       let same : Some (update_request k.surface epoch u) ≡ Some due.request = due.due in cc same
 
-  nothing_due : (r : Result ℕ OwnerFault) (frame : List ℕ) → IsDue k.surface e (Ends r) frame → ⊥
+  pub nothing_due : (r : Result ℕ OwnerFault) (frame : List ℕ) → IsDue k.surface e (Ends r) frame → ⊥
   nothing_due r frame due = let none : None ≡ Some due.request = due.due in cc none
 
-  one_ask : (stage next : Stage) (a : Ask) (g : SealedHistory) (made : List SealedUpdate)
+  pub one_ask : (stage next : Stage) (a : Ask) (g : SealedHistory) (made : List SealedUpdate)
       (moves : Moves k.surface e stage a next) → Serves stage g
       → IsReplyAt (serving g) a.request a.reply made
       → IsAfter e stage moves.asked.request a.reply next → Serves next (followed g made)

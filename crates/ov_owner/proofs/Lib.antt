@@ -8,3 +8,5 @@ pub mod Telling
 pub mod Stepping
 pub mod Rising
 pub mod Leaving
+pub mod Sizes
+pub mod Shortness

@@ -1,36 +1,33 @@
 -- What a told peer's answer to one question is.
-use Rattle.std.proofs.Common.{◌≡◌, ℕ, ◌∙◌, List, [], Option, Some, None, Result, Ok, Err, refl, sym, ap, subst, inl, inr}
+use Rattle.std.proofs.Common.{◌≡◌, ℕ, ◌∙◌, List, [], Some, None, Result, Ok, Err, refl, sym, ap, subst, inl, inr}
 use Rattle.ov_base.specs.declared.refusal.Refusal.{Refusal}
 use Rattle.ov_record.specs.Updates.{SealedUpdate}
 use Rattle.ov_history.specs.Catalogue.{matrix_shown}
-use Rattle.ov_history.specs.History.{Matrix, matrix_of}
+use Rattle.ov_history.specs.History.{matrix_of}
 use Rattle.ov_history.specs.Lists.{file_at, file_number, names_in as names_of_set}
 use Rattle.ov_history.specs.Masters.{Masters}
 use Rattle.ov_history.specs.Plain.{PlainHistory, history_of}
 use Rattle.ov_history.specs.Refusals.{IsLegal, list_refusal}
-use Rattle.ov_history.specs.Sealed.{SealedHistory, catalogue_of}
+use Rattle.ov_history.specs.Sealed.{catalogue_of}
 use Rattle.ov_history.specs.Sealing.{sealed}
 use Rattle.ov_history.proofs.Keeping.{kept_shows}
-use Rattle.ov_model.specs.Step.{names_reply, reply_or, reply_to}
+use Rattle.ov_model.specs.Step.{names_reply, reply_or}
 use Rattle.ov_script.specs.declared.command.Command.TheVariants.{List as ListNames}
-use Rattle.ov_script.specs.declared.reply.Reply.{Reply}
 use Rattle.ov_script.specs.declared.reply.Reply.TheVariants as replies
-use Rattle.ov_wire.specs.declared.answer.Welcome.{Welcome}
 use Rattle.ov_wire.specs.declared.answer.Answer.{Answer}
 use Rattle.ov_wire.specs.declared.answer.Answer.TheVariants as answers
 use Rattle.ov_wire.specs.declared.request.Request.{Request}
 use Rattle.ov_wire.specs.declared.request.Request.TheVariants as requests
-use Rattle.ov_protocol.specs.Serving.{Service, followed, later, served}
-use Rattle.ov_protocol.specs.Answers.{Answers, made_by, welcome_of}
+use Rattle.ov_protocol.specs.Serving.{Service, later, served}
+use Rattle.ov_protocol.specs.Answers.{Answers, welcome_of}
 use Rattle.ov_protocol.proofs.Leaving.{later-nil}
 use Rattle.ov_peer.specs.Asks.{Asked, Failed}
-use Rattle.ov_peer.specs.Exchanges.{Answered, Exchanges, Tells}
+use Rattle.ov_peer.specs.Exchanges.{Exchanges, Tells}
 use Rattle.ov_peer.specs.declared.fault.ExchangeFault.{ExchangeFault}
 use Rattle.ov_peer.specs.declared.fault.ExchangeFault.TheVariants.{BadReply, Link, Memory}
 use Rattle.ov_owner.specs.Questions.{AsksOnce, IsListOf, IsWelcomeOf, RepliesThere, names_in, welcome_in}
 use Rattle.ov_owner.specs.Tasks.{owner_fault}
 use Rattle.ov_owner.specs.declared.fault.OwnerFault.{OwnerFault}
-use Rattle.ov_owner.specs.declared.fault.OwnerFault.TheVariants as faults
 
 -- ---- one ask
 

@@ -1,8 +1,7 @@
 -- The epochs of stale tries rise.
-use Rattle.std.proofs.Common.{◌≡◌, ℕ, ◌+◌, ◌<◌, ◌≤◌, ◌∙◌, List, [], ◌∷◌, ◌++◌, length, length-append, Option, Some, None, Result, Ok, Err, refl, sym, ap, subst, inl, inr, arith, lit<}
-use Rattle.std.specs.Prelude.{◌⊎◌, nat_lt, ◌==◌, Bool, true, false}
+use Rattle.std.proofs.Common.{◌≡◌, ℕ, ◌<◌, ◌≤◌, ◌∙◌, List, [], ◌∷◌, ◌++◌, length, length-append, Option, Some, None, Result, Ok, Err, refl, sym, ap, subst, inl, inr, arith, lit<}
+use Rattle.std.specs.Prelude.{nat_lt, ◌==◌, Bool, true, false}
 use Rattle.std.proofs.lemmas.Bool.Decides.{nat_tests}
-use Rattle.ov_base.proofs.Tests.{lt_is_true, lt_is_false}
 use Rattle.ov_fields.specs.Fronts.{AreAllBytes}
 use Rattle.ov_record.specs.Updates.{SealedUpdate}
 use Rattle.ov_script.specs.declared.command.Command.{Command}
@@ -15,7 +14,7 @@ use Rattle.ov_wire.specs.declared.answer.Answer.TheVariants as answers
 use Rattle.ov_wire.specs.AnswerReading.{answer_of}
 use Rattle.ov_wire.specs.AnswersTo.{IsAnswer}
 use Rattle.ov_peer.specs.Asks.{Ask}
-use Rattle.ov_owner.specs.Errands.{Errand, created, creating, enrolling, granted, granting, known_of, plan_of, revoking, sealed_by}
+use Rattle.ov_owner.specs.Errands.{Errand, known_of, plan_of, sealed_by}
 use Rattle.ov_owner.specs.Laws.{Rises, StaleEpochsRise}
 use Rattle.ov_owner.specs.Steps.{IsErrandFor}
 use Rattle.ov_owner.specs.Talks.{Asks, Closes, Ends, Goes, IsAfter, Moves, Sends, Stage, after, after_first, after_update, again_if, sends_if, start, update_request}
@@ -88,9 +87,9 @@ module _ (surface : List ℕ) (e : Errand) (other : (a : Answer) → IsOther (e.
       → Rising (after_first tries least told)
   first_rising (Err fault) tries least not rises few =
       λ epochs is. absurd (not epochs (ap (λ (r : Result ℕ OwnerFault). told_of r) is)) where
-    told_of : Result ℕ OwnerFault → Result (ℕ × SealedUpdate) OwnerFault
-    told_of (Ok n) = Err fault
-    told_of (Err other) = Err other
+        told_of : Result ℕ OwnerFault → Result (ℕ × SealedUpdate) OwnerFault
+        told_of (Ok n) = Err fault
+        told_of (Err other) = Err other
   first_rising (Ok (epoch, u)) tries least not rises few =
       sends_rising (nat_lt epoch least) tries least epoch u refl rises few
 

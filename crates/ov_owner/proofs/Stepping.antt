@@ -1,6 +1,6 @@
 -- An Accepted and a Refused are the machine's replies at the history of the last ask.
 use Rattle.std.proofs.Common.{◌≡◌, ℕ, ◌+◌, ◌∙◌, List, [], ◌∷◌, ◌++◌, Option, Some, None, Result, Ok, Err, refl, sym, ap, subst, inl, inr}
-use Rattle.std.specs.Prelude.{◌⊎◌, nat_lt, ◌==◌, Bool, true, false, length}
+use Rattle.std.specs.Prelude.{nat_lt, ◌==◌, Bool, true, false, length}
 use Rattle.ov_base.specs.declared.refusal.Refusal.{Refusal}
 use Rattle.ov_fields.specs.Fronts.{AreAllBytes}
 use Rattle.ov_fields.proofs.WholeLaws.{all_again}
@@ -14,7 +14,6 @@ use Rattle.ov_script.specs.declared.command.Command.TheVariants as commands
 use Rattle.ov_script.specs.declared.reply.Reply.{Reply}
 use Rattle.ov_script.specs.declared.reply.Reply.TheVariants as replies
 use Rattle.ov_history.specs.Briefs.{brief}
-use Rattle.ov_history.specs.Catalogue.{Catalogue}
 use Rattle.ov_history.specs.History.{epoch_of}
 use Rattle.ov_history.specs.Layers.{layers_of}
 use Rattle.ov_history.specs.Masters.{Masters}
@@ -24,21 +23,21 @@ use Rattle.ov_history.specs.Sealed.{SealedHistory, catalogue_of, refusal_shown, 
 use Rattle.ov_history.specs.Sealing.{sealed, sealed_update}
 use Rattle.ov_history.proofs.Keeping.{kept_refusals, kept_shows}
 use Rattle.ov_history.proofs.Sealing.{sealing_goes_on}
-use Rattle.ov_model.specs.Step.{after, reply_to, step, update, update_step}
+use Rattle.ov_model.specs.Step.{step, update, update_step}
 use Rattle.ov_wire.specs.declared.request.Request.{Request}
 use Rattle.ov_wire.specs.declared.answer.Answer.{Answer}
 use Rattle.ov_wire.specs.declared.answer.Answer.TheVariants as answers
 use Rattle.ov_wire.specs.AnswerReading.{answer_of}
 use Rattle.ov_wire.specs.Requests.{HasRequestForm, request_bytes}
-use Rattle.ov_protocol.specs.Serving.{Service, followed, later, served}
+use Rattle.ov_protocol.specs.Serving.{Service, followed, served}
 use Rattle.ov_protocol.specs.Answers.{Answers, made_by}
 use Rattle.ov_protocol.specs.Updating.{AnswersSpelled, spelled_by}
 use Rattle.ov_peer.specs.Asks.{Along, AreRight, Ask, IsReplyAt}
 use Rattle.ov_peer.specs.Exchanges.{IsAnswerAt}
 use Rattle.ov_owner.specs.Errands.{Errand, creating, enrolling, granting, revoking}
 use Rattle.ov_owner.specs.Laws.{TalksAreSteps}
-use Rattle.ov_owner.specs.Steps.{IsLastStep, IsMachines, IsStep}
-use Rattle.ov_owner.specs.Talks.{Asks, CanSend, Closes, Ends, Goes, IsAfter, IsDue, Moves, Sends, Stage, Talks, after as stage_after, after_first, after_update, again_if, asked_at, sends_if, start, update_request}
+use Rattle.ov_owner.specs.Steps.{IsMachines, IsStep}
+use Rattle.ov_owner.specs.Talks.{Asks, Closes, Ends, Goes, IsAfter, IsDue, Sends, Stage, Talks, after as stage_after, after_first, after_update, again_if, sends_if, start, update_request}
 use Rattle.ov_owner.specs.declared.limits.TheConstants.{MAX_TRIES}
 use Rattle.ov_owner.specs.declared.fault.OwnerFault.{OwnerFault}
 use Rattle.ov_owner.specs.declared.fault.OwnerFault.TheVariants as faults
@@ -342,55 +341,55 @@ module _ (k : Masters) (command : Command) (e : Errand) (plain : PlainHistory �
     one_ask a rest ih stage g [] ready goes along rights = absurd along
     one_ask a rest ih (Asks tries least) g (h ∷ more) ready (next, moves, goes)
         (others, made, at_h, replied, along) ((p, legal, right), rights) = by_next moves.then where
-      along_h : Along (serving (followed h made)) rest more last
-      along_h = subst (λ (x : SealedHistory). Along (serving (followed x made)) rest more last) (sym at_h) along
+          along_h : Along (serving (followed h made)) rest more last
+          along_h = subst (λ (x : SealedHistory). Along (serving (followed x made)) rest more last) (sym at_h) along
 
-      is_first : e.first ≡ moves.asked.request
-      is_first = let due : Some e.first ≡ Some moves.asked.request = moves.asked.due in cc
+          is_first : e.first ≡ moves.asked.request
+          is_first = let due : Some e.first ≡ Some moves.asked.request = moves.asked.due in cc
 
-      replied_so : IsReplyAt (serving h) (request_bytes e.first) a.reply made
-      replied_so =
-          subst (λ (x : SealedHistory). IsReplyAt (serving x) (request_bytes e.first) a.reply made) (sym at_h)
-          (subst (λ (x : List ℕ). IsReplyAt (serving (followed g others)) x a.reply made)
-          (moves.asked.spelled ∙ ap request_bytes (sym is_first)) replied)
+          replied_so : IsReplyAt (serving h) (request_bytes e.first) a.reply made
+          replied_so =
+              subst (λ (x : SealedHistory). IsReplyAt (serving x) (request_bytes e.first) a.reply made) (sym at_h)
+              (subst (λ (x : List ℕ). IsReplyAt (serving (followed g others)) x a.reply made)
+              (moves.asked.spelled ∙ ap request_bytes (sym is_first)) replied)
 
-      by_next : IsAfter e (Asks tries least) moves.asked.request a.reply next
-          → IsMachines k command (h ∷ more) last.history result
-      by_next (inr memory) =
-          off a rest ih h made more along_h rights (Err faults.Memory)
-          (subst (λ (s : Stage). Goes k.surface e s rest final) memory goes) (λ same. tt)
-      by_next (inl (bytes, is)) =
-          first_read a rest ih h made more along_h rights p legal right (answer_of e.first a.reply) tries least
-          moves.asked.form bytes refl replied_so
-          (subst (λ (s : Stage). Goes k.surface e s rest final)
-          (is ∙ ap (λ (r : Request). stage_after e (Asks tries least) (answer_of r a.reply)) (sym is_first)) goes)
+          by_next : IsAfter e (Asks tries least) moves.asked.request a.reply next
+              → IsMachines k command (h ∷ more) last.history result
+          by_next (inr memory) =
+              off a rest ih h made more along_h rights (Err faults.Memory)
+              (subst (λ (s : Stage). Goes k.surface e s rest final) memory goes) (λ same. tt)
+          by_next (inl (bytes, is)) =
+              first_read a rest ih h made more along_h rights p legal right (answer_of e.first a.reply) tries least
+              moves.asked.form bytes refl replied_so
+              (subst (λ (s : Stage). Goes k.surface e s rest final)
+              (is ∙ ap (λ (r : Request). stage_after e (Asks tries least) (answer_of r a.reply)) (sym is_first)) goes)
     one_ask a rest ih (Sends tries epoch u) g (h ∷ more) ready (next, moves, goes)
         (others, made, at_h, replied, along) (right, rights) = by_next moves.then where
-      request : Request
-      request = update_request k.surface epoch u
+          request : Request
+          request = update_request k.surface epoch u
 
-      along_h : Along (serving (followed h made)) rest more last
-      along_h = subst (λ (x : SealedHistory). Along (serving (followed x made)) rest more last) (sym at_h) along
+          along_h : Along (serving (followed h made)) rest more last
+          along_h = subst (λ (x : SealedHistory). Along (serving (followed x made)) rest more last) (sym at_h) along
 
-      is_update : update_request k.surface epoch u ≡ moves.asked.request
-      is_update =
-          let due : Some (update_request k.surface epoch u) ≡ Some moves.asked.request = moves.asked.due in cc
+          is_update : update_request k.surface epoch u ≡ moves.asked.request
+          is_update =
+              let due : Some (update_request k.surface epoch u) ≡ Some moves.asked.request = moves.asked.due in cc
 
-      replied_so : IsReplyAt (serving (followed g others)) (request_bytes (update_request k.surface epoch u)) a.reply made
-      replied_so =
-          subst (λ (x : List ℕ). IsReplyAt (serving (followed g others)) x a.reply made)
-          (moves.asked.spelled ∙ ap request_bytes (sym is_update)) replied
+          replied_so : IsReplyAt (serving (followed g others)) (request_bytes (update_request k.surface epoch u)) a.reply made
+          replied_so =
+              subst (λ (x : List ℕ). IsReplyAt (serving (followed g others)) x a.reply made)
+              (moves.asked.spelled ∙ ap request_bytes (sym is_update)) replied
 
-      by_next : IsAfter e (Sends tries epoch u) moves.asked.request a.reply next
-          → IsMachines k command (h ∷ more) last.history result
-      by_next (inr memory) =
-          off a rest ih h made more along_h rights (Err faults.Memory)
-          (subst (λ (s : Stage). Goes k.surface e s rest final) memory goes) (λ same. tt)
-      by_next (inl (bytes, is)) =
-          update_read a rest ih h made more along_h rights g others at_h tries epoch u ready moves.asked.form.0
-          (answer_of (update_request k.surface epoch u) a.reply) moves.asked.form.1 bytes refl replied_so
-          (subst (λ (s : Stage). Goes k.surface e s rest final)
-          (is ∙ ap (λ (r : Request). stage_after e (Sends tries epoch u) (answer_of r a.reply)) (sym is_update)) goes)
+          by_next : IsAfter e (Sends tries epoch u) moves.asked.request a.reply next
+              → IsMachines k command (h ∷ more) last.history result
+          by_next (inr memory) =
+              off a rest ih h made more along_h rights (Err faults.Memory)
+              (subst (λ (s : Stage). Goes k.surface e s rest final) memory goes) (λ same. tt)
+          by_next (inl (bytes, is)) =
+              update_read a rest ih h made more along_h rights g others at_h tries epoch u ready moves.asked.form.0
+              (answer_of (update_request k.surface epoch u) a.reply) moves.asked.form.1 bytes refl replied_so
+              (subst (λ (s : Stage). Goes k.surface e s rest final)
+              (is ∙ ap (λ (r : Request). stage_after e (Sends tries epoch u) (answer_of r a.reply)) (sym is_update)) goes)
 
     steps : (asks : List Ask) → Steps asks
     steps [] stage g histories ready same along rights =

@@ -1,11 +1,9 @@
 -- How the asks of a call lead from stage to stage, and how a call ends at one.
-use Rattle.std.proofs.Common.{◌≡◌, ℕ, ◌∙◌, List, [], ◌∷◌, ◌++◌, Option, Some, None, Result, Ok, Err, refl, sym, ap, subst, inl, inr}
-use Rattle.std.specs.Prelude.{◌⊎◌, nat_lt, Bool, true, false}
+use Rattle.std.proofs.Common.{◌≡◌, ℕ, List, [], ◌∷◌, ◌++◌, Some, None, Result, Ok, Err, refl, sym, ap, subst, inl, inr}
 use Rattle.ov_record.specs.Updates.{SealedUpdate}
 use Rattle.ov_wire.specs.declared.request.Request.{Request}
 use Rattle.ov_wire.specs.declared.answer.Answer.{Answer}
 use Rattle.ov_wire.specs.declared.answer.Answer.TheVariants as answers
-use Rattle.ov_wire.specs.AnswerReading.{answer_of}
 use Rattle.ov_wire.specs.Requests.{request_bytes}
 use Rattle.ov_peer.specs.Asks.{Ask, Asked, Failed, Leads}
 use Rattle.ov_peer.specs.Exchanges.{Answered, Exchanges}
@@ -13,7 +11,7 @@ use Rattle.ov_peer.specs.declared.fault.ExchangeFault.{ExchangeFault}
 use Rattle.ov_peer.specs.declared.fault.ExchangeFault.TheVariants.{Link, BadReply, Memory}
 use Rattle.ov_owner.specs.Calls.{Concludes, Passes}
 use Rattle.ov_owner.specs.Errands.{Errand}
-use Rattle.ov_owner.specs.Talks.{Asks, CanSend, Ends, Goes, IsAskFault, Moves, Sends, Stage, after, again, asked_at, update_request}
+use Rattle.ov_owner.specs.Talks.{CanSend, Ends, Goes, IsAskFault, Sends, Stage, after, asked_at, update_request}
 use Rattle.ov_owner.specs.Tasks.{IsSent, owner_fault, sent_of}
 use Rattle.ov_owner.specs.declared.fault.OwnerFault.{OwnerFault}
 use Rattle.ov_owner.specs.declared.fault.OwnerFault.TheVariants as faults

@@ -1,6 +1,6 @@
 -- One try, and the tries of a call.
 use Rattle.std.proofs.Common.{◌≡◌, ℕ, ◌+◌, ◌<◌, ◌≤◌, ◌∙◌, List, [], ◌∷◌, ◌++◌, length, take, Result, Ok, Err, refl, sym, ap, subst, inl, inr, arith}
-use Rattle.std.specs.Prelude.{◌⊎◌, ◌==◌, Bool, true, false, slice_set}
+use Rattle.std.specs.Prelude.{◌⊎◌, ◌==◌, Bool, slice_set}
 use Rattle.std.proofs.lemmas.Bool.{ne_eqb}
 use Rattle.std.proofs.lemmas.List.{length-take-le, take_all, take_more_set}
 use Rattle.ov_base.proofs.Tests.{lt_is_false, lt_is_true}

@@ -1,5 +1,5 @@
 -- What an owner asks before an update, and what it seals of the answer.
-use Rattle.std.specs.Prelude.{ℕ, ◌≤◌, ◌<◌, ◌^◌, not, List, length, Result, Ok, Err}
+use Rattle.std.specs.Prelude.{ℕ, ◌≤◌, not, List, length, Result, Ok, Err}
 use Rattle.std.specs.List.{flat_map}
 use Rattle.ov_base.specs.declared.limits.TheConstants.{MAX_FILE_BYTES}
 use Rattle.ov_tokens.specs.declared.label.Kind.TheVariants.{Derive}

@@ -1,11 +1,14 @@
 -- The laws of an owner's talks.
-use Rattle.std.specs.Prelude.{◌≡◌, ℕ, ◌<◌, List, [], ◌∷◌, length, Option, Result, Err}
+use Rattle.std.specs.Prelude.{◌≡◌, ℕ, ◌+◌, ◌*◌, ◌<◌, ◌≤◌, List, [], ◌∷◌, length, Option, Result}
+use Rattle.std.specs.Prelude.{Err}
 use Rattle.ov_script.specs.declared.command.Command.{Command}
+use Rattle.ov_script.specs.declared.command.Command.TheVariants.{Create}
 use Rattle.ov_history.specs.Masters.{Masters}
 use Rattle.ov_history.specs.Plain.{PlainHistory, history_of}
 use Rattle.ov_history.specs.Refusals.{IsLegal}
 use Rattle.ov_history.specs.Sealed.{SealedHistory}
 use Rattle.ov_history.specs.Sealing.{sealed}
+use Rattle.ov_wire.specs.Frames.{framed}
 use Rattle.ov_protocol.specs.Serving.{Service}
 use Rattle.ov_peer.specs.Asks.{Along, AreRight, Ask}
 use Rattle.ov_owner.specs.Alone.{AskedAlone, IsOneOrNone}
@@ -51,3 +54,23 @@ OneUpdateAtMost =
     → IsErrandFor k.base command e → Talks k.surface e asks unanswered result
     → v.surface ≡ k.surface → IsLegal (history_of p) → v.history ≡ sealed k p
     → AskedAlone v asks unanswered last → IsOneOrNone k p command last.history
+
+-- how many bytes the frames of these asks have, with their length fields
+abbrev pub frame_bytes : List Ask → ℕ
+frame_bytes [] = 0
+frame_bytes (a ∷ asks) = length (framed a.request) + length (framed a.reply) + frame_bytes asks
+
+-- how many there are at most: only a creation is as long as its list and its file
+abbrev pub most_bytes : Command → ℕ
+most_bytes (Create file names bytes) = 320 + 101 * length names + length bytes
+most_bytes command = 512
+
+-- Of a server under the owner's surface master that nobody else updates meanwhile, the frames of a
+-- call have no more bytes than that, whatever files the server has.
+abbrev pub TalksAreShort : Type 0
+TalksAreShort =
+    (k : Masters) (command : Command) (e : Errand) (asks : List Ask) (unanswered : Option (List ℕ))
+    (result : Result ℕ OwnerFault) (v last : Service) (p : PlainHistory)
+    → IsErrandFor k.base command e → Talks k.surface e asks unanswered result
+    → v.surface ≡ k.surface → IsLegal (history_of p) → v.history ≡ sealed k p
+    → AskedAlone v asks unanswered last → frame_bytes asks ≤ most_bytes command

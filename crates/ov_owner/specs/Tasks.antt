@@ -1,7 +1,6 @@
 -- Inner: no public contract needs this. What an owner's helpers do.
 use Rattle.std.specs.Prelude.{◌≡◌, ◌⊎◌, ℕ, List, [], ◌∷◌, ◌++◌, Result, Ok, Err}
 use Rattle.ov_record.specs.Updates.{SealedUpdate, sealed_update}
-use Rattle.ov_history.specs.Masters.{Masters}
 use Rattle.ov_wire.specs.declared.answer.Answer.{Answer}
 use Rattle.ov_wire.specs.declared.answer.Answer.TheVariants as answers
 use Rattle.ov_peer.specs.Asks.{Asked, Failed}

@@ -1,5 +1,6 @@
 //! The laws of an owner's talks, for the proofs of callers. The functions do nothing.
-ghost use Rattle.ov_owner.specs.Laws.{OneUpdateAtMost, StaleEpochsRise, TalksAreSteps};
+ghost use Rattle.ov_owner.specs.Laws.{OneUpdateAtMost, StaleEpochsRise, TalksAreShort};
+ghost use Rattle.ov_owner.specs.Laws.{TalksAreSteps};
 
 /// What an owner was answered is the machine's step of its command, at the history by which its last
 /// ask was answered, whatever others updated between the asks.
@@ -16,4 +17,10 @@ pub fn stale_epochs_rise()
 /// ends.
 pub fn one_update_at_most()
     ensures { OneUpdateAtMost }
+{}
+
+/// The frames of a call to a store that nobody else updates are few and short, whatever the store's
+/// files: no file is fetched or sent again, but the one that is created.
+pub fn talks_are_short()
+    ensures { TalksAreShort }
 {}

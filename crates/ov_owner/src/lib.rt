@@ -27,6 +27,7 @@
 //! | an Accepted and a Refused are the machine's replies at the last ask | [`talks_are_steps`] |
 //! | the epochs of nine stale tries rise | [`stale_epochs_rise`] |
 //! | nothing was accepted, or this one update, where nobody else makes any | [`one_update_at_most`] |
+//! | no frames are longer than the command, its list and its file want | [`talks_are_short`] |
 #![tactic(auto)]
 
 mod fault;
@@ -43,5 +44,5 @@ mod task;
 mod tests;
 
 pub use fault::OwnerFault;
-pub use laws::{one_update_at_most, stale_epochs_rise, talks_are_steps};
+pub use laws::{one_update_at_most, stale_epochs_rise, talks_are_short, talks_are_steps};
 pub use owner::Owner;

@@ -47,7 +47,13 @@ impl Owner {
         ensures same { P.borrow peer.new ≡ P.borrow peer.old }
         ensures cause { HasOwnerCause (P.faults peer.old) (P.faults peer.new) result }
     {
-        settle(alloc, peer, &self.base, &self.surface, &Task::Enrol { user })
+        settle(
+            alloc,
+            peer,
+            &self.base,
+            &self.surface,
+            &Task::Enrol { user },
+        )
     }
 
     /// Creates a file of these bytes, for the users of the list. Gives the new epoch.
@@ -66,7 +72,13 @@ impl Owner {
         ensures cause { HasOwnerCause (P.faults peer.old) (P.faults peer.new) result }
     {
         let names = list;
-        settle(alloc, peer, &self.base, &self.surface, &Task::Create { file, names, bytes })
+        settle(
+            alloc,
+            peer,
+            &self.base,
+            &self.surface,
+            &Task::Create { file, names, bytes },
+        )
     }
 
     /// Puts a user onto the list of a file. Gives the new epoch.
@@ -82,7 +94,13 @@ impl Owner {
         ensures same { P.borrow peer.new ≡ P.borrow peer.old }
         ensures cause { HasOwnerCause (P.faults peer.old) (P.faults peer.new) result }
     {
-        settle(alloc, peer, &self.base, &self.surface, &Task::Grant { user, file })
+        settle(
+            alloc,
+            peer,
+            &self.base,
+            &self.surface,
+            &Task::Grant { user, file },
+        )
     }
 
     /// Takes a user off the list of a file. Gives the new epoch.
@@ -98,6 +116,12 @@ impl Owner {
         ensures same { P.borrow peer.new ≡ P.borrow peer.old }
         ensures cause { HasOwnerCause (P.faults peer.old) (P.faults peer.new) result }
     {
-        settle(alloc, peer, &self.base, &self.surface, &Task::Revoke { user, file })
+        settle(
+            alloc,
+            peer,
+            &self.base,
+            &self.surface,
+            &Task::Revoke { user, file },
+        )
     }
 }

@@ -12,7 +12,9 @@ use std::alloc::Global;
 #[derive(Drop)]
 pub enum Task<'a> {
     /// To enrol this user.
-    Enrol { user: &'a Name },
+    Enrol {
+        user: &'a Name,
+    },
     /// To create a file of these bytes for the users of these names.
     Create {
         file: &'a Name,
@@ -20,9 +22,15 @@ pub enum Task<'a> {
         bytes: &'a [u8],
     },
     /// To put the user onto the file's list.
-    Grant { user: &'a Name, file: &'a Name },
+    Grant {
+        user: &'a Name,
+        file: &'a Name,
+    },
     /// To take the user off the file's list.
-    Revoke { user: &'a Name, file: &'a Name },
+    Revoke {
+        user: &'a Name,
+        file: &'a Name,
+    },
 }
 
 /// What is asked first.

@@ -78,10 +78,22 @@ fn faults_come_of_replies(rt: HostRuntime) -> Result<(), Fail> {
     assert_eq!(rt; enrolled(rt.alloc(), &[STALE_8])?, wrong);
     // The second Known is at an epoch below the one of the Stale before it.
     let replies: [&[u8]; 3] = [&at_7, &[0x89, 0, 0, 0, 9], &at_8];
-    assert_eq!(rt; enrolled(rt.alloc(), &replies)?, Err(OwnerFault::BadReply { at: 1 }));
-    assert_eq!(rt; enrolled(rt.alloc(), &[&at_7, &[0x8a]])?, Err(OwnerFault::BadTag));
-    assert_eq!(rt; enrolled(rt.alloc(), &[&at_7, &[0x8d]])?, Err(OwnerFault::Device));
-    assert_eq!(rt; enrolled(rt.alloc(), &[&at_7, &[0x8e]])?, Err(OwnerFault::Memory));
+    assert_eq!(rt;
+        enrolled(rt.alloc(), &replies)?,
+        Err(OwnerFault::BadReply { at: 1 })
+    );
+    assert_eq!(rt;
+        enrolled(rt.alloc(), &[&at_7, &[0x8a]])?,
+        Err(OwnerFault::BadTag)
+    );
+    assert_eq!(rt;
+        enrolled(rt.alloc(), &[&at_7, &[0x8d]])?,
+        Err(OwnerFault::Device)
+    );
+    assert_eq!(rt;
+        enrolled(rt.alloc(), &[&at_7, &[0x8e]])?,
+        Err(OwnerFault::Memory)
+    );
     assert_eq!(rt; enrolled(rt.alloc(), &[&at_7])?, Err(OwnerFault::Link));
     Ok(())
 }
@@ -133,12 +145,16 @@ fn questions_are_answered(rt: HostRuntime) -> Result<(), Fail> {
     welcome[..6].copy_from_slice(&[0x81, 1, 0, 0, 0, 6]);
     let listed: &[u8] = &[0x8f, 0, 2, 1, b'a', 1, b'b'];
     let mut peer = replying(rt.alloc(), &[&welcome, listed, &[0x88, 3]])?;
-    let told = owner().hello(rt.alloc(), &mut peer).map_err(|_| "a Welcome")?;
+    let told = owner()
+        .hello(rt.alloc(), &mut peer)
+        .map_err(|_| "a Welcome")?;
     assert_eq!(rt; told.mode, Mode::Delta);
     assert_eq!(rt; told.epoch, 6);
     assert_eq!(rt; told.base_check, [7; 32]);
     let file = Name::read(b"f1").ok_or("a name")?;
-    let names = owner().list(rt.alloc(), &mut peer, &file).map_err(|_| "a list")?;
+    let names = owner()
+        .list(rt.alloc(), &mut peer, &file)
+        .map_err(|_| "a list")?;
     assert_eq!(rt; names.as_slice().len(), 2);
     match owner().list(rt.alloc(), &mut peer, &file) {
         Err(OwnerFault::Refused(Refusal::NoFile)) => Ok(()),

@@ -1,11 +1,9 @@
-use Rattle.std.proofs.Common.{◌≡◌, ◌∙◌, Err, Ok, Result, refl, subst, sym}
+use Rattle.std.proofs.Common.{◌≡◌, Err, Ok, subst}
 use Rattle.std.proofs.lemmas.Result.{err_from_is_err_and}
 use Rattle.ov_record.specs.Updates.{sealed_update}
 use Rattle.ov_wire.specs.declared.request.Request.{Request}
 use Rattle.ov_wire.specs.Requests.{HasRequestForm}
 use Rattle.ov_peer.specs.Exchanges.{Exchanges}
-use Rattle.ov_owner.specs.Calls.{Concludes}
-use Rattle.ov_owner.specs.Tasks.{IsSent, sent_of}
 use Rattle.ov_owner.specs.Talks.{Sends, update_request}
 use Rattle.ov_owner.proofs.Talking.{nothing_asked, sent_by, unsent_by}
 use Rattle.ov_owner.proofs.sending.send.Goals as goal

@@ -1,4 +1,4 @@
-use Rattle.std.proofs.Common.{◌≡◌, Some, ap, refl, subst, sym}
+use Rattle.std.proofs.Common.{Some, ap, refl, subst, sym}
 use Rattle.std.proofs.lemmas.Result.{err_from_is_err_and}
 use Rattle.ov_record.specs.Updates.{sealed_update}
 use Rattle.ov_wire.specs.declared.request.Request.{Request}

@@ -1,8 +1,8 @@
-use Rattle.std.proofs.Common.{◌≡◌, ◌≤◌, ◌<◌, ◌∙◌, Err, Ok, ap, arith, length, sym, take}
+use Rattle.std.proofs.Common.{◌≡◌, ◌∙◌, Err, Ok, arith, take}
 use Rattle.std.proofs.lemmas.List.{length-set}
 use Rattle.std.proofs.lemmas.Result.{err_from_is_err_and}
 use Rattle.ov_record.specs.Updates.{sealed_update}
-use Rattle.ov_owner.specs.Tasks.{IsSent, errand_of}
+use Rattle.ov_owner.specs.Tasks.{errand_of}
 use Rattle.ov_owner.specs.declared.limits.TheConstants.{MAX_TRIES}
 use Rattle.ov_owner.proofs.Trying.{ends_asking, ends_sending, goes_on, unsettled}
 use Rattle.ov_owner.proofs.settling.settle.Goals as goal
