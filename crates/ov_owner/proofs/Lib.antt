@@ -8,5 +8,6 @@ pub mod Telling
 pub mod Stepping
 pub mod Rising
 pub mod Leaving
+pub mod Owning
 pub mod Sizes
 pub mod Shortness

@@ -10,6 +10,8 @@ use Rattle.ov_history.specs.Refusals.{IsLegal}
 use Rattle.ov_history.specs.Sealed.{SealedHistory}
 use Rattle.ov_history.specs.Sealing.{sealed}
 use Rattle.ov_model.specs.Step.{after, reply_to}
+use Rattle.ov_protocol.specs.Serving.{Service}
+use Rattle.ov_peer.specs.Asks.{Along, AreRight, Ask}
 use Rattle.ov_owner.specs.Errands.{Errand, creating, enrolling, granting, revoking}
 use Rattle.ov_owner.specs.declared.fault.OwnerFault.{OwnerFault}
 use Rattle.ov_owner.specs.declared.fault.OwnerFault.TheVariants as faults
@@ -47,3 +49,20 @@ IsMachines k command histories last (Ok epoch) =
 IsMachines k command histories last (Err (faults.Refused why)) =
     IsLastStep k command (replies.Refused why) histories last
 IsMachines k command histories last (Err fault) = Unit {0}
+
+-- Asks were answered along histories that go on from the one that is served, and then the last is
+-- served; where they are right, the machine replies so to the command at the history of the last ask.
+abbrev pub AnswersAsMachine : Masters → Command → Service → (Service → Type 0) → Reply → Type 0
+AnswersAsMachine k command v Then reply =
+    (asks : List Ask) × (histories : List SealedHistory) × (last : Service)
+    × Along v asks histories last × Then last
+    × (AreRight k histories → IsLastStep k command reply histories last.history)
+
+-- so it is with an Accepted and a Refused, where the owner's surface master is the one served under
+abbrev pub IsOwnersReply : Masters → Command → Service → (Service → Type 0) → Result ℕ OwnerFault
+    → Type 0
+IsOwnersReply k command v Then (Ok epoch) =
+    AnswersAsMachine k command v Then (replies.Accepted epoch)
+IsOwnersReply k command v Then (Err (faults.Refused why)) =
+    AnswersAsMachine k command v Then (replies.Refused why)
+IsOwnersReply k command v Then (Err fault) = Unit {0}

@@ -15,10 +15,10 @@ pub enum Task<'a> {
     Enrol {
         user: &'a Name,
     },
-    /// To create a file of these bytes for the users of these names.
+    /// To create a file of these bytes for the users of the list.
     Create {
         file: &'a Name,
-        names: &'a Names,
+        list: &'a Names,
         bytes: &'a [u8],
     },
     /// To put the user onto the file's list.
@@ -44,10 +44,10 @@ pub fn first_request(alloc: Global, task: &Task<'_>) -> Result<Request, Memory>
         Task::Enrol { user } => Ok(Request::Ask {
             question: Question::Enrol { user: user.copy() },
         }),
-        Task::Create { file, names, bytes } => Ok(Request::Cover {
+        Task::Create { file, list, bytes } => Ok(Request::Cover {
             file: file.copy(),
             length: bytes.len() as u32,
-            names: copy_names(alloc, names)?,
+            names: copy_names(alloc, list)?,
         }),
         Task::Grant { user, file } => Ok(Request::Ask {
             question: Question::Grant {
