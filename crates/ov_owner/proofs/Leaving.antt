@@ -40,7 +40,8 @@ use Rattle.ov_owner.specs.declared.fault.OwnerFault.TheVariants as faults
 use Rattle.ov_owner.proofs.Answering.{answer_at}
 use Rattle.ov_owner.proofs.Histories.{followed-nil}
 use Rattle.ov_owner.proofs.Stepping.{read_back}
-use Rattle.ov_owner.proofs.Telling.{Makes, creating_makes, enrolling_makes, granting_makes, revoking_makes, under}
+use Rattle.ov_owner.proofs.Doing.{Does, does}
+use Rattle.ov_owner.proofs.Telling.{under}
 
 -- what a reply made is nothing, or what was asked for
 reply_makes : (v : Service) (request reply : List ℕ) (made : List SealedUpdate)
@@ -54,18 +55,15 @@ may_make : (request : Request) (made : List SealedUpdate) → HasRequestForm req
 may_make request made form (inl none) = inl none
 may_make request made form (inr some) = inr (some ∙ ap updates_asked (request_back request form))
 
-module _ (k : Masters) (command : Command) (e : Errand) (plain : PlainHistory → PlainUpdate)
-    (makes : Makes k e plain)
-    (as_update : (p : PlainHistory) → step p command ≡ update p (plain p))
-    (base_check : List ℕ) (p : PlainHistory) (legal : IsLegal (history_of p)) where
+module _ (k : Masters) (command : Command) (e : Errand) (d : Does k command e) (base_check : List ℕ) (p : PlainHistory) (legal : IsLegal (history_of p)) where
   abbrev pub serving : SealedHistory → Service
   serving g = under k.surface base_check g
 
   -- the update was sealed of an answer at this history, which doesn't refuse it
   pub record IsReady (epoch : ℕ) (u : SealedUpdate) : Type 0 where
     pub at_epoch : epoch ≡ (catalogue_of k.surface (sealed k p)).epoch
-    pub is_sealed : u ≡ sealed_update k (layers_of (history_of p)) (plain p)
-    pub free : refusal_of (history_of p) (measured (plain p)) ≡ None
+    pub is_sealed : u ≡ sealed_update k (layers_of (history_of p)) (d.plain p)
+    pub free : refusal_of (history_of p) (measured (d.plain p)) ≡ None
 
   -- what is served at a stage
   abbrev pub Serves : Stage → SealedHistory → Type 0
@@ -79,7 +77,7 @@ module _ (k : Masters) (command : Command) (e : Errand) (plain : PlainHistory �
   first_makes made form may = by_cases (may_make e.first made form may) where
     by_cases : (made ≡ []) ⊎ (made ≡ updates_asked (Ok e.first)) → made ≡ []
     by_cases (inl none) = none
-    by_cases (inr some) = some ∙ makes.no_update
+    by_cases (inr some) = some ∙ d.makes.no_update
 
   stays : (g : SealedHistory) (made : List SealedUpdate) → g ≡ sealed k p → made ≡ []
       → followed g made ≡ sealed k p
@@ -94,15 +92,15 @@ module _ (k : Masters) (command : Command) (e : Errand) (plain : PlainHistory �
       → IsOneOrNone k p command (followed g made)
   update_makes g epoch u made same ready form sendable may =
       by_cases (may_make (update_request k.surface epoch u) made sendable may) where
-        next : step p command ≡ (replies.Accepted (epoch_of (history_of p) + 1), with_plain p (plain p))
-        next = as_update p ∙ ap (update_step p (plain p)) ready.free
+        next : step p command ≡ (replies.Accepted (epoch_of (history_of p) + 1), with_plain p (d.plain p))
+        next = d.as_update p ∙ ap (update_step p (d.plain p)) ready.free
 
         by_cases : (made ≡ []) ⊎ (made ≡ updates_asked (Ok (update_request k.surface epoch u)))
             → IsOneOrNone k p command (followed g made)
         by_cases (inl none) = inl (stays g made same none)
         by_cases (inr some) =
             inr ((λ i. followed (same i) ((some ∙ ap spelled_by (read_back u form)) i))
-            ∙ ap (with_sealed (sealed k p)) ready.is_sealed ∙ sym (sealing_goes_on k p (plain p))
+            ∙ ap (with_sealed (sealed k p)) ready.is_sealed ∙ sym (sealing_goes_on k p (d.plain p))
             ∙ ap (λ (x : Reply × PlainHistory). sealed k x.1) (sym next))
 
   -- ---- after the first ask
@@ -118,12 +116,12 @@ module _ (k : Masters) (command : Command) (e : Errand) (plain : PlainHistory �
         → Serves (after_first tries least told) (followed g made)
     told_on (Err fault) tries least answer is at_g = inl (stays g made same none)
     told_on (Ok (epoch, u)) tries least answer is (inr (disk, may)) =
-        let other : e.sealed answer ≡ Err (faults.BadReply 0) = ap e.sealed disk ∙ makes.no_disk in
+        let other : e.sealed answer ≡ Err (faults.BadReply 0) = ap e.sealed disk ∙ d.makes.no_disk in
         absurd cc
     told_on (Ok (epoch, u)) tries least answer is (inl (answered, makes_it)) =
         let at_p : Answers (served (serving (sealed k p))) e.first answer =
         subst (λ (x : SealedHistory). Answers (served (serving x)) e.first answer) same answered in
-        let (at_epoch, is_sealed, free) = makes.told base_check p answer epoch u legal at_p is in
+        let (at_epoch, is_sealed, free) = d.makes.told base_check p answer epoch u legal at_p is in
         sends_on (nat_lt epoch least) tries epoch u 
         (record { at_epoch = at_epoch; is_sealed = is_sealed; free = free })
 
@@ -270,32 +268,8 @@ module _ (k : Masters) (command : Command) (e : Errand) (plain : PlainHistory �
   leaves_so asks unanswered result g last same (final, goes, closes) (m, alone, left) =
       at_close final unanswered result m last (all_asks start final asks g m same goes alone) closes left
 
-by_errand : (k : Masters) (command : Command) (e : Errand) (plain : PlainHistory → PlainUpdate)
-    → Makes k e plain → ((p : PlainHistory) → step p command ≡ update p (plain p))
-    → (asks : List Ask) (unanswered : Option (List ℕ)) (result : Result ℕ OwnerFault)
-    (v last : Service) (p : PlainHistory)
-    → Talks k.surface e asks unanswered result → v.surface ≡ k.surface → IsLegal (history_of p)
-    → v.history ≡ sealed k p → AskedAlone v asks unanswered last
-    → IsOneOrNone k p command last.history
-by_errand k command e plain makes as_update asks unanswered result v last p talks same legal right alone =
-    leaves_so k command e plain makes as_update v.base_check p legal asks unanswered result v.history last right talks
-    (subst (λ (s : List ℕ). AskedAlone (under s v.base_check v.history) asks unanswered last) same alone)
-
 pub one_update_at_most : OneUpdateAtMost
-one_update_at_most k (commands.Enrol user) e asks unanswered result v last p is talks same legal right alone =
-    by_errand k (commands.Enrol user) (enrolling user) _ (enrolling_makes k user) (λ p. refl)
-    asks unanswered result v last p
-    (subst (λ (x : Errand). Talks k.surface x asks unanswered result) is talks) same legal right alone
-one_update_at_most k (commands.Create file names bytes) e asks unanswered result v last p is talks same legal right alone =
-    by_errand k (commands.Create file names bytes) (creating k.base file names bytes) _
-    (creating_makes k file names bytes) (λ p. refl) asks unanswered result v last p
-    (subst (λ (x : Errand). Talks k.surface x asks unanswered result) is talks) same legal right alone
-one_update_at_most k (commands.Grant user file) e asks unanswered result v last p is talks same legal right alone =
-    by_errand k (commands.Grant user file) (granting k.base user file) _ (granting_makes k user file) (λ p. refl)
-    asks unanswered result v last p
-    (subst (λ (x : Errand). Talks k.surface x asks unanswered result) is talks) same legal right alone
-one_update_at_most k (commands.Revoke user file) e asks unanswered result v last p is talks same legal right alone =
-    by_errand k (commands.Revoke user file) (revoking user file) _ (revoking_makes k user file) (λ p. refl)
-    asks unanswered result v last p
-    (subst (λ (x : Errand). Talks k.surface x asks unanswered result) is talks) same legal right alone
-one_update_at_most k command e asks unanswered result v last p is talks same legal right alone = absurd is
+one_update_at_most k command e asks unanswered result v last p is talks same legal right alone =
+    let d = does k command e is in
+    leaves_so k command e d v.base_check p legal asks unanswered result v.history last right talks
+    (subst (λ (s : List ℕ). AskedAlone (under s v.base_check v.history) asks unanswered last) same alone)

@@ -5,7 +5,9 @@ pub mod Talking
 pub mod Trying
 pub mod Histories
 pub mod Telling
+pub mod Doing
 pub mod Stepping
+pub mod Replying
 pub mod Rising
 pub mod Leaving
 pub mod Owning

@@ -17,7 +17,7 @@ use Rattle.ov_owner.specs.declared.fault.OwnerFault.{OwnerFault}
 use Rattle.ov_owner.specs.declared.fault.OwnerFault.TheVariants as faults
 use Rattle.ov_owner.specs.declared.task.Task.{Task}
 use Rattle.ov_owner.specs.declared.task.Task.TheVariants as tasks
-use Rattle.ov_owner.proofs.Stepping.{talks_are_steps}
+use Rattle.ov_owner.proofs.Replying.{talks_are_steps}
 
 -- a task's errand is that of its command
 errand_for : (base : List ℕ) (task : Task) → IsErrandFor base (command_of task) (errand_of base task)

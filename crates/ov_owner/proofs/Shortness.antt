@@ -42,7 +42,8 @@ use Rattle.ov_owner.specs.declared.fault.OwnerFault.TheVariants as faults
 use Rattle.ov_owner.proofs.Answering.{answer_at}
 use Rattle.ov_owner.proofs.Leaving.{IsReady, Serves, is_first, is_update, nothing_due, one_ask, serving}
 use Rattle.ov_owner.proofs.Sizes.{ask_answer_short, cover_answer_short, cover_short, creation_short, list_few, question_short, short_update, spelled_answer_short}
-use Rattle.ov_owner.proofs.Telling.{Makes, creating_makes, enrolling_makes, granting_makes, revoking_makes, under}
+use Rattle.ov_owner.proofs.Doing.{Does, create_does, enrol_does, grant_does, revoke_does}
+use Rattle.ov_owner.proofs.Telling.{under}
 
 -- a reply to a request that was sent is an answer to it, or says that the disk failed
 reply_short : (v : Service) (request : Request) (reply : List ℕ) (made : List SealedUpdate) (most : ℕ)
@@ -72,18 +73,15 @@ update_length surface epoch u form =
     let all : length tag ≡ 32 = form.is_request.2 in
     omega (arith, all, length-append (u32 epoch ++ spelling 32 u) tag, length-append (u32 epoch) (spelling 32 u))
 
-module _ (k : Masters) (command : Command) (e : Errand) (plain : PlainHistory → PlainUpdate)
-    (makes : Makes k e plain)
-    (as_update : (p : PlainHistory) → step p command ≡ update p (plain p))
-    (base_check : List ℕ) (p : PlainHistory) (legal : IsLegal (history_of p))
+module _ (k : Masters) (command : Command) (e : Errand) (d : Does k command e) (base_check : List ℕ) (p : PlainHistory) (legal : IsLegal (history_of p))
     (first told sent : ℕ) (some : 1 ≤ told)
     (first_short : HasRequestForm e.first → length (request_bytes e.first) ≤ first)
     (told_short : (a : Answer) → Answers (served (under k.surface base_check (sealed k p))) e.first a
     → length (answer_bytes a) ≤ told)
-    (sent_short : let u = sealed_update k (layers_of (history_of p)) (plain p) in
+    (sent_short : let u = sealed_update k (layers_of (history_of p)) (d.plain p) in
     HasForm 32 u → length (spelling 32 u) ≤ sent) where
   abbrev At : Stage → SealedHistory → Type 0
-  At stage g = Serves k command e plain makes as_update base_check p legal stage g
+  At stage g = Serves k command e d base_check p legal stage g
 
   abbrev here : SealedHistory → Service
   here g = under k.surface base_check g
@@ -157,10 +155,10 @@ module _ (k : Masters) (command : Command) (e : Errand) (plain : PlainHistory �
       → IsAfter e stage moves.asked.request a.reply next
       → (4 + length a.request) + (4 + length a.reply) + most next ≤ most stage
   one_short (Ends r) next a g made moves ready replied then =
-      absurd (nothing_due k command e plain makes as_update base_check p legal r a.request moves.asked)
+      absurd (nothing_due k command e d base_check p legal r a.request moves.asked)
   one_short (Asks tries least) next a g made moves same replied then =
       let ours : e.first ≡ moves.asked.request =
-      is_first k command e plain makes as_update base_check p legal tries least a.request moves.asked in
+      is_first k command e d base_check p legal tries least a.request moves.asked in
       let frame : a.request ≡ request_bytes e.first = moves.asked.spelled ∙ ap request_bytes (sym ours) in
       let one : length a.request ≡ length (request_bytes e.first) = ap length frame in
       let two = first_short moves.asked.form in
@@ -173,7 +171,7 @@ module _ (k : Masters) (command : Command) (e : Errand) (plain : PlainHistory �
   one_short (Sends tries epoch u) next a g made moves (same, ready) replied then =
       let request = update_request k.surface epoch u in
       let ours : request ≡ moves.asked.request =
-      is_update k command e plain makes as_update base_check p legal tries epoch u a.request moves.asked in
+      is_update k command e d base_check p legal tries epoch u a.request moves.asked in
       let frame : a.request ≡ request_bytes request = moves.asked.spelled ∙ ap request_bytes (sym ours) in
       let replied_so : IsReplyAt (here g) (request_bytes request) a.reply made =
       subst (λ (x : List ℕ). IsReplyAt (here g) x a.reply made) frame replied in
@@ -194,7 +192,7 @@ module _ (k : Masters) (command : Command) (e : Errand) (plain : PlainHistory �
         by_next replied_so (inr memory) = ap most memory
         by_next replied_so (inl (bytes, is)) =
             let ours : update_request k.surface epoch u ≡ moves.asked.request =
-            is_update k command e plain makes as_update base_check p legal tries epoch u a.request moves.asked in
+            is_update k command e d base_check p legal tries epoch u a.request moves.asked in
             ap most (is ∙ ap (λ (r : Request). stage_after e (Sends tries epoch u) (answer_of r a.reply)) (sym ours))
             ∙ by_sent g tries epoch u (answer_of (update_request k.surface epoch u) a.reply) a.reply made same
             ready.at_epoch moves.asked.form.1 bytes refl replied_so
@@ -206,7 +204,7 @@ module _ (k : Masters) (command : Command) (e : Errand) (plain : PlainHistory �
   all_short stage final (a ∷ asks) g m ready (next, moves, goes) (made, replied, alone) =
       let one = one_short stage next a g made moves ready replied moves.then in
       let rest = all_short next final asks (followed g made) m
-      (one_ask k command e plain makes as_update base_check p legal stage next a g made moves ready replied moves.then)
+      (one_ask k command e d base_check p legal stage next a g made moves ready replied moves.then)
       goes alone in
       omega (arith, one, rest)
 
@@ -217,28 +215,27 @@ module _ (k : Masters) (command : Command) (e : Errand) (plain : PlainHistory �
   talk_short asks unanswered result g last same (final, goes, closes) (m, alone, left) =
       let k = all_short start final asks g m same goes alone in omega (arith, k)
 
-by_sizes : (k : Masters) (command : Command) (e : Errand) (plain : PlainHistory → PlainUpdate)
-    → Makes k e plain → ((p : PlainHistory) → step p command ≡ update p (plain p))
-    → (asks : List Ask) (unanswered : Option (List ℕ)) (result : Result ℕ OwnerFault)
+by_sizes : (k : Masters) (command : Command) (e : Errand) (d : Does k command e)
+    (asks : List Ask) (unanswered : Option (List ℕ)) (result : Result ℕ OwnerFault)
     (v last : Service) (p : PlainHistory) (first told sent : ℕ)
     → Talks k.surface e asks unanswered result → v.surface ≡ k.surface → IsLegal (history_of p)
     → v.history ≡ sealed k p → AskedAlone v asks unanswered last
     → 1 ≤ told → (HasRequestForm e.first → length (request_bytes e.first) ≤ first)
     → ((a : Answer) → Answers (served (under k.surface v.base_check (sealed k p))) e.first a
     → length (answer_bytes a) ≤ told)
-    → (let u = sealed_update k (layers_of (history_of p)) (plain p) in
+    → (let u = sealed_update k (layers_of (history_of p)) (d.plain p) in
     HasForm 32 u → length (spelling 32 u) ≤ sent)
     → frame_bytes asks ≤ first + told + sent + 58
-by_sizes k command e plain makes as_update asks unanswered result v last p first told sent talks same legal right
+by_sizes k command e d asks unanswered result v last p first told sent talks same legal right
     alone some first_short told_short sent_short =
-    talk_short k command e plain makes as_update v.base_check p legal first told sent some first_short told_short
+    talk_short k command e d v.base_check p legal first told sent some first_short told_short
     sent_short asks unanswered result v.history last right talks
     (subst (λ (s : List ℕ). AskedAlone (under s v.base_check v.history) asks unanswered last) same alone)
 
 pub talks_are_short : TalksAreShort
 talks_are_short k (commands.Enrol user) e asks unanswered result v last p is talks same legal right alone =
     let c = catalogue_of k.surface (sealed k p) in
-    let n = by_sizes k (commands.Enrol user) (enrolling user) _ (enrolling_makes k user) (λ p. refl)
+    let n = by_sizes k (commands.Enrol user) (enrolling user) (enrol_does k user)
     asks unanswered result v last p 132 26 66
     (subst (λ (x : Errand). Talks k.surface x asks unanswered result) is talks) same legal right alone (omega arith)
     (question_short (questions.Enrol user)) (ask_answer_short c (questions.Enrol user))
@@ -249,8 +246,8 @@ talks_are_short k (commands.Create file names bytes) e asks unanswered result v 
     let m = matrix_of (history_of p) in
     let shown = list_few c.users names in
     let list = list_few m.users names in
-    let n = by_sizes k (commands.Create file names bytes) (creating k.base file names bytes) _
-    (creating_makes k file names bytes) (λ p. refl)
+    let n = by_sizes k (commands.Create file names bytes) (creating k.base file names bytes)
+    (create_does k file names bytes)
     asks unanswered result v last p (72 + 65 * length names) (48 + 4 * length names)
     (136 + 32 * length names + length bytes)
     (subst (λ (x : Errand). Talks k.surface x asks unanswered result) is talks) same legal right alone (omega arith)
@@ -261,7 +258,7 @@ talks_are_short k (commands.Create file names bytes) e asks unanswered result v 
 talks_are_short k (commands.Grant user file) e asks unanswered result v last p is talks same legal right alone =
     let m = matrix_of (history_of p) in
     let c = catalogue_of k.surface (sealed k p) in
-    let n = by_sizes k (commands.Grant user file) (granting k.base user file) _ (granting_makes k user file) (λ p. refl)
+    let n = by_sizes k (commands.Grant user file) (granting k.base user file) (grant_does k user file)
     asks unanswered result v last p 132 26 66
     (subst (λ (x : Errand). Talks k.surface x asks unanswered result) is talks) same legal right alone (omega arith)
     (question_short (questions.Grant user file)) (ask_answer_short c (questions.Grant user file))
@@ -270,7 +267,7 @@ talks_are_short k (commands.Grant user file) e asks unanswered result v last p i
 talks_are_short k (commands.Revoke user file) e asks unanswered result v last p is talks same legal right alone =
     let m = matrix_of (history_of p) in
     let c = catalogue_of k.surface (sealed k p) in
-    let n = by_sizes k (commands.Revoke user file) (revoking user file) _ (revoking_makes k user file) (λ p. refl)
+    let n = by_sizes k (commands.Revoke user file) (revoking user file) (revoke_does k user file)
     asks unanswered result v last p 132 26 66
     (subst (λ (x : Errand). Talks k.surface x asks unanswered result) is talks) same legal right alone (omega arith)
     (question_short (questions.Revoke user file)) (ask_answer_short c (questions.Revoke user file))

@@ -5,6 +5,9 @@ use Rattle.ov_base.specs.declared.refusal.Refusal.{Refusal}
 use Rattle.ov_tokens.specs.declared.token.Token.{Token}
 use Rattle.ov_base_layer.specs.Seals.{access_token}
 use Rattle.ov_record.specs.Updates.{SealedUpdate, SealedGrant}
+use Rattle.ov_script.specs.declared.command.Command.{Command}
+use Rattle.ov_script.specs.declared.command.Command.TheVariants as commands
+use Rattle.ov_model.specs.Step.{step, update}
 use Rattle.ov_history.specs.Asking.{file_named, of_grant, refusal_at, user_named}
 use Rattle.ov_history.specs.Catalogue.{Catalogue, matrix_shown, outline}
 use Rattle.ov_history.specs.History.{Matrix, Update, matrix_of}
@@ -55,7 +58,7 @@ pub record Makes (k : Masters) (e : Errand) (plain : PlainHistory → PlainUpdat
 
 -- ---- answers by which something is sealed
 
-known_by : (a : Answer) (seal : Known → ℕ × SealedUpdate) (told : ℕ × SealedUpdate)
+pub known_by : (a : Answer) (seal : Known → ℕ × SealedUpdate) (told : ℕ × SealedUpdate)
     → sealed_by seal (known_of a) ≡ Ok told
     → (known : Known) × (a ≡ answers.Known known) × (told ≡ seal known)
 known_by (answers.Known known) seal told is = (known, refl, cc)
@@ -63,7 +66,7 @@ known_by (answers.Refused why) seal told is = absurd cc
 known_by answers.NoMemory seal told is = absurd cc
 known_by a seal told is = absurd cc
 
-plan_by : (a : Answer) (seal : Plan → ℕ × SealedUpdate) (told : ℕ × SealedUpdate)
+pub plan_by : (a : Answer) (seal : Plan → ℕ × SealedUpdate) (told : ℕ × SealedUpdate)
     → sealed_by seal (plan_of a) ≡ Ok told
     → (plan : Plan) × (a ≡ answers.Plan plan) × (told ≡ seal plan)
 plan_by (answers.Plan plan) seal told is = (plan, refl, cc)
@@ -71,14 +74,14 @@ plan_by (answers.Refused why) seal told is = absurd cc
 plan_by answers.NoMemory seal told is = absurd cc
 plan_by a seal told is = absurd cc
 
-known_refused : (a : Answer) (seal : Known → ℕ × SealedUpdate) (why : Refusal)
+pub known_refused : (a : Answer) (seal : Known → ℕ × SealedUpdate) (why : Refusal)
     → sealed_by seal (known_of a) ≡ Err (faults.Refused why) → a ≡ answers.Refused why
 known_refused (answers.Known known) seal why is = absurd cc
 known_refused (answers.Refused other) seal why is = cc
 known_refused answers.NoMemory seal why is = absurd cc
 known_refused a seal why is = absurd cc
 
-plan_refused : (a : Answer) (seal : Plan → ℕ × SealedUpdate) (why : Refusal)
+pub plan_refused : (a : Answer) (seal : Plan → ℕ × SealedUpdate) (why : Refusal)
     → sealed_by seal (plan_of a) ≡ Err (faults.Refused why) → a ≡ answers.Refused why
 plan_refused (answers.Plan plan) seal why is = absurd cc
 plan_refused (answers.Refused other) seal why is = cc
@@ -102,19 +105,19 @@ module _ (k : Masters) (p : PlainHistory) (legal : IsLegal (history_of p)) where
   shows = kept_shows k p c (legal, refl)
 
   -- an update by names is refused as the history refuses it
-  refused_as : (named : Matrix → Update)
+  pub refused_as : (named : Matrix → Update)
       → refusal_at c (named (matrix_shown c)) ≡ refusal_of (history_of p) (named m)
   refused_as named =
       let s = shows in
       λ i. first_of_tests (tests_of (s.matrix i) (s.layers i) (s.epoch i) (named (s.matrix i)))
 
   -- and sealed as the owner seals it there
-  sealed_as : (named : Matrix → PlainUpdate)
+  pub sealed_as : (named : Matrix → PlainUpdate)
       → sealed_update k (outline c) (named (matrix_shown c))
       ≡ sealed_update k (layers_of (history_of p)) (named m)
   sealed_as named = let s = shows in λ i. sealed_update k (s.layers i) (named (s.matrix i))
 
-  granted_as : (user file : ℕ)
+  pub granted_as : (user file : ℕ)
       → granted k.base (known_at c (of_grant c user file))
       ≡ sealed_update k (outline c) (PlainGrant user file)
   granted_as user file =
@@ -123,127 +126,9 @@ module _ (k : Masters) (p : PlainHistory) (legal : IsLegal (history_of p)) where
       (twice (has (holders (outline c) node) user)
       (access_token k.base (root_of c.base.sets user) node))
 
-  created_as : (file : List ℕ) (list : ℕ) (bytes : List ℕ)
+  pub created_as : (file : List ℕ) (list : ℕ) (bytes : List ℕ)
       → created k.base file bytes (plan_for c list)
       ≡ sealed_update k (outline c) (PlainCreate file list bytes)
   created_as file list bytes =
       ap (λ (n : ℕ). created k.base file bytes (record (plan_for c list) { file = n }))
       (sym (length-places c.files))
-
--- ---- the four errands
-
-abbrev enrol_named : List ℕ → Matrix → PlainUpdate
-enrol_named user m = PlainEnrol user
-
-abbrev create_named : List ℕ → List (List ℕ) → List ℕ → Matrix → PlainUpdate
-create_named file names bytes m = PlainCreate file (set_named m.users names) bytes
-
-abbrev grant_named : List ℕ → List ℕ → Matrix → PlainUpdate
-grant_named user file m = PlainGrant (user_number m user) (file_number m file)
-
-abbrev revoke_named : List ℕ → List ℕ → Matrix → PlainUpdate
-revoke_named user file m = PlainRevoke (user_number m user) (file_number m file)
-
-abbrev named_at : (Matrix → PlainUpdate) → PlainHistory → PlainUpdate
-named_at named p = named (matrix_of (history_of p))
-
-asked_known : (c : Catalogue) (question : Question) (a : Answer) (seal : Known → ℕ × SealedUpdate)
-    (told : ℕ × SealedUpdate)
-    → AnswersAsk c question a → sealed_by seal (known_of a) ≡ Ok told
-    → (told ≡ seal (known_at c (numbers_for c question))) × (refusal_to c question ≡ None)
-asked_known c question a seal told answered is =
-    let (known, as_known, same) = known_by a seal told is in
-    let so : AnswersAsk c question (answers.Known known) =
-    subst (AnswersAsk c question) as_known answered in
-    (same ∙ ap seal so.1, so.0)
-
-asked_refused : (c : Catalogue) (question : Question) (a : Answer) (seal : Known → ℕ × SealedUpdate)
-    (why : Refusal)
-    → AnswersAsk c question a → sealed_by seal (known_of a) ≡ Err (faults.Refused why)
-    → (a ≡ answers.Refused why) × (refusal_to c question ≡ Some why)
-asked_refused c question a seal why answered is =
-    let same = known_refused a seal why is in
-    (same, subst (AnswersAsk c question) same answered)
-
-abbrev first : ℕ × SealedUpdate → ℕ
-first told = told.0
-
-abbrev second : ℕ × SealedUpdate → SealedUpdate
-second told = told.1
-
-pub enrolling_makes : (k : Masters) (user : List ℕ) → Makes k (enrolling user) (named_at (enrol_named user))
-enrolling_makes k user = record {
-  told = λ base_check p a epoch u legal answered is.
-      let (same, none) = asked_known (catalogue_of k.surface (sealed k p)) (questions.Enrol user) a _ (epoch, u) answered is in (
-        ap first same,
-        ap second same,
-        sym (refused_as k p legal (λ m. measured (PlainEnrol user))) ∙ none,
-      );
-  refused = λ base_check p a why legal answered is.
-      let (same, so) = asked_refused (catalogue_of k.surface (sealed k p)) (questions.Enrol user) a _ why answered is in
-      (same, sym (refused_as k p legal (λ m. measured (PlainEnrol user))) ∙ so);
-  no_disk = refl;
-  no_update = refl;
-}
-
-pub granting_makes : (k : Masters) (user file : List ℕ)
-    → Makes k (granting k.base user file) (named_at (grant_named user file))
-granting_makes k user file = record {
-  told = λ base_check p a epoch u legal answered is.
-      let c = catalogue_of k.surface (sealed k p) in
-      let (same, none) = asked_known c (questions.Grant user file) a _ (epoch, u) answered is in (
-        ap first same,
-        ap second same ∙ granted_as k p legal (user_named c user) (file_named c file)
-            ∙ sealed_as k p legal (grant_named user file),
-        sym (refused_as k p legal (λ m. measured (grant_named user file m))) ∙ none,
-      );
-  refused = λ base_check p a why legal answered is.
-      let c = catalogue_of k.surface (sealed k p) in
-      let (same, so) = asked_refused c (questions.Grant user file) a _ why answered is in
-      (same, sym (refused_as k p legal (λ m. measured (grant_named user file m))) ∙ so);
-  no_disk = refl;
-  no_update = refl;
-}
-
-pub revoking_makes : (k : Masters) (user file : List ℕ)
-    → Makes k (revoking user file) (named_at (revoke_named user file))
-revoking_makes k user file = record {
-  told = λ base_check p a epoch u legal answered is.
-      let c = catalogue_of k.surface (sealed k p) in
-      let (same, none) = asked_known c (questions.Revoke user file) a _ (epoch, u) answered is in (
-        ap first same,
-        ap second same ∙ sealed_as k p legal (revoke_named user file),
-        sym (refused_as k p legal (λ m. measured (revoke_named user file m))) ∙ none,
-      );
-  refused = λ base_check p a why legal answered is.
-      let c = catalogue_of k.surface (sealed k p) in
-      let (same, so) = asked_refused c (questions.Revoke user file) a _ why answered is in
-      (same, sym (refused_as k p legal (λ m. measured (revoke_named user file m))) ∙ so);
-  no_disk = refl;
-  no_update = refl;
-}
-
-pub creating_makes : (k : Masters) (file : List ℕ) (names : List (List ℕ)) (bytes : List ℕ)
-    → Makes k (creating k.base file names bytes) (named_at (create_named file names bytes))
-creating_makes k file names bytes = record {
-  told = λ base_check p a epoch u legal answered is.
-      let c = catalogue_of k.surface (sealed k p) in
-      let list = set_named c.users names in
-      let (plan, as_plan, same) = plan_by a _ (epoch, u) is in
-      let so : AnswersCover c file (length bytes) list (answers.Plan plan) =
-      subst (AnswersCover c file (length bytes) list) as_plan answered in (
-        ap first same ∙ ap (λ (x : Plan). x.epoch) so.1,
-        ap second same ∙ ap (created k.base file bytes) so.1 ∙ created_as k p legal file list bytes
-            ∙ sealed_as k p legal (create_named file names bytes),
-        sym (refused_as k p legal (λ m. measured (create_named file names bytes m))) ∙ so.0,
-      );
-  refused = λ base_check p a why legal answered is.
-      let c = catalogue_of k.surface (sealed k p) in
-      let list = set_named c.users names in
-      let same = plan_refused a _ why is in
-      let so : AnswersCover c file (length bytes) list (answers.Refused why) =
-      subst (AnswersCover c file (length bytes) list) same answered in
-      (same, sym (refused_as k p legal (λ m. measured (create_named file names bytes m))) ∙ so);
-  no_disk = refl;
-  no_update = refl;
-}

@@ -44,9 +44,9 @@ StaleEpochsRise =
     → IsErrandFor base command e → Talks surface e asks unanswered (Err (Unsettled epochs))
     → (length epochs ≡ MAX_TRIES) × Rises epochs
 
--- Of a server under the owner's surface master that nobody else updates meanwhile, a call leaves the
--- history that it found, were it right, or that with the update of its command; so it does after
--- want of memory and after a fault.
+-- Of a server under the owner's surface master that nobody else updates meanwhile, and whose
+-- history is right, a call leaves that history, or that with the update of its command. So it does
+-- after want of memory and after a fault.
 abbrev pub OneUpdateAtMost : Type 0
 OneUpdateAtMost =
     (k : Masters) (command : Command) (e : Errand) (asks : List Ask) (unanswered : Option (List ℕ))

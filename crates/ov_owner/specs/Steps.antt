@@ -50,8 +50,8 @@ IsMachines k command histories last (Err (faults.Refused why)) =
     IsLastStep k command (replies.Refused why) histories last
 IsMachines k command histories last (Err fault) = Unit {0}
 
--- Asks were answered along histories that go on from the one that is served, and then the last is
--- served; where they are right, the machine replies so to the command at the history of the last ask.
+-- Asks were answered along histories that go on from the one that was served, and what is served
+-- then goes on from them. Where they are right, the machine replies so to the command at the last.
 abbrev pub AnswersAsMachine : Masters → Command → Service → (Service → Type 0) → Reply → Type 0
 AnswersAsMachine k command v Then reply =
     (asks : List Ask) × (histories : List SealedHistory) × (last : Service)

@@ -89,7 +89,8 @@ impl Owner {
         ensures runs { Runs P.asked P.failed self.now.surface
             (creating self.now.base file.now list.now bytes.now) peer.old peer.new result }
         ensures told { (v : Service) → P.serves peer.old v → v.surface ≡ self.now.surface
-            → IsOwnersReply self.now (Create file.now list.now bytes.now) v (P.serves peer.new) result }
+            → IsOwnersReply self.now (Create file.now list.now bytes.now) v
+            (P.serves peer.new) result }
         ensures same { P.borrow peer.new ≡ P.borrow peer.old }
         ensures cause { HasOwnerCause (P.faults peer.old) (P.faults peer.new) result }
     {

@@ -1,6 +1,6 @@
-//! Frames that another program made of a store that begins empty, of mode Delta, whose base master is 32
-//! bytes 0x11 and whose surface master is 32 bytes 0x22: users a, b and c, and then these. Each frame is
-//! behind its length field.
+//! Frames that another program made of a store that begins empty, of mode Delta, whose base master
+//! is 32 bytes 0x11 and whose surface master is 32 bytes 0x22: users a, b and c, and then these.
+//! Each frame is behind its length field.
 
 /// The creation of f1 with the text `x1` for a and b, at epoch 3.
 pub const CREATION: &[u8] = b"\
