@@ -5,18 +5,17 @@ use Rattle.ov_fields.specs.Fronts.{AreAllBytes}
 use Rattle.ov_record.specs.Spelling.{HasForm}
 use Rattle.ov_record.specs.Updates.{SealedUpdate}
 use Rattle.ov_script.specs.declared.command.Command.{Command}
-use Rattle.ov_script.specs.declared.command.Command.TheVariants as commands
 use Rattle.ov_script.specs.declared.reply.Reply.{Reply}
 use Rattle.ov_script.specs.declared.reply.Reply.TheVariants as replies
 use Rattle.ov_history.specs.History.{epoch_of}
 use Rattle.ov_history.specs.Layers.{layers_of}
 use Rattle.ov_history.specs.Masters.{Masters}
-use Rattle.ov_history.specs.Plain.{PlainHistory, PlainUpdate, history_of, measured, with_plain}
+use Rattle.ov_history.specs.Plain.{PlainHistory, history_of, measured, with_plain}
 use Rattle.ov_history.specs.Refusals.{IsLegal, refusal_of}
 use Rattle.ov_history.specs.Sealed.{SealedHistory, catalogue_of, with_sealed}
 use Rattle.ov_history.specs.Sealing.{sealed, sealed_update}
 use Rattle.ov_history.proofs.Sealing.{sealing_goes_on}
-use Rattle.ov_model.specs.Step.{step, update, update_step}
+use Rattle.ov_model.specs.Step.{step, update_step}
 use Rattle.ov_wire.specs.declared.request.Request.{Request}
 use Rattle.ov_wire.specs.declared.answer.Answer.{Answer}
 use Rattle.ov_wire.specs.declared.answer.Answer.TheVariants as answers
@@ -31,7 +30,7 @@ use Rattle.ov_protocol.proofs.Reading.{request_back}
 use Rattle.ov_peer.specs.Asks.{Ask, IsReplyAt}
 use Rattle.ov_peer.specs.Exchanges.{IsAnswerAt}
 use Rattle.ov_owner.specs.Alone.{AnsweredAlone, AskedAlone, IsOneOrNone, LeftAlone}
-use Rattle.ov_owner.specs.Errands.{Errand, creating, enrolling, granting, revoking}
+use Rattle.ov_owner.specs.Errands.{Errand}
 use Rattle.ov_owner.specs.Laws.{OneUpdateAtMost}
 use Rattle.ov_owner.specs.Talks.{Asks, Closes, Ends, Goes, IsAfter, IsDue, Moves, Sends, Stage, Talks, after as stage_after, after_first, after_update, again_if, sends_if, start, update_request}
 use Rattle.ov_owner.specs.declared.limits.TheConstants.{MAX_TRIES}
@@ -122,7 +121,7 @@ module _ (k : Masters) (command : Command) (e : Errand) (d : Does k command e) (
         let at_p : Answers (served (serving (sealed k p))) e.first answer =
         subst (λ (x : SealedHistory). Answers (served (serving x)) e.first answer) same answered in
         let (at_epoch, is_sealed, free) = d.makes.told base_check p answer epoch u legal at_p is in
-        sends_on (nat_lt epoch least) tries epoch u 
+        sends_on (nat_lt epoch least) tries epoch u
         (record { at_epoch = at_epoch; is_sealed = is_sealed; free = free })
 
     read_on : (read : Result Answer ℕ) (reply : List ℕ) (tries : List ℕ) (least : ℕ)

@@ -1,17 +1,14 @@
 -- The calls of an owner, over a peer that tells which history it serves.
-use Rattle.std.proofs.Common.{◌≡◌, ℕ, ◌∙◌, List, Option, Some, None, Result, Ok, Err, refl, sym, ap, subst, inl, inr}
-use Rattle.std.specs.Prelude.{◌⊎◌}
-use Rattle.ov_base.specs.declared.refusal.Refusal.{Refusal}
+use Rattle.std.proofs.Common.{◌≡◌, ℕ, List, Option, Some, None, Result, Ok, Err, refl, subst, inl, inr}
 use Rattle.ov_script.specs.declared.command.Command.{Command}
-use Rattle.ov_script.specs.declared.reply.Reply.TheVariants as replies
 use Rattle.ov_history.specs.Masters.{Masters}
 use Rattle.ov_protocol.specs.Serving.{Service}
-use Rattle.ov_peer.specs.Asks.{Ask, Asked, EndsAt, Failed}
+use Rattle.ov_peer.specs.Asks.{Asked, EndsAt, Failed}
 use Rattle.ov_peer.specs.Laws.{AsksAreAlong}
-use Rattle.ov_owner.specs.Calls.{Concludes, Runs}
+use Rattle.ov_owner.specs.Calls.{Runs}
 use Rattle.ov_owner.specs.Errands.{Errand}
-use Rattle.ov_owner.specs.Steps.{AnswersAsMachine, IsErrandFor, IsOwnersReply}
-use Rattle.ov_owner.specs.Talks.{Closes, IsAskFault, Stage, Talks, start}
+use Rattle.ov_owner.specs.Steps.{IsErrandFor, IsOwnersReply}
+use Rattle.ov_owner.specs.Talks.{Closes, IsAskFault, Stage}
 use Rattle.ov_owner.specs.Tasks.{command_of, errand_of}
 use Rattle.ov_owner.specs.declared.fault.OwnerFault.{OwnerFault}
 use Rattle.ov_owner.specs.declared.fault.OwnerFault.TheVariants as faults

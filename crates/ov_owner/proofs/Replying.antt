@@ -1,29 +1,17 @@
 -- An Accepted and a Refused are the machine's replies at the history of the last ask.
-use Rattle.std.proofs.Common.{◌≡◌, ℕ, ◌+◌, ◌∙◌, List, [], ◌∷◌, ◌++◌, Option, Some, None, Result, Ok, Err, refl, sym, ap, subst, inl, inr}
+use Rattle.std.proofs.Common.{◌≡◌, ℕ, ◌∙◌, List, [], ◌∷◌, ◌++◌, Option, Some, None, Result, Ok, Err, refl, sym, ap, subst, inl, inr}
 use Rattle.std.specs.Prelude.{nat_lt, ◌==◌, Bool, true, false, length}
-use Rattle.ov_base.specs.declared.refusal.Refusal.{Refusal}
 use Rattle.ov_fields.specs.Fronts.{AreAllBytes}
-use Rattle.ov_fields.proofs.WholeLaws.{all_again}
-use Rattle.ov_fields.specs.Reading.{placed}
-use Rattle.ov_record.specs.Reading.{update_of}
-use Rattle.ov_record.specs.Spelling.{HasForm, spelling}
+use Rattle.ov_record.specs.Spelling.{HasForm}
 use Rattle.ov_record.specs.Updates.{SealedUpdate}
-use Rattle.ov_record.proofs.UpdateLaws.{update_reads}
 use Rattle.ov_script.specs.declared.command.Command.{Command}
-use Rattle.ov_script.specs.declared.command.Command.TheVariants as commands
-use Rattle.ov_script.specs.declared.reply.Reply.{Reply}
 use Rattle.ov_script.specs.declared.reply.Reply.TheVariants as replies
-use Rattle.ov_history.specs.Briefs.{brief}
-use Rattle.ov_history.specs.History.{epoch_of}
-use Rattle.ov_history.specs.Layers.{layers_of}
 use Rattle.ov_history.specs.Masters.{Masters}
-use Rattle.ov_history.specs.Plain.{PlainHistory, PlainUpdate, history_of, measured, with_plain}
-use Rattle.ov_history.specs.Refusals.{IsLegal, refusal_of}
-use Rattle.ov_history.specs.Sealed.{SealedHistory, catalogue_of, refusal_shown, with_sealed}
-use Rattle.ov_history.specs.Sealing.{sealed, sealed_update}
-use Rattle.ov_history.proofs.Keeping.{kept_refusals, kept_shows}
-use Rattle.ov_history.proofs.Sealing.{sealing_goes_on}
-use Rattle.ov_model.specs.Step.{step, update, update_step}
+use Rattle.ov_history.specs.Plain.{PlainHistory, history_of}
+use Rattle.ov_history.specs.Refusals.{IsLegal}
+use Rattle.ov_history.specs.Sealed.{SealedHistory}
+use Rattle.ov_history.specs.Sealing.{sealed}
+use Rattle.ov_model.specs.Step.{step}
 use Rattle.ov_wire.specs.declared.request.Request.{Request}
 use Rattle.ov_wire.specs.declared.answer.Answer.{Answer}
 use Rattle.ov_wire.specs.declared.answer.Answer.TheVariants as answers
@@ -31,13 +19,12 @@ use Rattle.ov_wire.specs.AnswerReading.{answer_of}
 use Rattle.ov_wire.specs.Requests.{HasRequestForm, request_bytes}
 use Rattle.ov_protocol.specs.Serving.{Service, followed, served}
 use Rattle.ov_protocol.specs.Answers.{Answers, made_by}
-use Rattle.ov_protocol.specs.Updating.{AnswersSpelled, spelled_by}
 use Rattle.ov_peer.specs.Asks.{Along, AreRight, Ask, IsReplyAt}
 use Rattle.ov_peer.specs.Exchanges.{IsAnswerAt}
-use Rattle.ov_owner.specs.Errands.{Errand, creating, enrolling, granting, revoking}
+use Rattle.ov_owner.specs.Errands.{Errand}
 use Rattle.ov_owner.specs.Laws.{TalksAreSteps}
 use Rattle.ov_owner.specs.Steps.{IsMachines, IsStep}
-use Rattle.ov_owner.specs.Talks.{Asks, Closes, Ends, Goes, IsAfter, IsDue, Sends, Stage, Talks, after as stage_after, after_first, after_update, again_if, sends_if, start, update_request}
+use Rattle.ov_owner.specs.Talks.{Asks, Closes, Ends, Goes, IsAfter, IsDue, Sends, Stage, after as stage_after, after_first, after_update, again_if, sends_if, start, update_request}
 use Rattle.ov_owner.specs.declared.limits.TheConstants.{MAX_TRIES}
 use Rattle.ov_owner.specs.declared.fault.OwnerFault.{OwnerFault}
 use Rattle.ov_owner.specs.declared.fault.OwnerFault.TheVariants as faults

@@ -1,6 +1,6 @@
 -- The frames of a call to a server that nobody else updates are short.
-use Rattle.std.proofs.Common.{◌≡◌, ℕ, ◌+◌, ◌*◌, ◌<◌, ◌≤◌, ◌∙◌, List, [], ◌∷◌, ◌++◌, length, length-append, Option, Some, None, Result, Ok, Err, refl, ap, subst, sym, inl, inr, arith}
-use Rattle.std.specs.Prelude.{◌⊎◌, nat_lt, ◌==◌, Bool, true, false}
+use Rattle.std.proofs.Common.{◌≡◌, ℕ, ◌+◌, ◌*◌, ◌≤◌, ◌∙◌, List, [], ◌∷◌, ◌++◌, length, length-append, Option, Result, Ok, Err, refl, ap, subst, sym, inl, inr, arith}
+use Rattle.std.specs.Prelude.{nat_lt, Bool, true, false}
 use Rattle.ov_fields.specs.Fronts.{AreAllBytes}
 use Rattle.ov_fields.specs.Spelling.{u32}
 use Rattle.ov_record.specs.Reading.{update_of}
@@ -13,34 +13,31 @@ use Rattle.ov_history.specs.Layers.{layers_of}
 use Rattle.ov_history.specs.Lists.{file_number, set_named, user_number}
 use Rattle.ov_history.specs.History.{matrix_of}
 use Rattle.ov_history.specs.Masters.{Masters}
-use Rattle.ov_history.specs.Plain.{PlainCreate, PlainEnrol, PlainGrant, PlainHistory, PlainRevoke, PlainUpdate, history_of}
+use Rattle.ov_history.specs.Plain.{PlainEnrol, PlainGrant, PlainHistory, PlainRevoke, history_of}
 use Rattle.ov_history.specs.Refusals.{IsLegal}
 use Rattle.ov_history.specs.Sealed.{SealedHistory, catalogue_of}
 use Rattle.ov_history.specs.Sealing.{sealed, sealed_update}
-use Rattle.ov_model.specs.Step.{step, update}
 use Rattle.ov_wire.specs.declared.request.Question.TheVariants as questions
 use Rattle.ov_wire.specs.declared.request.Request.{Request}
 use Rattle.ov_wire.specs.declared.answer.Answer.{Answer}
 use Rattle.ov_wire.specs.declared.answer.Answer.TheVariants as answers
 use Rattle.ov_wire.specs.AnswerBytes.{answer_bytes}
 use Rattle.ov_wire.specs.AnswerReading.{answer_of}
-use Rattle.ov_wire.specs.RequestReading.{request_of}
 use Rattle.ov_wire.specs.Requests.{HasRequestForm, request_bytes}
-use Rattle.ov_protocol.specs.Serving.{Service, Serving, followed, later, served}
+use Rattle.ov_protocol.specs.Serving.{Service, followed, served}
 use Rattle.ov_protocol.specs.Answers.{Answers}
 use Rattle.ov_protocol.specs.Replies.{AnswersRead}
-use Rattle.ov_protocol.specs.Updating.{AnswersSpelled, AnswersUpdate, owner_tag}
+use Rattle.ov_protocol.specs.Updating.{AnswersUpdate, owner_tag}
 use Rattle.ov_protocol.proofs.Reading.{request_back}
 use Rattle.ov_peer.specs.Asks.{Ask, IsReplyAt}
 use Rattle.ov_peer.specs.Exchanges.{IsAnswerAt}
 use Rattle.ov_owner.specs.Alone.{AnsweredAlone, AskedAlone}
 use Rattle.ov_owner.specs.Errands.{Errand, creating, enrolling, granting, revoking}
-use Rattle.ov_owner.specs.Laws.{TalksAreShort, frame_bytes, most_bytes}
+use Rattle.ov_owner.specs.Laws.{TalksAreShort, frame_bytes}
 use Rattle.ov_owner.specs.Talks.{Asks, Ends, Goes, IsAfter, Moves, Sends, Stage, Talks, after as stage_after, after_first, after_update, sends_if, start, update_request}
 use Rattle.ov_owner.specs.declared.fault.OwnerFault.{OwnerFault}
-use Rattle.ov_owner.specs.declared.fault.OwnerFault.TheVariants as faults
 use Rattle.ov_owner.proofs.Answering.{answer_at}
-use Rattle.ov_owner.proofs.Leaving.{IsReady, Serves, is_first, is_update, nothing_due, one_ask, serving}
+use Rattle.ov_owner.proofs.Leaving.{Serves, is_first, is_update, nothing_due, one_ask}
 use Rattle.ov_owner.proofs.Sizes.{ask_answer_short, cover_answer_short, cover_short, creation_short, list_few, question_short, short_update, spelled_answer_short}
 use Rattle.ov_owner.proofs.Doing.{Does, create_does, enrol_does, grant_does, revoke_does}
 use Rattle.ov_owner.proofs.Telling.{under}

@@ -1,5 +1,5 @@
 -- How many bytes requests, answers and updates have.
-use Rattle.std.proofs.Common.{◌≡◌, ℕ, ◌+◌, ◌*◌, ◌<◌, ◌≤◌, ◌∙◌, List, [], ◌∷◌, ◌++◌, length, length-append, Option, Some, None, Result, Ok, Err, refl, ap, subst, sym, arith}
+use Rattle.std.proofs.Common.{◌≡◌, ℕ, ◌+◌, ◌*◌, ◌≤◌, List, [], ◌∷◌, ◌++◌, length, length-append, Option, Some, None, Result, Ok, Err, refl, ap, arith}
 use Rattle.std.specs.List.{AllByRecursion, flat_map}
 use Rattle.std.proofs.lemmas.List.{length-map}
 use Rattle.ov_base.specs.Names.{IsName}
@@ -9,12 +9,11 @@ use Rattle.ov_base.proofs.SetSizes.{size-empty, size-single, size-union-le}
 use Rattle.ov_ctr.proofs.Pad.{length-xor_pad}
 use Rattle.ov_fields.specs.Spelling.{counted, flag, name_field, sized, token_field, u32, u8}
 use Rattle.ov_fields.proofs.ListLaws.{many_reads}
-use Rattle.ov_fields.proofs.NameLaws.{longest_name, name_reads, token_reads}
+use Rattle.ov_fields.proofs.NameLaws.{name_reads, token_reads}
 use Rattle.ov_tokens.specs.declared.label.Kind.TheVariants.{Derive}
 use Rattle.ov_graph.specs.Contents.{plan_of}
 use Rattle.ov_graph.proofs.GraphLaws.{plan-few}
 use Rattle.ov_base_layer.specs.Seals.{cover_tokens}
-use Rattle.ov_record.specs.Reading.{update_of}
 use Rattle.ov_record.specs.Spelling.{HasForm, spelling}
 use Rattle.ov_record.specs.Updates.{SealedCreate, SealedEnrol, SealedGrant, SealedRevoke, SealedUpdate}
 use Rattle.ov_surface.specs.Coats.{base_text}
@@ -24,7 +23,7 @@ use Rattle.ov_history.specs.Layers.{Layers, node_for}
 use Rattle.ov_history.specs.Lists.{set_named, set_with}
 use Rattle.ov_history.specs.Masters.{Masters, access_key}
 use Rattle.ov_history.specs.Places.{place_of}
-use Rattle.ov_history.specs.Plain.{PlainCreate, PlainEnrol, PlainGrant, PlainRevoke}
+use Rattle.ov_history.specs.Plain.{PlainCreate}
 use Rattle.ov_history.specs.Sealing.{sealed_update}
 use Rattle.ov_wire.specs.declared.request.Question.{Question}
 use Rattle.ov_wire.specs.declared.request.Question.TheVariants as questions
@@ -33,8 +32,8 @@ use Rattle.ov_wire.specs.declared.answer.Plan.{Plan}
 use Rattle.ov_wire.specs.declared.answer.Answer.{Answer}
 use Rattle.ov_wire.specs.declared.answer.Answer.TheVariants as answers
 use Rattle.ov_wire.specs.AnswerBytes.{answer_bytes}
-use Rattle.ov_wire.specs.Requests.{HasQuestionForm, HasRequestForm, request_bytes}
-use Rattle.ov_protocol.specs.Asking.{AnswersAsk, AnswersCover, plan_for}
+use Rattle.ov_wire.specs.Requests.{HasRequestForm, request_bytes}
+use Rattle.ov_protocol.specs.Asking.{AnswersAsk, AnswersCover}
 use Rattle.ov_protocol.specs.Updating.{AnswersSealed, AnswersSpelled}
 
 -- ---- fields

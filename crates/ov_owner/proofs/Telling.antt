@@ -1,21 +1,17 @@
 -- What an owner is told, and seals by it, at a history that is right.
-use Rattle.std.proofs.Common.{◌≡◌, ℕ, ◌∙◌, Bool, true, false, not, List, [], length, Some, None, Ok, Err, refl, sym, ap, subst}
+use Rattle.std.proofs.Common.{◌≡◌, ℕ, Bool, true, false, not, List, [], Some, None, Ok, Err, refl, sym, ap}
 use Rattle.ov_base.specs.Sets.{has}
 use Rattle.ov_base.specs.declared.refusal.Refusal.{Refusal}
 use Rattle.ov_tokens.specs.declared.token.Token.{Token}
 use Rattle.ov_base_layer.specs.Seals.{access_token}
 use Rattle.ov_record.specs.Updates.{SealedUpdate, SealedGrant}
-use Rattle.ov_script.specs.declared.command.Command.{Command}
-use Rattle.ov_script.specs.declared.command.Command.TheVariants as commands
-use Rattle.ov_model.specs.Step.{step, update}
-use Rattle.ov_history.specs.Asking.{file_named, of_grant, refusal_at, user_named}
+use Rattle.ov_history.specs.Asking.{of_grant, refusal_at}
 use Rattle.ov_history.specs.Catalogue.{Catalogue, matrix_shown, outline}
 use Rattle.ov_history.specs.History.{Matrix, Update, matrix_of}
 use Rattle.ov_history.specs.Laws.{ShowsHistory}
 use Rattle.ov_history.specs.Layers.{holders, layers_of, node_of, root_of}
-use Rattle.ov_history.specs.Lists.{file_number, set_named, user_number}
 use Rattle.ov_history.specs.Masters.{Masters}
-use Rattle.ov_history.specs.Plain.{PlainCreate, PlainEnrol, PlainGrant, PlainHistory, PlainRevoke, PlainUpdate, history_of, measured}
+use Rattle.ov_history.specs.Plain.{PlainCreate, PlainGrant, PlainHistory, PlainUpdate, history_of, measured}
 use Rattle.ov_history.specs.Refusals.{IsLegal, first_of_tests, refusal_of, tests_of}
 use Rattle.ov_history.specs.Sealed.{SealedHistory, catalogue_of}
 use Rattle.ov_history.specs.Sealing.{sealed, sealed_update, token_unless}
@@ -25,13 +21,11 @@ use Rattle.ov_wire.specs.declared.answer.Known.{Known}
 use Rattle.ov_wire.specs.declared.answer.Plan.{Plan}
 use Rattle.ov_wire.specs.declared.answer.Answer.{Answer}
 use Rattle.ov_wire.specs.declared.answer.Answer.TheVariants as answers
-use Rattle.ov_wire.specs.declared.request.Question.{Question}
-use Rattle.ov_wire.specs.declared.request.Question.TheVariants as questions
 use Rattle.ov_protocol.specs.Serving.{Service, served}
 use Rattle.ov_protocol.specs.Answers.{Answers}
 use Rattle.ov_protocol.specs.Replies.{updates_asked}
-use Rattle.ov_protocol.specs.Asking.{AnswersAsk, AnswersCover, known_at, numbers_for, plan_for, refusal_to}
-use Rattle.ov_owner.specs.Errands.{Errand, created, creating, enrolling, granted, granting, known_of, plan_of, revoking, sealed_by}
+use Rattle.ov_protocol.specs.Asking.{known_at, plan_for}
+use Rattle.ov_owner.specs.Errands.{Errand, created, granted, known_of, plan_of, sealed_by}
 use Rattle.ov_owner.specs.declared.fault.OwnerFault.TheVariants as faults
 
 -- the history, served under a surface master

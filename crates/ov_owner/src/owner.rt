@@ -41,12 +41,7 @@ impl Owner {
     }
 
     /// Makes a change.
-    fn make<P: Peer>(
-        &self,
-        alloc: Global,
-        peer: &mut P,
-        task: &Task<'_>,
-    ) -> Result<u32, OwnerFault>
+    fn make<P: Peer>(&self, alloc: Global, peer: &mut P, task: &Task<'_>) -> Result<u32, OwnerFault>
         requires { HasTaskLimits task.now }
         ensures runs { Runs P.asked P.failed self.now.surface (errand_of self.now.base task.now)
             peer.old peer.new result }
