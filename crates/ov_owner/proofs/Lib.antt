@@ -13,3 +13,5 @@ pub mod Leaving
 pub mod Owning
 pub mod Sizes
 pub mod Shortness
+pub mod Fitting
+pub mod Proper

@@ -11,13 +11,13 @@ use Rattle.ov_history.specs.Sealing.{sealed}
 use Rattle.ov_wire.specs.Frames.{framed}
 use Rattle.ov_protocol.specs.Serving.{Service}
 use Rattle.ov_peer.specs.Asks.{Along, AreRight, Ask}
-use Rattle.ov_owner.specs.Alone.{AskedAlone, IsOneOrNone}
+use Rattle.ov_owner.specs.Alone.{AskedAlone, FailsAtUpdates, IsOneOrNone}
 use Rattle.ov_owner.specs.Errands.{Errand}
 use Rattle.ov_owner.specs.Steps.{IsErrandFor, IsMachines}
 use Rattle.ov_owner.specs.Talks.{Talks}
 use Rattle.ov_owner.specs.declared.limits.TheConstants.{MAX_TRIES}
 use Rattle.ov_owner.specs.declared.fault.OwnerFault.{OwnerFault}
-use Rattle.ov_owner.specs.declared.fault.OwnerFault.TheVariants.{Unsettled}
+use Rattle.ov_owner.specs.declared.fault.OwnerFault.TheVariants.{BadReply, BadTag, Unsettled}
 
 -- An Accepted and a Refused of a talk are the machine's replies at the history of its last ask,
 -- whatever others update between the asks, where the asks are answered under the owner's surface
@@ -74,3 +74,20 @@ TalksAreShort =
     → IsErrandFor k.base command e → Talks k.surface e asks unanswered result
     → v.surface ≡ k.surface → IsLegal (history_of p) → v.history ≡ sealed k p
     → AskedAlone v asks unanswered last → frame_bytes asks ≤ most_bytes command
+
+-- neither a wrong reply, nor a wrong tag, nor tries that were all stale
+abbrev pub IsProper : Result ℕ OwnerFault → Type 0
+IsProper (Err (BadReply place)) = ⊥
+IsProper (Err BadTag) = ⊥
+IsProper (Err (Unsettled epochs)) = ⊥
+IsProper result = Unit {0}
+
+-- Of a server under the owner's surface master that nobody else updates meanwhile, whose history is
+-- right and whose disk fails at updates alone, no call gets such a fault.
+abbrev pub TalksAreProper : Type 0
+TalksAreProper =
+    (k : Masters) (command : Command) (e : Errand) (asks : List Ask) (unanswered : Option (List ℕ))
+    (result : Result ℕ OwnerFault) (v last : Service) (p : PlainHistory)
+    → IsErrandFor k.base command e → Talks k.surface e asks unanswered result
+    → v.surface ≡ k.surface → IsLegal (history_of p) → v.history ≡ sealed k p
+    → AskedAlone v asks unanswered last → FailsAtUpdates asks → IsProper result

@@ -28,6 +28,7 @@
 //! | an Accepted and a Refused are the machine's replies at the last ask | [`talks_are_steps`] |
 //! | the epochs of nine stale tries rise | [`stale_epochs_rise`] |
 //! | where nobody else updates, nothing was made, or this update | [`one_update_at_most`] |
+//! | where nobody else updates, no reply is taken for a wrong one | [`talks_are_proper`] |
 //! | the frames are as few bytes as command, list and file want | [`talks_are_short`] |
 #![tactic(auto)]
 
@@ -45,5 +46,7 @@ mod task;
 mod tests;
 
 pub use fault::OwnerFault;
-pub use laws::{one_update_at_most, stale_epochs_rise, talks_are_short, talks_are_steps};
+pub use laws::{
+    one_update_at_most, stale_epochs_rise, talks_are_proper, talks_are_short, talks_are_steps,
+};
 pub use owner::Owner;
