@@ -8,7 +8,7 @@ use std::test::Fail;
 
 mod frames;
 
-use frames::{CREATION, GRANT};
+use frames::{CREATION, GRANT, REVOCATION};
 
 fn owner() -> Owner {
     let base = Key { bytes: [0x11; 32] };
@@ -136,6 +136,16 @@ fn a_grant_is_sent_as_another_program_does(rt: HostRuntime) -> Result<(), Fail> 
     let file = Name::read(b"f1").ok_or("a name")?;
     assert_eq!(rt; owner().grant(rt.alloc(), &mut peer, &user, &file), Ok(6));
     assert_eq!(rt; peer.sink.written(), GRANT);
+    Ok(())
+}
+
+#[test]
+fn a_revocation_is_sent_as_another_program_does(rt: HostRuntime) -> Result<(), Fail> {
+    let mut peer = tracing(rt.alloc(), REVOCATION)?;
+    let user = Name::read(b"c").ok_or("a name")?;
+    let file = Name::read(b"f1").ok_or("a name")?;
+    assert_eq!(rt; owner().revoke(rt.alloc(), &mut peer, &user, &file), Ok(7));
+    assert_eq!(rt; peer.sink.written(), REVOCATION);
     Ok(())
 }
 
