@@ -125,11 +125,9 @@ pub fn seal(
 {
     match task {
         Task::Enrol { user } => {
-            let known = known_of(answer)?;
-            Ok(Sealed {
-                epoch: known.epoch,
-                update: Update::Enrol { name: user.copy() },
-            })
+            let epoch = known_of(answer)?.epoch;
+            let update = Update::Enrol { name: user.copy() };
+            Ok(Sealed { epoch, update })
         }
         Task::Create { file, bytes, .. } => {
             let plan = plan_of(answer)?;
@@ -146,13 +144,9 @@ pub fn seal(
         }
         Task::Revoke { .. } => {
             let known = known_of(answer)?;
-            Ok(Sealed {
-                epoch: known.epoch,
-                update: Update::Revoke {
-                    user: known.user,
-                    file: known.file,
-                },
-            })
+            let (epoch, user, file) = (known.epoch, known.user, known.file);
+            let update = Update::Revoke { user, file };
+            Ok(Sealed { epoch, update })
         }
     }
 }
