@@ -15,7 +15,7 @@ pub enum OwnerFault {
     /// The link failed. Whether an update was accepted isn't known.
     #[error("the link failed")]
     Link,
-    /// A reply isn't in the grammar of answers to its request, or tells an epoch lower than one
+    /// The grammar has no such answer to the request, or the reply tells an epoch lower than one
     /// told before; `at` is the place of its first wrong byte.
     #[error("the reply is no answer (byte {at})")]
     BadReply { at: u32 },

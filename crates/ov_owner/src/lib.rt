@@ -3,8 +3,8 @@
 //! An [`Owner`] asks a server for the numbers that an update needs, seals the update under the base
 //! master, and sends it at the epoch that it was told, with a tag under the surface master. Where
 //! another owner was faster the server answers Stale, and the owner asks again, eight times at
-//! most. A reply that isn't in the grammar of answers to its request, or that tells an epoch lower
-//! than one told before, is a [`OwnerFault::BadReply`] at its place.
+//! most. A reply that is no answer to its request, or that tells an epoch lower than one told
+//! before, is a [`OwnerFault::BadReply`] at its place.
 //!
 //! What a call asks and how it ends is an automaton over the replies (`Talks` in `specs/Talks`), by
 //! what the command asks first and seals of the answer (`Errand` in `specs/Errands`). A call's
