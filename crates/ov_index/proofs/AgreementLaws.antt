@@ -3,7 +3,6 @@ use Rattle.std.proofs.Common.{ℕ, ◌≡◌, ◌<◌, ◌+◌, Bool, true, fals
 use Rattle.std.specs.Prelude.{slice_index_or}
 use Rattle.std.proofs.Math.Seq.{drop-cons}
 use Rattle.ov_tokens.specs.declared.label.Kind.{Kind}
-use Rattle.ov_tokens.specs.declared.edge.Edge.{Edge}
 use Rattle.ov_graph.specs.Contents.{Contents, joined, node_of, plan_of}
 use Rattle.ov_graph.specs.Reach.{IsRooted}
 use Rattle.ov_graph.specs.Seals.{HasSetBesides, cover_tokens}

@@ -1,5 +1,5 @@
 -- The node of a set in two lists of sets, one after the other.
-use Rattle.std.proofs.Common.{ℕ, ◌≡◌, ◌≢◌, ◌<◌, ◌≤◌, ◌+◌, ◌-◌, ◌==◌, false, true, List, ◌++◌, length, get_or, sym, ◌∙◌, ap, arith, inl, inr, eq-eqb, true≢false, Some, None, length-append}
+use Rattle.std.proofs.Common.{ℕ, ◌≡◌, ◌≢◌, ◌<◌, ◌≤◌, ◌+◌, ◌-◌, ◌==◌, List, ◌++◌, length, get_or, sym, ◌∙◌, ap, arith, inl, inr, eq-eqb, true≢false, Some, None, length-append}
 use Rattle.std.proofs.lemmas.Bool.{cases_lt}
 use Rattle.std.proofs.lemmas.List.{get_or_append_left, get_or-append-add}
 use Rattle.std.proofs.lemmas.List.Quantifiers.{position-Some}

@@ -1,7 +1,5 @@
 -- Lists of edges and of steps are the same as themselves.
 use Rattle.std.proofs.Common.{◌≡◌, true, List, [], ◌∷◌, rules, refl}
-use Rattle.std.specs.Cmp.{IsEquivalence}
-use Rattle.std.proofs.lemmas.Cmp.{lists_equiv}
 use Rattle.ov_tokens.specs.declared.edge.Edge.{Edge}
 use Rattle.ov_tokens.specs.declared.chain.Step.{Step}
 use Rattle.ov_tokens.specs.contracts.edge.EdgePartialEq.TheImpl as edge

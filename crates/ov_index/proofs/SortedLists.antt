@@ -1,5 +1,5 @@
 -- Lists of nodes in order: two of the same nodes are one.
-use Rattle.std.proofs.Common.{ℕ, zero, suc, ◌≡◌, ◌<◌, Bool, true, false, cond, List, [], ◌∷◌, ◌++◌, length, get_or, refl, sym, ◌∙◌, ap, ap₂, subst, arith, inl, inr}
+use Rattle.std.proofs.Common.{ℕ, suc, ◌≡◌, Bool, true, false, cond, List, [], ◌∷◌, ◌++◌, refl, sym, ap₂, subst, arith, inl, inr}
 use Rattle.std.specs.Prelude.{Contains, filter}
 use Rattle.std.proofs.lemmas.List.Elements.{Contains-append_cases}
 use Rattle.ov_graph.proofs.ListLaws.{Contains-first, Contains-later, Contains-cases, Contains-none, Contains-place, Contains-filter}

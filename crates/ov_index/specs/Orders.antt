@@ -1,6 +1,7 @@
 -- The two orders in which an indexed graph keeps its nodes, and where a set goes in them. Inner: no
 -- public contract needs this.
-use Rattle.std.specs.Prelude.{ℕ, ◌≡◌, ◌<◌, ◌≤◌, true, false, List, All, Contains, length, slice_index}
+use Rattle.std.specs.Prelude.{ℕ, ◌≡◌, ◌<◌, ◌≤◌, true, false}
+use Rattle.std.specs.Prelude.{List, All, Contains, length, slice_index}
 use Rattle.std.specs.Ordering.{is_lt}
 use Rattle.ov_tokens.specs.declared.edge.Edge.{Edge}
 use Rattle.ov_base.specs.Sets.{set_cmp, size}

@@ -11,7 +11,7 @@ use ov_graph::{Graph, GraphRefusal, has_roots, plan_and_add};
 use ov_tokens::Layer;
 use std::alloc::Global;
 
-/// Does nothing. Its contract is that two graphs with the same sets and edges have the same answers.
+/// Does nothing. Its contract is that graphs with the same sets and edges have the same answers.
 pub fn graphs_answer_alike<L: Layer, A: Graph<L, W>, B: Graph<L, W>, const W: usize>(
     one: &A,
     other: &B,
@@ -79,9 +79,9 @@ fn node_alike<L: Layer, A: Graph<L, W>, B: Graph<L, W>, const W: usize>(
     one.set_of(node) == other.set_of(node) && one.in_tokens(node) == other.in_tokens(node)
 }
 
-/// Asks two graphs with the same sets and edges whether they answer alike, as they do: how many nodes
-/// there are, the node of a set, what is planned for it after the sets of `before`, and for that
-/// node its set, its edges and its chain from a root.
+/// Asks two graphs with the same sets and edges whether they answer alike, as they do: how many
+/// nodes there are, the node of a set, what is planned for it after the sets of `before`, and for
+/// that node its set, its edges and its chain from a root.
 pub fn answer_alike<L: Layer, A: Graph<L, W>, B: Graph<L, W>, const W: usize>(
     alloc: Global,
     one: &A,

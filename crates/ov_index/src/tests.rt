@@ -24,7 +24,7 @@ fn put<L: Layer, G: Graph<L, W>, const W: usize>(
     Ok(plan_and_add::<L, G, W>(alloc, graph, &MASTER, set)?)
 }
 
-/// The users a to d and their sets alone, then {a, b} and {b, c}, and the cover of all four, as it is
+/// The users a to d, each alone, then {a, b} and {b, c}, and the cover of all four, as it is
 /// planned and as it is kept.
 fn four_users<L: Layer, G: Graph<L, W>, const W: usize>(
     rt: &impl Abort,

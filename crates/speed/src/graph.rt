@@ -1,5 +1,5 @@
-//! Sets of twelve users in both graphs: filling one, finding a set, planning a new one, and the longest
-//! chain among all 4,096.
+//! Sets of twelve users in both graphs: filling one, finding a set, planning a new one, and the
+//! longest chain among all 4,096.
 ghost use Rattle.std.specs.Prelude.{◌≤◌};
 ghost use Rattle.ov_base.specs.declared.limits.TheConstants.{MAX_SET_WORDS};
 
@@ -101,7 +101,7 @@ fn new_sets(alloc: Global) -> Result<Vec<UserSet<4>>, Fail> {
     Ok(sets)
 }
 
-/// Fills a graph with so many nodes, finds those of 256 sets so often, and says how many were found.
+/// Fills a graph with so many nodes, finds those of 256 sets so often, and says how many it found.
 pub fn finds<G: Graph<Base, 4>>(alloc: Global, nodes: u32, times: u32) -> Result<usize, Fail> {
     let mut graph = G::new(alloc)?;
     fill::<Base, G, 4>(alloc, &mut graph, nodes)?;
@@ -117,8 +117,8 @@ pub fn finds<G: Graph<Base, 4>>(alloc: Global, nodes: u32, times: u32) -> Result
     Ok(found)
 }
 
-/// Fills a graph with one node fewer than so many, plans each of 256 new sets so often, and says how
-/// many edges these would get.
+/// Fills a graph with one node fewer than so many, plans each of 256 new sets so often, and says
+/// how many edges these would get.
 pub fn plans<G: Graph<Base, 4>>(alloc: Global, nodes: u32, times: u32) -> Result<usize, Fail> {
     let mut graph = G::new(alloc)?;
     fill::<Base, G, 4>(alloc, &mut graph, nodes.saturating_sub(1))?;

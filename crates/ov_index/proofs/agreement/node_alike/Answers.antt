@@ -1,6 +1,4 @@
 use Rattle.std.proofs.Common.{◌≡◌, ap, ◌∙◌, rules}
-use Rattle.ov_tokens.specs.declared.edge.Edge.{Edge}
-use Rattle.ov_graph.specs.Contents.{edges_to}
 use Rattle.ov_tokens.specs.contracts.edge.EdgePartialEq.TheImpl as edge
 use lib.Pointwise.{pointwise}
 use Rattle.ov_index.proofs.SameLists.{edges_same}

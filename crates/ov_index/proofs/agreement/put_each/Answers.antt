@@ -1,7 +1,7 @@
-use Rattle.std.proofs.Common.{◌≡◌, inl, inr, refl, sym, subst, ap, ◌∙◌}
+use Rattle.std.proofs.Common.{inl, inr, sym, subst, ap}
 use Rattle.ov_graph.specs.Contents.{Contents}
 use Rattle.ov_graph.specs.Seals.{HasSetBesides}
-use Rattle.ov_index.specs.Agreement.{Agree, IsPut}
+use Rattle.ov_index.specs.Agreement.{IsPut}
 use Rattle.ov_index.proofs.AgreementLaws.{put_step}
 use Rattle.ov_index.proofs.agreement.put_each.Goals as goal
 use Rattle.ov_index.proofs.agreement.put_each.Goals.{then-has_roots+in_ok-plan_and_add, else-has_roots}

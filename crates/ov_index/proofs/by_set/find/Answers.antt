@@ -1,4 +1,4 @@
-use Rattle.std.proofs.Common.{◌≡◌, arith, get_or, sym, ◌∙◌, ap, true≢false, eqb-true, eq-eqb}
+use Rattle.std.proofs.Common.{arith, get_or, sym, ◌∙◌, true≢false, eqb-true, eq-eqb}
 use Rattle.std.proofs.lemmas.List.{get_or_default}
 use Rattle.ov_index.proofs.PlaceLaws.{found, missed}
 use Rattle.ov_index.proofs.by_set.find.Goals as goal

@@ -1,5 +1,4 @@
-use Rattle.std.proofs.Common.{◌≡◌, ◌++◌, ◌+◌, ◌∙◌, ℕ, List, drop, length, rules, sym, subst, length-append}
-use Rattle.std.specs.Prelude.{All}
+use Rattle.std.proofs.Common.{◌≡◌, ◌++◌, ℕ, List, drop, rules, sym, subst}
 use Rattle.ov_base.specs.Sets.{size}
 use Rattle.ov_index.specs.Orders.{IsOrderBelow, IsSizePlace}
 use Rattle.ov_index.proofs.LargerFirst.{order_below}
