@@ -1,5 +1,5 @@
 //! Updates, as their owner finds and sends them.
-ghost use Rattle.std.specs.Prelude.{◌≡◌, ◌<◌, ◌≤◌, false, length, IfOk, IfSome};
+ghost use Rattle.std.specs.Prelude.{◌≡◌, ◌<◌, ◌≤◌, false, length, IfOk};
 ghost use Rattle.ov_base.specs.declared.limits.TheConstants.{MAX_FILE_BYTES};
 ghost use Rattle.ov_history.specs.Catalogue.{matrix_shown, outline};
 ghost use Rattle.ov_history.specs.Plain.{PlainGrant};
@@ -13,7 +13,7 @@ ghost use Rattle.overstore.specs.Owner.{FindsBoth, IsCreation};
 use crate::fault::StepFault;
 use crate::machine::Machine;
 use crate::sealing::{sealed_creation, sealed_grant};
-use ov_base::{Memory, Name, Names, Octets, Refusal, UserSet, Users};
+use ov_base::{Memory, Name, Names, Octets, Refusal, Users};
 use ov_disk::Disk;
 use ov_graph::{GraphRefusal, root};
 use ov_record::Update;

@@ -31,7 +31,8 @@ pub returns-in-Some-clause-steps : goal.returns-in-Some-clause-steps
 returns-in-Some-clause-steps g c =
     c.apply.ensures.steps (Create c.args.file c.args.list c.args.bytes)
     (creation_step c.args.self.now.kept c.args.file c.args.list c.in-Some.users c.args.bytes (sealed_update c.in_ok-update-in-Some.update)
-    (c.in-Some.ensures.set ∙ ap (set_named c.args.self.now.kept.catalogue.users) c.as_slice.ensures.names) c.in_ok-update-in-Some.ensures)
+    (c.in-Some.ensures.set ∙ ap (λ (k : Catalogue). set_named k.users c.as_slice.result.now) c.catalogue-2.ensures
+    ∙ ap (set_named c.args.self.now.kept.catalogue.users) c.as_slice.ensures.names) c.in_ok-update-in-Some.ensures)
 
 pub returns-clause-steps : goal.returns-clause-steps
 returns-clause-steps g c =
@@ -41,4 +42,6 @@ returns-clause-steps g c =
     (subst (λ (k : Catalogue). IsNumber (file_names (matrix_shown k).files) c.args.file c.file_number.result) c.catalogue.ensures c.file_number.ensures)
     (sym c.is_some.ensures ∙ c.if-is_some.false)
     (subst (λ (l : List (List ℕ)). within (set_named c.args.self.now.kept.catalogue.users l) (everyone (length c.args.self.now.kept.catalogue.users)) ≡ false)
-    c.as_slice.ensures.names c.in-None.ensures.none))
+    c.as_slice.ensures.names
+    (subst (λ (k : Catalogue). within (set_named k.users c.as_slice.result.now) (everyone (length k.users)) ≡ false)
+    c.catalogue-2.ensures c.in-None.ensures.none)))
