@@ -125,11 +125,9 @@ pub fn seal(
 {
     match task {
         Task::Enrol { user } => {
-            let known = known_of(answer)?;
-            Ok(Sealed {
-                epoch: known.epoch,
-                update: Update::Enrol { name: user.copy() },
-            })
+            let epoch = known_of(answer)?.epoch;
+            let update = Update::Enrol { name: user.copy() };
+            Ok(Sealed { epoch, update })
         }
         Task::Create { file, bytes, .. } => {
             let plan = plan_of(answer)?;
@@ -139,20 +137,19 @@ pub fn seal(
         }
         Task::Grant { .. } => {
             let known = known_of(answer)?;
-            Ok(Sealed {
-                epoch: known.epoch,
-                update: seal_grant(base, &known),
-            })
+            let epoch = known.epoch;
+            let update = seal_grant(base, &known);
+            Ok(Sealed { epoch, update })
         }
         Task::Revoke { .. } => {
-            let known = known_of(answer)?;
-            Ok(Sealed {
-                epoch: known.epoch,
-                update: Update::Revoke {
-                    user: known.user,
-                    file: known.file,
-                },
-            })
+            let Known {
+                epoch,
+                user,
+                file,
+                ..
+            } = known_of(answer)?;
+            let update = Update::Revoke { user, file };
+            Ok(Sealed { epoch, update })
         }
     }
 }
