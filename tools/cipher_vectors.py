@@ -57,6 +57,11 @@ PADS = [
     (6, 8, 4294967296, 0),
 ]
 
+# starts and lengths of texts on both sides of 256 bytes, from which on four blocks go at a time: on
+# and off the blocks' borders, and over the end of 256 blocks whose counters differ in one byte
+LONG = [(start, length) for start in (0, 15, 17) for length in (255, 256, 257, 4100)]
+LONG += [(3943, 256), (4031, 300), (1048320, 512)]
+
 
 def digest(name, number):
     return hashlib.sha256(f"{name} {number}".encode()).digest()
@@ -111,6 +116,21 @@ def pad_lines():
                f"after: &[{listed}] }},\n")
 
 
+def fnv_1a(data):
+    sum = 0xCBF29CE484222325
+    for byte in data:
+        sum = (sum ^ byte) * 0x100000001B3 % 2**64
+    return sum
+
+
+def sum_lines():
+    for start, length in LONG:
+        padding = pad(bytes([9] * 32), 1, 2, start, length)
+        after = bytes(a ^ b for a, b in zip(text(length), padding))
+        yield (f"    Vector {{ start: {start}, length: {length}, "
+               f"sum: 0x{fnv_1a(after):016x} }},\n")
+
+
 write(
     "crates/ov_aes/src/tests/vectors.rt",
     "Blocks under AES-256, as OpenSSL encrypts them.",
@@ -138,4 +158,16 @@ write(
 """,
     "PADS",
     list(pad_lines()),
+)
+write(
+    "crates/ov_ctr/src/tests/sums.rt",
+    "FNV-1a sums of longer texts, whose byte `i` is `31 i + 7` modulo 256, after OpenSSL's pad.",
+    """pub struct Vector {
+    pub start: u64,
+    pub length: usize,
+    pub sum: u64,
+}
+""",
+    "SUMS",
+    list(sum_lines()),
 )

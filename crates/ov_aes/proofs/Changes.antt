@@ -34,7 +34,8 @@ at_first a b c d k = ap (λ t. bit_xor (bit_xor (bit_xor t c) d) k) (xor_comm a 
 
 -- ---- a term that changes from a to b, with a constant in both
 
-xor_twice : (b p : ℕ) → bit_xor (bit_xor b p) p ≡ b
+-- a term added twice is gone
+pub xor_twice : (b p : ℕ) → bit_xor (bit_xor b p) p ≡ b
 xor_twice b p = xor_assoc b p p ∙ ap (bit_xor b) (xor_self p) ∙ xor_zero_r b
 
 changed : (x a b k : ℕ) → bit_xor x b ≡ bit_xor (bit_xor (bit_xor x a) (bit_xor a k)) (bit_xor b k)

@@ -17,7 +17,8 @@ use std::marker::Model;
 /// AES-256 under one key of 32 bytes (FIPS 197), of four blocks at once. A contract sees it as the
 /// key.
 ///
-/// Bytes are looked up in vectors and in no table in memory.
+/// `front` and `four_blocks` look bytes up in vectors and in no table in memory; `new`, which
+/// expands the key, and `block` look them up in tables.
 #[derive(Drop)]
 pub struct LaneAes256 {
     words: KeySchedule,
@@ -33,7 +34,7 @@ impl Model for LaneAes256 {
 }
 
 impl LaneAes256 {
-    /// The cipher under this key of 32 bytes: the key is expanded, and laid out in rows, once, here.
+    /// The cipher under this key of 32 bytes: the key is expanded and laid out in rows once, here.
     pub fn new(key: &[u8; 32]) -> LaneAes256
         ensures { result ≡ key.now }
     {

@@ -45,6 +45,52 @@ fn sp_800_38a_f_5_5(rt: HostRuntime) {
     );
 }
 
+// The three blocks of F.5.5 after the carry, and the last one before it: the others are OpenSSL's.
+#[test]
+fn four_blocks_of_a_front_with_another_last_byte(rt: HostRuntime) {
+    let key = key_from(
+        0x603deb1015ca71be2b73aef0857d7781,
+        0x1f352c073b6108d72d9810a30914dff4,
+    );
+    let aes = LaneAes256::new(&key);
+    let front = aes.front(&0xf0f1f2f3f4f5f6f7f8f9fafbfcfdff80u128.to_be_bytes());
+    let [a, b, c, d] = aes.four_blocks(&front, 0x00);
+    assert_eq!(rt;
+        u128::from_be_bytes(a.to_array()),
+        0x5a6e699d536119065433863c8f657b94
+    );
+    assert_eq!(rt;
+        u128::from_be_bytes(b.to_array()),
+        0x1bc12c9c01610d5d0d8bd6a3378eca62
+    );
+    assert_eq!(rt;
+        u128::from_be_bytes(c.to_array()),
+        0x2956e1c8693536b1bee99c73a31576b6
+    );
+    assert_eq!(rt;
+        u128::from_be_bytes(d.to_array()),
+        0x8b77ffe0d97c0992d7f70e1ce9cfc3b7
+    );
+    let front = aes.front(&0xf0f1f2f3f4f5f6f7f8f9fafbfcfdfe00u128.to_be_bytes());
+    let [a, b, c, d] = aes.four_blocks(&front, 0xfc);
+    assert_eq!(rt;
+        u128::from_be_bytes(a.to_array()),
+        0xfa57604db8f6dc87e4d3a4b2debd2450
+    );
+    assert_eq!(rt;
+        u128::from_be_bytes(b.to_array()),
+        0x3b328760f7354f3fd25dc4e65843d5e3
+    );
+    assert_eq!(rt;
+        u128::from_be_bytes(c.to_array()),
+        0xcb67868d25fb8247e654d47756255d80
+    );
+    assert_eq!(rt;
+        u128::from_be_bytes(d.to_array()),
+        0x0bdf7df1591716335e9a8b15c860c502
+    );
+}
+
 #[test]
 fn blocks_of_another_implementation(rt: HostRuntime) {
     for vector in &BLOCKS {

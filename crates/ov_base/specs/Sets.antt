@@ -1,8 +1,12 @@
 -- Sets of users. A set is the number whose bit n is one exactly where user n is in it. So every
 -- number is a set, two sets with the same members are equal, and nothing here knows how many users
 -- there can be.
-use Rattle.std.specs.Prelude.{ℕ, zero, suc, ◌+◌, ◌*◌, ◌/◌, ◌%◌, ◌<◌, ◌^◌, ◌==◌, Bool, IsTrue, List, [], ◌∷◌, bit_and, bit_or, bit_xor, count_ones}
+use Rattle.std.specs.Prelude.{ℕ, zero, suc, ◌+◌, ◌*◌, ◌/◌, ◌%◌, ◌<◌, ◌^◌, ◌==◌}
+use Rattle.std.specs.Prelude.{Bool, IsTrue, List, [], ◌∷◌, bit_and, bit_or, bit_xor, count_ones, max}
 use Rattle.std.specs.Int.{bit_at}
+use Rattle.std.specs.Ordering.{nat_cmp}
+use Rattle.std.specs.Cmp.Lexicographic.{slice_cmp}
+use Rattle.std.specs.declared.cmp.Ordering.{Ordering}
 
 -- the set without members
 abbrev pub empty : ℕ
@@ -57,3 +61,11 @@ bytes_of (suc count) set = set % 256 ∷ bytes_of count (set / 256)
 unfoldable pub set_of_bytes : List ℕ → ℕ
 set_of_bytes [] = empty
 set_of_bytes (byte ∷ bytes) = set_of_bytes bytes * 256 + byte
+
+-- how two sets compare as so many bytes, from the first on
+abbrev pub bytes_cmp : ℕ → ℕ → ℕ → Ordering
+bytes_cmp count a b = slice_cmp nat_cmp (bytes_of count a) (bytes_of count b)
+
+-- how two sets compare: as their bytes, so many that neither has a user in a later one
+unfoldable pub set_cmp : ℕ → ℕ → Ordering
+set_cmp a b = bytes_cmp (max a b) a b

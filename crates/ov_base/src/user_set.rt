@@ -2,11 +2,13 @@
 ghost use Rattle.std.specs.Prelude.{◌≡◌, ◌<◌, ◌≤◌, ◌*◌, ◌==◌, ◌↔◌, ℕ, length, IsSome, IfSome};
 ghost use Rattle.std.specs.Cmp.{nat_eq_equiv, partial_equiv_from_equiv};
 ghost use Rattle.ov_base.specs.declared.limits.TheConstants.{MAX_SET_WORDS};
-ghost use Rattle.ov_base.specs.Sets.{empty, has, with, without, within, union, size, IsBelow, bytes_of, set_of_bytes};
+ghost use Rattle.ov_base.specs.Sets.{empty, has, with, without, within, union, size, IsBelow};
+ghost use Rattle.ov_base.specs.Sets.{bytes_cmp, bytes_of, set_cmp, set_of_bytes};
 ghost use Rattle.ov_base.specs.Words.{set_of_words};
 
 mod words;
 
+use std::cmp::Ordering;
 use std::marker::Model;
 
 /// A set of users, who are numbers below `64 * W`, for a W from 1 to 1,024.
@@ -87,6 +89,14 @@ impl<const W: usize> UserSet<W> {
         ensures { result ≡ within self.now other.now }
     {
         words::are_within(&self.words, &other.words)
+    }
+
+    /// The order of the bytes that `write` gives: the first that differs decides.
+    pub fn cmp_bytes(&self, other: &Self) -> Ordering
+        ensures bytes { result ≡ bytes_cmp (8 * W) self.now other.now }
+        ensures order { result ≡ set_cmp self.now other.now }
+    {
+        words::order(&self.words, &other.words)
     }
 
     /// How many users are in the set.
@@ -176,5 +186,13 @@ mod tests {
             &bytes[..9],
             [0, 0b10, 0b10, 0, 0, 0, 0, 0x80, 1].as_slice()
         );
+    }
+
+    #[test]
+    fn sets_in_the_order_of_their_bytes(rt: HostRuntime) {
+        let eight = UserSet::<4>::empty().with(8);
+        let zero = UserSet::<4>::empty().with(0);
+        assert!(rt; eight.cmp_bytes(&zero).is_lt() && zero.cmp_bytes(&eight).is_gt());
+        assert!(rt; eight.cmp_bytes(&eight.copy()).is_eq());
     }
 }

@@ -1,8 +1,7 @@
 -- The laws of the pad, and a byte of it at a time.
-use Rattle.std.proofs.Common.{◌≡◌, ℕ, zero, suc, ◌+◌, ◌<◌, List, [], ◌∷◌, ◌++◌, length, get_or, bit_xor, refl, sym, ◌∙◌, ap, arith, add-zero}
+use Rattle.std.proofs.Common.{◌≡◌, ℕ, zero, suc, ◌+◌, ◌<◌, List, [], ◌∷◌, ◌++◌, length, get_or, bit_xor, refl, sym, ◌∙◌, arith, add-zero}
 use Rattle.std.proofs.lemmas.List.{ext_get_or}
-use Rattle.std.specs.Int.Bits.{xor_self, xor_zero_r}
-use lib.Bits.{xor_assoc}
+use Rattle.ov_aes.proofs.Changes.{xor_twice}
 use Rattle.ov_ctr.specs.Ctr.{pad_byte, xor_pad}
 
 pub length-xor_pad : (key : List ℕ) (tag file start : ℕ) (bs : List ℕ) → length (xor_pad key tag file start bs) ≡ length bs
@@ -26,9 +25,6 @@ get_or-xor_pad key tag file start (b ∷ bs) zero lt = rw add-zero refl
 get_or-xor_pad key tag file start (b ∷ bs) (suc i) lt =
     let place : start + 1 + i ≡ start + suc i = omega arith in
     get_or-xor_pad key tag file (start + 1) bs i (omega arith) ∙ rw place refl
-
-xor_twice : (b p : ℕ) → bit_xor (bit_xor b p) p ≡ b
-xor_twice b p = xor_assoc b p p ∙ ap (bit_xor b) (xor_self p) ∙ xor_zero_r b
 
 pub xor_pad-xor_pad : (key : List ℕ) (tag file start : ℕ) (bs : List ℕ) → xor_pad key tag file start (xor_pad key tag file start bs) ≡ bs
 unfolding xor_pad

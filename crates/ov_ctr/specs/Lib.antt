@@ -1,2 +1,3 @@
 pub mod Ctr
 pub mod Laws
+pub mod Steps

@@ -1,7 +1,8 @@
 //! The pad over a buffer, four blocks at a time, and a block at a time beside them.
 
 ghost use Rattle.std.specs.Prelude.{ℕ, ◌≡◌, ◌<◌, ◌≤◌, ◌+◌, ◌-◌, ◌*◌, ◌/◌, ◌%◌, length, slice_index, bit_xor};
-ghost use Rattle.ov_ctr.specs.Ctr.{pad_byte, xor_pad};
+ghost use Rattle.ov_ctr.specs.Ctr.{xor_pad};
+ghost use Rattle.ov_ctr.specs.Steps.{PadsFirst};
 
 use crate::counter::counter_block;
 use crate::four::apply_groups;
@@ -21,8 +22,8 @@ fn add_pad(pad: &[u8; 16], skip: usize, piece: &mut [u8])
     }
 }
 
-// Adds a block of the pad to the first of these bytes, which stand from `place` on: to those within the
-// block. It gives how many.
+// Adds a block of the pad to the first of these bytes, which stand from `place` on: to those within
+// the block. It gives how many.
 fn add_within(pad: &[u8; 16], place: u64, rest: &mut [u8]) -> usize
     requires { 0 < length rest.old }
     ensures count { (0 < result) × (result ≤ length rest.old) × (result ≤ 16 - place % 16) }
@@ -36,16 +37,13 @@ fn add_within(pad: &[u8; 16], place: u64, rest: &mut [u8]) -> usize
     count
 }
 
-// The pad over the first of these bytes, which stand from `place` on: where a block begins there, those
-// of whole groups of four blocks up to the next multiple of 4,096, where more than the last byte of a
-// counter block changes; and else those of one block. It gives how many.
+// The pad over the first of these bytes, which stand from `place` on: where a block begins there,
+// those of whole groups of four blocks up to the next multiple of 4,096, where more than the last
+// byte of a counter block changes; and else those of one block. It gives how many.
 fn apply_some(aes: &LaneAes256, tag: u8, file: u32, place: u64, rest: &mut [u8]) -> usize
     requires some { 0 < length rest.old }
     requires place { place + length rest.old ≤ 4294967296 }
-    ensures count { (0 < result) × (result ≤ length rest.old) }
-    ensures applied { (i : ℕ) → i < result → slice_index rest.new i
-        ≡ bit_xor (slice_index rest.old i) (pad_byte aes.now tag file (place + i)) }
-    ensures after { (i : ℕ) → result ≤ i → slice_index rest.new i ≡ slice_index rest.old i }
+    ensures { PadsFirst aes.now tag file place result rest.old rest.new }
 {
     let room = (4096 - place % 4096) as usize;
     let groups = (room / 64).min(rest.len() / 64);
@@ -62,10 +60,7 @@ fn apply_some(aes: &LaneAes256, tag: u8, file: u32, place: u64, rest: &mut [u8])
 fn apply_one(aes: &Aes256, tag: u8, file: u32, place: u64, rest: &mut [u8]) -> usize
     requires some { 0 < length rest.old }
     requires place { place + length rest.old ≤ 4294967296 }
-    ensures count { (0 < result) × (result ≤ length rest.old) }
-    ensures applied { (i : ℕ) → i < result → slice_index rest.new i
-        ≡ bit_xor (slice_index rest.old i) (pad_byte aes.now tag file (place + i)) }
-    ensures after { (i : ℕ) → result ≤ i → slice_index rest.new i ≡ slice_index rest.old i }
+    ensures { PadsFirst aes.now tag file place result rest.old rest.new }
 {
     let block = counter_block(tag, file, place / 16);
     add_within(&aes.block(&block), place, rest)
@@ -104,9 +99,9 @@ fn apply_blocks(key: &[u8; 32], tag: u8, file: u32, start: u64, buf: &mut [u8])
 /// (SP 800-38A, 6.5) is the cipher of its counter blocks, 16 bytes each: `tag`, three zero bytes,
 /// the number `file` in 4 bytes and the block's number from 0 in 8, the highest byte first.
 ///
-/// The key is expanded once a call, and each block of the pad that the bytes meet is computed once:
-/// four at a time where many bytes have so many whole blocks, and else alone. What the first two
-/// rounds of 256 blocks have in common is computed once for them.
+/// A text of fewer than 256 bytes goes a block at a time, by the cipher of tables, and a longer one
+/// four whole blocks at a time, where so many lie before the next multiple of 4,096. That the key
+/// is expanded once a call and each block of the pad computed once is speed, which no clause states.
 pub fn apply_at(key: &[u8; 32], tag: u8, file: u32, start: u64, buf: &mut [u8])
     requires { start + length buf.old ≤ 4294967296 }
     ensures { buf.new ≡ xor_pad key.now tag file start buf.old }

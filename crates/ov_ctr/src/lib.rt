@@ -2,6 +2,8 @@
 //!
 //! Contract: [`apply_at`] replaces each byte by itself XOR the pad's byte at its place, where the
 //! pad is the cipher of the counter blocks of the file, and the first byte is at the place `start`.
+//! A text of fewer than 256 bytes goes a block at a time, by tables, and a longer one four blocks
+//! at a time.
 //!
 //! What this isn't: there is no claim of secrecy or of constant time, and nothing here finds a
 //! changed byte. A pad covers one text only: two texts under one key, tag and file number give away

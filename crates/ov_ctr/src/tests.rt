@@ -1,13 +1,17 @@
 //! Values from another implementation, and calls that the vectors leave out.
 
 mod callers;
+mod sums;
 mod vectors;
 
 use crate::apply_at;
 use callers::{apply_in_two, apply_twice};
+use sums::SUMS;
 use vectors::PADS;
 
 const LONGEST: usize = 48;
+
+const LONGEST_SUMMED: usize = 4100;
 
 fn key_from(high: u128, low: u128) -> [u8; 32] {
     let mut key = [0u8; 32];
@@ -48,6 +52,36 @@ fn pads_of_another_implementation(rt: HostRuntime) {
             "at {} of {}",
             vector.start,
             vector.file
+        );
+    }
+}
+
+// The FNV-1a sum of these bytes.
+fn sum_of(bytes: &[u8]) -> u64 {
+    let mut sum = 0xcbf29ce484222325u64;
+    for byte in bytes {
+        sum = (sum ^ u64::from(*byte)).wrapping_mul(0x100000001b3);
+    }
+    sum
+}
+
+#[test]
+fn sums_of_another_implementation(rt: HostRuntime) {
+    let mut text = [0u8; 4100];
+    for i in 0..LONGEST_SUMMED {
+        text[i] = ((31 * i + 7) % 256) as u8;
+    }
+    for vector in &SUMS {
+        assert!(rt; vector.length <= LONGEST_SUMMED && vector.start <= 1048576);
+        let mut bytes = text;
+        let part = &mut bytes[..vector.length];
+        apply_at(&[9; 32], 1, 2, vector.start, part);
+        assert_eq!(rt;
+            sum_of(part),
+            vector.sum,
+            "{} at {}",
+            vector.length,
+            vector.start
         );
     }
 }

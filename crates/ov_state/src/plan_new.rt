@@ -105,7 +105,12 @@ impl<B: Graph<Base, W>, S: Graph<Surface, W>, const W: usize> State<B, S, W> {
 
     /// Why a creation of a file of so many bytes is refused, if it is before its nodes and its
     /// epoch are looked at.
-    pub(crate) fn refusal_create(&self, name: &Name, list: &UserSet<W>, size: u32) -> Option<Refusal>
+    pub(crate) fn refusal_create(
+        &self,
+        name: &Name,
+        list: &UserSet<W>,
+        size: u32,
+    ) -> Option<Refusal>
         requires { size ≤ MAX_FILE_BYTES }
         ensures { result ≡ first_of_tests (tests_before self.now.catalogue name.now list.now size) }
     {

@@ -1,5 +1,5 @@
 //! What `docs/PERFORMANCE.md` times: `speed` and one of these words:
-//! `pad`, `pages`, `groups`, `tag`, `graph`, `chain`, `journal`, `wire`, `copy`; `lengths`, which
+//! `pad`, `pages`, `short`, `tag`, `graph`, `chain`, `journal`, `wire`, `copy`; `lengths`, which
 //! `tools/announced_lengths.sh` runs; and `cuts`, `plain` and `starts`, whose numbers
 //! `tools/pad_vectors.py` computes by OpenSSL.
 //!
@@ -62,7 +62,7 @@ fn main(rt: HostRuntime) -> Result<(), Fail> {
             "journal" => journal::appends(rt)?,
             "cuts" => pads::cuts(100_000),
             "pages" => pads::pages(),
-            "groups" => pads::groups(),
+            "short" => pads::short(),
             "plain" => pads::plain(),
             "starts" => pads::starts(),
             "wire" => wire::reads(alloc)?,

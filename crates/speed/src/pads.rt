@@ -108,8 +108,8 @@ pub fn pages() -> usize {
     bytes.iter().filter(|byte| **byte == 0).count()
 }
 
-/// The pad over 64 bytes, 1,048,576 times.
-pub fn groups() -> usize {
+/// The pad over 64 bytes, too few for four blocks at a time, 1,048,576 times.
+pub fn short() -> usize {
     let mut bytes = [0u8; 64];
     for _ in 0..1_048_576u32 {
         apply_at(&[7; 32], b'B', 2, 0, &mut bytes);

@@ -1,8 +1,11 @@
 //! Words that are a set of users: user n is bit `n % 64` of word `n / 64`.
 ghost use Rattle.std.specs.Prelude.{◌≡◌, ◌==◌, ◌<◌, ◌≤◌, ◌*◌, ◌^◌, ◌+◌, ℕ, length, slice_index, take, drop};
 ghost use Rattle.ov_base.specs.declared.limits.TheConstants.{MAX_SET_WORDS};
-ghost use Rattle.ov_base.specs.Sets.{has, with, without, within, union, size, IsBelow, bytes_of, set_of_bytes};
+ghost use Rattle.ov_base.specs.Sets.{has, with, without, within, union, size, IsBelow};
+ghost use Rattle.ov_base.specs.Sets.{bytes_cmp, bytes_of, set_cmp, set_of_bytes};
 ghost use Rattle.ov_base.specs.Words.{set_of_words};
+
+use std::cmp::Ordering;
 
 /// Each word has 64 bits.
 fn fit(words: &[u64])
@@ -67,6 +70,21 @@ pub fn are_same(words: &[u64], other: &[u64]) -> bool
     fit(words);
     fit(other);
     words == other
+}
+
+/// The order of the bytes.
+pub fn order(words: &[u64], other: &[u64]) -> Ordering
+    requires { length words.now ≡ length other.now }
+    ensures bytes { let count = 8 * length words.now in
+        result ≡ bytes_cmp count (set_of_words words.now) (set_of_words other.now) }
+    ensures order { result ≡ set_cmp (set_of_words words.now) (set_of_words other.now) }
+{
+    for i in 0..words.len() {
+        if words[i] != other[i] {
+            return words[i].to_le_bytes().cmp(&other[i].to_le_bytes());
+        }
+    }
+    Ordering::Equal
 }
 
 pub fn count(words: &[u64]) -> u32
