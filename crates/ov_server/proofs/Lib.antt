@@ -6,3 +6,5 @@ pub mod NamesIn
 pub mod DistinctUsers
 pub mod Kinds
 pub mod Answering
+pub mod Following
+pub mod Making
