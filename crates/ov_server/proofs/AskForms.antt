@@ -1,6 +1,6 @@
 -- What is told of users and files is within the limits of a store.
 use Rattle.std.proofs.Common.{◌≡◌, ◌∙◌, ℕ, ◌+◌, ◌^◌, ◌<◌, ◌≤◌, true, false, List, [], ◌∷◌, length, ap, sym, subst, arith, length-append}
-use Rattle.std.specs.Prelude.{None, Some, slice_get}
+use Rattle.std.specs.Prelude.{None, Some, not, slice_get}
 use Rattle.std.proofs.lemmas.Option.{slice_get-get_or}
 use Rattle.ov_base.specs.declared.limits.TheConstants.{MAX_USERS, MAX_FILES, MAX_LAYER_NODES}
 use Rattle.ov_base.specs.Sets.{single}
@@ -8,16 +8,19 @@ use Rattle.ov_base.proofs.Tests.{gt_of_false, true_of_not}
 use Rattle.ov_history.specs.History.{Enrolled, Granted, Revoked}
 use Rattle.ov_history.specs.Asking.{Numbers, key_refusal, newcomer, of_both, of_grant, of_user, refusal_at}
 use Rattle.ov_history.specs.Catalogue.{Catalogue, Filed, Nodes, filed_at, matrix_shown, outline}
+use Rattle.ov_base.specs.declared.refusal.Refusal.TheVariants.{NoUser}
+use Rattle.ov_history.specs.Lists.{is_file, is_user}
 use Rattle.ov_history.specs.Layers.{Layers, grown, layers_after, lists_after, lists_of, node_of, root_of, wants_of, with_wants}
 use Rattle.ov_history.specs.Refusals.{tests_of}
 use Rattle.ov_history.specs.Sound.{IsLayer, IsPlaced}
 use Rattle.ov_history.specs.Briefs.{BriefEnrol, BriefRevoke}
 use Rattle.ov_history.proofs.Outlining.{node-shown}
 use Rattle.ov_history.proofs.PlanLaws.{node_for-there, with_wants-keeps}
-use Rattle.ov_history.proofs.SoundTests.{accepted, file_is, is_below, none_applies}
+use Rattle.ov_history.proofs.SoundTests.{accepted, is_below, none_applies}
 use Rattle.ov_state.specs.Asking.{numbers_of}
 use Rattle.ov_state.specs.Contents.{IsWell}
 use Rattle.ov_state.specs.declared.asking.Asked.{Asked}
+use Rattle.ov_state.proofs.QueryLaws.{file_low}
 use Rattle.ov_wire.specs.AnswerForm.{HasAnswerForm}
 use Rattle.ov_wire.specs.Entries.{IsNode}
 use Rattle.ov_server.specs.Telling.{known_answer}
@@ -76,18 +79,28 @@ user_numbers limit c user well there = record {
 
 pub both_numbers : (limit : ℕ) (c : Catalogue) (user file : ℕ) → IsWell limit c
     → user < length c.users → file < length c.files → AreNumbers (of_both c user file)
-both_numbers limit c user file well there kept = record (user_numbers limit c user well there) {
-  file = omega (arith, kept, well.files);
-  node = node_low limit c file well kept;
-}
+both_numbers limit c user file well there kept =
+    let roots = user_numbers limit c user well there in record {
+      user = roots.user;
+      base_root = roots.base_root;
+      surface_root = roots.surface_root;
+      file = omega (arith, kept, well.files);
+      node = node_low limit c file well kept;
+    }
 
 -- ---- what isn't refused
+
+-- a test that doesn't apply says that the file is there
+pub file_is : (c : Catalogue) (file : ℕ) → not (is_file (matrix_shown c) file) ≡ false
+    → file < length c.files
+file_is c file passes = file_low c file (true_of_not (is_file (matrix_shown c) file) passes)
 
 pub key_numbers : (limit : ℕ) (c : Catalogue) (user : ℕ) → IsWell limit c
     → key_refusal c user ≡ None → AreNumbers (of_user c user)
 key_numbers limit c user well none =
     user_numbers limit c user well
-    (is_below user (length c.users) (none_applies _ none).0)
+    (is_below user (length c.users)
+    (none_applies ((NoUser, not (is_user (matrix_shown c) user)) ∷ []) none).0)
 
 pub grant_numbers : (limit : ℕ) (c : Catalogue) (user file : ℕ) → IsWell limit c
     → refusal_at c (Granted user file) ≡ None → AreNumbers (of_grant c user file)
@@ -96,7 +109,7 @@ grant_numbers limit c user file well none =
     in
     let both =
     both_numbers limit c user file well (is_below user (length c.users) tests.0)
-    (file_is file c tests.1.0) in record {
+    (file_is c file tests.1.0) in record {
       user = both.user;
       base_root = both.base_root;
       surface_root = both.surface_root;
@@ -110,7 +123,7 @@ revoke_numbers limit c user file well none =
     let tests = none_applies (tests_of (matrix_shown c) (outline c) c.epoch (Revoked user file)) none
     in
     both_numbers limit c user file well (is_below user (length c.users) tests.0)
-    (file_is file c tests.1.0)
+    (file_is c file tests.1.0)
 
 -- a layer that has few nodes once a user is enrolled had fewer before
 surface_grows : (y : Layers) (name : List ℕ)

@@ -22,7 +22,7 @@ use Rattle.ov_history.specs.Chains.{IsAccessChain, IsBaseChain, IsBaseChainIf, I
 use Rattle.ov_history.specs.Layers.{root_of}
 use Rattle.ov_history.specs.Refusals.{read_refusal, read_tests}
 use Rattle.ov_history.specs.Sound.{IsLayer, IsPlaced}
-use Rattle.ov_history.proofs.SoundTests.{file_is, is_below, none_applies}
+use Rattle.ov_history.proofs.SoundTests.{is_below, none_applies}
 use Rattle.ov_state.specs.Chains.{IsChained}
 use Rattle.ov_state.specs.Contents.{IsWell}
 use Rattle.ov_state.specs.declared.chained.Chained.{Chained}
@@ -31,7 +31,7 @@ use Rattle.ov_wire.specs.Chains.{IsChain, IsStep, base_kinds, surface_kinds}
 use Rattle.ov_wire.specs.Entries.{IsNode}
 use Rattle.ov_wire.specs.Updates.{Has32}
 use Rattle.ov_server.specs.Telling.{HaveTokens, chained_answer}
-use Rattle.ov_server.proofs.AskForms.{filed_there, root_low}
+use Rattle.ov_server.proofs.AskForms.{file_is, filed_there, root_low}
 
 -- ---- steps
 
@@ -106,9 +106,11 @@ edge_form kind kinds users nodes user node chain layer there node_there one (roo
     in (
       (
         subst IsNode (sym root) root_is_low,
-        omega (arith, short),
-        of_kinds kind (kinds (length chain.steps)) chain.steps (one (length chain.steps)) form.0
-            tokens,
+        (
+          omega (arith, short),
+          of_kinds kind (kinds (length chain.steps)) chain.steps (one (length chain.steps)) form.0
+              tokens,
+        ),
       ),
       short,
     )
@@ -133,8 +135,7 @@ access_form users nodes grants user node chain layer there node_there (token, gi
     (
       (
         root_low users user nodes layer there,
-        omega arith,
-        ((inr (inl refl), omega (arith, node_there, layer.few), has_token.0), tt),
+        (omega arith, ((inr (inl refl), omega (arith, node_there, layer.few), has_token.0), tt)),
       ),
       omega arith,
     )
@@ -178,7 +179,7 @@ pub chained_form : (limit : ℕ) (c : Catalogue) (user file : ℕ) (chained : Ch
 chained_form limit c user file chained well none is tag generation base surface =
     let tests = none_applies (read_tests (matrix_shown c) user file) none in
     let there : user < length c.users = is_below user (length c.users) tests.0 in
-    let kept : file < length c.files = file_is file c tests.1.0 in
+    let kept : file < length c.files = file_is c file tests.1.0 in
     let f : Filed = filed_at c file in
     let placed : IsPlaced c f = well.sound.files file f (filed_there c file kept) in
     let low = well.each file f (filed_there c file kept) in

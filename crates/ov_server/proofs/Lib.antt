@@ -4,7 +4,8 @@ pub mod ChainForms
 pub mod PageForms
 pub mod NamesIn
 pub mod DistinctUsers
+pub mod Nothing
 pub mod Kinds
 pub mod Answering
-pub mod Following
 pub mod Making
+pub mod Following

@@ -1,5 +1,5 @@
 -- The names of the users in a set, gathered one by one.
-use Rattle.std.proofs.Common.{◌≡◌, ℕ, zero, suc, ◌+◌, Bool, true, false, ◌||◌, List, [], ◌∷◌, ◌++◌, length, take, refl, sym, ◌∙◌, ap, subst, arith, append_assoc, true≢false}
+use Rattle.std.proofs.Common.{◌≡◌, ℕ, zero, suc, ◌+◌, ◌≤◌, Bool, true, false, ◌||◌, List, [], ◌∷◌, ◌++◌, length, take, refl, sym, ◌∙◌, ap, subst, arith, append_assoc, length-append, true≢false}
 use Rattle.std.specs.Prelude.{Some, slice_get}
 use Rattle.std.specs.List.{IsDistinct, AllByRecursion}
 use Rattle.std.specs.Str.{bytes_eq}
@@ -115,3 +115,19 @@ pub passed : (set : ℕ) (users : List (List ℕ)) (n : ℕ) (name : List ℕ) (
 passed set users n name names at_n so_far out =
     so_far
     ∙ sym (next_names set users n name false at_n out ∙ append-nil (names_in set (take n users)))
+
+-- no more names are in a set than there are users
+pub few_in : (set number : ℕ) (users : List (List ℕ))
+    → length (names_from set number users) ≤ length users
+few_in set number [] = omega arith
+few_in set number (name ∷ users) =
+    let here : length (name_if (has set number) name) ≤ 1 = few_if (has set number) name in
+    omega (
+      arith,
+      length-append (name_if (has set number) name) (names_from set (number + 1) users),
+      here,
+      few_in set (number + 1) users,
+    ) where
+      few_if : (b : Bool) (one : List ℕ) → length (name_if b one) ≤ 1
+      few_if true one = omega arith
+      few_if false one = omega arith

@@ -1,12 +1,12 @@
 -- Inner: no public contract needs this. Answers made of what a state tells.
-use Rattle.std.specs.Prelude.{◌≡◌, ℕ, ◌≤◌, List, Option, IfSome}
+use Rattle.std.specs.Prelude.{◌≡◌, ℕ, ◌≤◌, List, Option, IfSome, slice_get}
 use Rattle.std.specs.List.{AllByRecursion}
 use Rattle.ov_base.specs.declared.limits.TheConstants.{MAX_USERS}
 use Rattle.ov_tokens.specs.declared.chain.Step.{Step}
+use Rattle.ov_tokens.specs.declared.edge.Edge.{Edge}
 use Rattle.ov_fields.specs.Spelling.{IsToken}
 use Rattle.ov_history.specs.Catalogue.{Nodes}
 use Rattle.ov_history.specs.Sound.{IsLayer}
-use Rattle.std.specs.Prelude.{slice_get}
 use Rattle.ov_state.specs.declared.asking.Asked.{Asked}
 use Rattle.ov_state.specs.declared.chained.Chained.{Chained}
 use Rattle.ov_state.specs.declared.covering.Planned.{Planned}
@@ -53,6 +53,10 @@ chained_answer chained = answers.Chained (record {
 -- each of these steps has a token of 32 bytes
 abbrev pub HaveTokens : List Step → Type 0
 HaveTokens steps = AllByRecursion (λ (step : Step). IsToken step.token) steps
+
+-- each of these edges has a token of 32 bytes
+abbrev pub LeadByTokens : List Edge → Type 0
+LeadByTokens edges = AllByRecursion (λ (edge : Edge). IsToken edge.token) edges
 
 -- the nodes of a layer of a store
 abbrev pub IsLayerOfStore : Nodes → Type 0

@@ -1,41 +1,16 @@
 //! The names in a file's list.
 ghost use Rattle.std.specs.Prelude.{◌≡◌, ◌+◌, ◌<◌, length, take, IfOk, OnOk};
-ghost use Rattle.std.specs.List.{AllByRecursion};
 ghost use Rattle.ov_base.specs.NameLists.{AreDistinct};
-ghost use Rattle.ov_base.specs.Names.{IsName};
 ghost use Rattle.ov_history.specs.Asking.{file_named};
 ghost use Rattle.ov_history.specs.Lists.{names_in};
 ghost use Rattle.ov_wire.specs.AnswerForm.{HasAnswerForm};
-ghost use Rattle.ov_wire.specs.Requests.{AreNames};
 ghost use Rattle.ov_protocol.specs.Reading.{AnswersList};
 
+use crate::form::are_names;
 use ov_base::{Memory, Name, Names, Users};
 use ov_state::Catalogue;
 use ov_wire::Answer;
 use std::alloc::Global;
-
-/// A name is one by its type.
-fn is_name(name: &Name)
-    ensures { IsName name.now }
-{
-    let _ = name.as_bytes();
-}
-
-/// So is each of these.
-fn are_each_names(names: &[Name])
-    ensures { AllByRecursion IsName names.now }
-{
-    for name in names {
-        is_name(name);
-    }
-}
-
-/// None of them comes twice.
-fn are_names(names: &Names)
-    ensures { AreNames names.now }
-{
-    are_each_names(names.as_slice());
-}
 
 /// Appends the name of a user who is in the set, behind those of the users before.
 fn put_name(

@@ -1,39 +1,20 @@
 //! The entries of the public catalogue.
 ghost use Rattle.std.specs.Prelude.{◌≡◌, ◌<◌, ◌≤◌, length, IfOk, IfSome, option_map};
-ghost use Rattle.std.specs.List.{AllByRecursion};
-ghost use Rattle.ov_base.specs.Names.{IsName};
 ghost use Rattle.ov_base_layer.specs.declared.grant.Grant.{Grant};
-ghost use Rattle.ov_fields.specs.Spelling.{IsToken};
 ghost use Rattle.ov_state.specs.Contents.{nodes_of};
 ghost use Rattle.ov_wire.specs.AnswerForm.{HasAnswerForm, IsSomeEntry};
 ghost use Rattle.ov_wire.specs.declared.answer.Answer.TheVariants.{PageOf};
 ghost use Rattle.ov_protocol.specs.Pages.{entry_of, node_entry_of, page_of};
 ghost use Rattle.ov_server.specs.Telling.{IsLayerOfStore, PagesNode};
 
-use crate::form::{is_tag, is_token};
-use ov_base::{Memory, Name, Octets};
+use crate::form::{edges_have_tokens, is_name, is_tag, is_token};
+use ov_base::{Memory, Octets};
 use ov_graph::Graph;
 use ov_record::{access_entry, file_entry, node_entry, user_entry};
 use ov_state::{Catalogue, WIDTH};
-use ov_tokens::{Edge, Layer};
+use ov_tokens::Layer;
 use ov_wire::Answer;
 use std::alloc::Global;
-
-/// A name is one by its type.
-fn is_name(name: &Name)
-    ensures { IsName name.now }
-{
-    let _ = name.as_bytes();
-}
-
-/// What holds of the tokens of each list of edges.
-fn have_tokens(edges: &[Edge])
-    ensures { AllByRecursion (λ edge. IsToken edge.token) edges.now }
-{
-    for edge in edges {
-        is_token(&edge.token);
-    }
-}
 
 /// The entry of a user.
 fn user_page(
@@ -69,7 +50,7 @@ fn node_page<L: Layer, G: Graph<L, WIDTH>>(
         return Ok(None);
     }
     let edges = graph.in_tokens(number);
-    have_tokens(edges);
+    edges_have_tokens(edges);
     let mut bytes = Vec::new(alloc);
     node_entry(&graph.set_of(number), edges, &mut bytes)?;
     Ok(Some(Octets::from_vec(bytes)))
