@@ -1,6 +1,7 @@
 -- A server goes on from where it began by what it accepts.
 use Rattle.std.proofs.Common.{◌≡◌, ◌∙◌, inl, inr, ℕ, ◌+◌, Bool, true, false, List, [], ◌∷◌, ◌++◌, length, Result, Ok, Err, refl, sym, ap, subst, arith, append_assoc, length-append, true≢false}
-use Rattle.std.specs.Prelude.{Option, ◌⊎◌}
+use Rattle.std.specs.Prelude.{OnOk, Option, ◌⊎◌}
+use Rattle.ov_base.specs.declared.memory.Memory.{Memory}
 use Rattle.std.proofs.lemmas.List.{append-nil}
 use Rattle.ov_record.specs.Reading.{update_of}
 use Rattle.ov_record.specs.Updates.{SealedUpdate}
@@ -24,7 +25,7 @@ use Rattle.ov_peer.specs.Spellings.{IsUpdate, longer_if, says_accepted, spelling
 use Rattle.ov_store.specs.Opened.{Opened, Serves}
 use Rattle.ov_server.specs.Answering.{AnswersOrFails, AsksBytes, HasUpdate, IsAnswered, IsFaulted, serving_of}
 use Rattle.ov_server.specs.Following.{NeedsDisk, Reaches, RepliesAfter, RepliesAt}
-use Rattle.ov_server.proofs.Kinds.{IsMade, accepted_made, nothing_made, says_so}
+use Rattle.ov_server.proofs.AnswerKinds.{IsMade, accepted_made, nothing_made, says_so}
 
 -- ---- the start
 
@@ -124,6 +125,7 @@ module _ {D : Type 0} (reads : D → Option Image) (may_leave : D → Image → 
 
   is_made : (is : IsAnswered reads may_leave old new request reply)
       → (so : says_accepted reply ≡ true) → is.frame.made ≡ (made_if_so is so).0
+  unfolding made_if_so
   is_made is so =
       let r = is.frame.replies in
       r.makes ∙ ap (made_of (request_of request)) (says_so r.answer (ap says_accepted (sym r.spelled) ∙ so)).1
@@ -143,7 +145,7 @@ module _ {D : Type 0} (reads : D → Option Image) (may_leave : D → Image → 
     needs : IsFaulted old new request reply → NeedsDisk (serving_of old) request
     needs is = by_need is.needs where
       by_need : ((u : SealedUpdate) × HasUpdate (serving_of old) request u × (new.failed ≡ true))
-          ⊎ (AsksBytes (serving_of old) request × (new ≡ old))
+          ⊎ (AsksBytes request × (new ≡ old))
           → NeedsDisk (serving_of old) request
       by_need (inl (u, has, failed)) = inl (u, has)
       by_need (inr (asks, same)) = inr asks
@@ -210,3 +212,37 @@ module _ {D : Type 0} (reads : D → Option Image) (may_leave : D → Image → 
 
     pub reached_after : Reaches start (with_accepted list request reply) (serving_of new)
     reached_after = next (says_accepted reply) refl answered
+
+-- ---- the same of each result of a call
+
+module _ {D : Type 0} (reads : D → Option Image) (may_leave : D → Image → Type 0)
+    (old new : Opened D) (request reply : List ℕ) where
+  pub frame_ok : (r : Result (Unit {0}) Memory)
+      → OnOk r (AnswersOrFails reads may_leave old new request reply) → OnOk r (IsFrame reply)
+  frame_ok (Ok done) a = is_frame reads may_leave old new request reply a
+  frame_ok (Err why) a = tt
+
+  pub accepted_ok : (r : Result (Unit {0}) Memory)
+      → OnOk r (AnswersOrFails reads may_leave old new request reply)
+      → OnOk r (says_accepted reply ≡ true → IsUpdate request)
+  accepted_ok (Ok done) a = accepts_updates reads may_leave old new request reply a
+  accepted_ok (Err why) a = tt
+
+  pub replies_ok : (r : Result (Unit {0}) Memory)
+      → OnOk r (AnswersOrFails reads may_leave old new request reply)
+      → (start : Opened D) (list : List (List ℕ))
+      → Reaches (serving_of start) list (serving_of old)
+      → OnOk r (RepliesAfter (serving_of start) list request reply)
+  replies_ok (Ok done) a start list reaches =
+      replies_after reads may_leave old new request reply a (serving_of start) list reaches
+  replies_ok (Err why) a start list reaches = tt
+
+  pub reached_ok : (r : Result (Unit {0}) Memory)
+      → OnOk r (AnswersOrFails reads may_leave old new request reply)
+      → (start : Opened D) (list : List (List ℕ))
+      → Reaches (serving_of start) list (serving_of old)
+      → OnOk r
+      (Reaches (serving_of start) (with_accepted list request reply) (serving_of new))
+  reached_ok (Ok done) a start list reaches =
+      reached_after reads may_leave old new request reply a (serving_of start) list reaches
+  reached_ok (Err why) a start list reaches = tt

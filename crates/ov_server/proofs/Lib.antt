@@ -1,11 +1,13 @@
 pub mod AskForms
-pub mod PlanForms
 pub mod ChainForms
 pub mod PageForms
 pub mod NamesIn
 pub mod DistinctUsers
 pub mod Nothing
-pub mod Kinds
-pub mod Answering
+pub mod AnswerKinds
+pub mod Shown
 pub mod Making
 pub mod Following
+pub mod ChunkAnswers
+pub mod Tagging
+pub mod AskedOnce

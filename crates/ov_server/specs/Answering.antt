@@ -3,9 +3,7 @@ use Rattle.std.specs.Prelude.{◌≡◌, ◌⊎◌, ℕ, List, [], true, false, 
 use Rattle.ov_base.specs.declared.memory.Memory.{Memory}
 use Rattle.ov_record.specs.Reading.{update_of}
 use Rattle.ov_record.specs.Updates.{SealedUpdate}
-use Rattle.ov_history.specs.Catalogue.{Filed}
 use Rattle.ov_history.specs.Sealed.{SealedHistory}
-use Rattle.std.specs.Prelude.{slice_get}
 use Rattle.ov_disk.specs.Disk.{Image, Told}
 use Rattle.ov_disk.specs.Moments.{LeavesOnly}
 use Rattle.ov_images.specs.Images.{Keys, Keeps}
@@ -39,14 +37,13 @@ pub record HasUpdate (s : Serving) (request : List ℕ) (u : SealedUpdate) : Typ
   pub right : tag ≡ owner_tag s.surface s.catalogue.epoch spelling
   pub spells : update_of 32 spelling ≡ Ok u
 
--- the frame asks for stored bytes of a file that is there, at its generation
-pub record AsksBytes (s : Serving) (request : List ℕ) : Type 0 where
-  pub number : ℕ
+-- the frame asks for stored bytes of a file
+pub record AsksBytes (request : List ℕ) : Type 0 where
+  pub file : ℕ
+  pub generation : ℕ
   pub start : ℕ
   pub count : ℕ
-  pub file : Filed
-  pub is : request_of request ≡ Ok (requests.Chunk number file.generation start count)
-  pub there : slice_get s.catalogue.files number ≡ Some file
+  pub is : request_of request ≡ Ok (requests.Chunk file generation start count)
 
 -- ---- what is answered
 
@@ -68,7 +65,7 @@ pub record IsFaulted {D : Type 0} (old new : Opened D) (request reply : List ℕ
   pub spelled : reply ≡ answer_bytes DeviceFault
   pub same : serving_of new ≡ serving_of old
   pub needs : ((u : SealedUpdate) × HasUpdate (serving_of old) request u × (new.failed ≡ true))
-      ⊎ (AsksBytes (serving_of old) request × (new ≡ old))
+      ⊎ (AsksBytes request × (new ≡ old))
   pub before : old.failed ≡ true → new ≡ old
 
 -- one of the two

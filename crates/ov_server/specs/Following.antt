@@ -18,7 +18,7 @@ pub record Reaches (start : Serving) (list : List (List ℕ)) (now : Serving) : 
 
 -- the request is an update that is to be made, or asks for stored bytes
 abbrev pub NeedsDisk : Serving → List ℕ → Type 0
-NeedsDisk s request = ((u : SealedUpdate) × HasUpdate s request u) ⊎ AsksBytes s request
+NeedsDisk s request = ((u : SealedUpdate) × HasUpdate s request u) ⊎ AsksBytes request
 
 -- the reply is the one by what is served, or that the disk failed, where it is needed
 abbrev pub RepliesAt : Serving → List ℕ → List ℕ → Type 0

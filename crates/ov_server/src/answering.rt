@@ -1,14 +1,19 @@
 //! Answers to frames.
 ghost use Rattle.std.specs.Prelude.{◌≡◌, ℕ, List, [], Ok, OnErr, OnOk};
+ghost use Rattle.ov_wire.specs.AnswerForm.{HasAnswerForm};
 ghost use Rattle.ov_wire.specs.Frames.{IsFrame};
 ghost use Rattle.ov_wire.specs.RequestReading.{request_of};
 ghost use Rattle.ov_wire.specs.Requests.{HasRequestForm};
+ghost use Rattle.ov_wire.specs.declared.answer.Answer.TheVariants as answers;
+ghost use Rattle.ov_protocol.specs.Answers.{welcome_of};
 ghost use Rattle.ov_store.specs.Updating.{IsCallOf};
-ghost use Rattle.ov_server.specs.Answering.{AnswersOrFails, AsksServer, IsNewFault, LeavesAsked};
+ghost use Rattle.ov_server.specs.Answering.{serving_of, AnswersOrFails, AsksServer};
+ghost use Rattle.ov_server.specs.Answering.{IsNewFault, LeavesAsked};
 
 use crate::asking::answer_ask;
 use crate::chaining::answer_chain;
 use crate::covering::answer_cover;
+use crate::form::is_tag;
 use crate::listing::answer_list;
 use crate::paging::answer_page;
 use crate::reply::reply_with;
@@ -20,7 +25,7 @@ use ov_wire::{Answer, Request, Welcome, WireFault, read_request};
 impl<D: Disk> Server<D> {
     /// The answer to Hello.
     fn welcome(&self) -> Answer
-        ensures answer { result ≡ welcome (welcome_of (serving_of self.now)) }
+        ensures answer { result ≡ answers.Welcome (welcome_of (serving_of self.now)) }
         ensures form { HasAnswerForm result }
     {
         let state = self.store.state();

@@ -56,7 +56,11 @@ impl<D: Disk> Server<D> {
                 let at = SPELLING_PLACE + at;
                 reply_with(Ok(Answer::BadRequest { at }), reply)
             }
-            Err(StoreFault::Disk) | Err(StoreFault::Failed) => {
+            Err(StoreFault::Disk) => {
+                reply_fault(reply);
+                Ok(())
+            }
+            Err(StoreFault::Failed) => {
                 reply_fault(reply);
                 Ok(())
             }

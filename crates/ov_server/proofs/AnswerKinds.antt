@@ -1,5 +1,5 @@
 -- What is answered by what a server shows is no fault of the disk, and an Accepted is an update's.
-use Rattle.std.proofs.Common.{◌≡◌, ◌∙◌, ℕ, true, false, List, [], ◌∷◌, Result, Ok, Err, refl, ap, sym, true≢false}
+use Rattle.std.proofs.Common.{◌≡◌, ◌∙◌, ◌==◌, ℕ, Bool, true, false, List, [], ◌∷◌, Result, Ok, Err, refl, ap, sym, true≢false}
 use Rattle.ov_record.specs.Reading.{update_of}
 use Rattle.ov_record.specs.Updates.{SealedUpdate}
 use Rattle.ov_history.specs.Catalogue.{Catalogue}
@@ -43,24 +43,36 @@ no_fault s (Ok (requests.Chunk file generation start count)) is =
 no_fault s (Ok (requests.Page part number)) is = cc
 no_fault s (Ok (requests.List file)) is = is
 
+-- whether bytes begin with the kind byte of one
+is_fault : List ℕ → Bool
+is_fault [] = false
+is_fault (kind ∷ bytes) = kind == 0x8d
+
 -- nor are its bytes those of one
 pub other_bytes : (s : Serving) (read : Result Request ℕ) (a : Answer) → AnswersRead s read a
     → answer_bytes a ≡ answer_bytes answers.DeviceFault → ⊥
-other_bytes s read (answers.Welcome welcome) is same = cc
-other_bytes s read (answers.Known known) is same = cc
-other_bytes s read (answers.Plan plan) is same = cc
-other_bytes s read (answers.Accepted epoch) is same = cc
-other_bytes s read (answers.Chained chained) is same = cc
-other_bytes s read (answers.Bytes bytes) is same = cc
-other_bytes s read (answers.PageOf entry) is same = cc
-other_bytes s read (answers.Refused refusal) is same = cc
-other_bytes s read (answers.Stale epoch) is same = cc
-other_bytes s read answers.BadTag is same = cc
-other_bytes s read (answers.BadRequest place) is same = cc
-other_bytes s read (answers.Moved generation) is same = cc
+unfolding is_fault
+other_bytes s read (answers.Welcome welcome) is same = true≢false (sym (ap is_fault same))
+other_bytes s read (answers.Known known) is same = true≢false (sym (ap is_fault same))
+other_bytes s read (answers.Plan plan) is same = true≢false (sym (ap is_fault same))
+other_bytes s read (answers.Accepted epoch) is same = true≢false (sym (ap is_fault same))
+other_bytes s read (answers.Chained chained) is same = true≢false (sym (ap is_fault same))
+other_bytes s read (answers.Bytes bytes) is same = true≢false (sym (ap is_fault same))
+other_bytes s read (answers.PageOf entry) is same = true≢false (sym (ap is_fault same))
+other_bytes s read (answers.Refused refusal) is same = true≢false (sym (ap is_fault same))
+other_bytes s read (answers.Stale epoch) is same = true≢false (sym (ap is_fault same))
+other_bytes s read answers.BadTag is same = true≢false (sym (ap is_fault same))
+other_bytes s read (answers.BadRequest place) is same = true≢false (sym (ap is_fault same))
+other_bytes s read (answers.Moved generation) is same = true≢false (sym (ap is_fault same))
 other_bytes s read answers.DeviceFault is same = no_fault s read is
-other_bytes s read answers.NoMemory is same = cc
-other_bytes s read (answers.Listed names) is same = cc
+other_bytes s read answers.NoMemory is same = true≢false (sym (ap is_fault same))
+other_bytes s read (answers.Listed names) is same = true≢false (sym (ap is_fault same))
+
+-- nor are those of an Accepted
+pub accepted_apart : (n : ℕ) → answer_bytes (answers.Accepted n) ≡ answer_bytes answers.DeviceFault
+    → ⊥
+unfolding is_fault
+accepted_apart n same = true≢false (sym (ap is_fault same))
 
 -- ---- what is accepted
 
