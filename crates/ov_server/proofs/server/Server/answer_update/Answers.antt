@@ -117,7 +117,10 @@ returns-in-Err-BadRecord g c =
           c.requires,
         ))
         (refl, λ u has. absurd (spells_none _ request u has _ _ _ is place wrong))
-        (c.reply_with-in-Err-BadRecord.ensures.ok, c.reply_with-in-Err-BadRecord.ensures.err)
+        (
+          rw c.in-Err-BadRecord.field-0-is at c.reply_with-in-Err-BadRecord.ensures.ok,
+          c.reply_with-in-Err-BadRecord.ensures.err,
+        )
 
 pub returns-in-Err-Memory : goal.returns-in-Err-Memory
 returns-in-Err-Memory g c =
