@@ -1,8 +1,11 @@
 //! The plain program that `docs/PERFORMANCE.md` compares the layers with: it answers scripts of
 //! enrolments and creations of files of no bytes as `overstore run` does, with the same keys, covers,
-//! tokens and tags, and makes each plan once. Nothing of it is proved, and bad input ends it.
+//! tokens and tags, and makes each plan once. It goes through its list of sets to find one and to plan
+//! one, or with `sorted` keeps two orders of the list, by bytes and by size. Nothing of it is proved,
+//! and bad input ends it.
 //!
-//! Run: rustc -O tools/plain_sets.rs -o out/plain_sets && out/plain_sets full|delta < SCRIPT
+//! Run: rustc -O tools/plain_sets.rs -o out/plain_sets && out/plain_sets full|delta [sorted] < SCRIPT
+use std::cmp::Ordering;
 use std::collections::HashMap;
 use std::fs::{self, File};
 use std::io::{self, BufRead, BufReader, Read, Write};
@@ -96,17 +99,64 @@ fn with(mut set: Set, user: usize) -> Set {
     set
 }
 
-// A layer: the sets of its nodes, and for each node the starts of its edges and their tokens.
+// The order of the bytes of two sets.
+fn compare(set: &Set, other: &Set) -> Ordering {
+    set.map(u64::swap_bytes).cmp(&other.map(u64::swap_bytes))
+}
+
+// A layer: the sets of its nodes, for each node the starts of its edges and their tokens, and where
+// they are kept the orders of the nodes by the bytes of their sets and by their sizes, larger first.
 struct Layer {
     tag: u8,
     master: Key,
     sets: Vec<Set>,
     edges: Vec<Vec<(u32, Key)>>,
+    is_sorted: bool,
+    by_set: Vec<u32>,
+    by_size: Vec<u32>,
 }
 
 impl Layer {
-    fn new(tag: u8, master: Key) -> Layer {
-        Layer { tag, master, sets: Vec::new(), edges: Vec::new() }
+    fn new(tag: u8, master: Key, is_sorted: bool) -> Layer {
+        let (sets, edges, by_set, by_size) = (Vec::new(), Vec::new(), Vec::new(), Vec::new());
+        Layer { tag, master, sets, edges, is_sorted, by_set, by_size }
+    }
+
+    fn set(&self, node: &u32) -> &Set {
+        &self.sets[*node as usize]
+    }
+
+    // The place in the order of sizes behind all sets that are as large.
+    fn place(&self, set: &Set) -> usize {
+        let users = count(set);
+        self.by_size.partition_point(|node| count(self.set(node)) >= users)
+    }
+
+    // The node that has the set, or its place in the order of bytes.
+    fn find(&self, set: &Set) -> Result<usize, usize> {
+        if !self.is_sorted {
+            return self.sets.iter().position(|earlier| earlier == set).ok_or(0);
+        }
+        let place = self.by_set.binary_search_by(|node| compare(self.set(node), set))?;
+        Ok(self.by_set[place] as usize)
+    }
+
+    // The cover of a set by the order of sizes.
+    fn sorted_cover(&self, set: &Set) -> Vec<u32> {
+        let (mut from, mut covered) = (Vec::new(), [0; 4]);
+        for node in &self.by_size[self.place(set)..] {
+            let earlier = self.set(node);
+            if within(earlier, set) && !within(earlier, &covered) {
+                from.push(*node);
+                for (word, more) in covered.iter_mut().zip(earlier) {
+                    *word |= more;
+                }
+                if covered == *set {
+                    break;
+                }
+            }
+        }
+        from
     }
 
     fn key(&self, node: usize) -> Key {
@@ -114,6 +164,9 @@ impl Layer {
     }
 
     fn cover(&self, set: &Set) -> Vec<u32> {
+        if self.is_sorted {
+            return self.sorted_cover(set);
+        }
         let mut from = Vec::new();
         if count(set) < 2 {
             return from;
@@ -140,9 +193,10 @@ impl Layer {
 
     // The node that has the set, which is added where it isn't there, and the node's key.
     fn node(&mut self, set: &Set) -> (usize, Key) {
-        if let Some(node) = self.sets.iter().position(|earlier| earlier == set) {
-            return (node, self.key(node));
-        }
+        let place = match self.find(set) {
+            Ok(node) => return (node, self.key(node)),
+            Err(place) => place,
+        };
         let node = self.sets.len();
         let key = self.key(node);
         let mut edges = Vec::new();
@@ -150,6 +204,10 @@ impl Layer {
             let mut token = mac(&self.key(from as usize), &tagged(self.tag, node));
             token.iter_mut().zip(key).for_each(|(byte, other)| *byte ^= other);
             edges.push((from, token));
+        }
+        if self.is_sorted {
+            self.by_set.insert(place, node as u32);
+            self.by_size.insert(self.place(set), node as u32);
         }
         self.sets.push(*set);
         self.edges.push(edges);
@@ -231,13 +289,15 @@ fn read_masters() -> io::Result<[Key; 2]> {
 
 fn main() -> io::Result<()> {
     let [base, surface] = read_masters()?;
+    let words: Vec<String> = std::env::args().collect();
+    let is_sorted = words.iter().any(|word| word == "sorted");
     let mut store = Store {
-        is_full: std::env::args().nth(1).as_deref() == Some("full"),
+        is_full: words.get(1).is_some_and(|word| word == "full"),
         epoch: 0,
         users: HashMap::new(),
         files: HashMap::new(),
-        base: Layer::new(b'B', base),
-        surface: Layer::new(b'S', surface),
+        base: Layer::new(b'B', base, is_sorted),
+        surface: Layer::new(b'S', surface, is_sorted),
     };
     let mut input = BufReader::with_capacity(32_768, io::stdin().lock());
     // Standard output without the buffer that `io::stdout` puts before it.

@@ -7,7 +7,7 @@ with what stands on the page or beside the script.
 
 A block of a page is run where a comment stands above it:
 
-    <!-- run -->             in a new folder that has tools/ and examples/
+    <!-- run -->             in a new folder that has tools/, examples/ and dist/
     <!-- run: program -->    so, with the example key file, and PROGRAM as `overstore`
     <!-- run: .., on -->     in the folder of the block before it
     <!-- run: kit -->        in this repository
@@ -72,7 +72,7 @@ def runs_of(page):
 
 def new_folder():
     folder = pathlib.Path(tempfile.mkdtemp(dir=BASE))
-    for name in ("tools", "examples"):
+    for name in ("tools", "examples", "dist"):
         (folder / name).symlink_to(ROOT / name)
     return folder
 

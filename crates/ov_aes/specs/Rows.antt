@@ -1,4 +1,4 @@
--- Four blocks by their rows: lane 4 b + c of row r is the byte in row r and column c of block b.
+-- Four blocks by their rows: lane 4 b + c of row r is block b's byte in row r, column c.
 use Rattle.std.specs.Prelude.{ℕ, ◌+◌, ◌*◌, List, [], ◌∷◌, bit_xor, slice_index, slice_index_or}
 use Rattle.ov_aes.specs.State.{state_of, word_in}
 use Rattle.ov_aes.specs.Tower.{from_tower}

@@ -1,8 +1,8 @@
 //! Want of memory.
 use std::alloc::{AllocError, AllocFailed};
 
-/// Memory was refused. It may come from any call that allocates, and the value that was being
-/// changed is then as it was, unless the call says otherwise.
+/// Memory was refused. Any call that allocates may answer it, and the value that was being changed
+/// is then as it was, unless the call says otherwise.
 #[derive(Clone, Copy, Debug, PartialEq, Eq)]
 pub struct Memory;
 

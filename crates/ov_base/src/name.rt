@@ -14,8 +14,8 @@ use crate::limits::MAX_NAME_BYTES;
 use std::hash::{Hash, Hasher};
 use std::marker::Model;
 
-/// A name: 1 to 64 bytes of `a-z`, `0-9`, `.`, `_` and `-`, of which the first is a letter or a
-/// digit.
+/// A name: at least one byte and at most 64, each in `a-z` or `0-9`, or one of `.`, `_` and `-`;
+/// the first is a letter or a digit.
 ///
 /// It is kept in place, so making, copying and reading one takes no memory.
 #[derive(Drop)]

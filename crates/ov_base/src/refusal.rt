@@ -2,8 +2,8 @@
 ghost use Rattle.std.specs.Prelude.{◌≡◌, ◌≤◌, ◌↔◌, IsSome, IfSome};
 ghost use Rattle.ov_base.specs.Refusals.{refusal_number, refusal_word};
 
-/// Why the access-matrix machine refuses a command. Where several apply, the one with the lowest
-/// number is answered, and nothing changes.
+/// Why the access-matrix machine refuses a command. Of several that apply it answers that with
+/// the lowest number, and nothing changes.
 #[derive(Clone, Copy, Debug, PartialEq, Eq)]
 pub enum Refusal {
     /// The user that was to be enrolled, or the file that was to be created, is there.

@@ -103,7 +103,7 @@ impl<G: Graph<Base, W>, const W: usize> BaseLayer<G, W> {
         self.graph.add(set, cover, tokens);
     }
 
-    /// The holders of a node: the users of its set and every user to whom an access token to it was
+    /// The holders of a node: its set's users, and all to whom an access token to the node was
     /// published. It takes no memory, and looks once at each access token.
     pub fn holders(&self, node: u32) -> UserSet<W>
         requires { HasNode self.now.graph node }
@@ -128,8 +128,8 @@ impl<G: Graph<Base, W>, const W: usize> BaseLayer<G, W> {
         self.graph.plan(alloc, &[], list)
     }
 
-    /// Whether a grant wants an access token: true exactly where the user isn't a holder of the
-    /// node. It takes no memory.
+    /// Whether a grant wants an access token: true where the user doesn't hold the node, and only
+    /// there. It takes no memory.
     pub fn plan_grant(&self, user: u32, node: u32) -> bool
         requires { HasNode self.now.graph node }
         ensures { result ≡ not (has (holders_of self.now node) user) }

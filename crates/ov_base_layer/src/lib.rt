@@ -5,8 +5,8 @@
 //! set is the list. Each user of the set reaches the node over the edges. A user who is granted the
 //! file later, and doesn't hold the node, gets an access token: it leads from the derivation key of
 //! the user's own root to the access key of the node, and so to nothing else. The *holders* of a
-//! node are the users of its set and every user to whom an access token to it was published; who
-//! became a holder stays one.
+//! node are its set's users and all to whom an access token to the node was published; who became a
+//! holder stays one.
 //!
 //! A [`BaseLayer`] keeps both over any [`ov_graph::Graph`]. A set is added as to a graph: planned
 //! by [`BaseLayer::plan_create`], sealed by [`seal_cover`], with room from [`BaseLayer::reserve`].

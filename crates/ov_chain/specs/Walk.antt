@@ -1,10 +1,12 @@
 -- Where a chain of tokens leads.
 use Rattle.std.specs.Prelude.{ℕ, ◌≡◌, List, [], ◌∷◌, Contains}
+use Rattle.ov_tokens.specs.declared.chain.Chain.{Chain}
 use Rattle.ov_tokens.specs.declared.label.Kind.{Kind}
+use Rattle.ov_tokens.specs.declared.label.Kind.TheVariants.{Derive, Access, Surface}
 use Rattle.ov_tokens.specs.declared.label.Label.{Label}
 use Rattle.ov_tokens.specs.declared.edge.Edge.{Edge}
 use Rattle.ov_tokens.specs.declared.chain.Step.{Step}
-use Rattle.ov_tokens.specs.Keys.{derived_key, key_of_label, node_key, token_of}
+use Rattle.ov_tokens.specs.Keys.{access_key_of, derived_key, key_of_label, node_key, token_of}
 use Rattle.ov_tokens.specs.Labels.{label_of}
 use Rattle.ov_graph.specs.Contents.{Contents, edges_to}
 
@@ -17,6 +19,17 @@ walked key (step ∷ steps) = walked (derived_key key step.to step.token.bytes) 
 abbrev pub last_label : Label → List Step → Label
 last_label from [] = from
 last_label from (step ∷ steps) = last_label step.to steps
+
+-- the access key of a node, from the key of a label of this kind
+abbrev pub access_from : Kind → List ℕ → List ℕ
+access_from Derive key = access_key_of key
+access_from Access key = key
+access_from Surface key = key
+
+-- the access key to which a base chain leads, from the derivation key of its root
+abbrev pub access_along : List ℕ → Chain → List ℕ
+access_along key chain =
+    access_from (last_label (label_of Derive chain.root) chain.steps).kind (walked key chain.steps)
 
 -- under the two masters each token is the one from the key of the label before it to the key of its
 -- own label

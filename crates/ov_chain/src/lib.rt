@@ -11,7 +11,7 @@
 //!
 //! [`walk`] derives the keys along a chain. Over a chain whose tokens are those of its labels' keys
 //! it gives the key of the last label, and over the chain that `shortest` finds in a graph of such
-//! tokens the key of the node.
+//! tokens the key of the node. [`walk_to_access`] goes on to the access key of a base chain's node.
 //!
 //! `ov_graph`'s `specs/Chain` says which chain is chosen, `specs/Path` what a path over edges is and
 //! `specs/Walk` where a chain leads. `specs/Marks` and `specs/Distances` are of the search alone.
@@ -27,6 +27,6 @@ mod search;
 #[cfg(test)]
 mod tests;
 
-pub use keys::walk;
+pub use keys::{walk, walk_to_access};
 pub use laws::{chains_are_unique, graphs_are_sealed};
 pub use search::shortest;

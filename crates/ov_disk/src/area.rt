@@ -9,6 +9,6 @@ pub enum Area {
     Blobs,
 }
 
-/// A call of a disk failed. It may have had any part of its effect.
+/// A call of a disk failed. Any part of what it does may have been done.
 #[derive(Clone, Copy, Debug, PartialEq, Eq)]
 pub struct DiskFault;

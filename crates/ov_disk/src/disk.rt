@@ -10,12 +10,12 @@ use crate::{Area, DiskFault};
 /// Two areas of bytes that a crash may tear.
 ///
 /// Between two syncs a crash may leave any bytes in each range that was written and past the old
-/// end, and any length from the least to the greatest since the last sync. Bytes outside stay.
-/// After a sync that succeeds it leaves what a read gives. After a write or a sync that failed, a
-/// disk reads one of the images that a crash may leave, and nothing says which; one that told
-/// nothing before still tells nothing.
+/// end, and any length, from the least since the last sync to the greatest. All other bytes stay.
+/// After a successful sync it leaves what a read gives. After a write or a sync that failed, a disk
+/// reads one of the images that a crash may leave, and nothing says which; one that told nothing
+/// before still tells nothing.
 pub trait Disk {
-    /// What a read gives in each area, where this disk tells it.
+    /// What reads give of each area, where this disk tells it.
     ghost reads: { Self → Option Image };
 
     /// What a crash at this moment may leave.
@@ -81,7 +81,7 @@ pub trait Disk {
     ghost only_now: { (disk : Self) (c : Image) → left_since disk (moment disk) c
         → may_leave disk c };
 
-    /// A disk as it reads is one of its images.
+    /// What a disk reads is an image that a crash may leave.
     ghost reads_one: { (disk : Self) (i : Image) → reads disk ≡ Some i → may_leave disk i };
 }
 

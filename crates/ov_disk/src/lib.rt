@@ -1,14 +1,14 @@
 //! Two areas of bytes that a crash may tear: what a disk is, one in memory, and one over files.
 //!
 //! A [`Disk`] tells, where it can, what a read gives in each [`Area`] (`reads`), what a crash now
-//! may leave (`may_leave`), and by one clock over both areas what a crash at some moment since an
+//! may leave (`may_leave`), and, on a clock of both areas, what a crash at some moment since an
 //! earlier one might have left (`moment`, `left_since`). So a contract can speak of each moment
 //! inside a call: `LeavesOnly` of `specs/Moments` says that a crash at any moment from one disk to
 //! a later one leaves an image that has some property. `specs/Disk` says what a write, a torn write
 //! and a sync do to an image, and [`torn_writes_are_the_model`] that these clauses are the model in
 //! words: between two syncs any bytes in the ranges that were written and past the old end, and any
-//! length from the least to the greatest. Each call answers [`DiskFault`] only where the count of
-//! faults rose.
+//! length from the least to the greatest. No call answers [`DiskFault`] unless the count of faults
+//! rose.
 //!
 //! * [`MemDisk`] keeps its calls and replays them. It fails at the calls that it is told to, and
 //!   gives the image that a stop after any of its calls may leave, torn by a [`Tear`].

@@ -25,7 +25,7 @@ starts-Contains sets n c h =
 pub IsEdge-upward : (sets : List ℕ) (from to : ℕ) → IsEdge sets from to → from < to
 IsEdge-upward sets from to edge = (starts-Contains sets to from edge.1).0
 
--- each user of a set of two or more comes over an edge
+-- where a set has two users or more, each comes over an edge
 pub starts-has : (sets : List ℕ) (n u : ℕ) → IsGrown sets → n < length sets → Has (slice_index sets n) u
     → slice_index sets n ≢ single u → (c : ℕ) × IsEdge sets c n × Has (slice_index sets c) u
 starts-has sets n u grown inside one several =

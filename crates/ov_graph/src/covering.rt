@@ -81,7 +81,7 @@ pub fn sort(candidates: &mut Vec<Candidate>) -> Result<(), AllocError>
     Ok(())
 }
 
-/// The nodes of those candidates whose sets, each at its turn, have a user whom no kept one has.
+/// The nodes of those candidates whose sets, each at its turn, have a user who is in no kept set.
 pub fn keep<const W: usize>(
     alloc: Global,
     sets: &[UserSet<W>],

@@ -8,11 +8,11 @@
 //! trait [`Graph`] alone, so it holds of every graph, in either layer and at every width.
 //!
 //! A set that is added gets edges from its cover. The earlier nodes whose sets are nonempty strict
-//! subsets of it are gone through, larger sets first and then lower numbers first; a node is kept
-//! where its set has a user whom no kept one has. To add a set, [`Graph::plan`] gives its
-//! [`Cover`], [`seal_edges`] makes a token for each edge, [`Graph::reserve`] makes room, and
-//! [`Graph::add`], which takes no memory, can't fail. [`plan_and_add`] does all of it. [`root`] is
-//! the node of a user alone.
+//! subsets of it are gone through from the largest set to the smallest, and by rising number where
+//! two are equally large; a node is kept where its set has a user who is in no kept set. To add a
+//! set, [`Graph::plan`] gives its [`Cover`], [`seal_edges`] makes a token for each edge,
+//! [`Graph::reserve`] makes room, and [`Graph::add`], which takes no memory, can't fail.
+//! [`plan_and_add`] does all of it. [`root`] is the node of a user alone.
 //!
 //! [`ListGraph`] looks at every node to find a set. Another graph may keep its edges by [`rows`],
 //! and take from [`covering`] which of its candidates make a cover.

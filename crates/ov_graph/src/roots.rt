@@ -33,7 +33,7 @@ pub fn root<L: Layer, G: Graph<L, W>, const W: usize>(graph: &G, user: u32) -> u
     }
 }
 
-/// Whether a set may be added: each user of a set of two or more has a node alone. It takes no
+/// Whether a set may be added: where it has two users or more, each has a node alone. It takes no
 /// memory.
 pub fn has_roots<L: Layer, G: Graph<L, W>, const W: usize>(graph: &G, set: &UserSet<W>) -> bool
     ensures yes { result ≡ true → IsRooted (G.contents graph.now).sets set.now }

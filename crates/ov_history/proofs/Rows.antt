@@ -73,7 +73,7 @@ emptied_layers = refl
 abbrev for_nobody : List Update
 for_nobody = Enrolled (97 ∷ []) ∷ Created (102 ∷ []) 0 0 ∷ []
 
--- in Full the empty set is node 1 of both layers
+-- in Full both layers have the empty set as node 1
 nobody_in_full : layers_of (record { mode = Full; first = 0; updates = for_nobody }) ≡ record {
   mode = Full;
   epoch = 2;

@@ -54,7 +54,7 @@ changed_all m (u ∷ updates) = changed_all (changed m u) updates
 abbrev pub no_one : Matrix
 no_one = record { users = []; files = [] }
 
--- the matrix that the updates make in order from nothing
+-- the matrix that the updates, in their order, make out of nothing
 abbrev pub matrix_of : History → Matrix
 matrix_of h = changed_all no_one h.updates
 

@@ -86,7 +86,7 @@ RefusalsAreShown =
     (master : List ℕ) (c : Catalogue) (g : SealedHistory) (b : Brief)
     → StandsFor master c g → refusal_shown c b ≡ refusal_of (outer_of g) (outer b)
 
--- where several refusals apply to an update, the one with the lowest number is answered
+-- of several refusals that apply to an update, that with the lowest number is the answer
 abbrev pub LowestIsAnswered : Type 0
 LowestIsAnswered =
     (h : History) (u : Update) (why other : Refusal)

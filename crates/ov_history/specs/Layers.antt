@@ -30,8 +30,8 @@ with_set sets set = appended (plan_of sets set).fresh sets set
 
 -- ---- layers
 
--- where a file stands: its base node, its surface node where it has one, and the epoch at which it
--- was created or its surface last changed
+-- where a file stands: its base node, its surface node where it has one, and the epoch of the last
+-- change of its surface, or else of its creation
 pub record Place : Type 0 where
   pub node : ℕ
   pub surface : Option ℕ

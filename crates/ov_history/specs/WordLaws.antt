@@ -12,8 +12,7 @@ use Rattle.ov_history.specs.Plain.{PlainHistory, PlainUpdate, history_of}
 use Rattle.ov_history.specs.Words.{AreDistinct, HasFile, IsPadded, WasGranted, longer, longer_plain}
 use Rattle.ov_history.specs.Words.{place_in, wanted_of}
 
--- the holders of a base node are the users of its set, and those who were granted a file of this
--- node
+-- a base node is held by its set's users, and by those who were granted a file of this node
 abbrev pub HoldersAreGranted : Type 0
 HoldersAreGranted =
     (h : History) (node user : ℕ)

@@ -52,7 +52,7 @@ AllHaveForm (u ∷ updates) = HasForm 32 u × AllHaveForm updates
 
 -- ---- what an image stands for
 
--- The image keeps the history: its Book has the history's header and, up to the first gate that
+-- The image keeps the history: its Book has the history's header and, before the first gate that
 -- isn't open, its updates.
 pub record Keeps (k : Keys) (g : SealedHistory) (i : Image) : Type 0 where
   pub sealed : IsSealed g
@@ -69,8 +69,8 @@ IsImageOf k g i = (IsUnborn i.book × (g ≡ blank g.mode 0)) ⊎ Keeps k g i
 abbrev pub StandsIn : Keys → Mode → Image → Type 0
 StandsIn k mode i = (g : SealedHistory) × (g.mode ≡ mode) × IsImageOf k g i
 
--- the image opens for two masters and a mode: it stands for a legal history of that mode as it is
--- sealed under the masters
+-- the image opens for these masters and this mode: it stands for a legal history of that mode as it
+-- is sealed under the masters
 abbrev pub Opens : Masters → Mode → Image → Type 0
 Opens k mode i =
     (p : PlainHistory) × IsLegal (history_of p) × (p.mode ≡ mode)

@@ -2,7 +2,7 @@
 //!
 //! This crate has definitions and laws, and no code. An *image* is what a crash may leave of a
 //! disk: the bytes of both its areas. It *keeps* a sealed history where its Book has the history's
-//! header (mode, first epoch, and the check values of both masters) and, up to the first gate that
+//! header (mode, first epoch, and the check values of both masters) and, before the first gate that
 //! isn't open, the spellings of the history's updates, in order. An image where no store was begun
 //! stands for the history without updates. The definitions read a whole image and know nothing of
 //! how it was written, so they say what a store on disk is with no store in sight.

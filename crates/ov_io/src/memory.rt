@@ -130,7 +130,7 @@ impl Model for MemSink {
 
 impl MemSink {
     /// A sink that was given nothing yet. It fails the calls whose numbers, from 0 and below 256,
-    /// are in `fails`, and besides where memory refuses a growth, which counts as a fault.
+    /// are in `fails`. Where memory for a growth is refused it fails too, which counts as a fault.
     pub fn new(alloc: Global, fails: Octets) -> MemSink
         ensures { result ≡ record { written = []; fails = fails; calls = 0; faults = 0 } }
     {

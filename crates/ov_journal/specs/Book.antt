@@ -1,6 +1,6 @@
 -- What a Book says, read from the whole of it: a header of 78 bytes, and then records. A record is
--- a gate of one byte, the length of its body in four bytes, and the body. The list of records ends
--- at the first gate that isn't open; whatever follows it doesn't count.
+-- a gate of one byte, the length of its body in four bytes, and the body. The first gate that isn't
+-- open ends the records, and what stands behind it doesn't count.
 use Rattle.std.specs.Prelude.{◌≡◌, ◌<◌, ◌^◌, ℕ, zero, suc, ◌+◌, List, [], ◌∷◌, ◌++◌, length, take, drop}
 use Rattle.std.specs.Prelude.{Bool, true, false, ◌==◌, ◌&&◌, leb, codes}
 use Rattle.ov_base.specs.declared.limits.TheConstants.{MAX_RECORD_BYTES}
@@ -48,8 +48,8 @@ is_length rest =
 abbrev pub body_in : List ℕ → List ℕ
 body_in rest = take (length_in rest) (drop 4 rest)
 
--- The bodies of the records up to the first gate that isn't open. `bad` says that an open gate with
--- a length that can't be, or no gate at all, ended them in its place.
+-- The bodies of the records before the first gate that isn't open. `bad` says that an open gate
+-- with a length that can't be, or no gate at all, ended them in its place.
 pub record Records : Type 0 where
   pub bodies : List (List ℕ)
   pub bad : Bool

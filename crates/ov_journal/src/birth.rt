@@ -15,8 +15,8 @@ use crate::{CheckFault, Header, Journal};
 use ov_disk::{Area, Disk, DiskFault};
 use std::alloc::Global;
 
-// Puts a gate that isn't open into a Book that has none. In a longer one the first byte stays: a
-// torn write of it could open an old header.
+// Puts a gate that isn't open into a Book that has none. In a longer one the first byte stays,
+// since a torn write there might open an old header.
 fn clear<D: Disk>(disk: &mut D) -> Result<(), DiskFault>
     requires unborn { Told (D.reads disk.old) (λ i.
         IsUnborn i.book × OnlyBook i.book (D.may_leave disk.old)) }

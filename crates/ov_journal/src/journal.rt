@@ -140,8 +140,8 @@ impl Journal {
         (start, next.saturating_sub(start) as usize)
     }
 
-    /// Makes room for one more record, and a buffer for a body of `length` bytes. The buffer never
-    /// shrinks, and it stays after an append.
+    /// Makes room for one more record, and a buffer for a body of `length` bytes. The buffer gets
+    /// no smaller, and an append keeps it.
     pub fn reserve(&mut self, length: u32) -> Result<(), Memory>
         ensures room { OnOk result (self.new.room ≡ self.old.room + 1) }
         ensures longest { OnOk result (length ≤ self.new.longest) }

@@ -11,8 +11,8 @@ use crate::{CheckFault, Journal};
 use ov_disk::{Area, Disk};
 
 impl Journal {
-    /// Appends the body of record `i` to `out`. Book may have more records than the journal, as
-    /// after an append that ended in a fault.
+    /// Puts the body of record `i` behind what is in `out`. Book may have more records than the
+    /// journal, as after an append that ended in a fault.
     pub fn body<D: Disk>(&self, disk: &mut D, i: u64, out: &mut Vec<u8>) -> Result<(), CheckFault>
         requires within { i < length self.now.offsets }
         requires records { Told (D.reads disk.old) (λ d.

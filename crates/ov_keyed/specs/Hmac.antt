@@ -1,4 +1,4 @@
--- HMAC (RFC 2104) over SHA-256 (FIPS 180-4), for keys of at most one block of 64 bytes.
+-- HMAC of RFC 2104 with SHA-256 of FIPS 180-4, for keys of at most one block of 64 bytes.
 use Rattle.std.specs.Prelude.{ℕ, List, length, ◌++◌, ◌-◌, map, replicate, bit_xor}
 use Rattle.sha2.specs.Sha256.{sha256}
 

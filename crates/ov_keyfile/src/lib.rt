@@ -1,8 +1,9 @@
 //! The key file, which holds the two masters of a store.
 //!
-//! A key file is two lines of 64 hexadecimal digits in either case: the base master and the surface
-//! master. The last LF may be missing, and the two masters differ. [`read_masters`] reads one from
-//! any source, and takes at most one byte more than the longest has.
+//! A key file has the base master on its first line and the surface master on its second, each as
+//! 64 hexadecimal digits, small or capital. The second line may lack its LF, and the two masters
+//! differ. [`read_masters`] reads one from any source, and takes at most one byte more than the
+//! longest has.
 //!
 //! `specs/KeyFile` says which bytes are a key file of which masters; that they have one pair of
 //! masters at most is the law [`one_pair_of_masters`].

@@ -14,7 +14,7 @@ pub fn frames_take_updates()
 {}
 
 /// The law of streams: bytes are cut into frames in one way only. So a decoder, whose frames and rest
-/// are such a cut, gives the same frames for every cut of a stream into pieces.
+/// are such a cut, gives the same frames in whatever pieces a stream comes.
 pub fn streams_are_cut_one_way()
     ensures { StreamsAreCutOneWay }
 {}

@@ -18,8 +18,8 @@ pub record Ask : Type 0 where
   pub request : List ℕ
   pub reply : List ℕ
 
--- what a peer tells of an ask that was answered: the peer before it, the request, the reply, and
--- the peer after it
+-- what a peer tells of an ask that was answered: the peer before it, request and reply, and the
+-- peer after it
 abbrev pub Asked : Type 0 → Type 1
 Asked P = P → List ℕ → List ℕ → P → Type 0
 

@@ -18,7 +18,7 @@ pub trait Answerer {
     /// The epoch at which a value stands.
     ghost epoch_of: { Self → ℕ };
 
-    /// Answers a frame, in place of what was in `reply`. Both are without their length fields.
+    /// Answers a frame; the answer replaces what `reply` had. Both are without their length fields.
     fn answer(&mut self, request: &[u8], reply: &mut Vec<u8>) -> Result<(), Memory>
         requires { IsFrame request.now }
         ensures frame { OnOk result (IsFrame reply.new.items) }

@@ -19,7 +19,7 @@ pub enum ExchangeFault {
     /// The link failed. Whether the request came isn't known.
     #[error("the link failed")]
     Link,
-    /// The reply isn't in the grammar of answers to its request; `at` is the place of its first wrong
+    /// The grammar has no such answer to the request; `at` is the place of the reply's first wrong
     /// byte.
     #[error("the reply is no answer (byte {at})")]
     BadReply { at: u32 },

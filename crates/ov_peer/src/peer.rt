@@ -9,7 +9,7 @@ use crate::PeerFault;
 
 /// Whom frames are sent to: each request is a frame, and gets a frame.
 pub trait Peer {
-    /// An ask that was answered: the peer before it, the request, the reply, and the peer after it.
+    /// An ask that was answered: the peer before it, request and reply, and the peer after it.
     ghost asked: { Self → List ℕ → List ℕ → Self → Type 0 };
 
     /// An ask that failed: the peer before it, the request, and the peer after it.

@@ -11,7 +11,7 @@ use crate::{Peer, PeerFault};
 use ov_io::{Fault, Sink};
 
 /// A peer, each frame of which is put to a sink, behind its length field: the request before it is
-/// asked, and the reply after it came. Where the request can't be put, nothing is asked.
+/// asked, and the reply after it came. A request that can't be put isn't asked.
 #[derive(Drop)]
 pub struct Traced<P, T> {
     pub peer: P,

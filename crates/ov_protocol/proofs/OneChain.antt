@@ -1,4 +1,4 @@
--- The chains of a user to a file are the only ones.
+-- A user's chains to a file are the only ones.
 use Rattle.std.proofs.Common.{◌≡◌, ◌∙◌, ◌<◌, ℕ, zero, suc, Bool, true, false, List, [], ◌∷◌, length, take}
 use Rattle.std.proofs.Common.{refl, sym, ap, subst, inl, inr, arith}
 use Rattle.std.specs.Prelude.{Contains, Option, Some, None, get_or, slice_get, slice_index}

@@ -7,6 +7,7 @@ mod Continuations
 pub mod CreateLaws
 mod Decided
 mod Deciding
+mod Draws
 mod FirstLines
 mod Fitting
 mod Fronts
@@ -30,3 +31,5 @@ mod Using
 mod WholeItems
 mod WordBytes
 mod WordFits
+pub mod WorkloadItems
+mod WorkloadNames

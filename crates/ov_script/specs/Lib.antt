@@ -11,4 +11,6 @@ pub mod Place
 pub mod Reading
 pub mod Saying
 pub mod Taking
+pub mod WordPlace
+pub mod Workload
 pub mod WrittenLists

@@ -12,7 +12,10 @@
 //! * `Saying` says what one call of `next` tells of the text, and `Taking` what it may take from
 //!   the source: bytes are taken only while it isn't settled what stands next, a source that gave
 //!   none isn't asked again, and none are lost at a fault;
-//! * `Lines` gives the reply lines, which [`line`] appends.
+//! * `Lines` gives the reply lines, which [`line`] appends;
+//! * `Workload` says which commands the stated workload of a number is: [`Workload`] gives them one
+//!   after another, and [`workload`] one of them. They are items' commands, by
+//!   [`a_workload_says_items`].
 //!
 //! A command that `next` gives is that of some item, also where the source tells nothing
 //! (`IsOfItem` in `Saying`); the laws in `proofs/CreateLaws` give from it that the names of a
@@ -25,12 +28,18 @@
 //! answer `Ended` where no item is read, which `Script` keeps.
 #![tactic(auto)]
 
-ghost use Rattle.std.specs.Prelude.{◌≡◌, ℕ, List};
+ghost use Rattle.std.specs.Prelude.{◌≡◌, ◌+◌, ◌<◌, ℕ, List};
 ghost use Rattle.ov_script.specs.declared.command.Command.{Command};
+ghost use Rattle.ov_script.specs.declared.drawn.TheConstants.{MAX_WORKLOAD, WORKLOAD_USERS};
+ghost use Rattle.ov_script.specs.Items.{IsItem};
 ghost use Rattle.ov_script.specs.Reading.{Reads, Ending};
+ghost use Rattle.ov_script.specs.Workload.{command_at};
 
 mod body;
 mod command;
+mod drawing;
+mod drawn;
+mod drawn_command;
 mod ended;
 mod feed;
 mod find;
@@ -42,15 +51,22 @@ mod list;
 mod next;
 mod reply;
 mod script;
+mod single;
+mod stated;
 #[cfg(test)]
 mod tests;
 mod words;
+#[cfg(test)]
+mod workload_tests;
 
 pub use command::Command;
+pub use drawn::{MAX_WORKLOAD, WORKLOAD_USERS};
 pub use feed::Buffer;
 pub use next::{Next, ScriptFault};
 pub use reply::{Reply, line};
 pub use script::Script;
+pub use single::workload;
+pub use stated::Workload;
 
 /// A text has one reading: its commands and its ending are determined.
 pub fn one_reading()
@@ -63,4 +79,10 @@ pub fn one_reading()
 pub fn every_text_has_a_reading()
     ensures { (line room : ℕ) (text : List ℕ)
         → (commands : List Command) × (ending : Ending) × Reads line room text commands ending }
+{}
+
+/// Each command of a workload is what some item of a script says.
+pub fn a_workload_says_items()
+    ensures { (number place : ℕ) → place < WORKLOAD_USERS + MAX_WORKLOAD
+        → (item : List ℕ) × IsItem item (command_at number place) }
 {}

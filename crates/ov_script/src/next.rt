@@ -15,7 +15,7 @@ pub enum Next {
     End,
     /// A bad item.
     BadLine {
-        /// The line on which its first byte stands: 1 plus the number of LF before it.
+        /// The line of its first byte: one more than there are LFs before that byte.
         line: u64,
     },
     /// The script is too long: of its first 268,435,456 bytes no item is bad, and the input goes

@@ -1,4 +1,5 @@
 pub mod AskForms
+pub mod PlanForms
 pub mod ChainForms
 pub mod PageForms
 pub mod NamesIn

@@ -15,7 +15,7 @@ use Rattle.ov_graph.specs.Contents.{Contents}
 use Rattle.ov_graph.specs.Chain.{IsChain, IsChosen}
 use Rattle.ov_graph.proofs.ListLaws.{Contains-cases}
 use Rattle.ov_chain.specs.Path.{IsPath}
-use Rattle.ov_chain.specs.Walk.{walked, last_label, IsSealed}
+use Rattle.ov_chain.specs.Walk.{access_along, access_from, walked, last_label, IsSealed}
 use Rattle.ov_chain.proofs.PathLaws.{chosen_path}
 use Rattle.ov_chain.proofs.WalkLaws.{walked-path}
 use Rattle.ov_base_layer.specs.declared.grant.Grant.{Grant}
@@ -30,7 +30,7 @@ use Rattle.ov_history.specs.Layers.{root_of}
 use Rattle.ov_history.specs.Catalogue.{Nodes, Catalogue}
 use Rattle.ov_state.specs.Contents.{nodes_of}
 use Rattle.ov_history.specs.Chains.{graph_of, IsAccessChain, IsBaseChain, IsBaseChainIf, IsEdgeChain, IsSurfaceChain}
-use Rattle.ov_state.specs.Chains.{access_along, access_from, LeadsToAccess, LeadsToSurface}
+use Rattle.ov_state.specs.Chains.{LeadsToAccess, LeadsToSurface}
 
 -- ---- chains over edges
 
@@ -88,15 +88,6 @@ given_outside layer node user held outside =
 
 -- ---- the last label
 
--- that of the last step
-pub last_is : (from : Label) (steps : List Step) (n : ℕ) (d : Step) → n + 1 ≡ length steps
-    → (get_or steps n d).to ≡ last_label from steps
-last_is from [] n d e = absurd (omega arith)
-last_is from (step ∷ []) zero d e = refl
-last_is from (step ∷ []) (suc n) d e = absurd (omega arith)
-last_is from (step ∷ next ∷ steps) zero d e = absurd (omega arith)
-last_is from (step ∷ next ∷ steps) (suc n) d e = last_is step.to (next ∷ steps) n d (omega arith)
-
 -- a path leads to the label of its end
 path_label : (kind : Kind) (graph : Contents) (from to : ℕ) (steps : List Step) → IsPath kind graph from to steps
     → last_label (label_of kind from) steps ≡ label_of kind to
@@ -148,12 +139,6 @@ base_chain_leads k s user node chain tokens is = by_set (has (slice_index s.base
       → access_along (node_key Derive k.base chain.root) chain ≡ access_key k.base node
   by_set true edges = access_by_edges k s user node chain tokens edges
   by_set false access = access_by_token k s user node chain tokens access
-
-module _ (root_key : List ℕ) (chain : Chain) where
-  -- by the kind of its last label and the key at its end
-  pub access_is : (kind : Kind) (key : List ℕ) → kind ≡ (last_label (label_of Derive chain.root) chain.steps).kind
-      → key ≡ walked root_key chain.steps → access_from kind key ≡ access_along root_key chain
-  access_is kind key last end = ap (access_from kind) end ∙ ap (λ (k : Kind). access_from k (walked root_key chain.steps)) last
 
 pub access_leads_by : (root_key : List ℕ) (chain : Chain) (key : List ℕ) → key ≡ access_along root_key chain
     → LeadsToAccess root_key chain key

@@ -112,7 +112,7 @@ module _ {W : ℕ} (s : Catalogue) (z : Layers) (r : Relisting W) (change : ℕ 
 
 -- ---- holders after an update
 
--- a grant makes its user a holder of the file's base node, and changes nothing else
+-- a grant lets its user hold the file's base node, and changes nothing else
 holders_granted : (y : Layers) (user file n : ℕ)
     → holders (grown y (Granted user file)) n ≡ with_if (node_of y file == n) (holders y n) user
 holders_granted y user file n = by_test (has (holders y (node_of y file)) user) refl where

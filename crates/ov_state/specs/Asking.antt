@@ -1,7 +1,6 @@
 -- What a state tells an owner who asks before an update.
 use Rattle.std.specs.Prelude.{◌≡◌, ℕ, Bool, List, Option, Some, None, Result, Ok, Err, length}
 use Rattle.ov_base.specs.declared.refusal.Refusal.{Refusal}
-use Rattle.ov_graph.specs.declared.cover.Cover.{Cover}
 use Rattle.ov_graph.specs.Contents.{plan_of}
 use Rattle.ov_history.specs.Asking.{Numbers, refusal_at}
 use Rattle.ov_history.specs.Catalogue.{Catalogue}
@@ -41,12 +40,6 @@ Asks refusal numbers (Err fault) = IsRefusedFor refusal fault
 abbrev pub AsksWhether : Option Refusal → Bool → Result Bool ChainFault → Type 0
 AsksWhether refusal wants (Ok told) = (refusal ≡ None) × (told ≡ wants)
 AsksWhether refusal wants (Err fault) = IsRefusedFor refusal fault
-
--- the cover of a new file's list in the base layer, or why the creation is refused
-abbrev pub Covers : Catalogue → List ℕ → ℕ → ℕ → Result Cover ChainFault → Type 0
-Covers c name list size (Ok cover) =
-    (refusal_at c (Created name list size) ≡ None) × (cover ≡ plan_of c.base.sets list)
-Covers c name list size (Err fault) = IsRefusedFor (refusal_at c (Created name list size)) fault
 
 -- The number that a file to be created will have, the set of its list, and the cover of this set in
 -- the base layer; or why the creation is refused.

@@ -1,11 +1,9 @@
 -- The chains by which a reader derives the keys of a file, and where they lead.
 use Rattle.std.specs.Prelude.{◌≡◌, ℕ, List, Option, Some, None, Result, Ok, Err}
 use Rattle.ov_tokens.specs.declared.chain.Chain.{Chain}
-use Rattle.ov_tokens.specs.declared.label.Kind.{Kind}
-use Rattle.ov_tokens.specs.declared.label.Kind.TheVariants.{Derive, Access, Surface}
-use Rattle.ov_tokens.specs.Keys.{access_key_of, node_key}
-use Rattle.ov_tokens.specs.Labels.{label_of}
-use Rattle.ov_chain.specs.Walk.{walked, last_label}
+use Rattle.ov_tokens.specs.declared.label.Kind.TheVariants.{Derive, Surface}
+use Rattle.ov_tokens.specs.Keys.{node_key}
+use Rattle.ov_chain.specs.Walk.{access_along, walked}
 use Rattle.ov_history.specs.Keys.{AreTrueTokens}
 use Rattle.ov_history.specs.Refusals.{read_refusal}
 use Rattle.ov_history.specs.Masters.{Masters, access_key}
@@ -35,17 +33,6 @@ AnswersChain s user file (Err (Refused why)) = read_refusal (matrix_shown s) use
 AnswersChain s user file (Err Memory) = Unit {0}
 
 -- ---- where they lead
-
--- the access key of a node, from its derivation key or from the access key itself
-abbrev pub access_from : Kind → List ℕ → List ℕ
-access_from Derive key = access_key_of key
-access_from Access key = key
-access_from Surface key = key
-
--- the access key to which a base chain leads, from the derivation key of its root
-abbrev pub access_along : List ℕ → Chain → List ℕ
-access_along key chain =
-    access_from (last_label (label_of Derive chain.root) chain.steps).kind (walked key chain.steps)
 
 -- from the key of its root a surface chain leads to the key of the surface, under the surface
 -- master

@@ -123,8 +123,8 @@ impl<B: Graph<Base, W>, S: Graph<Surface, W>, const W: usize> State<B, S, W> {
         }
     }
 
-    /// What is told of a user who is to be enrolled: the numbers that the user and the two roots
-    /// will have. It is refused exactly where the enrolment is.
+    /// What is told of a user who is to be enrolled: which numbers the user and both roots will
+    /// get. It is refused exactly where the enrolment is.
     pub fn ask_enrol(&self, user: &Name) -> Result<Asked, Refusal>
         ensures { let c = self.now.catalogue in
             Tells (refusal_at c (Enrolled user.now)) (newcomer c) result }

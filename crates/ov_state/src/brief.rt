@@ -24,8 +24,8 @@ pub enum Brief<const W: usize> {
         tag: [u8; 32],
         length: u32,
     },
-    /// A user joins the list of a file, with an access token where the user isn't a holder of the
-    /// file's base node yet.
+    /// A user joins the list of a file, with an access token where the user doesn't hold the file's
+    /// base node yet.
     Grant {
         user: u32,
         file: u32,

@@ -73,7 +73,7 @@ impl<B: Graph<Base, W>, S: Graph<Surface, W>, const W: usize> State<B, S, W> {
         })
     }
 
-    /// The chains of a user to a file. It is refused exactly where a read is: with NoUser or NoFile
+    /// A user's chains to a file. It is refused exactly where a read is: with NoUser or NoFile
     /// where the one or the other isn't there, and with NoPath where the user isn't in the list.
     pub fn chain(&self, alloc: Global, user: &Name, file: &Name) -> Result<Chained, ChainFault>
         ensures chain { AnswersChain self.now.catalogue (user_named self.now.catalogue user.now)

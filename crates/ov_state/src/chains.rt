@@ -8,17 +8,17 @@ ghost use Rattle.ov_tokens.specs.Labels.{label_of};
 ghost use Rattle.ov_tokens.specs.declared.label.Kind.TheVariants.{Derive};
 ghost use Rattle.ov_base_layer.specs.BaseContents.{holders_of};
 ghost use Rattle.ov_base_layer.specs.Holders.{accesses_of};
-ghost use Rattle.ov_chain.specs.Walk.{last_label};
+ghost use Rattle.ov_chain.specs.Walk.{access_along};
 ghost use Rattle.ov_history.specs.Layers.{root_of};
 ghost use Rattle.ov_state.specs.Contents.{nodes_of};
-ghost use Rattle.ov_state.specs.Chains.{access_along, LeadsToAccess};
+ghost use Rattle.ov_state.specs.Chains.{LeadsToAccess};
 ghost use Rattle.ov_history.specs.Chains.{IsAccessChain, IsBaseChain, IsEdgeChain, IsSurfaceChain};
 
 use ov_base::{Key, Memory, UserSet};
 use ov_base_layer::{BaseLayer, Grant};
-use ov_chain::{shortest, walk};
+use ov_chain::{shortest, walk_to_access};
 use ov_graph::Graph;
-use ov_tokens::{Base, Chain, Kind, Label, Layer, Step, Steps, Surface, Token, access_key};
+use ov_tokens::{Base, Chain, Kind, Label, Layer, Step, Steps, Surface, Token};
 use std::alloc::Global;
 
 /// The root of a user: the node of the user alone.
@@ -147,25 +147,11 @@ pub fn surface_chain<S: Graph<Surface, W>, const W: usize>(
     }
 }
 
-/// The kind of the label that a base chain leads to.
-fn last_kind(chain: &Chain) -> Kind
-    ensures { result ≡ (last_label (label_of Derive chain.now.root) chain.now.steps).kind }
-{
-    match chain.steps.as_slice() {
-        [.., last] => last.to.kind,
-        [] => Kind::Derive,
-    }
-}
-
 /// The access key to which a base chain leads from the derivation key of its root: where its tokens
 /// are true, that of the node whose chain it is. It takes no memory.
 pub fn access_key_by(root_key: &Key, chain: &Chain) -> Key
     ensures key { result.bytes ≡ access_along root_key.now.bytes chain.now }
     ensures leads { LeadsToAccess root_key.now.bytes chain.now result.bytes }
 {
-    let end = walk(root_key, chain);
-    match last_kind(chain) {
-        Kind::Derive => access_key(&end),
-        Kind::Access | Kind::Surface => end,
-    }
+    walk_to_access(root_key, chain)
 }

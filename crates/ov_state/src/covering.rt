@@ -1,9 +1,9 @@
 //! What an owner is told before a creation.
-ghost use Rattle.std.specs.Prelude.{◌≡◌, ◌≤◌, false, IfNone, IfSome};
+ghost use Rattle.std.specs.Prelude.{◌≡◌, ◌≤◌, false, length, IfNone, IfSome};
 ghost use Rattle.ov_base.specs.Sets.{within};
 ghost use Rattle.ov_base.specs.declared.limits.TheConstants.{MAX_FILE_BYTES};
 ghost use Rattle.ov_history.specs.Lists.{everyone, set_named};
-ghost use Rattle.ov_state.specs.Asking.{Covers, Plans};
+ghost use Rattle.ov_state.specs.Asking.{Plans};
 
 use crate::asking::any_key;
 use crate::fault::{ChainFault, PrepareFault};
@@ -38,22 +38,22 @@ impl<B: Graph<Base, W>, S: Graph<Surface, W>, const W: usize> State<B, S, W> {
         Some(set)
     }
 
-    /// The cover of a new file's list in the base layer.
-    fn cover_for(
+    /// What is told of a file that is to be created for these users.
+    fn planned(
         &self,
         alloc: Global,
         name: &Name,
         size: u32,
-        list: &UserSet<W>,
-    ) -> Result<Cover, ChainFault>
+        list: UserSet<W>,
+    ) -> Result<Planned<W>, ChainFault>
         requires { size ≤ MAX_FILE_BYTES }
-        ensures { Covers self.now.catalogue name.now list.now size result }
+        ensures { Plans self.now.catalogue name.now list.entry size result }
     {
         self.known();
-        if let Some(why) = self.refusal_create(name, list, size) {
+        if let Some(why) = self.refusal_create(name, &list, size) {
             return Err(ChainFault::Refused(why));
         }
-        let site = match self.site(alloc, &any_key(), list) {
+        let site = match self.site(alloc, &any_key(), &list) {
             Ok(site) => site,
             Err(PrepareFault::Refused(why)) => return Err(ChainFault::Refused(why)),
             Err(_) => return Err(ChainFault::Memory),
@@ -61,7 +61,11 @@ impl<B: Graph<Base, W>, S: Graph<Surface, W>, const W: usize> State<B, S, W> {
         if self.is_spent() {
             return Err(ChainFault::Refused(Refusal::Spent));
         }
-        Ok(site.cover)
+        Ok(Planned {
+            file: self.files.count(),
+            list,
+            cover: site.cover,
+        })
     }
 
     /// What is told of a file of so many bytes that is to be created for the users of these names.
@@ -83,11 +87,6 @@ impl<B: Graph<Base, W>, S: Graph<Surface, W>, const W: usize> State<B, S, W> {
         let Some(list) = self.users_named(names) else {
             return Err(ChainFault::Refused(Refusal::NoUser));
         };
-        let cover = self.cover_for(alloc, name, size, &list)?;
-        Ok(Planned {
-            file: self.files.count(),
-            list,
-            cover,
-        })
+        self.planned(alloc, name, size, list)
     }
 }

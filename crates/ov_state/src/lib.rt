@@ -102,4 +102,4 @@ pub use fault::{ChainFault, PrepareFault};
 pub use files::FileEntry;
 pub use places::parts_stand_at_their_place;
 pub use queries::Sizes;
-pub use state::{Catalogue, State, WIDTH};
+pub use state::{Catalogue, LayerGraph, State, WIDTH};

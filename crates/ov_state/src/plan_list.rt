@@ -103,7 +103,7 @@ impl<B: Graph<Base, W>, S: Graph<Surface, W>, const W: usize> State<B, S, W> {
     }
 
     /// The grant of a file to a user as a change, under the surface master. The access token has to
-    /// be there exactly where the user isn't a holder of the file's base node.
+    /// be there exactly where the user doesn't hold the file's base node.
     pub(crate) fn plan_grant(
         &self,
         alloc: Global,

@@ -8,7 +8,8 @@ use crate::files::Files;
 use indexmap::IndexSet;
 use ov_base::{Memory, Mode, Name};
 use ov_base_layer::BaseLayer;
-use ov_graph::{Graph, ListGraph};
+use ov_graph::Graph;
+use ov_index::IndexGraph;
 use ov_tokens::{Base, Surface};
 use std::alloc::Global;
 use std::marker::Model;
@@ -16,8 +17,11 @@ use std::marker::Model;
 /// The words of a set of users, each of 64: so wide is the set of all users of a store.
 pub const WIDTH: usize = 4;
 
-/// The catalogue over graphs that are lists.
-pub type Catalogue = State<ListGraph<Base, WIDTH>, ListGraph<Surface, WIDTH>, WIDTH>;
+/// The graph of keys in which a store keeps a layer.
+pub type LayerGraph<L> = IndexGraph<L, WIDTH>;
+
+/// The catalogue of a store.
+pub type Catalogue = State<LayerGraph<Base>, LayerGraph<Surface>, WIDTH>;
 
 /// The catalogue over two graphs: the users and the files by number and by name, and both layers.
 #[derive(Drop)]

@@ -88,8 +88,8 @@ fn first_false<D: Disk>(
 }
 
 impl<D: Disk> Store<D> {
-    /// The place in Book of the gate of the first record with a token or a tag that isn't what the
-    /// owner with this base master sends, and None where there is none. It reads all records again.
+    /// The gate's place in Book of the first record with a token or a tag that isn't what the owner
+    /// with this base master sends, and None where there is none. It reads all records again.
     /// After an update in which the disk failed these are the records of the updates before it.
     pub fn check(&mut self, alloc: Global, base: &Key) -> Result<Option<u64>, CheckFault>
         // Of each history for which the store stands.

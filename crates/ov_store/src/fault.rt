@@ -20,7 +20,7 @@ pub enum StoreFault {
     /// A call of the disk failed. What stands on the disk is known once the store is opened again.
     #[error("the disk failed")]
     Disk,
-    /// An earlier update of this open store answered `Disk`.
+    /// Since this store was opened, an update answered `Disk`.
     #[error("the disk failed in an earlier update")]
     Failed,
     /// Memory was refused.

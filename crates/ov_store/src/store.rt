@@ -51,7 +51,7 @@ impl<D: Disk> Store<D> {
         let _failed = self.failed;
     }
 
-    /// The check value of the base master in the header.
+    /// The header's check value of the base master.
     pub fn base_check(&self) -> [u8; 32]
         ensures { result ≡ self.now.keys.base_check }
     {

@@ -16,7 +16,7 @@ node_key kind master number = hmac master (label_bytes (label_of kind number))
 abbrev pub access_key_of : List ℕ → List ℕ
 access_key_of key = sha256 key
 
--- the key of the label of a kind and number, from the base master and the surface master
+-- the key of the label of a kind and number, from the base and the surface master
 abbrev pub key_of_kind : List ℕ → List ℕ → Kind → ℕ → List ℕ
 key_of_kind base surface Derive number = node_key Derive base number
 key_of_kind base surface Access number = access_key_of (node_key Derive base number)

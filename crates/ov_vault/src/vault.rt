@@ -7,14 +7,14 @@ ghost use Rattle.ov_state.specs.Contents.{IsWell};
 ghost use Rattle.ov_vault.specs.Vaults.{AreShort, AreStored};
 
 use ov_base::{Memory, Mode, Octets};
-use ov_graph::{Graph, ListGraph};
-use ov_state::{State, WIDTH};
+use ov_graph::Graph;
+use ov_state::{LayerGraph, State, WIDTH};
 use ov_tokens::{Base, Surface};
 use std::alloc::Global;
 use std::marker::Model;
 
-/// The vault over graphs that are lists, at the width of a store's sets.
-pub type CatalogueVault = Vault<ListGraph<Base, WIDTH>, ListGraph<Surface, WIDTH>, WIDTH>;
+/// The vault of a store.
+pub type CatalogueVault = Vault<LayerGraph<Base>, LayerGraph<Surface>, WIDTH>;
 
 /// The catalogue over two graphs, and the stored bytes of its files by number.
 #[derive(Drop)]

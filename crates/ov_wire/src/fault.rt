@@ -13,7 +13,7 @@ pub enum WireFault {
 /// Why a stream can't be cut into frames.
 #[derive(Clone, Copy, Debug, PartialEq, Eq)]
 pub enum FeedFault {
-    /// A length field is outside its limits; `at` is its place in the stream.
+    /// A length field isn't within its limits; `at` is its place in the stream.
     BadFrame { at: u64 },
     /// Memory was refused, and nothing was taken.
     Memory,

@@ -10,7 +10,7 @@ use Rattle.ov_history.specs.Masters.{Masters}
 use Rattle.ov_history.specs.Plain.{PlainHistory}
 use Rattle.overstore.specs.Disks.{Endures, Lasts, OpensAs, Survives}
 use Rattle.overstore.specs.Machine.{AreMasters}
-use Rattle.overstore.specs.Running.{EndsAs, ForImage, FromEach, IsDecided, JudgesImage, LeavesAsAtStart, PrintsAs}
+use Rattle.overstore.specs.Running.{EndsAs, ForImage, FromEach, IsDecided, JudgesImage, LeavesAsAtStart, PrintsAs, RunsWell}
 use Rattle.overstore.specs.Words.{IsRun}
 use Rattle.overstore.proofs.Running.{decided, one_mode, prints_as}
 
@@ -23,6 +23,21 @@ for_image image words keys mode is P Q holds then other asked = by_cases keys ho
   by_cases None holds = tt
   by_cases (Some file) holds = λ k are i told.
       subst (λ m. Q k m i) (one_mode mode other words is asked) (then k i (holds k are i told))
+
+-- what holds of each history as which the disk opens, together
+pub runs_well : {D : Type 0} (reads : D → Option Image) (may_leave : D → Image → Type 0) (disk : D) (words : List (String Global))
+    (keys input : Option (List ℕ)) (P Q R S : Masters → PlainHistory → List ℕ → Type 0)
+    → FromEach reads may_leave disk words keys input P → FromEach reads may_leave disk words keys input Q
+    → FromEach reads may_leave disk words keys input R → FromEach reads may_leave disk words keys input S
+    → FromEach reads may_leave disk words keys input (λ k p text. RunsWell (P k p text) (Q k p text) (R k p text) (S k p text))
+runs_well reads may_leave disk words None input P Q R S printed decided paced survives mode is = tt
+runs_well reads may_leave disk words (Some file) None P Q R S printed decided paced survives mode is = tt
+runs_well reads may_leave disk words (Some file) (Some text) P Q R S printed decided paced survives mode is = λ k p are opens. record {
+  printed = printed mode is k p are opens;
+  decided = decided mode is k p are opens;
+  paced = paced mode is k p are opens;
+  survives = survives mode is k p are opens;
+}
 
 -- This is how a loan shows its disk.
 module _ {L D : Type 0} (now : L → D) (reads : D → Option Image) (may_leave : D → Image → Type 0)

@@ -24,7 +24,7 @@ use Rattle.ov_store.specs.declared.fault.BeginFault.TheVariants.{ModeDiffers, Me
 use Rattle.overstore.specs.Disks.{StandsForPlain}
 
 -- The image keeps a history of this mode in which some update isn't as the owner with these masters
--- seals it. This is the place of the gate of the first such record.
+-- seals it. The place is that of the first such record's gate.
 pub record HasFalseRecord (k : Masters) (mode : Mode) (i : Image) (place : ℕ) : Type 0 where
   pub history : SealedHistory
   pub mode_is : history.mode ≡ mode

@@ -6,7 +6,8 @@ use Rattle.ov_surface.specs.Tags.{tag_of_file}
 use Rattle.ov_tokens.specs.Keys.{node_key}
 use Rattle.ov_tokens.specs.declared.chain.Chain.{Chain}
 use Rattle.ov_tokens.specs.declared.label.Kind.TheVariants.{Derive, Surface}
-use Rattle.ov_state.specs.Chains.{AnswersChain, LeadsToKeys, access_along}
+use Rattle.ov_chain.specs.Walk.{access_along}
+use Rattle.ov_state.specs.Chains.{AnswersChain, LeadsToKeys}
 use Rattle.ov_history.specs.Asking.{file_named, user_named}
 use Rattle.ov_state.specs.declared.chained.Chained.{Chained}
 use Rattle.ov_state.specs.declared.fault.ChainFault.{ChainFault}

@@ -77,8 +77,8 @@ pub record RefusesWords (other : Type 0) (status : ℕ) (old new : Option (List 
 
 -- The status is one of those that a run has. A call of the disk is said to have failed only where
 -- its count of faults rose, a read only where a count of what is read did, and a write only where
--- that of the sink did; and a tag to be wrong only with the line on it, and over a disk that
--- doesn't tell its bytes.
+-- that of the sink did; and a tag to be wrong only with the line on it, and where the disk doesn't
+-- tell its bytes.
 pub record FailsForFaults (status : ℕ) (disks reads writes tags : Type 0) : Type 0 where
   pub some : IsStatus status
   pub tag : status ≡ 12 → tags
@@ -146,3 +146,11 @@ abbrev pub ForImage : Option Image → List (String Global) → Option (List ℕ
 ForImage image words keys P =
     (mode : Mode) → IsRun mode words → IfSome keys (λ file.
     (k : Masters) → AreMasters file k → Told image (P k mode))
+
+-- what a run promises of its script where the disk opens: the lines that it prints, its status,
+-- when it takes and puts, and what a stop leaves
+pub record RunsWell (Lines Status Pace Stops : Type 0) : Type 0 where
+  pub printed : Lines
+  pub decided : Status
+  pub paced : Pace
+  pub survives : Stops

@@ -12,7 +12,7 @@ ghost use Rattle.overstore.specs.Pacing.{IsPaced};
 ghost use Rattle.overstore.specs.Printing.{IsKeysStatus, IsScriptStatus, IsStoreStatus};
 ghost use Rattle.overstore.specs.Running.{EndsAs, EndsFor, FailsForFaults, ForImage, FromEach};
 ghost use Rattle.overstore.specs.Running.{IsDecided, JudgesImage, JudgesKeys, LeavesAsAtStart};
-ghost use Rattle.overstore.specs.Running.{PrintsAs, RefusesWords};
+ghost use Rattle.overstore.specs.Running.{PrintsAs, RefusesWords, RunsWell};
 ghost use Rattle.overstore.specs.Words.{mode_word, AreOther, IsRun};
 
 use crate::answer::answer_all;
@@ -165,6 +165,18 @@ fn answer_with_keys<K: Source, I: Source, O: Sink, D: Disk + Drop>(
 /// Answers the script of `input` on `out` under the masters of the key file, over the store on
 /// `disk`, and gives the exit status. Where no store was begun there it begins one.
 ///
+/// * `opened`: with a disk that opens, the access-matrix machine's lines are printed, from the
+///   history for which the disk stands; the script alone decides the status; a reply is put before
+///   more of the script is taken than its command needs; and whatever the status, a stop leaves
+///   what was acknowledged, and at most one update more: at the end of the script the disk has it
+///   all, and the published tokens are the matrix.
+/// * `image`: a disk that doesn't open for these masters and this mode is refused, the script isn't
+///   read, and nothing is written.
+/// * `keys`: without a key file the script and the disk are left as they are.
+/// * `words`: other words are refused, and all files are left as they are.
+/// * `causes`: a fault is answered only where its count of faults rose, and a wrong tag only with
+///   its line, and never where the disk tells its bytes.
+///
 /// The clauses on what is printed, on the script, the key file and the disk hold where the sources,
 /// the sink and the disk tell their bytes; those on the counts of faults hold always. Each update
 /// is on the disk before its reply line is put, and each line is put by itself.
@@ -176,49 +188,29 @@ pub fn run<K: Source, I: Source, O: Sink, D: Disk>(
     out: &mut O,
     disk: &mut D,
 ) -> u8
-    // The access-matrix machine's lines are printed, from the history for which the disk stands.
-    ensures printed { FromEach D.reads D.may_leave disk.old
-        words.now (K.left keys.old) (I.left input.old) (λ k p text.
-        PrintsAs p text result (O.written out.old) (O.written out.new)) }
-    // With a disk that opens the script alone decides the status.
-    ensures decided { FromEach D.reads D.may_leave disk.old
-        words.now (K.left keys.old) (I.left input.old) (λ k p text. IsDecided text result
+    ensures opened { FromEach D.reads D.may_leave disk.old
+        words.now (K.left keys.old) (I.left input.old) (λ k p text. RunsWell
+        (PrintsAs p text result (O.written out.old) (O.written out.new))
+        (IsDecided text result
         (Rose (K.faults keys.old) (K.faults keys.new))
         (Rose (I.faults input.old) (I.faults input.new))
         (Rose (O.faults out.old) (O.faults out.new))
-        (Rose (D.faults disk.old) (D.faults disk.new))) }
-    // A reply is put before more of the script is taken than its command needs.
-    ensures paced { FromEach D.reads D.may_leave disk.old
-        words.now (K.left keys.old) (I.left input.old) (λ k p text.
-        IsPaced I.takes I.left p input.old input.new (O.written out.old) (O.written out.new)) }
-    // Whatever the status, a stop leaves what was acknowledged, and at most one update more; at the
-    // end of the script the disk has it all, and the published tokens are the matrix.
-    ensures survives { FromEach D.reads D.may_leave disk.old
-        words.now (K.left keys.old) (I.left input.old) (λ k p text.
-        Endures D.reads D.may_leave D.moment D.left_since k p text result disk.old disk.new
-        (O.written out.old) (O.written out.new)) }
-    // A disk that doesn't open for these masters and this mode is refused, the script isn't read,
-    // and nothing is written.
+        (Rose (D.faults disk.old) (D.faults disk.new)))
+        (IsPaced I.takes I.left p input.old input.new (O.written out.old) (O.written out.new))
+        (Endures D.reads D.may_leave D.moment D.left_since k p text result disk.old disk.new
+        (O.written out.old) (O.written out.new))) }
     ensures image { ForImage (D.reads disk.old) words.now (K.left keys.old) (λ k mode i.
-        JudgesImage k mode i result (O.written out.old) (O.written out.new)
-        (input.new ≡ input.old)
+        JudgesImage k mode i result (O.written out.old) (O.written out.new) (input.new ≡ input.old)
         (LeavesAsAtStart D.reads D.may_leave D.moment D.left_since disk.old disk.new)) }
-    // Without a key file the script and the disk are left as they are.
     ensures keys { JudgesKeys ((mode : Mode) × IsRun mode words.now) (K.left keys.old) result
-        (O.written out.old) (O.written out.new)
-        ((input.new ≡ input.old) × (disk.new ≡ disk.old)) }
-    // Other words are refused, and all files are left as they are.
+        (O.written out.old) (O.written out.new) ((input.new ≡ input.old) × (disk.new ≡ disk.old)) }
     ensures words { RefusesWords (AreOther words.now) result (O.written out.old) (O.written out.new)
         ((keys.new ≡ keys.old) × (input.new ≡ input.old) × (disk.new ≡ disk.old)) }
-    // A fault is answered only where its count of faults rose, and a wrong tag only with its line,
-    // and never over a disk that tells its bytes.
-    ensures causes { FailsForFaults result
-        (Rose (D.faults disk.old) (D.faults disk.new))
+    ensures causes { FailsForFaults result (Rose (D.faults disk.old) (D.faults disk.new))
         (Rose (K.faults keys.old) (K.faults keys.new)
         ⊎ Rose (I.faults input.old) (I.faults input.new))
         (Rose (O.faults out.old) (O.faults out.new))
-        (SaysTag (O.written out.old) (O.written out.new)
-        × TellsNothing (D.reads disk.old)) }
+        (SaysTag (O.written out.old) (O.written out.new) × TellsNothing (D.reads disk.old)) }
 {
     match mode_of(words) {
         Some(mode) => {

@@ -1,17 +1,24 @@
-//! All 4,096 sets of twelve users, and the longest chain among them.
+//! Sets of twelve users in both graphs: filling one, finding a set, planning a new one, and the
+//! longest chain among all 4,096.
 ghost use Rattle.std.specs.Prelude.{◌≤◌};
 ghost use Rattle.ov_base.specs.declared.limits.TheConstants.{MAX_SET_WORDS};
 
 use ov_base::limits::MAX_LAYER_NODES;
 use ov_base::{Key, UserSet};
 use ov_chain::shortest;
-use ov_graph::{Graph, ListGraph, has_roots, plan_and_add};
+use ov_graph::{Graph, has_roots, plan_and_add};
 use ov_tokens::{Base, Layer};
 use std::alloc::Global;
 use std::test::Fail;
 
 // Any master will do.
 const MASTER: Key = Key { bytes: [7; 32] };
+
+/// How many sets are asked for at a time.
+const ASKED: u32 = 256;
+
+/// How far one of these is from the next.
+const STRIDE: u32 = 2_897;
 
 // Adds a set, where its users have nodes alone.
 fn put<L: Layer, G: Graph<L, W>, const W: usize>(
@@ -38,15 +45,19 @@ fn set_of_bits<const W: usize>(bits: u32) -> UserSet<W>
     set
 }
 
-/// Every set of twelve users, those of one user first.
-fn fill<L: Layer, G: Graph<L, W>, const W: usize>(alloc: Global, graph: &mut G) -> Result<(), Fail>
+/// Sets of twelve users until there are so many nodes, those of one user first.
+fn fill<L: Layer, G: Graph<L, W>, const W: usize>(
+    alloc: Global,
+    graph: &mut G,
+    nodes: u32,
+) -> Result<(), Fail>
     requires { (1 ≤ W) × (W ≤ MAX_SET_WORDS) }
 {
     for user in 0..12 {
         put::<L, G, W>(alloc, graph, &UserSet::empty().with(user))?;
     }
     for bits in 0..MAX_LAYER_NODES {
-        if bits.count_ones() != 1 {
+        if bits.count_ones() != 1 && graph.count() < nodes {
             put::<L, G, W>(alloc, graph, &set_of_bits(bits))?;
         }
     }
@@ -54,17 +65,71 @@ fn fill<L: Layer, G: Graph<L, W>, const W: usize>(alloc: Global, graph: &mut G) 
 }
 
 /// Fills a graph, finds the chain from a user to all twelve so often, and gives the steps of all of these.
-pub fn chains(alloc: Global, times: u32) -> Result<usize, Fail> {
-    let mut graph: ListGraph<Base, 4> = ListGraph::new(alloc)?;
-    fill::<Base, ListGraph<Base, 4>, 4>(alloc, &mut graph)?;
+pub fn chains<G: Graph<Base, 4>>(alloc: Global, times: u32) -> Result<usize, Fail> {
+    let mut graph = G::new(alloc)?;
+    fill::<Base, G, 4>(alloc, &mut graph, MAX_LAYER_NODES)?;
     let mut steps = 0usize;
     for _ in 0..times {
         if graph.count() == MAX_LAYER_NODES {
-            match shortest::<Base, ListGraph<Base, 4>, 4>(alloc, &graph, 0, MAX_LAYER_NODES - 1)? {
+            match shortest::<Base, G, 4>(alloc, &graph, 0, MAX_LAYER_NODES - 1)? {
                 Some(chain) => steps = steps.saturating_add(chain.steps.as_slice().len()),
                 None => {}
             }
         }
     }
     Ok(steps)
+}
+
+/// Sets of nodes from all over a graph.
+fn old_sets<G: Graph<Base, 4>>(alloc: Global, graph: &G) -> Result<Vec<UserSet<4>>, Fail> {
+    let mut sets = Vec::new(alloc);
+    let nodes = graph.count();
+    if nodes > 0 {
+        for n in 0..ASKED {
+            sets.push(graph.set_of(n * STRIDE % nodes))?;
+        }
+    }
+    Ok(sets)
+}
+
+/// Sets of which no node has one: of twelve users, from all over these, and one user more.
+fn new_sets(alloc: Global) -> Result<Vec<UserSet<4>>, Fail> {
+    let mut sets = Vec::new(alloc);
+    for n in 0..ASKED {
+        sets.push(set_of_bits::<4>(n * STRIDE % MAX_LAYER_NODES).with(12))?;
+    }
+    Ok(sets)
+}
+
+/// Fills a graph with so many nodes, finds those of 256 sets so often, and says how many it found.
+pub fn finds<G: Graph<Base, 4>>(alloc: Global, nodes: u32, times: u32) -> Result<usize, Fail> {
+    let mut graph = G::new(alloc)?;
+    fill::<Base, G, 4>(alloc, &mut graph, nodes)?;
+    let sets = old_sets::<G>(alloc, &graph)?;
+    let mut found = 0usize;
+    for _ in 0..times {
+        for set in &sets {
+            if graph.find(set).is_some() {
+                found = found.saturating_add(1);
+            }
+        }
+    }
+    Ok(found)
+}
+
+/// Fills a graph with one node fewer than so many, plans each of 256 new sets so often, and says
+/// how many edges these would get.
+pub fn plans<G: Graph<Base, 4>>(alloc: Global, nodes: u32, times: u32) -> Result<usize, Fail> {
+    let mut graph = G::new(alloc)?;
+    fill::<Base, G, 4>(alloc, &mut graph, nodes.saturating_sub(1))?;
+    graph.known();
+    let sets = new_sets(alloc)?;
+    let mut edges = 0usize;
+    for _ in 0..times {
+        for set in &sets {
+            let cover = graph.plan(alloc, &[], set)?;
+            edges = edges.saturating_add(cover.from.as_slice().len());
+        }
+    }
+    Ok(edges)
 }

@@ -1,7 +1,8 @@
 //! What `docs/PERFORMANCE.md` times: `speed` and one of these words:
-//! `pad`, `pages`, `short`, `tag`, `graph`, `chain`, `journal`, `wire`, `copy`; `lengths`, which
-//! `tools/announced_lengths.sh` runs; and `cuts`, `plain` and `starts`, whose numbers
-//! `tools/pad_vectors.py` computes by OpenSSL.
+//! `pad`, `pages`, `short`, `tag`, `graph`, `chain`, `journal`, `wire`, `copy`; a number of nodes and
+//! then `fill`, `find` or `plan`, or these behind `list_`, over the graph that looks at every node;
+//! `lengths`, which `tools/announced_lengths.sh` runs; and `cuts`, `plain` and `starts`, whose
+//! numbers `tools/pad_vectors.py` computes by OpenSSL.
 //!
 //! Each does one piece of work and prints one line that shows that it was done. It is timed from outside.
 #![tactic(auto)]
@@ -13,12 +14,19 @@ mod pads;
 mod wire;
 
 use ov_ctr::apply_at;
+use ov_graph::ListGraph;
+use ov_index::IndexGraph;
 use ov_keyed::mac;
+use ov_tokens::Base;
 use std::alloc::{AllocError, Global};
 use std::env;
 use std::test::Fail;
 
 const SIZE: usize = 67_108_864;
+
+type Indexed = IndexGraph<Base, 4>;
+
+type Listed = ListGraph<Base, 4>;
 
 fn zeros(alloc: Global) -> Result<Vec<u8>, AllocError> {
     let mut bytes = Vec::with_capacity(alloc, SIZE)?;
@@ -53,12 +61,19 @@ fn tag(alloc: Global) -> Result<usize, Fail> {
 
 fn main(rt: HostRuntime) -> Result<(), Fail> {
     let alloc = rt.alloc();
+    let mut nodes = 0u32;
     for word in env::args(&rt)?.skip(1) {
         let answer = match word.as_str() {
             "pad" => pad(alloc)?,
             "tag" => tag(alloc)?,
-            "graph" => graph::chains(alloc, 0)?,
-            "chain" => graph::chains(alloc, 10_000)?,
+            "graph" => graph::chains::<Indexed>(alloc, 0)?,
+            "chain" => graph::chains::<Indexed>(alloc, 10_000)?,
+            "fill" => graph::finds::<Indexed>(alloc, nodes, 0)?,
+            "list_fill" => graph::finds::<Listed>(alloc, nodes, 0)?,
+            "find" => graph::finds::<Indexed>(alloc, nodes, 100)?,
+            "list_find" => graph::finds::<Listed>(alloc, nodes, 100)?,
+            "plan" => graph::plans::<Indexed>(alloc, nodes, 100)?,
+            "list_plan" => graph::plans::<Listed>(alloc, nodes, 100)?,
             "journal" => journal::appends(rt)?,
             "cuts" => pads::cuts(100_000),
             "pages" => pads::pages(),
@@ -73,7 +88,10 @@ fn main(rt: HostRuntime) -> Result<(), Fail> {
                 println!(rt; "{frames} bytes of frames, {scripts} scripts")?;
                 0
             }
-            _ => 0,
+            number => {
+                nodes = number.parse().unwrap_or(0);
+                0
+            }
         };
         println!(rt; "{word} {answer}")?;
     }

@@ -2,36 +2,28 @@ use Rattle.std.proofs.Common.{MutBor, inr, ℕ, List, refl, rules}
 use Rattle.ov_history.specs.Masters.{Masters}
 use Rattle.ov_history.specs.Plain.{PlainHistory}
 use Rattle.overstore.specs.Pacing.{IsPaced}
-use Rattle.overstore.proofs.Lending.{lent_each, run_decides, run_endures, run_image, run_prints}
+use Rattle.overstore.proofs.Lending.{lent_each, run_decides, run_endures, run_image, run_prints, runs_well}
 use Rattle.overstore.proofs.Running.{judged_so, judged_unasked, words_refused}
 use Rattle.overstore.proofs.run.run.Goals as goal
 
-pub returns-in-Some-clause-printed : goal.returns-in-Some-clause-printed
-returns-in-Some-clause-printed g c =
-    run_prints (λ (l : MutBor g.row.D.Denot). l.now) g.D.Disk.reads g.D.Disk.may_leave g.D.Disk.moment g.D.Disk.left_since
+pub returns-in-Some-clause-opened : goal.returns-in-Some-clause-opened
+returns-in-Some-clause-opened g c =
+    runs_well g.D.Disk.reads g.D.Disk.may_leave c.args.disk.now c.args.words.now (g.K.Source.left c.args.keys.now) (g.I.Source.left c.args.input.now) _ _ _ _
+    (run_prints (λ (l : MutBor g.row.D.Denot). l.now) g.D.Disk.reads g.D.Disk.may_leave g.D.Disk.moment g.D.Disk.left_since
+    (record { ref_ptr = c.args.disk.ref_ptr; ghost_name = _; now = c.args.disk.now }) c.answer_with_keys-code.result.1 c.answer_with_keys-code.result.1.now refl
+    c.args.words.now (g.K.Source.left c.args.keys.now) (g.I.Source.left c.args.input.now) (g.O.Sink.written c.args.out.now) (g.O.Sink.written c.answer_with_keys-code.new.out) c.answer_with_keys-code.result.0 c.in-Some.mode c.in-Some.ensures.found c.answer_with_keys-code.ensures.ends)
+    (run_decides (λ (l : MutBor g.row.D.Denot). l.now) g.D.Disk.reads g.D.Disk.may_leave g.D.Disk.moment g.D.Disk.left_since
     (record { ref_ptr = c.args.disk.ref_ptr; ghost_name = _; now = c.args.disk.now }) c.answer_with_keys-code.result.1 c.answer_with_keys-code.result.1.now refl
     c.args.words.now (g.K.Source.left c.args.keys.now) (g.I.Source.left c.args.input.now) (g.O.Sink.written c.args.out.now) (g.O.Sink.written c.answer_with_keys-code.new.out) c.answer_with_keys-code.result.0 c.in-Some.mode c.in-Some.ensures.found c.answer_with_keys-code.ensures.ends
-
-pub returns-in-Some-clause-decided : goal.returns-in-Some-clause-decided
-returns-in-Some-clause-decided g c =
-    run_decides (λ (l : MutBor g.row.D.Denot). l.now) g.D.Disk.reads g.D.Disk.may_leave g.D.Disk.moment g.D.Disk.left_since
-    (record { ref_ptr = c.args.disk.ref_ptr; ghost_name = _; now = c.args.disk.now }) c.answer_with_keys-code.result.1 c.answer_with_keys-code.result.1.now refl
-    c.args.words.now (g.K.Source.left c.args.keys.now) (g.I.Source.left c.args.input.now) (g.O.Sink.written c.args.out.now) (g.O.Sink.written c.answer_with_keys-code.new.out) c.answer_with_keys-code.result.0 c.in-Some.mode c.in-Some.ensures.found c.answer_with_keys-code.ensures.ends
-    _ _ _ _ (search rules) c.answer_with_keys-code.ensures.causes.read c.answer_with_keys-code.ensures.causes.write
-
-pub returns-in-Some-clause-paced : goal.returns-in-Some-clause-paced
-returns-in-Some-clause-paced g c =
-    lent_each (λ (l : MutBor g.row.D.Denot). l.now) g.D.Disk.reads g.D.Disk.may_leave g.D.Disk.moment g.D.Disk.left_since
+    _ _ _ _ (search rules) c.answer_with_keys-code.ensures.causes.read c.answer_with_keys-code.ensures.causes.write)
+    (lent_each (λ (l : MutBor g.row.D.Denot). l.now) g.D.Disk.reads g.D.Disk.may_leave g.D.Disk.moment g.D.Disk.left_since
     (record { ref_ptr = c.args.disk.ref_ptr; ghost_name = _; now = c.args.disk.now })
     c.args.words.now (g.K.Source.left c.args.keys.now) (g.I.Source.left c.args.input.now) c.in-Some.mode c.in-Some.ensures.found
     (λ (k : Masters) (p : PlainHistory) (text : List ℕ). IsPaced g.I.Source.takes g.I.Source.left p c.args.input.now c.answer_with_keys-code.new.input (g.O.Sink.written c.args.out.now) (g.O.Sink.written c.answer_with_keys-code.new.out))
-    c.answer_with_keys-code.ensures.paced
-
-pub returns-in-Some-clause-survives : goal.returns-in-Some-clause-survives
-returns-in-Some-clause-survives g c =
-    run_endures (λ (l : MutBor g.row.D.Denot). l.now) g.D.Disk.reads g.D.Disk.may_leave g.D.Disk.moment g.D.Disk.left_since
+    c.answer_with_keys-code.ensures.paced)
+    (run_endures (λ (l : MutBor g.row.D.Denot). l.now) g.D.Disk.reads g.D.Disk.may_leave g.D.Disk.moment g.D.Disk.left_since
     (record { ref_ptr = c.args.disk.ref_ptr; ghost_name = _; now = c.args.disk.now }) c.answer_with_keys-code.result.1 _ (search rules)
-    c.args.words.now (g.K.Source.left c.args.keys.now) (g.I.Source.left c.args.input.now) (g.O.Sink.written c.args.out.now) (g.O.Sink.written c.answer_with_keys-code.new.out) c.answer_with_keys-code.result.0 c.in-Some.mode c.in-Some.ensures.found c.answer_with_keys-code.ensures.ends
+    c.args.words.now (g.K.Source.left c.args.keys.now) (g.I.Source.left c.args.input.now) (g.O.Sink.written c.args.out.now) (g.O.Sink.written c.answer_with_keys-code.new.out) c.answer_with_keys-code.result.0 c.in-Some.mode c.in-Some.ensures.found c.answer_with_keys-code.ensures.ends)
 
 pub returns-in-Some-clause-image : goal.returns-in-Some-clause-image
 returns-in-Some-clause-image g c =
@@ -54,17 +46,8 @@ pub returns-in-Some-clause-keys : goal.returns-in-Some-clause-keys
 returns-in-Some-clause-keys g c =
     judged_so _ _ _ _ _ _ _ c.answer_with_keys-code.ensures.keys (λ untouched. search rules)
 
-pub returns-in-None-clause-printed : goal.returns-in-None-clause-printed
-returns-in-None-clause-printed g c = λ mode is. absurd (c.in-None.ensures.none mode is)
-
-pub returns-in-None-clause-decided : goal.returns-in-None-clause-decided
-returns-in-None-clause-decided g c = λ mode is. absurd (c.in-None.ensures.none mode is)
-
-pub returns-in-None-clause-paced : goal.returns-in-None-clause-paced
-returns-in-None-clause-paced g c = λ mode is. absurd (c.in-None.ensures.none mode is)
-
-pub returns-in-None-clause-survives : goal.returns-in-None-clause-survives
-returns-in-None-clause-survives g c = λ mode is. absurd (c.in-None.ensures.none mode is)
+pub returns-in-None-clause-opened : goal.returns-in-None-clause-opened
+returns-in-None-clause-opened g c = λ mode is. absurd (c.in-None.ensures.none mode is)
 
 pub returns-in-None-clause-image : goal.returns-in-None-clause-image
 returns-in-None-clause-image g c = λ mode is. absurd (c.in-None.ensures.none mode is)

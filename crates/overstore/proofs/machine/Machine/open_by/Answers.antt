@@ -2,7 +2,7 @@ use Rattle.std.proofs.Common.{◌∙◌, ap}
 use Rattle.std.specs.Prelude.{Option}
 use Rattle.ov_base.specs.declared.key.Key.{Key}
 use Rattle.ov_surface.specs.Coats.{key_bytes}
-use Rattle.ov_state.specs.Chains.{access_along}
+use Rattle.ov_chain.specs.Walk.{access_along}
 use Rattle.ov_tokens.specs.Keys.{node_key}
 use Rattle.ov_tokens.specs.declared.label.Kind.TheVariants.{Derive}
 use Rattle.overstore.specs.Machine.{KeptOn}

@@ -1,0 +1,270 @@
+-- Where a read stands at histories that are right.
+use Rattle.std.proofs.Common.{◌≡◌, ◌∙◌, ◌<◌, ◌≤◌, ℕ, Bool, true, false}
+use Rattle.std.proofs.Common.{List, [], ◌∷◌, ◌++◌, length, take, drop, Option, Some, None}
+use Rattle.std.proofs.Common.{Ok, Err, refl, sym, ap, subst, arith, append_assoc}
+use Rattle.std.specs.Prelude.{◌+◌, min, ◌==◌, nat_lt, if◌then◌else◌, slice_index_or}
+use Rattle.std.proofs.Math.Seq.{drop-append_seam}
+use Rattle.std.proofs.lemmas.List.{append-nil, take-append-drop}
+use Rattle.ov_base.proofs.Tests.{ge_of_false}
+use Rattle.ov_base.specs.declared.limits.TheConstants.{MAX_CHUNK_BYTES}
+use Rattle.ov_record.specs.Updates.{SealedUpdate}
+use Rattle.ov_surface.specs.Coats.{stored_under}
+use Rattle.ov_history.specs.Asking.{file_named, user_named}
+use Rattle.ov_history.specs.Catalogue.{Catalogue, matrix_shown}
+use Rattle.ov_history.specs.Masters.{Masters}
+use Rattle.ov_history.specs.Plain.{PlainHistory, bytes_of, history_of}
+use Rattle.ov_history.specs.Refusals.{IsLegal, read_refusal}
+use Rattle.ov_history.specs.Rewrites.{surface_key}
+use Rattle.ov_history.specs.Sealed.{SealedHistory, catalogue_of, sent_of, stored_of}
+use Rattle.ov_history.specs.Sealing.{sealed}
+use Rattle.ov_history.proofs.Sealing.{sealed_is_sealed}
+use Rattle.ov_history.proofs.Storing.{stored_is_coated}
+use Rattle.ov_wire.specs.declared.answer.Answer.{Answer}
+use Rattle.ov_wire.specs.declared.answer.Answer.TheVariants as answers
+use Rattle.ov_wire.specs.declared.answer.Chained.{Chained}
+use Rattle.ov_protocol.specs.Reading.{AnswersChain, AnswersChunk, IsChainedFor}
+use Rattle.ov_protocol.specs.Serving.{Service, followed, later}
+use Rattle.ov_client.specs.Laws.{HoldsRootKeys, IsAsMachine}
+use Rattle.ov_client.specs.Readers.{Reader, judged, keys_along, uncovered}
+use Rattle.ov_client.specs.Talks.{AsksChain, AsksChunk, Ends, Stage}
+use Rattle.ov_client.specs.Talks.{after, after_fetched, again, goes_on, then_or}
+use Rattle.ov_client.specs.Telling.{chained_unless, chunk_bytes, wrong_field}
+use Rattle.ov_client.specs.declared.fault.ClientFault.TheVariants as client
+use Rattle.ov_client.specs.declared.reading.TheConstants.{TRIES}
+use Rattle.ov_client.specs.declared.telling.Fetched.TheVariants.{Bytes}
+use Rattle.ov_client.proofs.Leading.{BeginsAt}
+use Rattle.ov_client.proofs.Opening.{file_is, judged_is, length_is, read_named, there}
+use Rattle.ov_client.proofs.Staying.{file_in, found_file, same_file, same_text, stays_followed}
+use Rattle.ov_client.proofs.Fields.{no_field, no_rest}
+
+module _ (k : Masters) (r : Reader) (file : List ℕ) (holds : HoldsRootKeys k r) where
+  -- The file's chains were told at this history, which is right, and these stored bytes are a front
+  -- of those that it has there; what is served goes on from that history.
+  pub record IsFetching (v : Service) (c : Chained) (stored : List ℕ)
+      (at_one : Option SealedHistory) : Type 0 where
+    pub plain : PlainHistory
+    pub legal : IsLegal (history_of plain)
+    pub chained_at : at_one ≡ Some (sealed k plain)
+    pub more : List SealedUpdate
+    pub goes : v.history ≡ followed (sealed k plain) more
+    pub allowed : read_refusal (matrix_shown (catalogue_of k.surface (sealed k plain)))
+        (user_named (catalogue_of k.surface (sealed k plain)) r.name)
+        (file_named (catalogue_of k.surface (sealed k plain)) file)
+        ≡ None
+    pub told : IsChainedFor (catalogue_of k.surface (sealed k plain))
+        (user_named (catalogue_of k.surface (sealed k plain)) r.name)
+        (file_named (catalogue_of k.surface (sealed k plain)) file) c
+    pub base : c.base.root ≡ r.base_root
+    pub surface : BeginsAt r.surface_root c.surface
+    pub rest : List ℕ
+    pub front : slice_index_or (stored_of k.surface (sealed k plain)) c.file [] ≡ stored ++ rest
+
+  -- how a stage stands, by the history of the last Chain
+  unfoldable pub StandsAt : Service → Stage → Option SealedHistory → Type 0
+  StandsAt v (AsksChain tries least) at_one = Unit {0}
+  StandsAt v (AsksChunk tries c stored) at_one = IsFetching v c stored at_one
+  StandsAt v (Ends result) at_one = IsAsMachine k at_one r.name file result
+
+  module _ (v : Service) (tries : List ℕ) (at_one : Option SealedHistory) where
+    pub again_stands : (least : ℕ) → StandsAt v (again tries least) at_one
+    unfolding StandsAt
+    again_stands least = by_count (length tries == TRIES) where
+      by_count : (b : Bool)
+          → StandsAt v (if b then Ends (Err (client.Unsettled tries)) else AsksChain tries least)
+          at_one
+      by_count true = tt
+      by_count false = tt
+
+    pub goes_on_stands : (c : Chained) (stored : List ℕ) → IsFetching v c stored at_one
+        → StandsAt v (goes_on r tries c stored) at_one
+    unfolding StandsAt
+    goes_on_stands c stored f = by_test (nat_lt (length stored) c.length) refl where
+      by_test : (b : Bool) → nat_lt (length stored) c.length ≡ b
+          → StandsAt v
+          (if b then AsksChunk tries c stored
+          else Ends (judged (keys_along r c) c (uncovered (keys_along r c) c.file 0 stored))) at_one
+      by_test true is = f
+      by_test false is =
+          let s : Catalogue = catalogue_of k.surface (sealed k f.plain) in
+          let n : ℕ = file_named s file in
+          let text : List ℕ = slice_index_or (stored_of k.surface (sealed k f.plain)) n [] in
+          let low : n < length s.files = there k f.plain f.legal (user_named s r.name) n
+          f.allowed in
+          let split : text ≡ stored ++ f.rest =
+          ap (λ m. slice_index_or (stored_of k.surface (sealed k f.plain)) m []) (sym f.told.file)
+          ∙ f.front in
+          let size : length text ≡ c.length =
+          length_is k f.plain f.legal n low ∙ sym f.told.length in
+          let enough : c.length ≤ length stored = ge_of_false (length stored) c.length is in
+          let long : length text ≡ length (stored ++ f.rest) = ap length split in
+          let whole : stored ≡ text =
+          sym (split ∙ no_rest stored f.rest (omega (arith, size, enough, long))) in
+          let ok = judged_is k f.plain f.legal r holds (user_named s r.name) n c low f.told f.base
+          f.surface stored whole in
+          subst (IsAsMachine k at_one r.name file) (sym ok) (
+            f.plain,
+            f.legal,
+            f.chained_at,
+            (
+              sym (read_named k f.plain f.legal r.name file) ∙ f.allowed,
+              ap (bytes_of f.plain) (file_is k f.plain f.legal file),
+            ),
+          )
+
+  -- ---- an answer to Chain
+
+  module _ (v : Service) (tries : List ℕ) (least : ℕ) (p : PlainHistory)
+      (legal : IsLegal (history_of p))
+      (at_p : v.history ≡ sealed k p) where
+    abbrev c_at : Catalogue
+    c_at = catalogue_of k.surface (sealed k p)
+
+    told_stands : (c : Chained)
+        → AnswersChain c_at (user_named c_at r.name) (file_named c_at file) (answers.Chained c)
+        → (o : Option ℕ) → wrong_field r least c ≡ o
+        → StandsAt v (then_or (λ (d : Chained). goes_on r tries d []) (chained_unless o c))
+        (Some (sealed k p))
+    unfolding StandsAt
+    told_stands c (allowed, told) (Some place) wrong = tt
+    told_stands c (allowed, told) None wrong =
+        let (base, surface) = no_field r least c wrong in
+        goes_on_stands v tries (Some (sealed k p)) c [] (record {
+          plain = p;
+          legal = legal;
+          chained_at = refl;
+          more = [];
+          goes = at_p ∙ sym (ap (λ (us : List SealedUpdate). record (sealed k p) { updates = us })
+              (append-nil (sealed k p).updates));
+          allowed = allowed;
+          told = told;
+          base = base;
+          surface = surface;
+          rest = slice_index_or (stored_of k.surface (sealed k p)) c.file [];
+          front = refl;
+        })
+
+    pub chain_stands : (answer : Answer)
+        → AnswersChain c_at (user_named c_at r.name) (file_named c_at file) answer
+        → StandsAt v (after r (AsksChain tries least) (Ok answer)) (Some (sealed k p))
+    unfolding StandsAt
+    chain_stands (answers.Chained c) is = told_stands c is (wrong_field r least c) refl
+    chain_stands (answers.Refused why) is =
+        (p, legal, refl, sym (read_named k p legal r.name file) ∙ is)
+    chain_stands answers.NoMemory is = tt
+    chain_stands answer is = tt
+
+  -- ---- an answer to Chunk
+
+  module _ (v : Service) (tries : List ℕ) (c : Chained) (stored : List ℕ)
+      (at_one : Option SealedHistory)
+      (f : IsFetching v c stored at_one) (others : List SealedUpdate)
+      (q : PlainHistory) (legal : IsLegal (history_of q))
+      (at_q : followed v.history others ≡ sealed k q) where
+    abbrev before : Catalogue
+    before = catalogue_of k.surface (sealed k f.plain)
+
+    abbrev now : Catalogue
+    now = catalogue_of k.surface (sealed k q)
+
+    abbrev all_more : List SealedUpdate
+    all_more = f.more ++ others
+
+    goes_to : sealed k q ≡ followed (sealed k f.plain) all_more
+    goes_to =
+        sym at_q ∙ ap (λ (g : SealedHistory). followed g others) f.goes
+        ∙ ap (λ (us : List SealedUpdate). record (sealed k f.plain) { updates = us })
+        (append_assoc (sealed k f.plain).updates f.more others)
+
+    low : c.file < length before.files
+    low =
+        subst (λ n. n < length before.files) (sym f.told.file)
+        (there k f.plain f.legal (user_named before r.name) (file_named before file) f.allowed)
+
+    pub still : c.file < length now.files
+    still =
+        subst (λ (g : SealedHistory). c.file < length (catalogue_of k.surface g).files)
+        (sym goes_to)
+        (stays_followed k.surface (sealed k f.plain) all_more c.file low).low
+
+    generation_before : c.generation ≡ (file_in before.files c.file).generation
+    generation_before =
+        f.told.generation ∙ ap (λ n. (file_in before.files n).generation) (sym f.told.file)
+
+    -- bytes of the same generation are the same
+    same_stored : (file_in now.files c.file).generation ≡ c.generation
+        → slice_index_or (stored_of k.surface (sealed k q)) c.file []
+        ≡ slice_index_or (stored_of k.surface (sealed k f.plain)) c.file []
+    same_stored generation =
+        let n : ℕ = c.file in
+        let g : SealedHistory = followed (sealed k f.plain) all_more in
+        let now_is : file_in now.files n ≡ file_in before.files n =
+        ap (λ (h : SealedHistory). file_in (catalogue_of k.surface h).files n) goes_to
+        ∙ same_file k.surface (sealed k f.plain) all_more n low
+        (ap (λ (h : SealedHistory). (file_in (catalogue_of k.surface h).files n).generation)
+        (sym goes_to)
+        ∙ generation ∙ generation_before) in
+        let text_is : slice_index_or (sent_of (sealed k q)) n [] ≡ slice_index_or
+        (sent_of (sealed k f.plain)) n [] =
+        ap (λ (h : SealedHistory). slice_index_or (sent_of h) n []) goes_to
+        ∙ same_text k.surface (sealed k f.plain) all_more n low in
+        let coated_now = stored_is_coated k.surface now (stored_of k.surface (sealed k q))
+        (sealed k q)
+        (sealed_is_sealed k q legal, refl) refl in
+        let coated_before = stored_is_coated k.surface before
+        (stored_of k.surface (sealed k f.plain)) (sealed k f.plain)
+        (sealed_is_sealed k f.plain f.legal, refl) refl in
+        coated_now.coats n (file_in now.files n) (found_file now.files n still)
+        ∙ (λ i. stored_under (surface_key k.surface (now_is i).surface) n (text_is i))
+        ∙ sym (coated_before.coats n (file_in before.files n) (found_file before.files n low))
+
+    goes_on_from : (later v others).history ≡ followed (sealed k f.plain) all_more
+    goes_on_from = at_q ∙ goes_to
+
+    bytes_stand : (bytes : List ℕ) → (file_in now.files c.file).generation ≡ c.generation
+        → bytes ≡ take MAX_CHUNK_BYTES
+        (drop (length stored) (slice_index_or (stored_of k.surface (sealed k q)) c.file []))
+        → (b : Bool)
+        → StandsAt (later v others)
+        (then_or (after_fetched r tries c stored)
+        (if b then Ok (Bytes bytes) else Err
+        (client.BadReply (1 + min (length bytes) (chunk_bytes c.length (length stored)))))) at_one
+    unfolding StandsAt
+    bytes_stand bytes generation are false = tt
+    bytes_stand bytes generation are true =
+        let text : List ℕ = slice_index_or (stored_of k.surface (sealed k f.plain)) c.file [] in
+        let left : drop (length stored) text ≡ f.rest =
+        ap (drop (length stored)) f.front ∙ drop-append_seam stored f.rest in
+        let taken : bytes ≡ take MAX_CHUNK_BYTES f.rest =
+        are ∙ ap (λ (t : List ℕ). take MAX_CHUNK_BYTES (drop (length stored) t))
+        (same_stored generation)
+        ∙ ap (take MAX_CHUNK_BYTES) left in
+        let split : f.rest ≡ bytes ++ drop MAX_CHUNK_BYTES f.rest =
+        sym (take-append-drop MAX_CHUNK_BYTES f.rest)
+        ∙ ap (λ (t : List ℕ). t ++ drop MAX_CHUNK_BYTES f.rest) (sym taken) in
+        goes_on_stands (later v others) tries at_one c (stored ++ bytes) (record {
+          plain = f.plain;
+          legal = f.legal;
+          chained_at = f.chained_at;
+          more = all_more;
+          goes = goes_on_from;
+          allowed = f.allowed;
+          told = f.told;
+          base = f.base;
+          surface = f.surface;
+          rest = drop MAX_CHUNK_BYTES f.rest;
+          front = f.front ∙ ap (λ (t : List ℕ). stored ++ t) split
+              ∙ sym (append_assoc stored bytes (drop MAX_CHUNK_BYTES f.rest));
+        })
+
+    pub chunk_stands : (answer : Answer)
+        → AnswersChunk (Some (file_in now.files c.file))
+        (slice_index_or (stored_of k.surface (sealed k q)) c.file [])
+        c.generation (length stored) MAX_CHUNK_BYTES answer
+        → StandsAt (later v others) (after r (AsksChunk tries c stored) (Ok answer)) at_one
+    unfolding StandsAt
+    chunk_stands (answers.Bytes bytes) (generation, are) =
+        bytes_stand bytes generation are (length bytes == chunk_bytes c.length (length stored))
+    chunk_stands (answers.Moved to) is = again_stands (later v others) (tries ++ c.generation ∷ [])
+        at_one to
+    chunk_stands (answers.Refused why) is = absurd is
+    chunk_stands answer is = tt

@@ -1,0 +1,13 @@
+pub mod Answering
+pub mod Coats
+pub mod Fetching
+pub mod Fields
+pub mod Gathering
+pub mod Leading
+pub mod Machine
+pub mod Opening
+pub mod Quiet
+pub mod ReadingBack
+pub mod Settled
+pub mod Staying
+pub mod Talking

@@ -1,0 +1,263 @@
+-- What stays of a file while its generation does.
+use Rattle.std.proofs.Common.{◌≡◌, ◌∙◌, ◌<◌, ◌≤◌, ◌+◌, ℕ, zero, suc, Bool, true, false}
+use Rattle.std.proofs.Common.{List, [], ◌∷◌, ◌++◌, length, refl, sym, ap, subst, arith, inl, inr}
+use Rattle.std.proofs.Common.{length-append}
+use Rattle.std.specs.Prelude.{◌⊎◌, Option, Some, None, slice_get, slice_index_or}
+use Rattle.std.proofs.lemmas.Bool.{cases_lt}
+use Rattle.std.proofs.lemmas.List.{get_or_append_left}
+use Rattle.ov_graph.proofs.GraphLaws.{last_item}
+use Rattle.ov_record.specs.Updates.{SealedCreate, SealedEnrol, SealedGrant, SealedRevoke}
+use Rattle.ov_record.specs.Updates.{SealedUpdate}
+use Rattle.ov_history.specs.Briefs.{Brief, BriefCreate, BriefEnrol, BriefGrant, BriefRevoke, brief}
+use Rattle.ov_history.specs.Briefs.{outer, text_of}
+use Rattle.ov_history.specs.Catalogue.{Catalogue, Filed, catalogue_after, empty_catalogue}
+use Rattle.ov_history.specs.Catalogue.{grown_catalogue, no_filed, outline, refiled, settled_files}
+use Rattle.ov_history.specs.Layers.{lists_after, lists_of, node_for, same_surface, surface_at}
+use Rattle.ov_history.specs.Layers.{wants_of, with_wants}
+use Rattle.ov_history.specs.Rewrites.{with_text}
+use Rattle.ov_history.specs.Sealed.{SealedHistory, catalogue_all, catalogue_of, sent_all, sent_of}
+use Rattle.ov_history.proofs.Storing.{length-settled_files}
+use Rattle.ov_protocol.specs.Serving.{followed}
+
+abbrev pub file_in : List Filed → ℕ → Filed
+file_in files n = slice_index_or files n no_filed
+
+pub found_file : (files : List Filed) (n : ℕ) → n < length files
+    → slice_get files n ≡ Some (file_in files n)
+found_file [] n low = absurd (omega arith)
+found_file (f ∷ files) zero low = refl
+found_file (f ∷ files) (suc n) low = found_file files n (omega arith)
+
+-- ---- one update
+
+refiled_each : (b : Bool) (epoch : ℕ) (surface : Option ℕ) (f : Filed)
+    → (refiled b epoch surface f ≡ f) ⊎ ((refiled b epoch surface f).generation ≡ epoch)
+refiled_each true epoch surface f = inl refl
+refiled_each false epoch surface f = inr refl
+
+settled_each : (epoch : ℕ) (sets : List ℕ) (wants : List (Option ℕ)) (files : List Filed) (n : ℕ)
+    → (file_in (settled_files epoch sets wants files) n ≡ file_in files n)
+    ⊎ ((file_in (settled_files epoch sets wants files) n).generation ≡ epoch)
+settled_each epoch sets [] files n = inl refl
+settled_each epoch sets (want ∷ wants) [] n = inl refl
+settled_each epoch sets (want ∷ wants) (f ∷ files) zero =
+    refiled_each (same_surface f.surface (surface_at sets want)) epoch (surface_at sets want) f
+settled_each epoch sets (want ∷ wants) (f ∷ files) (suc n) = settled_each epoch sets wants files n
+
+-- a file that is there stays until the surfaces are settled
+grown_file : (c : Catalogue) (b : Brief) (n : ℕ) → n < length c.files
+    → (file_in (grown_catalogue c b).files n ≡ file_in c.files n)
+    × (n < length (grown_catalogue c b).files)
+grown_file c (BriefEnrol user) n low = (refl, low)
+grown_file c (BriefCreate file list tokens tag size) n low =
+    let f : Filed = record {
+      name = file;
+      node = node_for c.base.sets list;
+      surface = None;
+      generation = c.epoch + 1;
+      tag = tag;
+      length = size;
+    } in (
+      get_or_append_left c.files (f ∷ []) no_filed n low,
+      omega (arith, length-append c.files (f ∷ [])),
+    )
+grown_file c (BriefGrant user file token) n low = (refl, low)
+grown_file c (BriefRevoke user file) n low = (refl, low)
+
+grown_epoch : (c : Catalogue) (b : Brief) → (grown_catalogue c b).epoch ≡ c.epoch + 1
+grown_epoch c (BriefEnrol user) = refl
+grown_epoch c (BriefCreate file list tokens tag size) = refl
+grown_epoch c (BriefGrant user file token) = refl
+grown_epoch c (BriefRevoke user file) = refl
+
+-- no file is of a generation past the epoch
+abbrev pub AreUpTo : ℕ → List Filed → Type 0
+AreUpTo epoch files = (n : ℕ) → n < length files → (file_in files n).generation ≤ epoch
+
+grown_up_to : (c : Catalogue) (b : Brief) → AreUpTo c.epoch c.files
+    → AreUpTo (c.epoch + 1) (grown_catalogue c b).files
+grown_up_to c (BriefEnrol user) up n low = let was = up n low in omega arith
+grown_up_to c (BriefCreate file list tokens tag size) up n low =
+    let f : Filed = record {
+      name = file;
+      node = node_for c.base.sets list;
+      surface = None;
+      generation = c.epoch + 1;
+      tag = tag;
+      length = size;
+    } in
+    elim (cases_lt n (length c.files)) [
+      | inl old ↦
+          let was = up n old in
+          let same = ap (λ (g : Filed). g.generation)
+          (get_or_append_left c.files (f ∷ []) no_filed n old) in
+          omega arith
+      | inr past ↦
+          let here : n ≡ length c.files = omega (arith, length-append c.files (f ∷ [])) in
+          let same = ap (λ (g : Filed). g.generation) (last_item c.files f n no_filed here) in
+          omega arith
+    ]
+grown_up_to c (BriefGrant user file token) up n low = let was = up n low in omega arith
+grown_up_to c (BriefRevoke user file) up n low = let was = up n low in omega arith
+
+-- a file stays as it is, or comes to a generation past the epoch
+pub record Stays (c d : Catalogue) (n : ℕ) : Type 0 where
+  pub low : n < length d.files
+  pub epoch : c.epoch ≤ d.epoch
+  pub same : (file_in d.files n ≡ file_in c.files n) ⊎ (c.epoch < (file_in d.files n).generation)
+
+module _ (master : List ℕ) (c : Catalogue) (b : Brief) where
+  abbrev next : Catalogue
+  next = grown_catalogue c b
+
+  abbrev wants : List (Option ℕ)
+  wants = wants_of (outline next) (lists_after (lists_of (outline c)) (outer b))
+
+  abbrev sets : List ℕ
+  sets = with_wants next.surface.sets wants
+
+  files_low : (n : ℕ) → n < length next.files → n < length (catalogue_after master c b).files
+  files_low n low = omega (arith, length-settled_files next.epoch sets wants next.files)
+
+  stays_one : (n : ℕ) → n < length c.files → Stays c (catalogue_after master c b) n
+  stays_one n low =
+      let (same, there) = grown_file c b n low in
+      let later = grown_epoch c b in record {
+        low = files_low n there;
+        epoch = omega (arith, later);
+        same = elim (settled_each next.epoch sets wants next.files n) [
+          | inl is ↦ inl (is ∙ same)
+          | inr now ↦ inr (omega (arith, later, now))
+        ];
+      }
+
+  up_to_one : AreUpTo c.epoch c.files
+      → AreUpTo (catalogue_after master c b).epoch (catalogue_after master c b).files
+  up_to_one up n low =
+      let later = grown_epoch c b in
+      let there : n < length next.files =
+      omega (arith, length-settled_files next.epoch sets wants next.files) in
+      let was = grown_up_to c b up n there in
+      elim (settled_each next.epoch sets wants next.files n) [
+        | inl is ↦
+            let same = ap (λ (g : Filed). g.generation) is in omega (arith, later, was, same)
+        | inr now ↦ omega (arith, later, now)
+      ]
+
+-- ---- all updates
+
+pub stays_all : (master : List ℕ) (c : Catalogue) (updates : List SealedUpdate) (n : ℕ)
+    → n < length c.files → Stays c (catalogue_all master c updates) n
+stays_all master c [] n low = record { low = low; epoch = omega arith; same = inl refl }
+stays_all master c (u ∷ updates) n low =
+    let one = stays_one master c (brief u) n low in
+    let all = stays_all master (catalogue_after master c (brief u)) updates n one.low in
+    let end : Catalogue = catalogue_all master (catalogue_after master c (brief u)) updates in
+    record {
+      low = all.low;
+      epoch = omega (arith, one.epoch, all.epoch);
+      same = elim all.same [
+        | inr past ↦ inr (omega (arith, one.epoch, past))
+        | inl is ↦ elim one.same [
+          | inl was ↦ inl (is ∙ was)
+          | inr past ↦ inr (subst (λ (f : Filed). c.epoch < f.generation) (sym is) past)
+        ]
+      ];
+    }
+
+up_to_all : (master : List ℕ) (c : Catalogue) (updates : List SealedUpdate)
+    → AreUpTo c.epoch c.files
+    → AreUpTo (catalogue_all master c updates).epoch (catalogue_all master c updates).files
+up_to_all master c [] up = up
+up_to_all master c (u ∷ updates) up =
+    up_to_all master (catalogue_after master c (brief u)) updates (up_to_one master c (brief u) up)
+
+up_to_of : (master : List ℕ) (g : SealedHistory)
+    → AreUpTo (catalogue_of master g).epoch (catalogue_of master g).files
+up_to_of master g = up_to_all master (empty_catalogue g.mode g.first) g.updates
+    (λ n low. absurd (omega arith))
+
+catalogue_both : (master : List ℕ) (c : Catalogue) (updates more : List SealedUpdate)
+    → catalogue_all master c (updates ++ more)
+    ≡ catalogue_all master (catalogue_all master c updates) more
+catalogue_both master c [] more = refl
+catalogue_both master c (u ∷ updates) more =
+    catalogue_both master (catalogue_after master c (brief u)) updates more
+
+sent_both : (texts : List (List ℕ)) (updates more : List SealedUpdate)
+    → sent_all texts (updates ++ more) ≡ sent_all (sent_all texts updates) more
+sent_both texts [] more = refl
+sent_both texts (u ∷ updates) more = sent_both (with_text texts (text_of u)) updates more
+
+with_text_stays : (texts : List (List ℕ)) (text : Option (List ℕ)) (n : ℕ) → n < length texts
+    → (slice_index_or (with_text texts text) n [] ≡ slice_index_or texts n [])
+    × (n < length (with_text texts text))
+with_text_stays texts None n low = (refl, low)
+with_text_stays texts (Some text) n low =
+    (get_or_append_left texts (text ∷ []) [] n low, omega (arith, length-append texts (text ∷ [])))
+
+sent_stays : (texts : List (List ℕ)) (updates : List SealedUpdate) (n : ℕ) → n < length texts
+    → slice_index_or (sent_all texts updates) n [] ≡ slice_index_or texts n []
+sent_stays texts [] n low = refl
+sent_stays texts (u ∷ updates) n low =
+    let (same, there) = with_text_stays texts (text_of u) n low in
+    sent_stays (with_text texts (text_of u)) updates n there ∙ same
+
+-- there is a text for each file
+many_one : (c : Catalogue) (texts : List (List ℕ)) (u : SealedUpdate)
+    → length texts ≡ length c.files
+    → length (with_text texts (text_of u)) ≡ length (grown_catalogue c (brief u)).files
+many_one c texts (SealedEnrol user) many = many
+many_one c texts (SealedCreate file list tokens tag text) many =
+    let f : Filed = record {
+      name = file;
+      node = node_for c.base.sets list;
+      surface = None;
+      generation = c.epoch + 1;
+      tag = tag;
+      length = length text;
+    } in
+    omega (arith, many, length-append texts (text ∷ []), length-append c.files (f ∷ []))
+many_one c texts (SealedGrant user file token) many = many
+many_one c texts (SealedRevoke user file) many = many
+
+many_all : (master : List ℕ) (c : Catalogue) (texts : List (List ℕ)) (updates : List SealedUpdate)
+    → length texts ≡ length c.files
+    → length (sent_all texts updates) ≡ length (catalogue_all master c updates).files
+many_all master c texts [] many = many
+many_all master c texts (u ∷ updates) many =
+    many_all master (catalogue_after master c (brief u)) (with_text texts (text_of u)) updates
+    (many_one c texts u many
+    ∙ sym
+    (length-settled_files (next master c (brief u)).epoch (sets master c (brief u))
+    (wants master c (brief u)) (next master c (brief u)).files))
+
+-- ---- histories
+
+module _ (master : List ℕ) (g : SealedHistory) (updates : List SealedUpdate) (n : ℕ)
+    (low : n < length (catalogue_of master g).files) where
+  pub stays_followed : Stays (catalogue_of master g) (catalogue_of master (followed g updates)) n
+  stays_followed =
+      subst (λ (d : Catalogue). Stays (catalogue_of master g) d n)
+      (sym (catalogue_both master (empty_catalogue g.mode g.first) g.updates updates))
+      (stays_all master (catalogue_of master g) updates n low)
+
+  -- a file of the same generation is the same
+  pub same_file : (file_in (catalogue_of master (followed g updates)).files n).generation
+      ≡ (file_in (catalogue_of master g).files n).generation
+      → file_in (catalogue_of master (followed g updates)).files n
+      ≡ file_in (catalogue_of master g).files n
+  same_file generation = elim stays_followed.same [
+    | inl is ↦ is
+    | inr past ↦
+        let up = up_to_of master g n low in absurd (omega (arith, past, up, generation))
+  ]
+
+  -- the texts that were sent stay
+  pub same_text : slice_index_or (sent_of (followed g updates)) n [] ≡ slice_index_or (sent_of g) n
+      []
+  same_text =
+      let many : length (sent_of g) ≡ length (catalogue_of master g).files =
+      many_all master (empty_catalogue g.mode g.first) [] g.updates refl in
+      ap (λ (texts : List (List ℕ)). slice_index_or texts n []) (sent_both [] g.updates updates)
+      ∙ sent_stays (sent_of g) updates n (omega (arith, many))

@@ -1,0 +1,77 @@
+use Rattle.std.proofs.Common.{◌∙◌, ◌<◌, [], List, ℕ, Ok, Err, arith, length, subst, sym, take}
+use Rattle.std.proofs.lemmas.List.{length-set, length-take-le, take_more_set}
+use Rattle.ov_client.specs.Reads.{GoesOn, Reaches}
+use Rattle.ov_client.specs.Talks.{AsksChain, again}
+use Rattle.ov_client.specs.Tries.{after_tried}
+use Rattle.ov_client.specs.declared.reading.TheConstants.{TRIES}
+use Rattle.ov_client.specs.declared.reading.Tried.{Tried}
+use Rattle.ov_client.specs.declared.reading.Tried.TheVariants as tries
+use Rattle.ov_client.proofs.Gathering.{tried_on}
+use Rattle.ov_client.proofs.Talking.{ended}
+use Rattle.ov_client.proofs.client.Client.fetch.Goals as goal
+
+pub returns-in-Ok-Read-clause-talk : goal.returns-in-Ok-Read-clause-talk
+returns-in-Ok-Read-clause-talk g c =
+    let r = c.args.self.now in
+    let file = c.args.file.now in
+    let before = take c.loop-n.n c.loop-n.generations in
+    let low : length before < TRIES =
+    omega (
+      arith,
+      c.loop-n-test.true,
+      c.loop-n.invariant.many,
+      length-take-le c.loop-n.n
+          c.loop-n.generations,
+    ) in
+    ended g.P.Peer.asked g.P.Peer.failed r file c.args.peer.now c.try_once.new.peer (AsksChain [] 0)
+    (Ok c.in-Ok-Read.bytes)
+    (tried_on g.P.Peer.asked g.P.Peer.failed r file c.args.peer.now c.loop-n.peer
+    c.try_once.new.peer before c.loop-n.least
+    (Ok (tries.Read c.in-Ok-Read.bytes)) low c.loop-n.invariant.reaches
+    (subst (λ (t : Tried). GoesOn g.P.Peer.asked g.P.Peer.failed c.loop-n.peer c.try_once.new.peer r
+    file
+    (AsksChain before c.loop-n.least) (after_tried before) (Ok t)) c.in-Ok-Read.field-0-is
+    (c.in-Ok-Read.ensures.talk before)))
+
+pub returns-in-Err-clause-talk : goal.returns-in-Err-clause-talk
+returns-in-Err-clause-talk g c =
+    let r = c.args.self.now in
+    let file = c.args.file.now in
+    let before = take c.loop-n.n c.loop-n.generations in
+    let low : length before < TRIES =
+    omega (
+      arith,
+      c.loop-n-test.true,
+      c.loop-n.invariant.many,
+      length-take-le c.loop-n.n
+          c.loop-n.generations,
+    ) in
+    tried_on g.P.Peer.asked g.P.Peer.failed r file c.args.peer.now c.loop-n.peer c.try_once.new.peer
+    before c.loop-n.least
+    (Err c.in-Err.fault) low c.loop-n.invariant.reaches (c.in-Err.ensures.talk before)
+
+pub loop-n-preserved : goal.loop-n-preserved
+loop-n-preserved g c =
+    let r = c.args.self.now in
+    let file = c.args.file.now in
+    let all = c.loop-n.generations in
+    let before = take c.loop-n.n all in
+    let generation = c.in-Ok-Moved.generation in
+    let there : c.loop-n.n < length all = omega
+    (arith, c.loop-n-test.true, c.loop-n.invariant.many) in
+    let low : length before < TRIES =
+    omega (arith, c.loop-n-test.true, c.loop-n.invariant.many, length-take-le c.loop-n.n all) in
+    let on = tried_on g.P.Peer.asked g.P.Peer.failed r file c.args.peer.now c.loop-n.peer
+    c.try_once.new.peer before c.loop-n.least
+    (Ok (tries.Moved generation c.in-Ok-Moved.now)) low c.loop-n.invariant.reaches
+    (subst (λ (t : Tried). GoesOn g.P.Peer.asked g.P.Peer.failed c.loop-n.peer c.try_once.new.peer r
+    file
+    (AsksChain before c.loop-n.least) (after_tried before) (Ok t)) c.in-Ok-Moved.field-0-is
+    (c.in-Ok-Moved.ensures.talk before)) in record {
+      reaches = subst (λ (told : List ℕ). Reaches g.P.Peer.asked c.args.peer.now c.try_once.new.peer
+          r file (AsksChain [] 0)
+          (again told c.in-Ok-Moved.now)) (sym (take_more_set all c.loop-n.n generation there)) on;
+      many = length-set all c.loop-n.n generation ∙ c.loop-n.invariant.many;
+      same = c.try_once.ensures.same ∙ c.loop-n.invariant.same;
+      later = omega (arith, c.try_once.ensures.cause.later, c.loop-n.invariant.later);
+    }

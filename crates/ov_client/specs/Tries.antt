@@ -1,0 +1,24 @@
+-- Inner: no public contract needs this. What came of part of a try, and of a try.
+use Rattle.std.specs.Prelude.{ℕ, ◌≤◌, List, [], ◌∷◌, ◌++◌, length, Ok}
+use Rattle.ov_wire.specs.declared.answer.Chained.{Chained}
+use Rattle.ov_client.specs.Readers.{Reader, judged, keys_along}
+use Rattle.ov_client.specs.Talks.{Ends, Stage, again}
+use Rattle.ov_client.specs.declared.reading.Tried.{Tried}
+use Rattle.ov_client.specs.declared.reading.Tried.TheVariants as tries
+use Rattle.ov_client.specs.declared.telling.Fetched.{Fetched}
+use Rattle.ov_client.specs.declared.telling.Fetched.TheVariants.{Bytes, Moved}
+
+-- all bytes of a file came, without their coats; or it moved
+abbrev pub after_gathered : Reader → List ℕ → Chained → Fetched → Stage
+after_gathered r before c (Bytes plain) = Ends (judged (keys_along r c) c plain)
+after_gathered r before c (Moved now) = again (before ++ c.generation ∷ []) now
+
+-- the file was read, or the try is one of those that were answered Moved
+abbrev pub after_tried : List ℕ → Tried → Stage
+after_tried before (tries.Read bytes) = Ends (Ok bytes)
+after_tried before (tries.Moved generation now) = again (before ++ generation ∷ []) now
+
+-- no more bytes were fetched than this
+abbrev pub HasAtMost : ℕ → Fetched → Type 0
+HasAtMost most (Bytes bytes) = length bytes ≤ most
+HasAtMost most (Moved now) = Unit {0}

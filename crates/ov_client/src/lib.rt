@@ -1,0 +1,55 @@
+//! The reader of a store: over frames, with the keys of one user's two roots.
+//!
+//! A [`Client`] has a user's name and, of the user's root in each layer, the number and the key.
+//! From these alone it reads a file: it asks a peer for the chains from the roots to the file's
+//! nodes, derives the keys along them, asks for the stored bytes chunk after chunk, takes both
+//! coats off, and gives the bytes only if the file's tag is theirs. Where the file's surface
+//! changes meanwhile, it begins again, nine times in all.
+//!
+//! ```text
+//! fetch ──► try_once ──► ask_chain     Chain: the chains, or a refusal
+//!   ▲          │
+//!   │          └───────► read_along    keys along the chains, tag
+//!   │                      │
+//!   │                      └► gather ──► ask_chunk   Chunk: bytes, or Moved
+//!   └── again, up to nine tries ◄────────────┘
+//! ```
+//!
+//! What a read asks and what it comes to is one definition, an automaton over the replies
+//! (`Talks`). [`Client::read`] promises that its asks lead from the peer that it found to the one
+//! that it left, and are such a talk with just its result. So each fault has its cause there: the
+//! refusal or the disk's fault that was answered, the place of the first byte that can't be, both
+//! tags, the nine generations. A fault of the link comes only where the peer's count of faults
+//! rose.
+//!
+//! Which peer it is doesn't matter. Of one that tells its history, laws say what the result is
+//! worth: bytes and refusals are the machine's ([`reads_are_the_machines`]), and where nobody
+//! changes the history meanwhile a read ends so unless it is cut off ([`reads_are_answered`]).
+//!
+//! | file in `specs/` | says |
+//! |---|---|
+//! | `Readers` | the reader; keys along chains; what is under both coats; the tag |
+//! | `Telling` | what an answer tells, or with which fault the read ends |
+//! | `Talks` | the automaton over replies |
+//! | `Reads` | the asks of a read, from peer to peer |
+//! | `Tries` | of the code alone: what came of a part of a try |
+//! | `Causes` | where a fault of the link comes |
+//! | `Laws` | the laws |
+//!
+//! Nothing is claimed of secrecy, nor of a peer that tells nothing beyond what its replies say: who
+//! holds the file's access key can make bytes that have its tag.
+#![tactic(auto)]
+
+mod asking;
+mod client;
+mod fault;
+mod keys;
+mod laws;
+mod reading;
+mod telling;
+#[cfg(test)]
+mod tests;
+
+pub use client::Client;
+pub use fault::ClientFault;
+pub use laws::{reads_are_answered, reads_are_the_machines};

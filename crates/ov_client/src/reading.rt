@@ -1,0 +1,165 @@
+//! Reading a file.
+ghost use Rattle.std.specs.Prelude.{◌≡◌, ◌≤◌, ℕ, List, [], length, IfOk};
+ghost use Rattle.ov_base.specs.declared.limits.TheConstants.{MAX_FILE_BYTES};
+ghost use Rattle.ov_wire.specs.AnswersTo.{IsChained};
+ghost use Rattle.ov_client.specs.Causes.{HasClientCause};
+ghost use Rattle.ov_client.specs.Readers.{Reader, keys_along};
+ghost use Rattle.ov_client.specs.Reads.{GoesOn, Reads, ReadsInto};
+ghost use Rattle.ov_client.specs.Talks.{AsksChain, goes_on};
+ghost use Rattle.ov_client.specs.Tries.{HasAtMost, after_gathered, after_tried};
+
+use crate::asking::ask_chunk;
+use crate::keys::Keys;
+use crate::telling::Fetched;
+use crate::{Client, ClientFault};
+use ov_base::{Memory, Name, Octets};
+use ov_peer::Peer;
+use ov_wire::Chained;
+use std::alloc::Global;
+
+/// How often a read begins.
+const TRIES: usize = 9;
+
+/// What came of one try.
+#[derive(Drop)]
+pub enum Tried {
+    /// The file's bytes.
+    Read(Octets),
+    /// The file's surface changed: the generation of the chains that were told, and that of the
+    /// file now.
+    Moved { generation: u32, now: u32 },
+}
+
+/// The bytes of a file, chunk after chunk, each without its coats.
+fn gather<P: Peer>(
+    alloc: Global,
+    peer: &mut P,
+    chained: &Chained,
+    keys: &Keys,
+) -> Result<Fetched, ClientFault>
+    requires { chained.now.length ≤ MAX_FILE_BYTES }
+    ensures talk { (r : Reader) (file tries : List ℕ) → keys.now ≡ keys_along r chained.now
+        → GoesOn P.asked P.failed peer.old peer.new r file (goes_on r tries chained.now [])
+        (after_gathered r tries chained.now) result }
+    ensures size { IfOk result (HasAtMost MAX_FILE_BYTES) }
+    ensures same { P.borrow peer.new ≡ P.borrow peer.old }
+    ensures cause { HasClientCause (P.faults peer.old) (P.faults peer.new) result }
+{
+    let mut plain = match Vec::with_capacity(alloc, chained.length as usize) {
+        Ok(plain) => plain,
+        Err(_) => return Err(ClientFault::Memory),
+    };
+    while plain.len() < chained.length as usize {
+        match ask_chunk(alloc, peer, chained, plain.len() as u32) {
+            Ok(Fetched::Bytes(chunk)) => match keys.append(chained.file, chunk, &mut plain) {
+                Ok(()) => {}
+                Err(Memory) => return Err(ClientFault::Memory),
+            },
+            Ok(Fetched::Moved(now)) => return Ok(Fetched::Moved(now)),
+            Err(fault) => return Err(fault),
+        }
+    }
+    Ok(Fetched::Bytes(Octets::from_vec(plain)))
+}
+
+impl Client {
+    /// Reads a file along the chains that were told. Nothing is given before its tag is compared.
+    fn read_along<P: Peer>(
+        &self,
+        alloc: Global,
+        peer: &mut P,
+        chained: &Chained,
+    ) -> Result<Tried, ClientFault>
+        requires { IsChained chained.now }
+        ensures talk { (file tries : List ℕ) → GoesOn P.asked P.failed peer.old peer.new
+            self.now file (goes_on self.now tries chained.now []) (after_tried tries) result }
+        ensures same { P.borrow peer.new ≡ P.borrow peer.old }
+        ensures cause { HasClientCause (P.faults peer.old) (P.faults peer.new) result }
+    {
+        let keys = Keys::along(self, chained);
+        match gather(alloc, peer, chained, &keys) {
+            Ok(Fetched::Bytes(plain)) => match keys.judge(chained, plain) {
+                Ok(bytes) => Ok(Tried::Read(bytes)),
+                Err(fault) => Err(fault),
+            },
+            Ok(Fetched::Moved(now)) => Ok(Tried::Moved {
+                generation: chained.generation,
+                now,
+            }),
+            Err(fault) => Err(fault),
+        }
+    }
+
+    /// One try: the chains, then the chunks. It ends early where the file's surface changes.
+    fn try_once<P: Peer>(
+        &self,
+        alloc: Global,
+        peer: &mut P,
+        file: &Name,
+        least: u32,
+    ) -> Result<Tried, ClientFault>
+        ensures talk { (tries : List ℕ) → GoesOn P.asked P.failed peer.old peer.new
+            self.now file.now (AsksChain tries least) (after_tried tries) result }
+        ensures same { P.borrow peer.new ≡ P.borrow peer.old }
+        ensures cause { HasClientCause (P.faults peer.old) (P.faults peer.new) result }
+    {
+        match self.ask_chain(alloc, peer, file, least) {
+            Ok(chained) => self.read_along(alloc, peer, &chained),
+            Err(fault) => Err(fault),
+        }
+    }
+
+    /// The bytes of a file, by the user's keys alone.
+    ///
+    /// Asks for the chains from the user's two roots to the file's nodes, and then for its stored
+    /// bytes, chunk after chunk. Where the file's surface changes meanwhile it begins again, nine
+    /// times in all. The bytes are given only if the file's tag is theirs. A file without bytes
+    /// asks for no chunk.
+    pub fn fetch<P: Peer>(
+        &self,
+        alloc: Global,
+        peer: &mut P,
+        file: &Name,
+    ) -> Result<Octets, ClientFault>
+        ensures talk { Reads P.asked P.failed peer.old peer.new self.now file.now result }
+        ensures same { P.borrow peer.new ≡ P.borrow peer.old }
+        ensures cause { HasClientCause (P.faults peer.old) (P.faults peer.new) result }
+    {
+        let mut generations = [0; TRIES];
+        let mut least = 0;
+        for n in 0..TRIES {
+            match self.try_once(alloc, peer, file, least) {
+                Ok(Tried::Read(bytes)) => return Ok(bytes),
+                Ok(Tried::Moved { generation, now }) => {
+                    generations[n] = generation;
+                    least = now;
+                }
+                Err(fault) => return Err(fault),
+            }
+        }
+        Err(ClientFault::Unsettled { generations })
+    }
+
+    /// Appends the bytes of a file to a list, as [`Client::fetch`] gives them. At a fault the list
+    /// is as before.
+    pub fn read<P: Peer>(
+        &self,
+        alloc: Global,
+        peer: &mut P,
+        file: &Name,
+        into: &mut Vec<u8>,
+    ) -> Result<(), ClientFault>
+        ensures talk { ReadsInto P.asked P.failed peer.old peer.new self.now file.now
+            into.old.items into.new.items result }
+        ensures same { P.borrow peer.new ≡ P.borrow peer.old }
+        ensures cause { HasClientCause (P.faults peer.old) (P.faults peer.new) result }
+    {
+        match self.fetch(alloc, peer, file) {
+            Ok(bytes) => match into.extend_from_slice(bytes.as_slice()) {
+                Ok(()) => Ok(()),
+                Err(_) => Err(ClientFault::Memory),
+            },
+            Err(fault) => Err(fault),
+        }
+    }
+}

@@ -1,0 +1,116 @@
+-- What a server answers to a first request is in the grammar of answers to it.
+use Rattle.std.proofs.Common.{◌≡◌, ℕ, ◌∙◌, List, [], ◌∷◌, length, Some, Result, Ok, Err, ap, inl, inr, arith}
+use Rattle.std.specs.Prelude.{not, true, false}
+use Rattle.ov_base.specs.declared.refusal.Refusal.{Refusal}
+use Rattle.ov_base.specs.declared.refusal.Refusal.TheVariants.{NoUser}
+use Rattle.ov_fields.specs.Reading.{all_of, by_rows, placed}
+use Rattle.ov_fields.specs.Spelling.{IsOneOf}
+use Rattle.ov_fields.proofs.TagLaws.{each_flag}
+use Rattle.ov_record.specs.Updates.{SealedUpdate}
+use Rattle.ov_history.specs.Catalogue.{Catalogue, matrix_shown, outline}
+use Rattle.ov_history.specs.Asking.{file_named, user_named}
+use Rattle.ov_history.specs.History.{Created, Enrolled, Granted, Revoked, Update}
+use Rattle.ov_history.specs.Lists.{is_user}
+use Rattle.ov_history.specs.Refusals.{Test, first_of_tests, tests_of}
+use Rattle.ov_wire.specs.declared.request.Question.{Question}
+use Rattle.ov_wire.specs.declared.request.Question.TheVariants as questions
+use Rattle.ov_wire.specs.declared.request.Request.{Request}
+use Rattle.ov_wire.specs.declared.request.Request.TheVariants as requests
+use Rattle.ov_wire.specs.declared.answer.Known.{Known}
+use Rattle.ov_wire.specs.declared.answer.Answer.{Answer}
+use Rattle.ov_wire.specs.declared.answer.Answer.TheVariants as answers
+use Rattle.ov_wire.specs.AnswerBytes.{answer_bytes}
+use Rattle.ov_wire.specs.AnswerForm.{HasAnswerForm}
+use Rattle.ov_wire.specs.AnswerReading.{answer_of, answer_rows}
+use Rattle.ov_wire.specs.AnswersTo.{IsAnswer}
+use Rattle.ov_wire.proofs.AnswerForms.{answer_is_frame}
+use Rattle.ov_wire.proofs.AnswerLaws.{answer_again}
+use Rattle.ov_wire.proofs.LongFrames.{not_long}
+use Rattle.ov_protocol.specs.Asking.{AnswersAsk, AnswersCover, known_at, numbers_for}
+use Rattle.ov_owner.specs.Errands.{known_of, plan_of, sealed_by}
+use Rattle.ov_owner.specs.Laws.{IsProper}
+use Rattle.ov_owner.specs.declared.fault.OwnerFault.{OwnerFault}
+
+-- an answer that is sent is read
+pub reads_back : (request : Request) (a : Answer) (reply : List ℕ) → IsAnswer request a → HasAnswerForm a
+    → reply ≡ answer_bytes a → answer_of request reply ≡ Ok a
+reads_back request a reply is form spelled =
+    let bytes = answer_bytes a in
+    ap (answer_of request) spelled
+    ∙ not_long bytes (placed (length bytes) (all_of (by_rows (answer_rows request) bytes))) (answer_is_frame a form).1
+    ∙ ap (placed (length bytes)) (answer_again request a is)
+
+-- the refusals of these tests
+whys : List Test → List Refusal
+whys [] = []
+whys ((why, b) ∷ tests) = why ∷ whys tests
+
+one_of : (tests : List Test) (why : Refusal) → first_of_tests tests ≡ Some why → IsOneOf why (whys tests)
+unfolding whys
+one_of [] why is = absurd cc
+one_of ((other, true) ∷ tests) why is = inl cc
+one_of ((other, false) ∷ tests) why is = inr (one_of tests why is)
+
+abbrev tests_at : Catalogue → Update → List Test
+tests_at c u = tests_of (matrix_shown c) (outline c) c.epoch u
+
+known_fits : (c : Catalogue) (question : Question) (known : Known)
+    → known ≡ known_at c (numbers_for c question) → HasAnswerForm (answers.Known known)
+    → IsAnswer (requests.Ask question) (answers.Known known)
+known_fits c (questions.Enrol user) known is form =
+    let file : known.file ≡ 0 = ap (λ (x : Known). x.file) is in
+    let node : known.node ≡ 0 = ap (λ (x : Known). x.node) is in
+    let wants : known.wants ≡ false = ap (λ (x : Known). x.wants) is in
+    (form.0, form.1, form.2, form.3, omega arith, omega arith, inl wants)
+known_fits c (questions.Grant user file) known is form =
+    (form.0, form.1, form.2, form.3, form.4, form.5, each_flag known.wants)
+known_fits c (questions.Revoke user file) known is form =
+    let wants : known.wants ≡ false = ap (λ (x : Known). x.wants) is in
+    (form.0, form.1, form.2, form.3, form.4, form.5, inl wants)
+known_fits c (questions.Key user) known is form =
+    let file : known.file ≡ 0 = ap (λ (x : Known). x.file) is in
+    let node : known.node ≡ 0 = ap (λ (x : Known). x.node) is in
+    let wants : known.wants ≡ false = ap (λ (x : Known). x.wants) is in
+    (form.0, form.1, form.2, form.3, omega arith, omega arith, inl wants)
+
+refused_fits : (c : Catalogue) (question : Question) (why : Refusal)
+    → AnswersAsk c question (answers.Refused why) → IsAnswer (requests.Ask question) (answers.Refused why)
+unfolding whys
+refused_fits c (questions.Enrol user) why is = one_of (tests_at c (Enrolled user)) why is
+refused_fits c (questions.Grant user file) why is =
+    one_of (tests_at c (Granted (user_named c user) (file_named c file))) why is
+refused_fits c (questions.Revoke user file) why is =
+    one_of (tests_at c (Revoked (user_named c user) (file_named c file))) why is
+refused_fits c (questions.Key user) why is =
+    one_of ((NoUser, not (is_user (matrix_shown c) (user_named c user))) ∷ []) why is
+
+pub ask_fits : (c : Catalogue) (question : Question) (a : Answer) → AnswersAsk c question a
+    → HasAnswerForm a → IsAnswer (requests.Ask question) a
+ask_fits c question (answers.Known known) (none, is) form = known_fits c question known is form
+ask_fits c question (answers.Refused why) is form = refused_fits c question why is
+ask_fits c question a is form = absurd is
+
+pub cover_fits : (c : Catalogue) (file : List ℕ) (len : ℕ) (names : List (List ℕ)) (list : ℕ) (a : Answer)
+    → AnswersCover c file len list a → HasAnswerForm a → IsAnswer (requests.Cover file len names) a
+unfolding whys
+cover_fits c file len names list (answers.Plan plan) is form = form
+cover_fits c file len names list (answers.Refused why) is form =
+    one_of (tests_at c (Created file list len)) why is
+cover_fits c file len names list a is form = absurd is
+
+-- what is sealed of it is no wrong reply
+abbrev pub IsProperTold : Result (ℕ × SealedUpdate) OwnerFault → Type 0
+IsProperTold (Ok told) = Unit {0}
+IsProperTold (Err fault) = IsProper (Err fault)
+
+pub ask_proper : (c : Catalogue) (question : Question) (a : Answer) (seal : Known → ℕ × SealedUpdate)
+    → AnswersAsk c question a → IsProperTold (sealed_by seal (known_of a))
+ask_proper c question (answers.Known known) seal is = tt
+ask_proper c question (answers.Refused why) seal is = tt
+ask_proper c question a seal is = absurd is
+
+pub cover_proper : (c : Catalogue) (file : List ℕ) (len list : ℕ) (a : Answer) (seal : _ → ℕ × SealedUpdate)
+    → AnswersCover c file len list a → IsProperTold (sealed_by seal (plan_of a))
+cover_proper c file len list (answers.Plan plan) seal is = tt
+cover_proper c file len list (answers.Refused why) seal is = tt
+cover_proper c file len list a seal is = absurd is

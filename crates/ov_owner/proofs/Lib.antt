@@ -1,0 +1,17 @@
+pub mod Answering
+pub mod Copying
+pub mod Questioning
+pub mod Talking
+pub mod Trying
+pub mod Histories
+pub mod Telling
+pub mod Doing
+pub mod Stepping
+pub mod Replying
+pub mod Rising
+pub mod Leaving
+pub mod Owning
+pub mod Sizes
+pub mod Shortness
+pub mod Fitting
+pub mod Proper

@@ -1,0 +1,128 @@
+-- What an owner is told, and seals by it, at a history that is right.
+use Rattle.std.proofs.Common.{◌≡◌, ℕ, Bool, true, false, not, List, [], Some, None, Ok, Err, refl, sym, ap}
+use Rattle.ov_base.specs.Sets.{has}
+use Rattle.ov_base.specs.declared.refusal.Refusal.{Refusal}
+use Rattle.ov_tokens.specs.declared.token.Token.{Token}
+use Rattle.ov_base_layer.specs.Seals.{access_token}
+use Rattle.ov_record.specs.Updates.{SealedUpdate, SealedGrant}
+use Rattle.ov_history.specs.Asking.{of_grant, refusal_at}
+use Rattle.ov_history.specs.Catalogue.{Catalogue, matrix_shown, outline}
+use Rattle.ov_history.specs.History.{Matrix, Update, matrix_of}
+use Rattle.ov_history.specs.Laws.{ShowsHistory}
+use Rattle.ov_history.specs.Layers.{holders, layers_of, node_of, root_of}
+use Rattle.ov_history.specs.Masters.{Masters}
+use Rattle.ov_history.specs.Plain.{PlainCreate, PlainGrant, PlainHistory, PlainUpdate, history_of, measured}
+use Rattle.ov_history.specs.Refusals.{IsLegal, first_of_tests, refusal_of, tests_of}
+use Rattle.ov_history.specs.Sealed.{SealedHistory, catalogue_of}
+use Rattle.ov_history.specs.Sealing.{sealed, sealed_update, token_unless}
+use Rattle.ov_history.proofs.Keeping.{kept_shows}
+use Rattle.ov_history.proofs.Outlining.{length-places}
+use Rattle.ov_wire.specs.declared.answer.Known.{Known}
+use Rattle.ov_wire.specs.declared.answer.Plan.{Plan}
+use Rattle.ov_wire.specs.declared.answer.Answer.{Answer}
+use Rattle.ov_wire.specs.declared.answer.Answer.TheVariants as answers
+use Rattle.ov_protocol.specs.Serving.{Service, served}
+use Rattle.ov_protocol.specs.Answers.{Answers}
+use Rattle.ov_protocol.specs.Replies.{updates_asked}
+use Rattle.ov_protocol.specs.Asking.{known_at, plan_for}
+use Rattle.ov_owner.specs.Errands.{Errand, created, granted, known_of, plan_of, sealed_by}
+use Rattle.ov_owner.specs.declared.fault.OwnerFault.TheVariants as faults
+
+-- the history, served under a surface master
+abbrev pub under : List ℕ → List ℕ → SealedHistory → Service
+under surface base_check g = record { history = g; surface = surface; base_check = base_check }
+
+-- An owner makes these plain updates by this errand: what it seals of an answer at a history that is
+-- right is the plain update at that history, at its epoch; and it is refused what the history refuses.
+pub record Makes (k : Masters) (e : Errand) (plain : PlainHistory → PlainUpdate) : Type 0 where
+  pub told : (base_check : List ℕ) (p : PlainHistory) (a : Answer) (epoch : ℕ) (u : SealedUpdate)
+      → IsLegal (history_of p)
+      → Answers (served (under k.surface base_check (sealed k p))) e.first a
+      → e.sealed a ≡ Ok (epoch, u)
+      → (epoch ≡ (catalogue_of k.surface (sealed k p)).epoch)
+      × (u ≡ sealed_update k (layers_of (history_of p)) (plain p))
+      × (refusal_of (history_of p) (measured (plain p)) ≡ None)
+  pub refused : (base_check : List ℕ) (p : PlainHistory) (a : Answer) (why : Refusal)
+      → IsLegal (history_of p)
+      → Answers (served (under k.surface base_check (sealed k p))) e.first a
+      → e.sealed a ≡ Err (faults.Refused why)
+      → (a ≡ answers.Refused why) × (refusal_of (history_of p) (measured (plain p)) ≡ Some why)
+  pub no_disk : e.sealed answers.DeviceFault ≡ Err (faults.BadReply 0)
+  pub no_update : updates_asked (Ok e.first) ≡ []
+
+-- ---- answers by which something is sealed
+
+pub known_by : (a : Answer) (seal : Known → ℕ × SealedUpdate) (told : ℕ × SealedUpdate)
+    → sealed_by seal (known_of a) ≡ Ok told
+    → (known : Known) × (a ≡ answers.Known known) × (told ≡ seal known)
+known_by (answers.Known known) seal told is = (known, refl, cc)
+known_by (answers.Refused why) seal told is = absurd cc
+known_by answers.NoMemory seal told is = absurd cc
+known_by a seal told is = absurd cc
+
+pub plan_by : (a : Answer) (seal : Plan → ℕ × SealedUpdate) (told : ℕ × SealedUpdate)
+    → sealed_by seal (plan_of a) ≡ Ok told
+    → (plan : Plan) × (a ≡ answers.Plan plan) × (told ≡ seal plan)
+plan_by (answers.Plan plan) seal told is = (plan, refl, cc)
+plan_by (answers.Refused why) seal told is = absurd cc
+plan_by answers.NoMemory seal told is = absurd cc
+plan_by a seal told is = absurd cc
+
+pub known_refused : (a : Answer) (seal : Known → ℕ × SealedUpdate) (why : Refusal)
+    → sealed_by seal (known_of a) ≡ Err (faults.Refused why) → a ≡ answers.Refused why
+known_refused (answers.Known known) seal why is = absurd cc
+known_refused (answers.Refused other) seal why is = cc
+known_refused answers.NoMemory seal why is = absurd cc
+known_refused a seal why is = absurd cc
+
+pub plan_refused : (a : Answer) (seal : Plan → ℕ × SealedUpdate) (why : Refusal)
+    → sealed_by seal (plan_of a) ≡ Err (faults.Refused why) → a ≡ answers.Refused why
+plan_refused (answers.Plan plan) seal why is = absurd cc
+plan_refused (answers.Refused other) seal why is = cc
+plan_refused answers.NoMemory seal why is = absurd cc
+plan_refused a seal why is = absurd cc
+
+-- ---- at a history that is right
+
+twice : (b : Bool) (t : Token) → token_unless (not (not b)) t ≡ token_unless b t
+twice true t = refl
+twice false t = refl
+
+module _ (k : Masters) (p : PlainHistory) (legal : IsLegal (history_of p)) where
+  abbrev c : Catalogue
+  c = catalogue_of k.surface (sealed k p)
+
+  abbrev m : Matrix
+  m = matrix_of (history_of p)
+
+  pub shows : ShowsHistory (history_of p) c
+  shows = kept_shows k p c (legal, refl)
+
+  -- an update by names is refused as the history refuses it
+  pub refused_as : (named : Matrix → Update)
+      → refusal_at c (named (matrix_shown c)) ≡ refusal_of (history_of p) (named m)
+  refused_as named =
+      let s = shows in
+      λ i. first_of_tests (tests_of (s.matrix i) (s.layers i) (s.epoch i) (named (s.matrix i)))
+
+  -- and sealed as the owner seals it there
+  pub sealed_as : (named : Matrix → PlainUpdate)
+      → sealed_update k (outline c) (named (matrix_shown c))
+      ≡ sealed_update k (layers_of (history_of p)) (named m)
+  sealed_as named = let s = shows in λ i. sealed_update k (s.layers i) (named (s.matrix i))
+
+  pub granted_as : (user file : ℕ)
+      → granted k.base (known_at c (of_grant c user file))
+      ≡ sealed_update k (outline c) (PlainGrant user file)
+  granted_as user file =
+      let node = node_of (outline c) file in
+      ap (SealedGrant user file)
+      (twice (has (holders (outline c) node) user)
+      (access_token k.base (root_of c.base.sets user) node))
+
+  pub created_as : (file : List ℕ) (list : ℕ) (bytes : List ℕ)
+      → created k.base file bytes (plan_for c list)
+      ≡ sealed_update k (outline c) (PlainCreate file list bytes)
+  created_as file list bytes =
+      ap (λ (n : ℕ). created k.base file bytes (record (plan_for c list) { file = n }))
+      (sym (length-places c.files))

@@ -1,0 +1,93 @@
+-- The laws of an owner's talks.
+use Rattle.std.specs.Prelude.{◌≡◌, ℕ, ◌+◌, ◌*◌, ◌<◌, ◌≤◌, List, [], ◌∷◌, length, Option, Result}
+use Rattle.std.specs.Prelude.{Err}
+use Rattle.ov_script.specs.declared.command.Command.{Command}
+use Rattle.ov_script.specs.declared.command.Command.TheVariants.{Create}
+use Rattle.ov_history.specs.Masters.{Masters}
+use Rattle.ov_history.specs.Plain.{PlainHistory, history_of}
+use Rattle.ov_history.specs.Refusals.{IsLegal}
+use Rattle.ov_history.specs.Sealed.{SealedHistory}
+use Rattle.ov_history.specs.Sealing.{sealed}
+use Rattle.ov_wire.specs.Frames.{framed}
+use Rattle.ov_protocol.specs.Serving.{Service}
+use Rattle.ov_peer.specs.Asks.{Along, AreRight, Ask}
+use Rattle.ov_owner.specs.Alone.{AskedAlone, FailsAtUpdates, IsOneOrNone}
+use Rattle.ov_owner.specs.Errands.{Errand}
+use Rattle.ov_owner.specs.Steps.{IsErrandFor, IsMachines}
+use Rattle.ov_owner.specs.Talks.{Talks}
+use Rattle.ov_owner.specs.declared.limits.TheConstants.{MAX_TRIES}
+use Rattle.ov_owner.specs.declared.fault.OwnerFault.{OwnerFault}
+use Rattle.ov_owner.specs.declared.fault.OwnerFault.TheVariants.{BadReply, BadTag, Unsettled}
+
+-- An Accepted and a Refused of a talk are the machine's replies at the history of its last ask,
+-- whatever others update between the asks, where the asks are answered under the owner's surface
+-- master at histories that are right.
+abbrev pub TalksAreSteps : Type 0
+TalksAreSteps =
+    (k : Masters) (command : Command) (e : Errand) (asks : List Ask) (unanswered : Option (List ℕ))
+    (result : Result ℕ OwnerFault) (v last : Service) (histories : List SealedHistory)
+    → IsErrandFor k.base command e → Talks k.surface e asks unanswered result
+    → v.surface ≡ k.surface → Along v asks histories last → AreRight k histories
+    → IsMachines k command histories last.history result
+
+-- each is less than the next
+abbrev pub Rises : List ℕ → Type 0
+Rises [] = Unit {0}
+Rises (n ∷ []) = Unit {0}
+Rises (n ∷ (m ∷ more)) = (n < m) × Rises (m ∷ more)
+
+-- the epochs of tries that were all stale rise, and are as many as the tries
+abbrev pub StaleEpochsRise : Type 0
+StaleEpochsRise =
+    (surface base : List ℕ) (command : Command) (e : Errand) (asks : List Ask)
+    (unanswered : Option (List ℕ)) (epochs : List ℕ)
+    → IsErrandFor base command e → Talks surface e asks unanswered (Err (Unsettled epochs))
+    → (length epochs ≡ MAX_TRIES) × Rises epochs
+
+-- Of a server under the owner's surface master that nobody else updates meanwhile, and whose
+-- history is right, a call leaves that history, or that with the update of its command. So it does
+-- after want of memory and after a fault.
+abbrev pub OneUpdateAtMost : Type 0
+OneUpdateAtMost =
+    (k : Masters) (command : Command) (e : Errand) (asks : List Ask) (unanswered : Option (List ℕ))
+    (result : Result ℕ OwnerFault) (v last : Service) (p : PlainHistory)
+    → IsErrandFor k.base command e → Talks k.surface e asks unanswered result
+    → v.surface ≡ k.surface → IsLegal (history_of p) → v.history ≡ sealed k p
+    → AskedAlone v asks unanswered last → IsOneOrNone k p command last.history
+
+-- how many bytes the frames of these asks have, with their length fields
+abbrev pub frame_bytes : List Ask → ℕ
+frame_bytes [] = 0
+frame_bytes (a ∷ asks) = length (framed a.request) + length (framed a.reply) + frame_bytes asks
+
+-- how many there are at most: only a creation is as long as its list and its file
+abbrev pub most_bytes : Command → ℕ
+most_bytes (Create file names bytes) = 320 + 101 * length names + length bytes
+most_bytes command = 512
+
+-- Of a server under the owner's surface master that nobody else updates meanwhile, the frames of a
+-- call have no more bytes than that, whatever files the server has.
+abbrev pub TalksAreShort : Type 0
+TalksAreShort =
+    (k : Masters) (command : Command) (e : Errand) (asks : List Ask) (unanswered : Option (List ℕ))
+    (result : Result ℕ OwnerFault) (v last : Service) (p : PlainHistory)
+    → IsErrandFor k.base command e → Talks k.surface e asks unanswered result
+    → v.surface ≡ k.surface → IsLegal (history_of p) → v.history ≡ sealed k p
+    → AskedAlone v asks unanswered last → frame_bytes asks ≤ most_bytes command
+
+-- neither a wrong reply, nor a wrong tag, nor tries that were all stale
+abbrev pub IsProper : Result ℕ OwnerFault → Type 0
+IsProper (Err (BadReply place)) = ⊥
+IsProper (Err BadTag) = ⊥
+IsProper (Err (Unsettled epochs)) = ⊥
+IsProper result = Unit {0}
+
+-- Of a server under the owner's surface master that nobody else updates meanwhile, whose history is
+-- right and whose disk fails at updates alone, no call gets such a fault.
+abbrev pub TalksAreProper : Type 0
+TalksAreProper =
+    (k : Masters) (command : Command) (e : Errand) (asks : List Ask) (unanswered : Option (List ℕ))
+    (result : Result ℕ OwnerFault) (v last : Service) (p : PlainHistory)
+    → IsErrandFor k.base command e → Talks k.surface e asks unanswered result
+    → v.surface ≡ k.surface → IsLegal (history_of p) → v.history ≡ sealed k p
+    → AskedAlone v asks unanswered last → FailsAtUpdates asks → IsProper result

@@ -1,0 +1,79 @@
+-- Inner: no public contract needs this. What an owner's helpers do.
+use Rattle.std.specs.Prelude.{◌≡◌, ◌⊎◌, ℕ, List, [], ◌∷◌, ◌++◌, Result, Ok, Err}
+use Rattle.ov_record.specs.Updates.{SealedUpdate, sealed_update}
+use Rattle.ov_wire.specs.declared.answer.Answer.{Answer}
+use Rattle.ov_wire.specs.declared.answer.Answer.TheVariants as answers
+use Rattle.ov_script.specs.declared.command.Command.{Command}
+use Rattle.ov_script.specs.declared.command.Command.TheVariants as commands
+use Rattle.ov_peer.specs.Asks.{Asked, Failed}
+use Rattle.ov_peer.specs.declared.fault.ExchangeFault.{ExchangeFault}
+use Rattle.ov_peer.specs.declared.fault.ExchangeFault.TheVariants as exchange
+use Rattle.ov_owner.specs.Calls.{Concludes, Passes}
+use Rattle.ov_owner.specs.Errands.{Errand, IsCreation, creating, enrolling, granting, revoking}
+use Rattle.ov_owner.specs.Talks.{Asks, Sends, again}
+use Rattle.ov_owner.specs.declared.fault.OwnerFault.{OwnerFault}
+use Rattle.ov_owner.specs.declared.fault.OwnerFault.TheVariants as faults
+use Rattle.ov_owner.specs.declared.sealing.Sealed.{Sealed}
+use Rattle.ov_owner.specs.declared.sending.Sent.{Sent}
+use Rattle.ov_owner.specs.declared.sending.Sent.TheVariants.{Accepted, Stale}
+use Rattle.ov_owner.specs.declared.task.Task.{Task}
+use Rattle.ov_owner.specs.declared.task.Task.TheVariants as tasks
+
+-- the errand of a task, under the base master
+abbrev pub errand_of : List ℕ → Task → Errand
+errand_of base (tasks.Enrol user) = enrolling user.now
+errand_of base (tasks.Create file list bytes) = creating base file.now list.now bytes.now
+errand_of base (tasks.Grant user file) = granting base user.now file.now
+errand_of base (tasks.Revoke user file) = revoking user.now file.now
+
+-- the command of a task
+abbrev pub command_of : Task → Command
+command_of (tasks.Enrol user) = commands.Enrol user.now
+command_of (tasks.Create file list bytes) = commands.Create file.now list.now bytes.now
+command_of (tasks.Grant user file) = commands.Grant user.now file.now
+command_of (tasks.Revoke user file) = commands.Revoke user.now file.now
+
+-- the limits of a creation
+abbrev pub HasTaskLimits : Task → Type 0
+HasTaskLimits (tasks.Create file list bytes) = IsCreation list.now bytes.now
+HasTaskLimits task = Unit {0}
+
+-- the fault of a call whose ask has no answer
+abbrev pub owner_fault : ExchangeFault → OwnerFault
+owner_fault exchange.Link = faults.Link
+owner_fault (exchange.BadReply place) = faults.BadReply place
+owner_fault exchange.Memory = faults.Memory
+
+-- what is sealed is this, unless memory ran out
+abbrev pub Seals : Result (ℕ × SealedUpdate) OwnerFault → Result Sealed OwnerFault → Type 0
+Seals told (Ok made) = told ≡ Ok (made.epoch, sealed_update made.update)
+Seals told (Err fault) = (fault ≡ faults.Memory) ⊎ (told ≡ Err fault)
+
+-- what came of an Update, or why the call ends
+abbrev pub sent_of : Answer → Result Sent OwnerFault
+sent_of (answers.Accepted epoch) = Ok (Accepted epoch)
+sent_of (answers.Stale epoch) = Ok (Stale epoch)
+sent_of (answers.Refused why) = Err (faults.Refused why)
+sent_of answers.BadTag = Err faults.BadTag
+sent_of answers.DeviceFault = Err faults.Device
+sent_of answers.NoMemory = Err faults.Memory
+sent_of answer = Err (faults.BadReply 0)
+
+-- the first ask led to the stage at which this update is sent, or the call ended
+abbrev pub IsAsked : {P : Type 0} → Asked P → Failed P → List ℕ → Errand → ℕ → P → P
+    → Result Sealed OwnerFault → Type 0
+IsAsked asked failed surface e least p q (Ok made) =
+    (tries : List ℕ) → Passes asked surface e (Asks tries least) p
+    (Sends tries made.epoch (sealed_update made.update)) q
+IsAsked asked failed surface e least p q (Err fault) =
+    (tries : List ℕ) → Concludes asked failed surface e (Asks tries least) p q (Err fault)
+
+-- the update was sent, and the call ended or goes on after a Stale
+abbrev pub IsSent : {P : Type 0} → Asked P → Failed P → List ℕ → Errand → List ℕ → ℕ
+    → SealedUpdate → P → P → Result Sent OwnerFault → Type 0
+IsSent asked failed surface e tries epoch u p q (Ok (Accepted now)) =
+    Concludes asked failed surface e (Sends tries epoch u) p q (Ok now)
+IsSent asked failed surface e tries epoch u p q (Ok (Stale now)) =
+    Passes asked surface e (Sends tries epoch u) p (again (tries ++ epoch ∷ []) now) q
+IsSent asked failed surface e tries epoch u p q (Err fault) =
+    Concludes asked failed surface e (Sends tries epoch u) p q (Err fault)

@@ -1,0 +1,130 @@
+//! Who holds both masters, and changes the store.
+ghost use Rattle.std.specs.Prelude.{◌≡◌};
+ghost use Rattle.ov_protocol.specs.Serving.{Service};
+ghost use Rattle.ov_script.specs.declared.command.Command.TheVariants.{Create, Enrol};
+ghost use Rattle.ov_script.specs.declared.command.Command.TheVariants.{Grant, Revoke};
+ghost use Rattle.ov_owner.specs.Calls.{Runs};
+ghost use Rattle.ov_owner.specs.Causes.{HasOwnerCause};
+ghost use Rattle.ov_owner.specs.Errands.{IsCreation, creating, enrolling, granting, revoking};
+ghost use Rattle.ov_owner.specs.Steps.{IsOwnersReply};
+ghost use Rattle.ov_owner.specs.Tasks.{HasTaskLimits, command_of, errand_of};
+
+use crate::OwnerFault;
+use crate::settling::settle;
+use crate::task::Task;
+use ov_base::{Key, Name, Names};
+use ov_peer::{Peer, asks_are_told};
+use std::alloc::Global;
+use std::marker::Model;
+
+/// The owner of a store: both masters.
+#[derive(Drop)]
+pub struct Owner {
+    pub(crate) base: Key,
+    pub(crate) surface: Key,
+}
+
+impl Model for Owner {
+    ghost use Rattle.ov_history.specs.Masters.{Masters};
+
+    ghost Value = { Masters };
+
+    ghost view = { λ o. record { base = o.base.bytes; surface = o.surface.bytes } };
+}
+
+impl Owner {
+    /// The owner with these masters. It takes no memory.
+    pub fn new(base: Key, surface: Key) -> Owner
+        ensures { result ≡ record { base = base.bytes; surface = surface.bytes } }
+    {
+        Owner { base, surface }
+    }
+
+    /// Makes a change.
+    fn make<P: Peer>(&self, alloc: Global, peer: &mut P, task: &Task<'_>) -> Result<u32, OwnerFault>
+        requires { HasTaskLimits task.now }
+        ensures runs { Runs P.asked P.failed self.now.surface (errand_of self.now.base task.now)
+            peer.old peer.new result }
+        ensures told { (v : Service) → P.serves peer.old v → v.surface ≡ self.now.surface
+            → IsOwnersReply self.now (command_of task.now) v (P.serves peer.new) result }
+        ensures same { P.borrow peer.new ≡ P.borrow peer.old }
+        ensures cause { HasOwnerCause (P.faults peer.old) (P.faults peer.new) result }
+    {
+        asks_are_told::<P>();
+        settle(alloc, peer, &self.base, &self.surface, task)
+    }
+
+    /// Enrols a user. Gives the new epoch.
+    pub fn enrol<P: Peer>(
+        &self,
+        alloc: Global,
+        peer: &mut P,
+        user: &Name,
+    ) -> Result<u32, OwnerFault>
+        ensures runs { Runs P.asked P.failed self.now.surface (enrolling user.now)
+            peer.old peer.new result }
+        ensures told { (v : Service) → P.serves peer.old v → v.surface ≡ self.now.surface
+            → IsOwnersReply self.now (Enrol user.now) v (P.serves peer.new) result }
+        ensures same { P.borrow peer.new ≡ P.borrow peer.old }
+        ensures cause { HasOwnerCause (P.faults peer.old) (P.faults peer.new) result }
+    {
+        self.make(alloc, peer, &Task::Enrol { user })
+    }
+
+    /// Creates a file of these bytes, for the users of the list. Gives the new epoch.
+    pub fn create<P: Peer>(
+        &self,
+        alloc: Global,
+        peer: &mut P,
+        file: &Name,
+        list: &Names,
+        bytes: &[u8],
+    ) -> Result<u32, OwnerFault>
+        requires { IsCreation list.now bytes.now }
+        ensures runs { Runs P.asked P.failed self.now.surface
+            (creating self.now.base file.now list.now bytes.now) peer.old peer.new result }
+        ensures told { (v : Service) → P.serves peer.old v → v.surface ≡ self.now.surface
+            → IsOwnersReply self.now (Create file.now list.now bytes.now) v
+            (P.serves peer.new) result }
+        ensures same { P.borrow peer.new ≡ P.borrow peer.old }
+        ensures cause { HasOwnerCause (P.faults peer.old) (P.faults peer.new) result }
+    {
+        self.make(alloc, peer, &Task::Create { file, list, bytes })
+    }
+
+    /// Puts a user onto the list of a file. Gives the new epoch.
+    pub fn grant<P: Peer>(
+        &self,
+        alloc: Global,
+        peer: &mut P,
+        user: &Name,
+        file: &Name,
+    ) -> Result<u32, OwnerFault>
+        ensures runs { Runs P.asked P.failed self.now.surface
+            (granting self.now.base user.now file.now) peer.old peer.new result }
+        ensures told { (v : Service) → P.serves peer.old v → v.surface ≡ self.now.surface
+            → IsOwnersReply self.now (Grant user.now file.now) v (P.serves peer.new) result }
+        ensures same { P.borrow peer.new ≡ P.borrow peer.old }
+        ensures cause { HasOwnerCause (P.faults peer.old) (P.faults peer.new) result }
+    {
+        self.make(alloc, peer, &Task::Grant { user, file })
+    }
+
+    /// Takes a user off the list of a file. Gives the new epoch.
+    pub fn revoke<P: Peer>(
+        &self,
+        alloc: Global,
+        peer: &mut P,
+        user: &Name,
+        file: &Name,
+    ) -> Result<u32, OwnerFault>
+        ensures runs { Runs P.asked P.failed self.now.surface (revoking user.now file.now)
+            peer.old peer.new result }
+        ensures told { (v : Service) → P.serves peer.old v → v.surface ≡ self.now.surface
+            → IsOwnersReply self.now (Revoke user.now file.now) v (P.serves peer.new) result }
+        ensures same { P.borrow peer.new ≡ P.borrow peer.old }
+        ensures cause { HasOwnerCause (P.faults peer.old) (P.faults peer.new) result }
+    {
+        self.make(alloc, peer, &Task::Revoke { user, file })
+    }
+}

@@ -1,0 +1,73 @@
+//! One ask and one update, and again after Stale.
+ghost use Rattle.std.specs.Prelude.{◌≡◌, ℕ, List, IfOk};
+ghost use Rattle.ov_record.specs.Spelling.{IsWithinLimits};
+ghost use Rattle.ov_record.specs.Updates.{sealed_update};
+ghost use Rattle.ov_owner.specs.Calls.{Runs};
+ghost use Rattle.ov_owner.specs.Causes.{HasOwnerCause};
+ghost use Rattle.ov_owner.specs.Tasks.{HasTaskLimits, IsAsked, errand_of};
+
+use crate::OwnerFault;
+use crate::limits::MAX_TRIES;
+use crate::sealing::{Sealed, seal};
+use crate::sending::{Sent, fault_of, send};
+use crate::task::{Task, first_request};
+use ov_base::Key;
+use ov_peer::{Peer, exchange};
+use std::alloc::Global;
+
+/// Asks a task's first request, and seals the update of the answer. No epoch may come that is lower
+/// than `least`, which was told before.
+fn ask<P: Peer>(
+    alloc: Global,
+    peer: &mut P,
+    base: &Key,
+    task: &Task<'_>,
+    least: u32,
+) -> Result<Sealed, OwnerFault>
+    requires { HasTaskLimits task.now }
+    ensures asked { (surface : List ℕ) → IsAsked P.asked P.failed surface
+        (errand_of base.now.bytes task.now) least peer.old peer.new result }
+    ensures limits { IfOk result (λ made. IsWithinLimits (sealed_update made.update)) }
+    ensures same { P.borrow peer.new ≡ P.borrow peer.old }
+    ensures cause { HasOwnerCause (P.faults peer.old) (P.faults peer.new) result }
+{
+    let request = first_request(alloc, task)?;
+    let answer = match exchange(alloc, peer, &request) {
+        Ok(answer) => answer,
+        Err(fault) => return Err(fault_of(fault)),
+    };
+    let sealed = seal(alloc, base, task, answer)?;
+    // The epoch stands right behind the kind byte.
+    if sealed.epoch < least {
+        return Err(OwnerFault::BadReply { at: 1 });
+    }
+    Ok(sealed)
+}
+
+/// Makes a change: asks, and sends the update at the epoch that was told; and again where others
+/// were faster.
+pub fn settle<P: Peer>(
+    alloc: Global,
+    peer: &mut P,
+    base: &Key,
+    surface: &Key,
+    task: &Task<'_>,
+) -> Result<u32, OwnerFault>
+    requires { HasTaskLimits task.now }
+    ensures runs { Runs P.asked P.failed surface.now.bytes (errand_of base.now.bytes task.now)
+        peer.old peer.new result }
+    ensures same { P.borrow peer.new ≡ P.borrow peer.old }
+    ensures cause { HasOwnerCause (P.faults peer.old) (P.faults peer.new) result }
+{
+    let mut epochs = [0; MAX_TRIES];
+    let mut least = 0;
+    for i in 0..MAX_TRIES {
+        let sealed = ask(alloc, peer, base, task, least)?;
+        match send(alloc, peer, surface, &sealed)? {
+            Sent::Accepted(epoch) => return Ok(epoch),
+            Sent::Stale(epoch) => least = epoch,
+        }
+        epochs[i] = sealed.epoch;
+    }
+    Err(OwnerFault::Unsettled { epochs })
+}

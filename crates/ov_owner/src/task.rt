@@ -1,0 +1,65 @@
+//! Changes that an owner is to make.
+ghost use Rattle.std.specs.Prelude.{◌≡◌, ℕ, List, IfOk};
+ghost use Rattle.ov_wire.specs.Requests.{HasRequestLimits};
+ghost use Rattle.ov_owner.specs.Tasks.{HasTaskLimits, errand_of};
+
+use crate::names::copy_names;
+use ov_base::{Memory, Name, Names};
+use ov_wire::{Question, Request};
+use std::alloc::Global;
+
+/// A change that an owner is to make, by names.
+#[derive(Drop)]
+pub enum Task<'a> {
+    /// To enrol this user.
+    Enrol {
+        user: &'a Name,
+    },
+    /// To create a file of these bytes for the users of the list.
+    Create {
+        file: &'a Name,
+        list: &'a Names,
+        bytes: &'a [u8],
+    },
+    /// To put the user onto the file's list.
+    Grant {
+        user: &'a Name,
+        file: &'a Name,
+    },
+    /// To take the user off the file's list.
+    Revoke {
+        user: &'a Name,
+        file: &'a Name,
+    },
+}
+
+/// What is asked first.
+pub fn first_request(alloc: Global, task: &Task<'_>) -> Result<Request, Memory>
+    requires { HasTaskLimits task.now }
+    ensures request { IfOk result (λ request.
+        (base : List ℕ) → request ≡ (errand_of base task.now).first) }
+    ensures limits { IfOk result HasRequestLimits }
+{
+    match task {
+        Task::Enrol { user } => Ok(Request::Ask {
+            question: Question::Enrol { user: user.copy() },
+        }),
+        Task::Create { file, list, bytes } => Ok(Request::Cover {
+            file: file.copy(),
+            length: bytes.len() as u32,
+            names: copy_names(alloc, list)?,
+        }),
+        Task::Grant { user, file } => Ok(Request::Ask {
+            question: Question::Grant {
+                user: user.copy(),
+                file: file.copy(),
+            },
+        }),
+        Task::Revoke { user, file } => Ok(Request::Ask {
+            question: Question::Revoke {
+                user: user.copy(),
+                file: file.copy(),
+            },
+        }),
+    }
+}
