@@ -18,9 +18,9 @@ use Rattle.ov_history.specs.Catalogue.{Catalogue, matrix_shown, outline}
 use Rattle.ov_history.specs.Refusals.{tests_of}
 use Rattle.ov_history.proofs.PlanLaws.{with_set-has}
 use Rattle.ov_history.proofs.SoundTests.{accepted, files_shown-length, none_applies}
-use Rattle.ov_state.specs.Asking.{Plans}
 use Rattle.ov_state.specs.Contents.{IsWell}
 use Rattle.ov_state.specs.declared.covering.Planned.{Planned}
+use Rattle.ov_wire.specs.declared.answer.Answer.TheVariants as answers
 use Rattle.ov_wire.specs.AnswerForm.{HasAnswerForm}
 use Rattle.ov_wire.specs.AnswersTo.{IsPlan}
 use Rattle.ov_wire.specs.Entries.{IsNode}
@@ -61,3 +61,21 @@ plan_form limit c name list len well none =
       all_nodes (plan_of c.base.sets list).from (length c.base.sets) well.sound.base.few
           (λ n there. starts_there (node_of c.base.sets list) c.base.sets list n there),
     )
+
+-- and the answer that tells it
+pub planned_form : {W : ℕ} (limit : ℕ) (c : Catalogue) (name : List ℕ) (list len epoch : ℕ)
+    (planned : Planned W) → IsWell limit c → epoch ≡ c.epoch
+    → refusal_at c (Created name list len) ≡ None → planned.file ≡ length c.files
+    → planned.list ≡ list → planned.cover ≡ plan_of c.base.sets list
+    → HasAnswerForm (plan_answer epoch planned)
+planned_form limit c name list len epoch planned well now none file set cover =
+    let same : answers.Plan (plan_for c list) ≡ plan_answer epoch planned =
+    λ i. answers.Plan (record {
+      epoch = sym now i;
+      file = sym file i;
+      list = sym set i;
+      node = (sym cover i).node;
+      fresh = (sym cover i).fresh;
+      from = (sym cover i).from;
+    }) in
+    subst HasAnswerForm same (plan_form limit c name list len well none)

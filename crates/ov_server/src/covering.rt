@@ -1,13 +1,12 @@
 //! What an owner is told before a creation.
 ghost use Rattle.std.specs.Prelude.{◌≡◌, ◌≤◌, IfOk};
-ghost use Rattle.ov_base.specs.Sets.{IsBelow};
-ghost use Rattle.ov_base.specs.declared.limits.TheConstants.{MAX_FILE_BYTES, MAX_USERS};
+ghost use Rattle.ov_base.specs.declared.limits.TheConstants.{MAX_FILE_BYTES};
 ghost use Rattle.ov_history.specs.Lists.{set_named};
 ghost use Rattle.ov_wire.specs.AnswerForm.{HasAnswerForm};
 ghost use Rattle.ov_protocol.specs.Asking.{AnswersCover};
 ghost use Rattle.ov_server.specs.Telling.{plan_answer};
 
-use ov_base::{Memory, Name, Names, Users};
+use ov_base::{Memory, Name, Names};
 use ov_state::{Catalogue, ChainFault, Planned, WIDTH};
 use ov_wire::{Answer, Plan};
 use std::alloc::Global;
@@ -27,13 +26,6 @@ fn plan(epoch: u32, planned: Planned<WIDTH>) -> Answer
     })
 }
 
-/// A set of this width has no users past those that a store may have.
-fn is_small(list: &Users)
-    ensures { IsBelow MAX_USERS list.now }
-{
-    let _ = list.contains(0);
-}
-
 /// The answer to a Cover of a file of so many bytes.
 pub fn answer_cover(
     alloc: Global,
@@ -49,10 +41,7 @@ pub fn answer_cover(
 {
     state.known();
     match state.cover(alloc, file, size, names.as_slice()) {
-        Ok(planned) => {
-            is_small(&planned.list);
-            Ok(plan(state.epoch(), planned))
-        }
+        Ok(planned) => Ok(plan(state.epoch(), planned)),
         Err(ChainFault::Refused(refusal)) => Ok(Answer::Refused { refusal }),
         Err(ChainFault::Memory) => Err(Memory),
     }
