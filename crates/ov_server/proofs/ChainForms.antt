@@ -72,8 +72,7 @@ module _ (kind : Kind) (graph : Contents) (is : IsGraph graph.sets graph.edges)
       (subst (λ (l : List ℕ). Contains l edge.from) (is.covers node there) from)).0 in
       let rest = chosen_form edges edge.from before (omega (arith, lower, there)) chosen in
       let last : Step = record { to = label_of kind node; token = edge.token } in
-      subst (λ (l : List Step). AllByRecursion (IsOf kind) l × (length l ≤ node)) (sym steps_are)
-      (
+      subst (λ (l : List Step). AllByRecursion (IsOf kind) l × (length l ≤ node)) (sym steps_are) (
         all_and_last (IsOf kind) before last rest.0 (refl, omega (arith, there, few)),
         omega (arith, rest.1, lower, length-append before (last ∷ [])),
       )
@@ -131,8 +130,7 @@ access_form users nodes grants user node chain layer there node_there (token, gi
     } in
     let has_token : HaveTokens one.steps =
     subst (λ (c : Chain). HaveTokens c.steps) same tokens in
-    subst (HasForm base_kinds) (sym same)
-    (
+    subst (HasForm base_kinds) (sym same) (
       (
         root_low users user nodes layer there,
         (omega arith, ((inr (inl refl), omega (arith, node_there, layer.few), has_token.0), tt)),

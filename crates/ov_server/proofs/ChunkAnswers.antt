@@ -41,8 +41,7 @@ module _ (c : Catalogue) (stored : List (List ℕ)) (file generation start count
       → bytes ≡ after → Says (answers.Bytes bytes)
   says_bytes done bytes is none same =
       let (f, there, at_it, new) = subst Chunked is chunks in
-      subst (λ o. At o (answers.Bytes bytes)) (sym there)
-      (
+      subst (λ o. At o (answers.Bytes bytes)) (sym there) (
         at_it,
         same ∙ new
             ∙ ap (λ l. l ++ take count (drop start (slice_index_or stored file []))) none,

@@ -116,8 +116,7 @@ module _ {D : Type 0} (reads : D → Option Image) (may_leave : D → Image → 
       → (made : List SealedUpdate) × IsMade (request_of request) made
   made_if_so is so =
       let r = is.frame.replies in
-      let accepted = says_so r.answer (ap says_accepted (sym r.spelled) ∙ so) in
-      (
+      let accepted = says_so r.answer (ap says_accepted (sym r.spelled) ∙ so) in (
         made_of (request_of request) (answers.Accepted accepted.0),
         accepted_made (serving_of old) (request_of request) accepted.0
             (subst (AnswersRead (serving_of old) (request_of request)) accepted.1 r.answers),

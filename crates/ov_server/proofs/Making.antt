@@ -258,8 +258,7 @@ module _ {D : Type 0} (reads : D → Option Image) (may_leave : D → Image → 
     on_refused why is puts =
         let said = subst (Updates u old new) is answer in
         let goes = subst (λ r. GoesOnAfter r old new) is state in
-        answers_no (Ok (answers.Refused why)) reply last goes.untouched said.0 tt
-        (
+        answers_no (Ok (answers.Refused why)) reply last goes.untouched said.0 tt (
           nothing_made (request_of request) (answers.Refused why) refl,
           λ w other. not_failed (Refused why) goes (λ same. cc),
         )
@@ -272,8 +271,7 @@ module _ {D : Type 0} (reads : D → Option Image) (may_leave : D → Image → 
         let goes = subst (λ r. GoesOnAfter r old new) is state in
         answers_no (Ok (answers.BadRequest (5 + place))) reply last goes.untouched
         (said.0.0, said.0.1, ap (λ n. 5 + n) said.0.2)
-        (omega (arith, said.0.2, part_low u form))
-        (
+        (omega (arith, said.0.2, part_low u form)) (
           nothing_made (request_of request) (answers.BadRequest (5 + place)) refl,
           λ w other. not_failed (BadPlan place) goes (λ same. cc),
         )
@@ -298,6 +296,6 @@ module _ {D : Type 0} (reads : D → Option Image) (may_leave : D → Image → 
         let goes = subst (λ r. GoesOnAfter r old new) is state in
         answered done last_is (inr (had_failed reply reply_is goes))
         (λ fault.
-            absurd
-            (true≢false
-            (sym (goes.failed.2 refl) ∙ fault.1 (is_update (serving_of old) request u has))))
+        absurd
+        (true≢false
+        (sym (goes.failed.2 refl) ∙ fault.1 (is_update (serving_of old) request u has))))

@@ -50,17 +50,16 @@ node_form nodes number (users, few, layer) there tokens =
     let set : ℕ = slice_index nodes.sets number in
     let below : IsBelow MAX_USERS set =
     λ user one.
-        omega (arith, few, layer.below set (place-Contains nodes.sets number set there refl) user one)
+    omega (arith, few, layer.below set (place-Contains nodes.sets number set there refl) user one)
     in
-    let small : size set ≤ MAX_USERS = ones-le MAX_USERS set (IsBelow-small MAX_USERS set below) in
-    (
+    let small : size set ≤ MAX_USERS = ones-le MAX_USERS set (IsBelow-small MAX_USERS set below) in (
       below,
       omega (arith, edges-few nodes.sets nodes.edges layer.graph number there, small),
       edges_form (slice_index_or nodes.edges number []) number
           (omega (arith, there, layer.few))
           (λ n from.
-              (starts-Contains nodes.sets number n
-              (subst (λ (l : List ℕ). Contains l n) (layer.graph.covers number there) from)).0)
+          (starts-Contains nodes.sets number n
+          (subst (λ (l : List ℕ). Contains l n) (layer.graph.covers number there) from)).0)
           tokens,
     )
 

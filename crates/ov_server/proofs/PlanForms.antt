@@ -51,8 +51,7 @@ plan_form limit c name list len well none =
     none in
     let full = gt_of_false MAX_FILES (length (matrix_shown c).files) tests.1.1.0 in
     let below : IsBelow MAX_USERS list = λ user one. omega (arith, fine.0 user one, well.users) in
-    let few : size list ≤ MAX_USERS = ones-le MAX_USERS list (IsBelow-small MAX_USERS list below) in
-    (
+    let few : size list ≤ MAX_USERS = ones-le MAX_USERS list (IsBelow-small MAX_USERS list below) in (
       omega (arith, well.epoch),
       omega (arith, full, files_shown-length (outline c) c.files),
       below,

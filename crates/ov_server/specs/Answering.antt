@@ -1,5 +1,6 @@
 -- What a server answers to a frame, over a disk that may fail, and what it then stands for.
-use Rattle.std.specs.Prelude.{◌≡◌, ◌⊎◌, ℕ, List, [], true, false, Option, Some, Result, Ok, OnErr, OnOk}
+use Rattle.std.specs.Prelude.{◌≡◌, ◌⊎◌, ℕ, List, [], true, false}
+use Rattle.std.specs.Prelude.{Option, Result, Ok, OnErr, OnOk}
 use Rattle.ov_base.specs.declared.memory.Memory.{Memory}
 use Rattle.ov_record.specs.Reading.{update_of}
 use Rattle.ov_record.specs.Updates.{SealedUpdate}

@@ -31,7 +31,9 @@ answered reads may_leave p q request reply v is serves =
     (services_are_served (serving_of p) v serves) is.frame.replies in (
       [],
       is.frame.made,
-      inl (subst (λ (w : Service). Replies (served w) request reply is.frame.made) (sym none) at_it),
+      inl
+          (subst (λ (w : Service). Replies (served w) request reply is.frame.made) (sym none)
+          at_it),
       subst (λ (w : Service). IsServedBy q (later w is.frame.made)) (sym none) goes_on,
     )
 

@@ -89,11 +89,7 @@ fn answer_key(state: &Catalogue, user: &Name) -> Answer
 }
 
 /// The answer to an Ask.
-pub fn answer_ask(
-    alloc: Global,
-    state: &Catalogue,
-    question: &Question,
-) -> Result<Answer, Memory>
+pub fn answer_ask(alloc: Global, state: &Catalogue, question: &Question) -> Result<Answer, Memory>
     ensures answer { IfOk result (AnswersAsk state.now.catalogue question.now) }
     ensures form { IfOk result HasAnswerForm }
 {

@@ -18,9 +18,9 @@
 //! the base master (`Serving` of ov_protocol).
 //!
 //! * The reply is the one of ov_protocol's `AnswersFrame` at what the server shows, which then goes
-//!   on by what it made (`IsAnswered`); so what is accepted lasts on the disk. Or it is `DeviceFault`
-//!   (`IsFaulted`), and what is shown stays: to an update that needs the disk exactly where a call of
-//!   the disk failed in it or in an earlier one.
+//!   on by what it made (`IsAnswered`); so what is accepted lasts on the disk. Or it is
+//!   `DeviceFault` (`IsFaulted`), and what is shown stays: to an update that needs the disk exactly
+//!   where a call of the disk failed in it or in an earlier one.
 //! * A crash at any moment of the call leaves a history for which the server stood, or this with
 //!   the request's update (`LeavesAsked`).
 //! * All memory is taken before the disk is written. Where it is refused all is as it was.
@@ -29,7 +29,7 @@
 //! |---|---|
 //! | `Answering` | what is answered to a frame, and what is left on the disk |
 //! | `Following` | how a server goes on from where it began, for `Answerer` |
-//! | `Telling`, `Locally` | inner: answers made of what a state tells, and what a local peer tells |
+//! | `Telling`, `Locally` | inner: answers made of what a state tells; what a local peer tells |
 //!
 //! Nothing is claimed of who asks: an update is the owner's by its tag alone.
 #![tactic(auto)]

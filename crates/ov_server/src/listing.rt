@@ -13,12 +13,7 @@ use ov_wire::Answer;
 use std::alloc::Global;
 
 /// Appends the name of a user who is in the set, behind those of the users before.
-fn put_name(
-    state: &Catalogue,
-    user: u32,
-    set: &Users,
-    names: &mut Names,
-) -> Result<(), Memory>
+fn put_name(state: &Catalogue, user: u32, set: &Users, names: &mut Names) -> Result<(), Memory>
     requires user { user < length state.now.catalogue.users }
     requires distinct { AreDistinct state.now.catalogue.users }
     requires before { names.old ≡ names_in set.now (take user state.now.catalogue.users) }

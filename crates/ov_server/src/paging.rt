@@ -17,11 +17,7 @@ use ov_wire::Answer;
 use std::alloc::Global;
 
 /// The entry of a user.
-fn user_page(
-    alloc: Global,
-    state: &Catalogue,
-    number: u32,
-) -> Result<Option<Octets>, Memory>
+fn user_page(alloc: Global, state: &Catalogue, number: u32) -> Result<Option<Octets>, Memory>
     ensures entry { IfOk result (λ page.
         page ≡ page_of (entry_of state.now.catalogue 1 number)) }
     ensures form { IfOk result (λ page. IfSome page IsSomeEntry) }
@@ -57,11 +53,7 @@ fn node_page<L: Layer, G: Graph<L, WIDTH>>(
 }
 
 /// The entry of an access token.
-fn access_page(
-    alloc: Global,
-    state: &Catalogue,
-    number: u32,
-) -> Result<Option<Octets>, Memory>
+fn access_page(alloc: Global, state: &Catalogue, number: u32) -> Result<Option<Octets>, Memory>
     ensures entry { IfOk result (λ page.
         page ≡ page_of (entry_of state.now.catalogue 4 number)) }
     ensures form { IfOk result (λ page. IfSome page IsSomeEntry) }
@@ -77,11 +69,7 @@ fn access_page(
 }
 
 /// The entry of a file.
-fn file_page(
-    alloc: Global,
-    state: &Catalogue,
-    number: u32,
-) -> Result<Option<Octets>, Memory>
+fn file_page(alloc: Global, state: &Catalogue, number: u32) -> Result<Option<Octets>, Memory>
     ensures entry { IfOk result (λ page.
         page ≡ page_of (entry_of state.now.catalogue 5 number)) }
     ensures form { IfOk result (λ page. IfSome page IsSomeEntry) }
@@ -106,12 +94,7 @@ fn file_page(
 }
 
 /// The entry of a part.
-fn page(
-    alloc: Global,
-    state: &Catalogue,
-    part: u8,
-    number: u32,
-) -> Result<Option<Octets>, Memory>
+fn page(alloc: Global, state: &Catalogue, part: u8, number: u32) -> Result<Option<Octets>, Memory>
     ensures entry { IfOk result (λ page.
         page ≡ page_of (entry_of state.now.catalogue part number)) }
     ensures form { IfOk result (λ page. IfSome page IsSomeEntry) }

@@ -8,5 +8,5 @@ pub returns : goal.returns
 returns c =
     recursion_from_All IsName c.args.names.now
     (λ k d lt.
-        subst IsName (get_or_default c.args.names.now k [] d lt)
-        (c.loop-name.invariant k (omega arith)))
+    subst IsName (get_or_default c.args.names.now k [] d lt)
+    (c.loop-name.invariant k (omega arith)))

@@ -10,5 +10,5 @@ pub returns : goal.returns
 returns c =
     recursion_from_All (λ (e : Edge). IsToken e.token) c.args.edges.now
     (λ k d lt.
-        subst (λ (e : Edge). IsToken e.token) (get_or_default c.args.edges.now k no_edge d lt)
-        (c.loop-edge.invariant k (omega arith)))
+    subst (λ (e : Edge). IsToken e.token) (get_or_default c.args.edges.now k no_edge d lt)
+    (c.loop-edge.invariant k (omega arith)))

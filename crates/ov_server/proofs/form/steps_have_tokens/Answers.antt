@@ -10,5 +10,5 @@ pub returns : goal.returns
 returns c =
     recursion_from_All (λ (s : Step). IsToken s.token) c.args.steps.now
     (λ k d lt.
-        subst (λ (s : Step). IsToken s.token) (get_or_default c.args.steps.now k no_step d lt)
-        (c.loop-step.invariant k (omega arith)))
+    subst (λ (s : Step). IsToken s.token) (get_or_default c.args.steps.now k no_step d lt)
+    (c.loop-step.invariant k (omega arith)))

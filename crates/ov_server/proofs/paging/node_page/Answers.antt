@@ -13,8 +13,7 @@ node_entry-requires g c =
     omega (arith, c.if-count-number.false, c.count.ensures.nodes) in
     let form =
     node_form nodes c.args.number c.requires there
-    (subst LeadByTokens c.in_tokens-edges.ensures c.edges_have_tokens.ensures) in
-    (
+    (subst LeadByTokens c.in_tokens-edges.ensures c.edges_have_tokens.ensures) in (
       search rules,
       (search rules, omega (arith, form.1, ap (λ (l : List Edge). length l) c.in_tokens-edges.ensures)),
     )
@@ -28,5 +27,5 @@ returns g c =
     (subst LeadByTokens c.in_tokens-edges.ensures c.edges_have_tokens.ensures)
     (c.from_vec.ensures ∙ c.in_ok-node_entry.ensures.ok
     ∙ (λ i.
-        c.new-bytes.ensures.items i
-        ++ node_entry 32 (c.set_of.ensures i) (c.in_tokens-edges.ensures i)))
+    c.new-bytes.ensures.items i
+    ++ node_entry 32 (c.set_of.ensures i) (c.in_tokens-edges.ensures i)))

@@ -14,6 +14,6 @@ returns-clause-begins g c =
 pub returns-clause-counts : goal.returns-clause-counts
 returns-clause-counts g c =
     λ start list reaches.
-        c.epoch.ensures ∙ ap (λ (k : Catalogue). k.epoch) c.state.ensures
-        ∙ ap (λ (s : Opened g.row.D.Denot). s.catalogue.epoch) c.self.view_is
-        ∙ epoch_reached (serving_of start) (serving_of c.args.self.now) list reaches
+    c.epoch.ensures ∙ ap (λ (k : Catalogue). k.epoch) c.state.ensures
+    ∙ ap (λ (s : Opened g.row.D.Denot). s.catalogue.epoch) c.self.view_is
+    ∙ epoch_reached (serving_of start) (serving_of c.args.self.now) list reaches

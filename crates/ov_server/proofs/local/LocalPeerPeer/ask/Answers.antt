@@ -16,11 +16,11 @@ returns-clause-asked g c =
     subst (λ old. OnOk c.match-answer.result (P old)) c.self.view_is
     (elim c.match-answer.branch [
       | in-Ok w ↦
-        asked_at g.D.Disk.reads g.D.Disk.may_leave g.D.Disk.moment g.D.Disk.left_since
-    g.D.Disk.borrow g.D.Disk.faults c.self.inside.server c.answer.new.self c.args.request.now
-        c.answer.new.reply.items c.answer.result c.answer.ensures.answer
-        c.answer.ensures.any_moment c.answer.ensures.call _ w.in-Ok.is c.match-answer.result _
-        w.result-is
+          asked_at g.D.Disk.reads g.D.Disk.may_leave g.D.Disk.moment g.D.Disk.left_since
+          g.D.Disk.borrow g.D.Disk.faults c.self.inside.server c.answer.new.self c.args.request.now
+          c.answer.new.reply.items c.answer.result c.answer.ensures.answer
+          c.answer.ensures.any_moment c.answer.ensures.call _ w.in-Ok.is c.match-answer.result _
+          w.result-is
       | in-Err w ↦ nothing_at (P c.self.inside.server) c.match-answer.result _ w.result-is
     ])
 
@@ -28,10 +28,10 @@ pub returns-clause-frame : goal.returns-clause-frame
 returns-clause-frame g c =
     elim c.match-answer.branch [
       | in-Ok w ↦
-        frame_at g.D.Disk.reads g.D.Disk.may_leave g.D.Disk.moment g.D.Disk.left_since
-    g.D.Disk.borrow g.D.Disk.faults c.self.inside.server c.answer.new.self c.args.request.now
-        c.answer.new.reply.items c.answer.result c.answer.ensures.answer
-        c.answer.ensures.any_moment c.answer.ensures.call _ w.in-Ok.is c.match-answer.result _
-        w.result-is
+          frame_at g.D.Disk.reads g.D.Disk.may_leave g.D.Disk.moment g.D.Disk.left_since
+          g.D.Disk.borrow g.D.Disk.faults c.self.inside.server c.answer.new.self c.args.request.now
+          c.answer.new.reply.items c.answer.result c.answer.ensures.answer
+          c.answer.ensures.any_moment c.answer.ensures.call _ w.in-Ok.is c.match-answer.result _
+          w.result-is
       | in-Err w ↦ nothing_at (IsFrame c.answer.new.reply.items) c.match-answer.result _ w.result-is
     ]

@@ -20,26 +20,26 @@ returns-in-Ok g c =
     let same : c.chunk.new.self ≡ s = c.chunk.ensures.same ∙ c.self.view_is in
     let asked : Request = requests.Chunk c.args.file c.args.generation c.args.start c.args.count in
     λ request is.
-        subst
-        (λ o. AsksServer g.D.Disk.reads g.D.Disk.may_leave g.D.Disk.moment g.D.Disk.left_since
+    subst
+    (λ o. AsksServer g.D.Disk.reads g.D.Disk.may_leave g.D.Disk.moment g.D.Disk.left_since
     g.D.Disk.borrow g.D.Disk.faults s o
-        request c.reply_with.new.reply.items c.reply_with.result) (sym same)
-        (answers_still g.D.Disk.reads g.D.Disk.may_leave g.D.Disk.moment g.D.Disk.left_since
+    request c.reply_with.new.reply.items c.reply_with.result) (sym same)
+    (answers_still g.D.Disk.reads g.D.Disk.may_leave g.D.Disk.moment g.D.Disk.left_since
     g.D.Disk.borrow g.D.Disk.faults g.met.D.Disk.only_now s request (Ok asked) is
-        (Ok (answers.Bytes c.from_vec-bytes.result)) c.reply_with.new.reply.items c.reply_with.result
-        (subst
-        (λ (o : Opened g.row.D.Denot). AnswersChunk (slice_get o.catalogue.files c.args.file)
-        (slice_index_or o.stored c.args.file []) c.args.generation c.args.start c.args.count
-        (answers.Bytes c.from_vec-bytes.result)) c.self.view_is
-        (says_bytes store.catalogue store.stored c.args.file c.args.generation c.args.start
-        c.args.count c.new-bytes.result.items c.chunk.new.out.items c.chunk.result
-        c.chunk.ensures.answer c.in-Ok.field-0 c.from_vec-bytes.result c.in-Ok.is
-        c.new-bytes.ensures.items c.from_vec-bytes.ensures)) (few_bytes store.catalogue store.stored c.args.file c.args.generation c.args.start
-        c.args.count c.new-bytes.result.items c.chunk.new.out.items c.chunk.result
-        c.chunk.ensures.answer c.in-Ok.field-0 c.from_vec-bytes.result c.in-Ok.is
-        c.new-bytes.ensures.items c.from_vec-bytes.ensures c.requires)
-        (refl, λ u has. absurd (no_update s request u has asked is (λ e. let wrong = e.3 in cc)))
-        (c.reply_with.ensures.ok, c.reply_with.ensures.err))
+    (Ok (answers.Bytes c.from_vec-bytes.result)) c.reply_with.new.reply.items c.reply_with.result
+    (subst
+    (λ (o : Opened g.row.D.Denot). AnswersChunk (slice_get o.catalogue.files c.args.file)
+    (slice_index_or o.stored c.args.file []) c.args.generation c.args.start c.args.count
+    (answers.Bytes c.from_vec-bytes.result)) c.self.view_is
+    (says_bytes store.catalogue store.stored c.args.file c.args.generation c.args.start
+    c.args.count c.new-bytes.result.items c.chunk.new.out.items c.chunk.result
+    c.chunk.ensures.answer c.in-Ok.field-0 c.from_vec-bytes.result c.in-Ok.is
+    c.new-bytes.ensures.items c.from_vec-bytes.ensures)) (few_bytes store.catalogue store.stored c.args.file c.args.generation c.args.start
+    c.args.count c.new-bytes.result.items c.chunk.new.out.items c.chunk.result
+    c.chunk.ensures.answer c.in-Ok.field-0 c.from_vec-bytes.result c.in-Ok.is
+    c.new-bytes.ensures.items c.from_vec-bytes.ensures c.requires)
+    (refl, λ u has. absurd (no_update s request u has asked is (λ e. let wrong = e.3 in cc)))
+    (c.reply_with.ensures.ok, c.reply_with.ensures.err))
 
 pub returns-in-Err-NoFile : goal.returns-in-Err-NoFile
 returns-in-Err-NoFile g c =
@@ -48,22 +48,22 @@ returns-in-Err-NoFile g c =
     let same : c.chunk.new.self ≡ s = c.chunk.ensures.same ∙ c.self.view_is in
     let asked : Request = requests.Chunk c.args.file c.args.generation c.args.start c.args.count in
     λ request is.
-        subst
-        (λ o. AsksServer g.D.Disk.reads g.D.Disk.may_leave g.D.Disk.moment g.D.Disk.left_since
+    subst
+    (λ o. AsksServer g.D.Disk.reads g.D.Disk.may_leave g.D.Disk.moment g.D.Disk.left_since
     g.D.Disk.borrow g.D.Disk.faults s o
-        request c.reply_with-in-Err-NoFile.new.reply.items c.reply_with-in-Err-NoFile.result) (sym same)
-        (answers_still g.D.Disk.reads g.D.Disk.may_leave g.D.Disk.moment g.D.Disk.left_since
+    request c.reply_with-in-Err-NoFile.new.reply.items c.reply_with-in-Err-NoFile.result) (sym same)
+    (answers_still g.D.Disk.reads g.D.Disk.may_leave g.D.Disk.moment g.D.Disk.left_since
     g.D.Disk.borrow g.D.Disk.faults g.met.D.Disk.only_now s request (Ok asked) is
-        (Ok (answers.Refused NoFile)) c.reply_with-in-Err-NoFile.new.reply.items c.reply_with-in-Err-NoFile.result
-        (subst
-        (λ (o : Opened g.row.D.Denot). AnswersChunk (slice_get o.catalogue.files c.args.file)
-        (slice_index_or o.stored c.args.file []) c.args.generation c.args.start c.args.count
-        (answers.Refused NoFile)) c.self.view_is
-        (says_no_file store.catalogue store.stored c.args.file c.args.generation c.args.start
-        c.args.count c.new-bytes.result.items c.chunk.new.out.items c.chunk.result
-        c.chunk.ensures.answer (chunk_err c.chunk.result c.in-Err-NoFile.field-0 _ c.in-Err-NoFile.is c.in-Err-NoFile.field-0-is))) tt
-        (refl, λ u has. absurd (no_update s request u has asked is (λ e. let wrong = e.3 in cc)))
-        (c.reply_with-in-Err-NoFile.ensures.ok, c.reply_with-in-Err-NoFile.ensures.err))
+    (Ok (answers.Refused NoFile)) c.reply_with-in-Err-NoFile.new.reply.items c.reply_with-in-Err-NoFile.result
+    (subst
+    (λ (o : Opened g.row.D.Denot). AnswersChunk (slice_get o.catalogue.files c.args.file)
+    (slice_index_or o.stored c.args.file []) c.args.generation c.args.start c.args.count
+    (answers.Refused NoFile)) c.self.view_is
+    (says_no_file store.catalogue store.stored c.args.file c.args.generation c.args.start
+    c.args.count c.new-bytes.result.items c.chunk.new.out.items c.chunk.result
+    c.chunk.ensures.answer (chunk_err c.chunk.result c.in-Err-NoFile.field-0 _ c.in-Err-NoFile.is c.in-Err-NoFile.field-0-is))) tt
+    (refl, λ u has. absurd (no_update s request u has asked is (λ e. let wrong = e.3 in cc)))
+    (c.reply_with-in-Err-NoFile.ensures.ok, c.reply_with-in-Err-NoFile.ensures.err))
 
 pub returns-in-Err-Moved : goal.returns-in-Err-Moved
 returns-in-Err-Moved g c =
@@ -72,45 +72,45 @@ returns-in-Err-Moved g c =
     let same : c.chunk.new.self ≡ s = c.chunk.ensures.same ∙ c.self.view_is in
     let asked : Request = requests.Chunk c.args.file c.args.generation c.args.start c.args.count in
     λ request is.
-        subst
-        (λ o. AsksServer g.D.Disk.reads g.D.Disk.may_leave g.D.Disk.moment g.D.Disk.left_since
+    subst
+    (λ o. AsksServer g.D.Disk.reads g.D.Disk.may_leave g.D.Disk.moment g.D.Disk.left_since
     g.D.Disk.borrow g.D.Disk.faults s o
-        request c.reply_with-in-Err-Moved.new.reply.items c.reply_with-in-Err-Moved.result) (sym same)
-        (answers_still g.D.Disk.reads g.D.Disk.may_leave g.D.Disk.moment g.D.Disk.left_since
+    request c.reply_with-in-Err-Moved.new.reply.items c.reply_with-in-Err-Moved.result) (sym same)
+    (answers_still g.D.Disk.reads g.D.Disk.may_leave g.D.Disk.moment g.D.Disk.left_since
     g.D.Disk.borrow g.D.Disk.faults g.met.D.Disk.only_now s request (Ok asked) is
-        (Ok (answers.Moved c.in-Err-Moved.generation)) c.reply_with-in-Err-Moved.new.reply.items c.reply_with-in-Err-Moved.result
-        (subst
-        (λ (o : Opened g.row.D.Denot). AnswersChunk (slice_get o.catalogue.files c.args.file)
-        (slice_index_or o.stored c.args.file []) c.args.generation c.args.start c.args.count
-        (answers.Moved c.in-Err-Moved.generation)) c.self.view_is
-        (says_moved store.catalogue store.stored c.args.file c.args.generation c.args.start
-        c.args.count c.new-bytes.result.items c.chunk.new.out.items c.chunk.result
-        c.chunk.ensures.answer c.in-Err-Moved.generation
-        (chunk_err c.chunk.result c.in-Err-Moved.field-0 _ c.in-Err-Moved.is c.in-Err-Moved.field-0-is))) (search rules)
-        (refl, λ u has. absurd (no_update s request u has asked is (λ e. let wrong = e.3 in cc)))
-        (c.reply_with-in-Err-Moved.ensures.ok, c.reply_with-in-Err-Moved.ensures.err))
+    (Ok (answers.Moved c.in-Err-Moved.generation)) c.reply_with-in-Err-Moved.new.reply.items c.reply_with-in-Err-Moved.result
+    (subst
+    (λ (o : Opened g.row.D.Denot). AnswersChunk (slice_get o.catalogue.files c.args.file)
+    (slice_index_or o.stored c.args.file []) c.args.generation c.args.start c.args.count
+    (answers.Moved c.in-Err-Moved.generation)) c.self.view_is
+    (says_moved store.catalogue store.stored c.args.file c.args.generation c.args.start
+    c.args.count c.new-bytes.result.items c.chunk.new.out.items c.chunk.result
+    c.chunk.ensures.answer c.in-Err-Moved.generation
+    (chunk_err c.chunk.result c.in-Err-Moved.field-0 _ c.in-Err-Moved.is c.in-Err-Moved.field-0-is))) (search rules)
+    (refl, λ u has. absurd (no_update s request u has asked is (λ e. let wrong = e.3 in cc)))
+    (c.reply_with-in-Err-Moved.ensures.ok, c.reply_with-in-Err-Moved.ensures.err))
 
 pub returns-in-Err-Disk : goal.returns-in-Err-Disk
 returns-in-Err-Disk g c =
     let same : c.chunk.new.self ≡ c.args.self.now = c.chunk.ensures.same ∙ c.self.view_is in
     λ request is.
-        chunk_failed g.D.Disk.reads g.D.Disk.may_leave g.D.Disk.moment g.D.Disk.left_since
+    chunk_failed g.D.Disk.reads g.D.Disk.may_leave g.D.Disk.moment g.D.Disk.left_since
     g.D.Disk.borrow g.D.Disk.faults g.met.D.Disk.only_now c.args.self.now
-        c.chunk.new.self request c.reply_with-in-Err-Disk.new.reply.items
-        c.reply_with-in-Err-Disk.result same
-        (record {
-          file = c.args.file;
-          generation = c.args.generation;
-          start = c.args.start;
-          count = c.args.count;
-          is = is;
-        })
-        (c.reply_with-in-Err-Disk.ensures.ok, c.reply_with-in-Err-Disk.ensures.err)
-        (subst
-        (λ (o : Opened g.row.D.Denot). Rose (g.D.Disk.faults o.disk) (g.D.Disk.faults c.chunk.new.self.disk))
-        c.self.view_is
-        (c.chunk.ensures.cause
-        (chunk_err c.chunk.result c.in-Err-Disk.field-0 _ c.in-Err-Disk.is c.in-Err-Disk.field-0-is)))
+    c.chunk.new.self request c.reply_with-in-Err-Disk.new.reply.items
+    c.reply_with-in-Err-Disk.result same
+    (record {
+      file = c.args.file;
+      generation = c.args.generation;
+      start = c.args.start;
+      count = c.args.count;
+      is = is;
+    })
+    (c.reply_with-in-Err-Disk.ensures.ok, c.reply_with-in-Err-Disk.ensures.err)
+    (subst
+    (λ (o : Opened g.row.D.Denot). Rose (g.D.Disk.faults o.disk) (g.D.Disk.faults c.chunk.new.self.disk))
+    c.self.view_is
+    (c.chunk.ensures.cause
+    (chunk_err c.chunk.result c.in-Err-Disk.field-0 _ c.in-Err-Disk.is c.in-Err-Disk.field-0-is)))
 
 pub returns : goal.returns
 returns g c =
@@ -119,13 +119,13 @@ returns g c =
     let same : c.chunk.new.self ≡ s = c.chunk.ensures.same ∙ c.self.view_is in
     let asked : Request = requests.Chunk c.args.file c.args.generation c.args.start c.args.count in
     λ request is.
-        subst
-        (λ o. AsksServer g.D.Disk.reads g.D.Disk.may_leave g.D.Disk.moment g.D.Disk.left_since
+    subst
+    (λ o. AsksServer g.D.Disk.reads g.D.Disk.may_leave g.D.Disk.moment g.D.Disk.left_since
     g.D.Disk.borrow g.D.Disk.faults s o
-        request c.reply_with-in-Err-Memory.new.reply.items c.reply_with-in-Err-Memory.result) (sym same)
-        (answers_still g.D.Disk.reads g.D.Disk.may_leave g.D.Disk.moment g.D.Disk.left_since
+    request c.reply_with-in-Err-Memory.new.reply.items c.reply_with-in-Err-Memory.result) (sym same)
+    (answers_still g.D.Disk.reads g.D.Disk.may_leave g.D.Disk.moment g.D.Disk.left_since
     g.D.Disk.borrow g.D.Disk.faults g.met.D.Disk.only_now s request (Ok asked) is
-        (Err _) c.reply_with-in-Err-Memory.new.reply.items c.reply_with-in-Err-Memory.result
-        tt tt
-        tt
-        (c.reply_with-in-Err-Memory.ensures.ok, c.reply_with-in-Err-Memory.ensures.err))
+    (Err _) c.reply_with-in-Err-Memory.new.reply.items c.reply_with-in-Err-Memory.result
+    tt tt
+    tt
+    (c.reply_with-in-Err-Memory.ensures.ok, c.reply_with-in-Err-Memory.ensures.err))

@@ -20,19 +20,19 @@ returns-then-not-same g c =
     ∙ ap (λ (o : Opened g.row.D.Denot). o.keys.surface) c.self.view_is in
     let wrong : c.args.tag.now ≢ owner_tag s.keys.surface c.args.epoch c.args.spelling.now =
     λ right.
-        true≢false
-        (sym
-        (c.same.ensures.1
-        (c.owner_tag.ensures ∙ ap (λ k. owner_tag k c.args.epoch c.args.spelling.now) key
-        ∙ sym right))
-        ∙ c.if-not-same.true) in
+    true≢false
+    (sym
+    (c.same.ensures.1
+    (c.owner_tag.ensures ∙ ap (λ k. owner_tag k c.args.epoch c.args.spelling.now) key
+    ∙ sym right))
+    ∙ c.if-not-same.true) in
     λ request is.
-        answers_still g.D.Disk.reads g.D.Disk.may_leave g.D.Disk.moment g.D.Disk.left_since
+    answers_still g.D.Disk.reads g.D.Disk.may_leave g.D.Disk.moment g.D.Disk.left_since
     g.D.Disk.borrow g.D.Disk.faults g.met.D.Disk.only_now s request
-        (Ok (requests.Update c.args.epoch c.args.spelling.now c.args.tag.now)) is (Ok answers.BadTag)
-        c.reply_with.new.reply.items c.reply_with.result wrong tt
-        (refl, λ u has. absurd (other_tag _ request u has _ _ _ is wrong))
-        (c.reply_with.ensures.ok, c.reply_with.ensures.err)
+    (Ok (requests.Update c.args.epoch c.args.spelling.now c.args.tag.now)) is (Ok answers.BadTag)
+    c.reply_with.new.reply.items c.reply_with.result wrong tt
+    (refl, λ u has. absurd (other_tag _ request u has _ _ _ is wrong))
+    (c.reply_with.ensures.ok, c.reply_with.ensures.err)
 
 pub returns-then-epoch-now : goal.returns-then-epoch-now
 returns-then-epoch-now g c =
@@ -49,13 +49,13 @@ returns-then-epoch-now g c =
     let wrong : c.args.epoch ≢ s.catalogue.epoch =
     λ same. c.if-epoch-now.true (same ∙ sym now_is) in
     λ request is.
-        answers_still g.D.Disk.reads g.D.Disk.may_leave g.D.Disk.moment g.D.Disk.left_since
+    answers_still g.D.Disk.reads g.D.Disk.may_leave g.D.Disk.moment g.D.Disk.left_since
     g.D.Disk.borrow g.D.Disk.faults g.met.D.Disk.only_now s request
-        (Ok (requests.Update c.args.epoch c.args.spelling.now c.args.tag.now)) is
-        (Ok (answers.Stale c.epoch-now.result)) c.reply_with-then-epoch-now.new.reply.items
-        c.reply_with-then-epoch-now.result (right, wrong, now_is) c.epoch-now.type_inv
-        (refl, λ u has. absurd (other_epoch _ request u has _ _ _ is wrong))
-        (c.reply_with-then-epoch-now.ensures.ok, c.reply_with-then-epoch-now.ensures.err)
+    (Ok (requests.Update c.args.epoch c.args.spelling.now c.args.tag.now)) is
+    (Ok (answers.Stale c.epoch-now.result)) c.reply_with-then-epoch-now.new.reply.items
+    c.reply_with-then-epoch-now.result (right, wrong, now_is) c.epoch-now.type_inv
+    (refl, λ u has. absurd (other_epoch _ request u has _ _ _ is wrong))
+    (c.reply_with-then-epoch-now.ensures.ok, c.reply_with-then-epoch-now.ensures.err)
 
 pub returns-in-Ok : goal.returns-in-Ok
 returns-in-Ok g c =
@@ -73,13 +73,13 @@ returns-in-Ok g c =
     let asked : ℕ → Result Request ℕ =
     λ e. Ok (requests.Update e c.args.spelling.now c.args.tag.now) in
     λ request is.
-        c.make.ensures request (record {
-          spelling = c.args.spelling.now;
-          tag = c.args.tag.now;
-          is = is ∙ ap asked here;
-          right = right ∙ ap (λ e. owner_tag s.keys.surface e c.args.spelling.now) here;
-          spells = c.in-Ok.ensures.exact;
-        })
+    c.make.ensures request (record {
+      spelling = c.args.spelling.now;
+      tag = c.args.tag.now;
+      is = is ∙ ap asked here;
+      right = right ∙ ap (λ e. owner_tag s.keys.surface e c.args.spelling.now) here;
+      spells = c.in-Ok.ensures.exact;
+    })
 
 pub returns-in-Err-BadRecord : goal.returns-in-Err-BadRecord
 returns-in-Err-BadRecord g c =
@@ -98,35 +98,33 @@ returns-in-Err-BadRecord g c =
     let wrong : update_of 32 c.args.spelling.now ≡ Err place =
     rw c.in-Err-BadRecord.field-0-is at c.in-Err-BadRecord.ensures.exact in
     λ request is.
-        answers_still g.D.Disk.reads g.D.Disk.may_leave g.D.Disk.moment g.D.Disk.left_since
+    answers_still g.D.Disk.reads g.D.Disk.may_leave g.D.Disk.moment g.D.Disk.left_since
     g.D.Disk.borrow g.D.Disk.faults g.met.D.Disk.only_now s request
-        (Ok (requests.Update c.args.epoch c.args.spelling.now c.args.tag.now)) is
-        (Ok (answers.BadRequest (5 + place))) c.reply_with-in-Err-BadRecord.new.reply.items
-        c.reply_with-in-Err-BadRecord.result
-        (
-          right,
-          here,
-          subst
-              (λ (r : Result SealedUpdate ℕ). AnswersSpelled s.catalogue r
-              (answers.BadRequest (5 + place))) (sym wrong) refl,
-        )
-        (omega (
-          arith,
-          placed_low (length c.args.spelling.now) place
-              (all_of (update_at 32 c.args.spelling.now)) wrong,
-          c.requires,
-        ))
-        (refl, λ u has. absurd (spells_none _ request u has _ _ _ is place wrong))
-        (
-          rw c.in-Err-BadRecord.field-0-is at c.reply_with-in-Err-BadRecord.ensures.ok,
-          c.reply_with-in-Err-BadRecord.ensures.err,
-        )
+    (Ok (requests.Update c.args.epoch c.args.spelling.now c.args.tag.now)) is
+    (Ok (answers.BadRequest (5 + place))) c.reply_with-in-Err-BadRecord.new.reply.items
+    c.reply_with-in-Err-BadRecord.result (
+      right,
+      here,
+      subst
+          (λ (r : Result SealedUpdate ℕ). AnswersSpelled s.catalogue r
+          (answers.BadRequest (5 + place))) (sym wrong) refl,
+    )
+    (omega (
+      arith,
+      placed_low (length c.args.spelling.now) place
+          (all_of (update_at 32 c.args.spelling.now)) wrong,
+      c.requires,
+    ))
+    (refl, λ u has. absurd (spells_none _ request u has _ _ _ is place wrong)) (
+      rw c.in-Err-BadRecord.field-0-is at c.reply_with-in-Err-BadRecord.ensures.ok,
+      c.reply_with-in-Err-BadRecord.ensures.err,
+    )
 
 pub returns-in-Err-Memory : goal.returns-in-Err-Memory
 returns-in-Err-Memory g c =
     λ request is.
-        answers_still g.D.Disk.reads g.D.Disk.may_leave g.D.Disk.moment g.D.Disk.left_since
+    answers_still g.D.Disk.reads g.D.Disk.may_leave g.D.Disk.moment g.D.Disk.left_since
     g.D.Disk.borrow g.D.Disk.faults g.met.D.Disk.only_now c.args.self.now request
-        (Ok (requests.Update c.args.epoch c.args.spelling.now c.args.tag.now)) is (Err _)
-        c.reply_with-in-Err-Memory.new.reply.items c.reply_with-in-Err-Memory.result tt tt tt
-        (c.reply_with-in-Err-Memory.ensures.ok, c.reply_with-in-Err-Memory.ensures.err)
+    (Ok (requests.Update c.args.epoch c.args.spelling.now c.args.tag.now)) is (Err _)
+    c.reply_with-in-Err-Memory.new.reply.items c.reply_with-in-Err-Memory.result tt tt tt
+    (c.reply_with-in-Err-Memory.ensures.ok, c.reply_with-in-Err-Memory.ensures.err)
