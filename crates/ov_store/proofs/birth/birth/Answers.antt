@@ -1,12 +1,13 @@
 use Rattle.std.proofs.Common.{rules, ◌≡◌, Err, sym, ◌∙◌, ◌<◌, ◌^◌, [], length, ap, subst}
 use Rattle.std.proofs.lemmas.Result.{err_from_is_err_and}
 use Rattle.ov_disk.specs.Disk.{Image, Told}
+use Rattle.ov_disk.specs.Moments.{LeavesOnly}
 use Rattle.ov_history.specs.Sealed.{blank}
 use Rattle.ov_journal.specs.Book.{born}
-use Rattle.ov_journal.specs.Log.{Log, IsKept}
+use Rattle.ov_journal.specs.Log.{Log, IsKept, IsUnbornOrEmpty}
 use Rattle.ov_journal.specs.declared.header.Header.{Header}
 use Rattle.ov_images.specs.Images.{header_of, keys}
-use Rattle.ov_store.proofs.Births.{born_none, none_left}
+use Rattle.ov_store.proofs.Births.{born_none, leaves_none, none_left}
 use Rattle.ov_store.specs.Beginning.{IsBeginFault}
 use Rattle.ov_store.specs.declared.fault.BeginFault.{BeginFault}
 use Rattle.ov_store.specs.declared.fault.BeginFault.TheVariants.{Memory as NoMemory}
@@ -19,6 +20,27 @@ returns-in_err-vault-clause-any_moment g c none i is =
     none_left g.D.Disk.reads g.D.Disk.may_leave g.D.Disk.moment g.D.Disk.left_since
     (keys c.args.base_check.now c.args.surface.now.bytes) c.args.mode c.args.first low
     c.args.disk.now (g.met.D.Disk.only_now c.args.disk.now) i (c.requires.unborn i is)
+
+pub returns-in_err-journal-clause-any_moment : goal.returns-in_err-journal-clause-any_moment
+returns-in_err-journal-clause-any_moment g c none i is =
+    let low : c.args.first < 2 ^ 32 = search rules in
+    let k = keys c.args.base_check.now c.args.surface.now.bytes in
+    let header : Header = record {
+      mode = c.args.mode;
+      first = c.args.first;
+      base_check = c.args.base_check.now;
+      surface_check = c.check_value.result;
+    } in
+    let same : header ≡ header_of k (blank c.args.mode c.args.first) = λ j. record {
+      mode = c.args.mode;
+      first = c.args.first;
+      base_check = c.args.base_check.now;
+      surface_check = c.check_value.ensures j;
+    } in
+    leaves_none g.D.Disk.reads g.D.Disk.may_leave g.D.Disk.moment g.D.Disk.left_since k c.args.mode
+    c.args.first low c.args.disk.now c.birth.new.disk none
+    (subst (λ (h : Header). LeavesOnly g.D.Disk.moment g.D.Disk.left_since c.args.disk.now c.birth.new.disk (IsUnbornOrEmpty h))
+    same (c.birth.ensures.any_moment i is))
 
 pub returns-clause-born : goal.returns-clause-born
 returns-clause-born g c =
