@@ -1,4 +1,0 @@
-pub mod Telling
-pub mod Answering
-pub mod Following
-pub mod Locally
