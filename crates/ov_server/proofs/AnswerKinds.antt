@@ -1,0 +1,147 @@
+-- What is answered by what a server shows is no fault of the disk, and an Accepted is an update's.
+use Rattle.std.proofs.Common.{◌≡◌, ◌∙◌, ◌==◌, ℕ, Bool, true, false, List, [], ◌∷◌, Result, Ok, Err, refl, ap, sym, true≢false}
+use Rattle.ov_record.specs.Reading.{update_of}
+use Rattle.ov_record.specs.Updates.{SealedUpdate}
+use Rattle.ov_history.specs.Catalogue.{Catalogue}
+use Rattle.ov_wire.specs.declared.request.Question.{Question}
+use Rattle.ov_wire.specs.declared.request.Request.{Request}
+use Rattle.ov_wire.specs.declared.request.Request.TheVariants as requests
+use Rattle.ov_wire.specs.declared.answer.Answer.{Answer}
+use Rattle.ov_wire.specs.declared.answer.Answer.TheVariants as answers
+use Rattle.ov_wire.specs.AnswerBytes.{answer_bytes}
+use Rattle.std.specs.Prelude.{Option, Some, None, slice_get, slice_index_or}
+use Rattle.ov_history.specs.Catalogue.{Filed}
+use Rattle.ov_protocol.specs.Serving.{Serving}
+use Rattle.ov_protocol.specs.Reading.{AnswersChunk}
+use Rattle.ov_protocol.specs.Updating.{AnswersSpelled, spelled_by, updates_in}
+use Rattle.ov_protocol.specs.Replies.{AnswersRead, made_of}
+use Rattle.ov_peer.specs.Spellings.{says_accepted}
+
+-- ---- no fault of the disk
+
+spelled_fault : (c : Catalogue) (read : Result SealedUpdate ℕ)
+    → AnswersSpelled c read answers.DeviceFault → ⊥
+spelled_fault c (Ok u) is = is
+spelled_fault c (Err place) is = cc
+
+chunk_fault : (o : Option Filed) (stored : List ℕ) (generation start count : ℕ)
+    → AnswersChunk o stored generation start count answers.DeviceFault → ⊥
+chunk_fault None stored generation start count is = cc
+chunk_fault (Some f) stored generation start count is = is
+
+no_fault : (s : Serving) (read : Result Request ℕ) → AnswersRead s read answers.DeviceFault → ⊥
+no_fault s (Err place) is = cc
+no_fault s (Ok requests.Hello) is = cc
+no_fault s (Ok (requests.Ask question)) is = is
+no_fault s (Ok (requests.Cover file len names)) is = is
+no_fault s (Ok (requests.Update epoch spelling tag)) is =
+    spelled_fault s.catalogue (update_of 32 spelling) is.2
+no_fault s (Ok (requests.Chain user file)) is = is
+no_fault s (Ok (requests.Chunk file generation start count)) is =
+    chunk_fault (slice_get s.catalogue.files file) (slice_index_or s.stored file []) generation
+    start count is
+no_fault s (Ok (requests.Page part number)) is = cc
+no_fault s (Ok (requests.List file)) is = is
+
+-- whether bytes begin with the kind byte of one
+is_fault : List ℕ → Bool
+is_fault [] = false
+is_fault (kind ∷ bytes) = kind == 0x8d
+
+-- nor are its bytes those of one
+pub other_bytes : (s : Serving) (read : Result Request ℕ) (a : Answer) → AnswersRead s read a
+    → answer_bytes a ≡ answer_bytes answers.DeviceFault → ⊥
+unfolding is_fault
+other_bytes s read (answers.Welcome welcome) is same = true≢false (sym (ap is_fault same))
+other_bytes s read (answers.Known known) is same = true≢false (sym (ap is_fault same))
+other_bytes s read (answers.Plan plan) is same = true≢false (sym (ap is_fault same))
+other_bytes s read (answers.Accepted epoch) is same = true≢false (sym (ap is_fault same))
+other_bytes s read (answers.Chained chained) is same = true≢false (sym (ap is_fault same))
+other_bytes s read (answers.Bytes bytes) is same = true≢false (sym (ap is_fault same))
+other_bytes s read (answers.PageOf entry) is same = true≢false (sym (ap is_fault same))
+other_bytes s read (answers.Refused refusal) is same = true≢false (sym (ap is_fault same))
+other_bytes s read (answers.Stale epoch) is same = true≢false (sym (ap is_fault same))
+other_bytes s read answers.BadTag is same = true≢false (sym (ap is_fault same))
+other_bytes s read (answers.BadRequest place) is same = true≢false (sym (ap is_fault same))
+other_bytes s read (answers.Moved generation) is same = true≢false (sym (ap is_fault same))
+other_bytes s read answers.DeviceFault is same = no_fault s read is
+other_bytes s read answers.NoMemory is same = true≢false (sym (ap is_fault same))
+other_bytes s read (answers.Listed names) is same = true≢false (sym (ap is_fault same))
+
+-- nor are those of an Accepted
+pub accepted_apart : (n : ℕ) → answer_bytes (answers.Accepted n) ≡ answer_bytes answers.DeviceFault
+    → ⊥
+unfolding is_fault
+accepted_apart n same = true≢false (sym (ap is_fault same))
+
+-- ---- what is accepted
+
+-- this is an Update, of which the one update that it spells is made
+pub record IsMade (read : Result Request ℕ) (made : List SealedUpdate) : Type 0 where
+  pub epoch : ℕ
+  pub spelling : List ℕ
+  pub tag : List ℕ
+  pub update : SealedUpdate
+  pub is : read ≡ Ok (requests.Update epoch spelling tag)
+  pub spells : update_of 32 spelling ≡ Ok update
+  pub makes : made ≡ update ∷ []
+
+spelled_made : (c : Catalogue) (read : Result SealedUpdate ℕ) (n : ℕ)
+    → AnswersSpelled c read (answers.Accepted n) → (u : SealedUpdate) × (read ≡ Ok u)
+spelled_made c (Ok u) n is = (u, refl)
+spelled_made c (Err place) n is = absurd (cc)
+
+pub accepted_made : (s : Serving) (read : Result Request ℕ) (n : ℕ)
+    → AnswersRead s read (answers.Accepted n) → IsMade read (made_of read (answers.Accepted n))
+accepted_made s (Ok (requests.Update epoch spelling tag)) n is =
+    let one = spelled_made s.catalogue (update_of 32 spelling) n is.2 in record {
+      epoch = epoch;
+      spelling = spelling;
+      tag = tag;
+      update = one.0;
+      is = refl;
+      spells = one.1;
+      makes = ap spelled_by one.1;
+    }
+accepted_made s (Err place) n is = absurd (cc)
+accepted_made s (Ok requests.Hello) n is = absurd (cc)
+accepted_made s (Ok (requests.Ask question)) n is = absurd is
+accepted_made s (Ok (requests.Cover file len names)) n is = absurd is
+accepted_made s (Ok (requests.Chain user file)) n is = absurd is
+accepted_made s (Ok (requests.Chunk file generation start count)) n is =
+    absurd (chunk_made (slice_get s.catalogue.files file) is) where
+      chunk_made : (o : Option Filed)
+          → AnswersChunk o (slice_index_or s.stored file []) generation start count
+          (answers.Accepted n)
+          → ⊥
+      chunk_made None is = cc
+      chunk_made (Some f) is = is
+accepted_made s (Ok (requests.Page part number)) n is = absurd (cc)
+accepted_made s (Ok (requests.List file)) n is = absurd is
+
+-- an answer whose kind byte says so is an Accepted
+pub says_so : (a : Answer) → says_accepted (answer_bytes a) ≡ true
+    → (n : ℕ) × (a ≡ answers.Accepted n)
+says_so (answers.Accepted n) so = (n, refl)
+says_so (answers.Welcome welcome) so = absurd (true≢false (sym so))
+says_so (answers.Known known) so = absurd (true≢false (sym so))
+says_so (answers.Plan plan) so = absurd (true≢false (sym so))
+says_so (answers.Chained chained) so = absurd (true≢false (sym so))
+says_so (answers.Bytes bytes) so = absurd (true≢false (sym so))
+says_so (answers.PageOf entry) so = absurd (true≢false (sym so))
+says_so (answers.Refused refusal) so = absurd (true≢false (sym so))
+says_so (answers.Stale epoch) so = absurd (true≢false (sym so))
+says_so answers.BadTag so = absurd (true≢false (sym so))
+says_so (answers.BadRequest place) so = absurd (true≢false (sym so))
+says_so (answers.Moved generation) so = absurd (true≢false (sym so))
+says_so answers.DeviceFault so = absurd (true≢false (sym so))
+says_so answers.NoMemory so = absurd (true≢false (sym so))
+says_so (answers.Listed names) so = absurd (true≢false (sym so))
+
+-- and by any other nothing is made
+pub nothing_made : (read : Result Request ℕ) (a : Answer)
+    → says_accepted (answer_bytes a) ≡ false → made_of read a ≡ []
+nothing_made (Ok (requests.Update epoch spelling tag)) (answers.Accepted n) so =
+    absurd (true≢false so)
+nothing_made (Ok request) a so = refl
+nothing_made (Err place) a so = refl

@@ -1,0 +1,14 @@
+pub mod AskForms
+pub mod PlanForms
+pub mod ChainForms
+pub mod PageForms
+pub mod NamesIn
+pub mod DistinctUsers
+pub mod Nothing
+pub mod AnswerKinds
+pub mod Shown
+pub mod Making
+pub mod Following
+pub mod ChunkAnswers
+pub mod Tagging
+pub mod AskedOnce

@@ -1,0 +1,133 @@
+-- The names of the users in a set, gathered one by one.
+use Rattle.std.proofs.Common.{◌≡◌, ℕ, zero, suc, ◌+◌, ◌≤◌, Bool, true, false, ◌||◌, List, [], ◌∷◌, ◌++◌, length, take, refl, sym, ◌∙◌, ap, subst, arith, append_assoc, length-append, true≢false}
+use Rattle.std.specs.Prelude.{Some, slice_get}
+use Rattle.std.specs.List.{IsDistinct, AllByRecursion}
+use Rattle.std.specs.Str.{bytes_eq}
+use Rattle.std.proofs.lemmas.Bool.{or_parts}
+use Rattle.std.proofs.lemmas.List.{append-nil}
+use Rattle.std.proofs.lemmas.Slice.Eq.{bytes_eq-Decides}
+use Rattle.ov_wire.proofs.NamesLaws.{was_appended}
+use Rattle.ov_base.specs.NameLists.{is_among, with_name, AreDistinct}
+use Rattle.ov_base.specs.Sets.{has}
+use Rattle.ov_history.specs.Lists.{name_if, names_from, names_in}
+
+-- one name more
+names_push : (set number : ℕ) (names : List (List ℕ)) (name : List ℕ)
+    → names_from set number (names ++ name ∷ [])
+    ≡ names_from set number names ++ name_if (has set (number + length names)) name
+names_push set number [] name =
+    let here : number + 0 ≡ number = omega arith in
+    append-nil (name_if (has set number) name)
+    ∙ ap (λ n. name_if (has set n) name) (sym here)
+names_push set number (first ∷ names) name =
+    let next : number + 1 + length names ≡ number + suc (length names) = omega arith in
+    let rest = names_from set (number + 1) names in
+    ap (λ l. name_if (has set number) first ++ l) (names_push set (number + 1) names name)
+    ∙ ap (λ n. name_if (has set number) first ++ (rest ++ name_if (has set n) name)) next
+    ∙ sym
+    (append_assoc (name_if (has set number) first) rest
+    (name_if (has set (number + suc (length names))) name))
+
+-- ---- a name that isn't among these isn't among those of them that are in the set
+
+apart_if : (b : Bool) (first name : List ℕ) (names : List (List ℕ)) → bytes_eq name first ≡ false
+    → is_among name names ≡ false → is_among name (name_if b first ++ names) ≡ false
+apart_if true first name names other free = ap (λ t. t || is_among name names) other ∙ free
+apart_if false first name names other free = free
+
+apart : (set number : ℕ) (names : List (List ℕ)) (name : List ℕ) → is_among name names ≡ false
+    → is_among name (names_from set number names) ≡ false
+apart set number [] name free = refl
+apart set number (first ∷ names) name free =
+    let parts = or_parts (bytes_eq name first) (is_among name names) free in
+    apart_if (has set number) first name (names_from set (number + 1) names) parts.0
+    (apart set (number + 1) names name parts.1)
+
+-- ---- the name at a place isn't among those before it
+
+pub same_bytes : (a b : List ℕ) (e : Bool) → bytes_eq a b ≡ e → bytes_eq b a ≡ e
+same_bytes a b true is = (bytes_eq-Decides b a).1 (sym ((bytes_eq-Decides a b).0 is))
+same_bytes a b false is = by_cases (bytes_eq b a) refl where
+  by_cases : (e : Bool) → bytes_eq b a ≡ e → bytes_eq b a ≡ false
+  by_cases false other = other
+  by_cases true other =
+      absurd
+      (true≢false
+      (sym ((bytes_eq-Decides a b).1 (sym ((bytes_eq-Decides b a).0 other))) ∙ is))
+
+later_differs : (first name : List ℕ) (names : List (List ℕ)) (n : ℕ)
+    → AllByRecursion (λ y. bytes_eq first y ≡ false) names → slice_get names n ≡ Some name
+    → bytes_eq first name ≡ false
+later_differs first name [] n all is = absurd (cc)
+later_differs first name (x ∷ names) zero all is =
+    let same : x ≡ name = cc in subst (λ y. bytes_eq first y ≡ false) same all.0
+later_differs first name (x ∷ names) (suc n) all is =
+    later_differs first name names n all.1 is
+
+free_before : (names : List (List ℕ)) (n : ℕ) (name : List ℕ) → AreDistinct names
+    → slice_get names n ≡ Some name → is_among name (take n names) ≡ false
+unfolding IsDistinct
+free_before [] n name distinct is = absurd (cc)
+free_before (first ∷ names) zero name distinct is = refl
+free_before (first ∷ names) (suc n) name distinct is =
+    ap (λ t. t || is_among name (take n names))
+    (same_bytes first name false (later_differs first name names n distinct.0 is))
+    ∙ free_before names n name distinct.1 is
+
+take_push : (names : List (List ℕ)) (n : ℕ) (name : List ℕ) → slice_get names n ≡ Some name
+    → (take (suc n) names ≡ take n names ++ name ∷ []) × (length (take n names) ≡ n)
+take_push [] n name is = absurd (cc)
+take_push (first ∷ names) zero name is =
+    let same : first ≡ name = cc in (ap (λ x. x ∷ []) same, refl)
+take_push (first ∷ names) (suc n) name is =
+    let rest = take_push names n name is in (ap (λ l. first ∷ l) rest.0, ap suc rest.1)
+
+-- ---- one user more
+
+next_names : (set : ℕ) (users : List (List ℕ)) (n : ℕ) (name : List ℕ) (there : Bool)
+    → slice_get users n ≡ Some name → has set n ≡ there
+    → names_in set (take (n + 1) users) ≡ names_in set (take n users) ++ name_if there name
+next_names set users n name there at_n is =
+    let next : n + 1 ≡ suc n = omega arith in
+    let push = take_push users n name at_n in
+    let count : 0 + length (take n users) ≡ n = omega (arith, push.1) in
+    ap (λ k. names_in set (take k users)) next ∙ ap (names_in set) push.0
+    ∙ names_push set 0 (take n users) name
+    ∙ ap (λ k. names_in set (take n users) ++ name_if (has set k) name) count
+    ∙ ap (λ b. names_in set (take n users) ++ name_if b name) is
+
+-- the names of the first users are gathered, and this one is in the set
+pub gathered : (set : ℕ) (users : List (List ℕ)) (n : ℕ) (name : List ℕ)
+    (names new : List (List ℕ)) → AreDistinct users → slice_get users n ≡ Some name
+    → names ≡ names_in set (take n users) → has set n ≡ true → new ≡ with_name names name
+    → new ≡ names_in set (take (n + 1) users)
+gathered set users n name names new distinct at_n so_far there is =
+    let free : is_among name names ≡ false =
+    ap (is_among name) so_far
+    ∙ apart set 0 (take n users) name (free_before users n name distinct at_n) in
+    is ∙ was_appended names name free ∙ ap (λ l. l ++ name ∷ []) so_far
+    ∙ sym (next_names set users n name true at_n there)
+
+-- and where it isn't in the set nothing is gathered
+pub passed : (set : ℕ) (users : List (List ℕ)) (n : ℕ) (name : List ℕ) (names : List (List ℕ))
+    → slice_get users n ≡ Some name → names ≡ names_in set (take n users) → has set n ≡ false
+    → names ≡ names_in set (take (n + 1) users)
+passed set users n name names at_n so_far out =
+    so_far
+    ∙ sym (next_names set users n name false at_n out ∙ append-nil (names_in set (take n users)))
+
+-- no more names are in a set than there are users
+pub few_in : (set number : ℕ) (users : List (List ℕ))
+    → length (names_from set number users) ≤ length users
+few_in set number [] = omega arith
+few_in set number (name ∷ users) =
+    let here : length (name_if (has set number) name) ≤ 1 = few_if (has set number) name in
+    omega (
+      arith,
+      length-append (name_if (has set number) name) (names_from set (number + 1) users),
+      here,
+      few_in set (number + 1) users,
+    ) where
+      few_if : (b : Bool) (one : List ℕ) → length (name_if b one) ≤ 1
+      few_if true one = omega arith
+      few_if false one = omega arith

@@ -1,0 +1,14 @@
+use Rattle.std.proofs.Common.{subst, sym}
+use Rattle.ov_history.specs.Asking.{of_user, user_named}
+use Rattle.ov_wire.specs.AnswerForm.{HasAnswerForm}
+use Rattle.ov_server.proofs.AskForms.{known_form, key_numbers}
+use Rattle.ov_server.proofs.asking.answer_key.Goals as goal
+
+pub returns-in-Ok-clause-form : goal.returns-in-Ok-clause-form
+returns-in-Ok-clause-form c =
+    let c0 = c.args.state.now.catalogue in
+    let u = user_named c0 c.args.user.now in
+    let told = rw c.in-Ok.is at c.ask_key.ensures in
+    subst HasAnswerForm (sym c.known-in-Ok.ensures)
+    (known_form 256 c0 c.epoch.result c.in-Ok.asked (of_user c0 u) c.known.ensures c.epoch.ensures
+    told.1 (key_numbers 256 c0 u c.known.ensures told.0))

@@ -1,0 +1,15 @@
+use Rattle.std.proofs.Common.{subst, sym}
+use Rattle.ov_history.specs.Asking.{file_named, of_both, user_named}
+use Rattle.ov_wire.specs.AnswerForm.{HasAnswerForm}
+use Rattle.ov_server.proofs.AskForms.{known_form, revoke_numbers}
+use Rattle.ov_server.proofs.asking.answer_revoke.Goals as goal
+
+pub returns-in-Ok-clause-form : goal.returns-in-Ok-clause-form
+returns-in-Ok-clause-form c =
+    let c0 = c.args.state.now.catalogue in
+    let u = user_named c0 c.args.user.now in
+    let f = file_named c0 c.args.file.now in
+    let told = rw c.in-Ok.is at c.ask_revoke.ensures in
+    subst HasAnswerForm (sym c.known-in-Ok.ensures)
+    (known_form 256 c0 c.epoch.result c.in-Ok.asked (of_both c0 u f) c.known.ensures c.epoch.ensures
+    told.1 (revoke_numbers 256 c0 u f c.known.ensures told.0))

@@ -1,0 +1,33 @@
+-- How a server stands to the one that it began as, and what it answers by that.
+use Rattle.std.specs.Prelude.{◌≡◌, ◌⊎◌, ℕ, List, length}
+use Rattle.ov_record.specs.Updates.{SealedUpdate}
+use Rattle.ov_wire.specs.declared.answer.Answer.TheVariants.{DeviceFault}
+use Rattle.ov_wire.specs.AnswerBytes.{answer_bytes}
+use Rattle.ov_protocol.specs.Serving.{IsService, Service, Serving, later, served}
+use Rattle.ov_protocol.specs.Updating.{updates_of}
+use Rattle.ov_protocol.specs.Replies.{Replies}
+use Rattle.ov_server.specs.Answering.{AsksBytes, HasUpdate}
+
+-- From the start the updates with these spellings lead to what is served now: there is a history
+-- that was served at the start, and each, with these updates, is served now. Each spelling is that
+-- of an update.
+pub record Reaches (start : Serving) (list : List (List ℕ)) (now : Serving) : Type 0 where
+  pub some : (v : Service) × IsService start v
+  pub goes_on : (v : Service) → IsService start v → IsService now (later v (updates_of list))
+  pub each : length (updates_of list) ≡ length list
+
+-- the request is an update that is to be made, or asks for stored bytes
+abbrev pub NeedsDisk : Serving → List ℕ → Type 0
+NeedsDisk s request = ((u : SealedUpdate) × HasUpdate s request u) ⊎ AsksBytes request
+
+-- the reply is the one by what is served, or that the disk failed, where it is needed
+abbrev pub RepliesAt : Serving → List ℕ → List ℕ → Type 0
+RepliesAt s request reply =
+    ((made : List SealedUpdate) × Replies s request reply made)
+    ⊎ ((reply ≡ answer_bytes DeviceFault) × NeedsDisk s request)
+
+-- so it is at each history that was served at the start, with the updates of these spellings
+abbrev pub RepliesAfter : Serving → List (List ℕ) → List ℕ → List ℕ → Type 0
+RepliesAfter start list request reply =
+    (v : Service) → IsService start v
+    → RepliesAt (served (later v (updates_of list))) request reply

@@ -1,0 +1,4 @@
+pub mod Telling
+pub mod Answering
+pub mod Following
+pub mod Locally

@@ -1,0 +1,77 @@
+//! A server in this process, as a peer.
+ghost use Rattle.std.specs.Prelude.{◌≡◌};
+
+use crate::server::Server;
+use ov_base::Memory;
+use ov_disk::Disk;
+use ov_peer::{Peer, PeerFault};
+use std::marker::Model;
+
+/// A server that is asked with no link between: nobody else asks it, and it never fails but for
+/// want of memory. It tells which history it serves.
+#[derive(Drop)]
+pub struct LocalPeer<D: Disk> {
+    server: Server<D>,
+}
+
+impl<D: Disk> Model for LocalPeer<D> {
+    ghost use Rattle.ov_store.specs.Opened.{Opened};
+
+    ghost Value = { Opened D };
+
+    ghost view = { λ p. p.server };
+}
+
+impl<D: Disk> LocalPeer<D> {
+    /// Asks this server.
+    pub fn new(server: Server<D>) -> LocalPeer<D>
+        ensures { result ≡ server }
+    {
+        LocalPeer { server }
+    }
+
+    /// Its server.
+    pub fn server(&self) -> &Server<D>
+        ensures { result.now ≡ self.now }
+    {
+        &self.server
+    }
+
+    /// Gives the server back.
+    pub fn into_server(self) -> Server<D>
+        ensures { result ≡ self }
+    {
+        let LocalPeer { server } = self;
+        server
+    }
+}
+
+impl<D: Disk> Peer for LocalPeer<D> {
+    ghost use Rattle.std.specs.Prelude.{◌≡◌, Ok};
+    ghost use Rattle.ov_server.specs.Answering.{AsksServer};
+    ghost use Rattle.ov_server.specs.Locally.{IsServedBy, answers_told, same_left};
+
+    ghost asked = { λ p request reply q.
+        AsksServer D.reads D.may_leave D.moment D.left_since D.borrow D.faults
+        p q request reply (Ok tt) };
+
+    ghost failed = { λ p request q. q ≡ p };
+
+    ghost serves = { λ p v. IsServedBy p v };
+
+    ghost faults = { λ _. 0 };
+
+    ghost borrow = { λ p. D.borrow p.disk };
+
+    ghost told = { λ p q request reply v a s.
+        answers_told D.reads D.may_leave p q request reply v a.answer s };
+
+    ghost left = { λ p q request v f s. same_left p q request v f s };
+
+    fn ask(&mut self, request: &[u8], reply: &mut Vec<u8>) -> Result<(), PeerFault> {
+        match self.server.answer(request, reply) {
+            Ok(()) => Ok(()),
+            Err(Memory) => Err(PeerFault::Memory),
+        }
+    }
+}
