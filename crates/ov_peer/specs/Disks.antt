@@ -1,7 +1,8 @@
 -- Requests to which a server may reply that its disk failed.
-use Rattle.std.specs.Prelude.{◌≡◌, ◌⊎◌, ℕ, List, Ok}
+use Rattle.std.specs.Prelude.{◌≡◌, ◌⊎◌, ℕ, List, slice_get, Some, Ok}
 use Rattle.ov_record.specs.Reading.{update_of}
 use Rattle.ov_record.specs.Updates.{SealedUpdate}
+use Rattle.ov_history.specs.Catalogue.{Catalogue, Filed}
 use Rattle.ov_wire.specs.declared.request.Request.{Request}
 use Rattle.ov_wire.specs.declared.request.Request.TheVariants as requests
 use Rattle.ov_wire.specs.declared.answer.Answer.TheVariants.{DeviceFault}
@@ -19,17 +20,23 @@ pub record HasUpdate (s : Serving) (request : List ℕ) (u : SealedUpdate) : Typ
   pub right : tag ≡ owner_tag s.surface s.catalogue.epoch spelling
   pub spells : update_of 32 spelling ≡ Ok u
 
--- the frame asks for stored bytes of a file
-pub record AsksBytes (request : List ℕ) : Type 0 where
+-- the file of this number is there, with this generation
+abbrev pub IsOfGeneration : Catalogue → (file generation : ℕ) → Type 0
+IsOfGeneration c file generation =
+    (f : Filed) × (slice_get c.files file ≡ Some f) × (f.generation ≡ generation)
+
+-- the frame asks for stored bytes of a file that is there, with the file's generation
+pub record AsksBytes (s : Serving) (request : List ℕ) : Type 0 where
   pub file : ℕ
   pub generation : ℕ
   pub start : ℕ
   pub count : ℕ
   pub is : request_of request ≡ Ok (requests.Chunk file generation start count)
+  pub there : IsOfGeneration s.catalogue file generation
 
--- the request is an update that is to be made, or asks for stored bytes
+-- the request is an update that is to be made, or asks for stored bytes that are there
 abbrev pub NeedsDisk : Serving → List ℕ → Type 0
-NeedsDisk s request = ((u : SealedUpdate) × HasUpdate s request u) ⊎ AsksBytes request
+NeedsDisk s request = ((u : SealedUpdate) × HasUpdate s request u) ⊎ AsksBytes s request
 
 -- the server's disk failed at a request that needs it, and made nothing, or what it was asked for
 pub record IsDiskFault (s : Serving) (request reply : List ℕ) (made : List SealedUpdate) : Type 0
