@@ -1,6 +1,6 @@
 -- What a server in this process tells: nobody else updates what it serves.
 use Rattle.std.specs.Prelude.{◌≡◌, ◌⊎◌, ℕ, List, [], Option}
-use Rattle.std.proofs.Common.{◌∙◌, inl, inr, refl, subst, sym}
+use Rattle.std.proofs.Common.{inl, inr, refl, subst, sym}
 use Rattle.ov_record.specs.Updates.{SealedUpdate}
 use Rattle.ov_disk.specs.Disk.{Image}
 use Rattle.ov_protocol.specs.Serving.{IsService, Service, Serving, later, served}
@@ -55,18 +55,15 @@ needs p q request reply is = by_need is.needs where
 -- where the disk failed the same is served
 faulted : {D : Type 0} (p q : Opened D) (request reply : List ℕ) (v : Service)
     → IsFaulted p q request reply → IsServedBy p v → AnswersAlone v request reply (IsServedBy q)
-faulted p q request reply v is serves = (
-  [],
-  inr
-      (record {
-        spelled = is.spelled;
-        makes = inl refl;
-        needs = subst (λ (s : Serving). NeedsDisk s request)
-            (services_are_served (serving_of p) v serves) (needs p q request reply is);
-      }),
-  subst (IsServedBy q) (sym (later-nil v))
-      (subst (λ (s : Serving). IsService s v) (sym is.same) serves),
-)
+faulted p q request reply v is serves =
+    let at_v : NeedsDisk (served v) request =
+    subst (λ (s : Serving). NeedsDisk s request) (services_are_served (serving_of p) v serves)
+    (needs p q request reply is) in (
+      [],
+      inr (record { spelled = is.spelled; makes = inl refl; needs = at_v }),
+      subst (IsServedBy q) (sym (later-nil v))
+          (subst (λ (s : Serving). IsService s v) (sym is.same) serves),
+    )
 
 -- what is served is what is answered by, and nobody else updates it
 pub answers_alone : {D : Type 0} (reads : D → Option Image) (may_leave : D → Image → Type 0)
