@@ -1,0 +1,1 @@
+//! The laws of transcripts, for the proofs of callers. The functions do nothing.

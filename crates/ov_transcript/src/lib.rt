@@ -1,0 +1,4 @@
+//! What is sent for each command: transcripts.
+#![tactic(auto)]
+
+mod laws;
