@@ -1,1 +1,3 @@
 pub mod Transcripts
+pub mod Talking
+pub mod Laws

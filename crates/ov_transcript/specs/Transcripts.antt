@@ -60,36 +60,41 @@ chunks_at h file =
     chunks_from file (generation_of (layers_of h) file) 0
     (chunk_count (file_at (matrix_of h) file).length)
 
--- a question, and the update as its owner seals it there
-abbrev pub updating : Masters → History → Request → PlainUpdate → List Request
-updating k h first u =
-    first ∷ update_request k.surface (epoch_of h) (sealed_update k (layers_of h) u) ∷ []
+-- the update of a history's owner, as it is sealed and sent there
+abbrev pub update_at : Masters → History → PlainUpdate → List Request
+update_at k h u =
+    update_request k.surface (epoch_of h) (sealed_update k (layers_of h) u) ∷ []
 
--- What is asked for a command where nothing is refused. It follows from the masters and from the
+-- what is asked first for a command
+abbrev pub first_request : Command → Request
+first_request (commands.Enrol user) = requests.Ask (questions.Enrol user)
+first_request (commands.Create file names bytes) = requests.Cover file (length bytes) names
+first_request (commands.Grant user file) = requests.Ask (questions.Grant user file)
+first_request (commands.Revoke user file) = requests.Ask (questions.Revoke user file)
+first_request (commands.Read user file) = requests.Ask (questions.Key user)
+first_request (commands.List file) = requests.List file
+first_request commands.Epoch = requests.Hello
+
+-- What is asked after that where nothing is refused. It follows from the masters and from the
 -- history without the bytes of its files.
-abbrev pub requests_in : Masters → History → Matrix → Command → List Request
-requests_in k h m (commands.Enrol user) =
-    updating k h (requests.Ask (questions.Enrol user)) (PlainEnrol user)
-requests_in k h m (commands.Create file names bytes) =
-    updating k h (requests.Cover file (length bytes) names)
-    (PlainCreate file (set_named m.users names) bytes)
-requests_in k h m (commands.Grant user file) =
-    updating k h (requests.Ask (questions.Grant user file))
-    (PlainGrant (user_number m user) (file_number m file))
-requests_in k h m (commands.Revoke user file) =
-    updating k h (requests.Ask (questions.Revoke user file))
-    (PlainRevoke (user_number m user) (file_number m file))
-requests_in k h m (commands.Read user file) =
-    requests.Ask (questions.Key user) ∷ requests.Chain user file
-    ∷ chunks_at h (file_number m file)
-requests_in k h m (commands.List file) = requests.List file ∷ []
-requests_in k h m commands.Epoch = requests.Hello ∷ []
+abbrev pub later_requests : Masters → History → Matrix → Command → List Request
+later_requests k h m (commands.Enrol user) = update_at k h (PlainEnrol user)
+later_requests k h m (commands.Create file names bytes) =
+    update_at k h (PlainCreate file (set_named m.users names) bytes)
+later_requests k h m (commands.Grant user file) =
+    update_at k h (PlainGrant (user_number m user) (file_number m file))
+later_requests k h m (commands.Revoke user file) =
+    update_at k h (PlainRevoke (user_number m user) (file_number m file))
+later_requests k h m (commands.Read user file) =
+    requests.Chain user file ∷ chunks_at h (file_number m file)
+later_requests k h m (commands.List file) = []
+later_requests k h m commands.Epoch = []
 
--- the same by the history's own matrix
+-- all that is asked for a command, at a history without the bytes of its files
 abbrev pub requests_at : Masters → History → Command → List Request
-requests_at k h command = requests_in k h (matrix_of h) command
+requests_at k h command = first_request command ∷ later_requests k h (matrix_of h) command
 
--- the same of a history with bytes
+-- the same at a history with bytes
 abbrev pub requests_of : Masters → PlainHistory → Command → List Request
 requests_of k p command = requests_at k (history_of p) command
 
@@ -154,10 +159,14 @@ abbrev pub broken_off : List Request → List ℕ
 broken_off [] = []
 broken_off (request ∷ requests) = framed (request_bytes request) ++ failed_reply request
 
--- The bytes are a front of what is sent for a command that a fault ended: the first asks of its
--- transcript, and the request at which it was broken off.
+-- The bytes are a front of the frames of these requests, which were asked one after the other as
+-- far as they go, and then broken off.
+abbrev pub IsFrontFrom : Service → List Request → List ℕ → Type 0
+IsFrontFrom v requests bytes =
+    (asks : List Ask) × (left : List Request) × (n : ℕ)
+    × Begins v requests asks left × (bytes ≡ take n (frames asks ++ broken_off left))
+
+-- the bytes are a front of what is sent for a command that a fault ended
 abbrev pub IsTranscriptFront : Masters → PlainHistory → Command → List ℕ → Type 0
 IsTranscriptFront k p command bytes =
-    (asks : List Ask) × (left : List Request) × (n : ℕ)
-    × Begins (service_of k p) (requests_of k p command) asks left
-    × (bytes ≡ take n (frames asks ++ broken_off left))
+    IsFrontFrom (service_of k p) (requests_of k p command) bytes
