@@ -1,5 +1,5 @@
 -- The laws of transcripts.
-use Rattle.std.specs.Prelude.{◌≡◌, ℕ, List, [], ◌∷◌, ◌++◌, Option, Result}
+use Rattle.std.specs.Prelude.{◌≡◌, ℕ, ◌≤◌, List, [], ◌∷◌, ◌++◌, length, Option, Result}
 use Rattle.ov_base.specs.declared.refusal.Refusal.{Refusal}
 use Rattle.ov_script.specs.declared.command.Command.{Command}
 use Rattle.ov_script.specs.declared.command.Command.TheVariants.{Read}
@@ -16,9 +16,11 @@ use Rattle.ov_client.specs.Talks.{Talks as ReadTalks}
 use Rattle.ov_client.specs.declared.fault.ClientFault.{ClientFault}
 use Rattle.ov_owner.specs.Alone.{AnsweredAlone}
 use Rattle.ov_owner.specs.Errands.{Errand}
+use Rattle.ov_owner.specs.Laws.{most_bytes}
 use Rattle.ov_owner.specs.Steps.{IsErrandFor}
 use Rattle.ov_owner.specs.Talks.{Talks}
 use Rattle.ov_owner.specs.declared.fault.OwnerFault.{OwnerFault}
+use Rattle.ov_transcript.specs.Bytes.{DifferInBytes, IsOfList, IsOfUpdate}
 use Rattle.ov_transcript.specs.Talking.{ArePut, IsAnswered, IsFirstAsk, IsOneQuestion, IsPut}
 use Rattle.ov_transcript.specs.Talking.{IsReadAnswered, ReadsAs}
 use Rattle.ov_transcript.specs.Transcripts.{IsTranscript, IsTranscriptFront, first_request, frames}
@@ -100,3 +102,27 @@ ReadsAreFronts =
     → ReadTalks r file asks unanswered result → IsLegal (history_of p)
     → AnsweredAlone (service_of k p) asks m → ArePut m unanswered put
     → IsTranscriptFront k p (Read user file) (frames (key ∷ asks) ++ put)
+
+-- ---- of the transcripts alone
+
+-- a command has one transcript at a history
+abbrev pub TranscriptsAreUnique : Type 0
+TranscriptsAreUnique =
+    (k : Masters) (p : PlainHistory) (command : Command) (asks others : List Ask)
+    → IsLegal (history_of p) → IsTranscript k p command asks → IsTranscript k p command others
+    → asks ≡ others
+
+-- that of a grant or a revocation is the same at histories that differ in their files' bytes alone
+abbrev pub GrantsSendNoBytes : Type 0
+GrantsSendNoBytes =
+    (k : Masters) (p q : PlainHistory) (command : Command) (asks : List Ask)
+    → IsOfList command → HasRequestForm (first_request command) → IsLegal (history_of p)
+    → IsLegal (history_of q) → DifferInBytes p q → IsTranscript k p command asks
+    → IsTranscript k q command asks
+
+-- that of an update is short: only a creation's is as long as its list and its file
+abbrev pub TranscriptsAreShort : Type 0
+TranscriptsAreShort =
+    (k : Masters) (p : PlainHistory) (command : Command) (asks : List Ask)
+    → IsOfUpdate command → HasRequestForm (first_request command) → IsLegal (history_of p)
+    → IsTranscript k p command asks → length (frames asks) ≤ most_bytes command
