@@ -8,7 +8,7 @@ use Rattle.ov_protocol.specs.Serving.{Service, later, served}
 use Rattle.ov_protocol.specs.Replies.{Replies}
 use Rattle.ov_peer.specs.Asks.{Ask}
 use Rattle.ov_transcript.specs.Transcripts.{Begins, left_unless, says_refused}
-use Rattle.ov_transcript.proofs.Kinds.{left_none}
+use Rattle.ov_transcript.proofs.Refusing.{left_none}
 
 -- a question that was refused
 pub record IsRefusedAsk (v : Service) (first : Request) (asks : List Ask) : Type 0 where

@@ -64,19 +64,17 @@ module _ {S : Type 0} (moves : S → Ask → S → Type 0) (asks_at : S → List
     whole stage v rs (a ∷ asks) is (next, moved, goes) (made, replied, alone) =
         let step = steps stage next v rs a made is moved replied in
         subst (λ (l : List Request). Begins v l (a ∷ asks) []) (sym step.is_next)
-        (by_case step.request step.more step.asked step.goes_on) where
+        (by_case step.request step.more step.asked step.goes_on
+        (λ left then. whole next (later v made) left asks then goes alone)) where
           by_case : (r : Request) (more : List Request) → a.request ≡ request_bytes r
               → (Replies (served v) a.request a.reply made
               × due next (later v made) (left_unless (says_refused a.reply) more))
               ⊎ (MayNeedDisk r × (a.reply ≡ answer_bytes DeviceFault) × cut next)
+              → ((left : List Request) → due next (later v made) left → Begins (later v made) left asks [])
               → Begins v (r ∷ more) (a ∷ asks) []
-          by_case r more asked (inl (replies, then)) = (
-            made,
-            asked,
-            replies,
-            whole next (later v made) (left_unless (says_refused a.reply) more) asks then goes alone,
-          )
-          by_case r more asked (inr (needs, failed, ends)) =
+          by_case r more asked (inl (replies, then)) rest =
+              (made, asked, replies, rest (left_unless (says_refused a.reply) more) then)
+          by_case r more asked (inr (needs, failed, ends)) rest =
               absurd (not_cut (cut_ends next final asks ends goes).1)
 
   -- what was put is a front in any case
@@ -90,17 +88,20 @@ module _ {S : Type 0} (moves : S → Ask → S → Type 0) (asks_at : S → List
     fronts stage v rs (a ∷ asks) is (next, moved, goes) (made, replied, alone) =
         let step = steps stage next v rs a made is moved replied in
         subst (λ (l : List Request). IsFrontFrom v l (frames (a ∷ asks) ++ put)) (sym step.is_next)
-        (by_case step.request step.more step.asked step.goes_on) where
+        (by_case step.request step.more step.asked step.goes_on
+        (λ left then. fronts next (later v made) left asks then goes alone)) where
           by_case : (r : Request) (more : List Request) → a.request ≡ request_bytes r
               → (Replies (served v) a.request a.reply made
               × due next (later v made) (left_unless (says_refused a.reply) more))
               ⊎ (MayNeedDisk r × (a.reply ≡ answer_bytes DeviceFault) × cut next)
+              → ((left : List Request) → due next (later v made) left
+              → IsFrontFrom (later v made) left (frames asks ++ put))
               → IsFrontFrom v (r ∷ more) (frames (a ∷ asks) ++ put)
-          by_case r more asked (inl (replies, then)) =
+          by_case r more asked (inl (replies, then)) rest =
               subst (IsFrontFrom v (r ∷ more)) (sym (append_assoc (frames_of a) (frames asks) put))
               (front_cons v r more a made (frames asks ++ put) asked replies
-              (fronts next (later v made) (left_unless (says_refused a.reply) more) asks then goes alone))
-          by_case r more asked (inr (needs, failed, ends)) =
+              (rest (left_unless (says_refused a.reply) more) then))
+          by_case r more asked (inr (needs, failed, ends)) rest =
               let (none, ended) = cut_ends next final asks ends goes in
               let all : frames (a ∷ asks) ++ put ≡ frames (a ∷ []) =
               (λ i. frames (a ∷ none i) ++ (after_cut ended) i) ∙ append-nil (frames (a ∷ [])) in

@@ -47,7 +47,7 @@ use Rattle.ov_transcript.specs.Transcripts.{Begins, left_unless, says_refused, s
 use Rattle.ov_transcript.proofs.Alike.{same_epoch, same_file, same_grant, same_layers, same_revocation, same_user}
 use Rattle.ov_transcript.proofs.Cutting.{AreTwoAsks, IsRefusedAsk, one_or_two}
 use Rattle.ov_transcript.proofs.Forms.{Fits, fits_form, grant_fits, revoke_fits}
-use Rattle.ov_transcript.proofs.Kinds.{left_none, still_served}
+use Rattle.ov_transcript.proofs.Refusing.{left_none, still_served}
 use Rattle.ov_transcript.proofs.Sizes.{answers_so}
 
 -- the numbers that are told for a grant and a revocation, from the layers

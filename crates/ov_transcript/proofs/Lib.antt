@@ -1,4 +1,4 @@
-pub mod Kinds
+pub mod Refusing
 pub mod Fronts
 pub mod Engines
 pub mod Owners

@@ -38,7 +38,7 @@ use Rattle.ov_owner.proofs.Leaving.{IsReady, is_first, is_update, nothing_due}
 use Rattle.ov_owner.proofs.Telling.{shows}
 use Rattle.ov_transcript.specs.Transcripts.{left_unless, says_refused, service_of}
 use Rattle.ov_transcript.proofs.Engines.{IsNext, IsStepBy}
-use Rattle.ov_transcript.proofs.Kinds.{is_read, left_none, refused_kind, still_served}
+use Rattle.ov_transcript.proofs.Refusing.{is_read, left_none, refused_kind, still_served}
 
 -- whether a call was cut off
 abbrev pub Cut : Stage → Type 0

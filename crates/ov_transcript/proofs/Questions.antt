@@ -20,7 +20,7 @@ use Rattle.ov_transcript.specs.Laws.{FirstAnswersAreFronts, FirstAsksAreFronts, 
 use Rattle.ov_transcript.specs.Talking.{IsFirstAsk, IsOneQuestion, ReadsAs}
 use Rattle.ov_transcript.specs.Transcripts.{IsTranscript, first_request, later_requests, left_unless, says_refused, service_of}
 use Rattle.ov_transcript.proofs.Fronts.{front_one, front_put}
-use Rattle.ov_transcript.proofs.Kinds.{is_read, left_none, still_served}
+use Rattle.ov_transcript.proofs.Refusing.{is_read, left_none, still_served}
 
 -- it needs no disk, and is no update
 no_disk : (command : Command) → MayNeedDisk (first_request command) → ⊥

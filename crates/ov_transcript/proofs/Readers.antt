@@ -42,7 +42,7 @@ use Rattle.ov_owner.proofs.Fitting.{reads_back}
 use Rattle.ov_transcript.specs.Transcripts.{chunk_count, chunks_at, chunks_from, generation_of, left_unless, says_refused, service_of}
 use Rattle.ov_transcript.proofs.Chunks.{file_found, generation-shown, length-shown, next_chunk, none_left}
 use Rattle.ov_transcript.proofs.Engines.{IsNext, IsStepBy}
-use Rattle.ov_transcript.proofs.Kinds.{is_read, still_served}
+use Rattle.ov_transcript.proofs.Refusing.{is_read, still_served}
 
 -- whether a read was cut off
 abbrev pub Cut : Stage → Type 0
