@@ -42,7 +42,7 @@ pub record IsNext (rs : List Request) (frame : List ℕ) : Type 0 where
   pub form : HasRequestForm request
   pub asked : frame ≡ request_bytes request
 
-module _ {S : Type 0} (moves : S → Ask → S → Type 0) (asks_at : S → List ℕ → Type 0)
+module _ {S : Type 0} (moves : S → Ask → S → Type 0)
     (due : S → Service → List Request → Type 0) (cut : S → Type 0)
     (steps : (stage next : S) (v : Service) (rs : List Request) (a : Ask) (made : List SealedUpdate)
     → due stage v rs → moves stage a next → IsReplyAt v a.request a.reply made

@@ -160,7 +160,7 @@ module _ (k : Masters) (command : Command) (e : Errand) (d : Does k command e) (
       let ours : e.first ≡ moves.asked.request =
       is_first k command e d (check_value_of k.base) p legal tries least a.request moves.asked in
       let frame : a.request ≡ request_bytes e.first = moves.asked.spelled ∙ ap request_bytes (sym ours) in
-      let form : HasRequestForm e.first = subst HasRequestForm (sym ours) moves.asked.form in record {
+      let form : HasRequestForm e.first = moves.asked.form in record {
         request = e.first;
         more = update_here ∷ [];
         is_next = refl;
@@ -170,23 +170,23 @@ module _ (k : Masters) (command : Command) (e : Errand) (d : Does k command e) (
         by_then : (form : HasRequestForm e.first) → Replies (served here) (request_bytes e.first) a.reply made
             → (request : Request) → e.first ≡ request → IsAfter e (Asks tries least) request a.reply next
             → Due next (later here made) (left_unless (says_refused a.reply) (update_here ∷ []))
-        by_then form replies request ours (inr memory) =
+        by_then form replies other ours (inr memory) =
             subst (λ (s : Stage). Due s (later here made) (left_unless (says_refused a.reply) (update_here ∷ []))) (sym memory) tt
-        by_then form replies request ours (inl (bytes, is)) =
+        by_then form replies other ours (inl (bytes, is)) =
             subst (λ (s : Stage). Due s (later here made) (left_unless (says_refused a.reply) (update_here ∷ [])))
             (sym (is ∙ ap (λ (r : Request). stage_after e (Asks tries least) (answer_of r a.reply)) (sym ours)))
             (read_due tries least none a made form replies (answer_of e.first a.reply) bytes refl)
 
         by_reply : (form : HasRequestForm e.first) → a.request ≡ request_bytes e.first
             → IsReplyAt here (request_bytes e.first) a.reply made
-            → {request : Request} → e.first ≡ request → IsAfter e (Asks tries least) request a.reply next
+            → {other : Request} → e.first ≡ other → IsAfter e (Asks tries least) other a.reply next
             → Replies (served here) a.request a.reply made
             × Due next (later here made) (left_unless (says_refused a.reply) (update_here ∷ []))
         by_reply form frame (inr failed) ours then =
             absurd (no_disk (needs_disk (served here) e.first form failed.needs))
-        by_reply form frame (inl replies) {request} ours then = (
+        by_reply form frame (inl replies) {other} ours then = (
           subst (λ (f : List ℕ). Replies (served here) f a.reply made) (sym frame) replies,
-          by_then form replies request ours then,
+          by_then form replies other ours then,
         )
 
   update_step : (tries : List ℕ) (epoch : ℕ) (u : SealedUpdate) (next : Stage) (a : Ask) (made : List SealedUpdate)

@@ -38,7 +38,7 @@ use Rattle.ov_client.specs.Talks.{AsksChain, AsksChunk, Ends, IsAfter, IsAskedAt
 use Rattle.ov_client.specs.Telling.{chained_unless, chunk_bytes, wrong_field}
 use Rattle.ov_client.specs.declared.fault.ClientFault.TheVariants as faults
 use Rattle.ov_client.specs.declared.telling.Fetched.TheVariants.{Bytes}
-use Rattle.ov_owner.proofs.Fitting.{reads_back}
+use Rattle.ov_client.proofs.ReadingBack.{reads_back}
 use Rattle.ov_transcript.specs.Transcripts.{chunk_count, chunks_at, chunks_from, generation_of, left_unless, says_refused, service_of}
 use Rattle.ov_transcript.proofs.Chunks.{file_found, generation-shown, length-shown, next_chunk, none_left}
 use Rattle.ov_transcript.proofs.Engines.{IsNext, IsStepBy}
@@ -64,7 +64,7 @@ module _ (k : Masters) (r : Reader) (file : List ℕ) (p : PlainHistory) (legal 
   chain = requests.Chain r.name file
 
   -- what was told of the file
-  record IsTold (c : Chained) : Type 0 where
+  pub record IsTold (c : Chained) : Type 0 where
     pub file_is : c.file ≡ file_named s file
     pub generation : c.generation ≡ (filed_at s (file_named s file)).generation
 
@@ -122,9 +122,11 @@ module _ (k : Masters) (r : Reader) (file : List ℕ) (p : PlainHistory) (legal 
         ∙ sym (generation-shown s c.file) ∙ ap (λ n. (filed_at s n).generation) told.file ∙ sym told.generation in
         let size : (file_at m (file_number m file)).length ≡ c.length =
         (λ i. (file_at (sym shows.matrix i) (number i)).length)
-        ∙ sym (length-shown s c.file) ∙ ap (λ n. (filed_at s n).length) told.file ∙ sym told.length in (
+        ∙ sym (length-shown s c.file) ∙ ap (λ n. (filed_at s n).length) told.file ∙ sym told.length in
+        let whole : c.length ≡ c.length - 0 = omega arith in (
           record { file_is = told.file; generation = told.generation },
-          λ i. chunks_from (number i) (generation i) 0 (chunk_count (size i)),
+          (λ i. chunks_from (number i) (generation i) 0 (chunk_count (size i)))
+              ∙ ap (λ n. chunks_from c.file c.generation 0 (chunk_count n)) whole,
         )
 
     chained_due : (wrong : Option ℕ) (tries : List ℕ) (c : Chained)
@@ -217,7 +219,7 @@ module _ (k : Masters) (r : Reader) (file : List ℕ) (p : PlainHistory) (legal 
           → Cut (after r (AsksChunk tries c stored) (answer_of (chunk c stored) a.reply))
       chunk_fails failed =
           subst (λ (x : Result Answer ℕ). Cut (after r (AsksChunk tries c stored) x))
-          (sym (reads_back (chunk c stored) answers.DeviceFault a.reply tt tt failed)) tt
+          (sym (ap (answer_of (chunk c stored)) failed ∙ reads_back (chunk c stored) answers.DeviceFault tt tt)) tt
 
   -- ---- each ask
 

@@ -1,5 +1,5 @@
 -- How long the transcripts of updates are.
-use Rattle.std.proofs.Common.{◌≡◌, ◌∙◌, ℕ, ◌+◌, ◌*◌, ◌≤◌, Bool, true, false, List, [], ◌∷◌, length, Result, Ok, Err, refl, sym, ap, subst, inl, inr, arith}
+use Rattle.std.proofs.Common.{◌≡◌, ◌∙◌, ℕ, ◌+◌, ◌*◌, ◌≤◌, Bool, true, false, List, [], ◌∷◌, length, length-append, Result, Ok, Err, refl, sym, ap, subst, inl, inr, arith}
 use Rattle.std.specs.Prelude.{◌⊎◌}
 use Rattle.ov_record.specs.Reading.{update_of}
 use Rattle.ov_record.specs.Spelling.{HasForm, spelling}
@@ -24,6 +24,7 @@ use Rattle.ov_wire.specs.declared.answer.Answer.{Answer}
 use Rattle.ov_wire.specs.declared.answer.Answer.TheVariants as answers
 use Rattle.ov_wire.specs.AnswerBytes.{answer_bytes}
 use Rattle.ov_wire.specs.AnswerForm.{HasAnswerForm, HasKnownForm}
+use Rattle.ov_wire.specs.Frames.{framed}
 use Rattle.ov_wire.specs.RequestReading.{request_of}
 use Rattle.ov_wire.specs.Requests.{HasRequestForm, request_bytes}
 use Rattle.ov_protocol.specs.Serving.{Service, later, served}
@@ -36,7 +37,7 @@ use Rattle.ov_peer.specs.Asks.{Ask}
 use Rattle.ov_owner.specs.Talks.{update_request}
 use Rattle.ov_owner.proofs.Sizes.{ask_answer_short, cover_answer_short, cover_short, creation_short, list_few, question_short, short_update, spelled_answer_short}
 use Rattle.ov_transcript.specs.Laws.{TranscriptsAreShort}
-use Rattle.ov_transcript.specs.Transcripts.{Begins, frames, says_refused, service_of}
+use Rattle.ov_transcript.specs.Transcripts.{Begins, frames, frames_of, says_refused, service_of}
 use Rattle.ov_transcript.proofs.Cutting.{AreTwoAsks, IsRefusedAsk, one_or_two}
 use Rattle.ov_transcript.proofs.Forms.{Fits, create_fits, enrol_fits, fits_form, grant_fits, revoke_fits, update_length}
 
@@ -48,6 +49,12 @@ pub answers_so : (v : Service) (request : Request) (frame reply : List ℕ) (mad
 answers_so v request frame reply made form asked replies =
     subst (λ (x : Result Request ℕ). AnswersRead (served v) x replies.answer) (request_back request form)
     (subst (λ (f : List ℕ). AnswersRead (served v) (request_of f) replies.answer) asked replies.answers)
+
+-- how many bytes the frames of an ask add
+ask_length : (a : Ask) (asks : List Ask)
+    → length (frames (a ∷ asks)) ≡ 8 + length a.request + length a.reply + length (frames asks)
+ask_length a asks =
+    omega (arith, length-append (frames_of a) (frames asks), length-append (framed a.request) (framed a.reply))
 
 -- an answer to an update has five bytes at most
 update_answer_short : (surface : List ℕ) (c : Catalogue) (epoch : ℕ) (spelled tag : List ℕ) (a : Answer)
@@ -92,7 +99,7 @@ module _ (k : Masters) (p : PlainHistory) (legal : IsLegal (history_of p)) where
     refused_short : (asks : List Ask) → IsRefusedAsk here first asks → length (frames asks) ≤ most + told + sent + 58
     refused_short asks r =
         let (one, two) = first_reply r.one r.made r.asked r.replies in
-        let short : length (frames (r.one ∷ [])) ≤ most + told + sent + 58 = omega (arith, one, two) in
+        let short : length (frames (r.one ∷ [])) ≤ most + told + sent + 58 = omega (arith, one, two, ask_length r.one []) in
         subst (λ (l : List Ask). length (frames l) ≤ most + told + sent + 58) (sym r.is) short
 
     two_short : (asks : List Ask) → AreTwoAsks here first second asks → length (frames asks) ≤ most + told + sent + 58
@@ -112,7 +119,7 @@ module _ (k : Masters) (p : PlainHistory) (legal : IsLegal (history_of p)) where
         (update_answer_short k.surface (served (later here t.made)).catalogue (epoch_of (history_of p)) (spelling 32 u)
         (owner_tag k.surface (epoch_of (history_of p)) (spelling 32 u)) t.replies_then.answer answered) in
         let short : length (frames (t.one ∷ t.other ∷ [])) ≤ most + told + sent + 58 =
-        omega (arith, one, two, three, four, five) in
+        omega (arith, one, two, three, four, five, ask_length t.one (t.other ∷ []), ask_length t.other []) in
         subst (λ (l : List Ask). length (frames l) ≤ most + told + sent + 58) (sym t.is) short
 
     pub all_short : (asks : List Ask) → Begins here (first ∷ second ∷ []) asks []
