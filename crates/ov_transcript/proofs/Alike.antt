@@ -3,7 +3,7 @@ use Rattle.std.proofs.Common.{◌≡◌, ◌∙◌, ℕ, ◌+◌, zero, suc, not
 use Rattle.std.specs.Prelude.{nat_lt, slice_index}
 use Rattle.std.proofs.lemmas.List.{length-map}
 use Rattle.ov_base.specs.Sets.{has}
-use Rattle.ov_history.specs.History.{File, Granted, History, Matrix, Revoked, changed, changed_all, delisted, epoch_of, listed, matrix_of, no_one}
+use Rattle.ov_history.specs.History.{File, Granted, Matrix, Revoked, changed, changed_all, delisted, epoch_of, listed, matrix_of, no_one}
 use Rattle.ov_history.specs.Layers.{Layers, layers_after, layers_all, layers_of, lists_after, no_layers}
 use Rattle.ov_history.specs.Lists.{file_names, file_number, is_file, is_listed, is_user, user_number}
 use Rattle.ov_history.specs.Places.{change_at, place_of}

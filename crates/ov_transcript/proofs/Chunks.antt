@@ -1,6 +1,6 @@
 -- The chunks of a file.
 use Rattle.std.proofs.Common.{◌≡◌, ◌∙◌, ◌<◌, ◌≤◌, ◌+◌, ℕ, zero, suc, List, [], ◌∷◌, ap, refl, sym, arith}
-use Rattle.std.specs.Prelude.{◌-◌, ◌/◌, min, slice_get, slice_index_or, Some}
+use Rattle.std.specs.Prelude.{◌-◌, min, slice_get, slice_index_or, Some}
 use Rattle.ov_base.specs.declared.limits.TheConstants.{MAX_CHUNK_BYTES}
 use Rattle.ov_history.specs.Catalogue.{Catalogue, Filed, files_shown, filed_at, matrix_shown, no_filed, outline}
 use Rattle.ov_history.specs.Layers.{Layers, Place}

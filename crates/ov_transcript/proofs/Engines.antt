@@ -1,5 +1,5 @@
 -- Talks whose asks are the requests of a list, one after the other.
-use Rattle.std.proofs.Common.{◌≡◌, ℕ, ◌∙◌, List, [], ◌∷◌, ◌++◌, Option, Some, None, refl, sym, ap, subst, inl, inr}
+use Rattle.std.proofs.Common.{◌≡◌, ℕ, ◌∙◌, List, [], ◌∷◌, ◌++◌, Option, refl, sym, subst, inl, inr}
 use Rattle.std.proofs.Common.{append_assoc}
 use Rattle.std.specs.Prelude.{◌⊎◌}
 use Rattle.std.proofs.lemmas.List.{append-nil}
@@ -15,7 +15,7 @@ use Rattle.ov_peer.specs.Disks.{MayNeedDisk}
 use Rattle.ov_owner.specs.Alone.{AnsweredAlone}
 use Rattle.ov_transcript.specs.Talking.{ArePut}
 use Rattle.ov_transcript.specs.Transcripts.{Begins, IsFrontFrom, frames, frames_of, left_unless, says_refused}
-use Rattle.ov_transcript.proofs.Fronts.{front_broken, front_cons, front_nothing, front_put}
+use Rattle.ov_transcript.proofs.Fronts.{front_broken, front_cons}
 
 -- the asks lead from one stage to another
 abbrev pub GoesBy : {S : Type 0} → (S → Ask → S → Type 0) → S → List Ask → S → Type 0

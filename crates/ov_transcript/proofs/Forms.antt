@@ -1,5 +1,5 @@
 -- An update that wasn't refused can be sent.
-use Rattle.std.proofs.Common.{◌≡◌, ◌∙◌, ℕ, ◌+◌, ◌<◌, ◌≤◌, ◌^◌, Bool, true, false, not, List, [], ◌∷◌, ◌++◌, length, length-append, map, refl, sym, ap, subst, arith}
+use Rattle.std.proofs.Common.{◌≡◌, ◌∙◌, ℕ, ◌+◌, ◌<◌, ◌^◌, Bool, true, false, List, [], ◌∷◌, ◌++◌, length, length-append, map, refl, sym, ap, subst, arith}
 use Rattle.std.specs.List.{AllByRecursion}
 use Rattle.std.specs.Prelude.{IfSome}
 use Rattle.std.proofs.lemmas.List.{length-map}
@@ -14,15 +14,14 @@ use Rattle.ov_tokens.specs.declared.token.Token.{Token}
 use Rattle.ov_tokens.specs.Keys.{access_key_of, node_key}
 use Rattle.ov_tokens.specs.Labels.{label_of}
 use Rattle.ov_tokens.proofs.TokenLemmas.{length-node_key, length-token_of}
-use Rattle.ov_graph.specs.declared.cover.Cover.{Cover}
 use Rattle.ov_graph.specs.Contents.{plan_of}
 use Rattle.ov_base_layer.specs.Seals.{access_token, cover_tokens, edge_token}
 use Rattle.ov_surface.specs.Coats.{base_text}
 use Rattle.ov_record.specs.Spelling.{HasForm, spelling}
 use Rattle.ov_record.specs.Updates.{SealedUpdate}
 use Rattle.ov_record.proofs.UpdateLaws.{update_reads}
-use Rattle.ov_history.specs.Asking.{file_named, of_both, of_grant, user_named}
-use Rattle.ov_history.specs.Catalogue.{Catalogue, matrix_shown, outline}
+use Rattle.ov_history.specs.Asking.{file_named, user_named}
+use Rattle.ov_history.specs.Catalogue.{Catalogue}
 use Rattle.ov_history.specs.History.{Matrix, epoch_of, matrix_of}
 use Rattle.ov_history.specs.Layers.{Layers, holders, layers_of, node_for, node_of, root_of}
 use Rattle.ov_history.specs.Lists.{file_number, set_named, user_number}

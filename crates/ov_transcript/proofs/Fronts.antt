@@ -1,5 +1,5 @@
 -- Fronts of what is sent.
-use Rattle.std.proofs.Common.{◌≡◌, ℕ, ◌+◌, ◌≤◌, ◌∙◌, List, [], ◌∷◌, ◌++◌, length, take, Bool, true, false, refl, sym, ap, subst, inl, inr, arith}
+use Rattle.std.proofs.Common.{◌≡◌, ℕ, ◌+◌, ◌≤◌, ◌∙◌, List, [], ◌∷◌, ◌++◌, length, take, refl, sym, ap, subst, inl, inr, arith}
 use Rattle.std.proofs.Common.{append_assoc}
 use Rattle.std.specs.Prelude.{min}
 use Rattle.std.proofs.Math.Seq.{take-append-add}
@@ -13,11 +13,11 @@ use Rattle.ov_wire.specs.Frames.{framed}
 use Rattle.ov_wire.specs.Requests.{HasRequestForm, request_bytes}
 use Rattle.ov_protocol.specs.Serving.{Service, later, served}
 use Rattle.ov_protocol.specs.Replies.{Replies}
-use Rattle.ov_peer.specs.Asks.{Ask, IsReplyAt}
+use Rattle.ov_peer.specs.Asks.{Ask}
 use Rattle.ov_peer.specs.Disks.{MayNeedDisk}
 use Rattle.ov_peer.proofs.Needing.{needs_disk}
 use Rattle.ov_transcript.specs.Talking.{IsPut}
-use Rattle.ov_transcript.specs.Transcripts.{Begins, IsFrontFrom, broken_off, failed_reply, frames, frames_of, left_unless, says_refused}
+use Rattle.ov_transcript.specs.Transcripts.{IsFrontFrom, broken_off, failed_reply, frames, frames_of, left_unless, says_refused}
 
 -- a front of bytes, from some of what stands behind other bytes on
 front_within : (n : ℕ) (xs ys : List ℕ) → (m : ℕ) × (take n xs ≡ take m (xs ++ ys))

@@ -1,14 +1,13 @@
 -- What is sent for a grant and a revocation doesn't depend on the files' bytes.
-use Rattle.std.proofs.Common.{◌≡◌, ◌∙◌, ℕ, ◌+◌, Bool, true, false, not, List, [], ◌∷◌, Option, Some, None, Result, Ok, Err, refl, sym, ap, subst, inl, inr}
+use Rattle.std.proofs.Common.{◌≡◌, ◌∙◌, ℕ, ◌+◌, Bool, false, not, List, [], ◌∷◌, Result, Ok, refl, sym, ap, subst, inl, inr}
 use Rattle.std.specs.Prelude.{◌⊎◌, ◌≢◌}
 use Rattle.ov_base.specs.Sets.{has}
-use Rattle.ov_base.specs.declared.refusal.Refusal.{Refusal}
 use Rattle.ov_record.specs.Reading.{update_of}
 use Rattle.ov_record.specs.Spelling.{HasForm, spelling}
 use Rattle.ov_record.specs.Updates.{SealedUpdate}
 use Rattle.ov_script.specs.declared.command.Command.TheVariants as commands
 use Rattle.ov_history.specs.Asking.{file_named, user_named}
-use Rattle.ov_history.specs.Briefs.{brief, part_place}
+use Rattle.ov_history.specs.Briefs.{brief}
 use Rattle.ov_history.specs.Catalogue.{Catalogue, outline}
 use Rattle.ov_history.specs.History.{Granted, Matrix, Revoked, Update, epoch_of, matrix_of}
 use Rattle.ov_history.specs.Layers.{Layers, holders, layers_of, node_of, root_of}

@@ -1,10 +1,6 @@
 -- A command has one transcript at a history.
 use Rattle.std.proofs.Common.{◌≡◌, ◌∙◌, ℕ, List, [], ◌∷◌, Result, Ok, Err, refl, sym, ap, subst}
 use Rattle.ov_record.specs.Updates.{SealedUpdate}
-use Rattle.ov_script.specs.declared.command.Command.{Command}
-use Rattle.ov_history.specs.Masters.{Masters}
-use Rattle.ov_history.specs.Plain.{PlainHistory, history_of}
-use Rattle.ov_history.specs.Refusals.{IsLegal}
 use Rattle.ov_history.specs.Sealed.{catalogue_of}
 use Rattle.ov_history.specs.Sealing.{sealed}
 use Rattle.ov_history.proofs.Keeping.{kept_stands_for}

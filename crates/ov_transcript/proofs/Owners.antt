@@ -1,6 +1,6 @@
 -- The asks of an owner's call are the requests of its command.
 use Rattle.std.proofs.Common.{◌≡◌, ℕ, ◌∙◌, Bool, true, false, List, [], ◌∷◌, Result, Ok, Err, refl, sym, ap, subst, inl, inr, arith}
-use Rattle.std.specs.Prelude.{◌⊎◌, None, nat_lt}
+use Rattle.std.specs.Prelude.{◌⊎◌, nat_lt}
 use Rattle.ov_base.proofs.Tests.{lt_is_false}
 use Rattle.ov_fields.specs.Fronts.{AreAllBytes}
 use Rattle.ov_record.specs.Updates.{SealedUpdate}
@@ -26,7 +26,7 @@ use Rattle.ov_protocol.specs.Answers.{Answers}
 use Rattle.ov_protocol.specs.Replies.{Replies}
 use Rattle.ov_protocol.proofs.Reading.{replies_are_read}
 use Rattle.ov_peer.specs.Asks.{Ask, IsReplyAt}
-use Rattle.ov_peer.specs.Disks.{IsDiskFault, MayNeedDisk}
+use Rattle.ov_peer.specs.Disks.{MayNeedDisk}
 use Rattle.ov_peer.proofs.Needing.{needs_disk}
 use Rattle.ov_owner.specs.Errands.{Errand}
 use Rattle.ov_owner.specs.Talks.{Asks, Ends, IsAfter, IsDue, Moves, Sends, Stage, after as stage_after, after_first, after_update, sends_if, update_request}

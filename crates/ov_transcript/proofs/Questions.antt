@@ -1,17 +1,15 @@
 -- The first ask of a command.
-use Rattle.std.proofs.Common.{◌≡◌, ◌∙◌, ℕ, Bool, true, false, List, [], ◌∷◌, ◌++◌, Ok, refl, sym, ap, subst, inl, inr}
-use Rattle.ov_record.specs.Updates.{SealedUpdate}
+use Rattle.std.proofs.Common.{◌≡◌, ◌∙◌, ℕ, List, [], ◌∷◌, Ok, refl, sym, ap, subst, inl, inr}
 use Rattle.ov_script.specs.declared.command.Command.{Command}
 use Rattle.ov_script.specs.declared.command.Command.TheVariants as commands
 use Rattle.ov_history.specs.History.{matrix_of}
 use Rattle.ov_history.specs.Masters.{Masters}
 use Rattle.ov_history.specs.Plain.{PlainHistory, history_of}
-use Rattle.ov_wire.specs.declared.request.Request.{Request}
 use Rattle.ov_wire.specs.declared.answer.Answer.{Answer}
 use Rattle.ov_wire.specs.declared.answer.Answer.TheVariants as answers
 use Rattle.ov_wire.specs.AnswerBytes.{answer_bytes}
 use Rattle.ov_wire.specs.Requests.{request_bytes}
-use Rattle.ov_protocol.specs.Serving.{Service, later, served}
+use Rattle.ov_protocol.specs.Serving.{later, served}
 use Rattle.ov_protocol.specs.Replies.{Replies, updates_asked}
 use Rattle.ov_peer.specs.Asks.{Ask, IsReplyAt}
 use Rattle.ov_peer.specs.Disks.{MayNeedDisk}

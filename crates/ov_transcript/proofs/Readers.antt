@@ -7,8 +7,8 @@ use Rattle.ov_fields.specs.Fronts.{AreAllBytes}
 use Rattle.ov_record.specs.Updates.{SealedUpdate}
 use Rattle.ov_history.specs.Asking.{file_named, user_named}
 use Rattle.ov_history.specs.Catalogue.{Catalogue, Filed, filed_at}
-use Rattle.ov_history.specs.History.{History, Matrix, matrix_of}
-use Rattle.ov_history.specs.Layers.{Layers, layers_of}
+use Rattle.ov_history.specs.History.{Matrix, matrix_of}
+use Rattle.ov_history.specs.Layers.{layers_of}
 use Rattle.ov_history.specs.Lists.{file_at, file_number}
 use Rattle.ov_history.specs.Masters.{Masters}
 use Rattle.ov_history.specs.Plain.{PlainHistory, history_of}
@@ -33,8 +33,8 @@ use Rattle.ov_protocol.proofs.Reading.{replies_are_read}
 use Rattle.ov_peer.specs.Asks.{Ask, IsReplyAt}
 use Rattle.ov_peer.specs.Disks.{MayNeedDisk}
 use Rattle.ov_peer.proofs.Needing.{needs_disk}
-use Rattle.ov_client.specs.Readers.{FileKeys, Reader, judged, keys_along, uncovered}
-use Rattle.ov_client.specs.Talks.{AsksChain, AsksChunk, Ends, IsAfter, IsAskedAt, Moves, Stage, after, after_fetched, asked_at, goes_on, then_or}
+use Rattle.ov_client.specs.Readers.{Reader, judged, keys_along, uncovered}
+use Rattle.ov_client.specs.Talks.{AsksChain, AsksChunk, Ends, IsAfter, IsAskedAt, Moves, Stage, after, after_fetched, goes_on, then_or}
 use Rattle.ov_client.specs.Telling.{chained_unless, chunk_bytes, wrong_field}
 use Rattle.ov_client.specs.declared.fault.ClientFault.TheVariants as faults
 use Rattle.ov_client.specs.declared.telling.Fetched.TheVariants.{Bytes}

@@ -1,5 +1,5 @@
 -- A read is the transcript of its command, or a front of it.
-use Rattle.std.proofs.Common.{◌≡◌, ◌∙◌, ℕ, Bool, true, false, List, [], ◌∷◌, ◌++◌, Option, Some, None, Result, Ok, Err, refl, sym, ap, subst, inl, inr, append_assoc}
+use Rattle.std.proofs.Common.{◌≡◌, ℕ, List, [], ◌∷◌, ◌++◌, Option, Some, None, Result, Ok, Err, refl, sym, ap, subst, inl, inr, append_assoc}
 use Rattle.ov_script.specs.declared.command.Command.TheVariants.{Read}
 use Rattle.ov_history.specs.History.{matrix_of}
 use Rattle.ov_history.specs.Lists.{file_number}

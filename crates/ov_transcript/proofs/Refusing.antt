@@ -1,5 +1,5 @@
 -- Which replies are refusals.
-use Rattle.std.proofs.Common.{◌≡◌, ℕ, ◌∙◌, Bool, true, false, List, [], ◌∷◌, Ok, refl, sym, ap, inl, inr}
+use Rattle.std.proofs.Common.{◌≡◌, ℕ, ◌∙◌, Bool, true, false, List, [], Ok, refl, ap, inl, inr}
 use Rattle.ov_base.specs.declared.refusal.Refusal.{Refusal}
 use Rattle.ov_fields.specs.Fronts.{AreAllBytes}
 use Rattle.ov_record.specs.Updates.{SealedUpdate}

@@ -1,10 +1,9 @@
 -- How long the transcripts of updates are.
-use Rattle.std.proofs.Common.{◌≡◌, ◌∙◌, ℕ, ◌+◌, ◌*◌, ◌≤◌, Bool, true, false, List, [], ◌∷◌, length, length-append, Result, Ok, Err, refl, sym, ap, subst, inl, inr, arith}
+use Rattle.std.proofs.Common.{◌≡◌, ◌∙◌, ℕ, ◌+◌, ◌*◌, ◌≤◌, false, List, [], ◌∷◌, length, length-append, Result, sym, ap, subst, inl, inr, arith}
 use Rattle.std.specs.Prelude.{◌⊎◌}
 use Rattle.ov_record.specs.Reading.{update_of}
 use Rattle.ov_record.specs.Spelling.{HasForm, spelling}
 use Rattle.ov_record.specs.Updates.{SealedUpdate}
-use Rattle.ov_script.specs.declared.command.Command.{Command}
 use Rattle.ov_script.specs.declared.command.Command.TheVariants as commands
 use Rattle.ov_history.specs.Catalogue.{Catalogue}
 use Rattle.ov_history.specs.History.{Matrix, epoch_of, matrix_of}
