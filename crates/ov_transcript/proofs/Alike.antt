@@ -1,13 +1,18 @@
 -- What two histories that differ in their files' bytes alone have in common.
-use Rattle.std.proofs.Common.{◌≡◌, ◌∙◌, ℕ, ◌+◌, zero, suc, not, List, [], ◌∷◌, ◌++◌, length, refl, sym, ap}
+use Rattle.std.proofs.Common.{◌≡◌, ◌∙◌, ℕ, ◌+◌, zero, suc, not, List, [], ◌∷◌, ◌++◌, length, refl}
+use Rattle.std.proofs.Common.{sym, ap}
 use Rattle.std.specs.Prelude.{nat_lt, slice_index}
 use Rattle.std.proofs.lemmas.List.{length-map}
 use Rattle.ov_base.specs.Sets.{has}
-use Rattle.ov_history.specs.History.{File, Granted, Matrix, Revoked, changed, changed_all, delisted, epoch_of, listed, matrix_of, no_one}
-use Rattle.ov_history.specs.Layers.{Layers, layers_after, layers_all, layers_of, lists_after, no_layers}
-use Rattle.ov_history.specs.Lists.{file_names, file_number, is_file, is_listed, is_user, user_number}
+use Rattle.ov_history.specs.History.{File, Granted, Matrix, Revoked, changed, changed_all, delisted}
+use Rattle.ov_history.specs.History.{epoch_of, listed, matrix_of, no_one}
+use Rattle.ov_history.specs.Layers.{Layers, layers_after, layers_all, layers_of, lists_after}
+use Rattle.ov_history.specs.Layers.{no_layers}
+use Rattle.ov_history.specs.Lists.{file_names, file_number, is_file, is_listed, is_user}
+use Rattle.ov_history.specs.Lists.{user_number}
 use Rattle.ov_history.specs.Places.{change_at, place_of}
-use Rattle.ov_history.specs.Plain.{PlainCreate, PlainEnrol, PlainGrant, PlainHistory, PlainRevoke, PlainUpdate, history_of, measured, measured_all}
+use Rattle.ov_history.specs.Plain.{PlainCreate, PlainEnrol, PlainGrant, PlainHistory, PlainRevoke}
+use Rattle.ov_history.specs.Plain.{PlainUpdate, history_of, measured, measured_all}
 use Rattle.ov_base.specs.declared.refusal.Refusal.TheVariants.{Listed, NoFile, NoUser, NotListed}
 use Rattle.ov_history.specs.Refusals.{tests_of, tests_of_room}
 use Rattle.ov_history.proofs.MatrixLaws.{file_lists, file_lists-changed, is_listed-list}
@@ -15,7 +20,8 @@ use Rattle.ov_transcript.specs.Bytes.{AreAlike, DifferInBytes, IsAlike}
 
 -- ---- names of files
 
-names-append : (files : List File) (f : File) → file_names (files ++ f ∷ []) ≡ file_names files ++ f.name ∷ []
+names-append : (files : List File) (f : File) → file_names (files ++ f ∷ [])
+    ≡ file_names files ++ f.name ∷ []
 names-append [] f = refl
 names-append (first ∷ files) f = ap (λ (l : List (List ℕ)). first.name ∷ l) (names-append files f)
 
@@ -74,7 +80,8 @@ matches_all : (m n : Matrix) (us vs : List PlainUpdate) → Matches m n → AreA
     → Matches (changed_all m (measured_all us)) (changed_all n (measured_all vs))
 matches_all m n [] [] ms are = ms
 matches_all m n (u ∷ us) (v ∷ vs) ms (is, are) =
-    matches_all (changed m (measured u)) (changed n (measured v)) us vs (matches_on m n u v ms is) are
+    matches_all (changed m (measured u)) (changed n (measured v)) us vs
+    (matches_on m n u v ms is) are
 matches_all m n us vs ms are = absurd are
 
 -- ---- layers
@@ -123,7 +130,8 @@ module _ (p q : PlainHistory) (d : DifferInBytes p q) where
 
   matches : Matches m n
   matches =
-      matches_all no_one no_one p.updates q.updates (record { users = refl; names = refl; lists = refl }) d.updates
+      matches_all no_one no_one p.updates q.updates
+      (record { users = refl; names = refl; lists = refl }) d.updates
 
   pub same_user : (name : List ℕ) → user_number m name ≡ user_number n name
   same_user name = ap (place_of name) matches.users

@@ -1,8 +1,10 @@
 -- The chunks of a file.
-use Rattle.std.proofs.Common.{◌≡◌, ◌∙◌, ◌<◌, ◌≤◌, ◌+◌, ℕ, zero, suc, List, [], ◌∷◌, ap, refl, sym, arith}
+use Rattle.std.proofs.Common.{◌≡◌, ◌∙◌, ◌<◌, ◌≤◌, ◌+◌, ℕ, zero, suc, List, [], ◌∷◌, ap, refl, sym}
+use Rattle.std.proofs.Common.{arith}
 use Rattle.std.specs.Prelude.{◌-◌, min, slice_get, slice_index_or, Some}
 use Rattle.ov_base.specs.declared.limits.TheConstants.{MAX_CHUNK_BYTES}
-use Rattle.ov_history.specs.Catalogue.{Catalogue, Filed, files_shown, filed_at, matrix_shown, no_filed, outline}
+use Rattle.ov_history.specs.Catalogue.{Catalogue, Filed, files_shown, filed_at, matrix_shown}
+use Rattle.ov_history.specs.Catalogue.{no_filed, outline}
 use Rattle.ov_history.specs.Layers.{Layers, Place}
 use Rattle.ov_history.specs.Lists.{file_at, no_file}
 use Rattle.ov_history.proofs.Outlining.{places-at}
@@ -59,7 +61,8 @@ next_chunk file generation start size got some is =
     ∙ ap (λ (l : List Request). requests.Chunk file generation start MAX_CHUNK_BYTES ∷ l)
     (by_size (size - start - MAX_CHUNK_BYTES) refl) where
       by_size : (n : ℕ) → size - start - MAX_CHUNK_BYTES ≡ n
-          → chunks_from file generation (start + MAX_CHUNK_BYTES) (chunk_count (size - start - MAX_CHUNK_BYTES))
+          → chunks_from file generation (start + MAX_CHUNK_BYTES)
+          (chunk_count (size - start - MAX_CHUNK_BYTES))
           ≡ chunks_from file generation (start + got) (chunk_count (size - (start + got)))
       by_size zero none =
           let past : size - (start + got) ≡ 0 = omega (arith, is, none) in

@@ -38,14 +38,16 @@ nothing v [] begins = refl
 nothing v (a ∷ asks) begins = absurd begins
 
 module _ (v : Service) (first second : Request) where
-  by_second : (a : Ask) (made : List SealedUpdate) (rest : List Ask) → a.request ≡ request_bytes first
+  by_second : (a : Ask) (made : List SealedUpdate) (rest : List Ask) → a.request
+      ≡ request_bytes first
       → Replies (served v) a.request a.reply made → says_refused a.reply ≡ false
       → Begins (later v made) (second ∷ []) rest [] → AreTwoAsks v first second (a ∷ rest)
   by_second a made [] asked replies free begins = absurd (cc begins)
   by_second a made (b ∷ rest) asked replies free (more, asked_then, replies_then, begins) =
       let none : rest ≡ [] =
       nothing (later (later v made) more) rest
-      (subst (λ (l : List Request). Begins (later (later v made) more) l rest []) (left_none (says_refused b.reply)) begins) in
+      (subst (λ (l : List Request). Begins (later (later v made) more) l rest [])
+      (left_none (says_refused b.reply)) begins) in
       record {
         one = a;
         other = b;
@@ -68,7 +70,8 @@ module _ (v : Service) (first second : Request) where
     by_kind true is =
         let none : rest ≡ [] =
         nothing (later v made) rest
-        (subst (λ (b : Bool). Begins (later v made) (left_unless b (second ∷ [])) rest []) is begins) in
+        (subst (λ (b : Bool). Begins (later v made) (left_unless b (second ∷ [])) rest []) is
+        begins) in
         inl (record {
           one = a;
           is = ap (λ (l : List Ask). a ∷ l) none;
@@ -79,4 +82,5 @@ module _ (v : Service) (first second : Request) where
         })
     by_kind false is =
         inr (by_second a made rest asked replies is
-        (subst (λ (b : Bool). Begins (later v made) (left_unless b (second ∷ [])) rest []) is begins))
+        (subst (λ (b : Bool). Begins (later v made) (left_unless b (second ∷ [])) rest []) is
+        begins))

@@ -14,16 +14,19 @@ use Rattle.ov_peer.specs.Asks.{Ask, IsReplyAt}
 use Rattle.ov_peer.specs.Disks.{MayNeedDisk}
 use Rattle.ov_owner.specs.Alone.{AnsweredAlone}
 use Rattle.ov_transcript.specs.Talking.{ArePut}
-use Rattle.ov_transcript.specs.Transcripts.{Begins, IsFrontFrom, frames, frames_of, left_unless, says_refused}
+use Rattle.ov_transcript.specs.Transcripts.{Begins, IsFrontFrom, frames, frames_of, left_unless}
+use Rattle.ov_transcript.specs.Transcripts.{says_refused}
 use Rattle.ov_transcript.proofs.Fronts.{front_broken, front_cons}
 
 -- the asks lead from one stage to another
 abbrev pub GoesBy : {S : Type 0} → (S → Ask → S → Type 0) → S → List Ask → S → Type 0
 GoesBy moves stage [] last = stage ≡ last
-GoesBy {S} moves stage (a ∷ asks) last = (next : S) × moves stage a next × GoesBy moves next asks last
+GoesBy {S} moves stage (a ∷ asks) last = (next : S) × moves stage a next
+    × GoesBy moves next asks last
 
--- What one ask of a talk is: it asks the next request. That was replied as it is at the history, and
--- the talk goes on with the requests that are left; or the disk failed, and the talk is cut off.
+-- What one ask of a talk is: it asks the next request. That was replied as it is at the history,
+-- and the talk goes on with the requests that are left; or the disk failed, and the talk is cut
+-- off.
 pub record IsStepBy {S : Type 0} (due : S → Service → List Request → Type 0) (cut : S → Type 0)
     (next : S) (v : Service) (rs : List Request) (a : Ask) (made : List SealedUpdate) : Type 0 where
   pub request : Request
@@ -70,7 +73,8 @@ module _ {S : Type 0} (moves : S → Ask → S → Type 0)
               → (Replies (served v) a.request a.reply made
               × due next (later v made) (left_unless (says_refused a.reply) more))
               ⊎ (MayNeedDisk r × (a.reply ≡ answer_bytes DeviceFault) × cut next)
-              → ((left : List Request) → due next (later v made) left → Begins (later v made) left asks [])
+              → ((left : List Request) → due next (later v made) left
+              → Begins (later v made) left asks [])
               → Begins v (r ∷ more) (a ∷ asks) []
           by_case r more asked (inl (replies, then)) rest =
               (made, asked, replies, rest (left_unless (says_refused a.reply) more) then)
@@ -78,7 +82,8 @@ module _ {S : Type 0} (moves : S → Ask → S → Type 0)
               absurd (not_cut (cut_ends next final asks ends goes).1)
 
   -- what was put is a front in any case
-  module _ (final : S) (m : Service) (unanswered : Option (List ℕ)) (put : List ℕ) (are : ArePut m unanswered put)
+  module _ (final : S) (m : Service) (unanswered : Option (List ℕ)) (put : List ℕ)
+      (are : ArePut m unanswered put)
       (last : (v : Service) (rs : List Request) → v ≡ m → due final v rs → IsFrontFrom v rs put)
       (after_cut : cut final → put ≡ []) where
     pub fronts : (stage : S) (v : Service) (rs : List Request) (asks : List Ask) → due stage v rs
@@ -105,4 +110,5 @@ module _ {S : Type 0} (moves : S → Ask → S → Type 0)
               let (none, ended) = cut_ends next final asks ends goes in
               let all : frames (a ∷ asks) ++ put ≡ frames (a ∷ []) =
               (λ i. frames (a ∷ none i) ++ (after_cut ended) i) ∙ append-nil (frames (a ∷ [])) in
-              subst (IsFrontFrom v (r ∷ more)) (sym all) (front_broken v r more a needs asked failed)
+              subst (IsFrontFrom v (r ∷ more)) (sym all)
+              (front_broken v r more a needs asked failed)

@@ -1,5 +1,6 @@
 -- An update that wasn't refused can be sent.
-use Rattle.std.proofs.Common.{◌≡◌, ◌∙◌, ℕ, ◌+◌, ◌<◌, ◌^◌, Bool, true, false, List, [], ◌∷◌, ◌++◌, length, length-append, map, refl, sym, ap, subst, arith}
+use Rattle.std.proofs.Common.{◌≡◌, ◌∙◌, ℕ, ◌+◌, ◌<◌, ◌^◌, Bool, true, false, List, [], ◌∷◌, ◌++◌}
+use Rattle.std.proofs.Common.{length, length-append, map, refl, sym, ap, subst, arith}
 use Rattle.std.specs.List.{AllByRecursion}
 use Rattle.std.specs.Prelude.{IfSome}
 use Rattle.std.proofs.lemmas.List.{length-map}
@@ -26,7 +27,8 @@ use Rattle.ov_history.specs.History.{Matrix, epoch_of, matrix_of}
 use Rattle.ov_history.specs.Layers.{Layers, holders, layers_of, node_for, node_of, root_of}
 use Rattle.ov_history.specs.Lists.{file_number, set_named, user_number}
 use Rattle.ov_history.specs.Masters.{Masters, access_key}
-use Rattle.ov_history.specs.Plain.{PlainCreate, PlainEnrol, PlainGrant, PlainHistory, PlainRevoke, history_of}
+use Rattle.ov_history.specs.Plain.{PlainCreate, PlainEnrol, PlainGrant, PlainHistory, PlainRevoke}
+use Rattle.ov_history.specs.Plain.{history_of}
 use Rattle.ov_history.specs.Refusals.{IsLegal}
 use Rattle.ov_history.specs.Sealed.{catalogue_of}
 use Rattle.ov_history.specs.Sealing.{sealed, sealed_update, token_unless}
@@ -49,7 +51,8 @@ use Rattle.ov_owner.specs.Talks.{update_request}
 
 access_is_token : (master : List ℕ) (root node : ℕ) → IsToken (access_token master root node)
 access_is_token master root node =
-    length-token_of (node_key Derive master root) (access_key_of (node_key Derive master node)) (label_of Access node)
+    length-token_of (node_key Derive master root) (access_key_of (node_key Derive master node))
+    (label_of Access node)
     (length-sha256 _)
 
 token_if : (b : Bool) (t : Token) → IsToken t → IfSome (token_unless b t) IsToken
@@ -72,7 +75,13 @@ pub update_length : (surface : List ℕ) (epoch : ℕ) (u : SealedUpdate)
 update_length surface epoch u =
     let tag = owner_tag surface epoch (spelling 32 u) in
     let all : length tag ≡ 32 = length-hmac _ _ in
-    omega (arith, all, length-append (u32 epoch ++ spelling 32 u) tag, length-append (u32 epoch) (spelling 32 u))
+    omega (
+      arith,
+      all,
+      length-append (u32 epoch ++ spelling 32 u) tag,
+      length-append (u32 epoch)
+          (spelling 32 u),
+    )
 
 pub update_form : (surface : List ℕ) (epoch : ℕ) (u : SealedUpdate) → epoch < 2 ^ 32 → HasForm 32 u
     → HasRequestForm (update_request surface epoch u)
@@ -110,11 +119,13 @@ module _ (k : Masters) (p : PlainHistory) (legal : IsLegal (history_of p)) where
   low_epoch : (epoch : ℕ) → epoch ≡ c.epoch → epoch < 2 ^ 32 → epoch_of (history_of p) < 2 ^ 32
   low_epoch epoch is low = subst (λ n. n < 2 ^ 32) (is ∙ shows.epoch) low
 
-  low_user : (n : ℕ) (name : List ℕ) → n ≡ user_named c name → n < 2 ^ 32 → user_number m name < 2 ^ 32
+  low_user : (n : ℕ) (name : List ℕ) → n ≡ user_named c name → n < 2 ^ 32
+      → user_number m name < 2 ^ 32
   low_user n name is low =
       subst (λ n. n < 2 ^ 32) (is ∙ ap (λ (x : Matrix). user_number x name) shows.matrix) low
 
-  low_file : (n : ℕ) (name : List ℕ) → n ≡ file_named c name → n < 2 ^ 32 → file_number m name < 2 ^ 32
+  low_file : (n : ℕ) (name : List ℕ) → n ≡ file_named c name → n < 2 ^ 32
+      → file_number m name < 2 ^ 32
   low_file n name is low =
       subst (λ n. n < 2 ^ 32) (is ∙ ap (λ (x : Matrix). file_number x name) shows.matrix) low
 
@@ -134,8 +145,10 @@ module _ (k : Masters) (p : PlainHistory) (legal : IsLegal (history_of p)) where
       low_user known.user user (ap (λ (x : Known). x.user) is) (omega (arith, form.1)),
       low_file known.file file (ap (λ (x : Known). x.file) is) (omega (arith, form.4)),
       token_if (has (holders y (node_of y (file_number m file))) (user_number m user))
-          (access_token k.base (root_of y.base (user_number m user)) (node_of y (file_number m file)))
-          (access_is_token k.base (root_of y.base (user_number m user)) (node_of y (file_number m file))),
+          (access_token k.base (root_of y.base (user_number m user))
+          (node_of y (file_number m file)))
+          (access_is_token k.base (root_of y.base (user_number m user))
+          (node_of y (file_number m file))),
     );
     low = low_epoch known.epoch (ap (λ (x : Known). x.epoch) is) form.0;
   }
@@ -153,7 +166,8 @@ module _ (k : Masters) (p : PlainHistory) (legal : IsLegal (history_of p)) where
 
   pub create_fits : (file : List ℕ) (names : List (List ℕ)) (bytes : List ℕ) (plan : Plan)
       → HasRequestForm (requests.Cover file (length bytes) names)
-      → AnswersCover c file (length bytes) (set_named c.users names) (answers.Plan plan) → IsPlan plan
+      → AnswersCover c file (length bytes) (set_named c.users names) (answers.Plan plan)
+      → IsPlan plan
       → Fits (sealed_update k y (PlainCreate file (set_named m.users names) bytes))
   create_fits file names bytes plan first (none, is) form =
       let list = set_named m.users names in
@@ -163,10 +177,13 @@ module _ (k : Masters) (p : PlainHistory) (legal : IsLegal (history_of p)) where
       let same_from : plan.from ≡ cover.from =
       ap (λ (x : Plan). x.from) is
       ∙ (λ i. (plan_of (shows.layers i).base (set_named (shows.matrix i).users names)).from) in
-      let edges : length (cover_tokens Derive k.base cover) ≡ length cover.from = length-map cover.from _ in
+      let edges : length (cover_tokens Derive k.base cover) ≡ length cover.from =
+      length-map cover.from _ in
       let few : length cover.from ≡ length plan.from = ap length (sym same_from) in
-      let text : length (base_text (access_key k.base (node_for y.base list)) (length y.files) bytes) ≡ length bytes =
-      length-xor_pad (access_key k.base (node_for y.base list)) 0x42 (length y.files) 0 bytes in record {
+      let text : length (base_text (access_key k.base (node_for y.base list))
+      (length y.files) bytes) ≡ length bytes =
+      length-xor_pad (access_key k.base (node_for y.base list)) 0x42 (length y.files) 0 bytes in
+      record {
         form = (
           first.is_request.0,
           subst (IsBelow 256) same_list form.2,

@@ -1,5 +1,6 @@
 -- Fronts of what is sent.
-use Rattle.std.proofs.Common.{◌≡◌, ℕ, ◌+◌, ◌≤◌, ◌∙◌, List, [], ◌∷◌, ◌++◌, length, take, refl, sym, ap, subst, inl, inr, arith}
+use Rattle.std.proofs.Common.{◌≡◌, ℕ, ◌+◌, ◌≤◌, ◌∙◌, List, [], ◌∷◌, ◌++◌, length, take, refl, sym}
+use Rattle.std.proofs.Common.{ap, subst, inl, inr, arith}
 use Rattle.std.proofs.Common.{append_assoc}
 use Rattle.std.specs.Prelude.{min}
 use Rattle.std.proofs.Math.Seq.{take-append-add}
@@ -17,7 +18,8 @@ use Rattle.ov_peer.specs.Asks.{Ask}
 use Rattle.ov_peer.specs.Disks.{MayNeedDisk}
 use Rattle.ov_peer.proofs.Needing.{needs_disk}
 use Rattle.ov_transcript.specs.Talking.{IsPut}
-use Rattle.ov_transcript.specs.Transcripts.{IsFrontFrom, broken_off, failed_reply, frames, frames_of, left_unless, says_refused}
+use Rattle.ov_transcript.specs.Transcripts.{IsFrontFrom, broken_off, failed_reply, frames}
+use Rattle.ov_transcript.specs.Transcripts.{frames_of, left_unless, says_refused}
 
 -- a front of bytes, from some of what stands behind other bytes on
 front_within : (n : ℕ) (xs ys : List ℕ) → (m : ℕ) × (take n xs ≡ take m (xs ++ ys))
@@ -30,7 +32,8 @@ pub front_nothing : (v : Service) (rs : List Request) → IsFrontFrom v rs []
 front_nothing v rs = ([], rs, 0, refl, refl)
 
 -- an ask before a front
-pub front_cons : (v : Service) (r : Request) (rs : List Request) (a : Ask) (made : List SealedUpdate)
+pub front_cons : (v : Service) (r : Request) (rs : List Request) (a : Ask)
+    (made : List SealedUpdate)
     (bytes : List ℕ)
     → a.request ≡ request_bytes r → Replies (served v) a.request a.reply made
     → IsFrontFrom (later v made) (left_unless (says_refused a.reply) rs) bytes
@@ -42,7 +45,8 @@ front_cons v r rs a made bytes asked replied (asks, left, n, begins, is) = (
   (made, asked, replied, begins),
   ap (λ (l : List ℕ). frames_of a ++ l) is
       ∙ sym (take-append-add (frames_of a) (frames asks ++ broken_off left) n)
-      ∙ ap (take (length (frames_of a) + n)) (sym (append_assoc (frames_of a) (frames asks) (broken_off left))),
+      ∙ ap (take (length (frames_of a) + n))
+      (sym (append_assoc (frames_of a) (frames asks) (broken_off left))),
 )
 
 -- the next request, with a front of the reply that the disk failed
@@ -68,7 +72,8 @@ front_put v r rs bytes form (inr (reply, made, n, inr failed, is)) =
     let fails : framed reply ≡ failed_reply r =
     ap framed same ∙ sym (fails_so r (needs_disk (served v) r form failed.needs)) in
     subst (IsFrontFrom v (r ∷ rs))
-    (sym (is ∙ ap (λ (l : List ℕ). request ++ take n l) fails ∙ sym (take-append-add request (failed_reply r) n)))
+    (sym (is ∙ ap (λ (l : List ℕ). request ++ take n l) fails
+    ∙ sym (take-append-add request (failed_reply r) n)))
     (front_failed v r rs (length request + n))
 front_put v r rs bytes form (inr (reply, made, n, inl replied, is)) =
     let request = framed (request_bytes r) in

@@ -1,5 +1,6 @@
 -- What is sent for a grant and a revocation doesn't depend on the files' bytes.
-use Rattle.std.proofs.Common.{◌≡◌, ◌∙◌, ℕ, ◌+◌, Bool, false, not, List, [], ◌∷◌, Result, Ok, refl, sym, ap, subst, inl, inr}
+use Rattle.std.proofs.Common.{◌≡◌, ◌∙◌, ℕ, ◌+◌, Bool, false, not, List, [], ◌∷◌, Result, Ok, refl}
+use Rattle.std.proofs.Common.{sym, ap, subst, inl, inr}
 use Rattle.std.specs.Prelude.{◌⊎◌, ◌≢◌}
 use Rattle.ov_base.specs.Sets.{has}
 use Rattle.ov_record.specs.Reading.{update_of}
@@ -13,7 +14,8 @@ use Rattle.ov_history.specs.History.{Granted, Matrix, Revoked, Update, epoch_of,
 use Rattle.ov_history.specs.Layers.{Layers, holders, layers_of, node_of, root_of}
 use Rattle.ov_history.specs.Lists.{file_number, user_number}
 use Rattle.ov_history.specs.Masters.{Masters}
-use Rattle.ov_history.specs.Plain.{PlainGrant, PlainHistory, PlainRevoke, PlainUpdate, history_of, measured}
+use Rattle.ov_history.specs.Plain.{PlainGrant, PlainHistory, PlainRevoke, PlainUpdate, history_of}
+use Rattle.ov_history.specs.Plain.{measured}
 use Rattle.ov_history.specs.Refusals.{IsLegal, first_of_tests, refusal_of, tests_of}
 use Rattle.ov_history.specs.Sealed.{HasParts, catalogue_of, refusal_shown}
 use Rattle.ov_history.specs.Sealing.{sealed, sealed_update}
@@ -43,7 +45,8 @@ use Rattle.ov_owner.proofs.Telling.{refused_as}
 use Rattle.ov_transcript.specs.Bytes.{DifferInBytes}
 use Rattle.ov_transcript.specs.Laws.{GrantsSendNoBytes}
 use Rattle.ov_transcript.specs.Transcripts.{Begins, left_unless, says_refused, service_of}
-use Rattle.ov_transcript.proofs.Alike.{same_epoch, same_file, same_grant, same_layers, same_revocation, same_user}
+use Rattle.ov_transcript.proofs.Alike.{same_epoch, same_file, same_grant, same_layers}
+use Rattle.ov_transcript.proofs.Alike.{same_revocation, same_user}
 use Rattle.ov_transcript.proofs.Cutting.{AreTwoAsks, IsRefusedAsk, one_or_two}
 use Rattle.ov_transcript.proofs.Forms.{Fits, fits_form, grant_fits, revoke_fits}
 use Rattle.ov_transcript.proofs.Refusing.{left_none, still_served}
@@ -71,7 +74,8 @@ replies_too : (v w : Service) (request : Request) (frame reply : List ℕ) (made
     → (Answers (served v) request replies.answer → Answers (served w) request replies.answer)
     → Replies (served w) frame reply made
 replies_too v w request frame reply made form asked replies also =
-    let read : request_of frame ≡ Ok request = ap request_of asked ∙ request_back request form in record {
+    let read : request_of frame ≡ Ok request = ap request_of asked ∙ request_back request form in
+    record {
       answer = replies.answer;
       answers = subst (λ (r : Result Request ℕ). AnswersRead (served w) r replies.answer) (sym read)
           (also (answers_so v request frame reply made form asked replies));
@@ -80,7 +84,8 @@ replies_too v w request frame reply made form asked replies also =
       makes = replies.makes;
     }
 
-module _ (k : Masters) (p q : PlainHistory) (legal : IsLegal (history_of p)) (also : IsLegal (history_of q)) (d : DifferInBytes p q) where
+module _ (k : Masters) (p q : PlainHistory) (legal : IsLegal (history_of p))
+    (also : IsLegal (history_of q)) (d : DifferInBytes p q) where
   abbrev c : Catalogue
   c = catalogue_of k.surface (sealed k p)
 
@@ -123,7 +128,8 @@ module _ (k : Masters) (p q : PlainHistory) (legal : IsLegal (history_of p)) (al
       ≡ tests_of n (layers_of (history_of p)) (epoch_of (history_of p)) (u m))
       (same : named m ≡ named n)
       (refuses : (x : PlainHistory) → IsLegal (history_of x)
-      → refusal_to (catalogue_of k.surface (sealed k x)) question ≡ refusal_of (history_of x) (u (matrix_of (history_of x))))
+      → refusal_to (catalogue_of k.surface (sealed k x)) question
+      ≡ refusal_of (history_of x) (u (matrix_of (history_of x))))
       (tells : known_at c (numbers_for c question) ≡ known_at e (numbers_for e question)) where
     abbrev here : Service
     here = service_of k p
@@ -146,7 +152,8 @@ module _ (k : Masters) (p q : PlainHistory) (legal : IsLegal (history_of p)) (al
     refused_alike : refusal_of (history_of p) (u m) ≡ refusal_of (history_of q) (u n)
     refused_alike =
         ap first_of_tests tests
-        ∙ (λ i. first_of_tests (tests_of n (same_layers p q d i) (same_epoch p q d i) (same_update i)))
+        ∙ (λ i. first_of_tests (tests_of n (same_layers p q d i) (same_epoch p q d i)
+        (same_update i)))
 
     -- ---- the question
 
@@ -164,7 +171,8 @@ module _ (k : Masters) (p q : PlainHistory) (legal : IsLegal (history_of p)) (al
     shown_alike : refusal_shown c (brief sent) ≡ refusal_shown e (brief sent)
     shown_alike =
         (kept_refusals k p c (named m) (legal, refl)).0
-        ∙ ap (refusal_of (history_of p)) (is m) ∙ refused_alike ∙ ap (refusal_of (history_of q)) (sym (is n))
+        ∙ ap (refusal_of (history_of p)) (is m) ∙ refused_alike
+        ∙ ap (refusal_of (history_of q)) (sym (is n))
         ∙ sym (kept_refusals k q e (named n) (also, refl)).0
         ∙ ap (λ (s : SealedUpdate). refusal_shown e (brief s)) (sym same_sent)
 
@@ -187,7 +195,8 @@ module _ (k : Masters) (p q : PlainHistory) (legal : IsLegal (history_of p)) (al
         → AnswersSpelled e (update_of 32 (spelling 32 sent)) x
     spelled_alike x form told =
         subst (λ (r : Result SealedUpdate ℕ). AnswersSpelled e r x) (sym (read_back sent form))
-        (sealed_alike x (subst (λ (r : Result SealedUpdate ℕ). AnswersSpelled c r x) (read_back sent form) told))
+        (sealed_alike x (subst (λ (r : Result SealedUpdate ℕ). AnswersSpelled c r x)
+        (read_back sent form) told))
 
     updated_alike : (epoch : ℕ) (tag : List ℕ) (x : Answer) → HasForm 32 sent
         → AnswersUpdate k.surface c epoch (spelling 32 sent) tag x
@@ -213,17 +222,21 @@ module _ (k : Masters) (p q : PlainHistory) (legal : IsLegal (history_of p)) (al
     same_second = λ i. update_request k.surface (same_epoch p q d i) (same_sent i)
 
     module _ (form : HasRequestForm first)
-        (fits : (known : Known) → AnswersAsk c question (answers.Known known) → HasKnownForm known → Fits k p legal sent) where
-      sent_fits : (x : Answer) → AnswersAsk c question x → HasAnswerForm x → says_refused (answer_bytes x) ≡ false
+        (fits : (known : Known) → AnswersAsk c question (answers.Known known) → HasKnownForm known
+        → Fits k p legal sent) where
+      sent_fits : (x : Answer) → AnswersAsk c question x → HasAnswerForm x
+          → says_refused (answer_bytes x) ≡ false
           → Fits k p legal sent
       sent_fits (answers.Known known) told has free = fits known told has
       sent_fits (answers.Refused why) told has free = absurd (cc free)
       sent_fits x told has free = absurd told
 
       first_too : (one : Ask) (made : List SealedUpdate) → one.request ≡ request_bytes first
-          → Replies (served here) one.request one.reply made → Replies (served there) one.request one.reply made
+          → Replies (served here) one.request one.reply made
+          → Replies (served there) one.request one.reply made
       first_too one made asked replies =
-          replies_too here there first one.request one.reply made form asked replies (asked_alike replies.answer)
+          replies_too here there first one.request one.reply made form asked replies
+          (asked_alike replies.answer)
 
       refused_there : (asks : List Ask) → IsRefusedAsk here first asks
           → Begins there (first ∷ second_too ∷ []) asks []
@@ -239,7 +252,8 @@ module _ (k : Masters) (p q : PlainHistory) (legal : IsLegal (history_of p)) (al
           → Begins there (first ∷ second_too ∷ []) asks []
       two_there asks t =
           let f : Fits k p legal sent =
-          sent_fits t.replies.answer (answers_so here first t.one.request t.one.reply t.made form t.asked t.replies)
+          sent_fits t.replies.answer (answers_so here first t.one.request t.one.reply t.made form
+          t.asked t.replies)
           t.replies.form (ap says_refused (sym t.replies.spelled) ∙ t.free) in
           let first_there : Replies (served there) t.one.request t.one.reply t.made =
           first_too t.one t.made t.asked t.replies in
@@ -248,24 +262,30 @@ module _ (k : Masters) (p q : PlainHistory) (legal : IsLegal (history_of p)) (al
           (subst (λ (l : List ℕ). Replies (served here) l t.one.reply t.made) t.asked t.replies) in
           let still_there : later there t.made ≡ there =
           still_served there first t.one.reply t.made form refl
-          (subst (λ (l : List ℕ). Replies (served there) l t.one.reply t.made) t.asked first_there) in
+          (subst (λ (l : List ℕ). Replies (served there) l t.one.reply t.made) t.asked first_there)
+          in
           let then : Replies (served here) t.other.request t.other.reply t.more =
-          subst (λ (v : Service). Replies (served v) t.other.request t.other.reply t.more) still t.replies_then in
+          subst (λ (v : Service). Replies (served v) t.other.request t.other.reply t.more) still
+          t.replies_then in
           let then_there : Replies (served there) t.other.request t.other.reply t.more =
-          replies_too here there second t.other.request t.other.reply t.more (fits_form k p legal sent f) t.asked_then then
-          (updated_alike (epoch_of (history_of p)) (owner_tag k.surface (epoch_of (history_of p)) (spelling 32 sent))
+          replies_too here there second t.other.request t.other.reply t.more
+          (fits_form k p legal sent f) t.asked_then then
+          (updated_alike (epoch_of (history_of p))
+          (owner_tag k.surface (epoch_of (history_of p)) (spelling 32 sent))
           then.answer f.form) in
           let last : Begins (later there t.made) (second_too ∷ []) (t.other ∷ []) [] = (
             t.more,
             t.asked_then ∙ ap request_bytes same_second,
-            subst (λ (v : Service). Replies (served v) t.other.request t.other.reply t.more) (sym still_there) then_there,
+            subst (λ (v : Service). Replies (served v) t.other.request t.other.reply t.more)
+                (sym still_there) then_there,
             left_none (says_refused t.other.reply),
           ) in
           subst (λ (l : List Ask). Begins there (first ∷ second_too ∷ []) l []) (sym t.is) (
             t.made,
             t.asked,
             first_there,
-            subst (λ (b : Bool). Begins (later there t.made) (left_unless b (second_too ∷ [])) (t.other ∷ []) [])
+            subst (λ (b : Bool). Begins (later there t.made) (left_unless b (second_too ∷ []))
+                (t.other ∷ []) [])
                 (sym t.free) last,
           )
 
@@ -279,33 +299,43 @@ module _ (k : Masters) (p q : PlainHistory) (legal : IsLegal (history_of p)) (al
 
   -- ---- both commands
 
-  pub grant_there : (user file : List ℕ) (asks : List Ask) → HasRequestForm (requests.Ask (questions.Grant user file))
+  pub grant_there : (user file : List ℕ) (asks : List Ask)
+      → HasRequestForm (requests.Ask (questions.Grant user file))
       → Begins (service_of k p) (requests.Ask (questions.Grant user file)
       ∷ update_request k.surface (epoch_of (history_of p))
-      (sealed_update k (layers_of (history_of p)) (PlainGrant (user_number m user) (file_number m file))) ∷ []) asks []
+      (sealed_update k (layers_of (history_of p))
+      (PlainGrant (user_number m user) (file_number m file))) ∷ []) asks []
       → Begins (service_of k q) (requests.Ask (questions.Grant user file)
       ∷ update_request k.surface (epoch_of (history_of q))
-      (sealed_update k (layers_of (history_of q)) (PlainGrant (user_number n user) (file_number n file))) ∷ []) asks []
+      (sealed_update k (layers_of (history_of q))
+      (PlainGrant (user_number n user) (file_number n file))) ∷ []) asks []
   grant_there user file asks form begins =
-      begins_there (questions.Grant user file) (λ x. PlainGrant (user_number x user) (file_number x file))
+      begins_there (questions.Grant user file)
+      (λ x. PlainGrant (user_number x user) (file_number x file))
       (λ x. Granted (user_number x user) (file_number x file)) (λ x. refl)
-      (same_grant p q d (layers_of (history_of p)) (epoch_of (history_of p)) (user_number m user) (file_number m file))
+      (same_grant p q d (layers_of (history_of p)) (epoch_of (history_of p)) (user_number m user)
+      (file_number m file))
       (λ i. PlainGrant (same_user p q d user i) (same_file p q d file i))
       (λ x right. refused_as k x right (λ y. Granted (user_number y user) (file_number y file)))
       (λ i. numbers_of_grant (same_outline i) (user_too user i) (file_too file i))
       form (λ known is told. grant_fits k p legal user file known is told) asks begins
 
-  pub revoke_there : (user file : List ℕ) (asks : List Ask) → HasRequestForm (requests.Ask (questions.Revoke user file))
+  pub revoke_there : (user file : List ℕ) (asks : List Ask)
+      → HasRequestForm (requests.Ask (questions.Revoke user file))
       → Begins (service_of k p) (requests.Ask (questions.Revoke user file)
       ∷ update_request k.surface (epoch_of (history_of p))
-      (sealed_update k (layers_of (history_of p)) (PlainRevoke (user_number m user) (file_number m file))) ∷ []) asks []
+      (sealed_update k (layers_of (history_of p))
+      (PlainRevoke (user_number m user) (file_number m file))) ∷ []) asks []
       → Begins (service_of k q) (requests.Ask (questions.Revoke user file)
       ∷ update_request k.surface (epoch_of (history_of q))
-      (sealed_update k (layers_of (history_of q)) (PlainRevoke (user_number n user) (file_number n file))) ∷ []) asks []
+      (sealed_update k (layers_of (history_of q))
+      (PlainRevoke (user_number n user) (file_number n file))) ∷ []) asks []
   revoke_there user file asks form begins =
-      begins_there (questions.Revoke user file) (λ x. PlainRevoke (user_number x user) (file_number x file))
+      begins_there (questions.Revoke user file)
+      (λ x. PlainRevoke (user_number x user) (file_number x file))
       (λ x. Revoked (user_number x user) (file_number x file)) (λ x. refl)
-      (same_revocation p q d (layers_of (history_of p)) (epoch_of (history_of p)) (user_number m user) (file_number m file))
+      (same_revocation p q d (layers_of (history_of p)) (epoch_of (history_of p))
+      (user_number m user) (file_number m file))
       (λ i. PlainRevoke (same_user p q d user i) (same_file p q d file i))
       (λ x right. refused_as k x right (λ y. Revoked (user_number y user) (file_number y file)))
       (λ i. numbers_of_both (same_outline i) (user_too user i) (file_too file i))

@@ -14,7 +14,8 @@ use Rattle.ov_protocol.proofs.GoingOn.{servers_go_on, services_are_served}
 use Rattle.ov_protocol.proofs.OneAnswer.{one_answer}
 use Rattle.ov_peer.specs.Asks.{Ask}
 use Rattle.ov_transcript.specs.Laws.{TranscriptsAreUnique}
-use Rattle.ov_transcript.specs.Transcripts.{Begins, left_unless, requests_of, says_refused, service_of}
+use Rattle.ov_transcript.specs.Transcripts.{Begins, left_unless, requests_of, says_refused}
+use Rattle.ov_transcript.specs.Transcripts.{service_of}
 
 -- ---- one reply
 
@@ -23,7 +24,8 @@ read_once : (s : Serving) (v : Service) (read : Result Request ℕ) (one other :
 read_once s v (Ok request) one other is p q = one_answer s v request one other is p q
 read_once s v (Err place) one other is p q = p ∙ sym q
 
-module _ (s : Serving) (v : Service) (is : IsService s v) (request reply again : List ℕ) (made more : List SealedUpdate)
+module _ (s : Serving) (v : Service) (is : IsService s v) (request reply again : List ℕ)
+    (made more : List SealedUpdate)
     (p : Replies s request reply made) (q : Replies s request again more) where
   same_answer : p.answer ≡ q.answer
   same_answer = read_once s v (request_of request) p.answer q.answer is p.answers q.answers
@@ -36,14 +38,17 @@ module _ (s : Serving) (v : Service) (is : IsService s v) (request reply again :
       p.makes ∙ ap (λ (a : Answer). made_of (request_of request) a) same_answer ∙ sym q.makes
 
 -- what is served after a reply is a service again
-serves_on : (v : Service) (request reply : List ℕ) (made : List SealedUpdate) → IsService (served v) v
+serves_on : (v : Service) (request reply : List ℕ) (made : List SealedUpdate)
+    → IsService (served v) v
     → Replies (served v) request reply made → IsService (served (later v made)) (later v made)
 serves_on v request reply made is replies =
     let next : Serving = serving_after (served v) made in
     let frame : AnswersFrame (served v) next request reply =
     record { made = made; replies = replies; next = refl } in
-    let goes : IsService next (later v made) = servers_go_on (served v) next v request reply frame is in
-    subst (λ (s : Serving). IsService s (later v made)) (services_are_served next (later v made) goes) goes
+    let goes : IsService next (later v made) =
+    servers_go_on (served v) next v request reply frame is in
+    subst (λ (s : Serving). IsService s (later v made))
+    (services_are_served next (later v made) goes) goes
 
 -- ---- one list of asks
 
@@ -54,7 +59,8 @@ once v [] [] (b ∷ others) is one other = absurd other
 once v (r ∷ rs) [] (b ∷ others) is one other = absurd (cc one)
 once v [] (a ∷ asks) others is one other = absurd one
 once v (r ∷ rs) (a ∷ asks) [] is one other = absurd (cc other)
-once v (r ∷ rs) (a ∷ asks) (b ∷ others) is (made, asked, replies, begins) (more, asked_too, replies_too, begins_too) =
+once v (r ∷ rs) (a ∷ asks) (b ∷ others) is (made, asked, replies, begins)
+    (more, asked_too, replies_too, begins_too) =
     let requests : a.request ≡ b.request = asked ∙ sym asked_too in
     let same_frame : Replies (served v) a.request b.reply more =
     subst (λ (f : List ℕ). Replies (served v) f b.reply more) (sym requests) replies_too in
@@ -66,8 +72,10 @@ once v (r ∷ rs) (a ∷ asks) (b ∷ others) is (made, asked, replies, begins) 
     let rest : asks ≡ others =
     once (later v made) (left_unless (says_refused a.reply) rs) asks others
     (serves_on v a.request a.reply made is replies) begins
-    (subst (λ (us : List SealedUpdate). Begins (later v us) (left_unless (says_refused a.reply) rs) others []) (sym makes)
-    (subst (λ (f : List ℕ). Begins (later v more) (left_unless (says_refused f) rs) others []) (sym replied) begins_too)) in
+    (subst (λ (us : List SealedUpdate). Begins (later v us)
+    (left_unless (says_refused a.reply) rs) others []) (sym makes)
+    (subst (λ (f : List ℕ). Begins (later v more) (left_unless (says_refused f) rs) others [])
+    (sym replied) begins_too)) in
     λ i. first i ∷ rest i
 
 pub transcripts_are_unique : TranscriptsAreUnique

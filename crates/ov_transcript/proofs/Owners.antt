@@ -1,5 +1,6 @@
 -- The asks of an owner's call are the requests of its command.
-use Rattle.std.proofs.Common.{◌≡◌, ℕ, ◌∙◌, Bool, true, false, List, [], ◌∷◌, Result, Ok, Err, refl, sym, ap, subst, inl, inr, arith}
+use Rattle.std.proofs.Common.{◌≡◌, ℕ, ◌∙◌, Bool, true, false, List, [], ◌∷◌, Result, Ok, Err, refl}
+use Rattle.std.proofs.Common.{sym, ap, subst, inl, inr, arith}
 use Rattle.std.specs.Prelude.{◌⊎◌, nat_lt}
 use Rattle.ov_base.proofs.Tests.{lt_is_false}
 use Rattle.ov_fields.specs.Fronts.{AreAllBytes}
@@ -29,7 +30,9 @@ use Rattle.ov_peer.specs.Asks.{Ask, IsReplyAt}
 use Rattle.ov_peer.specs.Disks.{MayNeedDisk}
 use Rattle.ov_peer.proofs.Needing.{needs_disk}
 use Rattle.ov_owner.specs.Errands.{Errand}
-use Rattle.ov_owner.specs.Talks.{Asks, Ends, IsAfter, IsDue, Moves, Sends, Stage, after as stage_after, after_first, after_update, sends_if, update_request}
+use Rattle.ov_owner.specs.Talks.{Asks, Ends, IsAfter, IsDue, Moves, Sends, Stage}
+use Rattle.ov_owner.specs.Talks.{after as stage_after, after_first, after_update, sends_if}
+use Rattle.ov_owner.specs.Talks.{update_request}
 use Rattle.ov_owner.specs.declared.fault.OwnerFault.{OwnerFault}
 use Rattle.ov_owner.specs.declared.fault.OwnerFault.TheVariants as faults
 use Rattle.ov_owner.proofs.Doing.{Does}
@@ -46,7 +49,8 @@ Cut (Ends (Err faults.Device)) = Unit {0}
 Cut (Ends (Err faults.Memory)) = Unit {0}
 Cut stage = ⊥
 
-module _ (k : Masters) (command : Command) (e : Errand) (d : Does k command e) (p : PlainHistory) (legal : IsLegal (history_of p))
+module _ (k : Masters) (command : Command) (e : Errand) (d : Does k command e) (p : PlainHistory)
+    (legal : IsLegal (history_of p))
     (refuses : (why : Refusal) → e.sealed (answers.Refused why) ≡ Err (faults.Refused why))
     (no_disk : MayNeedDisk e.first → ⊥) where
   abbrev here : Service
@@ -61,7 +65,8 @@ module _ (k : Masters) (command : Command) (e : Errand) (d : Does k command e) (
   -- the update of the command, as it is sent at this history
   abbrev pub update_here : Request
   update_here =
-      update_request k.surface (epoch_of (history_of p)) (sealed_update k (layers_of (history_of p)) (d.plain p))
+      update_request k.surface (epoch_of (history_of p))
+      (sealed_update k (layers_of (history_of p)) (d.plain p))
 
   -- what is left to ask at a stage
   abbrev pub Due : Stage → Service → List Request → Type 0
@@ -80,7 +85,8 @@ module _ (k : Masters) (command : Command) (e : Errand) (d : Does k command e) (
 
   -- ---- the first ask
 
-  module _ (tries : List ℕ) (least : ℕ) (none : least ≡ 0) (a : Ask) (made : List SealedUpdate) (form : HasRequestForm e.first)
+  module _ (tries : List ℕ) (least : ℕ) (none : least ≡ 0) (a : Ask) (made : List SealedUpdate)
+      (form : HasRequestForm e.first)
       (replies : Replies (served here) (request_bytes e.first) a.reply made) where
     nothing_made : later here made ≡ here
     nothing_made = still_served here e.first a.reply made form d.makes.no_update replies
@@ -94,13 +100,16 @@ module _ (k : Masters) (command : Command) (e : Errand) (d : Does k command e) (
     not_refused : (x : Answer) (told : ℕ × SealedUpdate) (b : Bool) → says_refused a.reply ≡ b
         → a.reply ≡ answer_bytes x → e.sealed x ≡ Ok told
         → left ≡ update_here ∷ []
-    not_refused x told false is same sealed_so = ap (λ (b : Bool). left_unless b (update_here ∷ [])) is
+    not_refused x told false is same sealed_so =
+        ap (λ (b : Bool). left_unless b (update_here ∷ [])) is
     not_refused x told true is same sealed_so =
         let (why, refused) = refused_kind x (sym (ap says_refused same) ∙ is) in
-        let wrong : Err (faults.Refused why) ≡ Ok told = sym (refuses why) ∙ ap e.sealed (sym refused) ∙ sealed_so in
+        let wrong : Err (faults.Refused why) ≡ Ok told = sym (refuses why)
+        ∙ ap e.sealed (sym refused) ∙ sealed_so in
         absurd (cc wrong)
 
-    sends_due : (b : Bool) (epoch : ℕ) (u : SealedUpdate) → b ≡ false → Ready epoch u → left ≡ update_here ∷ []
+    sends_due : (b : Bool) (epoch : ℕ) (u : SealedUpdate) → b ≡ false → Ready epoch u → left
+        ≡ update_here ∷ []
         → Due (sends_if b tries epoch u) (later here made) left
     sends_due true epoch u is ready are = absurd cc
     sends_due false epoch u is ready are =
@@ -110,7 +119,8 @@ module _ (k : Masters) (command : Command) (e : Errand) (d : Does k command e) (
         → Answers (served here) e.first x → a.reply ≡ answer_bytes x
         → Due (after_first tries least told) (later here made) left
     told_due (Ok (epoch, u)) x is answered same =
-        let (at_epoch, is_sealed, free) = d.makes.told (check_value_of k.base) p x epoch u legal answered is in
+        let (at_epoch, is_sealed, free) =
+        d.makes.told (check_value_of k.base) p x epoch u legal answered is in
         sends_due (nat_lt epoch least) epoch u (lt_is_false epoch least (omega (arith, none)))
         (record { at_epoch = at_epoch; is_sealed = is_sealed; free = free })
         (not_refused x (epoch, u) (says_refused a.reply) refl same is)
@@ -129,7 +139,8 @@ module _ (k : Masters) (command : Command) (e : Errand) (d : Does k command e) (
 
   -- ---- the update
 
-  module _ (tries : List ℕ) (epoch : ℕ) (u : SealedUpdate) (ready : Ready epoch u) (a : Ask) (made : List SealedUpdate)
+  module _ (tries : List ℕ) (epoch : ℕ) (u : SealedUpdate) (ready : Ready epoch u) (a : Ask)
+      (made : List SealedUpdate)
       (form : HasRequestForm (update_request k.surface epoch u)) where
     abbrev request : Request
     request = update_request k.surface epoch u
@@ -146,35 +157,44 @@ module _ (k : Masters) (command : Command) (e : Errand) (d : Does k command e) (
 
     sent_due : (read : Result Answer ℕ) → AreAllBytes a.reply → answer_of request a.reply ≡ read
         → Replies (served here) (request_bytes request) a.reply made
-        → Due (stage_after e (Sends tries epoch u) read) (later here made) (left_unless (says_refused a.reply) [])
+        → Due (stage_after e (Sends tries epoch u) read) (later here made)
+        (left_unless (says_refused a.reply) [])
     sent_due (Err place) bytes is replies = tt
     sent_due (Ok x) bytes is replies =
         answer_due x (replies_are_read (served here) request a.reply made x bytes form replies is).0
 
   -- ---- each ask
 
-  first_step : (tries : List ℕ) (least : ℕ) (next : Stage) (a : Ask) (made : List SealedUpdate) → least ≡ 0
+  first_step : (tries : List ℕ) (least : ℕ) (next : Stage) (a : Ask) (made : List SealedUpdate)
+      → least ≡ 0
       → Moves k.surface e (Asks tries least) a next → IsReplyAt here a.request a.reply made
       → IsStepBy Due Cut next here (e.first ∷ update_here ∷ []) a made
   first_step tries least next a made none moves replied =
       let ours : e.first ≡ moves.asked.request =
       is_first k command e d (check_value_of k.base) p legal tries least a.request moves.asked in
-      let frame : a.request ≡ request_bytes e.first = moves.asked.spelled ∙ ap request_bytes (sym ours) in
+      let frame : a.request ≡ request_bytes e.first = moves.asked.spelled
+      ∙ ap request_bytes (sym ours) in
       let form : HasRequestForm e.first = moves.asked.form in record {
         request = e.first;
         more = update_here ∷ [];
         is_next = refl;
         asked = frame;
-        goes_on = inl (by_reply form frame (subst (λ (f : List ℕ). IsReplyAt here f a.reply made) frame replied) ours moves.then);
+        goes_on = inl (by_reply form frame
+            (subst (λ (f : List ℕ). IsReplyAt here f a.reply made) frame replied) ours moves.then);
       } where
-        by_then : (form : HasRequestForm e.first) → Replies (served here) (request_bytes e.first) a.reply made
-            → (request : Request) → e.first ≡ request → IsAfter e (Asks tries least) request a.reply next
+        by_then : (form : HasRequestForm e.first)
+            → Replies (served here) (request_bytes e.first) a.reply made
+            → (request : Request) → e.first ≡ request
+            → IsAfter e (Asks tries least) request a.reply next
             → Due next (later here made) (left_unless (says_refused a.reply) (update_here ∷ []))
         by_then form replies other ours (inr memory) =
-            subst (λ (s : Stage). Due s (later here made) (left_unless (says_refused a.reply) (update_here ∷ []))) (sym memory) tt
+            subst (λ (s : Stage). Due s (later here made)
+            (left_unless (says_refused a.reply) (update_here ∷ []))) (sym memory) tt
         by_then form replies other ours (inl (bytes, is)) =
-            subst (λ (s : Stage). Due s (later here made) (left_unless (says_refused a.reply) (update_here ∷ [])))
-            (sym (is ∙ ap (λ (r : Request). stage_after e (Asks tries least) (answer_of r a.reply)) (sym ours)))
+            subst (λ (s : Stage). Due s (later here made)
+            (left_unless (says_refused a.reply) (update_here ∷ [])))
+            (sym (is ∙ ap (λ (r : Request). stage_after e (Asks tries least) (answer_of r a.reply))
+            (sym ours)))
             (read_due tries least none a made form replies (answer_of e.first a.reply) bytes refl)
 
         by_reply : (form : HasRequestForm e.first) → a.request ≡ request_bytes e.first
@@ -189,7 +209,8 @@ module _ (k : Masters) (command : Command) (e : Errand) (d : Does k command e) (
           by_then form replies other ours then,
         )
 
-  update_step : (tries : List ℕ) (epoch : ℕ) (u : SealedUpdate) (next : Stage) (a : Ask) (made : List SealedUpdate)
+  update_step : (tries : List ℕ) (epoch : ℕ) (u : SealedUpdate) (next : Stage) (a : Ask)
+      (made : List SealedUpdate)
       → Ready epoch u → Moves k.surface e (Sends tries epoch u) a next
       → IsReplyAt here a.request a.reply made
       → IsStepBy Due Cut next here (update_request k.surface epoch u ∷ []) a made
@@ -202,38 +223,49 @@ module _ (k : Masters) (command : Command) (e : Errand) (d : Does k command e) (
         more = [];
         is_next = refl;
         asked = frame;
-        goes_on = by_reply frame (subst (λ (f : List ℕ). IsReplyAt here f a.reply made) frame replied) ours moves.then;
+        goes_on = by_reply frame (subst (λ (f : List ℕ). IsReplyAt here f a.reply made) frame
+            replied) ours moves.then;
       } where
         request : Request
         request = update_request k.surface epoch u
 
-        by_then : Replies (served here) (request_bytes (update_request k.surface epoch u)) a.reply made
-            → (other : Request) → update_request k.surface epoch u ≡ other → IsAfter e (Sends tries epoch u) other a.reply next
+        by_then : Replies (served here) (request_bytes (update_request k.surface epoch u)) a.reply
+            made
+            → (other : Request) → update_request k.surface epoch u ≡ other
+            → IsAfter e (Sends tries epoch u) other a.reply next
             → Due next (later here made) (left_unless (says_refused a.reply) [])
         by_then replies other ours (inr memory) =
-            subst (λ (s : Stage). Due s (later here made) (left_unless (says_refused a.reply) [])) (sym memory) tt
+            subst (λ (s : Stage). Due s (later here made) (left_unless (says_refused a.reply) []))
+            (sym memory) tt
         by_then replies other ours (inl (bytes, is)) =
             subst (λ (s : Stage). Due s (later here made) (left_unless (says_refused a.reply) []))
-            (sym (is ∙ ap (λ (r : Request). stage_after e (Sends tries epoch u) (answer_of r a.reply)) (sym ours)))
+            (sym (is ∙ ap (λ (r : Request). stage_after e (Sends tries epoch u)
+            (answer_of r a.reply)) (sym ours)))
             (sent_due tries epoch u ready a made moves.asked.form.1
             (answer_of (update_request k.surface epoch u) a.reply) bytes refl replies)
 
         by_failed : a.reply ≡ answer_bytes answers.DeviceFault
-            → (other : Request) → update_request k.surface epoch u ≡ other → IsAfter e (Sends tries epoch u) other a.reply next
+            → (other : Request) → update_request k.surface epoch u ≡ other
+            → IsAfter e (Sends tries epoch u) other a.reply next
             → Cut next
         by_failed failed other ours (inr memory) = subst Cut (sym memory) tt
         by_failed failed other ours (inl (bytes, is)) =
             subst Cut
-            (sym (is ∙ ap (λ (r : Request). stage_after e (Sends tries epoch u) (answer_of r a.reply)) (sym ours)
+            (sym (is ∙ ap (λ (r : Request). stage_after e (Sends tries epoch u)
+            (answer_of r a.reply)) (sym ours)
             ∙ ap (stage_after e (Sends tries epoch u))
-            (reads_back (update_request k.surface epoch u) answers.DeviceFault a.reply tt tt failed)))
+            (reads_back (update_request k.surface epoch u) answers.DeviceFault a.reply tt tt
+            failed)))
             tt
 
         by_reply : a.request ≡ request_bytes (update_request k.surface epoch u)
             → IsReplyAt here (request_bytes (update_request k.surface epoch u)) a.reply made
-            → {other : Request} → update_request k.surface epoch u ≡ other → IsAfter e (Sends tries epoch u) other a.reply next
-            → (Replies (served here) a.request a.reply made × Due next (later here made) (left_unless (says_refused a.reply) []))
-            ⊎ (MayNeedDisk (update_request k.surface epoch u) × (a.reply ≡ answer_bytes answers.DeviceFault) × Cut next)
+            → {other : Request} → update_request k.surface epoch u ≡ other
+            → IsAfter e (Sends tries epoch u) other a.reply next
+            → (Replies (served here) a.request a.reply made
+            × Due next (later here made) (left_unless (says_refused a.reply) []))
+            ⊎ (MayNeedDisk (update_request k.surface epoch u)
+            × (a.reply ≡ answer_bytes answers.DeviceFault) × Cut next)
         by_reply frame (inl replies) {other} ours then =
             inl (
               subst (λ (f : List ℕ). Replies (served here) f a.reply made) (sym frame) replies,
@@ -242,7 +274,8 @@ module _ (k : Masters) (command : Command) (e : Errand) (d : Does k command e) (
         by_reply frame (inr failed) {other} ours then =
             inr (tt, failed.spelled, by_failed failed.spelled other ours then)
 
-  pub steps : (stage next : Stage) (v : Service) (rs : List Request) (a : Ask) (made : List SealedUpdate)
+  pub steps : (stage next : Stage) (v : Service) (rs : List Request) (a : Ask)
+      (made : List SealedUpdate)
       → Due stage v rs → Moves k.surface e stage a next → IsReplyAt v a.request a.reply made
       → IsStepBy Due Cut next v rs a made
   steps (Ends r) next v rs a made due moves replied =
@@ -274,7 +307,8 @@ module _ (k : Masters) (command : Command) (e : Errand) (d : Does k command e) (
   is_due (Ends r) v rs frame due asks =
       absurd (nothing_due k command e d (check_value_of k.base) p legal r frame asks)
   is_due (Asks tries least) v rs frame (same, none, are) asks =
-      let ours = is_first k command e d (check_value_of k.base) p legal tries least frame asks in record {
+      let ours = is_first k command e d (check_value_of k.base) p legal tries least frame asks in
+      record {
         request = e.first;
         more = update_here ∷ [];
         is_next = are;
@@ -282,7 +316,8 @@ module _ (k : Masters) (command : Command) (e : Errand) (d : Does k command e) (
         asked = asks.spelled ∙ ap request_bytes (sym ours);
       }
   is_due (Sends tries epoch u) v rs frame (same, ready, are) asks =
-      let ours = is_update k command e d (check_value_of k.base) p legal tries epoch u frame asks in record {
+      let ours = is_update k command e d (check_value_of k.base) p legal tries epoch u frame asks in
+      record {
         request = update_request k.surface epoch u;
         more = [];
         is_next = are;

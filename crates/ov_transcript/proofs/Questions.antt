@@ -14,9 +14,11 @@ use Rattle.ov_protocol.specs.Replies.{Replies, updates_asked}
 use Rattle.ov_peer.specs.Asks.{Ask, IsReplyAt}
 use Rattle.ov_peer.specs.Disks.{MayNeedDisk}
 use Rattle.ov_peer.proofs.Needing.{needs_disk}
-use Rattle.ov_transcript.specs.Laws.{FirstAnswersAreFronts, FirstAsksAreFronts, QuestionsAreTranscripts, RefusalsAreTranscripts}
+use Rattle.ov_transcript.specs.Laws.{FirstAnswersAreFronts, FirstAsksAreFronts}
+use Rattle.ov_transcript.specs.Laws.{QuestionsAreTranscripts, RefusalsAreTranscripts}
 use Rattle.ov_transcript.specs.Talking.{IsFirstAsk, IsOneQuestion, ReadsAs}
-use Rattle.ov_transcript.specs.Transcripts.{IsTranscript, first_request, later_requests, left_unless, says_refused, service_of}
+use Rattle.ov_transcript.specs.Transcripts.{IsTranscript, first_request, later_requests}
+use Rattle.ov_transcript.specs.Transcripts.{left_unless, says_refused, service_of}
 use Rattle.ov_transcript.proofs.Fronts.{front_one, front_put}
 use Rattle.ov_transcript.proofs.Refusing.{is_read, left_none, still_served}
 
@@ -39,25 +41,32 @@ no_update (commands.Read user file) = refl
 no_update (commands.List file) = refl
 no_update commands.Epoch = refl
 
-module _ (k : Masters) (p : PlainHistory) (command : Command) (a : Ask) (f : IsFirstAsk k p command a) where
+module _ (k : Masters) (p : PlainHistory) (command : Command) (a : Ask)
+    (f : IsFirstAsk k p command a) where
   -- so the reply is a server's
-  pub first_replies : Replies (served (service_of k p)) (request_bytes (first_request command)) a.reply f.made
+  pub first_replies : Replies (served (service_of k p))
+      (request_bytes (first_request command)) a.reply f.made
   first_replies =
-      by_case (subst (λ (x : List ℕ). IsReplyAt (service_of k p) x a.reply f.made) f.asked f.replied) where
+      by_case (subst (λ (x : List ℕ). IsReplyAt (service_of k p) x a.reply f.made) f.asked
+      f.replied) where
         by_case : IsReplyAt (service_of k p) (request_bytes (first_request command)) a.reply f.made
-            → Replies (served (service_of k p)) (request_bytes (first_request command)) a.reply f.made
+            → Replies (served (service_of k p))
+            (request_bytes (first_request command)) a.reply f.made
         by_case (inl replies) = replies
         by_case (inr failed) =
-            absurd (no_disk command (needs_disk (served (service_of k p)) (first_request command) f.form failed.needs))
+            absurd (no_disk command (needs_disk (served (service_of k p))
+            (first_request command) f.form failed.needs))
 
   pub first_replied : Replies (served (service_of k p)) a.request a.reply f.made
   first_replied =
-      subst (λ (x : List ℕ). Replies (served (service_of k p)) x a.reply f.made) (sym f.asked) first_replies
+      subst (λ (x : List ℕ). Replies (served (service_of k p)) x a.reply f.made)
+      (sym f.asked) first_replies
 
   -- and the same is served after it
   pub first_stays : later (service_of k p) f.made ≡ service_of k p
   first_stays =
-      still_served (service_of k p) (first_request command) a.reply f.made f.form (no_update command) first_replies
+      still_served (service_of k p) (first_request command) a.reply f.made f.form
+      (no_update command) first_replies
 
   pub first_read : (x : Answer) → ReadsAs command a.reply x → a.reply ≡ answer_bytes x
   first_read x r =
@@ -65,15 +74,18 @@ module _ (k : Masters) (p : PlainHistory) (command : Command) (a : Ask) (f : IsF
       (request_bytes (first_request command)) first_replies r.bytes r.reads
 
   -- a transcript that ends with it
-  ends_there : left_unless (says_refused a.reply) (later_requests k (history_of p) (matrix_of (history_of p)) command) ≡ []
+  ends_there : left_unless (says_refused a.reply)
+      (later_requests k (history_of p) (matrix_of (history_of p)) command) ≡ []
       → IsTranscript k p command (a ∷ [])
   ends_there none = (f.made, f.asked, first_replied, none)
 
-  pub refused_there : (why : _) → ReadsAs command a.reply (answers.Refused why) → IsTranscript k p command (a ∷ [])
+  pub refused_there : (why : _) → ReadsAs command a.reply (answers.Refused why)
+      → IsTranscript k p command (a ∷ [])
   refused_there why r =
       ends_there
       (ap
-      (λ (l : List ℕ). left_unless (says_refused l) (later_requests k (history_of p) (matrix_of (history_of p)) command))
+      (λ (l : List ℕ). left_unless (says_refused l)
+      (later_requests k (history_of p) (matrix_of (history_of p)) command))
       (first_read (answers.Refused why) r))
 
   pub answered_there : later_requests k (history_of p) (matrix_of (history_of p)) command ≡ []

@@ -28,19 +28,22 @@ refused_kind (answers.Refused why) is = (why, refl)
 refused_kind a is = absurd (cc is)
 
 -- what is read of a reply is what was replied
-pub is_read : (s : Serving) (request : Request) (reply : List ℕ) (made : List SealedUpdate) (a : Answer)
+pub is_read : (s : Serving) (request : Request) (reply : List ℕ) (made : List SealedUpdate)
+    (a : Answer)
     (frame : List ℕ) (replies : Replies s frame reply made)
     → AreAllBytes reply → answer_of request reply ≡ Ok a → reply ≡ answer_bytes a
 is_read s request reply made a frame replies bytes reads =
     replies.spelled
-    ∙ ap answer_bytes (read_alike request reply replies.answer a bytes replies.form replies.spelled reads)
+    ∙ ap answer_bytes (read_alike request reply replies.answer a bytes replies.form replies.spelled
+    reads)
 
 -- the same is served after a request that is no update
 pub still_served : (v : Service) (request : Request) (reply : List ℕ) (made : List SealedUpdate)
     → HasRequestForm request → updates_asked (Ok request) ≡ []
     → Replies (served v) (request_bytes request) reply made → later v made ≡ v
 still_served v request reply made form none replies =
-    ap (later v) (by_case (replies_may_make (served v) (request_bytes request) reply made replies)) ∙ later-nil v where
+    ap (later v) (by_case (replies_may_make (served v) (request_bytes request) reply made replies))
+    ∙ later-nil v where
       by_case : MayMake (request_bytes request) made → made ≡ []
       by_case (inl is) = is
       by_case (inr is) = is ∙ ap updates_asked (request_back request form) ∙ none

@@ -39,7 +39,7 @@ frames (a ∷ asks) = frames_of a ++ frames asks
 
 -- ---- requests
 
--- The epoch of the last change of a file's surface, or else of its creation.
+-- the epoch of the last change of a file's surface, or else of its creation
 abbrev pub generation_of : Layers → ℕ → ℕ
 generation_of y file = (slice_index_or y.files file no_place).generation
 

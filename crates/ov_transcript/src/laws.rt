@@ -6,15 +6,15 @@ ghost use Rattle.ov_transcript.specs.Laws.{RefusalsAreTranscripts, TalksAreFront
 ghost use Rattle.ov_transcript.specs.Laws.{TalksAreTranscripts, TranscriptsAreShort};
 ghost use Rattle.ov_transcript.specs.Laws.{TranscriptsAreUnique};
 
-/// What an owner's call asks and is replied is the transcript of its command, and a front of it where
-/// a fault ends the call.
+/// What an owner's call asks and is replied is the transcript of its command, and a front of it
+/// where a fault ends the call.
 pub fn updates_are_transcribed()
     ensures whole { TalksAreTranscripts }
     ensures front { TalksAreFronts }
 {}
 
-/// The first request of a command and its reply are the transcript of a single question and of what
-/// is refused there, and a front of every other.
+/// The first request of a command and its reply are the transcript of a single question, and of
+/// what is refused there, and a front of any other.
 pub fn questions_are_transcribed()
     ensures whole { QuestionsAreTranscripts }
     ensures refused { RefusalsAreTranscripts }
@@ -22,15 +22,16 @@ pub fn questions_are_transcribed()
     ensures front { FirstAsksAreFronts }
 {}
 
-/// The question for a user's keys and the asks of a read with them are the transcript of the read, and
-/// a front of it where a fault ends the read.
+/// The question for a user's keys and the asks of a read with them are the transcript of the read,
+/// and a front of it where a fault ends the read.
 pub fn reads_are_transcribed()
     ensures whole { ReadsAreTranscripts }
     ensures front { ReadsAreFronts }
 {}
 
-/// A command has one transcript at a history. That of a grant or a revocation is the same whatever the
-/// files' bytes are, and that of an update is short: only a creation's is as long as its file.
+/// A command has one transcript at a history. That of a grant or a revocation is the same whatever
+/// the files' bytes are, and that of an update is short: only a creation's is as long as its list
+/// and its file.
 pub fn transcripts_are_short()
     ensures unique { TranscriptsAreUnique }
     ensures same { GrantsSendNoBytes }

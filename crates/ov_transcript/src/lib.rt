@@ -1,12 +1,12 @@
 //! What is sent for each command: its transcript.
 //!
-//! This crate has definitions and laws, and no code. The *transcript* of a command at a history is the
-//! list of its requests, each with the reply of a server of that history, in turn, ending at the first
-//! Refused. Which requests these are follows from the two masters and from the history without the
-//! bytes of its files: an enrolment, a grant and a revocation ask for numbers and send an update, a
-//! creation asks for the plan of its list and sends an update with the file, a read asks for the
-//! numbers of the user's keys, for the chains to the file and for each of its chunks, and a list and an
-//! epoch are one question.
+//! This crate has definitions and laws, and no code. The *transcript* of a command at a history is
+//! the list of its requests, each with the reply of a server of that history, in turn, ending at
+//! the first Refused. Which requests these are follows from the two masters and from the history
+//! without the bytes of its files. An enrolment, a grant and a revocation ask for numbers and send
+//! an update; a creation asks for the plan of its list and sends an update with the file; a read
+//! asks for the numbers of the user's keys, for the chains to the file, and for each of its chunks;
+//! a list and an epoch are one question.
 //!
 //! | file in `specs/` | says |
 //! |---|---|
@@ -19,10 +19,10 @@
 //!
 //! | law | function |
 //! |---|---|
-//! | what an owner's call sends is the transcript of its command, or a front of it | [`updates_are_transcribed`] |
-//! | so is a question | [`questions_are_transcribed`] |
-//! | so is a read | [`reads_are_transcribed`] |
-//! | there is one transcript; a grant's has no bytes of files, and few bytes | [`transcripts_are_short`] |
+//! | an owner's call sends its command's transcript, or a front | [`updates_are_transcribed`] |
+//! | so does a question | [`questions_are_transcribed`] |
+//! | so does a read | [`reads_are_transcribed`] |
+//! | one transcript; a grant's without the bytes of files, and short | [`transcripts_are_short`] |
 #![tactic(auto)]
 
 mod laws;
