@@ -1,9 +1,12 @@
 -- A command has one transcript at a history.
-use Rattle.std.proofs.Common.{◌≡◌, ◌∙◌, ℕ, List, [], ◌∷◌, Result, Ok, Err, refl, sym, ap, subst}
+use Rattle.std.proofs.Common.{◌≡◌, ◌∙◌, ℕ, List, [], ◌∷◌, ◌++◌, Result, Ok, Err, refl, sym, ap}
+use Rattle.std.proofs.Common.{subst}
 use Rattle.ov_record.specs.Updates.{SealedUpdate}
 use Rattle.ov_history.specs.Sealed.{catalogue_of}
 use Rattle.ov_history.specs.Sealing.{sealed}
 use Rattle.ov_history.proofs.Keeping.{kept_stands_for}
+use Rattle.ov_model.specs.Step.{after}
+use Rattle.ov_model.proofs.Legality.{legal-after}
 use Rattle.ov_wire.specs.declared.request.Request.{Request}
 use Rattle.ov_wire.specs.declared.answer.Answer.{Answer}
 use Rattle.ov_wire.specs.AnswerBytes.{answer_bytes}
@@ -13,8 +16,8 @@ use Rattle.ov_protocol.specs.Replies.{AnswersFrame, AnswersRead, Replies, made_o
 use Rattle.ov_protocol.proofs.GoingOn.{servers_go_on, services_are_served}
 use Rattle.ov_protocol.proofs.OneAnswer.{one_answer}
 use Rattle.ov_peer.specs.Asks.{Ask}
-use Rattle.ov_transcript.specs.Laws.{TranscriptsAreUnique}
-use Rattle.ov_transcript.specs.Transcripts.{Begins, left_unless, requests_of, says_refused}
+use Rattle.ov_transcript.specs.Laws.{RunsHaveOneTranscript, TranscriptsAreUnique}
+use Rattle.ov_transcript.specs.Transcripts.{Begins, frames, left_unless, requests_of, says_refused}
 use Rattle.ov_transcript.specs.Transcripts.{service_of}
 
 -- ---- one reply
@@ -88,3 +91,16 @@ transcripts_are_unique k p command asks others legal one other =
       base_check = refl;
     })
     one other
+
+pub runs_have_one_transcript : RunsHaveOneTranscript
+runs_have_one_transcript k p [] one other legal is too = is ∙ sym too
+runs_have_one_transcript k p (command ∷ commands) one other legal
+    (first, more, (asks, begins, spelled), rest, is)
+    (again, others, (asked, begins_too, spelled_too), rest_too, too) =
+    let same : first ≡ again =
+    spelled ∙ ap frames (transcripts_are_unique k p command asks asked legal begins begins_too)
+    ∙ sym spelled_too in
+    let later : more ≡ others =
+    runs_have_one_transcript k (after p command) commands more others
+    (legal-after p command legal).0 rest rest_too in
+    is ∙ (λ i. same i ++ later i) ∙ sym too

@@ -24,7 +24,7 @@ use Rattle.ov_transcript.specs.Bytes.{DifferInBytes, IsOfList, IsOfUpdate}
 use Rattle.ov_transcript.specs.Talking.{ArePut, IsAnswered, IsFirstAsk, IsOneQuestion, IsPut}
 use Rattle.ov_transcript.specs.Talking.{IsReadAnswered, ReadsAs}
 use Rattle.ov_transcript.specs.Transcripts.{IsTranscript, IsTranscriptFront, first_request, frames}
-use Rattle.ov_transcript.specs.Transcripts.{service_of}
+use Rattle.ov_transcript.specs.Transcripts.{Transcripts, service_of}
 
 -- ---- updates
 
@@ -61,8 +61,7 @@ RefusalsAreTranscripts =
     → IsFirstAsk k p command a → ReadsAs command a.reply (answers.Refused why)
     → IsTranscript k p command (a ∷ [])
 
--- what was put of the first ask of a command is a front: of one that failed, and of one that was
--- answered
+-- what was put of the first ask of a command is a front, where that failed
 abbrev pub FirstAsksAreFronts : Type 0
 FirstAsksAreFronts =
     (k : Masters) (p : PlainHistory) (command : Command) (put : List ℕ)
@@ -70,7 +69,7 @@ FirstAsksAreFronts =
     → IsPut (service_of k p) (request_bytes (first_request command)) put
     → IsTranscriptFront k p command put
 
--- the same of one that was answered
+-- and so it is where that was answered
 abbrev pub FirstAnswersAreFronts : Type 0
 FirstAnswersAreFronts =
     (k : Masters) (p : PlainHistory) (command : Command) (a : Ask)
@@ -111,6 +110,13 @@ TranscriptsAreUnique =
     (k : Masters) (p : PlainHistory) (command : Command) (asks others : List Ask)
     → IsLegal (history_of p) → IsTranscript k p command asks → IsTranscript k p command others
     → asks ≡ others
+
+-- so have some commands, as bytes
+abbrev pub RunsHaveOneTranscript : Type 0
+RunsHaveOneTranscript =
+    (k : Masters) (p : PlainHistory) (commands : List Command) (one other : List ℕ)
+    → IsLegal (history_of p) → Transcripts k p commands one → Transcripts k p commands other
+    → one ≡ other
 
 -- that of a grant or a revocation is the same at histories that differ in their files' bytes alone
 abbrev pub GrantsSendNoBytes : Type 0

@@ -2,9 +2,9 @@
 ghost use Rattle.ov_transcript.specs.Laws.{FirstAnswersAreFronts, FirstAsksAreFronts};
 ghost use Rattle.ov_transcript.specs.Laws.{GrantsSendNoBytes, QuestionsAreTranscripts};
 ghost use Rattle.ov_transcript.specs.Laws.{ReadsAreFronts, ReadsAreTranscripts};
-ghost use Rattle.ov_transcript.specs.Laws.{RefusalsAreTranscripts, TalksAreFronts};
-ghost use Rattle.ov_transcript.specs.Laws.{TalksAreTranscripts, TranscriptsAreShort};
-ghost use Rattle.ov_transcript.specs.Laws.{TranscriptsAreUnique};
+ghost use Rattle.ov_transcript.specs.Laws.{RefusalsAreTranscripts, RunsHaveOneTranscript};
+ghost use Rattle.ov_transcript.specs.Laws.{TalksAreFronts, TalksAreTranscripts};
+ghost use Rattle.ov_transcript.specs.Laws.{TranscriptsAreShort, TranscriptsAreUnique};
 
 /// What an owner's call asks and is replied is the transcript of its command, and a front of it
 /// where a fault ends the call.
@@ -29,11 +29,15 @@ pub fn reads_are_transcribed()
     ensures front { ReadsAreFronts }
 {}
 
-/// A command has one transcript at a history. That of a grant or a revocation is the same whatever
-/// the files' bytes are, and that of an update is short: only a creation's is as long as its list
-/// and its file.
+/// A command has one transcript at a history, and so have some commands, one after the other.
+pub fn transcripts_are_unique()
+    ensures one { TranscriptsAreUnique }
+    ensures runs { RunsHaveOneTranscript }
+{}
+
+/// The transcript of a grant or a revocation is the same whatever the files' bytes are, and that of
+/// an update is short: only a creation's is as long as its list and its file.
 pub fn transcripts_are_short()
-    ensures unique { TranscriptsAreUnique }
     ensures same { GrantsSendNoBytes }
     ensures short { TranscriptsAreShort }
 {}

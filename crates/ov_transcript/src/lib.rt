@@ -22,12 +22,13 @@
 //! | an owner's call sends its command's transcript, or a front | [`updates_are_transcribed`] |
 //! | so does a question | [`questions_are_transcribed`] |
 //! | so does a read | [`reads_are_transcribed`] |
-//! | one transcript; a grant's without the bytes of files, and short | [`transcripts_are_short`] |
+//! | a command has one transcript, and so has a run | [`transcripts_are_unique`] |
+//! | a grant's is without the bytes of files; updates are short | [`transcripts_are_short`] |
 #![tactic(auto)]
 
 mod laws;
 
 pub use laws::{
     questions_are_transcribed, reads_are_transcribed, transcripts_are_short,
-    updates_are_transcribed,
+    transcripts_are_unique, updates_are_transcribed,
 };
