@@ -19,6 +19,8 @@ pub mod Running
 pub mod Stepping
 pub mod Stored
 pub mod Surviving
+pub mod Tracing
+pub mod Transcripts
 pub mod TwoWords
 pub mod Updating
 pub mod WorkloadSteps
