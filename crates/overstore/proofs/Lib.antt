@@ -11,6 +11,7 @@ pub mod KeyFiles
 pub mod Lending
 pub mod LendingLoads
 pub mod LoadEnds
+pub mod LoadTracing
 pub mod NamesIn
 pub mod Owning
 pub mod Pacing

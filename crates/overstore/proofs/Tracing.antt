@@ -63,7 +63,7 @@ last_one k p (c ∷ commands) command bytes (front, more, first, rest, is) =
     (front ++ before, one, (front, before, first, all, refl), traced, is ∙ ap (λ b. front ++ b) same ∙ sym (append_assoc front before one))
 
 module _ (k : Masters) (p : PlainHistory) (text : List ℕ) (commands : List Command) where
-  all_more : (command : Command) (old mid new : Option (List ℕ)) → TranscribesAll k p commands old mid → Transcribes k (after_all p commands) command mid new
+  pub all_more : (command : Command) (old mid new : Option (List ℕ)) → TranscribesAll k p commands old mid → Transcribes k (after_all p commands) command mid new
       → TranscribesAll k p (commands ++ command ∷ []) old new
   all_more command old mid new (bytes, all, put) (one, traced, more) =
       (bytes ++ one, one_more k p commands command bytes one all traced, Appends-trans old mid new bytes one put more)
@@ -364,3 +364,9 @@ pub traced_all : (k : Masters) (p : PlainHistory) (input : Option (List ℕ)) (o
     → IfSome input (λ text. TracesAs k p text status old new t_old t_new)
 traced_all k p None old mid new t_old t_new stop n status a f = tt
 traced_all k p (Some text) old mid new t_old t_new stop n status a f = traced_at k p text old mid new t_old t_new status stop n a f
+
+-- the disk didn't open, for a fault of its or for want of memory
+pub untraced_fault : (k : Masters) (p : PlainHistory) (input : Option (List ℕ)) (old new trace : Option (List ℕ)) (status : ℕ)
+    → EndsIn disk_line 4 old new status ⊎ EndsIn memory_line 7 old new status → IfSome input (λ text. TracesAs k p text status old new trace trace)
+untraced_fault k p input old new trace status (inl e) = untraced_all k p input old new trace status Disk (λ text first. first) e
+untraced_fault k p input old new trace status (inr e) = untraced_all k p input old new trace status Memory (λ text first. first) e

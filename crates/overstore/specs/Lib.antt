@@ -2,7 +2,7 @@ pub mod Answering
 pub mod Disks
 pub mod Faults
 pub mod Judging
-pub mod LoadTracing
+pub mod LoadEnding
 pub mod LoadWords
 pub mod Loading
 pub mod Machine

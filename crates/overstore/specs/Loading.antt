@@ -135,15 +135,6 @@ module _ {D : Type 0} (reads : D → Option Image) (may_leave : D → Image → 
       → LeavesOnly moment left_since first.disk last.disk (KeepsSome k h load)
   Loads k h load first last (Err (Tag bad)) = ⊥
 
-  -- ---- the whole
-
-  -- how a load ends, from a disk that stands for the history where this holds
-  pub record LoadEndsAs (k : Masters) (h : PlainHistory) (load : Load) (first last : D)
-      (old new : Option (List ℕ)) (status : ℕ) (holds : Type 0) : Type 0 where
-    pub printed : EndsLoad load h old new status
-    pub survives : holds → LeavesOnly moment left_since first last (KeepsSome k h load)
-    pub lasts : holds → status ≡ 0 → LastsAs reads may_leave k (after_load h load) last
-
 -- This holds of the load that the words ask for, under the masters of the key file, for each
 -- history as which the disk opens for them.
 abbrev pub ForLoad : {D : Type 0} → (reads : D → Option Image) → (may_leave : D → Image → Type 0)

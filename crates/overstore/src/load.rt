@@ -10,9 +10,9 @@ ghost use Rattle.overstore.specs.Answering.{SaysTag};
 ghost use Rattle.overstore.specs.Disks.{Holds, OpensAs, TellsNothing};
 ghost use Rattle.overstore.specs.LoadWords.{AreNoLoad, IsLoad};
 ghost use Rattle.overstore.specs.Loading.{EndsLoad, ForLoad, ForLoadImage, IsComplete};
-ghost use Rattle.overstore.specs.Loading.{IsOfNoScript, KeepsSome, LastsAs, LoadEndsAs, LoadsWell};
+ghost use Rattle.overstore.specs.Loading.{IsOfNoScript, KeepsSome, LastsAs, LoadsWell};
 ghost use Rattle.overstore.specs.Loading.{after_load};
-ghost use Rattle.overstore.specs.LoadTracing.{LoadTracesAs};
+ghost use Rattle.overstore.specs.LoadEnding.{LoadEndsAs, LoadTracesAs};
 ghost use Rattle.overstore.specs.Machine.{AreMasters, StandsFor, plain_masters};
 ghost use Rattle.overstore.specs.Printing.{IsKeysStatus, IsScriptStatus, IsStoreStatus};
 ghost use Rattle.overstore.specs.Running.{EndsFor, FailsForFaults, JudgesImage, JudgesKeys};
@@ -44,11 +44,7 @@ fn load_machine<O: Sink, T: Sink, D: Disk>(
     ensures ends { let k = machine.old.kept.masters in
         (h : PlainHistory) → StandsFor machine.old.kept h
         → LoadEndsAs D.reads D.may_leave D.moment D.left_since k h load.now
-        machine.old.disk machine.new.disk (O.written out.old) (O.written out.new) result
-        (Holds D.reads D.may_leave k h machine.old.disk) }
-    ensures traced { let k = machine.old.kept.masters in
-        (h : PlainHistory) → StandsFor machine.old.kept h
-        → LoadTracesAs D.reads D.may_leave k h load.now machine.old.disk machine.new.disk
+        machine.old.disk machine.new.disk (O.written out.old) (O.written out.new)
         (T.written trace.old) (T.written trace.new) result
         (Holds D.reads D.may_leave k h machine.old.disk) }
     ensures causes { EndsFor D.borrow D.faults machine.old.disk machine.new.disk result
@@ -77,11 +73,8 @@ fn load_over<O: Sink, T: Sink, D: Disk + Drop>(
     ensures ends { let k = plain_masters masters in
         (h : PlainHistory) → OpensAs D.reads D.may_leave k load.now.mode h disk
         → LoadEndsAs D.reads D.may_leave D.moment D.left_since k h load.now disk result.1
-        (O.written out.old) (O.written out.new) result.0 (Unit {0}) }
-    ensures traced { let k = plain_masters masters in
-        (h : PlainHistory) → OpensAs D.reads D.may_leave k load.now.mode h disk
-        → LoadTracesAs D.reads D.may_leave k h load.now disk result.1
-        (T.written trace.old) (T.written trace.new) result.0 (Unit {0}) }
+        (O.written out.old) (O.written out.new) (T.written trace.old) (T.written trace.new)
+        result.0 (Unit {0}) }
     ensures image { let k = plain_masters masters in
         Told (D.reads disk) (λ i. JudgesImage k load.now.mode i result.0
         (O.written out.old) (O.written out.new) (trace.new ≡ trace.old)
@@ -115,11 +108,8 @@ fn load_with_keys<K: Source, O: Sink, T: Sink, D: Disk + Drop>(
     ensures ends { IfSome (K.left keys.old) (λ file. (k : PlainMasters) (h : PlainHistory)
         → AreMasters file k → OpensAs D.reads D.may_leave k load.now.mode h disk
         → LoadEndsAs D.reads D.may_leave D.moment D.left_since k h load.now disk result.1
-        (O.written out.old) (O.written out.new) result.0 (Unit {0})) }
-    ensures traced { IfSome (K.left keys.old) (λ file. (k : PlainMasters) (h : PlainHistory)
-        → AreMasters file k → OpensAs D.reads D.may_leave k load.now.mode h disk
-        → LoadTracesAs D.reads D.may_leave k h load.now disk result.1
-        (T.written trace.old) (T.written trace.new) result.0 (Unit {0})) }
+        (O.written out.old) (O.written out.new) (T.written trace.old) (T.written trace.new)
+        result.0 (Unit {0})) }
     ensures image { IfSome (K.left keys.old) (λ file. (k : PlainMasters) → AreMasters file k
         → Told (D.reads disk) (λ i. JudgesImage k load.now.mode i result.0
         (O.written out.old) (O.written out.new) (trace.new ≡ trace.old)
@@ -175,7 +165,7 @@ pub fn load<K: Source, O: Sink, T: Sink, D: Disk>(
         (Rose (O.faults out.old) (O.faults out.new)
         ⊎ Rose (T.faults trace.old) (T.faults trace.new))
         (Rose (D.faults disk.old) (D.faults disk.new)))
-        (LoadTracesAs D.reads D.may_leave k h load disk.old disk.new
+        (LoadTracesAs D.may_leave k h load disk.new
         (T.written trace.old) (T.written trace.new) result (Unit {0}))
         (LeavesOnly D.moment D.left_since disk.old disk.new (KeepsSome k h load))
         (result ≡ 0 → LastsAs D.reads D.may_leave k (after_load h load) disk.new)) }

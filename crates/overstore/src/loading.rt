@@ -3,12 +3,13 @@ ghost use Rattle.std.specs.Prelude.{◌≡◌, ◌≤◌, ◌-◌, ◌^◌, fals
 ghost use Rattle.ov_history.specs.Masters.{Masters};
 ghost use Rattle.ov_history.specs.Plain.{PlainHistory};
 ghost use Rattle.ov_script.specs.declared.drawn.TheConstants.{MAX_WORKLOAD};
+ghost use Rattle.overstore.specs.Answering.{PutsTo};
+ghost use Rattle.overstore.specs.Disks.{Holds};
+ghost use Rattle.overstore.specs.LoadEnding.{TracesLoad};
 ghost use Rattle.overstore.specs.Loading.{Loads, OneMore, TalliesAt};
 ghost use Rattle.overstore.specs.Machine.{IsCommand, IsStep, StandsFor};
-ghost use Rattle.overstore.specs.LoadTracing.{TracesLoad};
 ghost use Rattle.overstore.specs.Tallying.{AreAtMost};
 ghost use Rattle.overstore.specs.Tracing.{TracesAt};
-ghost use Rattle.overstore.specs.Answering.{PutsTo};
 ghost use Rattle.overstore.specs.declared.fault.StepFault.{StepFault};
 
 use crate::fault::StepFault;
@@ -65,8 +66,9 @@ pub fn answer_workload<D: Disk, T: Sink>(
         machine.old machine.new result }
     ensures step { IsStep D.borrow D.faults machine.old machine.new result }
     ensures traced { (h : PlainHistory) → StandsFor machine.old.kept h
-        → TracesLoad D.reads D.may_leave machine.old.kept.masters h load.now
-        machine.old.disk machine.new.disk (T.written trace.old) (T.written trace.new) result }
+        → TracesLoad D.may_leave machine.old.kept.masters h load.now machine.new.disk
+        (T.written trace.old) (T.written trace.new)
+        (Holds D.reads D.may_leave machine.old.kept.masters h machine.old.disk) result }
     ensures trace { PutsTo T.written T.faults (result ≡ Err StepFault.Trace) trace.old trace.new }
 {
     let mut workload = Workload::new(alloc, load.number, load.count);
