@@ -35,7 +35,7 @@ use Rattle.overstore.specs.declared.fault.BadTag.{BadTag}
 use Rattle.overstore.specs.declared.fault.StepFault.{StepFault}
 use Rattle.overstore.specs.declared.fault.StepFault.TheVariants.{Disk as NoDisk, Memory as NoMemory, Tag as WrongTag, Trace as NoTrace}
 
-kept : (out : Option (List ℕ)) → Keeps out out
+pub kept : (out : Option (List ℕ)) → Keeps out out
 kept None = tt
 kept (Some xs) = refl
 
@@ -261,13 +261,15 @@ module _ {D : Type 0} (reads : D → Option Image) (may_leave : D → Image → 
       by_fault text t s NoMemory steps = end_first text t s steps
       by_fault text t s (WrongTag bad) steps = absurd steps
 
-      pub end_stops : (input rest : Option (List ℕ)) (fault : StepFault)
+      pub end_stops : (input rest : Option (List ℕ)) (stop : Stop) (fault : StepFault) → stop ≡ stop_for fault
           → IfSome input (λ text. SoFar reads may_leave moment left_since k p text rest line room old now first mid)
           → ((k : Masters) (p : PlainHistory) → mid.kept.masters ≡ k → StandsFor mid.kept p → StepsAt reads may_leave moment left_since k p AskEpoch mid last (Err fault))
-          → IfSome input (λ text. Stops reads may_leave moment left_since k p text (stop_for fault) old now first last)
-      end_stops None rest fault s steps = tt
-      end_stops (Some text) None fault s steps = absurd s
-      end_stops (Some text) (Some t) fault s steps = by_fault text t s fault (steps k (after_all p s.commands) masters s.stands)
+          → IfSome input (λ text. Stops reads may_leave moment left_since k p text stop old now first last)
+      end_stops None rest stop fault is s steps = tt
+      end_stops (Some text) None stop fault is s steps = absurd s
+      end_stops (Some text) (Some t) stop fault is s steps =
+          subst (λ (x : Stop). Stops reads may_leave moment left_since k p text x old now first last) (sym is)
+          (by_fault text t s fault (steps k (after_all p s.commands) masters s.stands))
 
     -- a read or memory ends it
     pub answered_first : (input rest : Option (List ℕ))

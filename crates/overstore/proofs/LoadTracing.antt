@@ -30,9 +30,9 @@ use Rattle.overstore.proofs.WorkloadSteps.{first_more}
 -- ---- one command
 
 -- a reply for whose line memory was refused was sent all the same
-pub sent_unread : {T : Type 0} (k : Masters) (h : PlainHistory) (command : Command) (old new : Option (List ℕ)) (result : Result T StepFault) (fault : StepFault)
+pub sent_unread : (k : Masters) (h : PlainHistory) (command : Command) (old new : Option (List ℕ))
     → Transcribes k h command old new → TranscribesFront k h command old new
-sent_unread k h command old new result fault (bytes, traced, put) = (bytes, whole_is_front k h command bytes traced, put)
+sent_unread k h command old new (bytes, traced, put) = (bytes, whole_is_front k h command bytes traced, put)
 
 -- ---- the commands so far
 
@@ -115,22 +115,22 @@ module _ {D : Type 0} (reads : D → Option Image) (may_leave : D → Image → 
     keeps_at c (inl keeps) = inl (inr keeps)
     keeps_at c (inr keeps) = inr (inr (subst (λ x. KeepsPlain k x c) (sym after_is) keeps))
 
-    leaves_now : {T : Type 0} (fault : StepFault)
+    leaves_now : (T : Type 0) (fault : StepFault)
         → TalliesAt reads may_leave moment left_since {T = T} k (after_first h load w.place) (command_at load.number w.place) before now_tally mid last (Err fault)
         → Holds reads may_leave k (after_first h load w.place) mid.disk → (c : Image) → may_leave last.disk c → KeepsAt k h load w.place c
-    leaves_now Disk tallies holds c left = keeps_at c ((tallies holds).now c left)
-    leaves_now Trace tallies holds c left = keeps_at c ((tallies holds).now c left)
-    leaves_now Memory tallies holds c left = keeps_at c ((tallies holds).now c left)
-    leaves_now (Tag bad) tallies holds c left = absurd tallies
+    leaves_now T Disk tallies holds c left = keeps_at c ((tallies holds).now c left)
+    leaves_now T Trace tallies holds c left = keeps_at c ((tallies holds).now c left)
+    leaves_now T Memory tallies holds c left = keeps_at c ((tallies holds).now c left)
+    leaves_now T (Tag bad) tallies holds c left = absurd tallies
 
     pub sent_stops : {T : Type 0} (r : Result T StepFault) (fault : StepFault) → r ≡ Err fault
         → ((j : Masters) (q : PlainHistory) → mid.kept.masters ≡ j → StandsFor mid.kept q → TalliesAt reads may_leave moment left_since j q command before now_tally mid last r)
-        → ((j : PlainHistory) → StandsFor mid.kept j → TracesAt mid.kept.masters j command now new (Err fault))
+        → ((j : PlainHistory) → StandsFor mid.kept j → TranscribesFront mid.kept.masters j command now new)
         → TracedTo may_leave k h load last.disk old new (Holds reads may_leave k h first.disk)
     sent_stops {T} r fault at tallies traces =
         stops_in w.place below before mid last masters old now new s sent command
         (λ bytes front. inl (subst (λ c. Rattle.overstore.specs.Transcripts.IsTranscriptFront k (after_first h load w.place) c bytes) command_is front)) traces
-        (leaves_now {T = T} fault (subst (λ c. TalliesAt reads may_leave moment left_since {T = T} k (after_first h load w.place) c before now_tally mid last (Err fault)) command_is
+        (leaves_now T fault (subst (λ c. TalliesAt reads may_leave moment left_since {T = T} k (after_first h load w.place) c before now_tally mid last (Err fault)) command_is
         (subst (λ (x : Result T StepFault). TalliesAt reads may_leave moment left_since k (after_first h load w.place) command before now_tally mid last x) at
         (tallies k (after_first h load w.place) masters s.stands))))
 
@@ -158,12 +158,12 @@ module _ {D : Type 0} (reads : D → Option Image) (may_leave : D → Image → 
     sent_end reply steps traces = (
       all_on (WORKLOAD_USERS + load.count) (omega arith) tally mid last masters old now new s sent AskEpoch traces,
       stops_in (WORKLOAD_USERS + load.count) (omega arith) tally mid last masters old now new s sent AskEpoch (λ bytes front. inr (refl, front))
-          (λ j stands. sent_unread {T = ℕ} _ j AskEpoch now new (Ok 0) Memory (traces j stands))
+          (λ j stands. sent_unread mid.kept.masters j AskEpoch now new (traces j stands))
           (λ holds c left. inl (inr (((steps k (after_load h load) masters s.stands).1.holds holds).each c left))),
     )
 
     pub sent_end_stops : (r : Result Reply StepFault) (fault : StepFault) → r ≡ Err fault → AreSteps r
-        → ((j : PlainHistory) → StandsFor mid.kept j → TracesAt mid.kept.masters j AskEpoch now new (Err fault))
+        → ((j : PlainHistory) → StandsFor mid.kept j → TranscribesFront mid.kept.masters j AskEpoch now new)
         → TracedTo may_leave k h load last.disk old new (Holds reads may_leave k h first.disk)
     sent_end_stops r fault at steps traces =
         stops_in (WORKLOAD_USERS + load.count) (omega arith) tally mid last masters old now new s sent AskEpoch (λ bytes front. inr (refl, front)) traces

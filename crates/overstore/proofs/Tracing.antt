@@ -118,7 +118,7 @@ pub none_traced : (k : Masters) (p : PlainHistory) (first : Kept) (line room : �
 none_traced k p first line room None out trace stands l r = tt
 none_traced k p first line room (Some text) out trace stands l r = record {
   commands = [];
-  begins = (sym l, sym r, refl);
+  begins = (l, r, refl);
   stands = stands;
   put = Appends-nil out;
   traced = ([], refl, Appends-nil trace);
@@ -172,18 +172,18 @@ module _ (k : Masters) (p : PlainHistory) (mid : Kept) (masters : mid.masters �
   end_fault text t NoMemory t_new first = first
   end_fault text t (WrongTag bad) t_new first = first
 
-  pub traced_end_stops : (input rest : Option (List ℕ)) (fault : StepFault) (t_new : Option (List ℕ)) → IfSome input (λ text. SoFar text rest) → IfSome rest (λ t. Reads line room t [] AtEnd)
+  pub traced_end_stops : (input rest : Option (List ℕ)) (stop : Stop) (fault : StepFault) → stop ≡ stop_for fault → (t_new : Option (List ℕ)) → IfSome input (λ text. SoFar text rest) → IfSome rest (λ t. Reads line room t [] AtEnd)
       → ((q : PlainHistory) → StandsFor mid q → TranscribesFront mid.masters q AskEpoch t_now t_new)
-      → IfSome input (λ text. TracesTo k p text (stop_for fault) old now t_old t_new)
-  traced_end_stops None rest fault t_new s says traces = tt
-  traced_end_stops (Some text) None fault t_new s says traces = absurd s
-  traced_end_stops (Some text) (Some t) fault t_new s says traces = end_fault text t fault t_new (record {
+      → IfSome input (λ text. TracesTo k p text stop old now t_old t_new)
+  traced_end_stops None rest stop fault same t_new s says traces = tt
+  traced_end_stops (Some text) None stop fault same t_new s says traces = absurd s
+  traced_end_stops (Some text) (Some t) stop fault same t_new s says traces = subst (λ (x : Stop). TracesTo k p text x old now t_old t_new) (sym same) (end_fault text t fault t_new (record {
     commands = s.commands;
     begins = (line, room, t, s.begins);
     put = s.put;
     traced = first_more k p text s.commands AskEpoch (inr (refl, BeginsWith-ends 1 MAX_SCRIPT_BYTES text s.commands line room t AtEnd s.begins says)) t_old t_now t_new s.traced
         (subst (λ (x : Masters). TranscribesFront x (after_all p s.commands) AskEpoch t_now t_new) masters (traces (after_all p s.commands) s.stands));
-  })
+  }))
 
   module _ (last : Kept) (now' t_now' : Option (List ℕ)) (command : Command) where
     module _ (text t more item : List ℕ) (s : TracedSoFar k p text t line room mid old now t_old t_now)

@@ -76,7 +76,7 @@ pub workload_comes : (number place : ℕ) (command : Command) → place < WORKLO
 workload_comes number place command low is =
     subst IsCommand (sym is) (commands_come (Next-Command (command_at number place)) (command_at number place) (said number place low) refl)
 
-first_more : (number place next : ℕ) → next ≡ place + 1 → first_commands number next ≡ first_commands number place ++ command_at number place ∷ []
+pub first_more : (number place next : ℕ) → next ≡ place + 1 → first_commands number next ≡ first_commands number place ++ command_at number place ∷ []
 first_more number place next is = let one : next ≡ suc place = omega (arith, is) in ap (first_commands number) one
 
 module _ {D : Type 0} (reads : D → Option Image) (may_leave : D → Image → Type 0)

@@ -36,9 +36,9 @@ TranscribesFront k p command old new =
     (bytes : List ℕ) × IsTranscriptFront k p command bytes × Appends old new bytes
 
 -- The transcript was put, where the command was answered, and a front where a fault ended it.
-abbrev pub TracesAt : Masters → PlainHistory → Command → Option (List ℕ) → Option (List ℕ)
-    → Result Reply StepFault → Type 0
-TracesAt k p command old new (Ok reply) = Transcribes k p command old new
+abbrev pub TracesAt : {T : Type 0} → Masters → PlainHistory → Command → Option (List ℕ)
+    → Option (List ℕ) → Result T StepFault → Type 0
+TracesAt k p command old new (Ok answered) = Transcribes k p command old new
 TracesAt k p command old new (Err fault) = TranscribesFront k p command old new
 
 -- so it is at whatever history is kept

@@ -1,5 +1,5 @@
 //! The top call of a load.
-ghost use Rattle.std.specs.Prelude.{◌≡◌, ◌≤◌, false, IfSome};
+ghost use Rattle.std.specs.Prelude.{◌≡◌, ◌⊎◌, ◌≤◌, false, IfSome};
 ghost use Rattle.ov_base.specs.Causes.{Rose};
 ghost use Rattle.ov_disk.specs.Disk.{Told};
 ghost use Rattle.ov_disk.specs.Moments.{LeavesOnly};

@@ -9,6 +9,10 @@ ghost use Rattle.ov_script.specs.declared.command.Command.{Command};
 ghost use Rattle.ov_state.specs.Plans.{IsFitting};
 ghost use Rattle.overstore.specs.Machine.{IsCommand, IsStep, Sends, Steps, opened_of};
 ghost use Rattle.overstore.specs.Machine.{plain_masters};
+ghost use Rattle.overstore.specs.Answering.{PutsTo};
+ghost use Rattle.overstore.specs.Tracing.{Traces};
+ghost use Rattle.overstore.specs.declared.fault.StepFault.{StepFault};
+ghost use Rattle.std.specs.Prelude.{Err};
 
 use crate::fault::StepFault;
 use ov_disk::Disk;

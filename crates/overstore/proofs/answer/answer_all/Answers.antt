@@ -166,7 +166,7 @@ returns-in-Some-clause-sinks g c =
 
 pub returns-in-Some-clause-traced : goal.returns-in-Some-clause-traced
 returns-in-Some-clause-traced g c = λ p stands.
-    traced_stops _ p _ c.items.invariant.masters _ _ _ _ _ _ c.machine.kept _ _ _ _ _ _ _ _ _
+    traced_stops _ p _ c.items.invariant.masters _ _ _ _ _ _ c.answer.new.machine.kept _ _ _ _ _ _ _ _ _
     (c.items.invariant.traced p stands) (rw c.in-Ok-Command.field-0-is at (c.in-Ok-Command.ensures.says c.items.invariant.ended)) c.in-Some.ensures.traced
 
 pub returns-in-Ok-BadLine-clause-traced : goal.returns-in-Ok-BadLine-clause-traced
@@ -220,7 +220,78 @@ returns-in-Err-Memory-clause-sinks g c =
 pub step-requires-clause-command : goal.step-requires-clause-command
 step-requires-clause-command g c = tt
 
-pub returns-in-Ok-End-Ok-clause-stop : goal.returns-in-Ok-End-Ok-clause-stop
-returns-in-Ok-End-Ok-clause-stop g c = λ p stands.
+pub returns-in-Ok-clause-stop : goal.returns-in-Ok-clause-stop
+returns-in-Ok-clause-stop g c = λ p stands.
     answered_end g.D.Disk.reads g.D.Disk.may_leave g.D.Disk.moment g.D.Disk.left_since _ p _ _ c.items.invariant.masters _ _ _ _ _ _ _ _
-    (c.items.invariant.so_far p stands) (rw c.in-Ok-End.field-0-is at (c.in-Ok-End.ensures.says c.items.invariant.ended)) c.in-Ok-End-Ok.ensures.steps
+    (c.items.invariant.so_far p stands) (rw c.in-Ok-End.field-0-is at (c.in-Ok-End.ensures.says c.items.invariant.ended)) c.in-Ok.ensures.steps
+
+pub returns-in-Err-clause-stop : goal.returns-in-Err-clause-stop
+returns-in-Err-clause-stop g c = λ p stands.
+    end_stops g.D.Disk.reads g.D.Disk.may_leave g.D.Disk.moment g.D.Disk.left_since _ p _ _ c.items.invariant.masters _ _ _ _ _ _ _ _ _ c.stop_of.ensures
+    (c.items.invariant.so_far p stands) c.in-Err.ensures.steps
+
+pub returns-in-Ok-clause-traced : goal.returns-in-Ok-clause-traced
+returns-in-Ok-clause-traced g c = λ p stands.
+    traced_end _ p _ c.items.invariant.masters _ _ _ _ _ _ _ _ _
+    (c.items.invariant.traced p stands) (rw c.in-Ok-End.field-0-is at (c.in-Ok-End.ensures.says c.items.invariant.ended)) c.in-Ok.ensures.traced
+
+pub returns-in-Err-clause-traced : goal.returns-in-Err-clause-traced
+returns-in-Err-clause-traced g c = λ p stands.
+    traced_end_stops _ p _ c.items.invariant.masters _ _ _ _ _ _ _ _ _ _ c.stop_of.ensures _
+    (c.items.invariant.traced p stands) (rw c.in-Ok-End.field-0-is at (c.in-Ok-End.ensures.says c.items.invariant.ended)) c.in-Err.ensures.traced
+
+pub returns-in-Ok-clause-machine : goal.returns-in-Ok-clause-machine
+returns-in-Ok-clause-machine g c =
+    let inv = c.items.invariant in
+    let call = c.in-Ok.ensures.step.call in
+    record {
+      call = record { same = call.same ∙ inv.same_disk; later = omega (arith, inv.disk_later, call.later); disk = λ e. absurd (cc) };
+      tag = λ bad e. absurd (cc);
+    }
+
+pub returns-in-Err-clause-machine : goal.returns-in-Err-clause-machine
+returns-in-Err-clause-machine g c =
+    let inv = c.items.invariant in
+    let call = c.in-Err.ensures.step.call in
+    record {
+      call = record {
+        same = call.same ∙ inv.same_disk;
+        later = omega (arith, inv.disk_later, call.later);
+        disk = λ e. rose_since _ _ _ inv.disk_later (call.disk (ap Err (disk_only c.in-Err.fault (sym c.stop_of.ensures ∙ e))));
+      };
+      tag = λ bad e.
+          let is = tag_only c.in-Err.fault bad (sym c.stop_of.ensures ∙ e) in (
+            c.in-Err.ensures.step.tag bad (ap Err is),
+            λ p stands. end_tag g.D.Disk.reads g.D.Disk.may_leave g.D.Disk.moment g.D.Disk.left_since c.items.machine c.step.new.self c.in-Err.fault bad is c.in-Err.ensures.steps (inv.kept p stands),
+          );
+    }
+
+pub returns-in-Ok-clause-sinks : goal.returns-in-Ok-clause-sinks
+returns-in-Ok-clause-sinks g c =
+    let inv = c.items.invariant in
+    let sink = c.in-Ok.ensures.sink in (
+      record { grew = inv.grew; later = inv.write_later; write = λ e. absurd (cc) },
+      record { grew = grows_on _ _ _ inv.trace_grew sink.grew; later = omega (arith, inv.trace_later, sink.later); write = λ e. absurd (cc) },
+    )
+
+pub returns-in-Err-clause-sinks : goal.returns-in-Err-clause-sinks
+returns-in-Err-clause-sinks g c =
+    let inv = c.items.invariant in
+    let sink = c.in-Err.ensures.sink in (
+      record { grew = inv.grew; later = inv.write_later; write = λ e. absurd (no_write c.in-Err.fault (sym c.stop_of.ensures ∙ e)) },
+      record {
+        grew = grows_on _ _ _ inv.trace_grew sink.grew;
+        later = omega (arith, inv.trace_later, sink.later);
+        write = λ e. rose_since _ _ _ inv.trace_later (sink.write (ap Err (trace_only c.in-Err.fault (sym c.stop_of.ensures ∙ e))));
+      },
+    )
+
+pub returns-in-Ok-clause-paced : goal.returns-in-Ok-clause-paced
+returns-in-Ok-clause-paced g c = λ p stands.
+    paced_next g.S.Source.takes g.S.Source.left p g.D.Disk.reads g.D.Disk.may_leave g.D.Disk.moment g.D.Disk.left_since _ _ _ _ _ _ _ _ _ _ _ _ _ _ _
+    (none_pending _ c.requires.start) (c.items.invariant.so_far p stands) (c.items.invariant.paced p stands) c.in-Ok-End.ensures.needed ([], Appends-nil _)
+
+pub returns-in-Err-clause-paced : goal.returns-in-Err-clause-paced
+returns-in-Err-clause-paced g c = λ p stands.
+    paced_next g.S.Source.takes g.S.Source.left p g.D.Disk.reads g.D.Disk.may_leave g.D.Disk.moment g.D.Disk.left_since _ _ _ _ _ _ _ _ _ _ _ _ _ _ _
+    (none_pending _ c.requires.start) (c.items.invariant.so_far p stands) (c.items.invariant.paced p stands) c.in-Ok-End.ensures.needed ([], Appends-nil _)
