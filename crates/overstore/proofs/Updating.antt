@@ -38,7 +38,7 @@ use Rattle.overstore.specs.Disks.{Holds, KeepsStep}
 use Rattle.overstore.specs.Machine.{KeptOn, StandsFor, Replies, Sends, IsSentAt, LeavesStep, Steps, StepsAt}
 use Rattle.overstore.specs.declared.fault.BadTag.{BadTag}
 use Rattle.overstore.specs.declared.fault.StepFault.{StepFault}
-use Rattle.overstore.specs.declared.fault.StepFault.TheVariants.{Disk, Memory, Tag}
+use Rattle.overstore.specs.declared.fault.StepFault.TheVariants.{Disk, Memory, Tag, Trace}
 use Rattle.overstore.specs.Opening.{IsFaultReply}
 use Rattle.overstore.proofs.Reading.{read_refused}
 use Rattle.overstore.proofs.Stepping.{shows}
@@ -85,7 +85,8 @@ module _ {D : Type 0} (reads : D → Option Image) (may_leave : D → Image → 
     pub stays_faulted : (command : Command) (fault : StepFault) → ((bad : BadTag) → fault ≡ Tag bad → ⊥)
         → Steps reads may_leave moment left_since command m m (Err fault)
     stays_faulted command Disk no_tag k p same stands = stays_left k p command
-    stays_faulted command Memory no_tag k p same stands = refl
+    stays_faulted command Trace no_tag k p same stands = stays_left k p command
+    stays_faulted command Memory no_tag k p same stands = stays_left k p command
     stays_faulted command (Tag bad) no_tag k p same stands = absurd (no_tag bad refl)
 
     -- a read without chains
@@ -95,7 +96,7 @@ module _ {D : Type 0} (reads : D → Option Image) (may_leave : D → Image → 
     read_faulted user file (ChainRefused why) r answers is =
         subst (Steps reads may_leave moment left_since (Read user file) m m) (sym is) (stays (Read user file) (Refused why) (read_refused m.kept user file why answers))
     read_faulted user file ChainMemory r answers is =
-        subst (Steps reads may_leave moment left_since (Read user file) m m) (sym is) (λ k p at stands. refl)
+        subst (Steps reads may_leave moment left_since (Read user file) m m) (sym is) (λ k p at stands. stays_left k p (Read user file))
 
   -- ---- an update of the store
 
@@ -245,7 +246,7 @@ module _ {D : Type 0} (reads : D → Option Image) (may_leave : D → Image → 
   stepped (Err StoreMemory) reply is updates fails same leaves served keys_same command sends =
       subst (Steps reads may_leave moment left_since command (machine_of k s) (machine_of k t)) (sym is)
       (subst (λ (x : Opened D). Steps reads may_leave moment left_since command (machine_of k s) (machine_of k x) (Err Memory)) (sym same)
-      (λ other p at stands. refl))
+      (λ other p at stands. stays_left reads may_leave moment left_since (machine_of k s) only_now other p command))
 
   -- the same of the machine before
   pub stepped_from : (old : KeptOn D) → machine_of k s ≡ old → (r : Result ℕ StoreFault) (reply : Result Reply StepFault) → IsReplyTo r reply
