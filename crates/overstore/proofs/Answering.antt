@@ -16,7 +16,7 @@ use Rattle.ov_script.specs.declared.reply.Reply.{Reply}
 use Rattle.ov_script.specs.Items.{IsItem}
 use Rattle.ov_script.specs.LineFeeds.{lf_count}
 use Rattle.ov_script.specs.Lines.{reply_line}
-use Rattle.ov_script.specs.Reading.{Reads, BeginsScript, BeginsWith, Ending}
+use Rattle.ov_script.specs.Reading.{Reads, BeginsScript, BeginsWith, Ending, AtEnd}
 use Rattle.ov_script.specs.Place.{Place, GoesOn as PlaceGoesOn, ends_with, start}
 use Rattle.ov_script.specs.Saying.{IsOfItem, Says}
 use Rattle.ov_script.proofs.CreateLaws.{create_size}
@@ -30,10 +30,10 @@ use Rattle.overstore.specs.Disks.{Holds, KeepsFirst, KeepsNext, KeepsPlain, Keep
 use Rattle.overstore.specs.Machine.{AreOtherTags, GoesOn, IsCommand, KeptOn, LeavesStep, StandsFor, StepsAt}
 use Rattle.overstore.specs.Answering.{Answers, AnsweredAll, AnsweredFirst, AnsweredPart, AnsweredSoFar, Grows, PutsOr, Reaches, SoFar, Stops, stop_for}
 use Rattle.overstore.specs.declared.answer.Stop.{Stop}
-use Rattle.overstore.specs.declared.answer.Stop.TheVariants.{End, BadLine, Long, Read, Write, Disk, Memory, Tag}
+use Rattle.overstore.specs.declared.answer.Stop.TheVariants.{End, BadLine, Long, Read, Write, Disk, Trace, Memory, Tag}
 use Rattle.overstore.specs.declared.fault.BadTag.{BadTag}
 use Rattle.overstore.specs.declared.fault.StepFault.{StepFault}
-use Rattle.overstore.specs.declared.fault.StepFault.TheVariants.{Disk as NoDisk, Memory as NoMemory, Tag as WrongTag}
+use Rattle.overstore.specs.declared.fault.StepFault.TheVariants.{Disk as NoDisk, Memory as NoMemory, Tag as WrongTag, Trace as NoTrace}
 
 kept : (out : Option (List ℕ)) → Keeps out out
 kept None = tt
@@ -51,23 +51,33 @@ one stop other e = ap (λ (o : Option Stop). stop_or o stop) e
 
 pub no_write : (fault : StepFault) → stop_for fault ≡ Write → ⊥
 no_write NoDisk e = cc
+no_write NoTrace e = cc
 no_write NoMemory e = cc
 no_write (WrongTag bad) e = cc
 
 pub no_read : (fault : StepFault) → stop_for fault ≡ Read → ⊥
 no_read NoDisk e = cc
+no_read NoTrace e = cc
 no_read NoMemory e = cc
 no_read (WrongTag bad) e = cc
 
 pub disk_only : (fault : StepFault) → stop_for fault ≡ Disk → fault ≡ NoDisk
 disk_only NoDisk e = refl
+disk_only NoTrace e = absurd (cc e)
 disk_only NoMemory e = absurd (cc e)
 disk_only (WrongTag bad) e = absurd (cc e)
 
 pub tag_only : (fault : StepFault) (bad : BadTag) → stop_for fault ≡ Tag bad → fault ≡ WrongTag bad
 tag_only NoDisk bad e = absurd (cc e)
+tag_only NoTrace bad e = absurd (cc e)
 tag_only NoMemory bad e = absurd (cc e)
 tag_only (WrongTag other) bad e = cc
+
+pub trace_only : (fault : StepFault) → stop_for fault ≡ Trace → fault ≡ NoTrace
+trace_only NoDisk e = absurd (cc e)
+trace_only NoTrace e = refl
+trace_only NoMemory e = absurd (cc e)
+trace_only (WrongTag bad) e = absurd (cc e)
 
 -- ---- what was put
 
@@ -79,6 +89,7 @@ put_grows None old new bytes puts = (bytes, puts)
 put_grows (Some Write) old new bytes (n, puts) = (take n bytes, puts)
 put_grows (Some Memory) old new bytes puts = ([], Appends-kept old old new [] (Appends-nil old) puts)
 put_grows (Some Disk) old new bytes puts = absurd puts
+put_grows (Some Trace) old new bytes puts = absurd puts
 put_grows (Some End) old new bytes puts = absurd puts
 put_grows (Some (BadLine n)) old new bytes puts = absurd puts
 put_grows (Some Long) old new bytes puts = absurd puts
@@ -110,6 +121,14 @@ tag_so fault stop bad is tag e = tag bad (tag_only fault bad (sym is ∙ one sto
 pub disk_so : (fault : StepFault) (stop : Stop) (R : Type 0) → stop ≡ stop_for fault → (fault ≡ NoDisk → R) → Some stop ≡ Some Disk → R
 disk_so fault stop R is failed e = failed (disk_only fault (sym is ∙ one stop Disk e))
 
+-- it stops at the sink of frames only where that failed
+pub trace_so : (fault : StepFault) (stop : Stop) (R : Type 0) → stop ≡ stop_for fault → (fault ≡ NoTrace → R) → Some stop ≡ Some Trace → R
+trace_so fault stop R is failed e = failed (trace_only fault (sym is ∙ one stop Trace e))
+
+-- a line that is put doesn't stop there
+pub put_no_trace : (r : Option Stop) (old new : Option (List ℕ)) (bytes : List ℕ) → PutsOr r old new bytes → r ≡ Some Trace → ⊥
+put_no_trace r old new bytes puts e = subst (λ (x : Option Stop). PutsOr x old new bytes) e puts
+
 -- a line that is put stops at no read, no disk and no tag
 pub put_never : (r : Option Stop) (old new : Option (List ℕ)) (bytes : List ℕ) → PutsOr r old new bytes
     → (r ≡ Some Read → ⊥) × (r ≡ Some Disk → ⊥) × ((bad : BadTag) → r ≡ Some (Tag bad) → ⊥)
@@ -130,6 +149,7 @@ module _ {D : Type 0} (reads : D → Option Image) (may_leave : D → Image → 
       ((n, subst (λ (r : Reply). Appends old new (take n (reply_line r))) is puts), goes)
   put_so k p command first last reply (Some Memory) old new puts (is, goes) = (puts, goes.leaves)
   put_so k p command first last reply (Some Disk) old new puts steps = absurd puts
+  put_so k p command first last reply (Some Trace) old new puts steps = absurd puts
   put_so k p command first last reply (Some End) old new puts steps = absurd puts
   put_so k p command first last reply (Some (BadLine n)) old new puts steps = absurd puts
   put_so k p command first last reply (Some Long) old new puts steps = absurd puts
@@ -138,18 +158,12 @@ module _ {D : Type 0} (reads : D → Option Image) (may_leave : D → Image → 
 
   -- it wasn't
   pub unanswered_so : (k : Masters) (p : PlainHistory) (command : Command) (first last : KeptOn D) (fault : StepFault) (out : Option (List ℕ))
-      → ((c : Image) → left_since first.disk (moment first.disk) c → may_leave first.disk c)
       → StepsAt reads may_leave moment left_since k p command first last (Err fault)
       → Answers reads may_leave moment left_since k p command (Some (stop_for fault)) out out first last
-  unanswered_so k p command first last NoDisk out only_now steps = (kept out, steps)
-  unanswered_so k p command first last NoMemory out only_now steps = (
-    kept out,
-    λ holds. subst (λ (m : KeptOn D). LeavesStep reads may_leave moment left_since k p command first.disk m.disk) (sym steps) (record {
-      moments = started moment left_since may_leave first.disk (KeepsStep k p command) only_now (λ c left. inl (holds.each c left));
-      now = λ c left. inl (holds.each c left);
-    }),
-  )
-  unanswered_so k p command first last (WrongTag bad) out only_now steps = absurd steps
+  unanswered_so k p command first last NoDisk out steps = (kept out, steps)
+  unanswered_so k p command first last NoTrace out steps = (kept out, steps)
+  unanswered_so k p command first last NoMemory out steps = (kept out, steps)
+  unanswered_so k p command first last (WrongTag bad) out steps = absurd steps
 
   -- ---- the first of them
 
@@ -191,6 +205,69 @@ module _ {D : Type 0} (reads : D → Option Image) (may_leave : D → Image → 
       stands = s.stands;
       reaches = s.reaches;
     }
+
+    -- at its end the epoch is asked for
+    module _ (last : KeptOn D) where
+      -- what keeps the history from before that question or behind it keeps what it was
+      epoch_first : (text t : List ℕ) (s : AnsweredSoFar reads may_leave moment left_since k p text t line room old now first mid) (c : Image)
+          → KeepsStep k (after_all p s.commands) AskEpoch c → KeepsFirst k p text c
+      epoch_first text t s c (inl keeps) = (s.commands, (line, room, t, s.begins), inr keeps)
+      epoch_first text t s c (inr keeps) = (s.commands, (line, room, t, s.begins), inr keeps)
+
+      epoch_now : (text t : List ℕ) (s : AnsweredSoFar reads may_leave moment left_since k p text t line room old now first mid) (c : Image)
+          → KeepsStep k (after_all p s.commands) AskEpoch c → KeepsNext k p text s.commands c
+      epoch_now text t s c (inl keeps) = inl (inr keeps)
+      epoch_now text t s c (inr keeps) = inl (inr keeps)
+
+      pub answered_end : (input rest : Option (List ℕ)) (reply : Reply)
+          → IfSome input (λ text. SoFar reads may_leave moment left_since k p text rest line room old now first mid) → IfSome rest (λ t. Reads line room t [] AtEnd)
+          → ((k : Masters) (p : PlainHistory) → mid.kept.masters ≡ k → StandsFor mid.kept p → StepsAt reads may_leave moment left_since k p AskEpoch mid last (Ok reply))
+          → IfSome input (λ text. AnsweredAll reads may_leave moment left_since k p text AtEnd old now first last)
+      answered_end None rest reply s says steps = tt
+      answered_end (Some text) None reply s says steps = absurd s
+      answered_end (Some text) (Some t) reply s says steps =
+          let goes = (steps k (after_all p s.commands) masters s.stands).1 in record {
+            commands = s.commands;
+            read = BeginsWith-ends 1 MAX_SCRIPT_BYTES text s.commands line room t AtEnd s.begins says;
+            put = s.put;
+            stands = goes.stands;
+            reaches = λ holds. record {
+              holds = goes.holds (s.reaches holds).holds;
+              moments = then_on moment left_since may_leave first.disk mid.disk last.disk (KeepsFirst k p text) (KeepsStep k (after_all p s.commands) AskEpoch)
+                  (s.reaches holds).moments (goes.leaves (s.reaches holds).holds).moments (epoch_first text t s);
+            };
+          }
+
+      -- that isn't answered
+      end_first : (text t : List ℕ) (s : AnsweredSoFar reads may_leave moment left_since k p text t line room old now first mid)
+          → (Holds reads may_leave k (after_all p s.commands) mid.disk → LeavesStep reads may_leave moment left_since k (after_all p s.commands) AskEpoch mid.disk last.disk)
+          → AnsweredFirst reads may_leave moment left_since k p text old now first last
+      end_first text t s leaves = record {
+        commands = s.commands;
+        begins = (line, room, t, s.begins);
+        put = s.put;
+        stopped = λ holds. record {
+          now = λ c left. epoch_now text t s c ((leaves (s.reaches holds).holds).now c left);
+          moments = then_on moment left_since may_leave first.disk mid.disk last.disk (KeepsFirst k p text) (KeepsStep k (after_all p s.commands) AskEpoch)
+              (s.reaches holds).moments (leaves (s.reaches holds).holds).moments (epoch_first text t s);
+        };
+      }
+
+      by_fault : (text t : List ℕ) (s : AnsweredSoFar reads may_leave moment left_since k p text t line room old now first mid) (fault : StepFault)
+          → StepsAt reads may_leave moment left_since k (after_all p s.commands) AskEpoch mid last (Err fault)
+          → Stops reads may_leave moment left_since k p text (stop_for fault) old now first last
+      by_fault text t s NoDisk steps = end_first text t s steps
+      by_fault text t s NoTrace steps = end_first text t s steps
+      by_fault text t s NoMemory steps = end_first text t s steps
+      by_fault text t s (WrongTag bad) steps = absurd steps
+
+      pub end_stops : (input rest : Option (List ℕ)) (fault : StepFault)
+          → IfSome input (λ text. SoFar reads may_leave moment left_since k p text rest line room old now first mid)
+          → ((k : Masters) (p : PlainHistory) → mid.kept.masters ≡ k → StandsFor mid.kept p → StepsAt reads may_leave moment left_since k p AskEpoch mid last (Err fault))
+          → IfSome input (λ text. Stops reads may_leave moment left_since k p text (stop_for fault) old now first last)
+      end_stops None rest fault s steps = tt
+      end_stops (Some text) None fault s steps = absurd s
+      end_stops (Some text) (Some t) fault s steps = by_fault text t s fault (steps k (after_all p s.commands) masters s.stands)
 
     -- a read or memory ends it
     pub answered_first : (input rest : Option (List ℕ))
@@ -272,6 +349,7 @@ module _ {D : Type 0} (reads : D → Option Image) (may_leave : D → Image → 
         stopped Read a = absurd a
         stopped Memory a = stops_so a.1 a.0
         stopped Disk a = stops_so a.1 a.0
+        stopped Trace a = stops_so a.1 a.0
         stopped Write a = part_so a.0.0 a.0.1 a.1
         stopped (Tag bad) a = absurd a
 
@@ -335,6 +413,15 @@ module _ {D : Type 0} (reads : D → Option Image) (may_leave : D → Image → 
       subst
       (λ (s : Stop). Answers reads may_leave moment left_since mid.kept.masters q command (Some s)
       old new mid last) is (answers mid.kept.masters q refl stands)
+
+-- so it is at the end of a script
+pub end_tag : {D : Type 0} (reads : D → Option Image) (may_leave : D → Image → Type 0)
+    (moment : D → ℕ) (left_since : D → ℕ → Image → Type 0) (mid last : KeptOn D) (fault : StepFault) (bad : BadTag) → fault ≡ WrongTag bad
+    → ((k : Masters) (p : PlainHistory) → mid.kept.masters ≡ k → StandsFor mid.kept p → StepsAt reads may_leave moment left_since k p AskEpoch mid last (Err fault))
+    → (q : PlainHistory) × StandsFor mid.kept q → ⊥
+end_tag reads may_leave moment left_since mid last fault bad is steps (q, stands) =
+    subst (λ (f : StepFault). StepsAt reads may_leave moment left_since mid.kept.masters q AskEpoch mid last (Err f)) is
+    (steps mid.kept.masters q refl stands)
 
 -- ---- one call of `next`
 

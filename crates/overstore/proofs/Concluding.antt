@@ -3,6 +3,7 @@ use Rattle.std.proofs.Common.{◌≡◌, ◌⊎◌, inl, inr, ℕ, ◌+◌, List
 use Rattle.std.proofs.Math.Seq.{take-append-add, take-append_seam}
 use Rattle.std.specs.Io.KnownBytes.{Appends, Keeps}
 use Rattle.std.proofs.KnownBytes.{Appends-trans, Appends-kept, Appends-nil}
+use Rattle.std.proofs.lemmas.List.{append-nil}
 use Rattle.ov_base.specs.declared.limits.TheConstants.{MAX_SCRIPT_BYTES}
 use Rattle.ov_disk.specs.Disk.{Image}
 use Rattle.ov_script.specs.declared.command.Command.{Command}
@@ -21,7 +22,7 @@ use Rattle.overstore.specs.Machine.{KeptOn}
 use Rattle.overstore.specs.Printing.{Outcome, Answered, DiskFault, ReadFault, OutOfMemory, status_of, last_line, disk_line, memory_line, read_line, IsPrinted, Prints, PrintsFront, IsFault}
 use Rattle.overstore.specs.Running.{Concluded, whole, part}
 use Rattle.overstore.specs.declared.answer.Stop.{Stop}
-use Rattle.overstore.specs.declared.answer.Stop.TheVariants.{End, BadLine, Long, Read, Write, Disk, Memory, Tag}
+use Rattle.overstore.specs.declared.answer.Stop.TheVariants.{End, BadLine, Long, Read, Write, Disk, Trace, Memory, Tag}
 use Rattle.overstore.proofs.Stepping.{shows}
 
 -- the lines so far and then the last one
@@ -34,7 +35,7 @@ then_last h text first last outcome code old mid new status is e p (inr q) =
     part q.0 (outcome, first ++ last, is, (length first + q.1.0, subst (Appends old new) (sym front) (Appends-trans old mid new first (take q.1.0 last) p q.1.1)))
 
 -- the commands of a reading are its first
-first_of : (text : List ℕ) (commands : List Command) (ending : Ending) → IsScript text commands ending → BeginsScript text commands
+pub first_of : (text : List ℕ) (commands : List Command) (ending : Ending) → IsScript text commands ending → BeginsScript text commands
 first_of text commands ending reads = Reads-begins 1 MAX_SCRIPT_BYTES text commands ending reads
 
 -- a front of the lines is a front of what a read fault prints
@@ -64,6 +65,16 @@ module _ {D : Type 0} (reads : D → Option Image) (may_leave : D → Image → 
       → EndsIn end (status_of outcome) mid new status → Concluded h text old new status
   first_in end outcome a printed q = then_last h text (lines h a.commands) end outcome (status_of outcome) old mid new status (printed a.commands a.begins) refl a.put q
 
+  -- no last line was put
+  first_only : AnsweredFirst reads may_leave moment left_since k h text old mid first last → status ≡ 6 → Keeps mid new → Concluded h text old new status
+  first_only a six kept =
+      let all = lines h a.commands in
+      let front : take (length all + 0) (all ++ []) ≡ all ++ take 0 [] = take-append-add all [] 0 in
+      let whole : take (length all + 0) all ≡ all =
+      ap (take (length all + 0)) (sym (append-nil all)) ∙ front ∙ append-nil all in
+      part_of h text a.commands a.begins (length all + 0) old new status six
+      (subst (Appends old new) (sym whole) (Appends-kept old mid new all a.put kept))
+
   part_in : AnsweredPart reads may_leave moment left_since k h text old mid first last → status ≡ 6 → Keeps mid new → Concluded h text old new status
   part_in a six kept =
       let line = reply_line (reply_to (after_all h a.commands) a.next) in
@@ -84,6 +95,7 @@ module _ {D : Type 0} (reads : D → Option Image) (may_leave : D → Image → 
   concluded_at Disk n a f count = first_in disk_line DiskFault a (λ commands begins. (commands, begins, refl)) f
   concluded_at Memory n a f count = first_in memory_line OutOfMemory a (λ commands begins. (commands, begins, refl)) f
   concluded_at Write n a f count = part_in a f.0 f.1
+  concluded_at Trace n a f count = first_only a f.0 f.1
   concluded_at (Tag bad) n a f count = absurd a
 
 -- nothing of the script was taken: a line alone

@@ -26,16 +26,17 @@ for_image image words keys mode is P Q holds then other asked = by_cases keys ho
 
 -- what holds of each history as which the disk opens, together
 pub runs_well : {D : Type 0} (reads : D → Option Image) (may_leave : D → Image → Type 0) (disk : D) (words : List (String Global))
-    (keys input : Option (List ℕ)) (P Q R S : Masters → PlainHistory → List ℕ → Type 0)
+    (keys input : Option (List ℕ)) (P Q R F S : Masters → PlainHistory → List ℕ → Type 0)
     → FromEach reads may_leave disk words keys input P → FromEach reads may_leave disk words keys input Q
-    → FromEach reads may_leave disk words keys input R → FromEach reads may_leave disk words keys input S
-    → FromEach reads may_leave disk words keys input (λ k p text. RunsWell (P k p text) (Q k p text) (R k p text) (S k p text))
-runs_well reads may_leave disk words None input P Q R S printed decided paced survives mode is = tt
-runs_well reads may_leave disk words (Some file) None P Q R S printed decided paced survives mode is = tt
-runs_well reads may_leave disk words (Some file) (Some text) P Q R S printed decided paced survives mode is = λ k p are opens. record {
+    → FromEach reads may_leave disk words keys input R → FromEach reads may_leave disk words keys input F → FromEach reads may_leave disk words keys input S
+    → FromEach reads may_leave disk words keys input (λ k p text. RunsWell (P k p text) (Q k p text) (R k p text) (F k p text) (S k p text))
+runs_well reads may_leave disk words None input P Q R F S printed decided paced traced survives mode is = tt
+runs_well reads may_leave disk words (Some file) None P Q R F S printed decided paced traced survives mode is = tt
+runs_well reads may_leave disk words (Some file) (Some text) P Q R F S printed decided paced traced survives mode is = λ k p are opens. record {
   printed = printed mode is k p are opens;
   decided = decided mode is k p are opens;
   paced = paced mode is k p are opens;
+  traced = traced mode is k p are opens;
   survives = survives mode is k p are opens;
 }
 

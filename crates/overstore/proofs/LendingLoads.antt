@@ -8,24 +8,27 @@ use Rattle.ov_history.specs.Masters.{Masters}
 use Rattle.ov_history.specs.Plain.{PlainHistory}
 use Rattle.overstore.specs.Disks.{OpensAs}
 use Rattle.overstore.specs.LoadWords.{IsLoad}
-use Rattle.overstore.specs.Loading.{EndsLoad, ForLoad, ForLoadImage, IsComplete, KeepsSome, LastsAs, LoadEndsAs, LoadsWell, after_load}
+use Rattle.overstore.specs.LoadEnding.{LoadEndsAs, LoadTracesAs}
+use Rattle.overstore.specs.Loading.{EndsLoad, ForLoad, ForLoadImage, IsComplete, KeepsSome, LastsAs, LoadsWell, after_load}
 use Rattle.overstore.specs.Machine.{AreMasters}
 use Rattle.overstore.specs.Running.{JudgesImage, LeavesAsAtStart}
 use Rattle.overstore.specs.declared.load_words.Load.{Load}
 use Rattle.overstore.proofs.Asking.{one_load}
 use Rattle.overstore.proofs.Lending.{lent_image, lent_leaves, lent_opens}
 use Rattle.overstore.proofs.LoadEnds.{completes}
+use Rattle.overstore.proofs.LoadTracing.{sent_lent}
 
 module _ {L D : Type 0} (now : L → D) (reads : D → Option Image) (may_leave : D → Image → Type 0)
     (moment : D → ℕ) (left_since : D → ℕ → Image → Type 0) (first last : L) (final : D) (back : now last ≡ final)
-    (words : List (String Global)) (keys old new : Option (List ℕ)) (status : ℕ) (load : Load) (is : IsLoad load words) where
+    (words : List (String Global)) (keys old new t_old t_new : Option (List ℕ)) (status : ℕ) (load : Load) (is : IsLoad load words) where
   abbrev E : Masters → PlainHistory → Load → Type 0
   E k h asked =
-      LoadEndsAs (λ l. reads (now l)) (λ l. may_leave (now l)) (λ l. moment (now l)) (λ l. left_since (now l)) k h asked first last old new status (Unit {0})
+      LoadEndsAs (λ l. reads (now l)) (λ l. may_leave (now l)) (λ l. moment (now l)) (λ l. left_since (now l)) k h asked first last old new t_old t_new status (Unit {0})
 
   abbrev W : Type 0 → Type 0 → Type 0 → Masters → PlainHistory → Load → Type 0
   W key_faults out disk k h asked =
       LoadsWell (EndsLoad asked h old new status) (IsComplete status key_faults out disk)
+      (LoadTracesAs may_leave k h asked final t_old t_new status (Unit {0}))
       (LeavesOnly moment left_since (now first) final (KeepsSome k h asked))
       (status ≡ 0 → LastsAs reads may_leave k (after_load h asked) final)
 
@@ -37,6 +40,8 @@ module _ {L D : Type 0} (now : L → D) (reads : D → Option Image) (may_leave 
   well key_faults out disk call read write k h e = record {
     printed = e.printed;
     complete = completes load h old new status key_faults out disk call read write e.printed;
+    traced = subst (λ d. LoadTracesAs may_leave k h load d t_old t_new status (Unit {0})) back
+        (sent_lent now may_leave k h load last t_old t_new status (Unit {0}) e.traced);
     survives = subst (λ d. LeavesOnly moment left_since (now first) d (KeepsSome k h load)) back
         (lent_leaves now reads may_leave moment left_since first last (KeepsSome k h load) (e.survives tt));
     lasts = λ zero. subst (λ d. LastsAs reads may_leave k (after_load h load) d) back (lent_lasts_as k (after_load h load) (e.lasts tt zero));

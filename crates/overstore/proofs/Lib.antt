@@ -11,6 +11,7 @@ pub mod KeyFiles
 pub mod Lending
 pub mod LendingLoads
 pub mod LoadEnds
+pub mod LoadTracing
 pub mod NamesIn
 pub mod Owning
 pub mod Pacing
@@ -19,6 +20,8 @@ pub mod Running
 pub mod Stepping
 pub mod Stored
 pub mod Surviving
+pub mod Tracing
+pub mod Transcripts
 pub mod TwoWords
 pub mod Updating
 pub mod WorkloadSteps

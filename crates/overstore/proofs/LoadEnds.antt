@@ -21,21 +21,23 @@ use Rattle.overstore.specs.Answering.{EndsIn, EndsOr, Finishes, stop_for}
 use Rattle.overstore.specs.Disks.{Holds, OpensAs, StandsForPlain}
 use Rattle.overstore.specs.Faults.{fault_line, fault_status}
 use Rattle.overstore.specs.Judging.{FindsPlain, Refuses}
-use Rattle.overstore.specs.Loading.{EndsLoad, IsComplete, IsOfNoScript, KeepsSome, LastsAs, LoadEndsAs, LoadedTo, Loads, PutsSummary, after_load}
+use Rattle.overstore.specs.LoadEnding.{LoadEndsAs, LoadTracesAs, TracedTo, TracesLoad}
+use Rattle.overstore.specs.Loading.{EndsLoad, IsComplete, IsOfNoScript, KeepsSome, LastsAs, LoadedTo, Loads, PutsSummary, after_load}
 use Rattle.overstore.specs.Machine.{KeptOn, StandsFor, opened_of}
 use Rattle.overstore.specs.Printing.{IsScriptStatus, disk_line, memory_line, read_line}
 use Rattle.overstore.specs.Summary.{load_lines, seven_lines}
 use Rattle.overstore.specs.Tallying.{counted_all, none_counted}
 use Rattle.overstore.specs.declared.fault.BadTag.{BadTag}
 use Rattle.overstore.specs.declared.fault.StepFault.{StepFault}
-use Rattle.overstore.specs.declared.fault.StepFault.TheVariants.{Disk, Memory, Tag}
+use Rattle.overstore.specs.declared.fault.StepFault.TheVariants.{Disk, Memory, Tag, Trace}
 use Rattle.overstore.specs.declared.load_words.Load.{Load}
 use Rattle.overstore.specs.declared.tally.Counts.{Counts}
 use Rattle.overstore.specs.declared.tally.Tally.{Tally}
 use Rattle.overstore.proofs.Beginning.{begun_holds, ends_in_fault, leaves, over_stands, serves, sound, told}
+use Rattle.overstore.proofs.LoadTracing.{as_sent, as_stopped, as_unsent, sent_holding}
 use Rattle.overstore.proofs.Running.{ends_so, not_code, not_code_or, script_seven, script_six}
 use Rattle.overstore.proofs.Stepping.{shows}
-use Rattle.overstore.proofs.Surviving.{not_zero, publishes_matrix}
+use Rattle.overstore.proofs.Surviving.{none_put, not_zero, publishes_matrix}
 
 -- ---- the status
 
@@ -55,6 +57,8 @@ fault_no_script Disk epoch old new status f =
     (not_code disk_line 4 3 old new status f (λ z. omega arith) (λ z. omega arith), not_code disk_line 4 11 old new status f (λ z. omega arith) (λ z. omega arith))
 fault_no_script Memory epoch old new status f =
     (not_code memory_line 7 3 old new status f (λ z. omega arith) (λ z. omega arith), not_code memory_line 7 11 old new status f (λ z. omega arith) (λ z. omega arith))
+fault_no_script Trace epoch old new status f =
+    ((λ e. let six : status ≡ 6 = f.0 in omega (arith, six, e)), (λ e. let six : status ≡ 6 = f.0 in omega (arith, six, e)))
 fault_no_script (Tag bad) epoch old new status f = (
   not_code_or _ 12 3 old new status f (λ z. omega arith) (λ z. omega arith) (λ z. omega arith),
   not_code_or _ 12 11 old new status f (λ z. omega arith) (λ z. omega arith) (λ z. omega arith),
@@ -107,7 +111,7 @@ completes load h old new status keys out disk call read write (inr (inr (inr q))
 -- ---- what was put and what lasts
 
 module _ {D : Type 0} (reads : D → Option Image) (may_leave : D → Image → Type 0)
-    (moment : D → ℕ) (left_since : D → ℕ → Image → Type 0) (k : Masters) (h : PlainHistory) (load : Load) (old new : Option (List ℕ)) (status : ℕ) where
+    (moment : D → ℕ) (left_since : D → ℕ → Image → Type 0) (k : Masters) (h : PlainHistory) (load : Load) (old new t_old t_new : Option (List ℕ)) (status : ℕ) where
   module _ (first last : KeptOn D) where
     module _ (tally : Tally) (s : LoadedTo reads may_leave moment left_since k h load (WORKLOAD_USERS + load.count) tally first last) where
       -- the tally's lines are those of the history
@@ -135,24 +139,33 @@ module _ {D : Type 0} (reads : D → Option Image) (may_leave : D → Image → 
           }
 
       pub ends_loaded : ((i : Image) → reads last.disk ≡ Some i → may_leave last.disk i) → (n : ℕ) → n ≡ last.kept.catalogue.epoch
-          → PutsSummary load tally n old new status
-          → LoadEndsAs reads may_leave moment left_since k h load first.disk last.disk old new status (Holds reads may_leave k h first.disk)
-      ends_loaded reads_one n count puts =
-          record { printed = printed_so n count puts; survives = λ holds. s.moments holds; lasts = λ holds zero. lasts_so reads_one holds }
+          → PutsSummary load tally n old new status → TracesLoad may_leave k h load last.disk t_old t_new (Holds reads may_leave k h first.disk) (Ok tally)
+          → LoadEndsAs reads may_leave moment left_since k h load first.disk last.disk old new t_old t_new status (Holds reads may_leave k h first.disk)
+      ends_loaded reads_one n count puts sent =
+          record { printed = printed_so n count puts; traced = as_sent may_leave k h load last.disk t_old t_new _ status sent; survives = λ holds. s.moments holds; lasts = λ holds zero. lasts_so reads_one holds }
 
     pub ends_faulted : (fault : StepFault) (n : ℕ) → Loads reads may_leave moment left_since k h load first last (Err fault) → Finishes (stop_for fault) n old new status
-        → LoadEndsAs reads may_leave moment left_since k h load first.disk last.disk old new status (Holds reads may_leave k h first.disk)
-    ends_faulted Disk n loads f = record {
+        → TracedTo may_leave k h load last.disk t_old t_new (Holds reads may_leave k h first.disk)
+        → LoadEndsAs reads may_leave moment left_since k h load first.disk last.disk old new t_old t_new status (Holds reads may_leave k h first.disk)
+    ends_faulted Disk n loads f sent = record {
       printed = inr (inl f);
+      traced = as_stopped may_leave k h load last.disk t_old t_new _ status (not_zero disk_line 4 old new status f (λ z. omega arith)) sent;
       survives = loads;
       lasts = λ holds zero. absurd (not_zero disk_line 4 old new status f (λ z. omega arith) zero);
     }
-    ends_faulted Memory n loads f = record {
+    ends_faulted Trace n loads f sent = record {
+      printed = inr (inl (inr (f.0, (0, none_put old new f.1))));
+      traced = as_stopped may_leave k h load last.disk t_old t_new _ status (λ zero. let six : status ≡ 6 = f.0 in omega (arith, six, zero)) sent;
+      survives = loads;
+      lasts = λ holds zero. absurd (let six : status ≡ 6 = f.0 in omega (arith, six, zero));
+    }
+    ends_faulted Memory n loads f sent = record {
       printed = inl (inr f);
+      traced = as_stopped may_leave k h load last.disk t_old t_new _ status (not_zero memory_line 7 old new status f (λ z. omega arith)) sent;
       survives = loads;
       lasts = λ holds zero. absurd (not_zero memory_line 7 old new status f (λ z. omega arith) zero);
     }
-    ends_faulted (Tag bad) n loads f = absurd loads
+    ends_faulted (Tag bad) n loads f sent = absurd loads
 
   -- ---- from the call that opens the disk
 
@@ -163,35 +176,46 @@ module _ {D : Type 0} (reads : D → Option Image) (may_leave : D → Image → 
     -- the disk didn't open
     pub load_refused : (last : D) (fault : BeginFault) → Told (reads first) (λ i. Refuses k load.mode i fault)
         → EndsOr (fault_line fault) (fault_status fault) old new status → LeavesHistory reads may_leave moment left_since (keys_of k) load.mode first last
-        → LoadEndsAs reads may_leave moment left_since k h load first last old new status (Unit {0})
-    load_refused last fault refuses ends any = by_line said where
+        → ((t : ℕ) (c : Image) → t ≤ moment last → may_leave last c → left_since last t c)
+        → LoadEndsAs reads may_leave moment left_since k h load first last old new t_old t_old status (Unit {0})
+    load_refused last fault refuses ends any counts_now = by_line said where
       said : EndsIn disk_line 4 old new status ⊎ EndsIn memory_line 7 old new status
       said = ends_in_fault fault old new status ((refuses opens.image opens.told).opens (h, opens.legal, opens.mode_is, opens.stands)) ends
 
+      plain : LeavesOnly moment left_since first last (StandsForPlain k h)
+      plain = any opens.image opens.told opens.settled (Rattle.ov_history.specs.Sealing.sealed k h) opens.mode_is opens.stands
+
       moments : LeavesOnly moment left_since first last (KeepsSome k h load)
-      moments = weaker moment left_since may_leave first last (StandsForPlain k h) (KeepsSome k h load)
-          (any opens.image opens.told opens.settled (Rattle.ov_history.specs.Sealing.sealed k h) opens.mode_is opens.stands) some_first
+      moments = weaker moment left_since may_leave first last (StandsForPlain k h) (KeepsSome k h load) plain some_first
+
+      unsent : (status ≡ 0 → ⊥) → LoadTracesAs may_leave k h load last t_old t_old status (Unit {0})
+      unsent never = as_unsent may_leave k h load last t_old (Unit {0}) status never (λ _ c left. plain.each c (counts_now (moment first) c plain.later left))
 
       by_line : EndsIn disk_line 4 old new status ⊎ EndsIn memory_line 7 old new status
-          → LoadEndsAs reads may_leave moment left_since k h load first last old new status (Unit {0})
+          → LoadEndsAs reads may_leave moment left_since k h load first last old new t_old t_old status (Unit {0})
       by_line (inl e) = record {
         printed = inr (inl e);
+        traced = unsent (not_zero disk_line 4 old new status e (λ z. omega arith));
         survives = λ _. moments;
         lasts = λ _ zero. absurd (not_zero disk_line 4 old new status e (λ z. omega arith) zero);
       }
       by_line (inr e) = record {
         printed = inl (inr e);
+        traced = unsent (not_zero memory_line 7 old new status e (λ z. omega arith));
         survives = λ _. moments;
         lasts = λ _ zero. absurd (not_zero memory_line 7 old new status e (λ z. omega arith) zero);
       }
 
+    here : (c : Image) → may_leave first c → StandsForPlain k h c
+    here c left = subst (λ (x : Image). StandsForPlain k h x) (sym (opens.settled c left)) opens.stands
+
     -- the key file couldn't be read
     pub load_unread : EndsIn read_line 5 old new status → ((c : Image) → left_since first (moment first) c → may_leave first c)
-        → LoadEndsAs reads may_leave moment left_since k h load first first old new status (Unit {0})
+        → LoadEndsAs reads may_leave moment left_since k h load first first old new t_old t_old status (Unit {0})
     load_unread e only_now = record {
       printed = inr (inr e);
-      survives = λ _. started moment left_since may_leave first (KeepsSome k h load) only_now
-          (λ c left. some_first c (subst (λ (x : Image). StandsForPlain k h x) (sym (opens.settled c left)) opens.stands));
+      traced = as_unsent may_leave k h load first t_old (Unit {0}) status (not_zero read_line 5 old new status e (λ z. omega arith)) (λ _. here);
+      survives = λ _. started moment left_since may_leave first (KeepsSome k h load) only_now (λ c left. some_first c (here c left));
       lasts = λ _ zero. absurd (not_zero read_line 5 old new status e (λ z. omega arith) zero);
     }
 
@@ -207,13 +231,14 @@ module _ {D : Type 0} (reads : D → Option Image) (may_leave : D → Image → 
           (told reads may_leave moment left_since k load.mode h first opens None old new status m s is masters fresh found any)
 
       pub load_begun : (last : D)
-          → ((q : PlainHistory) → StandsFor m.kept q → LoadEndsAs reads may_leave moment left_since m.kept.masters q load m.disk last old new status
+          → ((q : PlainHistory) → StandsFor m.kept q → LoadEndsAs reads may_leave moment left_since m.kept.masters q load m.disk last old new t_old t_new status
           (Holds reads may_leave m.kept.masters q m.disk))
-          → LoadEndsAs reads may_leave moment left_since k h load first last old new status (Unit {0})
+          → LoadEndsAs reads may_leave moment left_since k h load first last old new t_old t_new status (Unit {0})
       load_begun last ends =
-          let e = subst (λ (x : Masters). LoadEndsAs reads may_leave moment left_since x h load m.disk last old new status (Holds reads may_leave x h m.disk)) masters
+          let e = subst (λ (x : Masters). LoadEndsAs reads may_leave moment left_since x h load m.disk last old new t_old t_new status (Holds reads may_leave x h m.disk)) masters
           (ends h (over_stands reads may_leave moment left_since k load.mode h first opens m s is masters fresh found)) in record {
             printed = e.printed;
+            traced = record { whole = e.traced.whole; first = sent_holding may_leave k h load last t_old t_new _ held e.traced.first };
             survives = λ _. then_on moment left_since may_leave first m.disk last (KeepsSome k h load) (KeepsSome k h load)
                 (weaker moment left_since may_leave first m.disk (StandsForPlain k h) (KeepsSome k h load)
                 (leaves reads may_leave moment left_since k load.mode h first opens None old new status m s is masters fresh found any) some_first)

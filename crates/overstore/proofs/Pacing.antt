@@ -22,7 +22,7 @@ use Rattle.overstore.specs.Answering.{Finishes, Grows, SoFar}
 use Rattle.overstore.specs.Machine.{KeptOn}
 use Rattle.overstore.specs.Pacing.{AwaitsMore, IsPaced}
 use Rattle.overstore.specs.declared.answer.Stop.{Stop}
-use Rattle.overstore.specs.declared.answer.Stop.TheVariants.{End, BadLine, Long, Read, Write, Disk, Memory, Tag}
+use Rattle.overstore.specs.declared.answer.Stop.TheVariants.{End, BadLine, Long, Read, Write, Disk, Trace, Memory, Tag}
 use Rattle.overstore.proofs.Surviving.{some_put}
 
 -- ---- commands at the front
@@ -224,3 +224,4 @@ finish_grows Disk n old new status f = some_put _ 4 old new status (inl f)
 finish_grows Memory n old new status f = some_put _ 7 old new status (inl f)
 finish_grows (Tag bad) n old new status f = some_put _ 12 old new status f
 finish_grows Write n old new status f = ([], Appends-kept old old new [] (Appends-nil old) f.1)
+finish_grows Trace n old new status f = ([], Appends-kept old old new [] (Appends-nil old) f.1)

@@ -18,7 +18,7 @@ use Rattle.overstore.specs.Faults.{fault_status, tag_line}
 use Rattle.overstore.specs.Printing.{IsAnswered, IsKeysStatus, IsRefused, IsScriptStatus, IsStoreStatus, keys_line, memory_line, read_line, usage_line}
 use Rattle.overstore.specs.Running.{Concluded, IsDecided, JudgesKeys, PrintsAs, RefusesWords}
 use Rattle.overstore.specs.declared.answer.Stop.{Stop}
-use Rattle.overstore.specs.declared.answer.Stop.TheVariants.{End, BadLine, Long, Read, Write, Disk, Memory, Tag}
+use Rattle.overstore.specs.declared.answer.Stop.TheVariants.{End, BadLine, Long, Read, Write, Disk, Trace, Memory, Tag}
 use Rattle.overstore.specs.Words.{IsRun, mode_word}
 use Rattle.overstore.proofs.Concluding.{complete, exact, is_bad, is_disk, is_done, is_long, is_memory, is_read, is_write, neither}
 
@@ -94,6 +94,7 @@ finishes_so Disk epoch old new status f = ends_so IsScriptStatus _ 4 old new sta
 finishes_so Memory epoch old new status f = ends_so IsScriptStatus _ 7 old new status script_seven script_six f
 finishes_so (Tag bad) epoch old new status f = ends_or_so IsScriptStatus _ 12 old new status (inr (inr refl)) script_six script_seven f
 finishes_so Write epoch old new status f = subst IsScriptStatus (sym f.0) script_six
+finishes_so Trace epoch old new status f = subst IsScriptStatus (sym f.0) script_six
 
 pub keys_six : IsKeysStatus 6
 keys_six = inr (inr script_six)
@@ -124,6 +125,7 @@ finish_disk Disk epoch old new status f e = refl
 finish_disk Memory epoch old new status f e = absurd (not_code _ 7 4 old new status f (λ z. omega arith) (λ z. omega arith) e)
 finish_disk (Tag bad) epoch old new status f e = absurd (not_code_or _ 12 4 old new status f (λ z. omega arith) (λ z. omega arith) (λ z. omega arith) e)
 finish_disk Write epoch old new status f e = absurd (let six : status ≡ 6 = f.0 in omega arith)
+finish_disk Trace epoch old new status f e = absurd (let six : status ≡ 6 = f.0 in omega arith)
 
 pub finish_read : (stop : Stop) (epoch : ℕ) (old new : Option (List ℕ)) (status : ℕ) → Finishes stop epoch old new status → status ≡ 5 → stop ≡ Read
 finish_read End epoch old new status f e = absurd (not_code_or _ 0 5 old new status f (λ z. omega arith) (λ z. omega arith) (λ z. omega arith) e)
@@ -134,15 +136,18 @@ finish_read Disk epoch old new status f e = absurd (not_code _ 4 5 old new statu
 finish_read Memory epoch old new status f e = absurd (not_code _ 7 5 old new status f (λ z. omega arith) (λ z. omega arith) e)
 finish_read (Tag bad) epoch old new status f e = absurd (not_code_or _ 12 5 old new status f (λ z. omega arith) (λ z. omega arith) (λ z. omega arith) e)
 finish_read Write epoch old new status f e = absurd (let six : status ≡ 6 = f.0 in omega arith)
+finish_read Trace epoch old new status f e = absurd (let six : status ≡ 6 = f.0 in omega arith)
 
 -- a count that rose is said otherwise
 pub rose_lent : (a b c d : ℕ) → Rose a b → c ≡ a → d ≡ b → Rose c d
 rose_lent a b c d r e f = omega (arith, r, e, f)
 
--- the count of a sink rose in what was put before, or in the last line
-pub rose_after : (P : Type 0) (a b c : ℕ) → a ≤ b → (P → Rose a b) → b ≤ c → P ⊎ Rose b c → Rose a c
-rose_after P a b c h before later (inl p) = let r : Rose a b = before p in omega (arith, r, later)
-rose_after P a b c h before later (inr r) = omega (arith, h, r)
+-- the count of a sink rose in what was put before, or in the last line; or that of the other sink
+-- rose before
+pub rose_after : (P Q R : Type 0) (a b c : ℕ) → a ≤ b → (P → Rose a b) → (Q → R) → b ≤ c → (P ⊎ Q) ⊎ Rose b c → Rose a c ⊎ R
+rose_after P Q R a b c h before other later (inl (inl p)) = inl (let r : Rose a b = before p in omega (arith, r, later))
+rose_after P Q R a b c h before other later (inl (inr q)) = inr (other q)
+rose_after P Q R a b c h before other later (inr r) = inl (omega (arith, h, r))
 
 -- a tag is said to be wrong where the answering stopped at one
 pub finish_tag : (N : Type 0) (stop : Stop) (epoch : ℕ) (old mid new : Option (List ℕ)) (status : ℕ) → Finishes stop epoch mid new status → Grows old mid
@@ -154,6 +159,7 @@ finish_tag N Read epoch old mid new status f grew other e = absurd (not_code _ 5
 finish_tag N Disk epoch old mid new status f grew other e = absurd (not_code _ 4 12 mid new status f (λ z. omega arith) (λ z. omega arith) e)
 finish_tag N Memory epoch old mid new status f grew other e = absurd (not_code _ 7 12 mid new status f (λ z. omega arith) (λ z. omega arith) e)
 finish_tag N Write epoch old mid new status f grew other e = absurd (let six : status ≡ 6 = f.0 in omega arith)
+finish_tag N Trace epoch old mid new status f grew other e = absurd (let six : status ≡ 6 = f.0 in omega arith)
 finish_tag N (Tag bad) epoch old mid new status (inl (inl q)) grew other e =
     let put = Appends-trans old mid new grew.0 (tag_line bad) grew.1 q.1 in
     ((bad, (other bad refl).0, (grew.0, put)), (other bad refl).1)

@@ -30,7 +30,7 @@ use Rattle.overstore.specs.Machine.{KeptOn}
 use Rattle.overstore.specs.Printing.{OutOfMemory, disk_line, long_line, memory_line, read_line}
 use Rattle.overstore.specs.Running.{EndsAs}
 use Rattle.overstore.specs.declared.answer.Stop.{Stop}
-use Rattle.overstore.specs.declared.answer.Stop.TheVariants.{End, BadLine, Long, Read, Write, Disk, Memory, Tag}
+use Rattle.overstore.specs.declared.answer.Stop.TheVariants.{End, BadLine, Long, Read, Write, Disk, Trace, Memory, Tag}
 use Rattle.overstore.proofs.Concluding.{at_once, concluded_at, memory_printed, none_read}
 use Rattle.overstore.proofs.Reading.{take_whole}
 
@@ -112,6 +112,10 @@ not_zero_or : (last : List ℕ) (code : ℕ) (old new : Option (List ℕ)) (stat
 not_zero_or last code old new status (inl e) other zero_is = not_zero last code old new status e other zero_is
 not_zero_or last code old new status (inr e) other zero_is = not_zero memory_line 7 old new status e (λ z. omega arith) zero_is
 
+-- nothing was put
+pub none_put : (old new : Option (List ℕ)) → Keeps old new → Appends old new []
+none_put old new kept = Appends-kept old old new [] (Appends-nil old) kept
+
 -- some bytes were put
 pub some_put : (last : List ℕ) (code : ℕ) (old new : Option (List ℕ)) (status : ℕ) → EndsOr last code old new status → (rest : List ℕ) × Appends old new rest
 some_put last code old new status (inl e) = let f = front_put last code old new status e in (take f.0 last, f.1)
@@ -142,7 +146,7 @@ less_or (suc m) (suc n) = next (less_or m n) where
 
 module _ (p : PlainHistory) (text : List ℕ) (commands : List Command) (old mid new : Option (List ℕ)) (put : Appends old mid (lines p commands)) where
   -- behind a whole script anything may follow
-  answered_whole : (ending : Ending) → IsScript text commands ending → (rest : List ℕ) × Appends mid new rest → HasAnswered p text commands old new
+  pub answered_whole : (ending : Ending) → IsScript text commands ending → (rest : List ℕ) × Appends mid new rest → HasAnswered p text commands old new
   answered_whole ending reads (rest, more) = (
     rest,
     Appends-trans old mid new (lines p commands) rest put more,
@@ -156,6 +160,36 @@ module _ (p : PlainHistory) (text : List ℕ) (commands : List Command) (old mid
     Appends-trans old mid new (lines p commands) (take n (101 ∷ 114 ∷ error)) put more,
     λ next tail begins e. no_reply (reply_to (after_all p commands) next) n error tail e,
   )
+
+module _ (p : PlainHistory) (text : List ℕ) (commands : List Command) (next : Command) (old new : Option (List ℕ))
+    (begins : BeginsScript text (commands ++ next ∷ [])) (count : ℕ) where
+  abbrev line : List ℕ
+  line = reply_line (reply_to (after_all p commands) next)
+
+  by_count : Appends old new (lines p commands ++ take count line) → (count < length line) ⊎ (length line ≤ count)
+      → HasAnswered p text commands old new ⊎ HasAnswered p text (commands ++ next ∷ []) old new
+  by_count puts (inl low) = inl (
+    take count line,
+    puts,
+    λ other tail begins_other e.
+        let same : next ≡ other = next_once 1 MAX_SCRIPT_BYTES text commands next other _ _ _ _ _ _ begins.3 begins_other.3 in
+        let whole : take count line ≡ line ++ tail = e ∙ ap (λ c. reply_line (reply_to (after_all p commands) c) ++ tail) (sym same) in
+        let sizes : length (take count line) ≡ length line + length tail = ap length whole ∙ length-append line tail in
+        omega (arith, low, sizes, length_take count line),
+  )
+  by_count puts (inr past) =
+      let all : lines p (commands ++ next ∷ []) ++ [] ≡ lines p commands ++ take count line =
+      append-nil (lines p (commands ++ next ∷ [])) ∙ lines-more p commands next ∙ ap (λ l. lines p commands ++ l) (sym (take_past line count past)) in
+      inr (
+        [],
+        subst (Appends old new) (sym all) puts,
+        λ other tail begins_other e. no_nothing (reply_to (after_all p (commands ++ next ∷ [])) other) tail e,
+      )
+
+  -- a front of the next line was put: all of it, or less
+  pub part_answered : Appends old new (lines p commands ++ take count line)
+      → HasAnswered p text commands old new ⊎ HasAnswered p text (commands ++ next ∷ []) old new
+  part_answered puts = by_count puts (less_or count (length line))
 
 -- ---- the whole
 
@@ -182,45 +216,17 @@ module _ {D : Type 0} (reads : D → Option Image) (may_leave : D → Image → 
       at_exit = (a.commands, a.begins, answered_error p text a.commands old mid new a.put error more, (a.stopped holds).now);
     }
 
-    module _ (a : AnsweredPart reads may_leave moment left_since k p text old mid first last) (kept : Keeps mid new) where
-      abbrev line : List ℕ
-      line = reply_line (reply_to (after_all p a.commands) a.next)
-
-      puts : Appends old new (lines p a.commands ++ take a.count line)
-      puts = Appends-kept old mid new (lines p a.commands ++ take a.count line) a.put kept
-
-      by_count : (a.count < length line) ⊎ (length line ≤ a.count)
+    survives_part : AnsweredPart reads may_leave moment left_since k p text old mid first last → Keeps mid new
+        → Survives reads may_leave moment left_since k p text first.disk last.disk old new
+    survives_part a kept =
+        let line = reply_line (reply_to (after_all p a.commands) a.next) in
+        let puts = Appends-kept old mid new (lines p a.commands ++ take a.count line) a.put kept in
+        record { any_moment = (a.reaches holds).moments; at_exit = at_exit (part_answered p text a.commands a.next old new a.begins_next a.count puts) } where
+      at_exit : HasAnswered p text a.commands old new ⊎ HasAnswered p text (a.commands ++ a.next ∷ []) old new
           → (commands : List Command) × BeginsScript text commands × HasAnswered p text commands old new
           × ((c : Image) → may_leave last.disk c → KeepsNext k p text commands c)
-      by_count (inl low) = (
-        a.commands,
-        a.begins,
-        (
-          take a.count line,
-          puts,
-          λ next tail begins e.
-              let same : a.next ≡ next = next_once 1 MAX_SCRIPT_BYTES text a.commands a.next next _ _ _ _ _ _ a.begins_next.3 begins.3 in
-              let whole : take a.count line ≡ line ++ tail = e ∙ ap (λ c. reply_line (reply_to (after_all p a.commands) c) ++ tail) (sym same) in
-              let sizes : length (take a.count line) ≡ length line + length tail = ap length whole ∙ length-append line tail in
-              omega (arith, low, sizes, length_take a.count line),
-        ),
-        λ c left. inr (a.next, a.begins_next, inr ((a.reaches holds).holds.each c left)),
-      )
-      by_count (inr past) =
-          let all : lines p (a.commands ++ a.next ∷ []) ++ [] ≡ lines p a.commands ++ take a.count line =
-          append-nil (lines p (a.commands ++ a.next ∷ [])) ∙ lines-more p a.commands a.next ∙ ap (λ l. lines p a.commands ++ l) (sym (take_past line a.count past)) in (
-            a.commands ++ a.next ∷ [],
-            a.begins_next,
-            (
-              [],
-              subst (Appends old new) (sym all) puts,
-              λ next tail begins e. no_nothing (reply_to (after_all p (a.commands ++ a.next ∷ [])) next) tail e,
-            ),
-            λ c left. inl (inr ((a.reaches holds).holds.each c left)),
-          )
-
-      survives_part : Survives reads may_leave moment left_since k p text first.disk last.disk old new
-      survives_part = record { any_moment = (a.reaches holds).moments; at_exit = by_count (less_or a.count (length line)) }
+      at_exit (inl answered) = (a.commands, a.begins, answered, λ c left. inr (a.next, a.begins_next, inr ((a.reaches holds).holds.each c left)))
+      at_exit (inr answered) = (a.commands ++ a.next ∷ [], a.begins_next, answered, λ c left. inl (inr ((a.reaches holds).holds.each c left)))
 
     survives_at : (stop : Stop) (n status : ℕ) → Stops reads may_leave moment left_since k p text stop old mid first last → Finishes stop n mid new status
         → Survives reads may_leave moment left_since k p text first.disk last.disk old new
@@ -229,6 +235,7 @@ module _ {D : Type 0} (reads : D → Option Image) (may_leave : D → Image → 
     survives_at Long n status a f = survives_whole _ a (let q = front_put long_line 11 mid new status f in (take q.0 long_line, q.1))
     survives_at Read n status a f = survives_first _ a (front_put read_line 5 mid new status f)
     survives_at Disk n status a f = survives_first _ a (front_put disk_line 4 mid new status f)
+    survives_at Trace n status a f = survives_first [] a (0, none_put mid new f.1)
     survives_at Memory n status a f = survives_first _ a (front_put memory_line 7 mid new status f)
     survives_at Write n status a f = survives_part a f.1
     survives_at (Tag bad) n status a f = absurd a
@@ -256,6 +263,7 @@ module _ {D : Type 0} (reads : D → Option Image) (may_leave : D → Image → 
     lasts_at reads_one Disk n status a f e = absurd (not_zero _ 4 mid new status f (λ z. omega arith) e)
     lasts_at reads_one Memory n status a f e = absurd (not_zero _ 7 mid new status f (λ z. omega arith) e)
     lasts_at reads_one Write n status a f e = absurd (let six : status ≡ 6 = f.0 in omega arith)
+    lasts_at reads_one Trace n status a f e = absurd (let six : status ≡ 6 = f.0 in omega arith)
     lasts_at reads_one (Tag bad) n status a f e = absurd a
 
   pub ends_at : (first last : KeptOn D) → ((i : Image) → reads last.disk ≡ Some i → may_leave last.disk i) → (stop : Stop) (n status : ℕ)

@@ -6,6 +6,7 @@ use Rattle.ov_disk.specs.Disk.{Image}
 use Rattle.ov_disk.specs.Moments.{LeavesOnly}
 use Rattle.ov_disk.proofs.Runs.{started, then_on}
 use Rattle.ov_script.specs.declared.command.Command.{Command}
+use Rattle.ov_script.specs.declared.command.Command.TheVariants.{Epoch as AskEpoch}
 use Rattle.ov_script.specs.declared.drawn.TheConstants.{MAX_WORKLOAD, WORKLOAD_USERS}
 use Rattle.ov_script.specs.declared.next.Next.TheVariants.{Command as Next-Command}
 use Rattle.ov_script.specs.declared.reply.Reply.{Reply}
@@ -19,11 +20,11 @@ use Rattle.ov_model.specs.Lines.{lines}
 use Rattle.ov_model.specs.Step.{after, after_all, reply_to}
 use Rattle.ov_model.proofs.Runs.{after_all-more, lines-more}
 use Rattle.overstore.specs.Disks.{Holds, KeepsPlain, KeepsStep}
-use Rattle.overstore.specs.Loading.{KeepsSome, LoadedTo, Loads, TalliesAt, after_first}
+use Rattle.overstore.specs.Loading.{KeepsSome, LoadedTo, Loads, TalliesAt, after_first, after_load}
 use Rattle.overstore.specs.Machine.{IsCommand, KeptOn, LeavesStep, StandsFor, StepsAt}
 use Rattle.overstore.specs.Tallying.{AreAtMost, Takes, TalliesNothing, counted, counted_all}
 use Rattle.overstore.specs.declared.fault.StepFault.{StepFault}
-use Rattle.overstore.specs.declared.fault.StepFault.TheVariants.{Disk, Memory, Tag}
+use Rattle.overstore.specs.declared.fault.StepFault.TheVariants.{Disk, Memory, Tag, Trace}
 use Rattle.overstore.specs.declared.load_words.Load.{Load}
 use Rattle.overstore.specs.declared.tally.Counts.{Counts}
 use Rattle.overstore.specs.declared.tally.Tally.{Tally}
@@ -91,24 +92,19 @@ module _ {D : Type 0} (reads : D → Option Image) (may_leave : D → Image → 
         (subst (λ (r : Reply). Takes before r (reply_line r) now) same (subst (λ (l : List ℕ). Takes before reply l now) is takes), goes)
 
     -- it isn't answered
-    unanswered : (T : Type 0) (fault : StepFault) → ((c : Image) → left_since first.disk (moment first.disk) c → may_leave first.disk c)
-        → StepsAt reads may_leave moment left_since k h command first last (Err fault)
+    unanswered : (T : Type 0) (fault : StepFault) → StepsAt reads may_leave moment left_since k h command first last (Err fault)
         → TalliesAt reads may_leave moment left_since {T = T} k h command before now first last (Err fault)
-    unanswered T Disk only_now steps = steps
-    unanswered T Memory only_now steps =
-        λ holds. subst (λ (m : KeptOn D). LeavesStep reads may_leave moment left_since k h command first.disk m.disk) (sym steps) (record {
-          moments = started moment left_since may_leave first.disk (KeepsStep k h command) only_now (λ c left. inl (holds.each c left));
-          now = λ c left. inl (holds.each c left);
-        })
-    unanswered T (Tag bad) only_now steps = absurd steps
+    unanswered T Disk steps = steps
+    unanswered T Trace steps = steps
+    unanswered T Memory steps = steps
+    unanswered T (Tag bad) steps = absurd steps
 
     pub unanswered_as : {T : Type 0} (result : Result T StepFault) (fault : StepFault) → result ≡ Err fault
-        → ((c : Image) → left_since first.disk (moment first.disk) c → may_leave first.disk c)
         → StepsAt reads may_leave moment left_since k h command first last (Err fault)
         → TalliesAt reads may_leave moment left_since k h command before now first last result
-    unanswered_as {T} result fault is only_now steps =
+    unanswered_as {T} result fault is steps =
         subst (λ (r : Result T StepFault). TalliesAt reads may_leave moment left_since k h command before now first last r) (sym is)
-        (unanswered T fault only_now steps)
+        (unanswered T fault steps)
 
   -- ---- the commands so far
 
@@ -166,8 +162,51 @@ module _ {D : Type 0} (reads : D → Option Image) (may_leave : D → Image → 
           → TalliesAt reads may_leave moment left_since {T = T} k q command before now mid last (Err fault)
           → Loads reads may_leave moment left_since k h load first last (Err fault)
       loads_stop T now Disk stops = λ holds. moments_so (stops (s.holds holds)) holds
+      loads_stop T now Trace stops = λ holds. moments_so (stops (s.holds holds)) holds
       loads_stop T now Memory stops = λ holds. moments_so (stops (s.holds holds)) holds
       loads_stop T now (Tag bad) stops = absurd stops
+
+    -- ---- at the end the epoch is asked for
+
+    module _ (tally : Tally) (mid last : KeptOn D) (masters : mid.kept.masters ≡ k)
+        (s : LoadedTo reads may_leave moment left_since k h load (WORKLOAD_USERS + load.count) tally first mid) where
+      abbrev AreSteps : Result Reply StepFault → Type 0
+      AreSteps r = (j : Masters) (q : PlainHistory) → mid.kept.masters ≡ j → StandsFor mid.kept q → StepsAt reads may_leave moment left_since j q AskEpoch mid last r
+
+      epoch_some : (c : Image) → KeepsStep k (after_load h load) AskEpoch c → KeepsSome k h load c
+      epoch_some c (inl keeps) = (WORKLOAD_USERS + load.count, omega arith, inr keeps)
+      epoch_some c (inr keeps) = (WORKLOAD_USERS + load.count, omega arith, inr keeps)
+
+      moments_at_end : LeavesStep reads may_leave moment left_since k (after_load h load) AskEpoch mid.disk last.disk → Holds reads may_leave k h first.disk
+          → LeavesOnly moment left_since first.disk last.disk (KeepsSome k h load)
+      moments_at_end leaves holds =
+          then_on moment left_since may_leave first.disk mid.disk last.disk (KeepsSome k h load) (KeepsStep k (after_load h load) AskEpoch)
+          (s.moments holds) leaves.moments epoch_some
+
+      pub ends_asked : (reply : Reply) → AreSteps (Ok reply)
+          → LoadedTo reads may_leave moment left_since k h load (WORKLOAD_USERS + load.count) tally first last
+      ends_asked reply steps =
+          let goes = (steps k (after_load h load) masters s.stands).1 in record {
+            counts = s.counts;
+            hashed = s.hashed;
+            stands = goes.stands;
+            holds = λ holds. goes.holds (s.holds holds);
+            moments = λ holds. moments_at_end (goes.leaves (s.holds holds)) holds;
+          }
+
+      by_fault : (fault : StepFault) → StepsAt reads may_leave moment left_since k (after_load h load) AskEpoch mid last (Err fault)
+          → Loads reads may_leave moment left_since k h load first last (Err fault)
+      by_fault Disk steps = λ holds. moments_at_end (steps (s.holds holds)) holds
+      by_fault Trace steps = λ holds. moments_at_end (steps (s.holds holds)) holds
+      by_fault Memory steps = λ holds. moments_at_end (steps (s.holds holds)) holds
+      by_fault (Tag bad) steps = absurd steps
+
+      pub ends_unasked : (r : Result Reply StepFault) (fault : StepFault) → r ≡ Err fault → AreSteps r
+          → (result : Result Tally StepFault) → result ≡ Err fault → Loads reads may_leave moment left_since k h load first last result
+      ends_unasked r fault at steps result is =
+          subst (λ (x : Result Tally StepFault). Loads reads may_leave moment left_since k h load first last x) (sym is)
+          (by_fault fault (subst (λ (x : Result Reply StepFault). StepsAt reads may_leave moment left_since k (after_load h load) AskEpoch mid last x) at
+          (steps k (after_load h load) masters s.stands)))
 
     -- ---- by what the workload gives
 

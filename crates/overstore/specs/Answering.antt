@@ -22,10 +22,10 @@ use Rattle.overstore.specs.Printing.{bad_line, disk_line, long_line, read_line, 
 use Rattle.overstore.specs.declared.fault.BadTag.{BadTag}
 use Rattle.overstore.specs.declared.fault.StepFault.{StepFault}
 use Rattle.overstore.specs.declared.fault.StepFault.TheVariants.{Disk as NoDisk, Memory as NoMemory}
-use Rattle.overstore.specs.declared.fault.StepFault.TheVariants.{Tag as WrongTag}
+use Rattle.overstore.specs.declared.fault.StepFault.TheVariants.{Tag as WrongTag, Trace as NoTrace}
 use Rattle.overstore.specs.declared.answer.Stop.{Stop}
 use Rattle.overstore.specs.declared.answer.Stop.TheVariants.{End, BadLine, Long}
-use Rattle.overstore.specs.declared.answer.Stop.TheVariants.{Read, Write, Disk, Memory, Tag}
+use Rattle.overstore.specs.declared.answer.Stop.TheVariants.{Read, Write, Disk, Trace, Memory, Tag}
 
 -- ---- lines
 
@@ -39,6 +39,7 @@ PutsOr (Some (BadLine n)) old new bytes = ⊥
 PutsOr (Some Long) old new bytes = ⊥
 PutsOr (Some Read) old new bytes = ⊥
 PutsOr (Some Disk) old new bytes = ⊥
+PutsOr (Some Trace) old new bytes = ⊥
 PutsOr (Some (Tag bad)) old new bytes = ⊥
 
 -- some bytes were put
@@ -76,12 +77,14 @@ Finishes Disk epoch old new status = EndsIn disk_line 4 old new status
 Finishes Memory epoch old new status = EndsIn memory_line 7 old new status
 Finishes (Tag bad) epoch old new status = EndsOr (tag_line bad) 12 old new status
 Finishes Write epoch old new status = (status ≡ 6) × Keeps old new
+Finishes Trace epoch old new status = (status ≡ 6) × Keeps old new
 
 -- ---- commands
 
 -- why a command that isn't answered stops the answering
 abbrev pub stop_for : StepFault → Stop
 stop_for NoDisk = Disk
+stop_for NoTrace = Trace
 stop_for NoMemory = Memory
 stop_for (WrongTag bad) = Tag bad
 
@@ -128,6 +131,10 @@ module _ {D : Type 0} (reads : D → Option Image) (may_leave : D → Image → 
       × (Holds reads may_leave k p first.disk
       → LeavesStep reads may_leave moment left_since k p command first.disk last.disk)
   Answers k p command (Some Disk) old new first last =
+      Keeps old new
+      × (Holds reads may_leave k p first.disk
+      → LeavesStep reads may_leave moment left_since k p command first.disk last.disk)
+  Answers k p command (Some Trace) old new first last =
       Keeps old new
       × (Holds reads may_leave k p first.disk
       → LeavesStep reads may_leave moment left_since k p command first.disk last.disk)
@@ -193,6 +200,7 @@ module _ {D : Type 0} (reads : D → Option Image) (may_leave : D → Image → 
   Stops k p text Long old new first last = AnsweredAll k p text TooLong old new first last
   Stops k p text Read old new first last = AnsweredFirst k p text old new first last
   Stops k p text Disk old new first last = AnsweredFirst k p text old new first last
+  Stops k p text Trace old new first last = AnsweredFirst k p text old new first last
   Stops k p text Memory old new first last = AnsweredFirst k p text old new first last
   Stops k p text Write old new first last = AnsweredPart k p text old new first last
   Stops k p text (Tag bad) old new first last = ⊥

@@ -2,6 +2,7 @@ pub mod Answering
 pub mod Disks
 pub mod Faults
 pub mod Judging
+pub mod LoadEnding
 pub mod LoadWords
 pub mod Loading
 pub mod Machine
@@ -14,4 +15,6 @@ pub mod Sealing
 pub mod Status
 pub mod Summary
 pub mod Tallying
+pub mod Tracing
+pub mod Transcripts
 pub mod Words

@@ -23,7 +23,7 @@ use Rattle.overstore.specs.Printing.{disk_line, memory_line, read_line}
 use Rattle.overstore.specs.Summary.{IsSummary, load_lines}
 use Rattle.overstore.specs.Tallying.{Takes, counted, counted_all, none_counted}
 use Rattle.overstore.specs.declared.fault.StepFault.{StepFault}
-use Rattle.overstore.specs.declared.fault.StepFault.TheVariants.{Disk, Memory, Tag}
+use Rattle.overstore.specs.declared.fault.StepFault.TheVariants.{Disk, Memory, Tag, Trace}
 use Rattle.overstore.specs.declared.load_words.Load.{Load}
 use Rattle.overstore.specs.declared.tally.Counts.{Counts}
 use Rattle.overstore.specs.declared.tally.Tally.{Tally}
@@ -58,7 +58,7 @@ pub record LastsAs {D : Type 0} (reads : D → Option Image) (may_leave : D → 
 
 -- How a load from this history on ends: its seven lines were put and the status is 0; or the error
 -- line stands alone, on memory that was refused, the disk or the key file, with its status; or a
--- front of one of these was put, and the status is 6.
+-- front of one of these was put, or a frame wasn't, and the status is 6.
 abbrev pub EndsLoad : Load → PlainHistory → Option (List ℕ) → Option (List ℕ) → ℕ → Type 0
 EndsLoad load h old new status =
     EndsOr (load_lines load h) 0 old new status
@@ -99,6 +99,9 @@ module _ {D : Type 0} (reads : D → Option Image) (may_leave : D → Image → 
   TalliesAt k h command before now first last (Err Disk) =
       Holds reads may_leave k h first.disk
       → LeavesStep reads may_leave moment left_since k h command first.disk last.disk
+  TalliesAt k h command before now first last (Err Trace) =
+      Holds reads may_leave k h first.disk
+      → LeavesStep reads may_leave moment left_since k h command first.disk last.disk
   TalliesAt k h command before now first last (Err Memory) =
       Holds reads may_leave k h first.disk
       → LeavesStep reads may_leave moment left_since k h command first.disk last.disk
@@ -124,19 +127,13 @@ module _ {D : Type 0} (reads : D → Option Image) (may_leave : D → Image → 
   Loads k h load first last (Err Disk) =
       Holds reads may_leave k h first.disk
       → LeavesOnly moment left_since first.disk last.disk (KeepsSome k h load)
+  Loads k h load first last (Err Trace) =
+      Holds reads may_leave k h first.disk
+      → LeavesOnly moment left_since first.disk last.disk (KeepsSome k h load)
   Loads k h load first last (Err Memory) =
       Holds reads may_leave k h first.disk
       → LeavesOnly moment left_since first.disk last.disk (KeepsSome k h load)
   Loads k h load first last (Err (Tag bad)) = ⊥
-
-  -- ---- the whole
-
-  -- how a load ends, from a disk that stands for the history where this holds
-  pub record LoadEndsAs (k : Masters) (h : PlainHistory) (load : Load) (first last : D)
-      (old new : Option (List ℕ)) (status : ℕ) (holds : Type 0) : Type 0 where
-    pub printed : EndsLoad load h old new status
-    pub survives : holds → LeavesOnly moment left_since first last (KeepsSome k h load)
-    pub lasts : holds → status ≡ 0 → LastsAs reads may_leave k (after_load h load) last
 
 -- This holds of the load that the words ask for, under the masters of the key file, for each
 -- history as which the disk opens for them.
@@ -155,10 +152,11 @@ ForLoadImage image words keys P =
     (load : Load) → IsLoad load words → IfSome keys (λ file.
     (k : Masters) → AreMasters file k → Told image (P k load.mode))
 
--- what a load promises where the disk opens: the lines that it prints, its status, what a stop
--- leaves at any moment, and what lasts at status 0
-pub record LoadsWell (Lines Status Stops Lasts : Type 0) : Type 0 where
+-- what a load promises where the disk opens: the lines that it prints, its status, the frames that
+-- it sends, what a stop leaves at any moment, and what lasts at status 0
+pub record LoadsWell (Lines Status Frames Stops Lasts : Type 0) : Type 0 where
   pub printed : Lines
   pub complete : Status
+  pub traced : Frames
   pub survives : Stops
   pub lasts : Lasts

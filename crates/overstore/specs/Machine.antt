@@ -27,7 +27,7 @@ use Rattle.ov_store.specs.Opened.{Opened}
 use Rattle.overstore.specs.Disks.{Holds, IsDiskCall, KeepsStep}
 use Rattle.overstore.specs.declared.fault.BadTag.{BadTag}
 use Rattle.overstore.specs.declared.fault.StepFault.{StepFault}
-use Rattle.overstore.specs.declared.fault.StepFault.TheVariants.{Memory, Disk, Tag}
+use Rattle.overstore.specs.declared.fault.StepFault.TheVariants.{Memory, Disk, Tag, Trace}
 
 -- the two masters, and the catalogue and the stored bytes that are kept under them
 pub record Kept : Type 0 where
@@ -122,16 +122,19 @@ module _ {D : Type 0} (reads : D → Option Image) (may_leave : D → Image → 
         → Holds reads may_leave k (after p command) new.disk
 
   -- A command at a history for which what is kept stands. It is answered with the machine's reply,
-  -- and all goes on as the history does. Or a call of the disk failed: then it has the history from
-  -- before or from after the command. Or memory was refused, and all is as before. A wrong tag is
-  -- found at no history.
+  -- and all goes on as the history does. Or a call of the disk failed, a frame wasn't put, or memory
+  -- was refused: then the disk has the history from before or from after the command. A wrong tag
+  -- is found at no history.
   abbrev pub StepsAt : Masters → PlainHistory → Command → KeptOn D → KeptOn D
       → Result Reply StepFault → Type 0
   StepsAt k p command old new (Ok reply) =
       (reply ≡ reply_to p command) × GoesOn k p command old new
   StepsAt k p command old new (Err Disk) =
       Holds reads may_leave k p old.disk → LeavesStep k p command old.disk new.disk
-  StepsAt k p command old new (Err Memory) = new ≡ old
+  StepsAt k p command old new (Err Trace) =
+      Holds reads may_leave k p old.disk → LeavesStep k p command old.disk new.disk
+  StepsAt k p command old new (Err Memory) =
+      Holds reads may_leave k p old.disk → LeavesStep k p command old.disk new.disk
   StepsAt k p command old new (Err (Tag bad)) = ⊥
 
   -- so it is at whatever history is kept

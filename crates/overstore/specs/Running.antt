@@ -148,9 +148,10 @@ ForImage image words keys P =
     (k : Masters) → AreMasters file k → Told image (P k mode))
 
 -- what a run promises of its script where the disk opens: the lines that it prints, its status,
--- when it takes and puts, and what a stop leaves
-pub record RunsWell (Lines Status Pace Stops : Type 0) : Type 0 where
+-- when it takes and puts, the frames that it sends, and what a stop leaves
+pub record RunsWell (Lines Status Pace Frames Stops : Type 0) : Type 0 where
   pub printed : Lines
   pub decided : Status
   pub paced : Pace
+  pub traced : Frames
   pub survives : Stops

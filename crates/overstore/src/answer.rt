@@ -10,6 +10,7 @@ ghost use Rattle.overstore.specs.Answering.{Answers, IsAnswer, PutsOr, PutsTo, S
 ghost use Rattle.overstore.specs.Answering.{stop_for};
 ghost use Rattle.overstore.specs.Machine.{IsCommand, StandsFor};
 ghost use Rattle.overstore.specs.Pacing.{IsPaced};
+ghost use Rattle.overstore.specs.Tracing.{TracesLine, TracesTo};
 
 use crate::fault::{BadTag, StepFault};
 use crate::machine::Machine;
@@ -33,6 +34,8 @@ pub enum Stop {
     Write,
     /// A call of the disk failed.
     Disk,
+    /// A frame wasn't put to the sink of frames.
+    Trace,
     /// Memory was refused.
     Memory,
     /// The tag of a file that was read is wrong.
@@ -61,17 +64,19 @@ pub fn stop_of(fault: StepFault) -> Stop
 {
     match fault {
         StepFault::Disk => Stop::Disk,
+        StepFault::Trace => Stop::Trace,
         StepFault::Memory => Stop::Memory,
         StepFault::Tag(bad) => Stop::Tag(bad),
     }
 }
 
-// Answers one command. The update is on the disk before its reply line is put.
-fn answer<D: Disk, O: Sink>(
+// Answers one command. The update is on the disk, and its frames are put, before its reply line is.
+fn answer<D: Disk, O: Sink, T: Sink>(
     command: Command,
     machine: &mut Machine<D>,
     buffer: &mut Vec<u8>,
     out: &mut O,
+    trace: &mut T,
 ) -> Option<Stop>
     requires command { IsCommand command }
     requires healthy { machine.old.failed ≡ false }
@@ -80,21 +85,26 @@ fn answer<D: Disk, O: Sink>(
         → Answers D.reads D.may_leave D.moment D.left_since k p command result
         (O.written out.old) (O.written out.new) machine.old machine.new }
     ensures step { IsAnswer D.borrow D.faults machine.old machine.new result }
+    ensures traced { (p : PlainHistory) → StandsFor machine.old.kept p
+        → TracesLine machine.old.kept.masters p command result (O.written out.old) (O.written out.new)
+        (T.written trace.old) (T.written trace.new) }
     ensures sink { PutsTo O.written O.faults (result ≡ Some Stop.Write) out.old out.new }
+    ensures trace { PutsTo T.written T.faults (result ≡ Some Stop.Trace) trace.old trace.new }
 {
     let alloc = *buffer.allocator();
-    match machine.step(alloc, command) {
+    match machine.step(alloc, command, trace) {
         Ok(reply) => put_reply(&reply, buffer, out),
         Err(fault) => Some(stop_of(fault)),
     }
 }
 
-/// Answers a script from its first line.
-pub fn answer_all<S: Source + Drop, O: Sink, D: Disk>(
+/// Answers a script from its first line, and asks for the epoch at its end.
+pub fn answer_all<S: Source + Drop, O: Sink, T: Sink, D: Disk>(
     alloc: Global,
     script: &mut Script<S>,
     machine: &mut Machine<D>,
     out: &mut O,
+    trace: &mut T,
 ) -> Stop
     requires start { script.old ≡ start script.old.source }
     requires healthy { machine.old.failed ≡ false }
@@ -108,16 +118,23 @@ pub fn answer_all<S: Source + Drop, O: Sink, D: Disk>(
     ensures source { IsCallOf S.borrow S.faults (result ≡ Stop.Read)
         script.old.source script.new.source }
     ensures machine { StopsAt D.borrow D.faults machine.old machine.new result }
-    ensures sink { PutsTo O.written O.faults (result ≡ Stop.Write) out.old out.new }
+    ensures traced { (p : PlainHistory) → StandsFor machine.old.kept p
+        → IfSome (text_left S.left script.old) (λ text. TracesTo machine.old.kept.masters p text
+        result (O.written out.old) (O.written out.new) (T.written trace.old) (T.written trace.new)) }
+    ensures sinks { PutsTo O.written O.faults (result ≡ Stop.Write) out.old out.new
+        × PutsTo T.written T.faults (result ≡ Stop.Trace) trace.old trace.new }
 {
     let mut buffer = Vec::new(alloc);
     'items: loop {
         match script.next() {
-            Ok(Next::Command(command)) => match answer(command, machine, &mut buffer, out) {
+            Ok(Next::Command(command)) => match answer(command, machine, &mut buffer, out, trace) {
                 None => {}
                 Some(stop) => return stop,
             },
-            Ok(Next::End) => return Stop::End,
+            Ok(Next::End) => match machine.step(alloc, Command::Epoch, trace) {
+                Ok(_) => return Stop::End,
+                Err(fault) => return stop_of(fault),
+            },
             Ok(Next::BadLine { line }) => return Stop::BadLine(line),
             Ok(Next::Long) => return Stop::Long,
             Err(ScriptFault::Read) => return Stop::Read,

@@ -17,6 +17,8 @@ pub struct BadTag {
 pub enum StepFault {
     /// A call of the disk failed.
     Disk,
+    /// A frame wasn't put to the sink of frames.
+    Trace,
     /// Memory was refused.
     Memory,
     /// A file's bytes aren't those that its owner sent.

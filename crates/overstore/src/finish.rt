@@ -113,7 +113,8 @@ pub fn put_fault<O: Sink>(alloc: Global, out: &mut O, fault: BeginFault) -> u8
 pub fn finish<O: Sink>(alloc: Global, stop: Stop, epoch: u32, out: &mut O) -> u8
     ensures finish { Finishes stop epoch (O.written out.old) (O.written out.new) result }
     ensures later { O.faults out.old ≤ O.faults out.new }
-    ensures write { result ≡ 6 → (stop ≡ Stop.Write) ⊎ Rose (O.faults out.old) (O.faults out.new) }
+    ensures write { result ≡ 6 → ((stop ≡ Stop.Write) ⊎ (stop ≡ Stop.Trace))
+        ⊎ Rose (O.faults out.old) (O.faults out.new) }
 {
     match stop {
         Stop::End => put_end(alloc, out, epoch),
@@ -122,6 +123,7 @@ pub fn finish<O: Sink>(alloc: Global, stop: Stop, epoch: u32, out: &mut O) -> u8
         Stop::Read => put_last(out, b"error read\n", Status::ReadFault),
         Stop::Disk => put_last(out, b"error disk\n", Status::DiskFault),
         Stop::Write => Status::WriteFault.code(),
+        Stop::Trace => Status::WriteFault.code(),
         Stop::Memory => put_memory(out),
         Stop::Tag(bad) => put_tag(alloc, out, &bad),
     }

@@ -12,6 +12,7 @@ ghost use Rattle.overstore.specs.Machine.{plain_masters};
 
 use crate::fault::StepFault;
 use ov_disk::Disk;
+use ov_io::Sink;
 use ov_keyfile::Masters;
 use ov_record::Update;
 use ov_script::{Command, Reply};
@@ -81,12 +82,20 @@ impl<D: Disk> Machine<D> {
     }
 
     /// One step, at whatever history the machine stands for.
-    pub fn step(&mut self, alloc: Global, command: Command) -> Result<Reply, StepFault>
+    pub fn step<T: Sink>(
+        &mut self,
+        alloc: Global,
+        command: Command,
+        trace: &mut T,
+    ) -> Result<Reply, StepFault>
         requires command { IsCommand command }
         requires healthy { self.old.failed ≡ false }
         ensures steps { Steps D.reads D.may_leave D.moment D.left_since
             command self.old self.new result }
+        ensures traced { Traces command self.old.kept (T.written trace.old) (T.written trace.new)
+            result }
         ensures step { IsStep D.borrow D.faults self.old self.new result }
+        ensures sink { PutsTo T.written T.faults (result ≡ Err StepFault.Trace) trace.old trace.new }
     {
         match command {
             Command::Enrol { user } => self.enrol(alloc, user),

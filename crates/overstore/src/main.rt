@@ -49,7 +49,7 @@ mod tests;
 use finish::put_last;
 use load::load;
 use ov_disk::FileDisk;
-use ov_io::{FileSource, StdSink, StdSource};
+use ov_io::{FileSink, FileSource, StdSink, StdSource};
 use run::run;
 use status::Status;
 use std::env;
@@ -103,6 +103,9 @@ const KEY_FILE: &str = "keys.hex";
 const BOOK_FILE: &str = "store.book";
 
 const BLOBS_FILE: &str = "store.blobs";
+
+// The frames between the parties, of the last run.
+const TRACE_FILE: &str = "trace.bin";
 
 // The words behind the program's name.
 fn words_of(rt: &HostRuntime) -> io::Result<Vec<String>> {
@@ -162,8 +165,18 @@ fn answer_words(rt: &HostRuntime, words: &[String]) -> u8 {
             let Ok(mut disk) = FileDisk::new(*rt, BOOK_FILE, BLOBS_FILE) else {
                 return put_last(&mut out, b"error memory\n", Status::OutOfMemory);
             };
+            let Ok(mut trace) = FileSink::new(*rt, TRACE_FILE) else {
+                return put_last(&mut out, b"error memory\n", Status::OutOfMemory);
+            };
             if is_load(words) {
-                return load(rt.alloc(), words, &mut keys, &mut out, &mut disk);
+                return load(
+                    rt.alloc(),
+                    words,
+                    &mut keys,
+                    &mut out,
+                    &mut trace,
+                    &mut disk,
+                );
             }
             let mut input = StdSource::new(rt.stdin());
             run(
@@ -172,6 +185,7 @@ fn answer_words(rt: &HostRuntime, words: &[String]) -> u8 {
                 &mut keys,
                 &mut input,
                 &mut out,
+                &mut trace,
                 &mut disk,
             )
         }

@@ -13,6 +13,7 @@ ghost use Rattle.overstore.specs.Printing.{IsKeysStatus, IsScriptStatus, IsStore
 ghost use Rattle.overstore.specs.Running.{EndsAs, EndsFor, FailsForFaults, ForImage, FromEach};
 ghost use Rattle.overstore.specs.Running.{IsDecided, JudgesImage, JudgesKeys, LeavesAsAtStart};
 ghost use Rattle.overstore.specs.Running.{PrintsAs, RefusesWords, RunsWell};
+ghost use Rattle.overstore.specs.Tracing.{TracesAs};
 ghost use Rattle.overstore.specs.Words.{mode_word, AreOther, IsRun};
 
 use crate::answer::answer_all;
@@ -51,11 +52,12 @@ fn mode_of(words: &[String]) -> Option<Mode>
 }
 
 // Answers the script with a machine that has answered nothing yet.
-fn answer_script<I: Source, O: Sink, D: Disk>(
+fn answer_script<I: Source, O: Sink, T: Sink, D: Disk>(
     alloc: Global,
     machine: &mut Machine<D>,
     input: &mut I,
     out: &mut O,
+    trace: &mut T,
 ) -> u8
     requires healthy { machine.old.failed ≡ false }
     ensures ends { let k = machine.old.kept.masters in
@@ -66,9 +68,13 @@ fn answer_script<I: Source, O: Sink, D: Disk>(
     ensures paced { (p : PlainHistory) → StandsFor machine.old.kept p
         → IfSome (I.left input.old) (λ _. IsPaced I.takes I.left p input.old input.new
         (O.written out.old) (O.written out.new)) }
+    ensures traced { (p : PlainHistory) → StandsFor machine.old.kept p
+        → IfSome (I.left input.old) (λ text. TracesAs machine.old.kept.masters p text result
+        (O.written out.old) (O.written out.new) (T.written trace.old) (T.written trace.new)) }
     ensures causes { EndsFor D.borrow D.faults machine.old.disk machine.new.disk result
         (Rose (I.faults input.old) (I.faults input.new))
-        (Rose (O.faults out.old) (O.faults out.new))
+        (Rose (O.faults out.old) (O.faults out.new)
+        ⊎ Rose (T.faults trace.old) (T.faults trace.new))
         (SaysTag (O.written out.old) (O.written out.new)
         × ((p : PlainHistory) → StandsFor machine.old.kept p → ⊥)) }
     ensures status { IsScriptStatus result }
@@ -79,20 +85,21 @@ fn answer_script<I: Source, O: Sink, D: Disk>(
         Err(Memory) => return put_last(out, b"error memory\n", Status::OutOfMemory),
     };
     let mut script = Script::over(buffer, input);
-    let stop = answer_all(alloc, &mut script, machine, out);
+    let stop = answer_all(alloc, &mut script, machine, out, trace);
     // The loan ends here, and what is known of the source goes back to `input`.
     let _ = script.into_source();
     finish(alloc, stop, machine.epoch(), out)
 }
 
 // Opens the disk under these masters and answers the script. The disk is given back.
-fn answer_over<I: Source, O: Sink, D: Disk + Drop>(
+fn answer_over<I: Source, O: Sink, T: Sink, D: Disk + Drop>(
     alloc: Global,
     mode: Mode,
     masters: Masters,
     disk: D,
     input: &mut I,
     out: &mut O,
+    trace: &mut T,
 ) -> (u8, D)
     ensures ends { let k = plain_masters masters in
         (p : PlainHistory) → OpensAs D.reads D.may_leave k mode p disk
@@ -103,20 +110,26 @@ fn answer_over<I: Source, O: Sink, D: Disk + Drop>(
         (p : PlainHistory) → OpensAs D.reads D.may_leave k mode p disk
         → IfSome (I.left input.old) (λ _. IsPaced I.takes I.left p input.old input.new
         (O.written out.old) (O.written out.new)) }
+    ensures traced { let k = plain_masters masters in
+        (p : PlainHistory) → OpensAs D.reads D.may_leave k mode p disk
+        → IfSome (I.left input.old) (λ text. TracesAs k p text result.0
+        (O.written out.old) (O.written out.new) (T.written trace.old) (T.written trace.new)) }
     ensures image { let k = plain_masters masters in
         Told (D.reads disk) (λ i. JudgesImage k mode i result.0
-        (O.written out.old) (O.written out.new) (input.new ≡ input.old)
+        (O.written out.old) (O.written out.new)
+        ((input.new ≡ input.old) × (trace.new ≡ trace.old))
         (LeavesAsAtStart D.reads D.may_leave D.moment D.left_since disk result.1)) }
     ensures causes { EndsFor D.borrow D.faults disk result.1 result.0
         (Rose (I.faults input.old) (I.faults input.new))
-        (Rose (O.faults out.old) (O.faults out.new))
+        (Rose (O.faults out.old) (O.faults out.new)
+        ⊎ Rose (T.faults trace.old) (T.faults trace.new))
         (SaysTag (O.written out.old) (O.written out.new) × TellsNothing (D.reads disk)) }
     ensures status { IsStoreStatus result.0 }
 {
     match begin(alloc, disk, masters, mode) {
         Ok(store) => {
             let mut machine = Machine::of(masters, store);
-            let code = answer_script(alloc, &mut machine, input, out);
+            let code = answer_script(alloc, &mut machine, input, out, trace);
             (code, machine.into_disk())
         }
         Err(refused) => (put_fault(alloc, out, refused.fault), refused.disk),
@@ -124,13 +137,14 @@ fn answer_over<I: Source, O: Sink, D: Disk + Drop>(
 }
 
 // Reads the key file, opens the disk and answers the script, once the words are known.
-fn answer_with_keys<K: Source, I: Source, O: Sink, D: Disk + Drop>(
+fn answer_with_keys<K: Source, I: Source, O: Sink, T: Sink, D: Disk + Drop>(
     alloc: Global,
     mode: Mode,
     keys: &mut K,
     disk: D,
     input: &mut I,
     out: &mut O,
+    trace: &mut T,
 ) -> (u8, D)
     ensures ends { IfSome (K.left keys.old) (λ file. IfSome (I.left input.old) (λ text.
         (k : PlainMasters) (p : PlainHistory) → AreMasters file k
@@ -141,38 +155,46 @@ fn answer_with_keys<K: Source, I: Source, O: Sink, D: Disk + Drop>(
         (k : PlainMasters) (p : PlainHistory) → AreMasters file k
         → OpensAs D.reads D.may_leave k mode p disk
         → IsPaced I.takes I.left p input.old input.new (O.written out.old) (O.written out.new))) }
+    ensures traced { IfSome (K.left keys.old) (λ file. IfSome (I.left input.old) (λ text.
+        (k : PlainMasters) (p : PlainHistory) → AreMasters file k
+        → OpensAs D.reads D.may_leave k mode p disk → TracesAs k p text result.0
+        (O.written out.old) (O.written out.new) (T.written trace.old) (T.written trace.new))) }
     ensures image { IfSome (K.left keys.old) (λ file. (k : PlainMasters) → AreMasters file k
         → Told (D.reads disk) (λ i. JudgesImage k mode i result.0
-        (O.written out.old) (O.written out.new) (input.new ≡ input.old)
+        (O.written out.old) (O.written out.new)
+        ((input.new ≡ input.old) × (trace.new ≡ trace.old))
         (LeavesAsAtStart D.reads D.may_leave D.moment D.left_since disk result.1))) }
     ensures keys { JudgesKeys (Unit {0}) (K.left keys.old) result.0
         (O.written out.old) (O.written out.new)
-        ((input.new ≡ input.old) × (result.1 ≡ disk)) }
+        ((input.new ≡ input.old) × (trace.new ≡ trace.old) × (result.1 ≡ disk)) }
     ensures causes { EndsFor D.borrow D.faults disk result.1 result.0
         (Rose (K.faults keys.old) (K.faults keys.new)
         ⊎ Rose (I.faults input.old) (I.faults input.new))
-        (Rose (O.faults out.old) (O.faults out.new))
+        (Rose (O.faults out.old) (O.faults out.new)
+        ⊎ Rose (T.faults trace.old) (T.faults trace.new))
         (SaysTag (O.written out.old) (O.written out.new) × TellsNothing (D.reads disk)) }
     ensures status { IsKeysStatus result.0 }
 {
     match read_masters(keys) {
-        Ok(Some(masters)) => answer_over(alloc, mode, masters, disk, input, out),
+        Ok(Some(masters)) => answer_over(alloc, mode, masters, disk, input, out, trace),
         Ok(None) => (put_last(out, b"error keys\n", Status::BadKeys), disk),
         Err(_) => (put_last(out, b"error read\n", Status::ReadFault), disk),
     }
 }
 
 /// Answers the script of `input` on `out` under the masters of the key file, over the store on
-/// `disk`, and gives the exit status. Where no store was begun there it begins one.
+/// `disk`, and gives the exit status. Where no store was begun there it begins one. Owner, readers
+/// and server are parties of their own, and each frame between them is put to `trace`.
 ///
 /// * `opened`: with a disk that opens, the access-matrix machine's lines are printed, from the
 ///   history for which the disk stands; the script alone decides the status; a reply is put before
-///   more of the script is taken than its command needs; and whatever the status, a stop leaves
-///   what was acknowledged, and at most one update more: at the end of the script the disk has it
-///   all, and the published tokens are the matrix.
+///   more of the script is taken than its command needs; what is sent is the transcripts of the
+///   commands and of the end, and nothing else; and whatever the status, a stop leaves what was
+///   acknowledged, and at most one update more: at the end of the script the disk has it all, and
+///   the published tokens are the matrix.
 /// * `image`: a disk that doesn't open for these masters and this mode is refused, the script isn't
-///   read, and nothing is written.
-/// * `keys`: without a key file the script and the disk are left as they are.
+///   read, and nothing is sent or written.
+/// * `keys`: without a key file the script and the disk are left as they are, and nothing is sent.
 /// * `words`: other words are refused, and all files are left as they are.
 /// * `causes`: a fault is answered only where its count of faults rose, and a wrong tag only with
 ///   its line, and never where the disk tells its bytes.
@@ -180,12 +202,13 @@ fn answer_with_keys<K: Source, I: Source, O: Sink, D: Disk + Drop>(
 /// The clauses on what is printed, on the script, the key file and the disk hold where the sources,
 /// the sink and the disk tell their bytes; those on the counts of faults hold always. Each update
 /// is on the disk before its reply line is put, and each line is put by itself.
-pub fn run<K: Source, I: Source, O: Sink, D: Disk>(
+pub fn run<K: Source, I: Source, O: Sink, T: Sink, D: Disk>(
     alloc: Global,
     words: &[String],
     keys: &mut K,
     input: &mut I,
     out: &mut O,
+    trace: &mut T,
     disk: &mut D,
 ) -> u8
     ensures opened { FromEach D.reads D.may_leave disk.old
@@ -194,27 +217,34 @@ pub fn run<K: Source, I: Source, O: Sink, D: Disk>(
         (IsDecided text result
         (Rose (K.faults keys.old) (K.faults keys.new))
         (Rose (I.faults input.old) (I.faults input.new))
-        (Rose (O.faults out.old) (O.faults out.new))
+        (Rose (O.faults out.old) (O.faults out.new)
+        ⊎ Rose (T.faults trace.old) (T.faults trace.new))
         (Rose (D.faults disk.old) (D.faults disk.new)))
         (IsPaced I.takes I.left p input.old input.new (O.written out.old) (O.written out.new))
+        (TracesAs k p text result (O.written out.old) (O.written out.new)
+        (T.written trace.old) (T.written trace.new))
         (Endures D.reads D.may_leave D.moment D.left_since k p text result disk.old disk.new
         (O.written out.old) (O.written out.new))) }
     ensures image { ForImage (D.reads disk.old) words.now (K.left keys.old) (λ k mode i.
-        JudgesImage k mode i result (O.written out.old) (O.written out.new) (input.new ≡ input.old)
+        JudgesImage k mode i result (O.written out.old) (O.written out.new)
+        ((input.new ≡ input.old) × (trace.new ≡ trace.old))
         (LeavesAsAtStart D.reads D.may_leave D.moment D.left_since disk.old disk.new)) }
     ensures keys { JudgesKeys ((mode : Mode) × IsRun mode words.now) (K.left keys.old) result
-        (O.written out.old) (O.written out.new) ((input.new ≡ input.old) × (disk.new ≡ disk.old)) }
+        (O.written out.old) (O.written out.new)
+        ((input.new ≡ input.old) × (trace.new ≡ trace.old) × (disk.new ≡ disk.old)) }
     ensures words { RefusesWords (AreOther words.now) result (O.written out.old) (O.written out.new)
-        ((keys.new ≡ keys.old) × (input.new ≡ input.old) × (disk.new ≡ disk.old)) }
+        ((keys.new ≡ keys.old) × (input.new ≡ input.old) × (trace.new ≡ trace.old)
+        × (disk.new ≡ disk.old)) }
     ensures causes { FailsForFaults result (Rose (D.faults disk.old) (D.faults disk.new))
         (Rose (K.faults keys.old) (K.faults keys.new)
         ⊎ Rose (I.faults input.old) (I.faults input.new))
-        (Rose (O.faults out.old) (O.faults out.new))
+        (Rose (O.faults out.old) (O.faults out.new)
+        ⊎ Rose (T.faults trace.old) (T.faults trace.new))
         (SaysTag (O.written out.old) (O.written out.new) × TellsNothing (D.reads disk.old)) }
 {
     match mode_of(words) {
         Some(mode) => {
-            let (code, _disk) = answer_with_keys(alloc, mode, keys, disk, input, out);
+            let (code, _disk) = answer_with_keys(alloc, mode, keys, disk, input, out, trace);
             code
         }
         None => put_last(out, b"error usage\n", Status::Usage),

@@ -1,9 +1,11 @@
 use Rattle.std.proofs.KnownBytes.{Appends-nil}
-use Rattle.std.proofs.Common.{[], ap, arith, subst, sym, ◌∙◌}
+use Rattle.std.proofs.Common.{[], ap, arith, refl, subst, sym, ◌∙◌}
 use Rattle.std.specs.Prelude.{Err, Some}
 use Rattle.overstore.specs.Answering.{Answers}
 use Rattle.overstore.specs.declared.answer.Stop.{Stop}
-use Rattle.overstore.proofs.Answering.{disk_so, if_none, never_read, never_write, put_grows, put_never, put_so, tag_so, unanswered_so}
+use Rattle.overstore.specs.Tracing.{TracesLine}
+use Rattle.overstore.proofs.Answering.{disk_so, if_none, never_read, never_write, put_grows, put_never, put_no_trace, put_so, tag_so, trace_so, unanswered_so}
+use Rattle.overstore.proofs.Tracing.{fault_traced, line_traced}
 use Rattle.overstore.proofs.answer.answer.Goals as goal
 
 pub returns-in-Ok-clause-answer : goal.returns-in-Ok-clause-answer
@@ -16,7 +18,7 @@ returns-in-Err-clause-answer g c = λ k p at stands.
     subst (λ (stop : Stop). Answers g.D.Disk.reads g.D.Disk.may_leave g.D.Disk.moment g.D.Disk.left_since k p c.args.command (Some stop)
     (g.O.Sink.written c.args.out.now) (g.O.Sink.written c.args.out.now) c.args.machine.now c.step.new.self) (sym c.stop_of.ensures)
     (unanswered_so g.D.Disk.reads g.D.Disk.may_leave g.D.Disk.moment g.D.Disk.left_since k p c.args.command c.args.machine.now c.step.new.self c.in-Err.fault
-    (g.O.Sink.written c.args.out.now) (g.met.D.Disk.only_now c.args.machine.now.disk) (c.in-Err.ensures.steps k p at stands))
+    (g.O.Sink.written c.args.out.now) (c.in-Err.ensures.steps k p at stands))
 
 pub returns-in-Ok-clause-step : goal.returns-in-Ok-clause-step
 returns-in-Ok-clause-step g c =
@@ -58,4 +60,29 @@ returns-in-Err-clause-sink g c = record {
   grew = ([], Appends-nil _);
   later = omega arith;
   write = λ e. absurd (never_write c.in-Err.fault c.stop_of.result c.stop_of.ensures e);
+}
+
+pub returns-in-Ok-clause-traced : goal.returns-in-Ok-clause-traced
+returns-in-Ok-clause-traced g c = λ p stands.
+    line_traced _ p c.args.command _ _ _ _ c.put_reply.result c.in-Ok.reply c.put_reply.ensures.put
+    (c.in-Ok.ensures.steps c.args.machine.now.kept.masters p refl stands).0 (c.in-Ok.ensures.traced p stands)
+
+pub returns-in-Err-clause-traced : goal.returns-in-Err-clause-traced
+returns-in-Err-clause-traced g c = λ p stands.
+    subst (λ (stop : Stop). TracesLine c.args.machine.now.kept.masters p c.args.command (Some stop) (g.O.Sink.written c.args.out.now) (g.O.Sink.written c.args.out.now)
+    (g.T.Sink.written c.args.trace.now) (g.T.Sink.written c.step.new.trace)) (sym c.stop_of.ensures)
+    (fault_traced _ p c.args.command c.in-Err.fault _ _ _ (c.in-Err.ensures.traced p stands))
+
+pub returns-in-Ok-clause-trace : goal.returns-in-Ok-clause-trace
+returns-in-Ok-clause-trace g c = record {
+  grew = c.in-Ok.ensures.sink.grew;
+  later = c.in-Ok.ensures.sink.later;
+  write = λ e. absurd (put_no_trace c.put_reply.result _ _ _ c.put_reply.ensures.put e);
+}
+
+pub returns-in-Err-clause-trace : goal.returns-in-Err-clause-trace
+returns-in-Err-clause-trace g c = record {
+  grew = c.in-Err.ensures.sink.grew;
+  later = c.in-Err.ensures.sink.later;
+  write = trace_so c.in-Err.fault c.stop_of.result _ c.stop_of.ensures (λ e. c.in-Err.ensures.sink.write (ap Err e));
 }

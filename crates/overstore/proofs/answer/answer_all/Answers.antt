@@ -1,8 +1,13 @@
 use Rattle.std.proofs.KnownBytes.{Appends-nil}
-use Rattle.std.proofs.Common.{[], ap, arith, ◌∙◌, Some}
+use Rattle.std.specs.Prelude.{IfSome, Err}
+use Rattle.std.proofs.Common.{[], ap, arith, ◌∙◌, List, ℕ, Option, Some, refl, subst, sym}
 use Rattle.std.proofs.lemmas.Grind.{common_steps}
 use Rattle.ov_script.specs.Reading.{AtEnd, BadAt, TooLong}
-use Rattle.overstore.proofs.Answering.{answered, answered_first, answered_more, answer_stops, begins_so, commands_come, goes_on, grows_on, kept_more, rose_since, starts_fresh, tag_at_none}
+use Rattle.overstore.proofs.Answering.{answered, answered_end, answered_first, answered_more, answer_stops, begins_so, commands_come, disk_only, end_stops, end_tag, goes_on, grows_on, kept_more, no_write, rose_since, starts_fresh, tag_at_none, tag_only, trace_only}
+use Rattle.overstore.specs.Answering.{Stops}
+use Rattle.overstore.specs.Tracing.{TracesTo}
+use Rattle.overstore.specs.declared.answer.Stop.{Stop}
+use Rattle.overstore.proofs.Tracing.{none_traced, traced_end, traced_end_stops, traced_first, traced_more, traced_stops, traced_whole}
 use Rattle.overstore.proofs.Pacing.{command_goes_on, none_pending, none_yet, paced_more, paced_next}
 use Rattle.overstore.proofs.answer.answer_all.Goals as goal
 
@@ -22,6 +27,9 @@ items-init g c = record {
   same_disk = grind (arith, common_steps);
   disk_later = grind (arith, common_steps);
   write_later = grind (arith, common_steps);
+  traced = λ p stands. none_traced _ p _ _ _ _ _ _ stands (starts_fresh _ c.requires.start).0 (starts_fresh _ c.requires.start).1;
+  trace_grew = ([], Appends-nil _);
+  trace_later = grind (arith, common_steps);
 }
 
 pub answer-requires-clause-command : goal.answer-requires-clause-command
@@ -53,12 +61,13 @@ items-preserved g c = record {
   same_disk = c.in-None.ensures.step.call.same ∙ c.items.invariant.same_disk;
   disk_later = omega (arith, c.items.invariant.disk_later, c.in-None.ensures.step.call.later);
   write_later = omega (arith, c.items.invariant.write_later, c.in-None.ensures.sink.later);
+  traced = λ p stands.
+      traced_more _ p _ c.items.invariant.masters _ _ _ _ _ _ _ _ _ _ _ _ _ _ _
+      (c.items.invariant.traced p stands) (rw c.in-Ok-Command.field-0-is at (c.in-Ok-Command.ensures.says c.items.invariant.ended))
+      (λ q keeps. (c.in-None.ensures.answer _ q refl keeps).1.stands) c.in-None.ensures.traced;
+  trace_grew = grows_on _ _ _ c.items.invariant.trace_grew c.in-None.ensures.trace.grew;
+  trace_later = omega (arith, c.items.invariant.trace_later, c.in-None.ensures.trace.later);
 }
-
-pub returns-in-Ok-End-clause-stop : goal.returns-in-Ok-End-clause-stop
-returns-in-Ok-End-clause-stop g c = λ p stands.
-    answered g.D.Disk.reads g.D.Disk.may_leave g.D.Disk.moment g.D.Disk.left_since _ p _ _ c.items.invariant.masters _ _ _ _ _ _ AtEnd
-    (c.items.invariant.so_far p stands) (rw c.in-Ok-End.field-0-is at (c.in-Ok-End.ensures.says c.items.invariant.ended))
 
 pub returns-in-Ok-BadLine-clause-stop : goal.returns-in-Ok-BadLine-clause-stop
 returns-in-Ok-BadLine-clause-stop g c = λ p stands.
@@ -95,72 +104,30 @@ returns-in-Some-clause-machine g c = record {
   );
 }
 
-pub returns-in-Some-clause-sink : goal.returns-in-Some-clause-sink
-returns-in-Some-clause-sink g c = record {
-  grew = grows_on _ _ _ c.items.invariant.grew c.in-Some.ensures.sink.grew;
-  later = omega (arith, c.items.invariant.write_later, c.in-Some.ensures.sink.later);
-  write = λ e. rose_since _ _ _ c.items.invariant.write_later (c.in-Some.ensures.sink.write (ap Some e));
-}
-
-pub returns-in-Ok-End-clause-machine : goal.returns-in-Ok-End-clause-machine
-returns-in-Ok-End-clause-machine g c =
-    let inv = c.items.invariant in
-    record { call = record { same = inv.same_disk; later = inv.disk_later; disk = λ e. absurd (cc) }; tag = λ bad e. absurd (cc) }
-
-pub returns-in-Ok-End-clause-sink : goal.returns-in-Ok-End-clause-sink
-returns-in-Ok-End-clause-sink g c =
-    let inv = c.items.invariant in
-    record { grew = inv.grew; later = inv.write_later; write = λ e. absurd (cc) }
-
 pub returns-in-Ok-BadLine-clause-machine : goal.returns-in-Ok-BadLine-clause-machine
 returns-in-Ok-BadLine-clause-machine g c =
     let inv = c.items.invariant in
     record { call = record { same = inv.same_disk; later = inv.disk_later; disk = λ e. absurd (cc) }; tag = λ bad e. absurd (cc) }
-
-pub returns-in-Ok-BadLine-clause-sink : goal.returns-in-Ok-BadLine-clause-sink
-returns-in-Ok-BadLine-clause-sink g c =
-    let inv = c.items.invariant in
-    record { grew = inv.grew; later = inv.write_later; write = λ e. absurd (cc) }
 
 pub returns-in-Ok-Long-clause-machine : goal.returns-in-Ok-Long-clause-machine
 returns-in-Ok-Long-clause-machine g c =
     let inv = c.items.invariant in
     record { call = record { same = inv.same_disk; later = inv.disk_later; disk = λ e. absurd (cc) }; tag = λ bad e. absurd (cc) }
 
-pub returns-in-Ok-Long-clause-sink : goal.returns-in-Ok-Long-clause-sink
-returns-in-Ok-Long-clause-sink g c =
-    let inv = c.items.invariant in
-    record { grew = inv.grew; later = inv.write_later; write = λ e. absurd (cc) }
-
 pub returns-in-Err-Read-clause-machine : goal.returns-in-Err-Read-clause-machine
 returns-in-Err-Read-clause-machine g c =
     let inv = c.items.invariant in
     record { call = record { same = inv.same_disk; later = inv.disk_later; disk = λ e. absurd (cc) }; tag = λ bad e. absurd (cc) }
-
-pub returns-in-Err-Read-clause-sink : goal.returns-in-Err-Read-clause-sink
-returns-in-Err-Read-clause-sink g c =
-    let inv = c.items.invariant in
-    record { grew = inv.grew; later = inv.write_later; write = λ e. absurd (cc) }
 
 pub returns-in-Err-Memory-clause-machine : goal.returns-in-Err-Memory-clause-machine
 returns-in-Err-Memory-clause-machine g c =
     let inv = c.items.invariant in
     record { call = record { same = inv.same_disk; later = inv.disk_later; disk = λ e. absurd (cc) }; tag = λ bad e. absurd (cc) }
 
-pub returns-in-Err-Memory-clause-sink : goal.returns-in-Err-Memory-clause-sink
-returns-in-Err-Memory-clause-sink g c =
-    let inv = c.items.invariant in
-    record { grew = inv.grew; later = inv.write_later; write = λ e. absurd (cc) }
-
 pub returns-in-Some-clause-paced : goal.returns-in-Some-clause-paced
 returns-in-Some-clause-paced g c = λ p stands.
     paced_next g.S.Source.takes g.S.Source.left p g.D.Disk.reads g.D.Disk.may_leave g.D.Disk.moment g.D.Disk.left_since _ _ _ _ _ _ _ _ _ _ _ _ _ _ _
     (none_pending _ c.requires.start) (c.items.invariant.so_far p stands) (c.items.invariant.paced p stands) c.in-Ok-Command.ensures.needed c.in-Some.ensures.sink.grew
-
-pub returns-in-Ok-End-clause-paced : goal.returns-in-Ok-End-clause-paced
-returns-in-Ok-End-clause-paced g c = λ p stands.
-    paced_next g.S.Source.takes g.S.Source.left p g.D.Disk.reads g.D.Disk.may_leave g.D.Disk.moment g.D.Disk.left_since _ _ _ _ _ _ _ _ _ _ _ _ _ _ _
-    (none_pending _ c.requires.start) (c.items.invariant.so_far p stands) (c.items.invariant.paced p stands) c.in-Ok-End.ensures.needed ([], Appends-nil _)
 
 pub returns-in-Ok-BadLine-clause-paced : goal.returns-in-Ok-BadLine-clause-paced
 returns-in-Ok-BadLine-clause-paced g c = λ p stands.
@@ -181,3 +148,79 @@ pub returns-in-Err-Memory-clause-paced : goal.returns-in-Err-Memory-clause-paced
 returns-in-Err-Memory-clause-paced g c = λ p stands.
     paced_next g.S.Source.takes g.S.Source.left p g.D.Disk.reads g.D.Disk.may_leave g.D.Disk.moment g.D.Disk.left_since _ _ _ _ _ _ _ _ _ _ _ _ _ _ _
     (none_pending _ c.requires.start) (c.items.invariant.so_far p stands) (c.items.invariant.paced p stands) c.in-Err-Memory.ensures.needed ([], Appends-nil _)
+
+pub returns-in-Some-clause-sinks : goal.returns-in-Some-clause-sinks
+returns-in-Some-clause-sinks g c =
+    let inv = c.items.invariant in (
+      record {
+        grew = grows_on _ _ _ inv.grew c.in-Some.ensures.sink.grew;
+        later = omega (arith, inv.write_later, c.in-Some.ensures.sink.later);
+        write = λ e. rose_since _ _ _ inv.write_later (c.in-Some.ensures.sink.write (ap Some e));
+      },
+      record {
+        grew = grows_on _ _ _ inv.trace_grew c.in-Some.ensures.trace.grew;
+        later = omega (arith, inv.trace_later, c.in-Some.ensures.trace.later);
+        write = λ e. rose_since _ _ _ inv.trace_later (c.in-Some.ensures.trace.write (ap Some e));
+      },
+    )
+
+pub returns-in-Some-clause-traced : goal.returns-in-Some-clause-traced
+returns-in-Some-clause-traced g c = λ p stands.
+    traced_stops _ p _ c.items.invariant.masters _ _ _ _ _ _ c.machine.kept _ _ _ _ _ _ _ _ _
+    (c.items.invariant.traced p stands) (rw c.in-Ok-Command.field-0-is at (c.in-Ok-Command.ensures.says c.items.invariant.ended)) c.in-Some.ensures.traced
+
+pub returns-in-Ok-BadLine-clause-traced : goal.returns-in-Ok-BadLine-clause-traced
+returns-in-Ok-BadLine-clause-traced g c = λ p stands.
+    traced_whole _ p _ c.items.invariant.masters _ _ _ _ _ _ _ _ (BadAt c.in-Ok-BadLine.line) (λ commands. refl)
+    (c.items.invariant.traced p stands) (rw c.in-Ok-BadLine.field-0-is at (c.in-Ok-BadLine.ensures.says c.items.invariant.ended))
+
+pub returns-in-Ok-BadLine-clause-sinks : goal.returns-in-Ok-BadLine-clause-sinks
+returns-in-Ok-BadLine-clause-sinks g c =
+    let inv = c.items.invariant in (
+      record { grew = inv.grew; later = inv.write_later; write = λ e. absurd (cc) },
+      record { grew = inv.trace_grew; later = inv.trace_later; write = λ e. absurd (cc) },
+    )
+
+pub returns-in-Ok-Long-clause-traced : goal.returns-in-Ok-Long-clause-traced
+returns-in-Ok-Long-clause-traced g c = λ p stands.
+    traced_whole _ p _ c.items.invariant.masters _ _ _ _ _ _ _ _ TooLong (λ commands. refl)
+    (c.items.invariant.traced p stands) (rw c.in-Ok-Long.field-0-is at (c.in-Ok-Long.ensures.says c.items.invariant.ended))
+
+pub returns-in-Ok-Long-clause-sinks : goal.returns-in-Ok-Long-clause-sinks
+returns-in-Ok-Long-clause-sinks g c =
+    let inv = c.items.invariant in (
+      record { grew = inv.grew; later = inv.write_later; write = λ e. absurd (cc) },
+      record { grew = inv.trace_grew; later = inv.trace_later; write = λ e. absurd (cc) },
+    )
+
+pub returns-in-Err-Read-clause-traced : goal.returns-in-Err-Read-clause-traced
+returns-in-Err-Read-clause-traced g c = λ p stands.
+    traced_first _ p _ c.items.invariant.masters _ _ _ _ _ _ _ _ (c.items.invariant.traced p stands)
+
+pub returns-in-Err-Read-clause-sinks : goal.returns-in-Err-Read-clause-sinks
+returns-in-Err-Read-clause-sinks g c =
+    let inv = c.items.invariant in (
+      record { grew = inv.grew; later = inv.write_later; write = λ e. absurd (cc) },
+      record { grew = inv.trace_grew; later = inv.trace_later; write = λ e. absurd (cc) },
+    )
+
+pub returns-in-Err-Memory-clause-traced : goal.returns-in-Err-Memory-clause-traced
+returns-in-Err-Memory-clause-traced g c = λ p stands.
+    traced_first _ p _ c.items.invariant.masters _ _ _ _ _ _ _ _ (c.items.invariant.traced p stands)
+
+pub returns-in-Err-Memory-clause-sinks : goal.returns-in-Err-Memory-clause-sinks
+returns-in-Err-Memory-clause-sinks g c =
+    let inv = c.items.invariant in (
+      record { grew = inv.grew; later = inv.write_later; write = λ e. absurd (cc) },
+      record { grew = inv.trace_grew; later = inv.trace_later; write = λ e. absurd (cc) },
+    )
+
+-- ---- the end of the script
+
+pub step-requires-clause-command : goal.step-requires-clause-command
+step-requires-clause-command g c = tt
+
+pub returns-in-Ok-End-Ok-clause-stop : goal.returns-in-Ok-End-Ok-clause-stop
+returns-in-Ok-End-Ok-clause-stop g c = λ p stands.
+    answered_end g.D.Disk.reads g.D.Disk.may_leave g.D.Disk.moment g.D.Disk.left_since _ p _ _ c.items.invariant.masters _ _ _ _ _ _ _ _
+    (c.items.invariant.so_far p stands) (rw c.in-Ok-End.field-0-is at (c.in-Ok-End.ensures.says c.items.invariant.ended)) c.in-Ok-End-Ok.ensures.steps

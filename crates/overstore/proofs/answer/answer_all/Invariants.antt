@@ -4,6 +4,7 @@ use Rattle.ov_history.specs.Plain.{PlainHistory}
 use Rattle.ov_script.specs.Place.{text_left}
 use Rattle.overstore.specs.Answering.{Grows, SoFar}
 use Rattle.overstore.specs.Machine.{StandsFor}
+use Rattle.overstore.specs.Tracing.{TracesSoFar}
 use Rattle.overstore.proofs.Pacing.{IsPacedSoFar}
 use Rattle.overstore.proofs.answer.answer_all.Given as goal
 
@@ -25,6 +26,11 @@ invariant-items g l = record {
   same_disk : g.D.Disk.borrow l.machine.disk ≡ g.D.Disk.borrow l.fn.machine.disk;
   disk_later : g.D.Disk.faults l.fn.machine.disk ≤ g.D.Disk.faults l.machine.disk;
   write_later : g.O.Sink.faults l.fn.out ≤ g.O.Sink.faults l.out;
+  traced : (p : PlainHistory) → StandsFor l.fn.machine.kept p → IfSome (text_left g.S.Source.left l.fn.script) (λ text.
+      TracesSoFar l.fn.machine.kept.masters p text (text_left g.S.Source.left l.script) l.script.line l.script.room l.machine.kept
+      (g.O.Sink.written l.fn.out) (g.O.Sink.written l.out) (g.T.Sink.written l.fn.trace) (g.T.Sink.written l.trace));
+  trace_grew : Grows (g.T.Sink.written l.fn.trace) (g.T.Sink.written l.trace);
+  trace_later : g.T.Sink.faults l.fn.trace ≤ g.T.Sink.faults l.trace;
 }
 
 abbrev pub decreases-items : goal.decreases-items

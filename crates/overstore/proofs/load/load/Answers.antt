@@ -9,6 +9,7 @@ returns-in-Some-clause-opened g c =
     load_well (λ (l : MutBor g.row.D.Denot). l.now) g.D.Disk.reads g.D.Disk.may_leave g.D.Disk.moment g.D.Disk.left_since
     (record { ref_ptr = c.args.disk.ref_ptr; ghost_name = _; now = c.args.disk.now }) c.load_with_keys-code.result.1 _ (search rules)
     c.args.words.now (g.K.Source.left c.args.keys.now) (g.O.Sink.written c.args.out.now) (g.O.Sink.written c.load_with_keys-code.new.out)
+    (g.T.Sink.written c.args.trace.now) (g.T.Sink.written c.load_with_keys-code.new.trace)
     c.load_with_keys-code.result.0 c.in-Some.load c.in-Some.ensures.found _ _ _ (search rules) causes.read causes.write
     c.load_with_keys-code.ensures.ends
 
@@ -17,6 +18,7 @@ returns-in-Some-clause-image g c =
     load_image (λ (l : MutBor g.row.D.Denot). l.now) g.D.Disk.reads g.D.Disk.may_leave g.D.Disk.moment g.D.Disk.left_since
     (record { ref_ptr = c.args.disk.ref_ptr; ghost_name = _; now = c.args.disk.now }) c.load_with_keys-code.result.1 _ (search rules)
     c.args.words.now (g.K.Source.left c.args.keys.now) (g.O.Sink.written c.args.out.now) (g.O.Sink.written c.load_with_keys-code.new.out)
+    (g.T.Sink.written c.args.trace.now) (g.T.Sink.written c.load_with_keys-code.new.trace)
     c.load_with_keys-code.result.0 c.in-Some.load c.in-Some.ensures.found (g.D.Disk.reads c.args.disk.now) _ c.load_with_keys-code.ensures.image
 
 pub returns-in-Some-clause-causes : goal.returns-in-Some-clause-causes
@@ -42,10 +44,10 @@ returns-in-None-clause-image g c = λ load is. absurd (c.in-None.ensures.none lo
 
 pub returns-in-None-clause-keys : goal.returns-in-None-clause-keys
 returns-in-None-clause-keys g c =
-    judged_unasked _ _ _ _ _ _ (λ asked. c.in-None.ensures.none asked.0 asked.1) c.put_last.ensures.ends refl
+    judged_unasked _ _ _ _ _ _ (λ asked. c.in-None.ensures.none asked.0 asked.1) c.put_last.ensures.ends (refl, refl)
 
 pub returns-in-None-clause-words : goal.returns-in-None-clause-words
-returns-in-None-clause-words g c = words_refused _ _ _ _ _ c.in-None.ensures.none (refl, refl) c.put_last.ensures.ends
+returns-in-None-clause-words g c = words_refused _ _ _ _ _ c.in-None.ensures.none (refl, refl, refl) c.put_last.ensures.ends
 
 pub returns-in-Some-clause-words : goal.returns-in-Some-clause-words
 returns-in-Some-clause-words g c =

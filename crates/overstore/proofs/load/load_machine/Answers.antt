@@ -10,15 +10,15 @@ use Rattle.overstore.proofs.load.load_machine.Goals as goal
 
 pub returns-in-Ok-clause-ends : goal.returns-in-Ok-clause-ends
 returns-in-Ok-clause-ends g c = λ h stands.
-    ends_loaded g.D.Disk.reads g.D.Disk.may_leave g.D.Disk.moment g.D.Disk.left_since _ h c.args.load.now _ _ _
+    ends_loaded g.D.Disk.reads g.D.Disk.may_leave g.D.Disk.moment g.D.Disk.left_since _ h c.args.load.now _ _ _ _ _
     c.args.machine.now c.answer_workload.new.machine c.in-Ok.tally (c.in-Ok.ensures.loads h stands)
-    (g.met.D.Disk.reads_one c.answer_workload.new.machine.disk) _ c.epoch.ensures c.put_summary.ensures.ends
+    (g.met.D.Disk.reads_one c.answer_workload.new.machine.disk) _ c.epoch.ensures c.put_summary.ensures.ends (c.in-Ok.ensures.traced h stands)
 
 pub returns-in-Err-clause-ends : goal.returns-in-Err-clause-ends
 returns-in-Err-clause-ends g c = λ h stands.
-    ends_faulted g.D.Disk.reads g.D.Disk.may_leave g.D.Disk.moment g.D.Disk.left_since _ h c.args.load.now _ _ _
+    ends_faulted g.D.Disk.reads g.D.Disk.may_leave g.D.Disk.moment g.D.Disk.left_since _ h c.args.load.now _ _ _ _ _
     c.args.machine.now c.answer_workload.new.machine c.in-Err.fault _ (c.in-Err.ensures.loads h stands)
-    (rw c.stop_of.ensures at c.finish.ensures.finish)
+    (rw c.stop_of.ensures at c.finish.ensures.finish) (c.in-Err.ensures.traced h stands)
 
 pub returns-in-Ok-clause-status : goal.returns-in-Ok-clause-status
 returns-in-Ok-clause-status g c =

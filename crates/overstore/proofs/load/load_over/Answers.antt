@@ -1,9 +1,9 @@
-use Rattle.std.proofs.Common.{arith, inr, subst, sym}
+use Rattle.std.proofs.Common.{arith, inl, inr, refl, subst, sym}
 use Rattle.std.proofs.lemmas.Grind.{common_steps}
 use Rattle.overstore.specs.Machine.{plain_masters}
 use Rattle.overstore.specs.Printing.{IsStoreStatus}
 use Rattle.overstore.specs.Disks.{Holds}
-use Rattle.overstore.specs.Loading.{LoadEndsAs}
+use Rattle.overstore.specs.LoadEnding.{LoadEndsAs}
 use Rattle.overstore.proofs.Beginning.{disk_said, tells_nothing}
 use Rattle.overstore.proofs.Judging.{judged_open, judged_refused}
 use Rattle.overstore.proofs.LoadEnds.{begin_no_script, load_begun, load_refused}
@@ -24,7 +24,7 @@ returns-in-Err-clause-status g c = (
 pub returns-in-Ok-clause-ends : goal.returns-in-Ok-clause-ends
 returns-in-Ok-clause-ends g c = λ h opens.
     load_begun g.D.Disk.reads g.D.Disk.may_leave g.D.Disk.moment g.D.Disk.left_since
-    (plain_masters c.args.masters) h c.args.load.now _ _ _ c.args.disk opens
+    (plain_masters c.args.masters) h c.args.load.now _ _ _ _ _ c.args.disk opens
     c.of-machine.result c.in-Ok.store c.of-machine.ensures.store c.of-machine.ensures.masters
     c.in-Ok.ensures.new c.in-Ok.ensures.found c.in-Ok.ensures.any_moment
     c.into_disk.result
@@ -32,6 +32,7 @@ returns-in-Ok-clause-ends g c = λ h opens.
     LoadEndsAs g.D.Disk.reads g.D.Disk.may_leave g.D.Disk.moment g.D.Disk.left_since
     c.of-machine.result.kept.masters q c.args.load.now c.of-machine.result.disk last
     (g.O.Sink.written c.args.out.now) (g.O.Sink.written c.load_machine-code.new.out)
+    (g.T.Sink.written c.args.trace.now) (g.T.Sink.written c.load_machine-code.new.trace)
     c.load_machine-code.result (Holds g.D.Disk.reads g.D.Disk.may_leave
     c.of-machine.result.kept.masters q c.of-machine.result.disk))
     (sym c.into_disk.ensures) (c.load_machine-code.ensures.ends q stands))
@@ -39,9 +40,9 @@ returns-in-Ok-clause-ends g c = λ h opens.
 pub returns-in-Err-clause-ends : goal.returns-in-Err-clause-ends
 returns-in-Err-clause-ends g c = λ h opens.
     load_refused g.D.Disk.reads g.D.Disk.may_leave g.D.Disk.moment g.D.Disk.left_since
-    (plain_masters c.args.masters) h c.args.load.now _ _ _ c.args.disk opens
+    (plain_masters c.args.masters) h c.args.load.now _ _ _ _ _ c.args.disk opens
     c.in-Err.refused.disk c.in-Err.refused.fault c.in-Err.ensures.fault c.put_fault.ensures.ends
-    c.in-Err.ensures.any_moment
+    c.in-Err.ensures.any_moment (g.met.D.Disk.counts_now c.in-Err.refused.disk)
 
 pub returns-in-Ok-clause-image : goal.returns-in-Ok-clause-image
 returns-in-Ok-clause-image g c = λ i told.
@@ -53,7 +54,7 @@ pub returns-in-Err-clause-image : goal.returns-in-Err-clause-image
 returns-in-Err-clause-image g c = λ i told.
     judged_refused (plain_masters c.args.masters) c.args.load.now.mode i _ _ _ _ _ c.in-Err.refused.fault
     (c.in-Err.ensures.fault i told)
-    c.put_fault.ensures.ends tt (c.in-Err.ensures.untouched i told)
+    c.put_fault.ensures.ends refl (c.in-Err.ensures.untouched i told)
 
 pub returns-in-Ok-clause-causes : goal.returns-in-Ok-clause-causes
 returns-in-Ok-clause-causes g c =
@@ -88,6 +89,6 @@ returns-in-Err-clause-causes g c =
         disk = λ e. c.in-Err.ensures.call.2 (disk_said c.in-Err.refused.fault _ _ _ _ ends e);
       };
       read = λ e. fault_no_read c.in-Err.refused.fault _ _ _ _ ends e;
-      write = c.put_fault.ensures.write;
+      write = λ e. inl (c.put_fault.ensures.write e);
       tag = λ e. absurd (fault_no_tag c.in-Err.refused.fault _ _ _ _ ends e);
     }

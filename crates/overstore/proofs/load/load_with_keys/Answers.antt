@@ -1,10 +1,10 @@
-use Rattle.std.proofs.Common.{arith, inl, inr, refl, rules, ℕ, List, [], Some}
+use Rattle.std.proofs.Common.{◌≡◌, arith, inl, inr, refl, rules, ℕ, List, [], Some}
 use Rattle.ov_disk.specs.Disk.{Told}
 use Rattle.ov_disk.proofs.Runs.{started}
 use Rattle.ov_history.specs.Masters.{Masters}
 use Rattle.ov_history.specs.Plain.{PlainHistory}
 use Rattle.overstore.specs.Disks.{OpensAs}
-use Rattle.overstore.specs.Loading.{LoadEndsAs}
+use Rattle.overstore.specs.LoadEnding.{LoadEndsAs}
 use Rattle.overstore.specs.Machine.{plain_masters}
 use Rattle.overstore.specs.Printing.{IsKeysStatus}
 use Rattle.overstore.specs.Running.{JudgesImage, LeavesAsAtStart}
@@ -31,42 +31,42 @@ returns-in-Ok-Some-clause-keys g c =
 
 pub returns-in-Ok-None-clause-keys : goal.returns-in-Ok-None-clause-keys
 returns-in-Ok-None-clause-keys g c =
-    judged_none _ (g.K.Source.left c.args.keys.now) _ _ _ _ (rw c.in-Ok-None.field-0-is at c.in-Ok-None.ensures.read) c.put_last.ensures.ends refl
+    judged_none _ (g.K.Source.left c.args.keys.now) _ _ _ _ (rw c.in-Ok-None.field-0-is at c.in-Ok-None.ensures.read) c.put_last.ensures.ends (refl, refl)
 
 pub returns-in-Err-clause-keys : goal.returns-in-Err-clause-keys
-returns-in-Err-clause-keys g c = judged_failed _ (g.K.Source.left c.args.keys.now) _ _ _ _ c.put_last-in-Err.ensures.ends refl
+returns-in-Err-clause-keys g c = judged_failed _ (g.K.Source.left c.args.keys.now) _ _ _ _ c.put_last-in-Err.ensures.ends (refl, refl)
 
 pub returns-in-Ok-Some-clause-ends : goal.returns-in-Ok-Some-clause-ends
 returns-in-Ok-Some-clause-ends g c =
     from_read (λ (k : Masters) (h : PlainHistory). OpensAs g.D.Disk.reads g.D.Disk.may_leave k c.args.load.now.mode h c.args.disk)
-    (λ (k : Masters) (h : PlainHistory) (text : List ℕ). LoadEndsAs g.D.Disk.reads g.D.Disk.may_leave g.D.Disk.moment g.D.Disk.left_since k h c.args.load.now c.args.disk c.load_over.result.1 (g.O.Sink.written c.args.out.now) (g.O.Sink.written c.load_over.new.out) c.load_over.result.0 (Unit {0}))
+    (λ (k : Masters) (h : PlainHistory) (text : List ℕ). LoadEndsAs g.D.Disk.reads g.D.Disk.may_leave g.D.Disk.moment g.D.Disk.left_since k h c.args.load.now c.args.disk c.load_over.result.1 (g.O.Sink.written c.args.out.now) (g.O.Sink.written c.load_over.new.out) (g.T.Sink.written c.args.trace.now) (g.T.Sink.written c.load_over.new.trace) c.load_over.result.0 (Unit {0}))
     (plain_masters c.in-Ok-Some.masters) (g.K.Source.left c.args.keys.now) (Some []) (rw c.in-Ok-Some.field-0-is at c.in-Ok-Some.ensures.read) c.load_over.ensures.ends
 
 pub returns-in-Ok-None-clause-ends : goal.returns-in-Ok-None-clause-ends
 returns-in-Ok-None-clause-ends g c =
     from_none (λ (k : Masters) (h : PlainHistory) (text : List ℕ). OpensAs g.D.Disk.reads g.D.Disk.may_leave k c.args.load.now.mode h c.args.disk
-    → LoadEndsAs g.D.Disk.reads g.D.Disk.may_leave g.D.Disk.moment g.D.Disk.left_since k h c.args.load.now c.args.disk c.args.disk (g.O.Sink.written c.args.out.now) (g.O.Sink.written c.put_last.new.out) c.put_last.result (Unit {0})) (g.K.Source.left c.args.keys.now) (Some []) (rw c.in-Ok-None.field-0-is at c.in-Ok-None.ensures.read)
+    → LoadEndsAs g.D.Disk.reads g.D.Disk.may_leave g.D.Disk.moment g.D.Disk.left_since k h c.args.load.now c.args.disk c.args.disk (g.O.Sink.written c.args.out.now) (g.O.Sink.written c.put_last.new.out) (g.T.Sink.written c.args.trace.now) (g.T.Sink.written c.args.trace.now) c.put_last.result (Unit {0})) (g.K.Source.left c.args.keys.now) (Some []) (rw c.in-Ok-None.field-0-is at c.in-Ok-None.ensures.read)
 
 pub returns-in-Err-clause-ends : goal.returns-in-Err-clause-ends
 returns-in-Err-clause-ends g c =
     from_all (λ (k : Masters) (h : PlainHistory) (text : List ℕ). OpensAs g.D.Disk.reads g.D.Disk.may_leave k c.args.load.now.mode h c.args.disk
-    → LoadEndsAs g.D.Disk.reads g.D.Disk.may_leave g.D.Disk.moment g.D.Disk.left_since k h c.args.load.now c.args.disk c.args.disk (g.O.Sink.written c.args.out.now) (g.O.Sink.written c.put_last-in-Err.new.out) c.put_last-in-Err.result (Unit {0})) (g.K.Source.left c.args.keys.now) (Some [])
-    (λ k h text opens. load_unread g.D.Disk.reads g.D.Disk.may_leave g.D.Disk.moment g.D.Disk.left_since k h c.args.load.now _ _ _ c.args.disk opens
+    → LoadEndsAs g.D.Disk.reads g.D.Disk.may_leave g.D.Disk.moment g.D.Disk.left_since k h c.args.load.now c.args.disk c.args.disk (g.O.Sink.written c.args.out.now) (g.O.Sink.written c.put_last-in-Err.new.out) (g.T.Sink.written c.args.trace.now) (g.T.Sink.written c.args.trace.now) c.put_last-in-Err.result (Unit {0})) (g.K.Source.left c.args.keys.now) (Some [])
+    (λ k h text opens. load_unread g.D.Disk.reads g.D.Disk.may_leave g.D.Disk.moment g.D.Disk.left_since k h c.args.load.now _ _ _ _ _ c.args.disk opens
     c.put_last-in-Err.ensures.ends (g.met.D.Disk.only_now c.args.disk))
 
 pub returns-in-Ok-Some-clause-image : goal.returns-in-Ok-Some-clause-image
 returns-in-Ok-Some-clause-image g c =
-    image_read (λ (k : Masters). Told (g.D.Disk.reads c.args.disk) (λ i. JudgesImage k c.args.load.now.mode i c.load_over.result.0 (g.O.Sink.written c.args.out.now) (g.O.Sink.written c.load_over.new.out) (Unit {0}) (LeavesAsAtStart g.D.Disk.reads g.D.Disk.may_leave g.D.Disk.moment g.D.Disk.left_since c.args.disk c.load_over.result.1)))
+    image_read (λ (k : Masters). Told (g.D.Disk.reads c.args.disk) (λ i. JudgesImage k c.args.load.now.mode i c.load_over.result.0 (g.O.Sink.written c.args.out.now) (g.O.Sink.written c.load_over.new.out) (c.load_over.new.trace ≡ c.args.trace.now) (LeavesAsAtStart g.D.Disk.reads g.D.Disk.may_leave g.D.Disk.moment g.D.Disk.left_since c.args.disk c.load_over.result.1)))
     (plain_masters c.in-Ok-Some.masters) (g.K.Source.left c.args.keys.now) (rw c.in-Ok-Some.field-0-is at c.in-Ok-Some.ensures.read) c.load_over.ensures.image
 
 pub returns-in-Ok-None-clause-image : goal.returns-in-Ok-None-clause-image
 returns-in-Ok-None-clause-image g c =
-    image_none (λ (k : Masters). Told (g.D.Disk.reads c.args.disk) (λ i. JudgesImage k c.args.load.now.mode i c.put_last.result (g.O.Sink.written c.args.out.now) (g.O.Sink.written c.put_last.new.out) (Unit {0}) (LeavesAsAtStart g.D.Disk.reads g.D.Disk.may_leave g.D.Disk.moment g.D.Disk.left_since c.args.disk c.args.disk))) (g.K.Source.left c.args.keys.now) (rw c.in-Ok-None.field-0-is at c.in-Ok-None.ensures.read)
+    image_none (λ (k : Masters). Told (g.D.Disk.reads c.args.disk) (λ i. JudgesImage k c.args.load.now.mode i c.put_last.result (g.O.Sink.written c.args.out.now) (g.O.Sink.written c.put_last.new.out) (c.args.trace.now ≡ c.args.trace.now) (LeavesAsAtStart g.D.Disk.reads g.D.Disk.may_leave g.D.Disk.moment g.D.Disk.left_since c.args.disk c.args.disk))) (g.K.Source.left c.args.keys.now) (rw c.in-Ok-None.field-0-is at c.in-Ok-None.ensures.read)
 
 pub returns-in-Err-clause-image : goal.returns-in-Err-clause-image
 returns-in-Err-clause-image g c =
-    image_all (λ (k : Masters). Told (g.D.Disk.reads c.args.disk) (λ i. JudgesImage k c.args.load.now.mode i c.put_last-in-Err.result (g.O.Sink.written c.args.out.now) (g.O.Sink.written c.put_last-in-Err.new.out) (Unit {0}) (LeavesAsAtStart g.D.Disk.reads g.D.Disk.may_leave g.D.Disk.moment g.D.Disk.left_since c.args.disk c.args.disk))) (g.K.Source.left c.args.keys.now)
-    (λ k i told. judged_unread k c.args.load.now.mode i _ _ _ _ _ c.put_last-in-Err.ensures.ends tt
+    image_all (λ (k : Masters). Told (g.D.Disk.reads c.args.disk) (λ i. JudgesImage k c.args.load.now.mode i c.put_last-in-Err.result (g.O.Sink.written c.args.out.now) (g.O.Sink.written c.put_last-in-Err.new.out) (c.args.trace.now ≡ c.args.trace.now) (LeavesAsAtStart g.D.Disk.reads g.D.Disk.may_leave g.D.Disk.moment g.D.Disk.left_since c.args.disk c.args.disk))) (g.K.Source.left c.args.keys.now)
+    (λ k i told. judged_unread k c.args.load.now.mode i _ _ _ _ _ c.put_last-in-Err.ensures.ends refl
     (started g.D.Disk.moment g.D.Disk.left_since g.D.Disk.may_leave c.args.disk (g.D.Disk.may_leave c.args.disk) (g.met.D.Disk.only_now c.args.disk) (λ x left. left)))
 
 pub returns-in-Ok-Some-clause-causes : goal.returns-in-Ok-Some-clause-causes
@@ -80,7 +80,7 @@ returns-in-Ok-None-clause-causes g c =
     record {
       disk = record { same = refl; later = omega arith; disk = λ e. absurd (never 4 (λ z. omega arith) (λ z. omega arith) e) };
       read = λ e. absurd (never 5 (λ z. omega arith) (λ z. omega arith) e);
-      write = c.put_last.ensures.write (λ e. cc);
+      write = λ e. inl (c.put_last.ensures.write (λ e. cc) e);
       tag = λ e. absurd (never 12 (λ z. omega arith) (λ z. omega arith) e);
     }
 
@@ -90,6 +90,6 @@ returns-in-Err-clause-causes g c =
     record {
       disk = record { same = refl; later = omega arith; disk = λ e. absurd (never 4 (λ z. omega arith) (λ z. omega arith) e) };
       read = λ e. search rules;
-      write = c.put_last-in-Err.ensures.write (λ e. cc);
+      write = λ e. inl (c.put_last-in-Err.ensures.write (λ e. cc) e);
       tag = λ e. absurd (never 12 (λ z. omega arith) (λ z. omega arith) e);
     }

@@ -5,7 +5,7 @@ use Rattle.overstore.proofs.loading.answer.Goals as goal
 pub returns-in_err-reply-clause-answer : goal.returns-in_err-reply-clause-answer
 returns-in_err-reply-clause-answer g c = λ k h at stands.
     unanswered_as g.D.Disk.reads g.D.Disk.may_leave g.D.Disk.moment g.D.Disk.left_since k h c.args.command _ _ _ _ _ c.in_err-reply.field-0.0 (search rules)
-    (g.met.D.Disk.only_now c.args.machine.now.disk) (c.in_err-reply.ensures.steps k h at stands)
+    (c.in_err-reply.ensures.steps k h at stands)
 
 pub returns-clause-answer : goal.returns-clause-answer
 returns-clause-answer g c = λ k h at stands.

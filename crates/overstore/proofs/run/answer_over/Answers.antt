@@ -1,11 +1,14 @@
-use Rattle.std.proofs.Common.{arith, inr, refl, subst, sym}
+use Rattle.std.proofs.Common.{arith, inl, inr, refl, subst, sym}
 use Rattle.std.proofs.lemmas.Grind.{common_steps}
 use Rattle.overstore.specs.Machine.{plain_masters}
 use Rattle.overstore.specs.Printing.{IsStoreStatus}
 use Rattle.overstore.specs.Disks.{Holds}
 use Rattle.overstore.specs.Running.{EndsAs}
 use Rattle.std.specs.Prelude.{IfSome}
-use Rattle.overstore.proofs.Beginning.{disk_said, over_begun, over_refused, over_stands, tells_nothing}
+use Rattle.overstore.specs.Tracing.{TracesAs}
+use Rattle.overstore.proofs.Tracing.{untraced_fault}
+use Rattle.ov_history.specs.Masters.{Masters}
+use Rattle.overstore.proofs.Beginning.{disk_said, ends_in_fault, over_begun, over_refused, over_stands, tells_nothing}
 use Rattle.overstore.proofs.Judging.{judged_open, judged_refused}
 use Rattle.overstore.proofs.Pacing.{untouched}
 use Rattle.overstore.proofs.Running.{ends_or_so, fault_no_read, fault_no_tag, fault_so, not_refused}
@@ -52,7 +55,7 @@ pub returns-in-Err-clause-image : goal.returns-in-Err-clause-image
 returns-in-Err-clause-image g c = λ i told.
     judged_refused (plain_masters c.args.masters) c.args.mode i _ _ _ _ _ c.in-Err.refused.fault
     (c.in-Err.ensures.fault i told)
-    c.put_fault.ensures.ends refl (c.in-Err.ensures.untouched i told)
+    c.put_fault.ensures.ends (refl, refl) (c.in-Err.ensures.untouched i told)
 
 pub returns-in-Ok-clause-causes : goal.returns-in-Ok-clause-causes
 returns-in-Ok-clause-causes g c =
@@ -87,7 +90,7 @@ returns-in-Err-clause-causes g c =
         disk = λ e. c.in-Err.ensures.call.2 (disk_said c.in-Err.refused.fault _ _ _ _ ends e);
       };
       read = λ e. absurd (fault_no_read c.in-Err.refused.fault _ _ _ _ ends e);
-      write = c.put_fault.ensures.write;
+      write = λ e. inl (c.put_fault.ensures.write e);
       tag = λ e. absurd (fault_no_tag c.in-Err.refused.fault _ _ _ _ ends e);
     }
 
@@ -102,3 +105,21 @@ returns-in-Ok-clause-paced g c = λ p opens.
 pub returns-in-Err-clause-paced : goal.returns-in-Err-clause-paced
 returns-in-Err-clause-paced g c = λ p opens.
     untouched g.I.Source.takes g.I.Source.left p _ _ _ _
+
+pub returns-in-Ok-clause-traced : goal.returns-in-Ok-clause-traced
+returns-in-Ok-clause-traced g c = λ p opens.
+    subst (λ (k : Masters). IfSome (g.I.Source.left c.args.input.now) (λ text. TracesAs k p text c.answer_script-code.result
+    (g.O.Sink.written c.args.out.now) (g.O.Sink.written c.answer_script-code.new.out)
+    (g.T.Sink.written c.args.trace.now) (g.T.Sink.written c.answer_script-code.new.trace))) c.of-machine.ensures.masters
+    (c.answer_script-code.ensures.traced p
+    (over_stands g.D.Disk.reads g.D.Disk.may_leave g.D.Disk.moment g.D.Disk.left_since
+    (plain_masters c.args.masters) c.args.mode p c.args.disk opens
+    c.of-machine.result c.in-Ok.store c.of-machine.ensures.store c.of-machine.ensures.masters
+    c.in-Ok.ensures.new c.in-Ok.ensures.found))
+
+pub returns-in-Err-clause-traced : goal.returns-in-Err-clause-traced
+returns-in-Err-clause-traced g c = λ p opens.
+    untraced_fault (plain_masters c.args.masters) p (g.I.Source.left c.args.input.now) _ _ _ _
+    (ends_in_fault c.in-Err.refused.fault _ _ _
+    ((c.in-Err.ensures.fault opens.image opens.told).opens (p, opens.legal, opens.mode_is, opens.stands))
+    c.put_fault.ensures.ends)

@@ -1,6 +1,8 @@
-use Rattle.std.proofs.Common.{MutBor, ℕ, arith, refl, rules}
+use Rattle.std.proofs.Common.{MutBor, ℕ, List, arith, inl, refl, rules}
 use Rattle.overstore.proofs.Running.{ends_so, finish_disk, finish_read, finish_tag, finishes_so, memory_not, rose_after, rose_lent, script_seven, script_six}
 use Rattle.overstore.proofs.Surviving.{ends_all, ends_unread}
+use Rattle.overstore.proofs.Tracing.{traced_all, untraced_all}
+use Rattle.overstore.specs.declared.answer.Stop.TheVariants.{Memory}
 use Rattle.overstore.proofs.Pacing.{finish_grows, paced_lent, paced_then, untouched}
 use Rattle.ov_history.specs.Plain.{PlainHistory}
 use Rattle.overstore.specs.Machine.{StandsFor}
@@ -32,9 +34,9 @@ returns-clause-causes g c =
         disk = λ e. stopped.machine.call.disk (finish_disk _ _ _ _ _ c.finish.ensures.finish e);
       };
       read = λ e. rose_lent _ _ _ _ (stopped.source.read (finish_read _ _ _ _ _ c.finish.ensures.finish e)) (search rules) (search rules);
-      write = λ e. rose_after _ _ _ _ stopped.sink.later stopped.sink.write c.finish.ensures.later (c.finish.ensures.write e);
+      write = λ e. rose_after _ _ _ _ _ _ stopped.sinks.0.later stopped.sinks.0.write stopped.sinks.1.write c.finish.ensures.later (c.finish.ensures.write e);
       tag = finish_tag ((p : PlainHistory) → StandsFor c.args.machine.now.kept p → ⊥) _ _ _ _ _ _
-          c.finish.ensures.finish stopped.sink.grew stopped.machine.tag;
+          c.finish.ensures.finish stopped.sinks.0.grew stopped.machine.tag;
     }
 
 pub returns-in-Err-clause-causes : goal.returns-in-Err-clause-causes
@@ -43,7 +45,7 @@ returns-in-Err-clause-causes g c =
     record {
       disk = record { same = refl; later = omega arith; disk = λ e. absurd (never 4 (λ z. omega arith) (λ z. omega arith) e) };
       read = λ e. absurd (never 5 (λ z. omega arith) (λ z. omega arith) e);
-      write = c.put_last.ensures.write (λ e. cc);
+      write = λ e. inl (c.put_last.ensures.write (λ e. cc) e);
       tag = λ e. absurd (never 12 (λ z. omega arith) (λ z. omega arith) e);
     }
 
@@ -55,3 +57,12 @@ returns-clause-paced g c = λ p stands.
 
 pub returns-in-Err-clause-paced : goal.returns-in-Err-clause-paced
 returns-in-Err-clause-paced g c = λ p stands. untouched g.I.Source.takes g.I.Source.left p _ _ _ _
+
+pub returns-clause-traced : goal.returns-clause-traced
+returns-clause-traced g c = λ p stands.
+    traced_all _ p (g.I.Source.left c.args.input.now) _ _ _ _ _ c.answer_all-stop.result c.epoch.result _
+    (rw c.over-script.ensures at (c.answer_all-stop.ensures.traced p stands)) c.finish.ensures.finish
+
+pub returns-in-Err-clause-traced : goal.returns-in-Err-clause-traced
+returns-in-Err-clause-traced g c = λ p stands.
+    untraced_all _ p (g.I.Source.left c.args.input.now) _ _ _ _ Memory (λ text first. first) c.put_last.ensures.ends

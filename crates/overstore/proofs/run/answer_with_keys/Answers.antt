@@ -6,6 +6,9 @@ use Rattle.ov_history.specs.Plain.{PlainHistory}
 use Rattle.overstore.specs.Disks.{OpensAs}
 use Rattle.overstore.specs.Machine.{plain_masters}
 use Rattle.overstore.specs.Pacing.{IsPaced}
+use Rattle.overstore.specs.Tracing.{TracesAs}
+use Rattle.overstore.specs.declared.answer.Stop.TheVariants.{Read}
+use Rattle.overstore.proofs.Tracing.{untraced}
 use Rattle.overstore.specs.Running.{EndsAs, JudgesImage, LeavesAsAtStart}
 use Rattle.overstore.proofs.Judging.{judged_unread}
 use Rattle.overstore.proofs.KeyFiles.{ends_untouched, from_all, from_none, from_read, image_all, image_none, image_read}
@@ -29,10 +32,10 @@ returns-in-Ok-Some-clause-keys g c =
 
 pub returns-in-Ok-None-clause-keys : goal.returns-in-Ok-None-clause-keys
 returns-in-Ok-None-clause-keys g c =
-    judged_none _ (g.K.Source.left c.args.keys.now) _ _ _ _ (rw c.in-Ok-None.field-0-is at c.in-Ok-None.ensures.read) c.put_last.ensures.ends (refl, refl)
+    judged_none _ (g.K.Source.left c.args.keys.now) _ _ _ _ (rw c.in-Ok-None.field-0-is at c.in-Ok-None.ensures.read) c.put_last.ensures.ends (refl, refl, refl)
 
 pub returns-in-Err-clause-keys : goal.returns-in-Err-clause-keys
-returns-in-Err-clause-keys g c = judged_failed _ (g.K.Source.left c.args.keys.now) _ _ _ _ c.put_last-in-Err.ensures.ends (refl, refl)
+returns-in-Err-clause-keys g c = judged_failed _ (g.K.Source.left c.args.keys.now) _ _ _ _ c.put_last-in-Err.ensures.ends (refl, refl, refl)
 
 pub returns-in-Ok-Some-clause-ends : goal.returns-in-Ok-Some-clause-ends
 returns-in-Ok-Some-clause-ends g c =
@@ -54,17 +57,17 @@ returns-in-Err-clause-ends g c =
 
 pub returns-in-Ok-Some-clause-image : goal.returns-in-Ok-Some-clause-image
 returns-in-Ok-Some-clause-image g c =
-    image_read (λ (k : Masters). Told (g.D.Disk.reads c.args.disk) (λ i. JudgesImage k c.args.mode i c.answer_over.result.0 (g.O.Sink.written c.args.out.now) (g.O.Sink.written c.answer_over.new.out) (c.answer_over.new.input ≡ c.args.input.now) (LeavesAsAtStart g.D.Disk.reads g.D.Disk.may_leave g.D.Disk.moment g.D.Disk.left_since c.args.disk c.answer_over.result.1)))
+    image_read (λ (k : Masters). Told (g.D.Disk.reads c.args.disk) (λ i. JudgesImage k c.args.mode i c.answer_over.result.0 (g.O.Sink.written c.args.out.now) (g.O.Sink.written c.answer_over.new.out) ((c.answer_over.new.input ≡ c.args.input.now) × (c.answer_over.new.trace ≡ c.args.trace.now)) (LeavesAsAtStart g.D.Disk.reads g.D.Disk.may_leave g.D.Disk.moment g.D.Disk.left_since c.args.disk c.answer_over.result.1)))
     (plain_masters c.in-Ok-Some.masters) (g.K.Source.left c.args.keys.now) (rw c.in-Ok-Some.field-0-is at c.in-Ok-Some.ensures.read) c.answer_over.ensures.image
 
 pub returns-in-Ok-None-clause-image : goal.returns-in-Ok-None-clause-image
 returns-in-Ok-None-clause-image g c =
-    image_none (λ (k : Masters). Told (g.D.Disk.reads c.args.disk) (λ i. JudgesImage k c.args.mode i c.put_last.result (g.O.Sink.written c.args.out.now) (g.O.Sink.written c.put_last.new.out) (c.args.input.now ≡ c.args.input.now) (LeavesAsAtStart g.D.Disk.reads g.D.Disk.may_leave g.D.Disk.moment g.D.Disk.left_since c.args.disk c.args.disk))) (g.K.Source.left c.args.keys.now) (rw c.in-Ok-None.field-0-is at c.in-Ok-None.ensures.read)
+    image_none (λ (k : Masters). Told (g.D.Disk.reads c.args.disk) (λ i. JudgesImage k c.args.mode i c.put_last.result (g.O.Sink.written c.args.out.now) (g.O.Sink.written c.put_last.new.out) ((c.args.input.now ≡ c.args.input.now) × (c.args.trace.now ≡ c.args.trace.now)) (LeavesAsAtStart g.D.Disk.reads g.D.Disk.may_leave g.D.Disk.moment g.D.Disk.left_since c.args.disk c.args.disk))) (g.K.Source.left c.args.keys.now) (rw c.in-Ok-None.field-0-is at c.in-Ok-None.ensures.read)
 
 pub returns-in-Err-clause-image : goal.returns-in-Err-clause-image
 returns-in-Err-clause-image g c =
-    image_all (λ (k : Masters). Told (g.D.Disk.reads c.args.disk) (λ i. JudgesImage k c.args.mode i c.put_last-in-Err.result (g.O.Sink.written c.args.out.now) (g.O.Sink.written c.put_last-in-Err.new.out) (c.args.input.now ≡ c.args.input.now) (LeavesAsAtStart g.D.Disk.reads g.D.Disk.may_leave g.D.Disk.moment g.D.Disk.left_since c.args.disk c.args.disk))) (g.K.Source.left c.args.keys.now)
-    (λ k i told. judged_unread k c.args.mode i _ _ _ _ _ c.put_last-in-Err.ensures.ends refl
+    image_all (λ (k : Masters). Told (g.D.Disk.reads c.args.disk) (λ i. JudgesImage k c.args.mode i c.put_last-in-Err.result (g.O.Sink.written c.args.out.now) (g.O.Sink.written c.put_last-in-Err.new.out) ((c.args.input.now ≡ c.args.input.now) × (c.args.trace.now ≡ c.args.trace.now)) (LeavesAsAtStart g.D.Disk.reads g.D.Disk.may_leave g.D.Disk.moment g.D.Disk.left_since c.args.disk c.args.disk))) (g.K.Source.left c.args.keys.now)
+    (λ k i told. judged_unread k c.args.mode i _ _ _ _ _ c.put_last-in-Err.ensures.ends (refl, refl)
     (started g.D.Disk.moment g.D.Disk.left_since g.D.Disk.may_leave c.args.disk (g.D.Disk.may_leave c.args.disk) (g.met.D.Disk.only_now c.args.disk) (λ x left. left)))
 
 pub returns-in-Ok-Some-clause-causes : goal.returns-in-Ok-Some-clause-causes
@@ -78,7 +81,7 @@ returns-in-Ok-None-clause-causes g c =
     record {
       disk = record { same = refl; later = omega arith; disk = λ e. absurd (never 4 (λ z. omega arith) (λ z. omega arith) e) };
       read = λ e. absurd (never 5 (λ z. omega arith) (λ z. omega arith) e);
-      write = c.put_last.ensures.write (λ e. cc);
+      write = λ e. inl (c.put_last.ensures.write (λ e. cc) e);
       tag = λ e. absurd (never 12 (λ z. omega arith) (λ z. omega arith) e);
     }
 
@@ -88,7 +91,7 @@ returns-in-Err-clause-causes g c =
     record {
       disk = record { same = refl; later = omega arith; disk = λ e. absurd (never 4 (λ z. omega arith) (λ z. omega arith) e) };
       read = λ e. inl (search rules);
-      write = c.put_last-in-Err.ensures.write (λ e. cc);
+      write = λ e. inl (c.put_last-in-Err.ensures.write (λ e. cc) e);
       tag = λ e. absurd (never 12 (λ z. omega arith) (λ z. omega arith) e);
     }
 
@@ -108,3 +111,20 @@ returns-in-Err-clause-paced g c =
     from_all (λ (k : Masters) (p : PlainHistory) (text : List ℕ). OpensAs g.D.Disk.reads g.D.Disk.may_leave k c.args.mode p c.args.disk
     → IsPaced g.I.Source.takes g.I.Source.left p c.args.input.now c.args.input.now (g.O.Sink.written c.args.out.now) (g.O.Sink.written c.put_last-in-Err.new.out)) (g.K.Source.left c.args.keys.now) (g.I.Source.left c.args.input.now)
     (λ k p text opens. untaken g.I.Source.takes g.I.Source.left p _ _ _)
+
+pub returns-in-Ok-Some-clause-traced : goal.returns-in-Ok-Some-clause-traced
+returns-in-Ok-Some-clause-traced g c =
+    from_read (λ (k : Masters) (p : PlainHistory). OpensAs g.D.Disk.reads g.D.Disk.may_leave k c.args.mode p c.args.disk)
+    (λ (k : Masters) (p : PlainHistory) (text : List ℕ). TracesAs k p text c.answer_over.result.0 (g.O.Sink.written c.args.out.now) (g.O.Sink.written c.answer_over.new.out) (g.T.Sink.written c.args.trace.now) (g.T.Sink.written c.answer_over.new.trace))
+    (plain_masters c.in-Ok-Some.masters) (g.K.Source.left c.args.keys.now) (g.I.Source.left c.args.input.now) (rw c.in-Ok-Some.field-0-is at c.in-Ok-Some.ensures.read) c.answer_over.ensures.traced
+
+pub returns-in-Ok-None-clause-traced : goal.returns-in-Ok-None-clause-traced
+returns-in-Ok-None-clause-traced g c =
+    from_none (λ (k : Masters) (p : PlainHistory) (text : List ℕ). OpensAs g.D.Disk.reads g.D.Disk.may_leave k c.args.mode p c.args.disk
+    → TracesAs k p text c.put_last.result (g.O.Sink.written c.args.out.now) (g.O.Sink.written c.put_last.new.out) (g.T.Sink.written c.args.trace.now) (g.T.Sink.written c.args.trace.now)) (g.K.Source.left c.args.keys.now) (g.I.Source.left c.args.input.now) (rw c.in-Ok-None.field-0-is at c.in-Ok-None.ensures.read)
+
+pub returns-in-Err-clause-traced : goal.returns-in-Err-clause-traced
+returns-in-Err-clause-traced g c =
+    from_all (λ (k : Masters) (p : PlainHistory) (text : List ℕ). OpensAs g.D.Disk.reads g.D.Disk.may_leave k c.args.mode p c.args.disk
+    → TracesAs k p text c.put_last-in-Err.result (g.O.Sink.written c.args.out.now) (g.O.Sink.written c.put_last-in-Err.new.out) (g.T.Sink.written c.args.trace.now) (g.T.Sink.written c.args.trace.now)) (g.K.Source.left c.args.keys.now) (g.I.Source.left c.args.input.now)
+    (λ k p text opens. untraced k p text _ _ _ _ Read (λ first. first) c.put_last-in-Err.ensures.ends)

@@ -2,13 +2,14 @@ use Rattle.std.proofs.Common.{MutBor, inr, ℕ, List, refl, rules}
 use Rattle.ov_history.specs.Masters.{Masters}
 use Rattle.ov_history.specs.Plain.{PlainHistory}
 use Rattle.overstore.specs.Pacing.{IsPaced}
+use Rattle.overstore.specs.Tracing.{TracesAs}
 use Rattle.overstore.proofs.Lending.{lent_each, run_decides, run_endures, run_image, run_prints, runs_well}
 use Rattle.overstore.proofs.Running.{judged_so, judged_unasked, words_refused}
 use Rattle.overstore.proofs.run.run.Goals as goal
 
 pub returns-in-Some-clause-opened : goal.returns-in-Some-clause-opened
 returns-in-Some-clause-opened g c =
-    runs_well g.D.Disk.reads g.D.Disk.may_leave c.args.disk.now c.args.words.now (g.K.Source.left c.args.keys.now) (g.I.Source.left c.args.input.now) _ _ _ _
+    runs_well g.D.Disk.reads g.D.Disk.may_leave c.args.disk.now c.args.words.now (g.K.Source.left c.args.keys.now) (g.I.Source.left c.args.input.now) _ _ _ _ _
     (run_prints (λ (l : MutBor g.row.D.Denot). l.now) g.D.Disk.reads g.D.Disk.may_leave g.D.Disk.moment g.D.Disk.left_since
     (record { ref_ptr = c.args.disk.ref_ptr; ghost_name = _; now = c.args.disk.now }) c.answer_with_keys-code.result.1 c.answer_with_keys-code.result.1.now refl
     c.args.words.now (g.K.Source.left c.args.keys.now) (g.I.Source.left c.args.input.now) (g.O.Sink.written c.args.out.now) (g.O.Sink.written c.answer_with_keys-code.new.out) c.answer_with_keys-code.result.0 c.in-Some.mode c.in-Some.ensures.found c.answer_with_keys-code.ensures.ends)
@@ -21,6 +22,12 @@ returns-in-Some-clause-opened g c =
     c.args.words.now (g.K.Source.left c.args.keys.now) (g.I.Source.left c.args.input.now) c.in-Some.mode c.in-Some.ensures.found
     (λ (k : Masters) (p : PlainHistory) (text : List ℕ). IsPaced g.I.Source.takes g.I.Source.left p c.args.input.now c.answer_with_keys-code.new.input (g.O.Sink.written c.args.out.now) (g.O.Sink.written c.answer_with_keys-code.new.out))
     c.answer_with_keys-code.ensures.paced)
+    (lent_each (λ (l : MutBor g.row.D.Denot). l.now) g.D.Disk.reads g.D.Disk.may_leave g.D.Disk.moment g.D.Disk.left_since
+    (record { ref_ptr = c.args.disk.ref_ptr; ghost_name = _; now = c.args.disk.now })
+    c.args.words.now (g.K.Source.left c.args.keys.now) (g.I.Source.left c.args.input.now) c.in-Some.mode c.in-Some.ensures.found
+    (λ (k : Masters) (p : PlainHistory) (text : List ℕ). TracesAs k p text c.answer_with_keys-code.result.0 (g.O.Sink.written c.args.out.now) (g.O.Sink.written c.answer_with_keys-code.new.out)
+    (g.T.Sink.written c.args.trace.now) (g.T.Sink.written c.answer_with_keys-code.new.trace))
+    c.answer_with_keys-code.ensures.traced)
     (run_endures (λ (l : MutBor g.row.D.Denot). l.now) g.D.Disk.reads g.D.Disk.may_leave g.D.Disk.moment g.D.Disk.left_since
     (record { ref_ptr = c.args.disk.ref_ptr; ghost_name = _; now = c.args.disk.now }) c.answer_with_keys-code.result.1 _ (search rules)
     c.args.words.now (g.K.Source.left c.args.keys.now) (g.I.Source.left c.args.input.now) (g.O.Sink.written c.args.out.now) (g.O.Sink.written c.answer_with_keys-code.new.out) c.answer_with_keys-code.result.0 c.in-Some.mode c.in-Some.ensures.found c.answer_with_keys-code.ensures.ends)
@@ -54,7 +61,7 @@ returns-in-None-clause-image g c = λ mode is. absurd (c.in-None.ensures.none mo
 
 pub returns-in-None-clause-keys : goal.returns-in-None-clause-keys
 returns-in-None-clause-keys g c =
-    judged_unasked _ _ _ _ _ _ (λ asked. c.in-None.ensures.none asked.0 asked.1) c.put_last.ensures.ends (refl, refl)
+    judged_unasked _ _ _ _ _ _ (λ asked. c.in-None.ensures.none asked.0 asked.1) c.put_last.ensures.ends (refl, refl, refl)
 
 pub returns-in-None-clause-words : goal.returns-in-None-clause-words
-returns-in-None-clause-words g c = words_refused _ _ _ _ _ c.in-None.ensures.none (refl, refl, refl) c.put_last.ensures.ends
+returns-in-None-clause-words g c = words_refused _ _ _ _ _ c.in-None.ensures.none (refl, refl, refl, refl) c.put_last.ensures.ends
