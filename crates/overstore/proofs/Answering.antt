@@ -19,7 +19,7 @@ use Rattle.ov_script.specs.Lines.{reply_line}
 use Rattle.ov_script.specs.Reading.{Reads, BeginsScript, BeginsWith, Ending, AtEnd}
 use Rattle.ov_script.specs.Place.{Place, GoesOn as PlaceGoesOn, ends_with, start}
 use Rattle.ov_script.specs.Saying.{IsOfItem, Says}
-use Rattle.ov_script.proofs.CreateLaws.{create_size}
+use Rattle.overstore.proofs.Lists.{item_creation}
 use Rattle.ov_script.proofs.Readings.{BeginsWith-more, BeginsWith-ends}
 use Rattle.ov_history.specs.Masters.{Masters}
 use Rattle.ov_history.specs.Plain.{PlainHistory}
@@ -443,7 +443,7 @@ goes_on {S} old new next command none goes is =
 -- what an item says may come as a command
 item_commands : (item : List ℕ) (command : Command) → IsItem item command → IsCommand command
 item_commands item (Enrol user) is = tt
-item_commands item (Create file names body) is = create_size item file body names is
+item_commands item (Create file names body) is = item_creation item file body names is
 item_commands item (Grant user file) is = tt
 item_commands item (Revoke user file) is = tt
 item_commands item (AskRead user file) is = tt

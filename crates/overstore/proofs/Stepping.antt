@@ -1,38 +1,277 @@
--- Commands that are refused, and updates that are sent for a command.
-use Rattle.std.proofs.Common.{◌≡◌, sym, ◌∙◌, ap}
-use Rattle.std.specs.Prelude.{Some}
+-- What a change by the owner is at a history for which the machine stands: the machine's step.
+use Rattle.std.proofs.Common.{◌≡◌, ◌∙◌, inl, inr, ℕ, ◌+◌, ◌≤◌, List, [], ◌∷◌, ◌++◌, true, false, refl, sym, ap, subst, true≢false, Option, Some, None, Result, Ok, Err}
+use Rattle.std.specs.Prelude.{◌⊎◌}
 use Rattle.ov_base.specs.declared.refusal.Refusal.{Refusal}
+use Rattle.ov_disk.specs.Disk.{Image}
+use Rattle.ov_disk.specs.Moments.{LeavesOnly}
+use Rattle.ov_disk.proofs.Runs.{weaker}
+use Rattle.ov_images.specs.Images.{Keeps, keys_of}
 use Rattle.ov_record.specs.Updates.{SealedUpdate}
 use Rattle.ov_script.specs.declared.command.Command.{Command}
-use Rattle.ov_script.specs.declared.reply.Reply.TheVariants.{Refused}
-use Rattle.ov_history.specs.Briefs.{brief}
-use Rattle.ov_history.specs.Catalogue.{outline}
+use Rattle.ov_script.specs.declared.reply.Reply.{Reply}
+use Rattle.ov_script.specs.declared.reply.Reply.TheVariants.{Accepted, Refused}
+use Rattle.ov_history.specs.History.{epoch_of}
 use Rattle.ov_history.specs.Laws.{ShowsHistory}
-use Rattle.ov_history.specs.Layers.{Layers}
-use Rattle.ov_history.specs.Plain.{PlainUpdate, PlainHistory, history_of, measured}
-use Rattle.ov_history.specs.Refusals.{refusal_of}
-use Rattle.ov_history.specs.Sealed.{refusal_shown}
-use Rattle.ov_history.specs.Sealing.{sealed_update}
-use Rattle.ov_history.proofs.Keeping.{kept_refusals, kept_shows}
-use Rattle.ov_model.specs.Step.{step, update, update_step}
-use Rattle.overstore.specs.Machine.{Kept, StandsFor, IsSentAt}
+use Rattle.ov_history.specs.Layers.{layers_of}
+use Rattle.ov_history.specs.Masters.{Masters}
+use Rattle.ov_history.specs.Plain.{PlainHistory, PlainUpdate, history_of, measured, with_plain}
+use Rattle.ov_history.specs.Refusals.{IsLegal, refusal_of}
+use Rattle.ov_history.specs.Sealed.{SealedHistory, catalogue_of, stored_of}
+use Rattle.ov_history.specs.Sealing.{sealed, sealed_update}
+use Rattle.ov_history.proofs.Keeping.{kept_shows, kept_stands_for}
+use Rattle.ov_history.proofs.Sealing.{sealing_goes_on}
+use Rattle.ov_model.specs.Step.{after, reply_to, step, update_step}
+use Rattle.ov_model.proofs.Legality.{legal-after}
+use Rattle.ov_tokens.specs.Keys.{check_value_of}
+use Rattle.ov_wire.specs.declared.request.Request.{Request}
+use Rattle.ov_wire.specs.declared.answer.Answer.{Answer}
+use Rattle.ov_wire.specs.Requests.{request_bytes}
+use Rattle.ov_wire.specs.RequestReading.{request_of}
+use Rattle.ov_protocol.specs.Answers.{Answers}
+use Rattle.ov_protocol.specs.Replies.{updates_asked}
+use Rattle.ov_protocol.specs.Serving.{IsService, Service, Serving, followed, later, served as shown}
+use Rattle.ov_protocol.specs.Updating.{spelled_by}
+use Rattle.ov_protocol.proofs.GoingOn.{servers_go_on, services_are_served}
+use Rattle.ov_protocol.proofs.Reading.{request_back}
+use Rattle.ov_store.specs.Opened.{Opened, Serves}
+use Rattle.ov_server.specs.Answering.{KeepsWith, serving_of}
+use Rattle.ov_owner.specs.Errands.{Errand}
+use Rattle.ov_owner.specs.Steps.{IsErrandFor}
+use Rattle.ov_owner.specs.Talks.{IsAskFault, update_request}
+use Rattle.ov_owner.specs.declared.fault.OwnerFault.{OwnerFault}
+use Rattle.ov_owner.specs.declared.fault.OwnerFault.TheVariants as faults
+use Rattle.ov_owner.proofs.Doing.{Does, does}
+use Rattle.ov_owner.proofs.Stepping.{read_back}
+use Rattle.ov_owner.proofs.Telling.{under}
+use Rattle.overstore.specs.Disks.{Holds, KeepsStep}
+use Rattle.overstore.specs.Machine.{Kept, KeptOn, LeavesStep, StandsFor, StepsAt, opened_of}
+use Rattle.overstore.specs.Replying.{change_reply}
+use Rattle.overstore.specs.declared.fault.StepFault.{StepFault}
+use Rattle.overstore.proofs.Changed.{Changes, IsFailed, IsMade, IsSentTo, cut, refused, sent}
+use Rattle.overstore.proofs.Errands.{IsHonest}
+use Rattle.overstore.proofs.Updating.{now_so, stays, stays_left}
 
 -- what is kept shows the history
 pub shows : (old : Kept) (p : PlainHistory) → StandsFor old p → ShowsHistory (history_of p) old.catalogue
 shows old p stands = kept_shows old.masters p old.catalogue stands.0
 
--- where the update is refused, so says the reply, and the history stays
-pub refused_step : (u : PlainUpdate) (why : Refusal) (p : PlainHistory) → refusal_of (history_of p) (measured u) ≡ Some why
-    → (Refused why ≡ (update p u).0) × ((update p u).1 ≡ p)
-refused_step u why p refused = (sym (ap (λ r. (update_step p u r).0) refused), ap (λ r. (update_step p u r).1) refused)
+-- the machine with these masters over an open store
+abbrev pub machine_of : {D : Type 0} → Masters → Opened D → KeptOn D
+machine_of k s = record {
+  kept = record { masters = k; catalogue = s.catalogue; stored = s.stored };
+  disk = s.disk;
+  failed = s.failed;
+}
 
--- an update that its owner sealed
-pub sealed_step : (old : Kept) (u : PlainUpdate) (sent : SealedUpdate) (command : Command) (p : PlainHistory) → StandsFor old p
-    → step p command ≡ update p u → sent ≡ sealed_update old.masters (outline old.catalogue) u → IsSentAt old p command sent
-sealed_step old u sent command p stands asked is =
-    let exact = is ∙ ap (λ (y : Layers). sealed_update old.masters y u) (shows old p stands).layers in record {
-      plain = u;
-      asked = asked;
-      refused = ap (λ (s : SealedUpdate). refusal_shown old.catalogue (brief s)) exact ∙ (kept_refusals old.masters p old.catalogue u stands.0).0;
-      sealed = λ _. exact;
-    }
+-- a machine is known by its masters and its store
+pub same_machine : {D : Type 0} (old new : KeptOn D) → new.kept.masters ≡ old.kept.masters
+    → opened_of new ≡ opened_of old → new ≡ old
+same_machine {D} old new masters same = λ i. machine_of {D} (masters i) (same i)
+
+-- the history as it is served
+abbrev pub service_at : Masters → PlainHistory → Service
+service_at k p = under k.surface (check_value_of k.base) (sealed k p)
+
+-- a machine that stands for the history serves it
+pub serves_at : {D : Type 0} (m : KeptOn D) (p : PlainHistory) → StandsFor m.kept p
+    → IsService (serving_of (opened_of m)) (service_at m.kept.masters p)
+serves_at m p stands = record {
+  stands = kept_stands_for m.kept.masters p m.kept.catalogue stands.0;
+  keeps = stands.1;
+  surface = refl;
+  base_check = refl;
+}
+
+-- and who serves its sealed form stands for it
+pub stands_at : {D : Type 0} (m : KeptOn D) (p : PlainHistory) (v : Service)
+    → IsLegal (history_of p) → v.surface ≡ m.kept.masters.surface → v.history ≡ sealed m.kept.masters p
+    → IsService (serving_of (opened_of m)) v → StandsFor m.kept p
+stands_at m p v legal surface is serves = (
+  (legal, serves.stands.1 ∙ (λ i. catalogue_of (surface i) (is i))),
+  serves.keeps ∙ (λ i. stored_of (surface i) (is i)),
+)
+
+module _ {D : Type 0} (reads : D → Option Image) (may_leave : D → Image → Type 0)
+    (moment : D → ℕ) (left_since : D → ℕ → Image → Type 0) (borrow faults : D → ℕ)
+    (only_now : (d : D) (c : Image) → left_since d (moment d) c → may_leave d c)
+    (counts_now : (d : D) (t : ℕ) (c : Image) → t ≤ moment d → may_leave d c → left_since d t c)
+    (old new : KeptOn D) (p : PlainHistory) (stands : StandsFor old.kept p)
+    (masters : new.kept.masters ≡ old.kept.masters) (sound : old.failed ≡ false)
+    (command : Command) (e : Errand) (ours : IsErrandFor old.kept.masters.base command e)
+    (is_honest : IsHonest e) where
+  abbrev k : Masters
+  k = old.kept.masters
+
+  abbrev s : Opened D
+  s = opened_of old
+
+  abbrev t : Opened D
+  t = opened_of new
+
+  abbrev legal : IsLegal (history_of p)
+  legal = stands.0.0
+
+  d : Does k command e
+  d = does k command e ours
+
+  abbrev plain : PlainUpdate
+  plain = d.plain p
+
+  -- what the store answers is answered at the history
+  at_history : (a : Answer) → Answers (serving_of s) e.first a
+      → Answers (shown (service_at k p)) e.first a
+  at_history a is =
+      subst (λ (x : Serving). Answers x e.first a)
+      (services_are_served (serving_of s) (service_at k p) (serves_at old p stands)) is
+
+  -- ---- refusals
+
+  refused_so : (a : Answer) (why : Refusal) → Answers (serving_of s) e.first a
+      → e.sealed a ≡ Err (faults.Refused why)
+      → step p command ≡ (Refused why, p)
+  refused_so a why answered is =
+      d.as_update p
+      ∙ ap (update_step p plain)
+      (d.makes.refused (check_value_of k.base) p a why legal (at_history a answered) is).1
+
+  -- ---- an update
+
+  -- the store stands for the history, on a disk that holds it
+  stands_there : Holds reads may_leave k p old.disk → Serves reads may_leave (sealed k p) s
+  stands_there holds = record {
+    catalogue = kept_stands_for k p old.kept.catalogue stands.0;
+    bytes = stands.1;
+    disk = λ _ i read c left. holds.each c left;
+    after_fault = λ failed. absurd (true≢false (sym failed ∙ sound));
+  }
+
+  module _ (result : Result ℕ OwnerFault) (x : IsSentTo reads may_leave moment left_since borrow faults k.surface e is_honest s t result) where
+    told_so : (x.epoch ≡ (catalogue_of k.surface (sealed k p)).epoch)
+        × (x.update ≡ sealed_update k (layers_of (history_of p)) plain)
+        × (refusal_of (history_of p) (measured plain) ≡ None)
+    told_so =
+        d.makes.told (check_value_of k.base) p x.told x.epoch x.update legal
+        (at_history x.told x.answers) x.sealed
+
+    step_is : step p command ≡ (Accepted (epoch_of (history_of p) + 1), with_plain p plain)
+    step_is = d.as_update p ∙ ap (update_step p plain) told_so.2.1
+
+    sealed_is : followed (sealed k p) (x.update ∷ []) ≡ sealed k (after p command)
+    sealed_is =
+        ap (λ (u : SealedUpdate). followed (sealed k p) (u ∷ [])) told_so.2.0
+        ∙ sym (sealing_goes_on k p plain)
+        ∙ ap (λ (r : Reply × PlainHistory). sealed k r.1) (sym step_is)
+
+    -- what the request asks for is the update
+    asks_it : updates_asked (request_of (request_bytes (update_request k.surface x.epoch x.update))) ≡ x.update ∷ []
+    asks_it =
+        ap updates_asked (request_back (update_request k.surface x.epoch x.update) x.form.1)
+        ∙ ap spelled_by (read_back x.update x.form.0)
+
+    either : (c : Image)
+        → KeepsWith (keys_of k) (sealed k p) (updates_asked (request_of (request_bytes (update_request k.surface x.epoch x.update)))) c
+        → KeepsStep k p command c
+    either c (inl keeps) = inl keeps
+    either c (inr keeps) =
+        inr (subst (λ (g : SealedHistory). Keeps (keys_of k) g c)
+        (ap (followed (sealed k p)) asks_it ∙ sealed_is) keeps)
+
+    leaves_so : Holds reads may_leave k p old.disk
+        → LeavesStep reads may_leave moment left_since k p command old.disk new.disk
+    leaves_so holds =
+        let moments = weaker moment left_since may_leave old.disk new.disk
+        (KeepsWith (keys_of k) (sealed k p) (updates_asked (request_of (request_bytes (update_request k.surface x.epoch x.update)))))
+        (KeepsStep k p command)
+        (x.asks.any_moment (sealed k p) (stands_there holds) sound holds.told.0 holds.told.1)
+        either in record {
+          moments = moments;
+          now = now_so reads may_leave moment left_since old.disk new.disk (KeepsStep k p command)
+              (counts_now new.disk) moments;
+        }
+
+    -- what is served then is the history after the command
+    module _ (made : IsMade reads may_leave moment left_since borrow faults k.surface e is_honest s t x.epoch x.update x.reply result) where
+      after_it : (later (service_at k p) made.answered.frame.made).history ≡ sealed k (after p command)
+      after_it = ap (followed (sealed k p)) made.makes ∙ sealed_is
+
+      stands_so : StandsFor new.kept (after p command)
+      stands_so =
+          stands_at new (after p command) (later (service_at k p) made.answered.frame.made)
+          (legal-after p command legal).0
+          (ap (λ (x : Masters). x.surface) (sym masters))
+          (after_it ∙ ap (λ (x : Masters). sealed x (after p command)) (sym masters))
+          (servers_go_on (serving_of s) (serving_of t) (service_at k p) _ x.reply
+          made.answered.frame (serves_at old p stands))
+
+      holds_so : Holds reads may_leave k p old.disk
+          → Holds reads may_leave k (after p command) new.disk
+      holds_so holds =
+          let image = made.answered.told holds.told.0 holds.told.1 in
+          let more = made.answered.lasts (sealed k p) (stands_there holds) in
+          let still : t.failed ≡ false = made.answered.failed ∙ sound in record {
+            told = image;
+            each = λ c left.
+                subst (λ (g : SealedHistory). Keeps (keys_of k) g c) after_it
+                (subst (λ (x : Masters). Keeps (keys_of x) (followed (sealed k p) made.answered.frame.made) c)
+                masters (more.disk still image.0 image.1 c left));
+          }
+
+      reply_is : Accepted (x.epoch + 1) ≡ reply_to p command
+      reply_is =
+          ap (λ n. Accepted (n + 1)) (told_so.0 ∙ (shows (record { masters = k; catalogue = catalogue_of k.surface (sealed k p); stored = old.kept.stored }) p ((legal, refl), stands.1)).epoch)
+          ∙ ap (λ (r : Reply × PlainHistory). r.0) (sym step_is)
+
+      made_so : (result ≡ Ok (x.epoch + 1)) ⊎ IsAskFault result
+          → StepsAt reads may_leave moment left_since k p command old new (change_reply result)
+      made_so (inl is) =
+          subst (λ (r : Result ℕ OwnerFault). StepsAt reads may_leave moment left_since k p command old new (change_reply r)) (sym is)
+          (reply_is, record { stands = stands_so; leaves = leaves_so; holds = holds_so })
+      made_so (inr (inl is)) =
+          subst (λ (r : Result ℕ OwnerFault). StepsAt reads may_leave moment left_since k p command old new (change_reply r)) (sym is) leaves_so
+      made_so (inr (inr is)) =
+          subst (λ (r : Result ℕ OwnerFault). StepsAt reads may_leave moment left_since k p command old new (change_reply r)) (sym is) leaves_so
+
+    failed_so : (result ≡ Err faults.Device) ⊎ IsAskFault result
+        → StepsAt reads may_leave moment left_since k p command old new (change_reply result)
+    failed_so (inl is) =
+        subst (λ (r : Result ℕ OwnerFault). StepsAt reads may_leave moment left_since k p command old new (change_reply r)) (sym is) leaves_so
+    failed_so (inr (inl is)) =
+        subst (λ (r : Result ℕ OwnerFault). StepsAt reads may_leave moment left_since k p command old new (change_reply r)) (sym is) leaves_so
+    failed_so (inr (inr is)) =
+        subst (λ (r : Result ℕ OwnerFault). StepsAt reads may_leave moment left_since k p command old new (change_reply r)) (sym is) leaves_so
+
+  -- ---- any of them
+
+  -- nothing changed
+  stays_so : (r : Result Reply StepFault) → t ≡ s
+      → StepsAt reads may_leave moment left_since k p command old old r
+      → StepsAt reads may_leave moment left_since k p command old new r
+  stays_so r same is =
+      subst (λ m. StepsAt reads may_leave moment left_since k p command old m r)
+      (sym (same_machine old new masters same)) is
+
+  cut_so : (result : Result ℕ OwnerFault) → IsAskFault result
+      → StepsAt reads may_leave moment left_since k p command old old (change_reply result)
+  cut_so result (inl is) =
+      subst (λ (r : Result ℕ OwnerFault). StepsAt reads may_leave moment left_since k p command old old (change_reply r)) (sym is)
+      (stays_left reads may_leave moment left_since old (only_now old.disk) k p command)
+  cut_so result (inr is) =
+      subst (λ (r : Result ℕ OwnerFault). StepsAt reads may_leave moment left_since k p command old old (change_reply r)) (sym is)
+      (stays_left reads may_leave moment left_since old (only_now old.disk) k p command)
+
+  pub changes_step : (result : Result ℕ OwnerFault)
+      → Changes reads may_leave moment left_since borrow faults k.surface e is_honest s t result
+      → StepsAt reads may_leave moment left_since k p command old new (change_reply result)
+  changes_step result (refused a why same answered is so) =
+      let at_step = refused_so a why answered is in
+      stays_so (change_reply result) same
+      (subst (λ (r : Result ℕ OwnerFault). StepsAt reads may_leave moment left_since k p command old old (change_reply r)) (sym so)
+      (stays reads may_leave moment left_since old (only_now old.disk) k p command (Refused why) stands
+      (ap (λ (r : Reply × PlainHistory). r.0) (sym at_step)) (ap (λ (r : Reply × PlainHistory). r.1) at_step)))
+  changes_step result (cut same why) = stays_so (change_reply result) same (cut_so result why)
+  changes_step result (sent x) = by x.comes where
+    by : IsMade reads may_leave moment left_since borrow faults k.surface e is_honest s t x.epoch x.update x.reply result
+        ⊎ IsFailed reads may_leave moment left_since borrow faults k.surface e is_honest s t x.epoch x.update x.reply result
+        → StepsAt reads may_leave moment left_since k p command old new (change_reply result)
+    by (inl made) = made_so result x made made.ends
+    by (inr failed) = failed_so result x failed.ends

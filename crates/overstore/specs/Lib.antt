@@ -6,12 +6,11 @@ pub mod LoadEnding
 pub mod LoadWords
 pub mod Loading
 pub mod Machine
-pub mod Opening
-pub mod Owner
 pub mod Pacing
 pub mod Printing
+pub mod Replying
 pub mod Running
-pub mod Sealing
+pub mod Seats
 pub mod Status
 pub mod Summary
 pub mod Tallying

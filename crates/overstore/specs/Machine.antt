@@ -1,7 +1,6 @@
 -- What the program keeps of a history, and what it does to it.
 use Rattle.std.specs.Prelude.{◌≡◌, ◌≢◌, ℕ, ◌≤◌, List, length, Bool, Option, None}
 use Rattle.std.specs.Prelude.{Result, Ok, Err, OnOk}
-use Rattle.ov_base.specs.declared.limits.TheConstants.{MAX_FILE_BYTES}
 use Rattle.ov_disk.specs.Disk.{Image}
 use Rattle.ov_disk.specs.Moments.{LeavesOnly}
 use Rattle.ov_images.specs.Images.{keys_of}
@@ -23,6 +22,7 @@ use Rattle.ov_history.specs.Refusals.{refusal_of}
 use Rattle.ov_history.specs.Sealed.{refusal_shown}
 use Rattle.ov_history.specs.Sealing.{sealed_update}
 use Rattle.ov_model.specs.Step.{reply_to, after, step, update}
+use Rattle.ov_owner.specs.Errands.{IsCreation}
 use Rattle.ov_store.specs.Opened.{Opened}
 use Rattle.overstore.specs.Disks.{Holds, IsDiskCall, KeepsStep}
 use Rattle.overstore.specs.declared.fault.BadTag.{BadTag}
@@ -64,10 +64,11 @@ AreMasters file k = IsKeyFile file k.base k.surface
 abbrev pub StandsFor : Kept → PlainHistory → Type 0
 StandsFor kept p = IsKept kept.masters p kept.catalogue × AreKept kept.masters p kept.stored
 
--- a command that may come: a creation has no more bytes than a file may have
+-- a command that may come: the bytes of a creation are a file's, and its list is one that an owner
+-- takes
 abbrev pub IsCommand : Command → Type 0
 IsCommand (Enrol user) = Unit {0}
-IsCommand (Create file list bytes) = length bytes ≤ MAX_FILE_BYTES
+IsCommand (Create file list bytes) = IsCreation list bytes
 IsCommand (Grant user file) = Unit {0}
 IsCommand (Revoke user file) = Unit {0}
 IsCommand (Read user file) = Unit {0}

@@ -28,6 +28,7 @@
 
 mod answer;
 mod begin;
+mod changing;
 mod fault;
 mod fault_lines;
 mod finish;
@@ -35,11 +36,9 @@ mod load;
 mod load_words;
 mod loading;
 mod machine;
-mod opening;
-mod owner;
-mod reader;
+mod questions;
+mod replying;
 mod run;
-mod sealing;
 mod status;
 mod summary;
 mod tally;

@@ -1,0 +1,146 @@
+-- The four errands of an owner, at any store.
+use Rattle.std.proofs.Common.{◌≡◌, ◌∙◌, ℕ, Bool, true, false, not, List, length, Option, Some, None, Result, Ok, Err, refl, sym, ap, subst, inl, inr}
+use Rattle.std.specs.Prelude.{◌⊎◌, is_some}
+use Rattle.std.proofs.lemmas.List.{length-map}
+use Rattle.ov_base.specs.Sets.{has}
+use Rattle.ov_base.specs.declared.refusal.Refusal.{Refusal}
+use Rattle.ov_ctr.proofs.Pad.{length-xor_pad}
+use Rattle.ov_tokens.specs.declared.token.Token.{Token}
+use Rattle.ov_tokens.specs.declared.label.Kind.TheVariants.{Derive}
+use Rattle.ov_graph.specs.Seals.{edge_token}
+use Rattle.ov_base_layer.specs.Seals.{access_token}
+use Rattle.ov_record.specs.Updates.{SealedUpdate, SealedEnrol, SealedGrant, SealedRevoke}
+use Rattle.ov_history.specs.Asking.{Numbers, file_named, refusal_at, user_named}
+use Rattle.ov_history.specs.Briefs.{Brief, BriefCreate, brief}
+use Rattle.ov_history.specs.Catalogue.{Catalogue, outline}
+use Rattle.ov_history.specs.History.{Created}
+use Rattle.ov_history.specs.Layers.{holders, node_of}
+use Rattle.ov_history.specs.Lists.{set_named}
+use Rattle.ov_history.specs.Masters.{access_key}
+use Rattle.ov_history.specs.Sealed.{HasParts, refusal_shown}
+use Rattle.ov_history.specs.Sealing.{token_unless}
+use Rattle.ov_script.specs.declared.command.Command.{Command}
+use Rattle.ov_script.specs.declared.command.Command.TheVariants as commands
+use Rattle.ov_wire.specs.declared.answer.Answer.{Answer}
+use Rattle.ov_wire.specs.declared.answer.Answer.TheVariants as answers
+use Rattle.ov_wire.specs.declared.answer.Known.{Known}
+use Rattle.ov_wire.specs.declared.answer.Plan.{Plan}
+use Rattle.ov_wire.specs.declared.request.Question.{Question}
+use Rattle.ov_wire.specs.declared.request.Question.TheVariants as questions
+use Rattle.ov_wire.specs.AnswerForm.{HasAnswerForm}
+use Rattle.ov_wire.specs.AnswersTo.{IsAnswer}
+use Rattle.ov_protocol.specs.Serving.{Serving}
+use Rattle.ov_protocol.specs.Answers.{Answers}
+use Rattle.ov_protocol.specs.Asking.{AnswersAsk, AnswersCover, known_at, numbers_for, plan_for, refusal_to}
+use Rattle.ov_peer.specs.Disks.{MayNeedDisk}
+use Rattle.ov_owner.specs.Errands.{Errand, created, creating, enrolling, granted, granting, known_of, plan_of, revoking, sealed_by}
+use Rattle.ov_owner.specs.Steps.{IsErrandFor}
+use Rattle.ov_owner.specs.declared.fault.OwnerFault.{OwnerFault}
+use Rattle.ov_owner.specs.declared.fault.OwnerFault.TheVariants as faults
+use Rattle.ov_owner.proofs.Fitting.{ask_fits, cover_fits}
+
+-- the update is one that a store with this catalogue makes, and is made at its epoch
+pub record IsMakeable (c : Catalogue) (epoch : ℕ) (u : SealedUpdate) : Type 0 where
+  pub at_epoch : epoch ≡ c.epoch
+  pub free : refusal_shown c (brief u) ≡ None
+  pub parts : HasParts (outline c) (brief u)
+
+-- by the answer something is sealed that is made there, or the command is refused
+abbrev pub IsTold : Catalogue → Result (ℕ × SealedUpdate) OwnerFault → Type 0
+IsTold c told =
+    ((why : Refusal) × (told ≡ Err (faults.Refused why)))
+    ⊎ ((epoch : ℕ) × (u : SealedUpdate) × (told ≡ Ok (epoch, u)) × IsMakeable c epoch u)
+
+-- what an errand asks first changes nothing; its answers are in the grammar, and tell so
+pub record IsHonest (e : Errand) : Type 0 where
+  pub quiet : MayNeedDisk e.first → ⊥
+  pub fits : (s : Serving) (a : Answer) → Answers s e.first a → HasAnswerForm a
+      → IsAnswer e.first a
+  pub tells : (s : Serving) (a : Answer) → Answers s e.first a → IsTold s.catalogue (e.sealed a)
+
+-- numbers were told, or a refusal
+asked : (c : Catalogue) (question : Question) (a : Answer) (seal : Known → ℕ × SealedUpdate)
+    → AnswersAsk c question a
+    → (refusal_to c question ≡ None
+    → IsMakeable c (seal (known_at c (numbers_for c question))).0
+    (seal (known_at c (numbers_for c question))).1)
+    → IsTold c (sealed_by seal (known_of a))
+asked c question (answers.Known known) seal (none, is) made =
+    inr
+        ((seal (known_at c (numbers_for c question))).0,
+        (seal (known_at c (numbers_for c question))).1, ap (λ (x : Known). Ok (seal x)) is,
+        made none)
+asked c question (answers.Refused why) seal is made = inl (why, refl)
+asked c question a seal is made = absurd is
+
+enrol_honest : (user : List ℕ) → IsHonest (enrolling user)
+enrol_honest user = record {
+  quiet = λ none. none;
+  fits = λ s. ask_fits s.catalogue (questions.Enrol user);
+  tells = λ s a is. asked s.catalogue (questions.Enrol user) a _ is
+      (λ none. record { at_epoch = refl; free = none; parts = tt });
+}
+
+-- a token comes just where it is wanted
+wanted : (w : Bool) (token : Token) → is_some (token_unless (not w) token) ≡ w
+wanted true token = refl
+wanted false token = refl
+
+grant_honest : (base user file : List ℕ) → IsHonest (granting base user file)
+grant_honest base user file = record {
+  quiet = λ none. none;
+  fits = λ s. ask_fits s.catalogue (questions.Grant user file);
+  tells = λ s a is. asked s.catalogue (questions.Grant user file) a _ is
+      (λ none. record { at_epoch = refl; free = none; parts = wanted _ _ });
+}
+
+revoke_honest : (user file : List ℕ) → IsHonest (revoking user file)
+revoke_honest user file = record {
+  quiet = λ none. none;
+  fits = λ s. ask_fits s.catalogue (questions.Revoke user file);
+  tells = λ s a is. asked s.catalogue (questions.Revoke user file) a _ is
+      (λ none. record { at_epoch = refl; free = none; parts = tt });
+}
+
+-- a creation has the parts of its plan, and its text has the length of the file
+covered : (c : Catalogue) (base file : List ℕ) (list : ℕ) (bytes : List ℕ)
+    → refusal_at c (Created file list (length bytes)) ≡ None
+    → IsMakeable c c.epoch (created base file bytes (plan_for c list))
+covered c base file list bytes none =
+    let plan = plan_for c list in record {
+      at_epoch = refl;
+      free = ap (λ size. refusal_at c (Created file list size))
+          (length-xor_pad (access_key base plan.node) 0x42 plan.file 0 bytes) ∙ none;
+      parts = length-map plan.from (λ from. edge_token Derive base from plan.node);
+    }
+
+create_tells : (base file : List ℕ) (names : List (List ℕ)) (bytes : List ℕ) (c : Catalogue)
+    (a : Answer)
+    → AnswersCover c file (length bytes) (set_named c.users names) a
+    → IsTold c (sealed_by (λ (p : Plan). (p.epoch, created base file bytes p)) (plan_of a))
+create_tells base file names bytes c (answers.Plan plan) (none, is) =
+    let list = set_named c.users names in
+    inr
+        (c.epoch, created base file bytes (plan_for c list),
+        ap (λ (x : Plan). Ok (x.epoch, created base file bytes x)) is,
+        covered c base file list bytes none)
+create_tells base file names bytes c (answers.Refused why) is = inl (why, refl)
+create_tells base file names bytes c a is = absurd is
+
+create_honest : (base file : List ℕ) (names : List (List ℕ)) (bytes : List ℕ)
+    → IsHonest (creating base file names bytes)
+create_honest base file names bytes = record {
+  quiet = λ none. none;
+  fits = λ s. cover_fits s.catalogue file (length bytes) names (set_named s.catalogue.users names);
+  tells = λ s a. create_tells base file names bytes s.catalogue a;
+}
+
+-- each errand of an owner is such
+pub honest : (base : List ℕ) (command : Command) (e : Errand) → IsErrandFor base command e
+    → IsHonest e
+honest base (commands.Enrol user) e is = subst IsHonest (sym is) (enrol_honest user)
+honest base (commands.Create file names bytes) e is =
+    subst IsHonest (sym is) (create_honest base file names bytes)
+honest base (commands.Grant user file) e is = subst IsHonest (sym is) (grant_honest base user file)
+honest base (commands.Revoke user file) e is = subst IsHonest (sym is) (revoke_honest user file)
+honest base command e is = absurd is

@@ -1,0 +1,112 @@
+//! Updates, by the owner over the machine's server.
+ghost use Rattle.std.specs.Prelude.{◌≡◌, Err, false};
+ghost use Rattle.ov_owner.specs.Errands.{IsCreation};
+ghost use Rattle.ov_script.specs.declared.command.Command.TheVariants.{Create, Enrol};
+ghost use Rattle.ov_script.specs.declared.command.Command.TheVariants.{Grant, Revoke};
+ghost use Rattle.overstore.specs.Answering.{PutsTo};
+ghost use Rattle.overstore.specs.Machine.{IsStep, Steps};
+ghost use Rattle.overstore.specs.Tracing.{Traces};
+ghost use Rattle.overstore.specs.declared.fault.StepFault.TheVariants.{Trace};
+
+use crate::fault::StepFault;
+use crate::machine::Machine;
+use crate::replying::change_reply;
+use ov_base::{Name, Names, Octets};
+use ov_disk::Disk;
+use ov_io::Sink;
+use ov_peer::Traced;
+use ov_script::Reply;
+use std::alloc::Global;
+
+impl<D: Disk> Machine<D> {
+    /// Enrols a user.
+    pub fn enrol<T: Sink>(
+        &mut self,
+        alloc: Global,
+        user: &Name,
+        trace: &mut T,
+    ) -> Result<Reply, StepFault>
+        requires healthy { self.old.failed ≡ false }
+        ensures steps { Steps D.reads D.may_leave D.moment D.left_since
+            (Enrol user.now) self.old self.new result }
+        ensures traced { Traces (Enrol user.now) self.old.kept
+            (T.written trace.old) (T.written trace.new) result }
+        ensures step { IsStep D.borrow D.faults self.old self.new result }
+        ensures sink { PutsTo T.written T.faults (result ≡ Err Trace) trace.old trace.new }
+    {
+        let mut peer = Traced::new(&mut self.peer, trace);
+        let made = self.owner.enrol(alloc, &mut peer, user);
+        let _ = peer.into_parts();
+        change_reply(made)
+    }
+
+    /// Creates a file for the users of a list.
+    pub fn create<T: Sink>(
+        &mut self,
+        alloc: Global,
+        file: &Name,
+        list: &Names,
+        bytes: &Octets,
+        trace: &mut T,
+    ) -> Result<Reply, StepFault>
+        requires healthy { self.old.failed ≡ false }
+        requires few { IsCreation list.now bytes.now }
+        ensures steps { Steps D.reads D.may_leave D.moment D.left_since
+            (Create file.now list.now bytes.now) self.old self.new result }
+        ensures traced { Traces (Create file.now list.now bytes.now) self.old.kept
+            (T.written trace.old) (T.written trace.new) result }
+        ensures step { IsStep D.borrow D.faults self.old self.new result }
+        ensures sink { PutsTo T.written T.faults (result ≡ Err Trace) trace.old trace.new }
+    {
+        let mut peer = Traced::new(&mut self.peer, trace);
+        let made = self
+            .owner
+            .create(alloc, &mut peer, file, list, bytes.as_slice());
+        let _ = peer.into_parts();
+        change_reply(made)
+    }
+
+    /// Grants a file to a user.
+    pub fn grant<T: Sink>(
+        &mut self,
+        alloc: Global,
+        user: &Name,
+        file: &Name,
+        trace: &mut T,
+    ) -> Result<Reply, StepFault>
+        requires healthy { self.old.failed ≡ false }
+        ensures steps { Steps D.reads D.may_leave D.moment D.left_since
+            (Grant user.now file.now) self.old self.new result }
+        ensures traced { Traces (Grant user.now file.now) self.old.kept
+            (T.written trace.old) (T.written trace.new) result }
+        ensures step { IsStep D.borrow D.faults self.old self.new result }
+        ensures sink { PutsTo T.written T.faults (result ≡ Err Trace) trace.old trace.new }
+    {
+        let mut peer = Traced::new(&mut self.peer, trace);
+        let made = self.owner.grant(alloc, &mut peer, user, file);
+        let _ = peer.into_parts();
+        change_reply(made)
+    }
+
+    /// Revokes a file from a user.
+    pub fn revoke<T: Sink>(
+        &mut self,
+        alloc: Global,
+        user: &Name,
+        file: &Name,
+        trace: &mut T,
+    ) -> Result<Reply, StepFault>
+        requires healthy { self.old.failed ≡ false }
+        ensures steps { Steps D.reads D.may_leave D.moment D.left_since
+            (Revoke user.now file.now) self.old self.new result }
+        ensures traced { Traces (Revoke user.now file.now) self.old.kept
+            (T.written trace.old) (T.written trace.new) result }
+        ensures step { IsStep D.borrow D.faults self.old self.new result }
+        ensures sink { PutsTo T.written T.faults (result ≡ Err Trace) trace.old trace.new }
+    {
+        let mut peer = Traced::new(&mut self.peer, trace);
+        let made = self.owner.revoke(alloc, &mut peer, user, file);
+        let _ = peer.into_parts();
+        change_reply(made)
+    }
+}

@@ -1,0 +1,87 @@
+//! What the machine's server is asked that changes nothing.
+ghost use Rattle.std.specs.Prelude.{◌≡◌, Err, false};
+ghost use Rattle.ov_script.specs.declared.command.Command.TheVariants.{Epoch, List as ListNames};
+ghost use Rattle.ov_script.specs.declared.command.Command.TheVariants.{Read};
+ghost use Rattle.overstore.specs.Answering.{PutsTo};
+ghost use Rattle.overstore.specs.Machine.{IsStep, Steps};
+ghost use Rattle.overstore.specs.Tracing.{Traces};
+ghost use Rattle.overstore.specs.declared.fault.StepFault.TheVariants.{Trace};
+
+use crate::fault::StepFault;
+use crate::machine::Machine;
+use crate::replying::{epoch_reply, names_reply, read_reply, unread_reply};
+use ov_base::Name;
+use ov_disk::Disk;
+use ov_io::Sink;
+use ov_peer::Traced;
+use ov_script::Reply;
+use std::alloc::Global;
+
+impl<D: Disk> Machine<D> {
+    /// Gives the epoch.
+    pub fn hello<T: Sink>(&mut self, alloc: Global, trace: &mut T) -> Result<Reply, StepFault>
+        requires healthy { self.old.failed ≡ false }
+        ensures steps { Steps D.reads D.may_leave D.moment D.left_since
+            Epoch self.old self.new result }
+        ensures traced { Traces Epoch self.old.kept (T.written trace.old) (T.written trace.new)
+            result }
+        ensures step { IsStep D.borrow D.faults self.old self.new result }
+        ensures sink { PutsTo T.written T.faults (result ≡ Err Trace) trace.old trace.new }
+    {
+        let mut peer = Traced::new(&mut self.peer, trace);
+        let told = self.owner.hello(alloc, &mut peer);
+        let _ = peer.into_parts();
+        epoch_reply(told)
+    }
+
+    /// Gives the names in a file's list.
+    pub fn list<T: Sink>(
+        &mut self,
+        alloc: Global,
+        file: Name,
+        trace: &mut T,
+    ) -> Result<Reply, StepFault>
+        requires healthy { self.old.failed ≡ false }
+        ensures steps { Steps D.reads D.may_leave D.moment D.left_since
+            (ListNames file) self.old self.new result }
+        ensures traced { Traces (ListNames file) self.old.kept
+            (T.written trace.old) (T.written trace.new) result }
+        ensures step { IsStep D.borrow D.faults self.old self.new result }
+        ensures sink { PutsTo T.written T.faults (result ≡ Err Trace) trace.old trace.new }
+    {
+        let mut peer = Traced::new(&mut self.peer, trace);
+        let told = self.owner.list(alloc, &mut peer, &file);
+        let _ = peer.into_parts();
+        names_reply(file, told)
+    }
+
+    /// Gives a file's bytes to a user. The reader is handed the keys of the user's two roots alone.
+    pub fn read<T: Sink>(
+        &mut self,
+        alloc: Global,
+        user: Name,
+        file: Name,
+        trace: &mut T,
+    ) -> Result<Reply, StepFault>
+        requires healthy { self.old.failed ≡ false }
+        ensures steps { Steps D.reads D.may_leave D.moment D.left_since
+            (Read user file) self.old self.new result }
+        ensures traced { Traces (Read user file) self.old.kept
+            (T.written trace.old) (T.written trace.new) result }
+        ensures step { IsStep D.borrow D.faults self.old self.new result }
+        ensures sink { PutsTo T.written T.faults (result ≡ Err Trace) trace.old trace.new }
+    {
+        let mut peer = Traced::new(&mut self.peer, trace);
+        match self.owner.client(alloc, &mut peer, &user) {
+            Ok(client) => {
+                let found = client.fetch(alloc, &mut peer, &file);
+                let _ = peer.into_parts();
+                read_reply(user, file, found)
+            }
+            Err(fault) => {
+                let _ = peer.into_parts();
+                unread_reply(fault)
+            }
+        }
+    }
+}
