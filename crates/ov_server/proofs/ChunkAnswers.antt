@@ -16,7 +16,8 @@ use Rattle.ov_store.specs.Chunks.{Chunks}
 use Rattle.ov_store.specs.Opened.{Opened}
 use Rattle.ov_store.specs.declared.fault.ChunkFault.{ChunkFault}
 use Rattle.ov_store.specs.declared.fault.ChunkFault.TheVariants.{NoFile, Moved, Disk as DiskFailed}
-use Rattle.ov_server.specs.Answering.{AsksBytes, AsksServer, LeavesAsked, serving_of}
+use Rattle.ov_peer.specs.Disks.{AsksBytes}
+use Rattle.ov_server.specs.Answering.{AsksServer, LeavesAsked, serving_of}
 use Rattle.ov_server.proofs.Shown.{Puts, forgot, put_is, still_leaves}
 
 -- why no bytes were given

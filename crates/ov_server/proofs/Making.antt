@@ -32,7 +32,8 @@ use Rattle.ov_store.specs.Opened.{Opened, Serves, StaysTold}
 use Rattle.ov_store.specs.Updating.{Fails, GoesOnAfter, IsCallOf, LeavesEither, ServesMore, Updates, failed_after}
 use Rattle.ov_store.specs.declared.fault.StoreFault.{StoreFault}
 use Rattle.ov_store.specs.declared.fault.StoreFault.TheVariants.{Refused, BadPlan, Disk as DiskFailed, Failed, Memory as NoMemory}
-use Rattle.ov_server.specs.Answering.{AnswersOrFails, AsksServer, HasUpdate, IsAnswered, IsFaulted, IsNewFault, KeepsWith, LeavesAsked, serving_of}
+use Rattle.ov_peer.specs.Disks.{HasUpdate}
+use Rattle.ov_server.specs.Answering.{AnswersOrFails, AsksServer, IsAnswered, IsFaulted, IsNewFault, KeepsWith, LeavesAsked, serving_of}
 use Rattle.ov_wire.specs.AnswerForm.{HasAnswerForm}
 use Rattle.ov_server.proofs.Shown.{MakesNone, Puts, answers_still}
 use Rattle.ov_server.proofs.AnswerKinds.{accepted_apart, nothing_made}

@@ -1,20 +1,18 @@
 -- What a server answers to a frame, over a disk that may fail, and what it then stands for.
 use Rattle.std.specs.Prelude.{◌≡◌, ◌⊎◌, ℕ, List, [], true, false}
-use Rattle.std.specs.Prelude.{Option, Result, Ok, OnErr, OnOk}
+use Rattle.std.specs.Prelude.{Option, Result, OnErr, OnOk}
 use Rattle.ov_base.specs.declared.memory.Memory.{Memory}
-use Rattle.ov_record.specs.Reading.{update_of}
 use Rattle.ov_record.specs.Updates.{SealedUpdate}
 use Rattle.ov_history.specs.Sealed.{SealedHistory}
 use Rattle.ov_disk.specs.Disk.{Image, Told}
 use Rattle.ov_disk.specs.Moments.{LeavesOnly}
 use Rattle.ov_images.specs.Images.{Keys, Keeps}
-use Rattle.ov_wire.specs.declared.request.Request.TheVariants as requests
 use Rattle.ov_wire.specs.declared.answer.Answer.TheVariants.{DeviceFault}
 use Rattle.ov_wire.specs.AnswerBytes.{answer_bytes}
 use Rattle.ov_wire.specs.RequestReading.{request_of}
 use Rattle.ov_protocol.specs.Serving.{Serving, followed}
-use Rattle.ov_protocol.specs.Updating.{owner_tag}
 use Rattle.ov_protocol.specs.Replies.{AnswersFrame, updates_asked}
+use Rattle.ov_peer.specs.Disks.{AsksBytes, HasUpdate}
 use Rattle.ov_peer.specs.Spellings.{IsUpdate}
 use Rattle.ov_store.specs.Opened.{Opened, Serves, StaysTold}
 use Rattle.ov_store.specs.Updating.{IsCallOf}
@@ -27,24 +25,6 @@ serving_of s = record {
   surface = s.keys.surface;
   base_check = s.keys.base_check;
 }
-
--- ---- requests that need the disk
-
--- the frame is an Update with the owner's tag that is made at the server's epoch, and spells this
-pub record HasUpdate (s : Serving) (request : List ℕ) (u : SealedUpdate) : Type 0 where
-  pub spelling : List ℕ
-  pub tag : List ℕ
-  pub is : request_of request ≡ Ok (requests.Update s.catalogue.epoch spelling tag)
-  pub right : tag ≡ owner_tag s.surface s.catalogue.epoch spelling
-  pub spells : update_of 32 spelling ≡ Ok u
-
--- the frame asks for stored bytes of a file
-pub record AsksBytes (request : List ℕ) : Type 0 where
-  pub file : ℕ
-  pub generation : ℕ
-  pub start : ℕ
-  pub count : ℕ
-  pub is : request_of request ≡ Ok (requests.Chunk file generation start count)
 
 -- ---- what is answered
 

@@ -1,5 +1,5 @@
 -- Inner: no public contract needs this. What a server in this process tells.
-use Rattle.std.specs.Prelude.{◌≡◌, ℕ, List, [], Option}
+use Rattle.std.specs.Prelude.{◌≡◌, ◌⊎◌, ℕ, List, [], Option, true}
 use Rattle.std.proofs.Common.{◌∙◌, inl, inr, refl, subst, sym}
 use Rattle.ov_record.specs.Updates.{SealedUpdate}
 use Rattle.ov_disk.specs.Disk.{Image}
@@ -8,6 +8,7 @@ use Rattle.ov_protocol.specs.Replies.{Replies}
 use Rattle.ov_protocol.proofs.GoingOn.{servers_go_on, services_are_served}
 use Rattle.ov_protocol.proofs.Leaving.{later-nil}
 use Rattle.ov_peer.specs.Asks.{IsReplyAt, LeavesTold, Told}
+use Rattle.ov_peer.specs.Disks.{AsksBytes, HasUpdate, NeedsDisk}
 use Rattle.ov_store.specs.Opened.{Opened}
 use Rattle.ov_server.specs.Answering.{AnswersOrFails, IsAnswered, IsFaulted, serving_of}
 
@@ -37,14 +38,32 @@ answered reads may_leave p q request reply v is serves =
       subst (λ (w : Service). IsServedBy q (later w is.frame.made)) (sym none) goes_on,
     )
 
+-- a fault of the disk comes only where it is needed
+pub needs : {D : Type 0} (p q : Opened D) (request reply : List ℕ)
+    → IsFaulted p q request reply → NeedsDisk (serving_of p) request
+needs p q request reply is = by_need is.needs where
+  by_need : ((u : SealedUpdate) × HasUpdate (serving_of p) request u × (q.failed ≡ true))
+      ⊎ (AsksBytes request × (q ≡ p))
+      → NeedsDisk (serving_of p) request
+  by_need (inl (u, has, failed)) = inl (u, has)
+  by_need (inr (asks, same)) = inr asks
+
 -- where the disk failed the same is served
 faulted : {D : Type 0} (p q : Opened D) (request reply : List ℕ) (v : Service)
     → IsFaulted p q request reply → IsServedBy p v → Told v request reply (IsServedBy q)
 faulted p q request reply v is serves =
-    let still = subst (λ (s : Serving). IsService s v) (sym is.same) serves in (
+    let still = subst (λ (s : Serving). IsService s v) (sym is.same) serves in
+    let at_v : NeedsDisk (served v) request =
+    subst (λ (s : Serving). NeedsDisk s request) (services_are_served (serving_of p) v serves)
+    (needs p q request reply is) in (
       [],
       [],
-      inr (record { spelled = is.spelled; makes = inl refl }),
+      inr
+          (record {
+            spelled = is.spelled;
+            makes = inl refl;
+            needs = nobody_else (λ w. NeedsDisk (served w) request) v at_v;
+          }),
       nobody_else (λ w. IsServedBy q (later w [])) v (nobody_else (IsServedBy q) v still),
     )
 
