@@ -71,10 +71,11 @@ pub no_tag : {D : Type 0} (reads : D → Option Image) (may_leave : D → Image 
 no_tag reads may_leave moment left_since k h load first last fault bad is loads =
     subst (λ (f : StepFault). Loads reads may_leave moment left_since k h load first last (Err f)) is loads
 
--- of two causes it is the other one
-pub wrote : (P Q : Type 0) → (P → ⊥) → P ⊎ Q → Q
-wrote P Q never (inl p) = absurd (never p)
-wrote P Q never (inr q) = q
+-- a write failed: not that of a reply, so that of a frame, or that of the last line
+pub wrote_or : (P Q F L : Type 0) → (P → ⊥) → (Q → F) → (P ⊎ Q) ⊎ L → L ⊎ F
+wrote_or P Q F L never frame (inl (inl p)) = absurd (never p)
+wrote_or P Q F L never frame (inl (inr q)) = inr (frame q)
+wrote_or P Q F L never frame (inr line) = inl line
 
 -- nor does a disk that doesn't open
 begin_not : (fault : BeginFault) → (fault_status fault ≡ 3 → ⊥) × (fault_status fault ≡ 11 → ⊥)

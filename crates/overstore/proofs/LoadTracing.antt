@@ -136,6 +136,10 @@ module _ {D : Type 0} (reads : D → Option Image) (may_leave : D → Image → 
 
   -- ---- at the end
 
+  pub sent_to_end : (place : ℕ) → place ≡ WORKLOAD_USERS + load.count → (old now : Option (List ℕ)) → TranscribesAll k h (first_commands load.number place) old now
+      → TranscribesAll k h (first_commands load.number (WORKLOAD_USERS + load.count)) old now
+  sent_to_end place is old now sent = subst (λ (n : ℕ). TranscribesAll k h (first_commands load.number n) old now) is sent
+
   module _ (tally : Tally) (mid last : KeptOn D) (masters : mid.kept.masters ≡ k) (old now new : Option (List ℕ))
       (s : LoadedTo reads may_leave moment left_since k h load (WORKLOAD_USERS + load.count) tally first mid)
       (sent : TranscribesAll k h (first_commands load.number (WORKLOAD_USERS + load.count)) old now) where
@@ -169,6 +173,23 @@ module _ {D : Type 0} (reads : D → Option Image) (may_leave : D → Image → 
         stops_in (WORKLOAD_USERS + load.count) (omega arith) tally mid last masters old now new s sent AskEpoch (λ bytes front. inr (refl, front)) traces
         (leaves_end fault (subst (λ (x : Result Reply StepFault). StepsAt reads may_leave moment left_since k (after_load h load) AskEpoch mid last x) at
         (steps k (after_load h load) masters s.stands)))
+
+-- it ended with this fault
+pub as_fault : {D : Type 0} (may_leave : D → Image → Type 0) (k : Masters) (h : PlainHistory) (load : Load) (last : D) (old new : Option (List ℕ)) (holds : Type 0)
+    (result : Result Tally StepFault) (fault : StepFault) → result ≡ Err fault → TracedTo may_leave k h load last old new holds
+    → TracesLoad may_leave k h load last old new holds result
+as_fault may_leave k h load last old new holds result fault is sent =
+    subst (λ (r : Result Tally StepFault). TracesLoad may_leave k h load last old new holds r) (sym is) sent
+
+fault_or : {T : Type 0} → Result T StepFault → StepFault → StepFault
+fault_or (Ok done) other = other
+fault_or (Err fault) other = fault
+
+-- a fault that is passed on is the same one
+pub same_fault : {S T : Type 0} (r : Result S StepFault) (s : Result T StepFault) (fault : StepFault) → r ≡ Err fault → s ≡ Err fault → s ≡ Err Trace → r ≡ Err Trace
+unfolding fault_or
+same_fault {S} {T} r s fault at is e =
+    at ∙ ap (λ (f : StepFault). Err f) (ap (λ (x : Result T StepFault). fault_or x Memory) (sym is ∙ e))
 
 -- ---- the whole
 

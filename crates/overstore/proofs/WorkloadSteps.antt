@@ -1,5 +1,5 @@
 -- A workload that is answered command by command.
-use Rattle.std.proofs.Common.{◌≡◌, inl, inr, ℕ, suc, ◌+◌, ◌<◌, ◌≤◌, List, [], ◌∷◌, ◌++◌, refl, sym, ◌∙◌, ap, subst, arith, Option, Some}
+use Rattle.std.proofs.Common.{◌≡◌, inl, inr, ℕ, suc, ◌+◌, ◌<◌, ◌≤◌, List, [], ◌∷◌, ◌++◌, refl, sym, ◌∙◌, ap, subst, arith, Option, Some, None}
 use Rattle.std.specs.Prelude.{Result, Ok, Err}
 use Rattle.sha2.specs.Hashers.{Holds256}
 use Rattle.ov_disk.specs.Disk.{Image}
@@ -79,6 +79,12 @@ workload_comes number place command low is =
 pub first_more : (number place next : ℕ) → next ≡ place + 1 → first_commands number next ≡ first_commands number place ++ command_at number place ∷ []
 first_more number place next is = let one : next ≡ suc place = omega (arith, is) in ap (first_commands number) one
 
+-- a workload that gives no more is at its end
+pub ended : (w next : Progress) (given : Option Command) (count : ℕ) → Gives w given next → ((command : Command) → given ≡ Some command → ⊥) → w.count ≡ count
+    → w.place ≡ WORKLOAD_USERS + count
+ended w next (Some command) count gives none same = absurd (none command refl)
+ended w next None count gives none same = gives.0 ∙ ap (λ n. WORKLOAD_USERS + n) same
+
 module _ {D : Type 0} (reads : D → Option Image) (may_leave : D → Image → Type 0)
     (moment : D → ℕ) (left_since : D → ℕ → Image → Type 0) where
   -- ---- one command
@@ -105,6 +111,13 @@ module _ {D : Type 0} (reads : D → Option Image) (may_leave : D → Image → 
     unanswered_as {T} result fault is steps =
         subst (λ (r : Result T StepFault). TalliesAt reads may_leave moment left_since k h command before now first last r) (sym is)
         (unanswered T fault steps)
+
+    -- it is answered, but memory is refused for its line
+    pub unlined : {T : Type 0} (result : Result T StepFault) (reply : Reply) → result ≡ Err Memory
+        → StepsAt reads may_leave moment left_since k h command first last (Ok reply)
+        → TalliesAt reads may_leave moment left_since k h command before now first last result
+    unlined {T} result reply is steps =
+        subst (λ (r : Result T StepFault). TalliesAt reads may_leave moment left_since k h command before now first last r) (sym is) steps.1.leaves
 
   -- ---- the commands so far
 
@@ -167,6 +180,10 @@ module _ {D : Type 0} (reads : D → Option Image) (may_leave : D → Image → 
       loads_stop T now (Tag bad) stops = absurd stops
 
     -- ---- at the end the epoch is asked for
+
+    pub to_end : (place : ℕ) → place ≡ WORKLOAD_USERS + load.count → (tally : Tally) (mid : KeptOn D) → LoadedTo reads may_leave moment left_since k h load place tally first mid
+        → LoadedTo reads may_leave moment left_since k h load (WORKLOAD_USERS + load.count) tally first mid
+    to_end place is tally mid s = subst (λ (n : ℕ). LoadedTo reads may_leave moment left_since k h load n tally first mid) is s
 
     module _ (tally : Tally) (mid last : KeptOn D) (masters : mid.kept.masters ≡ k)
         (s : LoadedTo reads may_leave moment left_since k h load (WORKLOAD_USERS + load.count) tally first mid) where

@@ -1,10 +1,10 @@
-use Rattle.std.proofs.Common.{ap, arith, sym, Err, [], ◌≡◌, ◌∙◌}
+use Rattle.std.proofs.Common.{ap, arith, inl, sym, Err, [], ◌≡◌, ◌∙◌}
 use Rattle.std.proofs.KnownBytes.{Appends-nil}
 use Rattle.ov_history.specs.Plain.{PlainHistory}
 use Rattle.overstore.specs.Machine.{StandsFor}
 use Rattle.overstore.specs.declared.answer.Stop.{Stop}
-use Rattle.overstore.proofs.Answering.{disk_only, no_read, no_write, tag_only}
-use Rattle.overstore.proofs.LoadEnds.{ends_faulted, ends_loaded, fault_no_script, no_tag, summary_not, summary_status, wrote}
+use Rattle.overstore.proofs.Answering.{disk_only, no_read, no_write, tag_only, trace_only}
+use Rattle.overstore.proofs.LoadEnds.{ends_faulted, ends_loaded, fault_no_script, no_tag, summary_not, summary_status, wrote_or}
 use Rattle.overstore.proofs.Running.{finish_disk, finish_read, finish_tag, finishes_so}
 use Rattle.overstore.proofs.load.load_machine.Goals as goal
 
@@ -46,7 +46,7 @@ returns-in-Ok-clause-causes g c =
         disk = λ e. absurd (summary_not 4 _ _ _ _ _ _ ends (λ z. omega arith) (λ z. omega arith) (λ z. omega arith) e);
       };
       read = λ e. summary_not 5 _ _ _ _ _ _ ends (λ z. omega arith) (λ z. omega arith) (λ z. omega arith) e;
-      write = c.put_summary.ensures.write;
+      write = λ e. inl (c.put_summary.ensures.write e);
       tag = λ e. absurd (summary_not 12 _ _ _ _ _ _ ends (λ z. omega arith) (λ z. omega arith) (λ z. omega arith) e);
     }
 
@@ -61,7 +61,8 @@ returns-in-Err-clause-causes g c =
         disk = λ e. step.call.disk (ap Err (disk_only c.in-Err.fault (finish_disk _ _ _ _ _ finished e)));
       };
       read = λ e. no_read c.in-Err.fault (finish_read _ _ _ _ _ finished e);
-      write = λ e. wrote _ _ (λ (is : c.stop_of.result ≡ Stop.Write). no_write c.in-Err.fault (sym c.stop_of.ensures ∙ is)) (c.finish.ensures.write e);
+      write = λ e. wrote_or _ _ _ _ (λ (is : c.stop_of.result ≡ Stop.Write). no_write c.in-Err.fault (sym c.stop_of.ensures ∙ is))
+          (λ (is : c.stop_of.result ≡ Stop.Trace). c.in-Err.ensures.trace.write (ap Err (trace_only c.in-Err.fault (sym c.stop_of.ensures ∙ is)))) (c.finish.ensures.write e);
       tag = finish_tag ((h : PlainHistory) → StandsFor c.args.machine.now.kept h → ⊥) _ _ _ _ _ _ finished ([], Appends-nil _)
           (λ bad is. let wrong = tag_only c.in-Err.fault bad is in (
             step.tag bad (ap Err wrong),

@@ -40,7 +40,7 @@ returns-in-Ok-clause-ends g c = λ h opens.
 pub returns-in-Err-clause-ends : goal.returns-in-Err-clause-ends
 returns-in-Err-clause-ends g c = λ h opens.
     load_refused g.D.Disk.reads g.D.Disk.may_leave g.D.Disk.moment g.D.Disk.left_since
-    (plain_masters c.args.masters) h c.args.load.now _ _ _ _ _ c.args.disk opens
+    (plain_masters c.args.masters) h c.args.load.now _ _ _ (g.T.Sink.written c.args.trace.now) _ c.args.disk opens
     c.in-Err.refused.disk c.in-Err.refused.fault c.in-Err.ensures.fault c.put_fault.ensures.ends
     c.in-Err.ensures.any_moment (g.met.D.Disk.counts_now c.in-Err.refused.disk)
 

@@ -51,7 +51,7 @@ pub returns-in-Err-clause-ends : goal.returns-in-Err-clause-ends
 returns-in-Err-clause-ends g c =
     from_all (λ (k : Masters) (h : PlainHistory) (text : List ℕ). OpensAs g.D.Disk.reads g.D.Disk.may_leave k c.args.load.now.mode h c.args.disk
     → LoadEndsAs g.D.Disk.reads g.D.Disk.may_leave g.D.Disk.moment g.D.Disk.left_since k h c.args.load.now c.args.disk c.args.disk (g.O.Sink.written c.args.out.now) (g.O.Sink.written c.put_last-in-Err.new.out) (g.T.Sink.written c.args.trace.now) (g.T.Sink.written c.args.trace.now) c.put_last-in-Err.result (Unit {0})) (g.K.Source.left c.args.keys.now) (Some [])
-    (λ k h text opens. load_unread g.D.Disk.reads g.D.Disk.may_leave g.D.Disk.moment g.D.Disk.left_since k h c.args.load.now _ _ _ _ _ c.args.disk opens
+    (λ k h text opens. load_unread g.D.Disk.reads g.D.Disk.may_leave g.D.Disk.moment g.D.Disk.left_since k h c.args.load.now _ _ _ (g.T.Sink.written c.args.trace.now) _ c.args.disk opens
     c.put_last-in-Err.ensures.ends (g.met.D.Disk.only_now c.args.disk))
 
 pub returns-in-Ok-Some-clause-image : goal.returns-in-Ok-Some-clause-image

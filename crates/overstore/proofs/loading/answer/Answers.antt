@@ -1,5 +1,6 @@
 use Rattle.std.proofs.Common.{rules, ℕ}
-use Rattle.overstore.proofs.WorkloadSteps.{tallied, unanswered_as}
+use Rattle.overstore.proofs.LoadTracing.{sent_unread}
+use Rattle.overstore.proofs.WorkloadSteps.{tallied, unanswered_as, unlined}
 use Rattle.overstore.proofs.loading.answer.Goals as goal
 
 pub returns-in_err-reply-clause-answer : goal.returns-in_err-reply-clause-answer
@@ -11,3 +12,9 @@ pub returns-clause-answer : goal.returns-clause-answer
 returns-clause-answer g c = λ k h at stands.
     tallied g.D.Disk.reads g.D.Disk.may_leave g.D.Disk.moment g.D.Disk.left_since k h c.args.command _ _ _ _ {T = ℕ} 0 c.in_ok-reply.reply c.deref.result.now (search rules)
     (c.in_ok-reply.ensures.steps k h at stands) c.take.ensures
+
+-- it is answered, and memory is refused for its line
+pub returns-in_err-line-clause-answer : goal.returns-in_err-line-clause-answer
+returns-in_err-line-clause-answer g c = λ k h at stands.
+    unlined g.D.Disk.reads g.D.Disk.may_leave g.D.Disk.moment g.D.Disk.left_since k h c.args.command _ _ _ _ _ c.in_ok-reply.reply (search rules)
+    (c.in_ok-reply.ensures.steps k h at stands)

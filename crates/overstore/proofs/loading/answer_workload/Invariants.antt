@@ -3,7 +3,10 @@ use Rattle.ov_history.specs.Plain.{PlainHistory}
 use Rattle.ov_script.specs.declared.drawn.TheConstants.{WORKLOAD_USERS}
 use Rattle.overstore.specs.Loading.{LoadedTo}
 use Rattle.overstore.specs.Machine.{StandsFor}
+use Rattle.overstore.specs.Answering.{Grows}
+use Rattle.ov_script.specs.Workload.{first_commands}
 use Rattle.overstore.specs.Tallying.{AreAtMost}
+use Rattle.overstore.specs.Tracing.{TranscribesAll}
 use Rattle.overstore.proofs.loading.answer_workload.Given as goal
 
 abbrev pub invariant-commands : goal.invariant-commands
@@ -19,6 +22,10 @@ invariant-commands g l = record {
   healthy : l.machine.failed ≡ false;
   same_disk : g.D.Disk.borrow l.machine.disk ≡ g.D.Disk.borrow l.fn.machine.disk;
   disk_later : g.D.Disk.faults l.fn.machine.disk ≤ g.D.Disk.faults l.machine.disk;
+  sent : (h : PlainHistory) → StandsFor l.fn.machine.kept h
+      → TranscribesAll l.fn.machine.kept.masters h (first_commands l.fn.load.number l.workload.place) (g.T.Sink.written l.fn.trace) (g.T.Sink.written l.trace);
+  trace_grew : Grows (g.T.Sink.written l.fn.trace) (g.T.Sink.written l.trace);
+  trace_later : g.T.Sink.faults l.fn.trace ≤ g.T.Sink.faults l.trace;
 }
 
 abbrev pub decreases-commands : goal.decreases-commands
