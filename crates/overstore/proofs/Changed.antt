@@ -246,17 +246,17 @@ module _ {D : Type 0} (reads : D → Option Image) (may_leave : D → Image → 
         subst (λ (x : Opened D). asked x (frame_of epoch u) reply t) (sym leads)
         (subst (λ (x : List ℕ). asked m x reply t) spelled lost) in
         sent
-            (record {
-              told = told;
-              answers = answered;
-              epoch = epoch;
-              update = u;
-              sealed = is;
-              form = due.form;
-              reply = reply;
-              asks = asks;
-              comes = comes_cut s t same epoch u ready due.form reply result why asks;
-            })
+        (record {
+          told = told;
+          answers = answered;
+          epoch = epoch;
+          update = u;
+          sealed = is;
+          form = due.form;
+          reply = reply;
+          asks = asks;
+          comes = comes_cut s t same epoch u ready due.form reply result why asks;
+        })
     from_sends told epoch u (a ∷ asks) last o result m t answered is ready (next, moves, goes)
         (n, first, leads) left closes =
         let due = moves.asked in
@@ -273,17 +273,17 @@ module _ {D : Type 0} (reads : D → Option Image) (may_leave : D → Image → 
         let comes_now = ends_with r result s n epoch u a.reply by comes in
         subst (λ (x : Opened D). Changes s x result) (sym still)
         (sent
-            (record {
-              told = told;
-              answers = answered;
-              epoch = epoch;
-              update = u;
-              sealed = is;
-              form = due.form;
-              reply = a.reply;
-              asks = asked_so;
-              comes = comes_now;
-            }))
+        (record {
+          told = told;
+          answers = answered;
+          epoch = epoch;
+          update = u;
+          sealed = is;
+          form = due.form;
+          reply = a.reply;
+          asks = asked_so;
+          comes = comes_now;
+        }))
 
     -- after the first ask
     from_told : (told : Answer) (next : Stage) (asks : List Ask) (last : Stage)

@@ -116,79 +116,79 @@ module _ {D : Type 0} (reads : D → Option Image) (may_leave : D → Image → 
 
   module _ (told : Result Reader OwnerFault)
       (asks : AsksOnce asked failed a b (requests.Ask (questions.Key user)) (reader_in k user) told)
-      where
-    pub key_so : (server b ≡ server a)
-        × IsTakenOf (server a) (requests.Ask (questions.Key user)) (reader_in k user) told
-    key_so =
-        once_so reads may_leave moment left_since borrow faults_of asked failed server put loan seat
-        (requests.Ask (questions.Key user)) (reader_in k user) (key_plain user form) a b told asks
+    where
+      pub key_so : (server b ≡ server a)
+          × IsTakenOf (server a) (requests.Ask (questions.Key user)) (reader_in k user) told
+      key_so =
+          once_so reads may_leave moment left_since borrow faults_of asked failed server put loan seat
+          (requests.Ask (questions.Key user)) (reader_in k user) (key_plain user form) a b told asks
 
   -- ---- no reader
 
   module _ (fault : OwnerFault)
       (asks : AsksOnce asked failed a b (requests.Ask (questions.Key user)) (reader_in k user) (Err fault))
-      where
-    -- the user isn't there, or the call was cut off
-    abbrev IsUnreadFor : Opened D → Type 0
-    IsUnreadFor s =
-        ((why : Refusal) × (fault ≡ faults.Refused why)
-        × (key_refusal s.catalogue (user_named s.catalogue user) ≡ Some why))
-        ⊎ ((fault ≡ faults.Link) ⊎ (fault ≡ faults.Memory))
+    where
+      -- the user isn't there, or the call was cut off
+      abbrev IsUnreadFor : Opened D → Type 0
+      IsUnreadFor s =
+          ((why : Refusal) × (fault ≡ faults.Refused why)
+          × (key_refusal s.catalogue (user_named s.catalogue user) ≡ Some why))
+          ⊎ ((fault ≡ faults.Link) ⊎ (fault ≡ faults.Memory))
 
-    by_answer : (s : Opened D) (x : Answer) → AnswersAsk s.catalogue (questions.Key user) x
-        → Err fault ≡ reader_in k user x → IsUnreadFor s
-    by_answer s (answers.Known known) is so = absurd (cc so)
-    by_answer s (answers.Refused why) is so = inl (why, cc so, is)
-    by_answer s x is so = absurd is
+      by_answer : (s : Opened D) (x : Answer) → AnswersAsk s.catalogue (questions.Key user) x
+          → Err fault ≡ reader_in k user x → IsUnreadFor s
+      by_answer s (answers.Known known) is so = absurd (cc so)
+      by_answer s (answers.Refused why) is so = inl (why, cc so, is)
+      by_answer s x is so = absurd is
 
-    unread_so : IsUnreadFor (server a)
-    unread_so = by (key_so (Err fault) asks).1 where
-      by : IsTakenOf (server a) (requests.Ask (questions.Key user)) (reader_in k user) (Err fault)
-          → IsUnreadFor (server a)
-      by (inl (x, is, so)) = by_answer (server a) x is so
-      by (inr (inl is)) = inr (inl (cc is))
-      by (inr (inr is)) = inr (inr (cc is))
+      unread_so : IsUnreadFor (server a)
+      unread_so = by (key_so (Err fault) asks).1 where
+        by : IsTakenOf (server a) (requests.Ask (questions.Key user)) (reader_in k user) (Err fault)
+            → IsUnreadFor (server a)
+        by (inl (x, is, so)) = by_answer (server a) x is so
+        by (inr (inl is)) = inr (inl (cc is))
+        by (inr (inr is)) = inr (inr (cc is))
 
-    pub unread_proper : HasOwnFault {T = Reader} (Err fault)
-    unread_proper = by unread_so where
-      by : IsUnreadFor (server a) → HasOwnFault {T = Reader} (Err fault)
-      by (inl (why, so, is)) =
-          subst (λ (f : OwnerFault). HasOwnFault {T = Reader} (Err f)) (sym so) tt
-      by (inr (inl so)) = subst (λ (f : OwnerFault). HasOwnFault {T = Reader} (Err f)) (sym so) tt
-      by (inr (inr so)) = subst (λ (f : OwnerFault). HasOwnFault {T = Reader} (Err f)) (sym so) tt
+      pub unread_proper : HasOwnFault {T = Reader} (Err fault)
+      unread_proper = by unread_so where
+        by : IsUnreadFor (server a) → HasOwnFault {T = Reader} (Err fault)
+        by (inl (why, so, is)) =
+            subst (λ (f : OwnerFault). HasOwnFault {T = Reader} (Err f)) (sym so) tt
+        by (inr (inl so)) = subst (λ (f : OwnerFault). HasOwnFault {T = Reader} (Err f)) (sym so) tt
+        by (inr (inr so)) = subst (λ (f : OwnerFault). HasOwnFault {T = Reader} (Err f)) (sym so) tt
 
-    pub unread_done : (old new : KeptOn D) → k ≡ old.kept.masters → server a ≡ opened_of old
-        → server b ≡ opened_of new → new.kept.masters ≡ old.kept.masters
-        → Done old new b (fault_reply fault)
-    unread_done old new at_k at_a at_b masters =
-        question_done reads may_leave moment left_since borrow faults_of only_now counts_now asked failed
-        server put loan seat (Read user file) old new a b (fault_reply fault) at_a at_b
-        (key_so (Err fault) asks).0 masters (λ p. refl)
-        (λ p stands. ends p stands unread_so) (cause unread_so)
-        (λ p stands serves.
-        subst (λ (m : Masters). TracesAt m p (Read user file) (put a) (put b) (fault_reply fault)) at_k
-        (unread_put reads may_leave moment left_since borrow faults_of asked failed server put loan seat k p
-        stands.0.0 user file fault a b form
-        (subst (λ (m : Masters). IsServedBy (server a) (service_of m p)) (sym at_k) serves) asks)) where
-      ends : (p : PlainHistory) → StandsFor old.kept p → IsUnreadFor (server a)
-          → EndsThere p (Read user file) (fault_reply fault)
-      ends p stands (inl (why, so, is)) =
-          subst (λ (f : OwnerFault). EndsThere p (Read user file) (fault_reply f)) (sym so)
-          (refusal_is p user file why
-          (key_refusal_is old.kept p stands user file why
-          (subst (λ (s : Opened D). key_refusal s.catalogue (user_named s.catalogue user) ≡ Some why) at_a is)))
-      ends p stands (inr (inl so)) =
-          subst (λ (f : OwnerFault). EndsThere p (Read user file) (fault_reply f)) (sym so) tt
-      ends p stands (inr (inr so)) =
-          subst (λ (f : OwnerFault). EndsThere p (Read user file) (fault_reply f)) (sym so) tt
+      pub unread_done : (old new : KeptOn D) → k ≡ old.kept.masters → server a ≡ opened_of old
+          → server b ≡ opened_of new → new.kept.masters ≡ old.kept.masters
+          → Done old new b (fault_reply fault)
+      unread_done old new at_k at_a at_b masters =
+          question_done reads may_leave moment left_since borrow faults_of only_now counts_now asked failed
+          server put loan seat (Read user file) old new a b (fault_reply fault) at_a at_b
+          (key_so (Err fault) asks).0 masters (λ p. refl)
+          (λ p stands. ends p stands unread_so) (cause unread_so)
+          (λ p stands serves.
+          subst (λ (m : Masters). TracesAt m p (Read user file) (put a) (put b) (fault_reply fault)) at_k
+          (unread_put reads may_leave moment left_since borrow faults_of asked failed server put loan seat k p
+          stands.0.0 user file fault a b form
+          (subst (λ (m : Masters). IsServedBy (server a) (service_of m p)) (sym at_k) serves) asks)) where
+            ends : (p : PlainHistory) → StandsFor old.kept p → IsUnreadFor (server a)
+                → EndsThere p (Read user file) (fault_reply fault)
+            ends p stands (inl (why, so, is)) =
+                subst (λ (f : OwnerFault). EndsThere p (Read user file) (fault_reply f)) (sym so)
+                (refusal_is p user file why
+                (key_refusal_is old.kept p stands user file why
+                (subst (λ (s : Opened D). key_refusal s.catalogue (user_named s.catalogue user) ≡ Some why) at_a is)))
+            ends p stands (inr (inl so)) =
+                subst (λ (f : OwnerFault). EndsThere p (Read user file) (fault_reply f)) (sym so) tt
+            ends p stands (inr (inr so)) =
+                subst (λ (f : OwnerFault). EndsThere p (Read user file) (fault_reply f)) (sym so) tt
 
-      cause : IsUnreadFor (server a) → HasOwnCause (faults_of old.disk) (fault_reply fault)
-      cause (inl (why, so, is)) =
-          subst (λ (f : OwnerFault). HasOwnCause (faults_of old.disk) (fault_reply f)) (sym so) tt
-      cause (inr (inl so)) =
-          subst (λ (f : OwnerFault). HasOwnCause (faults_of old.disk) (fault_reply f)) (sym so) tt
-      cause (inr (inr so)) =
-          subst (λ (f : OwnerFault). HasOwnCause (faults_of old.disk) (fault_reply f)) (sym so) tt
+            cause : IsUnreadFor (server a) → HasOwnCause (faults_of old.disk) (fault_reply fault)
+            cause (inl (why, so, is)) =
+                subst (λ (f : OwnerFault). HasOwnCause (faults_of old.disk) (fault_reply f)) (sym so) tt
+            cause (inr (inl so)) =
+                subst (λ (f : OwnerFault). HasOwnCause (faults_of old.disk) (fault_reply f)) (sym so) tt
+            cause (inr (inr so)) =
+                subst (λ (f : OwnerFault). HasOwnCause (faults_of old.disk) (fault_reply f)) (sym so) tt
 
   -- ---- a reader
 

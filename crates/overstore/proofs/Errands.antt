@@ -66,10 +66,12 @@ asked : (c : Catalogue) (question : Question) (a : Answer) (seal : Known → ℕ
     (seal (known_at c (numbers_for c question))).1)
     → IsTold c (sealed_by seal (known_of a))
 asked c question (answers.Known known) seal (none, is) made =
-    inr
-        ((seal (known_at c (numbers_for c question))).0,
-        (seal (known_at c (numbers_for c question))).1, ap (λ (x : Known). Ok (seal x)) is,
-        made none)
+    inr (
+      (seal (known_at c (numbers_for c question))).0,
+      (seal (known_at c (numbers_for c question))).1,
+      ap (λ (x : Known). Ok (seal x)) is,
+      made none,
+    )
 asked c question (answers.Refused why) seal is made = inl (why, refl)
 asked c question a seal is made = absurd is
 
@@ -120,10 +122,12 @@ create_tells : (base file : List ℕ) (names : List (List ℕ)) (bytes : List �
     → IsTold c (sealed_by (λ (p : Plan). (p.epoch, created base file bytes p)) (plan_of a))
 create_tells base file names bytes c (answers.Plan plan) (none, is) =
     let list = set_named c.users names in
-    inr
-        (c.epoch, created base file bytes (plan_for c list),
-        ap (λ (x : Plan). Ok (x.epoch, created base file bytes x)) is,
-        covered c base file list bytes none)
+    inr (
+      c.epoch,
+      created base file bytes (plan_for c list),
+      ap (λ (x : Plan). Ok (x.epoch, created base file bytes x)) is,
+      covered c base file list bytes none,
+    )
 create_tells base file names bytes c (answers.Refused why) is = inl (why, refl)
 create_tells base file names bytes c a is = absurd is
 

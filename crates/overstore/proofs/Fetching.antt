@@ -121,13 +121,13 @@ module _ {D : Type 0} (reads : D → Option Image) (may_leave : D → Image → 
       → IsReadEnd (faults s.disk) (judged (keys_along r told) told bytes)
   judged_ends told bytes =
       by_test (bytes_eq (tag_of_file (keys_along r told).access told.file bytes) told.tag) refl where
-    computed : List ℕ
-    computed = tag_of_file (keys_along r told).access told.file bytes
+        computed : List ℕ
+        computed = tag_of_file (keys_along r told).access told.file bytes
 
-    by_test : (b : Bool) → bytes_eq computed told.tag ≡ b
-        → IsReadEnd (faults s.disk) (if b then Ok bytes else Err (client.Damaged told.tag computed))
-    by_test true is = tt
-    by_test false is = λ same. true≢false (sym ((bytes_eq-Decides computed told.tag).1 same) ∙ is)
+        by_test : (b : Bool) → bytes_eq computed told.tag ≡ b
+            → IsReadEnd (faults s.disk) (if b then Ok bytes else Err (client.Damaged told.tag computed))
+        by_test true is = tt
+        by_test false is = λ same. true≢false (sym ((bytes_eq-Decides computed told.tag).1 same) ∙ is)
 
   module _ (told : Chained) (stored : List ℕ) (f : IsFetching told stored) where
     low : n < length c.files
@@ -330,9 +330,11 @@ module _ {D : Type 0} (reads : D → Option Image) (may_leave : D → Image → 
         let f : IsFetching told stored = subst Stands (sym is) stands in
         let (same, at_next) = chunk_asked tries told stored f t a.reply
         (subst HasRequestForm (sym chunk_is) moves.asks.form)
-        (asks_so (requests.Chunk told.file told.generation (length stored) MAX_CHUNK_BYTES) chunk_is) in
-        (same, then_so (AsksChunk tries told stored)
-        (requests.Chunk told.file told.generation (length stored) MAX_CHUNK_BYTES) is chunk_is at_next)
+        (asks_so (requests.Chunk told.file told.generation (length stored) MAX_CHUNK_BYTES) chunk_is) in (
+          same,
+          then_so (AsksChunk tries told stored)
+              (requests.Chunk told.file told.generation (length stored) MAX_CHUNK_BYTES) is chunk_is at_next,
+        )
     by_stage (Ends result) is =
         absurd (let none = ap (asked_at r file) is in cc (none, moves.asks.is_asked))
 

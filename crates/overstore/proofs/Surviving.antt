@@ -222,11 +222,11 @@ module _ {D : Type 0} (reads : D → Option Image) (may_leave : D → Image → 
         let line = reply_line (reply_to (after_all p a.commands) a.next) in
         let puts = Appends-kept old mid new (lines p a.commands ++ take a.count line) a.put kept in
         record { any_moment = (a.reaches holds).moments; at_exit = at_exit (part_answered p text a.commands a.next old new a.begins_next a.count puts) } where
-      at_exit : HasAnswered p text a.commands old new ⊎ HasAnswered p text (a.commands ++ a.next ∷ []) old new
-          → (commands : List Command) × BeginsScript text commands × HasAnswered p text commands old new
-          × ((c : Image) → may_leave last.disk c → KeepsNext k p text commands c)
-      at_exit (inl answered) = (a.commands, a.begins, answered, λ c left. inr (a.next, a.begins_next, inr ((a.reaches holds).holds.each c left)))
-      at_exit (inr answered) = (a.commands ++ a.next ∷ [], a.begins_next, answered, λ c left. inl (inr ((a.reaches holds).holds.each c left)))
+          at_exit : HasAnswered p text a.commands old new ⊎ HasAnswered p text (a.commands ++ a.next ∷ []) old new
+              → (commands : List Command) × BeginsScript text commands × HasAnswered p text commands old new
+              × ((c : Image) → may_leave last.disk c → KeepsNext k p text commands c)
+          at_exit (inl answered) = (a.commands, a.begins, answered, λ c left. inr (a.next, a.begins_next, inr ((a.reaches holds).holds.each c left)))
+          at_exit (inr answered) = (a.commands ++ a.next ∷ [], a.begins_next, answered, λ c left. inl (inr ((a.reaches holds).holds.each c left)))
 
     survives_at : (stop : Stop) (n status : ℕ) → Stops reads may_leave moment left_since k p text stop old mid first last → Finishes stop n mid new status
         → Survives reads may_leave moment left_since k p text first.disk last.disk old new

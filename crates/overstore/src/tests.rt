@@ -4,6 +4,7 @@
 //! of them, one helper calls `run`, and what has to be dropped is made last.
 mod disks;
 mod faults;
+mod frames;
 mod full;
 mod loads;
 mod running;

@@ -1,5 +1,5 @@
 //! Loads: their words, and seven lines that another program gave.
-use super::running::{Pieces, Wants, assert_ended, key_bytes, words};
+use super::running::{Frames, Pieces, Wants, assert_ended, key_bytes, words};
 use crate::load::load;
 use ov_disk::MemDisk;
 use std::alloc::Global;
@@ -9,7 +9,8 @@ use std::test::Fail;
 // The only call of `load`.
 fn loaded(alloc: Global, words: &[String], out: &mut Wants<'_>, disk: &mut MemDisk) -> u8 {
     let mut keys = Pieces::of(key_bytes(), 50);
-    load(alloc, words, &mut keys, out, disk)
+    let mut trace = Frames::any();
+    load(alloc, words, &mut keys, out, &mut trace, disk)
 }
 
 // Asserts how a load over a new disk ends, and what it puts.

@@ -1,4 +1,4 @@
-//! One run in memory. Its source and its sink borrow their bytes, so that a test has little to
+//! One run in memory. Its source and its sinks borrow their bytes, so that a test has little to
 //! allocate and to drop, and no clause here says what a run gives, so that no proof computes it.
 ghost use Rattle.std.specs.Prelude.{None};
 
@@ -124,7 +124,73 @@ impl Sink for Wants<'_> {
     }
 }
 
+/// Takes frames, either any or those that are wanted, and fails at one of its calls.
+#[derive(Drop)]
+pub struct Frames<'a> {
+    pub wanted: Option<&'a [u8]>,
+    pub fails: u64,
+    puts: u64,
+}
+
+impl<'a> Frames<'a> {
+    /// Any frames, without a fault.
+    pub fn any() -> Frames<'a> {
+        Frames {
+            wanted: None,
+            fails: NEVER,
+            puts: 0,
+        }
+    }
+
+    // Takes these bytes from those that are wanted.
+    fn take(&mut self, bytes: &[u8]) -> Result<(), Fault> {
+        match self.wanted {
+            Some(wanted) => match wanted.strip_prefix(bytes) {
+                Some(rest) => {
+                    self.wanted = Some(rest);
+                    Ok(())
+                }
+                None => Err(Fault),
+            },
+            None => Ok(()),
+        }
+    }
+}
+
+impl Sink for Frames<'_> {
+    ghost written = { λ _. None };
+
+    ghost faults = { λ s. s.puts };
+
+    ghost borrow = { λ _. 0 };
+
+    ghost puts = { λ _ _. Unit {0} };
+
+    fn put(&mut self, bytes: &[u8]) -> Result<(), Fault> {
+        let put = self.puts;
+        self.puts = put.saturating_add(1);
+        if put == self.fails {
+            return Err(Fault);
+        }
+        self.take(bytes)
+    }
+}
+
 /// The only call of `run`.
+pub fn ran_traced(
+    alloc: Global,
+    words: &[String],
+    keys: Pieces<'_>,
+    input: Pieces<'_>,
+    out: &mut Wants<'_>,
+    trace: &mut Frames<'_>,
+    disk: &mut MemDisk,
+) -> u8 {
+    let (mut keys, mut input) = (keys, input);
+    run(alloc, words, &mut keys, &mut input, out, trace, disk)
+}
+
+/// The same with any frames.
 pub fn ran(
     alloc: Global,
     words: &[String],
@@ -133,8 +199,7 @@ pub fn ran(
     out: &mut Wants<'_>,
     disk: &mut MemDisk,
 ) -> u8 {
-    let (mut keys, mut input) = (keys, input);
-    run(alloc, words, &mut keys, &mut input, out, disk)
+    ran_traced(alloc, words, keys, input, out, &mut Frames::any(), disk)
 }
 
 /// A script, the status of its run, and the lines that it puts.

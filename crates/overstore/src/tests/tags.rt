@@ -3,7 +3,7 @@ ghost use Rattle.std.specs.Prelude.{◌≡◌, None, Option, Some};
 ghost use Rattle.ov_disk.specs.Disk.{Image};
 
 use super::disks::one_file;
-use super::running::{Pieces, Wants, assert_ended, key_bytes, words};
+use super::running::{Frames, Pieces, Wants, assert_ended, key_bytes, words};
 use crate::run::run;
 use ov_disk::{Area, Disk, DiskFault};
 use std::alloc::Global;
@@ -98,7 +98,8 @@ impl Disk for Flips<'_> {
 fn ran(alloc: Global, words: &[String], out: &mut Wants<'_>, disk: &mut Flips<'_>) -> u8 {
     let mut keys = Pieces::of(key_bytes(), 50);
     let mut input = Pieces::of(b"epoch\nread a f\nepoch\n", 8);
-    run(alloc, words, &mut keys, &mut input, out, disk)
+    let mut trace = Frames::any();
+    run(alloc, words, &mut keys, &mut input, out, &mut trace, disk)
 }
 
 // The stored tag with one bit changed, as it was read, and that of the bytes, which the Book has.
