@@ -86,8 +86,8 @@ fn answer<D: Disk, O: Sink, T: Sink>(
         (O.written out.old) (O.written out.new) machine.old machine.new }
     ensures step { IsAnswer D.borrow D.faults machine.old machine.new result }
     ensures traced { (p : PlainHistory) → StandsFor machine.old.kept p
-        → TracesLine machine.old.kept.masters p command result (O.written out.old) (O.written out.new)
-        (T.written trace.old) (T.written trace.new) }
+        → TracesLine machine.old.kept.masters p command result
+        (O.written out.old) (O.written out.new) (T.written trace.old) (T.written trace.new) }
     ensures sink { PutsTo O.written O.faults (result ≡ Some Stop.Write) out.old out.new }
     ensures trace { PutsTo T.written T.faults (result ≡ Some Stop.Trace) trace.old trace.new }
 {
@@ -119,8 +119,9 @@ pub fn answer_all<S: Source + Drop, O: Sink, T: Sink, D: Disk>(
         script.old.source script.new.source }
     ensures machine { StopsAt D.borrow D.faults machine.old machine.new result }
     ensures traced { (p : PlainHistory) → StandsFor machine.old.kept p
-        → IfSome (text_left S.left script.old) (λ text. TracesTo machine.old.kept.masters p text
-        result (O.written out.old) (O.written out.new) (T.written trace.old) (T.written trace.new)) }
+        → IfSome (text_left S.left script.old) (λ text.
+        TracesTo machine.old.kept.masters p text result
+        (O.written out.old) (O.written out.new) (T.written trace.old) (T.written trace.new)) }
     ensures sinks { PutsTo O.written O.faults (result ≡ Stop.Write) out.old out.new
         × PutsTo T.written T.faults (result ≡ Stop.Trace) trace.old trace.new }
 {
