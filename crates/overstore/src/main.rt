@@ -2,10 +2,13 @@
 //!
 //! `overstore run full` and `overstore run delta` answer a script of commands, line by line, from
 //! the store in the program's folder, under the masters of the key file there. The contract of
-//! [`run`] says what it prints for every script, and what a stop leaves; `main` makes the real
-//! sources, the sink and the disk, calls it, and ends with the status that it gives.
+//! [`run`] says what it prints and sends for every script, and what a stop leaves; `main` makes the
+//! real sources, sinks and disk, calls it, and ends with the status that it gives.
 //! `overstore load` answers the commands of a stated workload in a script's place, by [`load`],
 //! and prints their counts and one hash of their replies.
+//!
+//! Owner, server and readers are parties of their own in one process. They ask each other by
+//! frames, and each frame is put to the trace, the file `trace.bin`.
 //!
 //! | module | what it does |
 //! |---|---|
@@ -15,11 +18,11 @@
 //! | `answer` | the loop over the script's commands |
 //! | `finish` | the last line |
 //! | `fault_lines` | the lines on a disk that doesn't open, and on a wrong tag |
-//! | `machine` | the access-matrix machine over a store |
-//! | `owner` | updates, as their owner finds and sends them |
-//! | `sealing` | what an owner seals, from plain values |
-//! | `reader` | files and lists, as readers are given them |
-//! | `opening` | what a reader opens, with plain keys |
+//! | `machine` | the access-matrix machine over frames: an owner, and the server over a store |
+//! | `changing` | updates, by the owner |
+//! | `questions` | epochs and lists, by the owner; reads, by the reader that it makes |
+//! | `replying` | the reply to a command, by what was answered |
+//! | `kept_loans` | calls over a traced server, by which the trace stays lent |
 //! | `load_words` | the words that ask for a load |
 //! | `loading`, `tally` | the loop over its commands, and what is kept of their replies |
 //! | `summary` | its seven lines |
@@ -79,7 +82,8 @@ are read from `keys.hex` in this folder: two lines of 64 hexadecimal digits.
 
 The store is in this folder too, in `store.book` and `store.blobs`; the first run
 makes them. An update is on the disk before its `ok` is put, so that what was
-answered outlasts a stop.
+answered outlasts a stop. What owner, server and readers sent each other in the last
+run is in `trace.bin`.
 
 `load` makes COUNT commands out of NUMBER, and eight enrolments before them, and
 answers them in a script's place. It prints how many updates were accepted, how many
