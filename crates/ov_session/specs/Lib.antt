@@ -9,3 +9,4 @@ pub mod Reading
 pub mod Replies
 pub mod Serving
 pub mod Steps
+pub mod Turns

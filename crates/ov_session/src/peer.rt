@@ -1,5 +1,6 @@
 //! A peer behind a stream.
-ghost use Rattle.std.specs.Prelude.{◌≡◌, length, false, IfOk, OnErr, OnOk};
+ghost use Rattle.std.specs.Prelude.{◌≡◌, ◌<◌, ◌^◌, length, false, IfOk, OnErr, OnOk};
+ghost use Rattle.ov_fields.specs.Spelling.{u32};
 ghost use Rattle.ov_wire.specs.Frames.{IsFrame, IsFrameLength};
 ghost use Rattle.ov_peer.specs.Causes.{HasLinkCause};
 ghost use Rattle.ov_session.specs.Links.{IsSameLoan, link};
@@ -73,6 +74,14 @@ fn fill<L: Stream>(stream: &mut L, buf: &mut [u8]) -> Result<usize, Fault>
     Ok(at)
 }
 
+/// The number in a length field.
+fn number_in(field: [u8; 4]) -> usize
+    ensures number { u32 result ≡ field }
+    ensures fits { result < 2 ^ 32 }
+{
+    u32::from_be_bytes(field) as usize
+}
+
 /// Reads a frame's length field. It is a fault where the input ends before it is whole, and where it
 /// is outside its limits.
 fn take_length<L: Stream>(stream: &mut L) -> Result<usize, Fault>
@@ -90,7 +99,7 @@ fn take_length<L: Stream>(stream: &mut L) -> Result<usize, Fault>
     if count < 4 {
         return Err(Fault);
     }
-    let wanted = u32::from_be_bytes(head) as usize;
+    let wanted = number_in(head);
     if wanted == 0 {
         return Err(Fault);
     }
