@@ -1,8 +1,12 @@
 -- Streams that a door gives and takes back.
-use Rattle.std.proofs.Common.{◌≡◌, ◌∙◌, ℕ, suc, ◌+◌, ◌<◌, List, [], ◌∷◌, ◌++◌, Some, None, refl, sym, ap, subst, length, length-append, append_assoc, append-nil, arith}
+use Rattle.std.proofs.Common.{◌≡◌, ◌∙◌, Bool, ℕ, zero, suc, ◌+◌, ◌<◌, List, [], ◌∷◌, ◌++◌, Some, None, refl, sym, ap, subst, length, length-append, append_assoc, get_or, set, arith}
 use Rattle.std.specs.Prelude.{Option, slice_get}
 use Rattle.std.proofs.lemmas.List.{map-append}
+use Rattle.ov_io.specs.declared.stream.MemStream.{MemStream}
 use Rattle.ov_session.specs.declared.end.SessionEnd.{SessionEnd}
+use Rattle.ov_session.specs.declared.memory.Gave.{Gave}
+use Rattle.ov_session.specs.declared.memory.Returned.{Returned}
+use Rattle.ov_session.specs.Memory.{Keeping, all_seen, seen, seen_back}
 use Rattle.ov_session.specs.Doors.{Back, Doorway, Given, IsOut, IsOutAmong, and_one, back_at, taken_back, told_back}
 use Rattle.ov_session.specs.Serving.{Follows, OneSession, Session, and_all, entries}
 use Rattle.ov_session.specs.Turns.{IsAt, ServesIt, ServesSome, TellsMany}
@@ -73,8 +77,8 @@ all_more {S} (Some l) ss s =
     ap (λ (m : List (Given S)). Some m)
     (append_assoc l (entries ss) (entries (s ∷ []))
     ∙ ap (λ (m : List (Given S)). l ++ m) (sym (map-append entry ss (s ∷ [])))) where
-  entry : Session S → Given S
-  entry x = record { stream = x.given; back = Some (record { stream = x.left; ending = x.ending }) }
+      entry : Session S → Given S
+      entry x = record { stream = x.given; back = Some (record { stream = x.left; ending = x.ending }) }
 
 many_more : {S : Type 0} (told : Option (List (Given S))) (number : ℕ) (s : Session S)
     → TellsMany told number → TellsMany (and_all told (s ∷ [])) (number + 1)
@@ -108,3 +112,51 @@ more_served {V} {S} one u v w old mid new number so_far it =
         told = many_more mid.told number s so_far.is_at.told;
       });
     }
+
+-- ---- a door in memory
+
+-- the stream of a number was taken back
+back_seen : (gave : List Gave) (number : ℕ) (g : Gave) (r : Returned) → number < length gave
+    → g ≡ get_or gave number g
+    → all_seen (set gave number (record { stream = g.stream; back = Some r }))
+    ≡ back_at (all_seen gave) number (seen_back r)
+back_seen [] number g r lt is = absurd (omega (arith, lt))
+back_seen (x ∷ gave) zero g r lt is =
+    ap (λ (y : Gave). seen (record { stream = y.stream; back = Some r }) ∷ all_seen gave) is
+back_seen (x ∷ gave) (suc number) g r lt is =
+    ap (λ (l : List (Given MemStream)). seen x ∷ l) (back_seen gave number g r (omega (arith, lt)) is)
+
+length_back : {S : Type 0} (l : List (Given S)) (number : ℕ) (b : Back S)
+    → length (back_at l number b) ≡ length l
+length_back [] number b = refl
+length_back (x ∷ l) zero b = refl
+length_back (x ∷ l) (suc number) b = ap suc (length_back l number b)
+
+pub shows_back : (k : Keeping) (gave : List Gave) (closed : Bool) (faults : ℕ) (number : ℕ) (g : Gave)
+    (r : Returned) → k.gave ≡ all_seen gave → k.closed ≡ closed → k.faults ≡ faults
+    → number < length gave → g ≡ get_or gave number g
+    → (let after = all_seen (set gave number (record { stream = g.stream; back = Some r })) in
+    let before : Doorway MemStream = record {
+      told = Some k.gave;
+      given = length k.gave;
+      closed = k.closed;
+      faults = k.faults;
+    } in
+    let now : Doorway MemStream = record {
+      told = Some after;
+      given = length after;
+      closed = closed;
+      faults = faults;
+    } in now ≡ taken_back before number r.stream r.ending)
+shows_back k gave closed faults number g r same shut count lt is =
+    let after = all_seen (set gave number (record { stream = g.stream; back = Some r })) in
+    let b : Back MemStream = seen_back r in
+    let told : after ≡ back_at k.gave number b =
+    back_seen gave number g r lt is ∙ ap (λ (l : List (Given MemStream)). back_at l number b) (sym same) in
+    let D : List (Given MemStream) → ℕ → Bool → ℕ → Doorway MemStream =
+    λ l n c f. record { told = Some l; given = n; closed = c; faults = f } in
+    ap (λ (l : List (Given MemStream)). D l (length after) closed faults) told
+    ∙ ap (λ (n : ℕ). D (back_at k.gave number b) n closed faults)
+    (ap length told ∙ length_back k.gave number b)
+    ∙ ap (λ (x : Bool). D (back_at k.gave number b) (length k.gave) x faults) (sym shut)
+    ∙ ap (λ (n : ℕ). D (back_at k.gave number b) (length k.gave) k.closed n) (sym count)

@@ -167,12 +167,13 @@ module _ {A : Type 0} (asks : Asks A) (spent : A → Type 0) (a b : A) (old mid 
         (both.rest, subst (λ (l : List (List ℕ)). IsCut bytes l both.rest) (sym both.appended) both.cut)
     cut_of (Err (feeds.BadFrame place)) (inr stays) =
         let good = so_far.fed.still_good in let bad = stays.bad in absurd cc
-    cut_of (Err feeds.Memory) (same, none) =
-        (d.rest ++ piece,
-        subst (λ (l : List (List ℕ)). IsCut bytes l (d.rest ++ piece))
-        (sym (append-nil (requests so_far.exchanges))
-        ∙ ap (λ (l : List (List ℕ)). requests so_far.exchanges ++ l) (sym none))
-        (cut_behind so_far.taken piece (requests so_far.exchanges) d.rest cut_so_far))
+    cut_of (Err feeds.Memory) (same, none) = (
+      d.rest ++ piece,
+      subst (λ (l : List (List ℕ)). IsCut bytes l (d.rest ++ piece))
+          (sym (append-nil (requests so_far.exchanges))
+          ∙ ap (λ (l : List (List ℕ)). requests so_far.exchanges ++ l) (sym none))
+          (cut_behind so_far.taken piece (requests so_far.exchanges) d.rest cut_so_far),
+    )
 
     -- all of them were answered
     module _ (them : AnswersThem asks b c took new frames) where

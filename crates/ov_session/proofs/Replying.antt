@@ -97,10 +97,11 @@ pub frame_behind : (old mid new : Link) (wanted : ℕ) (reply : List ℕ)
     (result : Result (Unit {0}) PeerFault)
     → IsFrameLength wanted → Reads old mid (u32 wanted) → TakesBody mid new wanted reply result
     → TakesFrame old new reply result
-frame_behind old mid new wanted reply (Ok done) fits first (whole, body) =
-    (subst IsFrameLength (sym whole) fits,
-    subst (λ (n : ℕ). Reads old new (u32 n ++ reply)) (sym whole)
-    (reads_on old mid new (u32 wanted) reply first body))
+frame_behind old mid new wanted reply (Ok done) fits first (whole, body) = (
+  subst IsFrameLength (sym whole) fits,
+  subst (λ (n : ℕ). Reads old new (u32 n ++ reply)) (sym whole)
+      (reads_on old mid new (u32 wanted) reply first body),
+)
 frame_behind old mid new wanted reply (Err faults.Link) fits first fails =
     fails_after old mid new (u32 wanted) first fails
 frame_behind old mid new wanted reply (Err faults.Memory) fits first same =
@@ -142,9 +143,12 @@ module _ (old mid new : Link) (request : List ℕ)
 
   pub exchanged : (reply : List ℕ) (result : Result (Unit {0}) PeerFault)
       → TakesFrame mid new reply result → ExchangesOrFails old new request reply result
-  exchanged reply (Ok done) (is, reads) = (is, record {
-    written = wrote new.written reads.written;
-    read = took (framed reply) reads;
-  })
+  exchanged reply (Ok done) (is, reads) = (
+    is,
+    record {
+      written = wrote new.written reads.written;
+      read = took (framed reply) reads;
+    },
+  )
   exchanged reply (Err faults.Link) f = (breaks f.taken f.reads, why f.taken f.reads f.reason)
   exchanged reply (Err faults.Memory) (taken, reads) = breaks taken reads

@@ -21,12 +21,7 @@ pub trait Asker {
     ghost borrow: { Self → ℕ };
 
     /// Asks a frame; the reply replaces what `reply` had. Both are without their length fields.
-    fn ask<R: Wait>(
-        &mut self,
-        rt: &R,
-        request: &[u8],
-        reply: &mut Vec<u8>,
-    ) -> Result<(), AskFault>
+    fn ask<R: Wait>(&mut self, rt: &R, request: &[u8], reply: &mut Vec<u8>) -> Result<(), AskFault>
         requires { IsFrame request.now }
         ensures asked { TellsAsk asks self.old self.new request.now reply.new.items result }
         ensures spent { (result ≡ Err AskFault.Spent) ↔ spent self.old }

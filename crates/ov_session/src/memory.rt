@@ -127,7 +127,7 @@ impl Door for MemDoor {
     }
 
     fn accept(&mut self) -> Result<Option<MemStream>, Fault> {
-        if self.fails_now() || self.gave.reserve(1).is_err() {
+        if self.fails_now() {
             return Err(self.fail());
         }
         if self.waiting.is_empty() {
@@ -135,11 +135,13 @@ impl Door for MemDoor {
             return Ok(None);
         }
         let stream = self.waiting.remove(0);
-        self.gave.push_reserved(Gave {
+        match self.gave.push(Gave {
             stream: Snapshot::of(&stream),
             back: None,
-        });
-        Ok(Some(stream))
+        }) {
+            Ok(()) => Ok(Some(stream)),
+            Err(_) => Err(self.fail()),
+        }
     }
 
     fn ended(&mut self, number: u32, stream: MemStream, end: SessionEnd) {

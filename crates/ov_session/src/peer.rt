@@ -110,11 +110,7 @@ fn take_length<L: Stream>(stream: &mut L) -> Result<usize, Fault>
 }
 
 /// Reads the frame behind a length field, in place of what was in `reply`.
-fn take_body<L: Stream>(
-    stream: &mut L,
-    wanted: usize,
-    reply: &mut Vec<u8>,
-) -> Result<(), PeerFault>
+fn take_body<L: Stream>(stream: &mut L, wanted: usize, reply: &mut Vec<u8>) -> Result<(), PeerFault>
     requires { IsFrameLength wanted }
     ensures takes { TakesBody
         (link L.Source.left L.Sink.written L.Source.faults L.Sink.faults stream.old)
@@ -153,11 +149,7 @@ fn take_frame<L: Stream>(stream: &mut L, reply: &mut Vec<u8>) -> Result<(), Peer
 }
 
 /// Writes a request, and reads the next frame.
-fn exchange<L: Stream>(
-    stream: &mut L,
-    request: &[u8],
-    reply: &mut Vec<u8>,
-) -> Result<(), PeerFault>
+fn exchange<L: Stream>(stream: &mut L, request: &[u8], reply: &mut Vec<u8>) -> Result<(), PeerFault>
     requires { IsFrame request.now }
     ensures exchanges { ExchangesOrFails
         (link L.Source.left L.Sink.written L.Source.faults L.Sink.faults stream.old)

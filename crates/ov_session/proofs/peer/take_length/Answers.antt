@@ -20,8 +20,9 @@ returns-then-wanted-clause-takes g c =
 pub returns-clause-takes : goal.returns-clause-takes
 returns-clause-takes g c =
     let tells = link g.L.Source.left g.L.Sink.written g.L.Source.faults g.L.Sink.faults in
-    let whole : length c.fill.new.buf ≤ c.in-Ok.count = omega (arith, c.in-Ok.ensures.len, c.if-count-lt4.false) in
-    ((omega (arith, c.if-wanted-eq0.false), c.if-wanted.false),
-    subst (Reads (tells c.args.stream.now) (tells c.fill.new.stream)) (sym c.number_in-wanted.ensures.number)
-    (filled (tells c.args.stream.now) (tells c.fill.new.stream) c.fill.new.buf c.in-Ok.count whole
-    c.in-Ok.ensures.fills))
+    let whole : length c.fill.new.buf ≤ c.in-Ok.count = omega (arith, c.in-Ok.ensures.len, c.if-count-lt4.false) in (
+      (omega (arith, c.if-wanted-eq0.false), c.if-wanted.false),
+      subst (Reads (tells c.args.stream.now) (tells c.fill.new.stream)) (sym c.number_in-wanted.ensures.number)
+          (filled (tells c.args.stream.now) (tells c.fill.new.stream) c.fill.new.buf c.in-Ok.count whole
+          c.in-Ok.ensures.fills),
+    )
