@@ -27,7 +27,8 @@ seen gave = record { stream = gave.stream.value; back = option_map seen_back gav
 -- this was taken back of the stream of this number
 abbrev pub IsBackAt : List (Given MemStream) → ℕ → Back MemStream → Type 0
 IsBackAt gave number back =
-    (stream : MemStream) × (slice_get gave number ≡ Some (record { stream = stream; back = Some back }))
+    (stream : MemStream)
+    × (slice_get gave number ≡ Some (record { stream = stream; back = Some back }))
 
 -- so these streams
 abbrev pub all_seen : List Gave → List (Given MemStream)

@@ -9,8 +9,8 @@ use std::sync::Wait;
 
 /// Asks one request at a time, for a session.
 pub trait Asker {
-    /// An ask: the asker before it, the request, its reply or none where memory was refused, and the
-    /// asker after it.
+    /// An ask: the asker before it, the request, its reply or none where memory was refused, and
+    /// the asker after it.
     ghost asks: { Self → List ℕ → Option (List ℕ) → Self → Type 0 };
 
     /// It has asked as often as it may.

@@ -82,8 +82,8 @@ fn number_in(field: [u8; 4]) -> usize
     u32::from_be_bytes(field) as usize
 }
 
-/// Reads a frame's length field. It is a fault where the input ends before it is whole, and where it
-/// is outside its limits.
+/// Reads a frame's length field. It is a fault where the input ends before it is whole, and where
+/// it is outside its limits.
 fn take_length<L: Stream>(stream: &mut L) -> Result<usize, Fault>
     ensures takes { TakesLength
         (link L.Source.left L.Sink.written L.Source.faults L.Sink.faults stream.old)

@@ -1,5 +1,5 @@
 //! Sessions in memory, against bytes that were written by hand, and over a port of this machine.
-ghost use Rattle.std.specs.Prelude.{◌≡◌, ◌∷◌, [], false, length};
+ghost use Rattle.std.specs.Prelude.{◌≡◌, ◌<◌, ◌∷◌, [], false, length};
 
 use crate::{
     Alone, Door, MemDoor, NetPeer, OpenGate, SessionEnd, TcpDoor, TcpLink, serve_each, serve_one,
