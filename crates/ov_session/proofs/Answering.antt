@@ -1,13 +1,11 @@
 -- Frames that are answered one after the other.
-use Rattle.std.proofs.Common.{◌≡◌, ◌∙◌, ℕ, suc, ◌+◌, ◌<◌, ◌≤◌, List, [], ◌∷◌, ◌++◌, Ok, Err, refl, sym, ap, subst, length, take, drop, get_or, map, min, append-nil, append_assoc, add-one, drop-cons, arith}
+use Rattle.std.proofs.Common.{◌≡◌, ◌∙◌, ℕ, suc, ◌+◌, ◌<◌, ◌≤◌, List, [], ◌∷◌, ◌++◌, Err, refl, sym, ap, subst, length, take, drop, get_or, append-nil, append_assoc, add-one, drop-cons, arith}
 use Rattle.std.specs.Prelude.{Option}
 use Rattle.std.specs.List.{AllByRecursion, flat_map}
-use Rattle.std.specs.Io.KnownBytes.{Appends}
 use Rattle.std.proofs.KnownBytes.{Appends-nil, Appends-trans}
 use Rattle.std.proofs.lemmas.Grind.{flat_map-append}
 use Rattle.std.proofs.Math.Seq.{take-suc}
 use Rattle.std.proofs.lemmas.List.{map-append, take-append-drop}
-use Rattle.ov_base.specs.Causes.{Rose}
 use Rattle.ov_wire.specs.Frames.{IsCut, IsFrame, framed}
 use Rattle.ov_session.specs.Ends.{Answered}
 use Rattle.ov_session.specs.Exchanges.{Asks, Exchange, Leads, answer_for, answers, requests}

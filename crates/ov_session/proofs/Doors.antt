@@ -3,7 +3,6 @@ use Rattle.std.proofs.Common.{◌≡◌, ◌∙◌, Bool, ℕ, zero, suc, ◌+�
 use Rattle.std.specs.Prelude.{Option, slice_get}
 use Rattle.std.proofs.lemmas.List.{map-append}
 use Rattle.ov_io.specs.declared.stream.MemStream.{MemStream}
-use Rattle.ov_session.specs.declared.end.SessionEnd.{SessionEnd}
 use Rattle.ov_session.specs.declared.memory.Gave.{Gave}
 use Rattle.ov_session.specs.declared.memory.Returned.{Returned}
 use Rattle.ov_session.specs.Memory.{Keeping, all_seen, seen, seen_back}

@@ -1,5 +1,5 @@
 -- How a session goes on, and how it ends.
-use Rattle.std.proofs.Common.{◌≡◌, ◌∙◌, ℕ, ◌+◌, ◌≤◌, List, [], ◌∷◌, ◌++◌, Ok, Err, false, inl, inr, refl, sym, ap, subst, length, take, map, min, append-nil, append_assoc, length-append, arith}
+use Rattle.std.proofs.Common.{◌≡◌, ◌∙◌, ℕ, ◌+◌, ◌≤◌, List, [], ◌∷◌, ◌++◌, Ok, Err, inl, inr, refl, sym, ap, subst, length, take, min, append-nil, append_assoc, length-append, arith}
 use Rattle.std.specs.Prelude.{Result}
 use Rattle.std.specs.List.{flat_map}
 use Rattle.std.specs.Io.KnownBytes.{Appends, Consumes, IsAtEnd}
@@ -8,13 +8,13 @@ use Rattle.std.proofs.lemmas.List.{map-append}
 use Rattle.ov_base.specs.Causes.{Rose}
 use Rattle.ov_wire.specs.declared.fault.FeedFault.{FeedFault}
 use Rattle.ov_wire.specs.declared.fault.FeedFault.TheVariants as feeds
-use Rattle.ov_wire.specs.Frames.{Decoding, Feeds, IsCut, IsUnfinished, Stops, Takes, framed, in_length, later}
+use Rattle.ov_wire.specs.Frames.{Decoding, Feeds, IsCut, Stops, Takes, framed, in_length, later}
 use Rattle.ov_wire.proofs.StreamLaws.{takes_both, takes_then_stops}
 use Rattle.ov_session.specs.declared.end.SessionEnd.{SessionEnd}
 use Rattle.ov_session.specs.declared.end.SessionEnd.TheVariants as ends
 use Rattle.ov_session.specs.declared.one.Stop.{Stop}
 use Rattle.ov_session.specs.declared.one.Stop.TheVariants as stops
-use Rattle.ov_session.specs.Ends.{Answered, AnswersAll, Asked, EndsAtLength, EndsBetween, EndsInside, EndsReading, EndsSpent, EndsWanting, EndsWriting, Serves}
+use Rattle.ov_session.specs.Ends.{Answered, AnswersAll, EndsSpent, EndsWanting, EndsWriting, Serves}
 use Rattle.ov_session.specs.Exchanges.{Asks, Exchange, Leads, answer_for, answers, requests}
 use Rattle.ov_session.specs.Links.{IsLater, Link}
 use Rattle.ov_session.specs.Reading.{Reads}

@@ -1,9 +1,9 @@
 -- Askers that stand for others.
-use Rattle.std.proofs.Common.{◌≡◌, ℕ, List, [], ◌∷◌, ◌++◌, inl, inr, ap}
+use Rattle.std.proofs.Common.{ℕ, List, [], ◌∷◌, ◌++◌, inl, inr, ap}
 use Rattle.std.specs.Prelude.{Option}
 use Rattle.ov_session.specs.declared.end.SessionEnd.{SessionEnd}
 use Rattle.ov_session.specs.declared.end.SessionEnd.TheVariants as ends
-use Rattle.ov_session.specs.Ends.{AnswersAll, Asked, EndsAtLength, EndsInside, EndsReading, EndsWriting, Serves}
+use Rattle.ov_session.specs.Ends.{AnswersAll, Asked, Serves}
 use Rattle.ov_session.specs.Exchanges.{Asks, Exchange, Leads}
 use Rattle.ov_session.specs.Links.{Link}
 

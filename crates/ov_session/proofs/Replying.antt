@@ -1,7 +1,7 @@
 -- How a reply is read.
-use Rattle.std.proofs.Common.{◌≡◌, ◌∙◌, ℕ, ◌+◌, ◌-◌, ◌<◌, ◌≤◌, ◌^◌, List, [], ◌++◌, Ok, Err, inl, inr, refl, sym, ap, subst, length, take, min, append-nil, arith}
+use Rattle.std.proofs.Common.{◌≡◌, ◌∙◌, ℕ, ◌+◌, ◌<◌, ◌≤◌, ◌^◌, List, [], ◌++◌, Ok, Err, inl, inr, refl, sym, ap, subst, length, take, append-nil, arith}
 use Rattle.std.specs.Prelude.{◌⊎◌, Option, Result}
-use Rattle.std.specs.Io.KnownBytes.{Appends, Consumes, IsAtEnd, Keeps}
+use Rattle.std.specs.Io.KnownBytes.{Appends, Consumes, Keeps}
 use Rattle.std.proofs.KnownBytes.{Consumes-kept, Consumes-nil, Consumes-trans}
 use Rattle.std.proofs.Math.Seq.{take-append-add}
 use Rattle.std.proofs.lemmas.List.{length-take-le, take-append-le, take_all}
@@ -12,10 +12,10 @@ use Rattle.ov_fields.specs.Spelling.{u32}
 use Rattle.ov_io.specs.declared.traits.Fault.{Fault}
 use Rattle.ov_peer.specs.declared.fault.PeerFault.{PeerFault}
 use Rattle.ov_peer.specs.declared.fault.PeerFault.TheVariants as faults
-use Rattle.ov_wire.specs.Frames.{IsBadLength, IsFrame, IsFrameLength, IsUnfinished, in_frame, framed}
-use Rattle.ov_session.specs.Links.{Link, LinkRose}
-use Rattle.ov_session.specs.Reading.{ExchangesOrFails, FailsReading, FailsTaking, Fills, IsReason, Reads, TakesBody, TakesFrame}
-use Rattle.ov_session.specs.Replies.{Breaks, EndsEarly, Exchanges, HasBadLength, LinkFails}
+use Rattle.ov_wire.specs.Frames.{IsBadLength, IsFrameLength, in_frame, framed}
+use Rattle.ov_session.specs.Links.{Link}
+use Rattle.ov_session.specs.Reading.{ExchangesOrFails, FailsReading, Fills, IsReason, Reads, TakesBody, TakesFrame}
+use Rattle.ov_session.specs.Replies.{Breaks, LinkFails}
 use Rattle.ov_session.specs.Steps.{PutsFrame}
 
 -- what was put into the middle of a list stands behind its front

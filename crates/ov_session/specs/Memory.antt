@@ -1,5 +1,5 @@
 -- A door in memory.
-use Rattle.std.specs.Prelude.{◌≡◌, ℕ, List, Option, Some, map, Bool, slice_get}
+use Rattle.std.specs.Prelude.{◌≡◌, ℕ, List, Some, map, Bool, slice_get}
 use Rattle.std.specs.Option.{option_map}
 use Rattle.ov_io.specs.declared.stream.MemStream.{MemStream}
 use Rattle.ov_session.specs.declared.memory.Gave.{Gave}

@@ -1,5 +1,5 @@
 -- What a peer behind a stream tells.
-use Rattle.std.specs.Prelude.{◌≡◌, ◌⊎◌, ℕ, List, [], take}
+use Rattle.std.specs.Prelude.{◌≡◌, ◌⊎◌, ℕ, List, take}
 use Rattle.std.specs.Io.KnownBytes.{Appends, Consumes, IsAtEnd}
 use Rattle.ov_wire.specs.Frames.{IsBadLength, IsUnfinished, framed}
 use Rattle.ov_session.specs.Links.{Link, LinkRose}

@@ -25,6 +25,7 @@
 //! | `Serving` | sessions one after the other |
 //! | `Replies` | what a peer behind a stream tells, and why it fails |
 //! | `Memory` | a door in memory |
+//! | `Laws` | the same bytes end a session in the same way ([`inputs_end_one_way`]) |
 #![tactic(auto)]
 
 mod alone;
@@ -34,6 +35,7 @@ mod each;
 mod end;
 mod fault;
 mod gate;
+mod laws;
 mod memory;
 mod one;
 mod peer;
@@ -50,6 +52,7 @@ pub use each::serve_each;
 pub use end::SessionEnd;
 pub use fault::AskFault;
 pub use gate::{Gate, OpenGate};
+pub use laws::inputs_end_one_way;
 pub use memory::{MemDoor, Returned};
 pub use one::serve_one;
 pub use peer::NetPeer;

@@ -1,4 +1,3 @@
-use Rattle.std.proofs.Common.{◌≡◌}
 use Rattle.ov_session.specs.Serving.{serves_alone}
 use Rattle.ov_session.specs.Turns.{ServesSome}
 use Rattle.ov_session.proofs.each.serve_each.Given as goal

@@ -1,4 +1,4 @@
-use Rattle.std.proofs.Common.{◌∙◌, rules, subst, take, drop, suc, arith}
+use Rattle.std.proofs.Common.{◌∙◌, subst, take, drop, suc, arith}
 use Rattle.ov_session.specs.Links.{link}
 use Rattle.ov_session.specs.Steps.{AnswersThem}
 use Rattle.ov_session.proofs.Answering.{front_at, one_more, parts_at, stopped}

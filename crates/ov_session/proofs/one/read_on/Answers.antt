@@ -1,4 +1,4 @@
-use Rattle.std.proofs.Common.{◌≡◌, ◌++◌, ◌<◌, [], List, ℕ, length, min, ◌+◌, refl, rules, subst, sym, take, arith}
+use Rattle.std.proofs.Common.{◌≡◌, ◌<◌, [], List, ℕ, length, min, ◌+◌, subst, sym, arith}
 use Rattle.std.proofs.lemmas.Grind.{common_steps}
 use Rattle.ov_wire.specs.Frames.{Feeds}
 use Rattle.ov_session.specs.Ends.{Serves}

@@ -1,4 +1,4 @@
-use Rattle.std.proofs.Common.{◌≡◌, ◌∙◌, ◌-◌, length, rules, subst, sym, ap, take}
+use Rattle.std.proofs.Common.{◌∙◌, ◌-◌, length, rules, subst, sym, take}
 use Rattle.ov_session.specs.Links.{link}
 use Rattle.ov_session.specs.Reading.{Reads}
 use Rattle.ov_session.proofs.Replying.{reads_on, take_put}
