@@ -109,7 +109,7 @@ fn take_length<L: Stream>(stream: &mut L) -> Result<usize, Fault>
     Ok(wanted)
 }
 
-/// Reads the frame behind a length field, in place of what was in `reply`.
+/// Reads the frame behind a length field into `reply`, which loses what it had.
 fn take_body<L: Stream>(stream: &mut L, wanted: usize, reply: &mut Vec<u8>) -> Result<(), PeerFault>
     requires { IsFrameLength wanted }
     ensures takes { TakesBody
@@ -134,7 +134,7 @@ fn take_body<L: Stream>(stream: &mut L, wanted: usize, reply: &mut Vec<u8>) -> R
     }
 }
 
-/// Reads the next frame, in place of what was in `reply`.
+/// Reads the next frame into `reply`, which loses what it had.
 fn take_frame<L: Stream>(stream: &mut L, reply: &mut Vec<u8>) -> Result<(), PeerFault>
     ensures takes { TakesFrame
         (link L.Source.left L.Sink.written L.Source.faults L.Sink.faults stream.old)
