@@ -33,7 +33,7 @@ exec 9<&-
 # The empty script looks at the whole copy, and has it synced.
 ln -s "$folder/keys.hex" "$copy.untried/keys.hex"
 copy_end=$(cd "$copy.untried" && overstore run "$mode" < /dev/null)
-rm "$copy.untried/keys.hex"
+rm "$copy.untried/keys.hex" "$copy.untried/trace.bin"
 if [ "$copy_end" != "$store_end" ]; then
     echo "backup.sh: $copy.untried has '$copy_end', the store had '$store_end'" >&2
     exit 1

@@ -18,6 +18,7 @@ use Rattle.overstore.specs.Disks.{Holds, KeepsPlain, KeepsStep, StandsForPlain}
 use Rattle.overstore.specs.LoadEnding.{IsFrontAt, KeepsAt, LoadTracesAs, TracedTo, TracesLoad, TracesWhole}
 use Rattle.overstore.specs.Loading.{LoadedTo, TalliesAt, after_first, after_load}
 use Rattle.overstore.specs.Machine.{KeptOn, StandsFor, StepsAt}
+use Rattle.ov_transcript.specs.Transcripts.{IsTranscriptFront}
 use Rattle.overstore.specs.Tracing.{TracesAt, Transcribes, TranscribesAll, TranscribesFront}
 use Rattle.overstore.specs.declared.fault.StepFault.{StepFault}
 use Rattle.overstore.specs.declared.fault.StepFault.TheVariants.{Disk, Memory, Tag, Trace}
@@ -70,7 +71,7 @@ module _ {D : Type 0} (reads : D → Option Image) (may_leave : D → Image → 
         (subst (λ (x : Masters). Transcribes x q command now new) masters (traces q s.stands))
 
     -- one more wasn't
-    stops_in : (command : Command) → ((bytes : List ℕ) → Rattle.overstore.specs.Transcripts.IsTranscriptFront k q command bytes → IsFrontAt k h load place bytes)
+    stops_in : (command : Command) → ((bytes : List ℕ) → IsTranscriptFront k q command bytes → IsFrontAt k h load place bytes)
         → ((j : PlainHistory) → StandsFor mid.kept j → TranscribesFront mid.kept.masters j command now new)
         → (Holds reads may_leave k q mid.disk → (c : Image) → may_leave last.disk c → KeepsAt k h load place c)
         → TracedTo may_leave k h load last.disk old new (Holds reads may_leave k h first.disk)
@@ -97,6 +98,9 @@ module _ {D : Type 0} (reads : D → Option Image) (may_leave : D → Image → 
 
     next_is : next.place ≡ w.place + 1
     next_is = ap (λ (x : Progress). x.place) gives.2
+
+    under : w.place < WORKLOAD_USERS + load.count
+    under = omega (arith, gives.0, counts)
 
     below : w.place ≤ WORKLOAD_USERS + load.count
     below = omega (arith, gives.0, counts)
@@ -129,7 +133,7 @@ module _ {D : Type 0} (reads : D → Option Image) (may_leave : D → Image → 
         → TracedTo may_leave k h load last.disk old new (Holds reads may_leave k h first.disk)
     sent_stops {T} r fault at tallies traces =
         stops_in w.place below before mid last masters old now new s sent command
-        (λ bytes front. inl (subst (λ c. Rattle.overstore.specs.Transcripts.IsTranscriptFront k (after_first h load w.place) c bytes) command_is front)) traces
+        (λ bytes front. inl (under, subst (λ c. IsTranscriptFront k (after_first h load w.place) c bytes) command_is front)) traces
         (leaves_now T fault (subst (λ c. TalliesAt reads may_leave moment left_since {T = T} k (after_first h load w.place) c before now_tally mid last (Err fault)) command_is
         (subst (λ (x : Result T StepFault). TalliesAt reads may_leave moment left_since k (after_first h load w.place) command before now_tally mid last x) at
         (tallies k (after_first h load w.place) masters s.stands))))

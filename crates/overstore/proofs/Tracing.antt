@@ -27,7 +27,7 @@ use Rattle.overstore.specs.Machine.{Kept, StandsFor}
 use Rattle.overstore.specs.Printing.{disk_line, memory_line, read_line}
 use Rattle.overstore.specs.Tracing.{IsNextFront, TracedAll, TracedFirst, TracedPart, TracedSoFar, TracesAs, TracesLine, TracesSoFar, TracesTo}
 use Rattle.overstore.specs.Tracing.{TranscribesAll, TranscribesFirst, TranscribesFront, Transcribes, asked_by}
-use Rattle.overstore.specs.Transcripts.{IsTranscriptFront, Transcribed, Transcripts}
+use Rattle.ov_transcript.specs.Transcripts.{IsTranscriptFront, Transcribed, Transcripts}
 use Rattle.overstore.specs.declared.answer.Stop.{Stop}
 use Rattle.overstore.specs.declared.answer.Stop.TheVariants.{End, BadLine, Long, Read, Write, Disk, Trace, Memory, Tag}
 use Rattle.overstore.specs.declared.fault.StepFault.{StepFault}

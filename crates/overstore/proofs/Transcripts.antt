@@ -4,8 +4,7 @@ use Rattle.std.proofs.lemmas.List.{append-nil}
 use Rattle.ov_script.specs.declared.command.Command.{Command}
 use Rattle.ov_history.specs.Masters.{Masters}
 use Rattle.ov_history.specs.Plain.{PlainHistory}
-use Rattle.ov_transcript.specs.Transcripts.{frames}
-use Rattle.overstore.specs.Transcripts.{IsTranscriptFront, Transcribed}
+use Rattle.ov_transcript.specs.Transcripts.{IsTranscriptFront, Transcribed, frames}
 use Rattle.overstore.proofs.Reading.{take_whole}
 
 pub whole_is_front : (k : Masters) (p : PlainHistory) (command : Command) (bytes : List ℕ) → Transcribed k p command bytes → IsTranscriptFront k p command bytes

@@ -15,5 +15,4 @@ pub mod Status
 pub mod Summary
 pub mod Tallying
 pub mod Tracing
-pub mod Transcripts
 pub mod Words

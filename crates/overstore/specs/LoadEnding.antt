@@ -1,5 +1,5 @@
 -- How a load ends: what it prints and sends, and what a stop leaves.
-use Rattle.std.specs.Prelude.{◌≡◌, ◌⊎◌, ℕ, suc, ◌+◌, ◌≤◌, List, [], ◌∷◌, ◌++◌, Option, Result, Ok, Err}
+use Rattle.std.specs.Prelude.{◌≡◌, ◌⊎◌, ℕ, suc, ◌+◌, ◌<◌, ◌≤◌, List, [], ◌∷◌, ◌++◌, Option, Result, Ok, Err}
 use Rattle.std.specs.Io.KnownBytes.{Appends}
 use Rattle.ov_disk.specs.Disk.{Image}
 use Rattle.ov_disk.specs.Moments.{LeavesOnly}
@@ -11,7 +11,7 @@ use Rattle.ov_history.specs.Plain.{PlainHistory}
 use Rattle.overstore.specs.Disks.{StandsForPlain}
 use Rattle.overstore.specs.Loading.{EndsLoad, KeepsSome, LastsAs, after_first, after_load}
 use Rattle.overstore.specs.Tracing.{TranscribesAll}
-use Rattle.overstore.specs.Transcripts.{IsTranscriptFront, Transcripts}
+use Rattle.ov_transcript.specs.Transcripts.{IsTranscriptFront, Transcripts}
 use Rattle.overstore.specs.declared.fault.StepFault.{StepFault}
 use Rattle.overstore.specs.declared.load_words.Load.{Load}
 use Rattle.overstore.specs.declared.tally.Tally.{Tally}
@@ -25,7 +25,8 @@ KeepsAt k h load place c =
 -- a front of what is asked and replied for the command behind so many, or for the end of the load
 abbrev pub IsFrontAt : Masters → PlainHistory → Load → ℕ → List ℕ → Type 0
 IsFrontAt k h load place bytes =
-    IsTranscriptFront k (after_first h load place) (command_at load.number place) bytes
+    ((place < WORKLOAD_USERS + load.count)
+    × IsTranscriptFront k (after_first h load place) (command_at load.number place) bytes)
     ⊎ ((place ≡ WORKLOAD_USERS + load.count)
     × IsTranscriptFront k (after_first h load place) AskEpoch bytes)
 

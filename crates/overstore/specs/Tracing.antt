@@ -15,7 +15,7 @@ use Rattle.ov_model.specs.Lines.{lines}
 use Rattle.ov_model.specs.Step.{after_all, reply_to}
 use Rattle.overstore.specs.Disks.{HasAnswered}
 use Rattle.overstore.specs.Machine.{Kept, StandsFor}
-use Rattle.overstore.specs.Transcripts.{IsTranscriptFront, Transcribed, Transcripts}
+use Rattle.ov_transcript.specs.Transcripts.{IsTranscriptFront, Transcribed, Transcripts}
 use Rattle.overstore.specs.declared.answer.Stop.{Stop}
 use Rattle.overstore.specs.declared.answer.Stop.TheVariants.{End, BadLine, Long}
 use Rattle.overstore.specs.declared.answer.Stop.TheVariants.{Read, Write, Disk, Trace, Memory, Tag}
