@@ -111,7 +111,7 @@ module _ {D : Type 0} (reads : D → Option Image) (may_leave : D → Image → 
         → (more : List ℕ) → ArePut w o more → Appends (put a) (put b) (frames asks ++ more)
         → IsAnswered made → Transcribes k p command (put a) (put b)
     whole w alone more are_put put_all answered =
-        let none : more ≡ [] = no_more more w o are_put answered talks.1.1 in (
+        let none : more ≡ [] = no_more more w o are_put answered talks.2 in (
           frames asks,
           (asks, talks_are_transcripts k p command e asks o made w ours talks legal alone answered, refl),
           subst (λ (bytes : List ℕ). Appends (put a) (put b) bytes)
@@ -132,7 +132,7 @@ module _ {D : Type 0} (reads : D → Option Image) (may_leave : D → Image → 
         server put loan seat (x ∷ []) a b (service_of k p) serves (b, asks, refl) in (
           x,
           refl,
-          record { form = form; asked = refl; made = alone.0; replied = alone.1.0 },
+          record { form = form; asked = refl; made = alone.0; replied = alone.1 },
           frames_put reads may_leave moment left_since borrow faults_of asked failed server put loan
               seat (x ∷ []) a b (b, asks, refl),
         )
@@ -288,7 +288,7 @@ module _ {D : Type 0} (reads : D → Option Image) (may_leave : D → Image → 
         let put_so : Appends (put a) (put d) (frames (key ∷ asks) ++ more) =
         subst (λ (bytes : List ℕ). Appends (put a) (put d) bytes) joined put_all in
         traces_so k p (Read user file) (put a) (put d) reply
-        (λ given is_ok. let none : more ≡ [] = none_left more w o are_put (replied given is_ok) talks.1.1 in (
+        (λ given is_ok. let none : more ≡ [] = none_left more w o are_put (replied given is_ok) talks.2 in (
           frames (key ∷ asks),
           (key ∷ asks, reads_are_transcripts k p user file key known r asks o found w first reads_as named talks legal alone (replied given is_ok), refl),
           subst (λ (bytes : List ℕ). Appends (put a) (put d) bytes)

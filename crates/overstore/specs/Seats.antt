@@ -4,6 +4,7 @@ use Rattle.std.specs.Prelude.{◌⊎◌}
 use Rattle.ov_disk.specs.Disk.{Image}
 use Rattle.ov_peer.specs.Asks.{Ask, Asked, Failed}
 use Rattle.ov_peer.specs.Tracing.{TracesAsk, TracesFault}
+use Rattle.ov_peer.specs.declared.traced.Traced.{Traced}
 use Rattle.ov_server.specs.Answering.{AsksServer}
 use Rattle.ov_store.specs.Opened.{Opened}
 
@@ -39,3 +40,19 @@ module _ {D : Type 0} (reads : D → Option Image) (may_leave : D → Image → 
   AllStay s [] = Unit {0}
   AllStay s (a ∷ asks) =
       ((t : Opened D) × served s a.request a.reply t × (t ≡ s)) × AllStay s asks
+
+-- ---- a traced peer, as it tells of its asks
+
+-- an ask that was answered: both frames were put, and the sink stays lent as it was
+abbrev pub traced_asked : {P T : Type 0} → Asked P → (T → Option (List ℕ)) → (T → ℕ)
+    → Asked (Traced P T)
+traced_asked asked written borrow p request reply q =
+    TracesAsk asked p.peer q.peer (written p.sink) (written q.sink) request reply
+    × (borrow q.sink ≡ borrow p.sink)
+
+-- one that failed
+abbrev pub traced_failed : {P T : Type 0} → Asked P → Failed P → (T → Option (List ℕ)) → (T → ℕ)
+    → Failed (Traced P T)
+traced_failed asked failed written borrow p request q =
+    TracesFault asked failed p.peer q.peer (written p.sink) (written q.sink) request
+    × (borrow q.sink ≡ borrow p.sink)

@@ -35,6 +35,7 @@ mod finish;
 mod load;
 mod load_words;
 mod loading;
+mod kept_loans;
 mod machine;
 mod questions;
 mod replying;

@@ -8,6 +8,7 @@ ghost use Rattle.overstore.specs.Tracing.{Traces};
 ghost use Rattle.overstore.specs.declared.fault.StepFault.TheVariants.{Trace};
 
 use crate::fault::StepFault;
+use crate::kept_loans;
 use crate::machine::Machine;
 use crate::replying::{epoch_reply, names_reply, read_reply, unread_reply};
 use ov_base::Name;
@@ -29,8 +30,8 @@ impl<D: Disk> Machine<D> {
         ensures sink { PutsTo T.written T.faults (result ≡ Err Trace) trace.old trace.new }
     {
         let mut peer = Traced::new(&mut self.peer, trace);
-        let told = self.owner.hello(alloc, &mut peer);
-        let _ = peer.into_parts();
+        let told = kept_loans::hello(&self.owner, alloc, &mut peer);
+        let Traced { peer: _, sink: _ } = peer;
         epoch_reply(told)
     }
 
@@ -50,8 +51,8 @@ impl<D: Disk> Machine<D> {
         ensures sink { PutsTo T.written T.faults (result ≡ Err Trace) trace.old trace.new }
     {
         let mut peer = Traced::new(&mut self.peer, trace);
-        let told = self.owner.list(alloc, &mut peer, &file);
-        let _ = peer.into_parts();
+        let told = kept_loans::list(&self.owner, alloc, &mut peer, &file);
+        let Traced { peer: _, sink: _ } = peer;
         names_reply(file, told)
     }
 
@@ -72,14 +73,14 @@ impl<D: Disk> Machine<D> {
         ensures sink { PutsTo T.written T.faults (result ≡ Err Trace) trace.old trace.new }
     {
         let mut peer = Traced::new(&mut self.peer, trace);
-        match self.owner.client(alloc, &mut peer, &user) {
+        match kept_loans::client(&self.owner, alloc, &mut peer, &user) {
             Ok(client) => {
-                let found = client.fetch(alloc, &mut peer, &file);
-                let _ = peer.into_parts();
+                let found = kept_loans::fetch(&client, alloc, &mut peer, &file);
+                let Traced { peer: _, sink: _ } = peer;
                 read_reply(user, file, found)
             }
             Err(fault) => {
-                let _ = peer.into_parts();
+                let Traced { peer: _, sink: _ } = peer;
                 unread_reply(fault)
             }
         }
