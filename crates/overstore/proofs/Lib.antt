@@ -14,6 +14,7 @@ pub mod KeyFiles
 pub mod Lending
 pub mod LendingLoads
 pub mod Lent
+pub mod LentQuestions
 pub mod Listing
 pub mod Lists
 pub mod LoadEnds

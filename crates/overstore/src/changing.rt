@@ -12,7 +12,7 @@ use crate::fault::StepFault;
 use crate::kept_loans;
 use crate::machine::Machine;
 use crate::replying::change_reply;
-use ov_base::{Name, Names, Octets};
+use ov_base::{Name, Names};
 use ov_disk::Disk;
 use ov_io::Sink;
 use ov_peer::Traced;
@@ -47,7 +47,7 @@ impl<D: Disk> Machine<D> {
         alloc: Global,
         file: &Name,
         list: &Names,
-        bytes: &Octets,
+        bytes: &[u8],
         trace: &mut T,
     ) -> Result<Reply, StepFault>
         requires healthy { self.old.failed ≡ false }
@@ -60,7 +60,7 @@ impl<D: Disk> Machine<D> {
         ensures sink { PutsTo T.written T.faults (result ≡ Err Trace) trace.old trace.new }
     {
         let mut peer = Traced::new(&mut self.peer, trace);
-        let made = kept_loans::create(&self.owner, alloc, &mut peer, file, list, bytes.as_slice());
+        let made = kept_loans::create(&self.owner, alloc, &mut peer, file, list, bytes);
         let Traced { peer: _, sink: _ } = peer;
         change_reply(made)
     }

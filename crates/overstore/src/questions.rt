@@ -72,6 +72,7 @@ impl<D: Disk> Machine<D> {
         ensures step { IsStep D.borrow D.faults self.old self.new result }
         ensures sink { PutsTo T.written T.faults (result ≡ Err Trace) trace.old trace.new }
     {
+        self.peer.server().known();
         let mut peer = Traced::new(&mut self.peer, trace);
         match kept_loans::client(&self.owner, alloc, &mut peer, &user) {
             Ok(client) => {
