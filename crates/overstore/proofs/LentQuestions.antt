@@ -16,12 +16,12 @@ use Rattle.ov_wire.specs.declared.request.Request.{Request}
 use Rattle.ov_wire.specs.declared.request.Request.TheVariants as requests
 use Rattle.ov_wire.specs.Requests.{HasRequestForm}
 use Rattle.ov_peer.specs.Asks.{AreAsks, Ask}
-use Rattle.ov_client.specs.Causes.{HasClientCause, IsClientCause}
 use Rattle.ov_client.specs.Readers.{Reader}
 use Rattle.ov_client.specs.Reads.{Reads}
 use Rattle.ov_client.specs.declared.fault.ClientFault.{ClientFault}
 use Rattle.ov_client.specs.declared.fault.ClientFault.TheVariants as client
-use Rattle.ov_store.specs.Opened.{Opened}
+use Rattle.ov_history.specs.Sealed.{SealedHistory}
+use Rattle.ov_store.specs.Opened.{Opened, Serves}
 use Rattle.ov_owner.specs.Causes.{HasOwnerCause}
 use Rattle.ov_owner.specs.Clients.{reader_in}
 use Rattle.ov_owner.specs.Questions.{AsksOnce, names_in, welcome_in}
@@ -29,12 +29,15 @@ use Rattle.ov_owner.specs.declared.fault.OwnerFault.{OwnerFault}
 use Rattle.ov_owner.specs.declared.fault.OwnerFault.TheVariants as faults
 use Rattle.overstore.specs.Answering.{PutsTo}
 use Rattle.overstore.specs.Machine.{KeptOn, opened_of}
-use Rattle.overstore.specs.Replying.{HasOwnFault, HasReadFault, MayCome, epoch_reply, fault_reply, names_reply, read_reply}
+use Rattle.overstore.specs.Replying.{HasFoundFault, HasOwnFault, HasReadFault, MayCome, epoch_reply, fault_reply, found_reply, names_reply, read_reply}
+use Rattle.overstore.specs.Seats.{HasFoundCause, ReadsBy}
+use Rattle.overstore.specs.declared.replying.Found.{Found}
+use Rattle.overstore.specs.declared.replying.Found.TheVariants.{Read, Unread}
 use Rattle.overstore.specs.Tracing.{TracesAt}
 use Rattle.overstore.specs.declared.fault.StepFault.{StepFault}
 use Rattle.overstore.specs.declared.fault.StepFault.TheVariants.{Trace}
 use Rattle.overstore.proofs.Done.{IsDone, hello_done, hello_proper, list_done, list_proper}
-use Rattle.overstore.proofs.DoneReads.{read_done, read_proper, unread_done, unread_proper}
+use Rattle.overstore.proofs.DoneReads.{has_lengths, read_done, read_proper, unread_done, unread_proper}
 use Rattle.overstore.proofs.Fetching.{HasLengths}
 use Rattle.overstore.proofs.Lent.{IsWhole, Lent, keeps_keys, lent_asked, lent_failed, loan_of, opens_as, put_of, puts_more, seat, store_of}
 use Rattle.overstore.proofs.Listing.{hello_plain, key_plain, list_plain}
@@ -290,34 +293,75 @@ module _ {D T : Type 0} (reads : D → Option Image) (may_leave : D → Image �
           (seat reads may_leave moment left_since borrow faults_of only_now counts_now written sink_faults)
           k user file a b form r found d asks talk sizes_a sound_a
 
-      read_puts : HasOwnerCause {T = Reader} (0 + sink_faults a.sink.now) (0 + sink_faults b.sink.now) (Ok r)
-          → HasClientCause (0 + sink_faults b.sink.now) (0 + sink_faults d.sink.now) found
+      read_puts : HasFoundCause (0 + sink_faults a.sink.now) (0 + sink_faults d.sink.now) (Read found)
           → PutsTo written sink_faults (read_reply user file found ≡ Err Trace) a.sink.now d.sink.now
-      read_puts first then =
+      read_puts cause =
           let (list, o, are, talks) = talk in
           let one = once_grew (requests.Ask (questions.Key user)) (reader_in k user) (key_plain user form) b (Ok r) asks in
           let more = puts_more reads may_leave moment left_since borrow faults_of only_now counts_now written sink_faults
           list o b d are in record {
             grew = (_, Appends-trans (written a.sink.now) (written b.sink.now) (written d.sink.now) _ _ one.1 more.1);
-            later = omega (arith, first.later, then.later);
-            write = λ is. rose_so (read_link user file found read_fault is);
-          } where
-        rose_so : found ≡ Err client.Link → Rose (sink_faults a.sink.now) (sink_faults d.sink.now)
-        rose_so is =
-            let rose : Rose (0 + sink_faults b.sink.now) (0 + sink_faults d.sink.now) =
-            subst (IsClientCause (0 + sink_faults b.sink.now) (0 + sink_faults d.sink.now)) is then.failed in
-            omega (arith, rose, first.later)
+            later = omega (arith, cause.later);
+            write = λ is.
+                let rose = cause.read (ap Read (read_link user file found read_fault is)) in omega (arith, rose);
+          }
 
       pub read_all : (t_old t_new : T) (reply : Result Reply StepFault) → a.sink.now ≡ t_old
           → d.sink.now ≡ t_new
-          → HasOwnerCause {T = Reader} (0 + sink_faults a.sink.now) (0 + sink_faults b.sink.now) (Ok r)
-          → HasClientCause (0 + sink_faults b.sink.now) (0 + sink_faults d.sink.now) found
+          → HasFoundCause (0 + sink_faults a.sink.now) (0 + sink_faults d.sink.now) (Read found)
           → reply ≡ read_reply user file found → Whole (commands.Read user file) d t_old t_new reply
-      read_all t_old t_new reply put_a put_d first then replied =
+      read_all t_old t_new reply put_a put_d cause replied =
           subst (Whole (commands.Read user file) d t_old t_new) (sym replied)
           (whole_so (commands.Read user file) d t_old t_new (read_reply user file found)
           (read_done reads may_leave moment left_since borrow faults_of only_now counts_now _ _ _ _ _
           (seat reads may_leave moment left_since borrow faults_of only_now counts_now written sink_faults)
           k user file a b form r found d asks talk sizes_a sound_a (machine_of k s) (machine_of k d.peer.now) refl
           at_old (opens_as k d.peer.now read_keys) refl)
-          (read_puts first then) put_a put_d)
+          (read_puts cause) put_a put_d)
+
+  -- whatever came of it
+  module _ (user file : List ℕ) (form : HasRequestForm (requests.Ask (questions.Key user))) (d : Peer)
+      (some : (g : SealedHistory) × Serves reads may_leave g s) (sound : old.failed ≡ false) where
+    sound_s : s.failed ≡ false
+    sound_s = ap (λ (m : KeptOn D). m.failed) seen ∙ sound
+
+    sizes_s : HasLengths s
+    sizes_s = has_lengths reads may_leave s some.0 some.1
+
+    abbrev ReadsIt : Found → Type 0
+    ReadsIt found =
+        ReadsBy
+        (lent_asked reads may_leave moment left_since borrow faults_of only_now counts_now written sink_faults)
+        (lent_failed reads may_leave moment left_since borrow faults_of only_now counts_now written sink_faults)
+        k a d user file found
+
+    pub found_keys : (found : Found) → ReadsIt found → d.peer.now.keys ≡ keys_of k
+    found_keys (Unread fault) asks = unread_keys user file form d fault asks
+    found_keys (Read found) (r, m, asks, talk) =
+        read_keys user file form m r found d asks talk sizes_s sound_s
+
+    pub found_fault : (found : Found) → ReadsIt found → HasFoundFault found
+    found_fault (Unread fault) asks = unread_fault user file form d fault asks
+    found_fault (Read found) (r, m, asks, talk) =
+        read_fault user file form m r found d asks talk sizes_s sound_s
+
+    found_so : (found : Found) (t_old t_new : T) → ReadsIt found → a.sink.now ≡ t_old
+        → d.sink.now ≡ t_new
+        → HasFoundCause (0 + sink_faults a.sink.now) (0 + sink_faults d.sink.now) found
+        → Whole (commands.Read user file) d t_old t_new (found_reply user file found)
+    found_so (Unread fault) t_old t_new asks put_a put_d cause =
+        unread_all user file form d fault asks t_old t_new (fault_reply fault) put_a put_d
+        (record { later = cause.later; link = λ is. cause.unread (ap Unread (fault_of fault is)) }) refl where
+      fault_of : (f : OwnerFault) → Err {T = Reader} f ≡ Err faults.Link → f ≡ faults.Link
+      fault_of f is = cc is
+    found_so (Read found) t_old t_new (r, m, asks, talk) put_a put_d cause =
+        read_all user file form m r found d asks talk sizes_s sound_s t_old t_new
+        (read_reply user file found) put_a put_d cause refl
+
+    pub found_all : (found : Found) (t_old t_new : T) (reply : Result Reply StepFault) → ReadsIt found
+        → a.sink.now ≡ t_old → d.sink.now ≡ t_new
+        → HasFoundCause (0 + sink_faults a.sink.now) (0 + sink_faults d.sink.now) found
+        → reply ≡ found_reply user file found → Whole (commands.Read user file) d t_old t_new reply
+    found_all found t_old t_new reply by put_a put_d cause replied =
+        subst (Whole (commands.Read user file) d t_old t_new) (sym replied)
+        (found_so found t_old t_new by put_a put_d cause)

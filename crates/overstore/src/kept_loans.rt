@@ -12,8 +12,9 @@ ghost use Rattle.ov_owner.specs.Causes.{HasOwnerCause};
 ghost use Rattle.ov_owner.specs.Clients.{reader_in};
 ghost use Rattle.ov_owner.specs.Errands.{IsCreation, creating, enrolling, granting, revoking};
 ghost use Rattle.ov_owner.specs.Questions.{AsksOnce, names_in, welcome_in};
-ghost use Rattle.overstore.specs.Seats.{traced_asked, traced_failed};
+ghost use Rattle.overstore.specs.Seats.{HasFoundCause, ReadsBy, traced_asked, traced_failed};
 
+use crate::replying::Found;
 use ov_base::{Name, Names, Octets};
 use ov_client::{Client, ClientFault};
 use ov_io::Sink;
@@ -137,7 +138,7 @@ pub fn list<P: Peer + Drop, T: Sink + Drop>(
 }
 
 /// Makes the reader of a user.
-pub fn client<P: Peer + Drop, T: Sink + Drop>(
+fn client<P: Peer + Drop, T: Sink + Drop>(
     owner: &Owner,
     alloc: Global,
     peer: &mut Traced<P, T>,
@@ -156,19 +157,42 @@ pub fn client<P: Peer + Drop, T: Sink + Drop>(
 }
 
 /// Reads a file with the keys of a reader.
-pub fn fetch<P: Peer + Drop, T: Sink + Drop>(
-    client: &Client,
+fn fetch<P: Peer + Drop, T: Sink + Drop>(
+    client: Client,
     alloc: Global,
     peer: &mut Traced<P, T>,
     file: &Name,
 ) -> Result<Octets, ClientFault>
     ensures talk { Reads (traced_asked P.asked T.written T.borrow)
         (traced_failed P.asked P.failed T.written T.borrow)
-        peer.old peer.new client.now file.now result }
+        peer.old peer.new client file.now result }
     ensures lent { T.borrow peer.new.sink ≡ T.borrow peer.old.sink }
     ensures same { P.borrow peer.new.peer ≡ P.borrow peer.old.peer }
     ensures cause { HasClientCause (P.faults peer.old.peer + T.faults peer.old.sink)
         (P.faults peer.new.peer + T.faults peer.new.sink) result }
 {
     client.fetch(alloc, peer, file)
+}
+
+/// Makes the reader of a user, and reads a file with its keys.
+pub fn read<P: Peer + Drop, T: Sink + Drop>(
+    owner: &Owner,
+    alloc: Global,
+    peer: &mut Traced<P, T>,
+    user: &Name,
+    file: &Name,
+) -> Found
+    ensures reads { ReadsBy (traced_asked P.asked T.written T.borrow)
+        (traced_failed P.asked P.failed T.written T.borrow)
+        owner.now peer.old peer.new user.now file.now result }
+    ensures form { HasRequestForm (Ask (AsksKey user.now)) }
+    ensures lent { T.borrow peer.new.sink ≡ T.borrow peer.old.sink }
+    ensures same { P.borrow peer.new.peer ≡ P.borrow peer.old.peer }
+    ensures cause { HasFoundCause (P.faults peer.old.peer + T.faults peer.old.sink)
+        (P.faults peer.new.peer + T.faults peer.new.sink) result }
+{
+    match client(owner, alloc, peer, user) {
+        Ok(client) => Found::Read(fetch(client, alloc, peer, file)),
+        Err(fault) => Found::Unread(fault),
+    }
 }

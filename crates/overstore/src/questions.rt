@@ -10,7 +10,7 @@ ghost use Rattle.overstore.specs.declared.fault.StepFault.TheVariants.{Trace};
 use crate::fault::StepFault;
 use crate::kept_loans;
 use crate::machine::Machine;
-use crate::replying::{epoch_reply, names_reply, read_reply, unread_reply};
+use crate::replying::{epoch_reply, found_reply, names_reply};
 use ov_base::Name;
 use ov_disk::Disk;
 use ov_io::Sink;
@@ -74,16 +74,8 @@ impl<D: Disk> Machine<D> {
     {
         self.peer.server().known();
         let mut peer = Traced::new(&mut self.peer, trace);
-        match kept_loans::client(&self.owner, alloc, &mut peer, &user) {
-            Ok(client) => {
-                let found = kept_loans::fetch(&client, alloc, &mut peer, &file);
-                let Traced { peer: _, sink: _ } = peer;
-                read_reply(user, file, found)
-            }
-            Err(fault) => {
-                let Traced { peer: _, sink: _ } = peer;
-                unread_reply(fault)
-            }
-        }
+        let found = kept_loans::read(&self.owner, alloc, &mut peer, &user, &file);
+        let Traced { peer: _, sink: _ } = peer;
+        found_reply(user, file, found)
     }
 }
