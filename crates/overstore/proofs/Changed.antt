@@ -58,14 +58,14 @@ update_taken surface c epoch u a ready spelled (tagged, now, is) form =
     (subst (λ (r : Result SealedUpdate ℕ). AnswersSpelled c r a) (read_back u spelled) is) form
 
 module _ {D : Type 0} (reads : D → Option Image) (may_leave : D → Image → Type 0)
-    (moment : D → ℕ) (left_since : D → ℕ → Image → Type 0) (borrow faults : D → ℕ)
+    (moment : D → ℕ) (left_since : D → ℕ → Image → Type 0) (borrow faults_of : D → ℕ)
     (surface : List ℕ) (e : Errand) (is_honest : IsHonest e) where
   abbrev asked : Opened D → List ℕ → List ℕ → Opened D → Type 0
   asked s request reply t =
-      served reads may_leave moment left_since borrow faults s request reply t
+      served reads may_leave moment left_since borrow faults_of s request reply t
 
   abbrev LeftBy : Opened D → Option (List ℕ) → Opened D → Type 0
-  LeftBy m o t = LeftBySeat reads may_leave moment left_since borrow faults m o t
+  LeftBy m o t = LeftBySeat reads may_leave moment left_since borrow faults_of m o t
 
   abbrev frame_of : ℕ → SealedUpdate → List ℕ
   frame_of epoch u = request_bytes (update_request surface epoch u)
@@ -325,7 +325,7 @@ module _ {D : Type 0} (reads : D → Option Image) (may_leave : D → Image → 
         let ours = first_is frame due in
         let spelled : frame ≡ request_bytes e.first =
         due.spelled ∙ ap request_bytes (sym ours) in
-        let quiet = quiet_asked reads may_leave moment left_since borrow faults m t e.first reply
+        let quiet = quiet_asked reads may_leave moment left_since borrow faults_of m t e.first reply
         due.form is_honest.quiet
         (subst (λ (x : List ℕ). asked m x reply t) spelled lost) in
         cut (quiet.0 ∙ sym leads) why
@@ -334,7 +334,7 @@ module _ {D : Type 0} (reads : D → Option Image) (may_leave : D → Image → 
         let ours = first_is a.request due in
         let spelled : a.request ≡ request_bytes e.first =
         due.spelled ∙ ap request_bytes (sym ours) in
-        let (still, told, said) = quiet_asked reads may_leave moment left_since borrow faults s n
+        let (still, told, said) = quiet_asked reads may_leave moment left_since borrow faults_of s n
         e.first a.reply due.form is_honest.quiet
         (subst (λ (x : List ℕ). asked s x a.reply n) spelled first) in
         let then : IsAfter e start e.first a.reply next =

@@ -56,6 +56,13 @@ use Rattle.overstore.proofs.Seating.{leads_so, left_so}
 use Rattle.overstore.proofs.Staying.{EndsThere, HasOwnCause, still_call, still_steps}
 use Rattle.overstore.proofs.Stepping.{changes_step, serves_at}
 
+-- a list ends so, and so is its fault caused
+abbrev ListEnds : List ℕ → PlainHistory → Result (List (List ℕ)) OwnerFault → Type 0
+ListEnds file p x = EndsThere p (commands.List file) (names_reply file x)
+
+abbrev ListCauses : ℕ → List ℕ → Result (List (List ℕ)) OwnerFault → Type 0
+ListCauses count file x = HasOwnCause count (names_reply file x)
+
 module _ {D : Type 0} (reads : D → Option Image) (may_leave : D → Image → Type 0)
     (moment : D → ℕ) (left_since : D → ℕ → Image → Type 0) (borrow faults_of : D → ℕ)
     (only_now : (d : D) (c : Image) → left_since d (moment d) c → may_leave d c)
@@ -266,28 +273,22 @@ module _ {D : Type 0} (reads : D → Option Image) (may_leave : D → Image → 
       no_memory : {reply : Reply} → fault_reply faults.Memory ≡ Ok reply → ⊥
       no_memory is = cc is
 
-      abbrev Ends : PlainHistory → Result (List (List ℕ)) OwnerFault → Type 0
-      Ends p x = EndsThere p (commands.List file) (names_reply file x)
-
       at_old : (x : Answer) → AnswersList (server a).catalogue (file_named (server a).catalogue file) x
           → AnswersList old.kept.catalogue (file_named old.kept.catalogue file) x
       at_old x is =
           subst (λ (s : Opened D). AnswersList s.catalogue (file_named s.catalogue file) x) at_a is
 
       ends : (p : PlainHistory) → StandsFor old.kept p → IsListed (server a) file told ⊎ IsCutOff told
-          → Ends p told
+          → ListEnds file p told
       ends p stands (inl (inl (names, so, is))) =
-          subst (Ends p) (sym so) (list_is old.kept p stands file names (at_old (answers.Listed names) is))
+          subst (ListEnds file p) (sym so) (list_is old.kept p stands file names (at_old (answers.Listed names) is))
       ends p stands (inl (inr (why, so, is))) =
-          subst (Ends p) (sym so) (refused_is old.kept p stands file why (at_old (answers.Refused why) is))
-      ends p stands (inr (inl is)) = subst (Ends p) (sym is) tt
-      ends p stands (inr (inr is)) = subst (Ends p) (sym is) tt
+          subst (ListEnds file p) (sym so) (refused_is old.kept p stands file why (at_old (answers.Refused why) is))
+      ends p stands (inr (inl is)) = subst (ListEnds file p) (sym is) tt
+      ends p stands (inr (inr is)) = subst (ListEnds file p) (sym is) tt
 
-      abbrev Causes : Result (List (List ℕ)) OwnerFault → Type 0
-      Causes x = HasOwnCause (faults_of old.disk) (names_reply file x)
-
-      cause : IsListed (server a) file told ⊎ IsCutOff told → Causes told
-      cause (inl (inl (names, so, is))) = subst Causes (sym so) tt
-      cause (inl (inr (why, so, is))) = subst Causes (sym so) tt
-      cause (inr (inl is)) = subst Causes (sym is) tt
-      cause (inr (inr is)) = subst Causes (sym is) tt
+      cause : IsListed (server a) file told ⊎ IsCutOff told → ListCauses (faults_of old.disk) file told
+      cause (inl (inl (names, so, is))) = subst (ListCauses (faults_of old.disk) file) (sym so) tt
+      cause (inl (inr (why, so, is))) = subst (ListCauses (faults_of old.disk) file) (sym so) tt
+      cause (inr (inl is)) = subst (ListCauses (faults_of old.disk) file) (sym is) tt
+      cause (inr (inr is)) = subst (ListCauses (faults_of old.disk) file) (sym is) tt

@@ -218,7 +218,7 @@ module _ {D : Type 0} (reads : D → Option Image) (may_leave : D → Image → 
         (left_so reads may_leave moment left_since borrow faults_of asked failed server put loan seat o m d ends)
 
     pub read_proper : HasReadFault found
-    read_proper = end_proper (faults_of (server a).disk) found fetched.1.0
+    read_proper = end_proper (faults_of (server a).disk) found fetched.1
 
     pub read_done : (old new : KeptOn D) → k ≡ old.kept.masters → server a ≡ opened_of old
         → server d ≡ opened_of new → new.kept.masters ≡ old.kept.masters
@@ -231,13 +231,13 @@ module _ {D : Type 0} (reads : D → Option Image) (may_leave : D → Image → 
         (read_there reads may_leave moment left_since borrow faults_of old p stands user file r
         (subst (λ (m : Masters). IsReader m old.kept.catalogue user r) at_k
         (subst (λ (s : Opened D). IsReader k s.catalogue user r) at_a reader))
-        talk.0 talk.1.0 found talk.1.1.1
-        (subst (λ (s : Opened D). AllStay reads may_leave moment left_since borrow faults_of s talk.0) at_a fetched.1.1)))
+        talk.0 talk.1 found talk.3
+        (subst (λ (s : Opened D). AllStay reads may_leave moment left_since borrow faults_of s talk.0) at_a fetched.2)))
         (end_cause (faults_of old.disk) user file found
-        (subst (λ (s : Opened D). IsReadEnd (faults_of s.disk) found) at_a fetched.1.0))
+        (subst (λ (s : Opened D). IsReadEnd (faults_of s.disk) found) at_a fetched.1))
         (λ p stands serves.
         subst (λ (m : Masters). TracesAt m p (Read user file) (put a) (put d) (read_reply user file found)) at_k
         (read_put reads may_leave moment left_since borrow faults_of asked failed server put loan seat k p
-        stands.0.0 user file r talk.0 talk.1.0 found (read_reply user file found) a b d form
+        stands.0.0 user file r talk.0 talk.1 found (read_reply user file found) a b d form
         (subst (λ (m : Masters). IsServedBy (server a) (service_of m p)) (sym at_k) serves) still
-        reader.name asks talk.1.1.0 talk.1.1.1 (replied_so user file found)))
+        reader.name asks talk.2 talk.3 (replied_so user file found)))

@@ -107,8 +107,8 @@ module _ {D : Type 0} (reads : D → Option Image) (may_leave : D → Image → 
       step_of r disk still no_tag = record {
         masters = masters;
         call = record {
-          same = x.asks.call.2.0;
-          later = x.asks.call.2.2.0;
+          same = x.asks.call.1;
+          later = x.asks.call.2;
           disk = disk;
         };
         sound = still;
@@ -136,7 +136,7 @@ module _ {D : Type 0} (reads : D → Option Image) (may_leave : D → Image → 
           → IsStep borrow faults_of old new (change_reply made)
       by_failed f (inl is) =
           subst (λ (r : Result ℕ OwnerFault). IsStep borrow faults_of old new (change_reply r)) (sym is)
-          (step_of (Err Disk) (λ y. x.asks.call.2.2.1 (f.faulted.spelled, λ update. sound)) tt (λ bad y. absurd cc))
+          (step_of (Err Disk) (λ y. x.asks.call.3 (f.faulted.spelled, λ update. sound)) tt (λ bad y. absurd cc))
       by_failed f (inr why) = cut_off why
 
       by : IsMade reads may_leave moment left_since borrow faults_of surface e is_honest (opened_of old) (opened_of new) x.epoch x.update x.reply made

@@ -254,7 +254,7 @@ module _ {D : Type 0} (reads : D → Option Image) (may_leave : D → Image → 
           let read : answer_of chunk reply ≡ Ok answers.DeviceFault =
           ap (answer_of chunk) is.spelled ∙ reads_back chunk answers.DeviceFault tt tt in
           let rose : Rose (faults s.disk) (faults t.disk) =
-          asks.call.2.2.1 (is.spelled, λ update. sound) in (
+          asks.call.3 (is.spelled, λ update. sound) in (
             same,
             subst (λ (x : Result Answer ℕ). Stands (after r (AsksChunk tries told stored) x)) (sym read)
                 (subst (λ (x : Opened D). Rose (faults s.disk) (faults x.disk)) same rose),

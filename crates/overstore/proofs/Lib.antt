@@ -9,9 +9,12 @@ pub mod Ending
 pub mod Errands
 pub mod Fetching
 pub mod Judging
+pub mod KeptLoans
 pub mod KeyFiles
 pub mod Lending
 pub mod LendingLoads
+pub mod Lent
+pub mod LentQuestions
 pub mod Listing
 pub mod Lists
 pub mod LoadEnds

@@ -142,12 +142,11 @@ right_all k p g (other ∷ histories) legal is (same, all) =
     ((p, legal, same ∙ is), right_all k p g histories legal is all)
 
 -- the history of the last Chain, if there was one, is this one
-is_none_or : SealedHistory → Option SealedHistory → Type 0
+abbrev is_none_or : SealedHistory → Option SealedHistory → Type 0
 is_none_or g o = (o ≡ None) ⊎ (o ≡ Some g)
 
 now_so : (b : Bool) (g other : SealedHistory) (before : Option SealedHistory) → other ≡ g
     → is_none_or g before → is_none_or g (now_if b other before)
-unfolding is_none_or
 now_so true g other before same is = inr (ap Some same)
 now_so false g other before same is = is
 
@@ -164,7 +163,6 @@ last_so g before (a ∷ asks) (other ∷ histories) (same, all) is =
 at_one_so : (k : Masters) (p : PlainHistory) (o : Option SealedHistory) (user file : List ℕ)
     (result : Result (List ℕ) ClientFault)
     → is_none_or (sealed k p) o → MachineAnswers k o user file result → IsReadAt p user file result
-unfolding is_none_or
 at_one_so k p o user file result (inl none) (q, legal, is, reads) = absurd (cc (none, is))
 at_one_so k p o user file result (inr some) (q, legal, is, reads) =
     let both : Some (sealed k p) ≡ Some (sealed k q) = sym some ∙ is in

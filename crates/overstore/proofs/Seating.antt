@@ -56,6 +56,28 @@ module _ {D : Type 0} (reads : D → Option Image) (may_leave : D → Image → 
       → loan q ≡ loan p
   lent_so asks o p q (m, leads, ends) = lent_at o m q ends ∙ lent asks p m leads
 
+  -- the store keeps its keys
+  keys_lead : (asks : List Ask) (p m : P) → Leads asked p asks m
+      → (server m).keys ≡ (server p).keys
+  keys_lead [] p m same = ap (λ (x : P). (server x).keys) (sym same)
+  keys_lead (a ∷ asks) p m (n, first, leads) =
+      keys_lead asks n m leads ∙ (seat.asks p n a.request a.reply first).0.peer.call.0
+
+  keys_end : (o : Option (List ℕ)) (m q : P) → EndsAt failed m o q
+      → (server q).keys ≡ (server m).keys
+  keys_end None m q same = ap (λ (x : P). (server x).keys) (sym same)
+  keys_end (Some request) m q fault = by (seat.fails m q request fault).0 where
+    by : TracesFault asks_store (unserved reads may_leave moment left_since borrow faults)
+        (server m) (server q) (put m) (put q) request
+        → (server q).keys ≡ (server m).keys
+    by (unasked same n bytes) = ap (λ (x : Opened D). x.keys) same
+    by (unanswered same bytes) = ap (λ (x : Opened D). x.keys) same
+    by (unput reply n asks bytes) = asks.call.0
+
+  pub keys_so : (asks : List Ask) (o : Option (List ℕ)) (p q : P) → AreAsks asked failed p asks o q
+      → (server q).keys ≡ (server p).keys
+  keys_so asks o p q (m, leads, ends) = keys_end o m q ends ∙ keys_lead asks p m leads
+
   -- ---- what is put
 
   -- the frames of the asks that were answered

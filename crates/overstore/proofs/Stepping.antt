@@ -66,7 +66,7 @@ machine_of k s = record {
 -- a machine is known by its masters and its store
 pub same_machine : {D : Type 0} (old new : KeptOn D) → new.kept.masters ≡ old.kept.masters
     → opened_of new ≡ opened_of old → new ≡ old
-same_machine {D} old new masters same = λ i. machine_of {D} (masters i) (same i)
+same_machine old new masters same = λ i. machine_of (masters i) (same i)
 
 -- the history as it is served
 abbrev pub service_at : Masters → PlainHistory → Service
@@ -92,7 +92,7 @@ stands_at m p v legal surface is serves = (
 )
 
 module _ {D : Type 0} (reads : D → Option Image) (may_leave : D → Image → Type 0)
-    (moment : D → ℕ) (left_since : D → ℕ → Image → Type 0) (borrow faults : D → ℕ)
+    (moment : D → ℕ) (left_since : D → ℕ → Image → Type 0) (borrow faults_of : D → ℕ)
     (only_now : (d : D) (c : Image) → left_since d (moment d) c → may_leave d c)
     (counts_now : (d : D) (t : ℕ) (c : Image) → t ≤ moment d → may_leave d c → left_since d t c)
     (old new : KeptOn D) (p : PlainHistory) (stands : StandsFor old.kept p)
@@ -145,7 +145,7 @@ module _ {D : Type 0} (reads : D → Option Image) (may_leave : D → Image → 
     after_fault = λ failed. absurd (true≢false (sym failed ∙ sound));
   }
 
-  module _ (result : Result ℕ OwnerFault) (x : IsSentTo reads may_leave moment left_since borrow faults k.surface e is_honest s t result) where
+  module _ (result : Result ℕ OwnerFault) (x : IsSentTo reads may_leave moment left_since borrow faults_of k.surface e is_honest s t result) where
     told_so : (x.epoch ≡ (catalogue_of k.surface (sealed k p)).epoch)
         × (x.update ≡ sealed_update k (layers_of (history_of p)) plain)
         × (refusal_of (history_of p) (measured plain) ≡ None)
@@ -154,11 +154,11 @@ module _ {D : Type 0} (reads : D → Option Image) (may_leave : D → Image → 
         (at_history x.told x.answers) x.sealed
 
     step_is : step p command ≡ (Accepted (epoch_of (history_of p) + 1), with_plain p plain)
-    step_is = d.as_update p ∙ ap (update_step p plain) told_so.2.1
+    step_is = d.as_update p ∙ ap (update_step p plain) told_so.2
 
     sealed_is : followed (sealed k p) (x.update ∷ []) ≡ sealed k (after p command)
     sealed_is =
-        ap (λ (u : SealedUpdate). followed (sealed k p) (u ∷ [])) told_so.2.0
+        ap (λ (u : SealedUpdate). followed (sealed k p) (u ∷ [])) told_so.1
         ∙ sym (sealing_goes_on k p plain)
         ∙ ap (λ (r : Reply × PlainHistory). sealed k r.1) (sym step_is)
 
@@ -190,7 +190,7 @@ module _ {D : Type 0} (reads : D → Option Image) (may_leave : D → Image → 
         }
 
     -- what is served then is the history after the command
-    module _ (made : IsMade reads may_leave moment left_since borrow faults k.surface e is_honest s t x.epoch x.update x.reply result) where
+    module _ (made : IsMade reads may_leave moment left_since borrow faults_of k.surface e is_honest s t x.epoch x.update x.reply result) where
       after_it : (later (service_at k p) made.answered.frame.made).history ≡ sealed k (after p command)
       after_it = ap (followed (sealed k p)) made.makes ∙ sealed_is
 
@@ -260,7 +260,7 @@ module _ {D : Type 0} (reads : D → Option Image) (may_leave : D → Image → 
       (stays_left reads may_leave moment left_since old (only_now old.disk) k p command)
 
   pub changes_step : (result : Result ℕ OwnerFault)
-      → Changes reads may_leave moment left_since borrow faults k.surface e is_honest s t result
+      → Changes reads may_leave moment left_since borrow faults_of k.surface e is_honest s t result
       → StepsAt reads may_leave moment left_since k p command old new (change_reply result)
   changes_step result (refused a why same answered is so) =
       let at_step = refused_so a why answered is in
@@ -270,8 +270,8 @@ module _ {D : Type 0} (reads : D → Option Image) (may_leave : D → Image → 
       (ap (λ (r : Reply × PlainHistory). r.0) (sym at_step)) (ap (λ (r : Reply × PlainHistory). r.1) at_step)))
   changes_step result (cut same why) = stays_so (change_reply result) same (cut_so result why)
   changes_step result (sent x) = by x.comes where
-    by : IsMade reads may_leave moment left_since borrow faults k.surface e is_honest s t x.epoch x.update x.reply result
-        ⊎ IsFailed reads may_leave moment left_since borrow faults k.surface e is_honest s t x.epoch x.update x.reply result
+    by : IsMade reads may_leave moment left_since borrow faults_of k.surface e is_honest s t x.epoch x.update x.reply result
+        ⊎ IsFailed reads may_leave moment left_since borrow faults_of k.surface e is_honest s t x.epoch x.update x.reply result
         → StepsAt reads may_leave moment left_since k p command old new (change_reply result)
     by (inl made) = made_so result x made made.ends
     by (inr failed) = failed_so result x failed.ends

@@ -9,6 +9,8 @@ use Rattle.ov_owner.specs.declared.fault.OwnerFault.{OwnerFault}
 use Rattle.ov_owner.specs.declared.fault.OwnerFault.TheVariants as owner
 use Rattle.overstore.specs.declared.fault.StepFault.{StepFault}
 use Rattle.overstore.specs.declared.fault.StepFault.TheVariants.{Disk, Memory, Tag, Trace}
+use Rattle.overstore.specs.declared.replying.Found.{Found}
+use Rattle.overstore.specs.declared.replying.Found.TheVariants.{Read, Unread}
 
 -- ---- faults that may come
 
@@ -35,6 +37,11 @@ HasOwnFault (Err fault) = MayCome fault
 abbrev pub HasReadFault : Result (List ℕ) ClientFault → Type 0
 HasReadFault (Ok bytes) = Unit {0}
 HasReadFault (Err fault) = MayEnd fault
+
+-- nor in what came of a read
+abbrev pub HasFoundFault : Found → Type 0
+HasFoundFault (Unread fault) = MayCome fault
+HasFoundFault (Read found) = HasReadFault found
 
 -- ---- replies
 
@@ -74,3 +81,8 @@ read_fault_reply file fault = Err Memory
 abbrev pub read_reply : List ℕ → List ℕ → Result (List ℕ) ClientFault → Result Reply StepFault
 read_reply user file (Ok bytes) = Ok (replies.Bytes user file bytes)
 read_reply user file (Err fault) = read_fault_reply file fault
+
+-- to what came of a read
+abbrev pub found_reply : List ℕ → List ℕ → Found → Result Reply StepFault
+found_reply user file (Unread fault) = fault_reply fault
+found_reply user file (Read found) = read_reply user file found

@@ -9,9 +9,10 @@ ghost use Rattle.overstore.specs.Tracing.{Traces};
 ghost use Rattle.overstore.specs.declared.fault.StepFault.TheVariants.{Trace};
 
 use crate::fault::StepFault;
+use crate::kept_loans;
 use crate::machine::Machine;
 use crate::replying::change_reply;
-use ov_base::{Name, Names, Octets};
+use ov_base::{Name, Names};
 use ov_disk::Disk;
 use ov_io::Sink;
 use ov_peer::Traced;
@@ -35,8 +36,8 @@ impl<D: Disk> Machine<D> {
         ensures sink { PutsTo T.written T.faults (result ≡ Err Trace) trace.old trace.new }
     {
         let mut peer = Traced::new(&mut self.peer, trace);
-        let made = self.owner.enrol(alloc, &mut peer, user);
-        let _ = peer.into_parts();
+        let made = kept_loans::enrol(&self.owner, alloc, &mut peer, user);
+        let Traced { peer: _, sink: _ } = peer;
         change_reply(made)
     }
 
@@ -46,7 +47,7 @@ impl<D: Disk> Machine<D> {
         alloc: Global,
         file: &Name,
         list: &Names,
-        bytes: &Octets,
+        bytes: &[u8],
         trace: &mut T,
     ) -> Result<Reply, StepFault>
         requires healthy { self.old.failed ≡ false }
@@ -59,10 +60,8 @@ impl<D: Disk> Machine<D> {
         ensures sink { PutsTo T.written T.faults (result ≡ Err Trace) trace.old trace.new }
     {
         let mut peer = Traced::new(&mut self.peer, trace);
-        let made = self
-            .owner
-            .create(alloc, &mut peer, file, list, bytes.as_slice());
-        let _ = peer.into_parts();
+        let made = kept_loans::create(&self.owner, alloc, &mut peer, file, list, bytes);
+        let Traced { peer: _, sink: _ } = peer;
         change_reply(made)
     }
 
@@ -83,8 +82,8 @@ impl<D: Disk> Machine<D> {
         ensures sink { PutsTo T.written T.faults (result ≡ Err Trace) trace.old trace.new }
     {
         let mut peer = Traced::new(&mut self.peer, trace);
-        let made = self.owner.grant(alloc, &mut peer, user, file);
-        let _ = peer.into_parts();
+        let made = kept_loans::grant(&self.owner, alloc, &mut peer, user, file);
+        let Traced { peer: _, sink: _ } = peer;
         change_reply(made)
     }
 
@@ -105,8 +104,8 @@ impl<D: Disk> Machine<D> {
         ensures sink { PutsTo T.written T.faults (result ≡ Err Trace) trace.old trace.new }
     {
         let mut peer = Traced::new(&mut self.peer, trace);
-        let made = self.owner.revoke(alloc, &mut peer, user, file);
-        let _ = peer.into_parts();
+        let made = kept_loans::revoke(&self.owner, alloc, &mut peer, user, file);
+        let Traced { peer: _, sink: _ } = peer;
         change_reply(made)
     }
 }

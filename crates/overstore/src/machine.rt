@@ -104,9 +104,9 @@ impl<D: Disk> Machine<D> {
     {
         match command {
             Command::Enrol { user } => self.enrol(alloc, &user, trace),
-            Command::Create { file, list, bytes } => self.create(
-                alloc, &file, &list, &bytes, trace,
-            ),
+            Command::Create { file, list, bytes } => {
+                self.create(alloc, &file, &list, bytes.as_slice(), trace)
+            }
             Command::Grant { user, file } => self.grant(alloc, &user, &file, trace),
             Command::Revoke { user, file } => self.revoke(alloc, &user, &file, trace),
             Command::Read { user, file } => self.read(alloc, user, file, trace),

@@ -38,6 +38,7 @@ mod finish;
 mod load;
 mod load_words;
 mod loading;
+mod kept_loans;
 mod machine;
 mod questions;
 mod replying;

@@ -8,8 +8,9 @@ ghost use Rattle.overstore.specs.Tracing.{Traces};
 ghost use Rattle.overstore.specs.declared.fault.StepFault.TheVariants.{Trace};
 
 use crate::fault::StepFault;
+use crate::kept_loans;
 use crate::machine::Machine;
-use crate::replying::{epoch_reply, names_reply, read_reply, unread_reply};
+use crate::replying::{epoch_reply, found_reply, names_reply};
 use ov_base::Name;
 use ov_disk::Disk;
 use ov_io::Sink;
@@ -29,8 +30,8 @@ impl<D: Disk> Machine<D> {
         ensures sink { PutsTo T.written T.faults (result ≡ Err Trace) trace.old trace.new }
     {
         let mut peer = Traced::new(&mut self.peer, trace);
-        let told = self.owner.hello(alloc, &mut peer);
-        let _ = peer.into_parts();
+        let told = kept_loans::hello(&self.owner, alloc, &mut peer);
+        let Traced { peer: _, sink: _ } = peer;
         epoch_reply(told)
     }
 
@@ -50,8 +51,8 @@ impl<D: Disk> Machine<D> {
         ensures sink { PutsTo T.written T.faults (result ≡ Err Trace) trace.old trace.new }
     {
         let mut peer = Traced::new(&mut self.peer, trace);
-        let told = self.owner.list(alloc, &mut peer, &file);
-        let _ = peer.into_parts();
+        let told = kept_loans::list(&self.owner, alloc, &mut peer, &file);
+        let Traced { peer: _, sink: _ } = peer;
         names_reply(file, told)
     }
 
@@ -71,17 +72,10 @@ impl<D: Disk> Machine<D> {
         ensures step { IsStep D.borrow D.faults self.old self.new result }
         ensures sink { PutsTo T.written T.faults (result ≡ Err Trace) trace.old trace.new }
     {
+        self.peer.server().known();
         let mut peer = Traced::new(&mut self.peer, trace);
-        match self.owner.client(alloc, &mut peer, &user) {
-            Ok(client) => {
-                let found = client.fetch(alloc, &mut peer, &file);
-                let _ = peer.into_parts();
-                read_reply(user, file, found)
-            }
-            Err(fault) => {
-                let _ = peer.into_parts();
-                unread_reply(fault)
-            }
-        }
+        let found = kept_loans::read(&self.owner, alloc, &mut peer, &user, &file);
+        let Traced { peer: _, sink: _ } = peer;
+        found_reply(user, file, found)
     }
 }

@@ -1,6 +1,7 @@
 //! Replies to commands, by what the owner or a reader got of the machine's server.
 ghost use Rattle.std.specs.Prelude.{◌≡◌};
-ghost use Rattle.overstore.specs.Replying.{HasOwnFault, HasReadFault, MayCome, MayEnd};
+ghost use Rattle.overstore.specs.Replying.{HasFoundFault, HasOwnFault, HasReadFault};
+ghost use Rattle.overstore.specs.Replying.{MayCome, MayEnd, found_reply};
 ghost use Rattle.overstore.specs.Replying.{change_reply, epoch_reply, fault_reply, names_reply};
 ghost use Rattle.overstore.specs.Replying.{read_fault_reply, read_reply};
 
@@ -80,8 +81,17 @@ fn read_fault_reply(file: Name, fault: ClientFault) -> Result<Reply, StepFault>
     }
 }
 
-/// The reply to a read.
-pub fn read_reply(
+/// What came of a read.
+#[derive(Drop)]
+pub enum Found {
+    /// There is no reader: the user isn't there, or the call ended so.
+    Unread(OwnerFault),
+    /// The reader got the file's bytes, or a fault.
+    Read(Result<Octets, ClientFault>),
+}
+
+/// The reply to a read with a reader's keys.
+fn read_reply(
     user: Name,
     file: Name,
     found: Result<Octets, ClientFault>,
@@ -95,10 +105,13 @@ pub fn read_reply(
     }
 }
 
-/// The reply to a read whose reader the owner didn't get.
-pub fn unread_reply(fault: OwnerFault) -> Result<Reply, StepFault>
-    requires { MayCome fault }
-    ensures { result ≡ fault_reply fault }
+/// The reply to a read.
+pub fn found_reply(user: Name, file: Name, found: Found) -> Result<Reply, StepFault>
+    requires { HasFoundFault found }
+    ensures { result ≡ found_reply user file found }
 {
-    fault_reply(fault)
+    match found {
+        Found::Read(found) => read_reply(user, file, found),
+        Found::Unread(fault) => fault_reply(fault),
+    }
 }
