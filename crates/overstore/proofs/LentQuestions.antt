@@ -76,6 +76,13 @@ read_link user file (Err client.Device) may is = absurd (cc is)
 read_link user file (Err (client.Unsettled generations)) may is = absurd may
 read_link user file (Err client.Memory) may is = absurd (cc is)
 
+-- a fault in place of a reader
+abbrev no_reader : OwnerFault → Result Reader OwnerFault
+no_reader f = Err f
+
+fault_of : (f : OwnerFault) → no_reader f ≡ no_reader faults.Link → f ≡ faults.Link
+fault_of f is = cc is
+
 module _ {D T : Type 0} (reads : D → Option Image) (may_leave : D → Image → Type 0)
     (moment : D → ℕ) (left_since : D → ℕ → Image → Type 0) (borrow faults_of : D → ℕ)
     (only_now : (d : D) (c : Image) → left_since d (moment d) c → may_leave d c)
@@ -351,9 +358,7 @@ module _ {D T : Type 0} (reads : D → Option Image) (may_leave : D → Image �
         → Whole (commands.Read user file) d t_old t_new (found_reply user file found)
     found_so (Unread fault) t_old t_new asks put_a put_d cause =
         unread_all user file form d fault asks t_old t_new (fault_reply fault) put_a put_d
-        (record { later = cause.later; link = λ is. cause.unread (ap Unread (fault_of fault is)) }) refl where
-      fault_of : (f : OwnerFault) → Err {T = Reader} f ≡ Err faults.Link → f ≡ faults.Link
-      fault_of f is = cc is
+        (record { later = cause.later; link = λ is. cause.unread (ap Unread (fault_of fault is)) }) refl
     found_so (Read found) t_old t_new (r, m, asks, talk) put_a put_d cause =
         read_all user file form m r found d asks talk sizes_s sound_s t_old t_new
         (read_reply user file found) put_a put_d cause refl
