@@ -1,7 +1,6 @@
 -- A read over frames, all in all.
-use Rattle.std.proofs.Common.{◌≡◌, ◌∙◌, ℕ, ◌≤◌, List, true, false, Option, Some, Result, Ok, Err, refl, sym, ap, subst, inl, inr}
+use Rattle.std.proofs.Common.{◌≡◌, ℕ, ◌≤◌, List, false, Option, Some, Result, Ok, Err, refl, sym, subst, inl, inr}
 use Rattle.std.specs.Prelude.{◌⊎◌}
-use Rattle.ov_base.specs.Causes.{Rose}
 use Rattle.ov_base.specs.declared.refusal.Refusal.{Refusal}
 use Rattle.ov_disk.specs.Disk.{Image}
 use Rattle.ov_script.specs.declared.command.Command.TheVariants.{Read}
@@ -13,25 +12,24 @@ use Rattle.ov_history.specs.Sealed.{SealedHistory}
 use Rattle.ov_history.proofs.Storing.{stored_is_coated}
 use Rattle.ov_wire.specs.declared.answer.Answer.{Answer}
 use Rattle.ov_wire.specs.declared.answer.Answer.TheVariants as answers
-use Rattle.ov_wire.specs.declared.answer.Known.{Known}
 use Rattle.ov_wire.specs.declared.request.Question.TheVariants as questions
 use Rattle.ov_wire.specs.declared.request.Request.TheVariants as requests
 use Rattle.ov_wire.specs.Requests.{HasRequestForm}
-use Rattle.ov_peer.specs.Asks.{AreAsks, Ask, Asked, Failed, Leads}
+use Rattle.ov_peer.specs.Asks.{Asked, Failed, Leads}
 use Rattle.ov_protocol.specs.Asking.{AnswersAsk}
 use Rattle.ov_client.specs.Readers.{Reader}
 use Rattle.ov_client.specs.Reads.{Reads}
 use Rattle.ov_client.specs.declared.fault.ClientFault.{ClientFault}
 use Rattle.ov_client.specs.declared.fault.ClientFault.TheVariants as client
 use Rattle.ov_store.specs.Opened.{Opened, Serves}
-use Rattle.ov_owner.specs.Clients.{reader_in, reader_of}
+use Rattle.ov_owner.specs.Clients.{reader_in}
 use Rattle.ov_owner.specs.Questions.{AsksOnce}
 use Rattle.ov_owner.specs.declared.fault.OwnerFault.{OwnerFault}
 use Rattle.ov_owner.specs.declared.fault.OwnerFault.TheVariants as faults
 use Rattle.ov_server.specs.Locally.{IsServedBy}
 use Rattle.ov_transcript.specs.Talking.{IsReadAnswered}
 use Rattle.ov_transcript.specs.Transcripts.{service_of}
-use Rattle.overstore.specs.Machine.{IsStep, KeptOn, StandsFor, StepsAt, opened_of}
+use Rattle.overstore.specs.Machine.{KeptOn, StandsFor, opened_of}
 use Rattle.overstore.specs.Replying.{HasOwnFault, HasReadFault, fault_reply, read_reply}
 use Rattle.overstore.specs.Seats.{AllStay, IsSeat, served}
 use Rattle.overstore.specs.Tracing.{TracesAt}
@@ -40,11 +38,10 @@ use Rattle.overstore.proofs.Done.{IsDone, question_done}
 use Rattle.overstore.proofs.Fetching.{HasLengths, IsReadEnd, reads_so}
 use Rattle.overstore.proofs.Listing.{key_plain}
 use Rattle.overstore.proofs.Putting.{read_put, unread_put}
-use Rattle.overstore.proofs.Questioning.{IsCutOff, IsTakenOf, once_so}
+use Rattle.overstore.proofs.Questioning.{IsTakenOf, once_so}
 use Rattle.overstore.proofs.ReadingBack.{IsReader, IsReadThere, bytes_are, key_refusal_is, read_there, reader_so, refusal_is}
 use Rattle.overstore.proofs.Seating.{leads_so, left_so}
 use Rattle.overstore.proofs.Staying.{EndsThere, HasOwnCause}
-use Rattle.overstore.proofs.Stepping.{serves_at}
 
 -- what a store that stands for some history stores of a file has the file's length
 pub has_lengths : {D : Type 0} (reads : D → Option Image) (may_leave : D → Image → Type 0)
@@ -116,79 +113,79 @@ module _ {D : Type 0} (reads : D → Option Image) (may_leave : D → Image → 
 
   module _ (told : Result Reader OwnerFault)
       (asks : AsksOnce asked failed a b (requests.Ask (questions.Key user)) (reader_in k user) told)
-      where
-    pub key_so : (server b ≡ server a)
-        × IsTakenOf (server a) (requests.Ask (questions.Key user)) (reader_in k user) told
-    key_so =
-        once_so reads may_leave moment left_since borrow faults_of asked failed server put loan seat
-        (requests.Ask (questions.Key user)) (reader_in k user) (key_plain user form) a b told asks
+    where
+      pub key_so : (server b ≡ server a)
+          × IsTakenOf (server a) (requests.Ask (questions.Key user)) (reader_in k user) told
+      key_so =
+          once_so reads may_leave moment left_since borrow faults_of asked failed server put loan seat
+          (requests.Ask (questions.Key user)) (reader_in k user) (key_plain user form) a b told asks
 
   -- ---- no reader
 
   module _ (fault : OwnerFault)
       (asks : AsksOnce asked failed a b (requests.Ask (questions.Key user)) (reader_in k user) (Err fault))
-      where
-    -- the user isn't there, or the call was cut off
-    abbrev IsUnreadFor : Opened D → Type 0
-    IsUnreadFor s =
-        ((why : Refusal) × (fault ≡ faults.Refused why)
-        × (key_refusal s.catalogue (user_named s.catalogue user) ≡ Some why))
-        ⊎ ((fault ≡ faults.Link) ⊎ (fault ≡ faults.Memory))
+    where
+      -- the user isn't there, or the call was cut off
+      abbrev IsUnreadFor : Opened D → Type 0
+      IsUnreadFor s =
+          ((why : Refusal) × (fault ≡ faults.Refused why)
+          × (key_refusal s.catalogue (user_named s.catalogue user) ≡ Some why))
+          ⊎ ((fault ≡ faults.Link) ⊎ (fault ≡ faults.Memory))
 
-    by_answer : (s : Opened D) (x : Answer) → AnswersAsk s.catalogue (questions.Key user) x
-        → Err fault ≡ reader_in k user x → IsUnreadFor s
-    by_answer s (answers.Known known) is so = absurd (cc so)
-    by_answer s (answers.Refused why) is so = inl (why, cc so, is)
-    by_answer s x is so = absurd is
+      by_answer : (s : Opened D) (x : Answer) → AnswersAsk s.catalogue (questions.Key user) x
+          → Err fault ≡ reader_in k user x → IsUnreadFor s
+      by_answer s (answers.Known known) is so = absurd (cc so)
+      by_answer s (answers.Refused why) is so = inl (why, cc so, is)
+      by_answer s x is so = absurd is
 
-    unread_so : IsUnreadFor (server a)
-    unread_so = by (key_so (Err fault) asks).1 where
-      by : IsTakenOf (server a) (requests.Ask (questions.Key user)) (reader_in k user) (Err fault)
-          → IsUnreadFor (server a)
-      by (inl (x, is, so)) = by_answer (server a) x is so
-      by (inr (inl is)) = inr (inl (cc is))
-      by (inr (inr is)) = inr (inr (cc is))
+      unread_so : IsUnreadFor (server a)
+      unread_so = by (key_so (Err fault) asks).1 where
+        by : IsTakenOf (server a) (requests.Ask (questions.Key user)) (reader_in k user) (Err fault)
+            → IsUnreadFor (server a)
+        by (inl (x, is, so)) = by_answer (server a) x is so
+        by (inr (inl is)) = inr (inl (cc is))
+        by (inr (inr is)) = inr (inr (cc is))
 
-    pub unread_proper : HasOwnFault {T = Reader} (Err fault)
-    unread_proper = by unread_so where
-      by : IsUnreadFor (server a) → HasOwnFault {T = Reader} (Err fault)
-      by (inl (why, so, is)) =
-          subst (λ (f : OwnerFault). HasOwnFault {T = Reader} (Err f)) (sym so) tt
-      by (inr (inl so)) = subst (λ (f : OwnerFault). HasOwnFault {T = Reader} (Err f)) (sym so) tt
-      by (inr (inr so)) = subst (λ (f : OwnerFault). HasOwnFault {T = Reader} (Err f)) (sym so) tt
+      pub unread_proper : HasOwnFault {T = Reader} (Err fault)
+      unread_proper = by unread_so where
+        by : IsUnreadFor (server a) → HasOwnFault {T = Reader} (Err fault)
+        by (inl (why, so, is)) =
+            subst (λ (f : OwnerFault). HasOwnFault {T = Reader} (Err f)) (sym so) tt
+        by (inr (inl so)) = subst (λ (f : OwnerFault). HasOwnFault {T = Reader} (Err f)) (sym so) tt
+        by (inr (inr so)) = subst (λ (f : OwnerFault). HasOwnFault {T = Reader} (Err f)) (sym so) tt
 
-    pub unread_done : (old new : KeptOn D) → k ≡ old.kept.masters → server a ≡ opened_of old
-        → server b ≡ opened_of new → new.kept.masters ≡ old.kept.masters
-        → Done old new b (fault_reply fault)
-    unread_done old new at_k at_a at_b masters =
-        question_done reads may_leave moment left_since borrow faults_of only_now counts_now asked failed
-        server put loan seat (Read user file) old new a b (fault_reply fault) at_a at_b
-        (key_so (Err fault) asks).0 masters (λ p. refl)
-        (λ p stands. ends p stands unread_so) (cause unread_so)
-        (λ p stands serves.
-        subst (λ (m : Masters). TracesAt m p (Read user file) (put a) (put b) (fault_reply fault)) at_k
-        (unread_put reads may_leave moment left_since borrow faults_of asked failed server put loan seat k p
-        stands.0.0 user file fault a b form
-        (subst (λ (m : Masters). IsServedBy (server a) (service_of m p)) (sym at_k) serves) asks)) where
-      ends : (p : PlainHistory) → StandsFor old.kept p → IsUnreadFor (server a)
-          → EndsThere p (Read user file) (fault_reply fault)
-      ends p stands (inl (why, so, is)) =
-          subst (λ (f : OwnerFault). EndsThere p (Read user file) (fault_reply f)) (sym so)
-          (refusal_is p user file why
-          (key_refusal_is old.kept p stands user file why
-          (subst (λ (s : Opened D). key_refusal s.catalogue (user_named s.catalogue user) ≡ Some why) at_a is)))
-      ends p stands (inr (inl so)) =
-          subst (λ (f : OwnerFault). EndsThere p (Read user file) (fault_reply f)) (sym so) tt
-      ends p stands (inr (inr so)) =
-          subst (λ (f : OwnerFault). EndsThere p (Read user file) (fault_reply f)) (sym so) tt
+      pub unread_done : (old new : KeptOn D) → k ≡ old.kept.masters → server a ≡ opened_of old
+          → server b ≡ opened_of new → new.kept.masters ≡ old.kept.masters
+          → Done old new b (fault_reply fault)
+      unread_done old new at_k at_a at_b masters =
+          question_done reads may_leave moment left_since borrow faults_of only_now counts_now asked failed
+          server put loan seat (Read user file) old new a b (fault_reply fault) at_a at_b
+          (key_so (Err fault) asks).0 masters (λ p. refl)
+          (λ p stands. ends p stands unread_so) (cause unread_so)
+          (λ p stands serves.
+          subst (λ (m : Masters). TracesAt m p (Read user file) (put a) (put b) (fault_reply fault)) at_k
+          (unread_put reads may_leave moment left_since borrow faults_of asked failed server put loan seat k p
+          stands.0.0 user file fault a b form
+          (subst (λ (m : Masters). IsServedBy (server a) (service_of m p)) (sym at_k) serves) asks)) where
+            ends : (p : PlainHistory) → StandsFor old.kept p → IsUnreadFor (server a)
+                → EndsThere p (Read user file) (fault_reply fault)
+            ends p stands (inl (why, so, is)) =
+                subst (λ (f : OwnerFault). EndsThere p (Read user file) (fault_reply f)) (sym so)
+                (refusal_is p user file why
+                (key_refusal_is old.kept p stands user file why
+                (subst (λ (s : Opened D). key_refusal s.catalogue (user_named s.catalogue user) ≡ Some why) at_a is)))
+            ends p stands (inr (inl so)) =
+                subst (λ (f : OwnerFault). EndsThere p (Read user file) (fault_reply f)) (sym so) tt
+            ends p stands (inr (inr so)) =
+                subst (λ (f : OwnerFault). EndsThere p (Read user file) (fault_reply f)) (sym so) tt
 
-      cause : IsUnreadFor (server a) → HasOwnCause (faults_of old.disk) (fault_reply fault)
-      cause (inl (why, so, is)) =
-          subst (λ (f : OwnerFault). HasOwnCause (faults_of old.disk) (fault_reply f)) (sym so) tt
-      cause (inr (inl so)) =
-          subst (λ (f : OwnerFault). HasOwnCause (faults_of old.disk) (fault_reply f)) (sym so) tt
-      cause (inr (inr so)) =
-          subst (λ (f : OwnerFault). HasOwnCause (faults_of old.disk) (fault_reply f)) (sym so) tt
+            cause : IsUnreadFor (server a) → HasOwnCause (faults_of old.disk) (fault_reply fault)
+            cause (inl (why, so, is)) =
+                subst (λ (f : OwnerFault). HasOwnCause (faults_of old.disk) (fault_reply f)) (sym so) tt
+            cause (inr (inl so)) =
+                subst (λ (f : OwnerFault). HasOwnCause (faults_of old.disk) (fault_reply f)) (sym so) tt
+            cause (inr (inr so)) =
+                subst (λ (f : OwnerFault). HasOwnCause (faults_of old.disk) (fault_reply f)) (sym so) tt
 
   -- ---- a reader
 
