@@ -1,6 +1,6 @@
 -- What a change by the owner makes of the machine's server, whatever history it serves.
-use Rattle.std.proofs.Common.{◌≡◌, ◌∙◌, ℕ, ◌+◌, ◌<◌, ◌^◌, Bool, true, false, List, [], ◌∷◌, Option, Some, None, Result, Ok, Err, refl, sym, ap, subst, inl, inr, arith}
-use Rattle.std.specs.Prelude.{◌⊎◌, nat_lt}
+use Rattle.std.proofs.Common.{◌≡◌, ◌∙◌, ℕ, ◌+◌, ◌<◌, ◌^◌, Bool, List, [], ◌∷◌, Option, Some, None, Result, Ok, Err, refl, sym, ap, subst, inl, inr, arith}
+use Rattle.std.specs.Prelude.{◌⊎◌}
 use Rattle.ov_base.proofs.Tests.{lt_is_false}
 use Rattle.ov_base.specs.declared.refusal.Refusal.{Refusal}
 use Rattle.ov_disk.specs.Disk.{Image}
@@ -15,14 +15,14 @@ use Rattle.ov_wire.specs.declared.answer.Answer.TheVariants as answers
 use Rattle.ov_wire.specs.AnswerForm.{HasAnswerForm}
 use Rattle.ov_wire.specs.AnswerReading.{answer_of}
 use Rattle.ov_wire.specs.AnswerBytes.{answer_bytes}
-use Rattle.ov_wire.specs.Requests.{HasRequestForm, request_bytes}
+use Rattle.ov_wire.specs.Requests.{request_bytes}
 use Rattle.ov_protocol.specs.Answers.{Answers, made_by}
 use Rattle.ov_protocol.specs.Updating.{AnswersSealed, AnswersSpelled, AnswersUpdate, owner_tag, spelled_by}
 use Rattle.ov_peer.specs.Asks.{Ask, Leads}
 use Rattle.ov_server.specs.Answering.{AnswersOrFails, IsAnswered, IsFaulted, serving_of}
 use Rattle.ov_store.specs.Opened.{Opened}
 use Rattle.ov_owner.specs.Errands.{Errand}
-use Rattle.ov_owner.specs.Talks.{Asks, CanSend, Closes, Ends, Goes, IsAfter, IsAskFault, IsDue, Moves, Sends, Stage, Talks, after as stage_after, after_first, sends_if, start, update_request}
+use Rattle.ov_owner.specs.Talks.{CanSend, Closes, Ends, Goes, IsAfter, IsAskFault, IsDue, Sends, Stage, Talks, after as stage_after, after_first, sends_if, start, update_request}
 use Rattle.ov_owner.specs.declared.fault.OwnerFault.{OwnerFault}
 use Rattle.ov_owner.specs.declared.fault.OwnerFault.TheVariants as faults
 use Rattle.ov_owner.proofs.Fitting.{reads_back}

@@ -1,7 +1,6 @@
 -- A read over frames, all in all.
-use Rattle.std.proofs.Common.{◌≡◌, ◌∙◌, ℕ, ◌≤◌, List, true, false, Option, Some, Result, Ok, Err, refl, sym, ap, subst, inl, inr}
+use Rattle.std.proofs.Common.{◌≡◌, ℕ, ◌≤◌, List, false, Option, Some, Result, Ok, Err, refl, sym, subst, inl, inr}
 use Rattle.std.specs.Prelude.{◌⊎◌}
-use Rattle.ov_base.specs.Causes.{Rose}
 use Rattle.ov_base.specs.declared.refusal.Refusal.{Refusal}
 use Rattle.ov_disk.specs.Disk.{Image}
 use Rattle.ov_script.specs.declared.command.Command.TheVariants.{Read}
@@ -13,25 +12,24 @@ use Rattle.ov_history.specs.Sealed.{SealedHistory}
 use Rattle.ov_history.proofs.Storing.{stored_is_coated}
 use Rattle.ov_wire.specs.declared.answer.Answer.{Answer}
 use Rattle.ov_wire.specs.declared.answer.Answer.TheVariants as answers
-use Rattle.ov_wire.specs.declared.answer.Known.{Known}
 use Rattle.ov_wire.specs.declared.request.Question.TheVariants as questions
 use Rattle.ov_wire.specs.declared.request.Request.TheVariants as requests
 use Rattle.ov_wire.specs.Requests.{HasRequestForm}
-use Rattle.ov_peer.specs.Asks.{AreAsks, Ask, Asked, Failed, Leads}
+use Rattle.ov_peer.specs.Asks.{Asked, Failed, Leads}
 use Rattle.ov_protocol.specs.Asking.{AnswersAsk}
 use Rattle.ov_client.specs.Readers.{Reader}
 use Rattle.ov_client.specs.Reads.{Reads}
 use Rattle.ov_client.specs.declared.fault.ClientFault.{ClientFault}
 use Rattle.ov_client.specs.declared.fault.ClientFault.TheVariants as client
 use Rattle.ov_store.specs.Opened.{Opened, Serves}
-use Rattle.ov_owner.specs.Clients.{reader_in, reader_of}
+use Rattle.ov_owner.specs.Clients.{reader_in}
 use Rattle.ov_owner.specs.Questions.{AsksOnce}
 use Rattle.ov_owner.specs.declared.fault.OwnerFault.{OwnerFault}
 use Rattle.ov_owner.specs.declared.fault.OwnerFault.TheVariants as faults
 use Rattle.ov_server.specs.Locally.{IsServedBy}
 use Rattle.ov_transcript.specs.Talking.{IsReadAnswered}
 use Rattle.ov_transcript.specs.Transcripts.{service_of}
-use Rattle.overstore.specs.Machine.{IsStep, KeptOn, StandsFor, StepsAt, opened_of}
+use Rattle.overstore.specs.Machine.{KeptOn, StandsFor, opened_of}
 use Rattle.overstore.specs.Replying.{HasOwnFault, HasReadFault, fault_reply, read_reply}
 use Rattle.overstore.specs.Seats.{AllStay, IsSeat, served}
 use Rattle.overstore.specs.Tracing.{TracesAt}
@@ -40,11 +38,10 @@ use Rattle.overstore.proofs.Done.{IsDone, question_done}
 use Rattle.overstore.proofs.Fetching.{HasLengths, IsReadEnd, reads_so}
 use Rattle.overstore.proofs.Listing.{key_plain}
 use Rattle.overstore.proofs.Putting.{read_put, unread_put}
-use Rattle.overstore.proofs.Questioning.{IsCutOff, IsTakenOf, once_so}
+use Rattle.overstore.proofs.Questioning.{IsTakenOf, once_so}
 use Rattle.overstore.proofs.ReadingBack.{IsReader, IsReadThere, bytes_are, key_refusal_is, read_there, reader_so, refusal_is}
 use Rattle.overstore.proofs.Seating.{leads_so, left_so}
 use Rattle.overstore.proofs.Staying.{EndsThere, HasOwnCause}
-use Rattle.overstore.proofs.Stepping.{serves_at}
 
 -- what a store that stands for some history stores of a file has the file's length
 pub has_lengths : {D : Type 0} (reads : D → Option Image) (may_leave : D → Image → Type 0)

@@ -1,5 +1,5 @@
 -- How a change by the owner ends: its reply, and what is true of it at any store.
-use Rattle.std.proofs.Common.{◌≡◌, ◌∙◌, ℕ, ◌+◌, ◌≤◌, List, true, false, Option, Result, Ok, Err, refl, sym, ap, subst, inl, inr, arith}
+use Rattle.std.proofs.Common.{◌≡◌, ℕ, ◌+◌, List, false, Option, Result, Ok, Err, refl, sym, ap, subst, inl, inr, arith}
 use Rattle.std.specs.Prelude.{◌⊎◌, OnOk}
 use Rattle.ov_base.specs.Causes.{Rose}
 use Rattle.ov_disk.specs.Disk.{Image}
@@ -9,8 +9,7 @@ use Rattle.ov_owner.specs.Errands.{Errand}
 use Rattle.ov_owner.specs.Talks.{IsAskFault}
 use Rattle.ov_owner.specs.declared.fault.OwnerFault.{OwnerFault}
 use Rattle.ov_owner.specs.declared.fault.OwnerFault.TheVariants as faults
-use Rattle.overstore.specs.Disks.{IsDiskCall}
-use Rattle.overstore.specs.Machine.{AreOtherTags, IsStep, KeptOn, opened_of}
+use Rattle.overstore.specs.Machine.{IsStep, KeptOn, opened_of}
 use Rattle.overstore.specs.Replying.{HasOwnFault, change_reply}
 use Rattle.overstore.specs.declared.fault.BadTag.{BadTag}
 use Rattle.overstore.specs.declared.fault.StepFault.{StepFault}

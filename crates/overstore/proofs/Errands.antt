@@ -1,20 +1,17 @@
 -- The four errands of an owner, at any store.
-use Rattle.std.proofs.Common.{◌≡◌, ◌∙◌, ℕ, Bool, true, false, not, List, length, Option, Some, None, Result, Ok, Err, refl, sym, ap, subst, inl, inr}
+use Rattle.std.proofs.Common.{◌≡◌, ◌∙◌, ℕ, Bool, true, false, not, List, length, None, Result, Ok, Err, refl, sym, ap, subst, inl, inr}
 use Rattle.std.specs.Prelude.{◌⊎◌, is_some}
 use Rattle.std.proofs.lemmas.List.{length-map}
-use Rattle.ov_base.specs.Sets.{has}
 use Rattle.ov_base.specs.declared.refusal.Refusal.{Refusal}
 use Rattle.ov_ctr.proofs.Pad.{length-xor_pad}
 use Rattle.ov_tokens.specs.declared.token.Token.{Token}
 use Rattle.ov_tokens.specs.declared.label.Kind.TheVariants.{Derive}
 use Rattle.ov_graph.specs.Seals.{edge_token}
-use Rattle.ov_base_layer.specs.Seals.{access_token}
-use Rattle.ov_record.specs.Updates.{SealedUpdate, SealedEnrol, SealedGrant, SealedRevoke}
-use Rattle.ov_history.specs.Asking.{Numbers, file_named, refusal_at, user_named}
-use Rattle.ov_history.specs.Briefs.{Brief, BriefCreate, brief}
+use Rattle.ov_record.specs.Updates.{SealedUpdate}
+use Rattle.ov_history.specs.Asking.{refusal_at}
+use Rattle.ov_history.specs.Briefs.{brief}
 use Rattle.ov_history.specs.Catalogue.{Catalogue, outline}
 use Rattle.ov_history.specs.History.{Created}
-use Rattle.ov_history.specs.Layers.{holders, node_of}
 use Rattle.ov_history.specs.Lists.{set_named}
 use Rattle.ov_history.specs.Masters.{access_key}
 use Rattle.ov_history.specs.Sealed.{HasParts, refusal_shown}
@@ -33,7 +30,7 @@ use Rattle.ov_protocol.specs.Serving.{Serving}
 use Rattle.ov_protocol.specs.Answers.{Answers}
 use Rattle.ov_protocol.specs.Asking.{AnswersAsk, AnswersCover, known_at, numbers_for, plan_for, refusal_to}
 use Rattle.ov_peer.specs.Disks.{MayNeedDisk}
-use Rattle.ov_owner.specs.Errands.{Errand, created, creating, enrolling, granted, granting, known_of, plan_of, revoking, sealed_by}
+use Rattle.ov_owner.specs.Errands.{Errand, created, creating, enrolling, granting, known_of, plan_of, revoking, sealed_by}
 use Rattle.ov_owner.specs.Steps.{IsErrandFor}
 use Rattle.ov_owner.specs.declared.fault.OwnerFault.{OwnerFault}
 use Rattle.ov_owner.specs.declared.fault.OwnerFault.TheVariants as faults

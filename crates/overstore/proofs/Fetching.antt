@@ -1,5 +1,5 @@
 -- How a read goes over the machine's server, whatever history it serves.
-use Rattle.std.proofs.Common.{◌≡◌, ◌∙◌, ◌<◌, ◌≤◌, ◌+◌, ℕ, Bool, true, false, not}
+use Rattle.std.proofs.Common.{◌≡◌, ◌∙◌, ◌<◌, ◌+◌, ℕ, Bool, true, false, not}
 use Rattle.std.proofs.Common.{List, [], ◌∷◌, ◌++◌, length, take, drop, Option, Some, None}
 use Rattle.std.proofs.Common.{Result, Ok, Err, refl, sym, ap, subst, arith, append_assoc, inl, inr}
 use Rattle.std.proofs.Common.{eq-eqb, length-append, true≢false}
@@ -7,7 +7,7 @@ use Rattle.std.proofs.lemmas.Slice.Eq.{bytes_eq-Decides}
 use Rattle.std.specs.Prelude.{◌⊎◌, ◌≢◌, bytes_eq, min, nat_lt, if◌then◌else◌, slice_get, slice_index, slice_index_or}
 use Rattle.std.proofs.Math.Seq.{drop-append_seam}
 use Rattle.std.proofs.lemmas.List.{length-take, take-append-drop}
-use Rattle.ov_base.proofs.Tests.{ge_of_false, lt_of_true}
+use Rattle.ov_base.proofs.Tests.{lt_of_true}
 use Rattle.ov_base.specs.Causes.{Rose}
 use Rattle.ov_base.specs.declared.limits.TheConstants.{MAX_CHUNK_BYTES}
 use Rattle.ov_base.specs.declared.refusal.Refusal.TheVariants.{NoUser, NoFile, NoPath}
@@ -32,7 +32,7 @@ use Rattle.ov_protocol.proofs.Reading.{request_back}
 use Rattle.ov_protocol.specs.Reading.{AnswersChain, AnswersChunk, IsChainedFor}
 use Rattle.ov_peer.specs.Asks.{Ask, Leads}
 use Rattle.ov_peer.specs.Disks.{AsksBytes}
-use Rattle.ov_server.specs.Answering.{AnswersOrFails, FailsUpdate, IsAnswered, IsFaulted, serving_of}
+use Rattle.ov_server.specs.Answering.{AnswersOrFails, FailsUpdate, IsFaulted, serving_of}
 use Rattle.ov_store.specs.Opened.{Opened}
 use Rattle.ov_client.specs.Readers.{Reader, judged, keys_along, uncovered}
 use Rattle.ov_client.specs.Talks.{AsksChain, AsksChunk, Closes, Ends, Goes, IsAfter, IsAskedAt, Moves, Stage, Talks}
@@ -43,10 +43,10 @@ use Rattle.ov_client.specs.declared.fault.ClientFault.TheVariants as client
 use Rattle.ov_client.specs.declared.telling.Fetched.TheVariants.{Bytes}
 use Rattle.ov_client.proofs.Leading.{BeginsAt}
 use Rattle.ov_client.proofs.Staying.{file_in, found_file}
-use Rattle.ov_client.proofs.Fields.{no_rest, right_field}
+use Rattle.ov_client.proofs.Fields.{right_field}
 use Rattle.ov_client.proofs.ReadingBack.{base_begins, chain_is_answer, reads_back, surface_begins}
 use Rattle.overstore.specs.Seats.{AllStay, LeftBy, served}
-use Rattle.overstore.proofs.Quiet.{Says, quiet_asked, says}
+use Rattle.overstore.proofs.Quiet.{quiet_asked, says}
 
 -- the third test of a read comes only where the file is there
 file_there : (a b c : Bool)

@@ -1,7 +1,6 @@
 -- Steps over a traced peer to which the machine lends its server, and its caller the sink.
-use Rattle.std.proofs.Common.{MutBor, ◌≡◌, ◌∙◌, ℕ, ◌+◌, ◌≤◌, List, true, false, Option, Result, Ok, Err, refl, sym, ap, subst, arith}
+use Rattle.std.proofs.Common.{MutBor, ◌≡◌, ◌∙◌, ℕ, ◌+◌, ◌≤◌, List, false, Option, Result, Err, refl, sym, ap, subst, arith}
 use Rattle.std.specs.Io.KnownBytes.{Appends}
-use Rattle.ov_base.specs.Causes.{Rose}
 use Rattle.ov_disk.specs.Disk.{Image}
 use Rattle.ov_images.specs.Images.{Keys, keys_of}
 use Rattle.ov_script.specs.declared.command.Command.{Command}
@@ -24,7 +23,7 @@ use Rattle.overstore.specs.Seats.{IsSeat, served}
 use Rattle.overstore.specs.Tracing.{Traces, TracesAt}
 use Rattle.overstore.specs.declared.fault.StepFault.{StepFault}
 use Rattle.overstore.specs.declared.fault.StepFault.TheVariants.{Trace}
-use Rattle.overstore.proofs.Done.{IsDone, change_done, change_proper}
+use Rattle.overstore.proofs.Done.{change_done, change_proper}
 use Rattle.overstore.proofs.Ending.{is_link}
 use Rattle.overstore.proofs.Seating.{grew_so, keys_so, lent_so, traced_seat}
 use Rattle.overstore.proofs.Stepping.{machine_of}

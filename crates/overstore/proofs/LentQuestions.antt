@@ -1,8 +1,7 @@
 -- Questions over a traced peer to which the machine lends its server, and its caller the sink.
-use Rattle.std.proofs.Common.{MutBor, ◌≡◌, ◌∙◌, ℕ, ◌+◌, ◌≤◌, List, ◌++◌, true, false, Option, Result, Ok, Err, refl, sym, ap, subst, inl, inr, arith}
+use Rattle.std.proofs.Common.{◌≡◌, ◌∙◌, ℕ, ◌+◌, ◌≤◌, List, false, Option, Result, Ok, Err, refl, sym, ap, subst, arith}
 use Rattle.std.specs.Io.KnownBytes.{Appends}
 use Rattle.std.proofs.KnownBytes.{Appends-trans}
-use Rattle.ov_base.specs.Causes.{Rose}
 use Rattle.ov_disk.specs.Disk.{Image}
 use Rattle.ov_images.specs.Images.{keys_of}
 use Rattle.ov_script.specs.declared.command.Command.{Command}
@@ -75,6 +74,13 @@ read_link user file (Err (client.Damaged stored computed)) may is = absurd (cc i
 read_link user file (Err client.Device) may is = absurd (cc is)
 read_link user file (Err (client.Unsettled generations)) may is = absurd may
 read_link user file (Err client.Memory) may is = absurd (cc is)
+
+-- a fault in place of a reader
+abbrev no_reader : OwnerFault → Result Reader OwnerFault
+no_reader f = Err f
+
+fault_of : (f : OwnerFault) → no_reader f ≡ no_reader faults.Link → f ≡ faults.Link
+fault_of f is = cc is
 
 module _ {D T : Type 0} (reads : D → Option Image) (may_leave : D → Image → Type 0)
     (moment : D → ℕ) (left_since : D → ℕ → Image → Type 0) (borrow faults_of : D → ℕ)
@@ -238,86 +244,86 @@ module _ {D T : Type 0} (reads : D → Option Image) (may_leave : D → Image �
   -- ---- reads
 
   module _ (user file : List ℕ) (form : HasRequestForm (requests.Ask (questions.Key user))) (b : Peer)
-      where
-    module _ (fault : OwnerFault)
-        (asks : AsksIt (requests.Ask (questions.Key user)) (reader_in k user) a b (Err fault)) where
-      pub unread_keys : b.peer.now.keys ≡ keys_of k
-      unread_keys =
-          once_keys (requests.Ask (questions.Key user)) (reader_in k user) (key_plain user form) b
-          (Err fault) asks
+    where
+      module _ (fault : OwnerFault)
+          (asks : AsksIt (requests.Ask (questions.Key user)) (reader_in k user) a b (Err fault)) where
+        pub unread_keys : b.peer.now.keys ≡ keys_of k
+        unread_keys =
+            once_keys (requests.Ask (questions.Key user)) (reader_in k user) (key_plain user form) b
+            (Err fault) asks
 
-      pub unread_fault : MayCome fault
-      unread_fault =
-          unread_proper reads may_leave moment left_since borrow faults_of only_now counts_now _ _ _ _ _
-          (seat reads may_leave moment left_since borrow faults_of only_now counts_now written sink_faults)
-          k user file a b form fault asks
+        pub unread_fault : MayCome fault
+        unread_fault =
+            unread_proper reads may_leave moment left_since borrow faults_of only_now counts_now _ _ _ _ _
+            (seat reads may_leave moment left_since borrow faults_of only_now counts_now written sink_faults)
+            k user file a b form fault asks
 
-      pub unread_all : (t_old t_new : T) (r : Result Reply StepFault) → a.sink.now ≡ t_old
-          → b.sink.now ≡ t_new
-          → HasOwnerCause {T = Reader} (0 + sink_faults a.sink.now) (0 + sink_faults b.sink.now) (Err fault)
-          → r ≡ fault_reply fault → Whole (commands.Read user file) b t_old t_new r
-      unread_all t_old t_new r put_a put_b cause replied =
-          subst (Whole (commands.Read user file) b t_old t_new) (sym replied)
-          (whole_so (commands.Read user file) b t_old t_new (fault_reply fault)
-          (unread_done reads may_leave moment left_since borrow faults_of only_now counts_now _ _ _ _ _
-          (seat reads may_leave moment left_since borrow faults_of only_now counts_now written sink_faults)
-          k user file a b form fault asks (machine_of k s) (machine_of k b.peer.now) refl at_old
-          (opens_as k b.peer.now unread_keys) refl)
-          (once_puts (requests.Ask (questions.Key user)) (reader_in k user) (key_plain user form) b
-          (Err fault) asks (fault_reply fault) cause
-          (λ is. ap Err (fault_link fault unread_fault is))) put_a put_b)
+        pub unread_all : (t_old t_new : T) (r : Result Reply StepFault) → a.sink.now ≡ t_old
+            → b.sink.now ≡ t_new
+            → HasOwnerCause {T = Reader} (0 + sink_faults a.sink.now) (0 + sink_faults b.sink.now) (Err fault)
+            → r ≡ fault_reply fault → Whole (commands.Read user file) b t_old t_new r
+        unread_all t_old t_new r put_a put_b cause replied =
+            subst (Whole (commands.Read user file) b t_old t_new) (sym replied)
+            (whole_so (commands.Read user file) b t_old t_new (fault_reply fault)
+            (unread_done reads may_leave moment left_since borrow faults_of only_now counts_now _ _ _ _ _
+            (seat reads may_leave moment left_since borrow faults_of only_now counts_now written sink_faults)
+            k user file a b form fault asks (machine_of k s) (machine_of k b.peer.now) refl at_old
+            (opens_as k b.peer.now unread_keys) refl)
+            (once_puts (requests.Ask (questions.Key user)) (reader_in k user) (key_plain user form) b
+            (Err fault) asks (fault_reply fault) cause
+            (λ is. ap Err (fault_link fault unread_fault is))) put_a put_b)
 
-    module _ (r : Reader) (found : Result (List ℕ) ClientFault) (d : Peer)
-        (asks : AsksIt (requests.Ask (questions.Key user)) (reader_in k user) a b (Ok r))
-        (talk : Reads
-        (lent_asked reads may_leave moment left_since borrow faults_of only_now counts_now written sink_faults)
-        (lent_failed reads may_leave moment left_since borrow faults_of only_now counts_now written sink_faults)
-        b d r file found)
-        (sizes : HasLengths s) (sound : s.failed ≡ false) where
-      sizes_a : HasLengths a.peer.now
-      sizes_a = subst HasLengths (sym at_a) sizes
+      module _ (r : Reader) (found : Result (List ℕ) ClientFault) (d : Peer)
+          (asks : AsksIt (requests.Ask (questions.Key user)) (reader_in k user) a b (Ok r))
+          (talk : Reads
+          (lent_asked reads may_leave moment left_since borrow faults_of only_now counts_now written sink_faults)
+          (lent_failed reads may_leave moment left_since borrow faults_of only_now counts_now written sink_faults)
+          b d r file found)
+          (sizes : HasLengths s) (sound : s.failed ≡ false) where
+        sizes_a : HasLengths a.peer.now
+        sizes_a = subst HasLengths (sym at_a) sizes
 
-      sound_a : a.peer.now.failed ≡ false
-      sound_a = ap (λ (x : Opened D). x.failed) at_a ∙ sound
+        sound_a : a.peer.now.failed ≡ false
+        sound_a = ap (λ (x : Opened D). x.failed) at_a ∙ sound
 
-      pub read_keys : d.peer.now.keys ≡ keys_of k
-      read_keys =
-          let (list, o, are, talks) = talk in
-          keeps_keys reads may_leave moment left_since borrow faults_of only_now counts_now written sink_faults
-          list o b d are
-          ∙ once_keys (requests.Ask (questions.Key user)) (reader_in k user) (key_plain user form) b (Ok r) asks
+        pub read_keys : d.peer.now.keys ≡ keys_of k
+        read_keys =
+            let (list, o, are, talks) = talk in
+            keeps_keys reads may_leave moment left_since borrow faults_of only_now counts_now written sink_faults
+            list o b d are
+            ∙ once_keys (requests.Ask (questions.Key user)) (reader_in k user) (key_plain user form) b (Ok r) asks
 
-      pub read_fault : HasReadFault found
-      read_fault =
-          read_proper reads may_leave moment left_since borrow faults_of only_now counts_now _ _ _ _ _
-          (seat reads may_leave moment left_since borrow faults_of only_now counts_now written sink_faults)
-          k user file a b form r found d asks talk sizes_a sound_a
+        pub read_fault : HasReadFault found
+        read_fault =
+            read_proper reads may_leave moment left_since borrow faults_of only_now counts_now _ _ _ _ _
+            (seat reads may_leave moment left_since borrow faults_of only_now counts_now written sink_faults)
+            k user file a b form r found d asks talk sizes_a sound_a
 
-      read_puts : HasFoundCause (0 + sink_faults a.sink.now) (0 + sink_faults d.sink.now) (Read found)
-          → PutsTo written sink_faults (read_reply user file found ≡ Err Trace) a.sink.now d.sink.now
-      read_puts cause =
-          let (list, o, are, talks) = talk in
-          let one = once_grew (requests.Ask (questions.Key user)) (reader_in k user) (key_plain user form) b (Ok r) asks in
-          let more = puts_more reads may_leave moment left_since borrow faults_of only_now counts_now written sink_faults
-          list o b d are in record {
-            grew = (_, Appends-trans (written a.sink.now) (written b.sink.now) (written d.sink.now) _ _ one.1 more.1);
-            later = omega (arith, cause.later);
-            write = λ is.
-                let rose = cause.read (ap Read (read_link user file found read_fault is)) in omega (arith, rose);
-          }
+        read_puts : HasFoundCause (0 + sink_faults a.sink.now) (0 + sink_faults d.sink.now) (Read found)
+            → PutsTo written sink_faults (read_reply user file found ≡ Err Trace) a.sink.now d.sink.now
+        read_puts cause =
+            let (list, o, are, talks) = talk in
+            let one = once_grew (requests.Ask (questions.Key user)) (reader_in k user) (key_plain user form) b (Ok r) asks in
+            let more = puts_more reads may_leave moment left_since borrow faults_of only_now counts_now written sink_faults
+            list o b d are in record {
+              grew = (_, Appends-trans (written a.sink.now) (written b.sink.now) (written d.sink.now) _ _ one.1 more.1);
+              later = omega (arith, cause.later);
+              write = λ is.
+                  let rose = cause.read (ap Read (read_link user file found read_fault is)) in omega (arith, rose);
+            }
 
-      pub read_all : (t_old t_new : T) (reply : Result Reply StepFault) → a.sink.now ≡ t_old
-          → d.sink.now ≡ t_new
-          → HasFoundCause (0 + sink_faults a.sink.now) (0 + sink_faults d.sink.now) (Read found)
-          → reply ≡ read_reply user file found → Whole (commands.Read user file) d t_old t_new reply
-      read_all t_old t_new reply put_a put_d cause replied =
-          subst (Whole (commands.Read user file) d t_old t_new) (sym replied)
-          (whole_so (commands.Read user file) d t_old t_new (read_reply user file found)
-          (read_done reads may_leave moment left_since borrow faults_of only_now counts_now _ _ _ _ _
-          (seat reads may_leave moment left_since borrow faults_of only_now counts_now written sink_faults)
-          k user file a b form r found d asks talk sizes_a sound_a (machine_of k s) (machine_of k d.peer.now) refl
-          at_old (opens_as k d.peer.now read_keys) refl)
-          (read_puts cause) put_a put_d)
+        pub read_all : (t_old t_new : T) (reply : Result Reply StepFault) → a.sink.now ≡ t_old
+            → d.sink.now ≡ t_new
+            → HasFoundCause (0 + sink_faults a.sink.now) (0 + sink_faults d.sink.now) (Read found)
+            → reply ≡ read_reply user file found → Whole (commands.Read user file) d t_old t_new reply
+        read_all t_old t_new reply put_a put_d cause replied =
+            subst (Whole (commands.Read user file) d t_old t_new) (sym replied)
+            (whole_so (commands.Read user file) d t_old t_new (read_reply user file found)
+            (read_done reads may_leave moment left_since borrow faults_of only_now counts_now _ _ _ _ _
+            (seat reads may_leave moment left_since borrow faults_of only_now counts_now written sink_faults)
+            k user file a b form r found d asks talk sizes_a sound_a (machine_of k s) (machine_of k d.peer.now) refl
+            at_old (opens_as k d.peer.now read_keys) refl)
+            (read_puts cause) put_a put_d)
 
   -- whatever came of it
   module _ (user file : List ℕ) (form : HasRequestForm (requests.Ask (questions.Key user))) (d : Peer)
@@ -351,9 +357,7 @@ module _ {D T : Type 0} (reads : D → Option Image) (may_leave : D → Image �
         → Whole (commands.Read user file) d t_old t_new (found_reply user file found)
     found_so (Unread fault) t_old t_new asks put_a put_d cause =
         unread_all user file form d fault asks t_old t_new (fault_reply fault) put_a put_d
-        (record { later = cause.later; link = λ is. cause.unread (ap Unread (fault_of fault is)) }) refl where
-      fault_of : (f : OwnerFault) → Err {T = Reader} f ≡ Err faults.Link → f ≡ faults.Link
-      fault_of f is = cc is
+        (record { later = cause.later; link = λ is. cause.unread (ap Unread (fault_of fault is)) }) refl
     found_so (Read found) t_old t_new (r, m, asks, talk) put_a put_d cause =
         read_all user file form m r found d asks talk sizes_s sound_s t_old t_new
         (read_reply user file found) put_a put_d cause refl

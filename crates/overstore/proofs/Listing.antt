@@ -1,35 +1,25 @@
 -- The replies to questions: the epoch, and the names in a list.
-use Rattle.std.proofs.Common.{◌≡◌, ◌∙◌, ℕ, List, [], ◌∷◌, Bool, true, false, not, Option, Some, None, Result, Ok, Err, refl, sym, ap, subst, inl, inr}
-use Rattle.std.specs.Prelude.{◌⊎◌}
+use Rattle.std.proofs.Common.{◌≡◌, ◌∙◌, ℕ, List, [], ◌∷◌, Bool, true, false, Some, None, sym, ap, subst, inl}
 use Rattle.ov_base.specs.declared.refusal.Refusal.{Refusal}
 use Rattle.ov_base.specs.declared.refusal.Refusal.TheVariants.{NoFile}
 use Rattle.ov_fields.specs.Spelling.{IsOneOf}
 use Rattle.ov_history.specs.Asking.{file_named}
 use Rattle.ov_history.specs.Catalogue.{Catalogue, matrix_shown}
 use Rattle.ov_history.specs.History.{Matrix, matrix_of}
-use Rattle.ov_history.specs.Lists.{file_at, file_number, is_file, names_in as names_of_list}
+use Rattle.ov_history.specs.Lists.{file_number}
 use Rattle.ov_history.specs.Plain.{PlainHistory, history_of}
 use Rattle.ov_history.specs.Refusals.{first_of_tests, list_refusal}
-use Rattle.ov_script.specs.declared.command.Command.{Command}
 use Rattle.ov_script.specs.declared.command.Command.TheVariants.{Epoch as AskEpoch, List as ListNames}
-use Rattle.ov_script.specs.declared.reply.Reply.{Reply}
 use Rattle.ov_script.specs.declared.reply.Reply.TheVariants.{Epoch as EpochIs, List as Listed, Refused}
-use Rattle.ov_model.specs.Step.{after, names_reply, reply_or, reply_to}
+use Rattle.ov_model.specs.Step.{names_reply, reply_or, reply_to}
 use Rattle.ov_wire.specs.declared.answer.Answer.{Answer}
 use Rattle.ov_wire.specs.declared.answer.Answer.TheVariants as answers
-use Rattle.ov_wire.specs.declared.answer.Welcome.{Welcome}
 use Rattle.ov_wire.specs.declared.request.Question.TheVariants as questions
-use Rattle.ov_wire.specs.declared.request.Request.{Request}
 use Rattle.ov_wire.specs.declared.request.Request.TheVariants as requests
 use Rattle.ov_wire.specs.AnswerForm.{HasAnswerForm}
 use Rattle.ov_wire.specs.AnswersTo.{IsAnswer}
 use Rattle.ov_wire.specs.Requests.{HasRequestForm}
-use Rattle.ov_protocol.specs.Answers.{Answers}
 use Rattle.ov_protocol.specs.Reading.{AnswersList}
-use Rattle.ov_protocol.specs.Serving.{Serving}
-use Rattle.ov_owner.specs.Questions.{names_in, welcome_in}
-use Rattle.ov_owner.specs.declared.fault.OwnerFault.{OwnerFault}
-use Rattle.ov_owner.specs.declared.fault.OwnerFault.TheVariants as faults
 use Rattle.ov_owner.proofs.Fitting.{ask_fits}
 use Rattle.overstore.specs.Machine.{Kept, StandsFor}
 use Rattle.overstore.proofs.Questioning.{IsPlainQuestion}

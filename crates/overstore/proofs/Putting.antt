@@ -24,23 +24,21 @@ use Rattle.ov_peer.specs.Asks.{AreAsks, Ask, Asked, Failed}
 use Rattle.ov_client.specs.Readers.{Reader}
 use Rattle.ov_client.specs.Talks.{Closes as ReadCloses, Talks as ReadTalks}
 use Rattle.ov_client.specs.declared.fault.ClientFault.{ClientFault}
-use Rattle.ov_client.specs.declared.fault.ClientFault.TheVariants as client
 use Rattle.ov_store.specs.Opened.{Opened}
 use Rattle.ov_server.specs.Locally.{IsServedBy}
 use Rattle.ov_owner.specs.Alone.{AnsweredAlone}
-use Rattle.ov_owner.specs.Clients.{reader_in, reader_of}
-use Rattle.ov_owner.specs.Errands.{Errand, known_of}
-use Rattle.ov_owner.specs.Questions.{AsksOnce, taken}
+use Rattle.ov_owner.specs.Clients.{reader_in}
+use Rattle.ov_owner.specs.Errands.{Errand}
+use Rattle.ov_owner.specs.Questions.{AsksOnce}
 use Rattle.ov_owner.specs.Steps.{IsErrandFor}
 use Rattle.ov_owner.specs.Talks.{Closes, Talks}
 use Rattle.ov_owner.specs.declared.fault.OwnerFault.{OwnerFault}
 use Rattle.ov_owner.specs.declared.fault.OwnerFault.TheVariants as faults
 use Rattle.ov_transcript.specs.Talking.{ArePut, IsAnswered, IsFirstAsk, IsOneQuestion, IsReadAnswered, ReadsAs}
-use Rattle.ov_transcript.specs.Transcripts.{IsTranscriptFront, Transcribed, first_request, frames, frames_of, service_of}
+use Rattle.ov_transcript.specs.Transcripts.{first_request, frames, frames_of, service_of}
 use Rattle.ov_transcript.proofs.OwnersTalks.{talks_are_fronts, talks_are_transcripts}
 use Rattle.ov_transcript.proofs.Questions.{first_answers_are_fronts, first_asks_are_fronts, questions_are_transcripts, refusals_are_transcripts}
 use Rattle.ov_transcript.proofs.ReadersTalks.{reads_are_fronts, reads_are_transcripts}
-use Rattle.overstore.specs.Machine.{Kept, StandsFor}
 use Rattle.overstore.specs.Replying.{change_reply, fault_reply}
 use Rattle.overstore.specs.Seats.{IsSeat}
 use Rattle.overstore.specs.Tracing.{TracesAt, Transcribes, TranscribesFront}
@@ -99,24 +97,26 @@ module _ {D : Type 0} (reads : D → Option Image) (may_leave : D → Image → 
       (frames_put reads may_leave moment left_since borrow faults_of asked failed server put loan seat asks a m leads)
       put_more in
       traces_so k p command (put a) (put b) (change_reply made)
-      (λ reply is. whole w alone more are_put put_all (answered_so made reply is))
-      (frames asks ++ more,
-      talks_are_fronts k p command e asks o made w more ours talks legal alone are_put, put_all) where
-    no_more : (more : List ℕ) (w : Service) (x : Option (List ℕ)) → ArePut w x more
-        → IsAnswered made → Closes k.surface e talks.0 x made → more ≡ []
-    no_more more w None are_put answered closes = are_put
-    no_more more w (Some frame) are_put answered (due, why) = absurd (none_failed made answered why)
+      (λ reply is. whole w alone more are_put put_all (answered_so made reply is)) (
+        frames asks ++ more,
+        talks_are_fronts k p command e asks o made w more ours talks legal alone are_put,
+        put_all,
+      ) where
+        no_more : (more : List ℕ) (w : Service) (x : Option (List ℕ)) → ArePut w x more
+            → IsAnswered made → Closes k.surface e talks.0 x made → more ≡ []
+        no_more more w None are_put answered closes = are_put
+        no_more more w (Some frame) are_put answered (due, why) = absurd (none_failed made answered why)
 
-    whole : (w : Service) → AnsweredAlone (service_of k p) asks w
-        → (more : List ℕ) → ArePut w o more → Appends (put a) (put b) (frames asks ++ more)
-        → IsAnswered made → Transcribes k p command (put a) (put b)
-    whole w alone more are_put put_all answered =
-        let none : more ≡ [] = no_more more w o are_put answered talks.2 in (
-          frames asks,
-          (asks, talks_are_transcripts k p command e asks o made w ours talks legal alone answered, refl),
-          subst (λ (bytes : List ℕ). Appends (put a) (put b) bytes)
-              (ap (λ (x : List ℕ). frames asks ++ x) none ∙ append-nil (frames asks)) put_all,
-        )
+        whole : (w : Service) → AnsweredAlone (service_of k p) asks w
+            → (more : List ℕ) → ArePut w o more → Appends (put a) (put b) (frames asks ++ more)
+            → IsAnswered made → Transcribes k p command (put a) (put b)
+        whole w alone more are_put put_all answered =
+            let none : more ≡ [] = no_more more w o are_put answered talks.2 in (
+              frames asks,
+              (asks, talks_are_transcripts k p command e asks o made w ours talks legal alone answered, refl),
+              subst (λ (bytes : List ℕ). Appends (put a) (put b) bytes)
+                  (ap (λ (x : List ℕ). frames asks ++ x) none ∙ append-nil (frames asks)) put_all,
+            )
 
   -- ---- questions
 
@@ -154,9 +154,11 @@ module _ {D : Type 0} (reads : D → Option Image) (may_leave : D → Image → 
         (bytes, first_asks_are_fronts k p command bytes form is, put_it)
 
     still_front : (a b : P) → b ≡ a → TranscribesFront k p command (put a) (put b)
-    still_front a b same =
-        ([], first_asks_are_fronts k p command [] form (inl (0, refl)),
-        subst (λ (x : P). Appends (put a) (put x) []) (sym same) (Appends-nil (put a)))
+    still_front a b same = (
+      [],
+      first_asks_are_fronts k p command [] form (inl (0, refl)),
+      subst (λ (x : P). Appends (put a) (put x) []) (sym same) (Appends-nil (put a)),
+    )
 
     -- a front, however it ended
     pub once_front : {T : Type 0} (take : Answer → Result T OwnerFault) (result : Result T OwnerFault)
@@ -182,14 +184,14 @@ module _ {D : Type 0} (reads : D → Option Image) (may_leave : D → Image → 
     question_put take result r a b one serves once no_link no_memory =
         traces_so k p command (put a) (put b) r (λ reply is. whole reply is once)
         (once_front take result a b serves once) where
-      whole : (reply : Reply) → r ≡ Ok reply
-          → AsksOnce asked failed a b (first_request command) take result
-          → Transcribes k p command (put a) (put b)
-      whole reply is (inl (read, answered, so)) =
-          let (x, same, first, bytes) = first_ask a b answered.reply serves answered.sent in
-          (frames (x ∷ []), (x ∷ [], questions_are_transcripts k p command x one first, refl), bytes)
-      whole reply is (inr (inl (link, fault))) = absurd (no_link reply is link)
-      whole reply is (inr (inr (memory, forgets))) = absurd (no_memory reply is memory)
+          whole : (reply : Reply) → r ≡ Ok reply
+              → AsksOnce asked failed a b (first_request command) take result
+              → Transcribes k p command (put a) (put b)
+          whole reply is (inl (read, answered, so)) =
+              let (x, same, first, bytes) = first_ask a b answered.reply serves answered.sent in
+              (frames (x ∷ []), (x ∷ [], questions_are_transcripts k p command x one first, refl), bytes)
+          whole reply is (inr (inl (link, fault))) = absurd (no_link reply is link)
+          whole reply is (inr (inr (memory, forgets))) = absurd (no_memory reply is memory)
 
   -- ---- reads
 
@@ -202,34 +204,34 @@ module _ {D : Type 0} (reads : D → Option Image) (may_leave : D → Image → 
       traces_so k p (Read user file) (put a) (put b) (fault_reply fault)
       (λ reply is. by fault is once)
       (once_front (Read user file) form (reader_in k user) (Err fault) a b serves once) where
-    no_reader : (answer : Answer) (why : Refusal)
-        → Err (faults.Refused why) ≡ reader_in k user answer → answer ≡ answers.Refused why
-    no_reader (answers.Refused other) why is = cc
-    no_reader answer why is = absurd cc
+        no_reader : (answer : Answer) (why : Refusal)
+            → Err (faults.Refused why) ≡ reader_in k user answer → answer ≡ answers.Refused why
+        no_reader (answers.Refused other) why is = cc
+        no_reader answer why is = absurd cc
 
-    by : (f : OwnerFault) {reply : Reply} → fault_reply f ≡ Ok reply
-        → AsksOnce asked failed a b (first_request (Read user file)) (reader_in k user) (Err f)
-        → Transcribes k p (Read user file) (put a) (put b)
-    by (faults.Refused why) is (inl (Ok answer, answered, so)) =
-        let (x, same, first, bytes) = first_ask (Read user file) form a b answered.reply serves answered.sent in
-        let refused = no_reader answer why so in
-        let reads_as : ReadsAs (Read user file) x.reply (answers.Refused why) =
-        record {
-          bytes = subst AreAllBytes (sym same) answered.bytes;
-          reads = ap (answer_of (first_request (Read user file))) same
-              ∙ answered.reads ∙ ap Ok refused;
-        } in
-        (frames (x ∷ []), (x ∷ [], refusals_are_transcripts k p (Read user file) x why first reads_as, refl), bytes)
-    by (faults.Refused why) is (inl (Err place, answered, so)) =
-        absurd (cc so)
-    by (faults.Refused why) is (inr (inl (link, fault_of))) = absurd (cc link)
-    by (faults.Refused why) is (inr (inr (memory, forgets))) = absurd (cc memory)
-    by faults.Link is once_so = absurd (cc is)
-    by (faults.BadReply place) is once_so = absurd (cc is)
-    by faults.BadTag is once_so = absurd (cc is)
-    by faults.Device is once_so = absurd (cc is)
-    by (faults.Unsettled epochs) is once_so = absurd (cc is)
-    by faults.Memory is once_so = absurd (cc is)
+        by : (f : OwnerFault) {reply : Reply} → fault_reply f ≡ Ok reply
+            → AsksOnce asked failed a b (first_request (Read user file)) (reader_in k user) (Err f)
+            → Transcribes k p (Read user file) (put a) (put b)
+        by (faults.Refused why) is (inl (Ok answer, answered, so)) =
+            let (x, same, first, bytes) = first_ask (Read user file) form a b answered.reply serves answered.sent in
+            let refused = no_reader answer why so in
+            let reads_as : ReadsAs (Read user file) x.reply (answers.Refused why) =
+            record {
+              bytes = subst AreAllBytes (sym same) answered.bytes;
+              reads = ap (answer_of (first_request (Read user file))) same
+                  ∙ answered.reads ∙ ap Ok refused;
+            } in
+            (frames (x ∷ []), (x ∷ [], refusals_are_transcripts k p (Read user file) x why first reads_as, refl), bytes)
+        by (faults.Refused why) is (inl (Err place, answered, so)) =
+            absurd (cc so)
+        by (faults.Refused why) is (inr (inl (link, fault_of))) = absurd (cc link)
+        by (faults.Refused why) is (inr (inr (memory, forgets))) = absurd (cc memory)
+        by faults.Link is once_so = absurd (cc is)
+        by (faults.BadReply place) is once_so = absurd (cc is)
+        by faults.BadTag is once_so = absurd (cc is)
+        by faults.Device is once_so = absurd (cc is)
+        by (faults.Unsettled epochs) is once_so = absurd (cc is)
+        by faults.Memory is once_so = absurd (cc is)
 
   -- the reader was got, and the file was read with its keys
   pub read_put : (user file : List ℕ) (r : Reader) (asks : List Ask) (o : Option (List ℕ))
@@ -248,52 +250,53 @@ module _ {D : Type 0} (reads : D → Option Image) (may_leave : D → Image → 
       absurd (cc so)
   read_put user file r asks o found reply a b d form serves still named (inl (Ok answer, answered, so)) (m, leads, ends) talks replied =
       by_known answer refl so where
-    has_known : (x : Answer) → Ok r ≡ reader_in k user x → (known : Known) × (x ≡ answers.Known known)
-    has_known (answers.Known known) is = (known, refl)
-    has_known (answers.Refused why) is = absurd (cc is)
-    has_known answers.NoMemory is = absurd (cc is)
-    has_known x is = absurd (cc is)
+        has_known : (x : Answer) → Ok r ≡ reader_in k user x → (known : Known) × (x ≡ answers.Known known)
+        has_known (answers.Known known) is = (known, refl)
+        has_known (answers.Refused why) is = absurd (cc is)
+        has_known answers.NoMemory is = absurd (cc is)
+        has_known x is = absurd (cc is)
 
-    none_left : (more : List ℕ) (w : Service) (x : Option (List ℕ)) → ArePut w x more
-        → IsReadAnswered found → ReadCloses r file talks.0 x found → more ≡ []
-    none_left more w None are_put answer_so closes = are_put
-    none_left more w (Some frame) are_put answer_so (due, inl link) =
-        absurd (subst IsReadAnswered link answer_so)
-    none_left more w (Some frame) are_put answer_so (due, inr memory) =
-        absurd (subst IsReadAnswered memory answer_so)
+        none_left : (more : List ℕ) (w : Service) (x : Option (List ℕ)) → ArePut w x more
+            → IsReadAnswered found → ReadCloses r file talks.0 x found → more ≡ []
+        none_left more w None are_put answer_so closes = are_put
+        none_left more w (Some frame) are_put answer_so (due, inl link) =
+            absurd (subst IsReadAnswered link answer_so)
+        none_left more w (Some frame) are_put answer_so (due, inr memory) =
+            absurd (subst IsReadAnswered memory answer_so)
 
-    by_known : (x : Answer) → x ≡ answer → Ok r ≡ reader_in k user x
-        → TracesAt k p (Read user file) (put a) (put d) reply
-    by_known x same_answer is =
-        let (known, as_known) = has_known x is in
-        let (key, same, first, key_bytes) = first_ask (Read user file) form a b answered.reply serves answered.sent in
-        let reads_as : ReadsAs (Read user file) key.reply (answers.Known known) =
-        record {
-          bytes = subst AreAllBytes (sym same) answered.bytes;
-          reads = ap (answer_of (first_request (Read user file))) same
-              ∙ answered.reads ∙ ap Ok (sym same_answer ∙ as_known);
-        } in
-        let serves_b : IsServedBy (server b) (service_of k p) =
-        subst (λ (s : Opened D). IsServedBy s (service_of k p)) (sym still) serves in
-        let (w, alone, then) = alone_so reads may_leave moment left_since borrow faults_of asked failed
-        server put loan seat asks b m (service_of k p) serves_b leads in
-        let (more, put_more, are_put) = end_put reads may_leave moment left_since borrow faults_of asked
-        failed server put loan seat o m d w then ends in
-        let put_reads = Appends-trans (put b) (put m) (put d) (frames asks) more
-        (frames_put reads may_leave moment left_since borrow faults_of asked failed server put loan seat asks b m leads)
-        put_more in
-        let put_all = Appends-trans (put a) (put b) (put d) (frames (key ∷ [])) (frames asks ++ more) key_bytes put_reads in
-        let joined : frames (key ∷ []) ++ (frames asks ++ more) ≡ frames (key ∷ asks) ++ more =
-        joins (frames_of key) (frames asks) more in
-        let put_so : Appends (put a) (put d) (frames (key ∷ asks) ++ more) =
-        subst (λ (bytes : List ℕ). Appends (put a) (put d) bytes) joined put_all in
-        traces_so k p (Read user file) (put a) (put d) reply
-        (λ given is_ok. let none : more ≡ [] = none_left more w o are_put (replied given is_ok) talks.2 in (
-          frames (key ∷ asks),
-          (key ∷ asks, reads_are_transcripts k p user file key known r asks o found w first reads_as named talks legal alone (replied given is_ok), refl),
-          subst (λ (bytes : List ℕ). Appends (put a) (put d) bytes)
-              (ap (λ (y : List ℕ). frames (key ∷ asks) ++ y) none ∙ append-nil (frames (key ∷ asks))) put_so,
-        ))
-        (frames (key ∷ asks) ++ more,
-        reads_are_fronts k p user file key known r asks o found w more first reads_as named talks legal alone are_put,
-        put_so)
+        by_known : (x : Answer) → x ≡ answer → Ok r ≡ reader_in k user x
+            → TracesAt k p (Read user file) (put a) (put d) reply
+        by_known x same_answer is =
+            let (known, as_known) = has_known x is in
+            let (key, same, first, key_bytes) = first_ask (Read user file) form a b answered.reply serves answered.sent in
+            let reads_as : ReadsAs (Read user file) key.reply (answers.Known known) =
+            record {
+              bytes = subst AreAllBytes (sym same) answered.bytes;
+              reads = ap (answer_of (first_request (Read user file))) same
+                  ∙ answered.reads ∙ ap Ok (sym same_answer ∙ as_known);
+            } in
+            let serves_b : IsServedBy (server b) (service_of k p) =
+            subst (λ (s : Opened D). IsServedBy s (service_of k p)) (sym still) serves in
+            let (w, alone, then) = alone_so reads may_leave moment left_since borrow faults_of asked failed
+            server put loan seat asks b m (service_of k p) serves_b leads in
+            let (more, put_more, are_put) = end_put reads may_leave moment left_since borrow faults_of asked
+            failed server put loan seat o m d w then ends in
+            let put_reads = Appends-trans (put b) (put m) (put d) (frames asks) more
+            (frames_put reads may_leave moment left_since borrow faults_of asked failed server put loan seat asks b m leads)
+            put_more in
+            let put_all = Appends-trans (put a) (put b) (put d) (frames (key ∷ [])) (frames asks ++ more) key_bytes put_reads in
+            let joined : frames (key ∷ []) ++ (frames asks ++ more) ≡ frames (key ∷ asks) ++ more =
+            joins (frames_of key) (frames asks) more in
+            let put_so : Appends (put a) (put d) (frames (key ∷ asks) ++ more) =
+            subst (λ (bytes : List ℕ). Appends (put a) (put d) bytes) joined put_all in
+            traces_so k p (Read user file) (put a) (put d) reply
+            (λ given is_ok. let none : more ≡ [] = none_left more w o are_put (replied given is_ok) talks.2 in (
+              frames (key ∷ asks),
+              (key ∷ asks, reads_are_transcripts k p user file key known r asks o found w first reads_as named talks legal alone (replied given is_ok), refl),
+              subst (λ (bytes : List ℕ). Appends (put a) (put d) bytes)
+                  (ap (λ (y : List ℕ). frames (key ∷ asks) ++ y) none ∙ append-nil (frames (key ∷ asks))) put_so,
+            )) (
+              frames (key ∷ asks) ++ more,
+              reads_are_fronts k p user file key known r asks o found w more first reads_as named talks legal alone are_put,
+              put_so,
+            )

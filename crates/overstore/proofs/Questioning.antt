@@ -1,5 +1,5 @@
 -- What one question to the machine's server comes to.
-use Rattle.std.proofs.Common.{◌≡◌, ◌∙◌, ℕ, List, [], ◌∷◌, Option, Some, None, Result, Ok, Err, refl, sym, ap, subst, inl, inr}
+use Rattle.std.proofs.Common.{◌≡◌, ◌∙◌, ℕ, List, [], ◌∷◌, Option, Some, None, Result, Ok, Err, refl, sym, ap, inl, inr}
 use Rattle.std.specs.Prelude.{◌⊎◌}
 use Rattle.ov_disk.specs.Disk.{Image}
 use Rattle.ov_wire.specs.declared.request.Request.{Request}
@@ -16,12 +16,12 @@ use Rattle.ov_peer.specs.Exchanges.{Forgets}
 use Rattle.ov_peer.specs.Tracing.{TracesFault, unanswered, unasked, unput}
 use Rattle.ov_server.specs.Answering.{serving_of}
 use Rattle.ov_store.specs.Opened.{Opened}
-use Rattle.ov_owner.specs.Questions.{AsksOnce, IsUnread, taken}
+use Rattle.ov_owner.specs.Questions.{AsksOnce, taken}
 use Rattle.ov_owner.specs.declared.fault.OwnerFault.{OwnerFault}
 use Rattle.ov_owner.specs.declared.fault.OwnerFault.TheVariants as faults
 use Rattle.ov_owner.proofs.Fitting.{reads_back}
 use Rattle.overstore.specs.Seats.{IsSeat, served, unserved}
-use Rattle.overstore.proofs.Quiet.{Says, quiet_asked}
+use Rattle.overstore.proofs.Quiet.{quiet_asked}
 
 -- the question is no more than that: it needs no disk, and its answers are in the grammar
 pub record IsPlainQuestion (request : Request) : Type 0 where

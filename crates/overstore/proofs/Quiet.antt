@@ -1,5 +1,5 @@
 -- What the machine's server does when it is asked what changes nothing.
-use Rattle.std.proofs.Common.{◌≡◌, ◌∙◌, ℕ, List, [], Option, Result, Ok, Err, refl, sym, ap, subst, inl, inr}
+use Rattle.std.proofs.Common.{◌≡◌, ◌∙◌, ℕ, List, [], Option, Result, refl, ap, subst, inl, inr}
 use Rattle.ov_disk.specs.Disk.{Image}
 use Rattle.ov_record.specs.Updates.{SealedUpdate}
 use Rattle.ov_wire.specs.declared.request.Request.{Request}

@@ -1,25 +1,21 @@
 -- What a read is at a history for which the machine stands: the machine's reply.
-use Rattle.std.proofs.Common.{◌≡◌, ◌∙◌, ℕ, ◌+◌, List, [], ◌∷◌, length, Bool, true, false, not, Option, Some, None, Result, Ok, Err, refl, sym, ap, subst, inl, inr, arith}
+use Rattle.std.proofs.Common.{◌≡◌, ◌∙◌, ℕ, List, [], ◌∷◌, length, Bool, true, false, not, Option, Some, None, Result, Ok, Err, refl, sym, ap, subst, inl, inr, arith}
 use Rattle.std.specs.Prelude.{◌⊎◌}
 use Rattle.ov_base.specs.declared.refusal.Refusal.{Refusal}
 use Rattle.ov_base.specs.declared.refusal.Refusal.TheVariants.{NoUser}
 use Rattle.ov_disk.specs.Disk.{Image}
 use Rattle.ov_record.specs.Updates.{SealedUpdate}
-use Rattle.ov_tokens.specs.declared.label.Kind.TheVariants.{Derive, Surface}
-use Rattle.ov_tokens.specs.Keys.{node_key}
-use Rattle.ov_history.specs.Asking.{file_named, key_refusal, user_named}
-use Rattle.ov_history.specs.Catalogue.{Catalogue, matrix_shown, outline}
+use Rattle.ov_history.specs.Asking.{key_refusal, user_named}
+use Rattle.ov_history.specs.Catalogue.{Catalogue, matrix_shown}
 use Rattle.ov_history.specs.History.{Matrix, matrix_of}
-use Rattle.ov_history.specs.Layers.{Layers, layers_of, root_of}
 use Rattle.ov_history.specs.Lists.{file_number, is_user, user_number}
 use Rattle.ov_history.specs.Masters.{Masters}
-use Rattle.ov_history.specs.Plain.{PlainHistory, bytes_of, history_of}
+use Rattle.ov_history.specs.Plain.{PlainHistory, history_of}
 use Rattle.ov_history.specs.Refusals.{IsLegal, Test, first_of_tests, read_refusal}
 use Rattle.ov_history.specs.Sealed.{SealedHistory}
 use Rattle.ov_history.specs.Sealing.{sealed}
 use Rattle.ov_history.proofs.Sealing.{sealed_comes_of_one}
 use Rattle.ov_script.specs.declared.command.Command.TheVariants.{Read}
-use Rattle.ov_script.specs.declared.reply.Reply.{Reply}
 use Rattle.ov_script.specs.declared.reply.Reply.TheVariants.{Bytes, Refused}
 use Rattle.ov_model.specs.Step.{bytes_reply, reply_or, reply_to}
 use Rattle.ov_wire.specs.declared.answer.Answer.{Answer}
@@ -27,16 +23,16 @@ use Rattle.ov_wire.specs.declared.answer.Answer.TheVariants as answers
 use Rattle.ov_wire.specs.declared.answer.Known.{Known}
 use Rattle.ov_wire.specs.declared.request.Question.TheVariants as questions
 use Rattle.ov_protocol.specs.Asking.{AnswersAsk, known_at, numbers_for}
-use Rattle.ov_protocol.specs.Serving.{Service, Serving, followed, later, served as shown}
+use Rattle.ov_protocol.specs.Serving.{Service, Serving, later, served as shown}
 use Rattle.ov_protocol.specs.Replies.{Replies}
 use Rattle.ov_protocol.proofs.GoingOn.{epochs_go_on, services_are_served}
 use Rattle.ov_protocol.proofs.Leaving.{later-nil}
-use Rattle.ov_peer.specs.Asks.{Along, AreRight, Ask, IsReplyAt, Leads}
+use Rattle.ov_peer.specs.Asks.{Along, AreRight, Ask, IsReplyAt}
 use Rattle.ov_peer.specs.Disks.{NeedsDisk}
 use Rattle.ov_server.specs.Answering.{AnswersOrFails, serving_of}
 use Rattle.ov_server.specs.Locally.{IsServedBy, needs}
 use Rattle.ov_store.specs.Opened.{Opened}
-use Rattle.ov_client.specs.Laws.{AllAre, HasRoots, HoldsRootKeys, IsAsMachine, IsReadAt, MachineAnswers, is_chain, last_chain, now_if}
+use Rattle.ov_client.specs.Laws.{AllAre, HoldsRootKeys, IsAsMachine, IsReadAt, MachineAnswers, is_chain, last_chain, now_if}
 use Rattle.ov_client.specs.Readers.{Reader}
 use Rattle.ov_client.specs.Talks.{Talks}
 use Rattle.ov_client.specs.declared.fault.ClientFault.{ClientFault}

@@ -1,10 +1,8 @@
 -- What a traced peer over the machine's server does, ask by ask.
-use Rattle.std.proofs.Common.{◌≡◌, ◌∙◌, ℕ, List, [], ◌∷◌, ◌++◌, length, take, Option, Some, None, refl, sym, ap, subst, inl, inr}
+use Rattle.std.proofs.Common.{◌≡◌, ◌∙◌, ℕ, List, [], ◌∷◌, length, Option, Some, None, refl, sym, ap, subst, inl, inr}
 use Rattle.std.specs.Io.KnownBytes.{Appends}
 use Rattle.std.proofs.KnownBytes.{Appends-nil, Appends-trans}
-use Rattle.std.specs.Prelude.{◌⊎◌}
 use Rattle.ov_disk.specs.Disk.{Image}
-use Rattle.ov_record.specs.Updates.{SealedUpdate}
 use Rattle.ov_wire.specs.Frames.{framed}
 use Rattle.ov_protocol.specs.Serving.{Service, later}
 use Rattle.ov_peer.specs.Asks.{Ask, AreAsks, Asked, EndsAt, Failed, Leads}

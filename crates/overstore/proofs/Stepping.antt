@@ -1,9 +1,8 @@
 -- What a change by the owner is at a history for which the machine stands: the machine's step.
-use Rattle.std.proofs.Common.{◌≡◌, ◌∙◌, inl, inr, ℕ, ◌+◌, ◌≤◌, List, [], ◌∷◌, ◌++◌, true, false, refl, sym, ap, subst, true≢false, Option, Some, None, Result, Ok, Err}
+use Rattle.std.proofs.Common.{◌≡◌, ◌∙◌, inl, inr, ℕ, ◌+◌, ◌≤◌, [], ◌∷◌, false, refl, sym, ap, subst, true≢false, Option, None, Result, Ok, Err}
 use Rattle.std.specs.Prelude.{◌⊎◌}
 use Rattle.ov_base.specs.declared.refusal.Refusal.{Refusal}
 use Rattle.ov_disk.specs.Disk.{Image}
-use Rattle.ov_disk.specs.Moments.{LeavesOnly}
 use Rattle.ov_disk.proofs.Runs.{weaker}
 use Rattle.ov_images.specs.Images.{Keeps, keys_of}
 use Rattle.ov_record.specs.Updates.{SealedUpdate}
@@ -23,7 +22,6 @@ use Rattle.ov_history.proofs.Sealing.{sealing_goes_on}
 use Rattle.ov_model.specs.Step.{after, reply_to, step, update_step}
 use Rattle.ov_model.proofs.Legality.{legal-after}
 use Rattle.ov_tokens.specs.Keys.{check_value_of}
-use Rattle.ov_wire.specs.declared.request.Request.{Request}
 use Rattle.ov_wire.specs.declared.answer.Answer.{Answer}
 use Rattle.ov_wire.specs.Requests.{request_bytes}
 use Rattle.ov_wire.specs.RequestReading.{request_of}

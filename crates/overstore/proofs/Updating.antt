@@ -1,6 +1,6 @@
 -- What a step makes of the machine's history and of its disk, where nothing changes.
-use Rattle.std.proofs.Common.{◌≡◌, inl, ◌≤◌, ℕ, List, refl, sym, subst}
-use Rattle.std.specs.Prelude.{Option, Ok, Err}
+use Rattle.std.proofs.Common.{◌≡◌, inl, ◌≤◌, ℕ, sym, subst}
+use Rattle.std.specs.Prelude.{Option, Ok}
 use Rattle.ov_script.specs.declared.command.Command.{Command}
 use Rattle.ov_script.specs.declared.reply.Reply.{Reply}
 use Rattle.ov_disk.specs.Disk.{Image}

@@ -1,5 +1,5 @@
-//! Calls of owners and readers over a traced peer. They are those of its parts, and say besides that
-//! the sink stays lent as it was: so what is put is put to the caller's own.
+//! Calls of owners and readers over a traced peer. They are those of its parts, and say besides
+//! that the sink stays lent as it was: so what is put is put to the caller's own.
 ghost use Rattle.std.specs.Prelude.{◌≡◌, ◌+◌};
 ghost use Rattle.ov_wire.specs.Requests.{HasRequestForm};
 ghost use Rattle.ov_wire.specs.declared.request.Question.TheVariants.{Key as AsksKey};
@@ -53,7 +53,8 @@ pub fn create<P: Peer + Drop, T: Sink + Drop>(
     requires { IsCreation list.now bytes.now }
     ensures runs { Runs (traced_asked P.asked T.written T.borrow)
         (traced_failed P.asked P.failed T.written T.borrow)
-        owner.now.surface (creating owner.now.base file.now list.now bytes.now) peer.old peer.new result }
+        owner.now.surface (creating owner.now.base file.now list.now bytes.now)
+        peer.old peer.new result }
     ensures lent { T.borrow peer.new.sink ≡ T.borrow peer.old.sink }
     ensures same { P.borrow peer.new.peer ≡ P.borrow peer.old.peer }
     ensures cause { HasOwnerCause (P.faults peer.old.peer + T.faults peer.old.sink)
