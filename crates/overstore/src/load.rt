@@ -139,9 +139,9 @@ fn load_with_keys<K: Source, O: Sink, T: Sink, D: Disk + Drop>(
 ///   just these commands, from the history for which the disk stands: their counts, the epoch and
 ///   the hash of all their lines; or an error line stands alone. But for faults and want of memory
 ///   the status is 0. What is sent is the transcripts of the commands and of the end. At any moment
-///   a stop leaves the history after some first commands, and at the exit those whose transcripts
-///   were put whole, with at most one more; at status 0 the disk has it all, and the published
-///   tokens are the matrix.
+///   a stop leaves the history after some first commands; at the exit it is that after commands
+///   whose transcripts were put, or after the one more of which a front was put, be it all of it;
+///   at status 0 the disk has it all, and the published tokens are the matrix.
 /// * `image`: a disk that doesn't open for these masters and this mode is refused, and nothing is
 ///   sent or written.
 /// * `keys`: without a key file the disk is left as it is, and nothing is sent.
