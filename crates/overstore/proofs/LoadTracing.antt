@@ -35,6 +35,11 @@ pub sent_unread : (k : Masters) (h : PlainHistory) (command : Command) (old new 
     → Transcribes k h command old new → TranscribesFront k h command old new
 sent_unread k h command old new (bytes, traced, put) = (bytes, whole_is_front k h command bytes traced, put)
 
+pub sent_unlined : {T : Type 0} (k : Masters) (h : PlainHistory) (command : Command) (old new : Option (List ℕ)) (result : Result T StepFault) → result ≡ Err Memory
+    → Transcribes k h command old new → TracesAt k h command old new result
+sent_unlined {T} k h command old new result is traced =
+    subst (λ (r : Result T StepFault). TracesAt k h command old new r) (sym is) (sent_unread k h command old new traced)
+
 -- ---- the commands so far
 
 -- nothing yet

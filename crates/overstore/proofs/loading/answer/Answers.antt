@@ -1,5 +1,5 @@
 use Rattle.std.proofs.Common.{rules, ℕ}
-use Rattle.overstore.proofs.LoadTracing.{sent_unread}
+use Rattle.overstore.proofs.LoadTracing.{sent_unlined}
 use Rattle.overstore.proofs.WorkloadSteps.{tallied, unanswered_as, unlined}
 use Rattle.overstore.proofs.loading.answer.Goals as goal
 
@@ -18,3 +18,7 @@ pub returns-in_err-line-clause-answer : goal.returns-in_err-line-clause-answer
 returns-in_err-line-clause-answer g c = λ k h at stands.
     unlined g.D.Disk.reads g.D.Disk.may_leave g.D.Disk.moment g.D.Disk.left_since k h c.args.command _ _ _ _ _ c.in_ok-reply.reply (search rules)
     (c.in_ok-reply.ensures.steps k h at stands)
+
+pub returns-in_err-line-clause-traced : goal.returns-in_err-line-clause-traced
+returns-in_err-line-clause-traced g c = λ h stands.
+    sent_unlined c.args.machine.now.kept.masters h c.args.command _ _ _ (search rules) (c.in_ok-reply.ensures.traced h stands)
