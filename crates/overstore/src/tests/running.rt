@@ -141,20 +141,6 @@ impl<'a> Frames<'a> {
             puts: 0,
         }
     }
-
-    // Takes these bytes from those that are wanted.
-    fn take(&mut self, bytes: &[u8]) -> Result<(), Fault> {
-        match self.wanted {
-            Some(wanted) => match wanted.strip_prefix(bytes) {
-                Some(rest) => {
-                    self.wanted = Some(rest);
-                    Ok(())
-                }
-                None => Err(Fault),
-            },
-            None => Ok(()),
-        }
-    }
 }
 
 impl Sink for Frames<'_> {
@@ -172,7 +158,16 @@ impl Sink for Frames<'_> {
         if put == self.fails {
             return Err(Fault);
         }
-        self.take(bytes)
+        match self.wanted {
+            Some(wanted) => match wanted.strip_prefix(bytes) {
+                Some(rest) => {
+                    self.wanted = Some(rest);
+                    Ok(())
+                }
+                None => Err(Fault),
+            },
+            None => Ok(()),
+        }
     }
 }
 
