@@ -115,6 +115,7 @@ def disks_that_fail():
         (folder / name).mkdir()
         expect(run(folder, b"enrol a\n"), 4, b"error disk\n")
     folder = new_folder()
+    (folder / "trace.bin").symlink_to("/dev/null")  # or the limit would stop the frames first
     limit = lambda: (
         signal.signal(signal.SIGXFSZ, signal.SIG_IGN),
         resource.setrlimit(resource.RLIMIT_FSIZE, (95, 95)),
@@ -141,6 +142,15 @@ def writes_that_fail():
         expect(run(folder, b"enrol a\nenrol b\n", stdout=full), 6, None)
     status, lines = run(folder)
     assert status == 0 and lines == b"end epoch 1\n", lines
+    # Frames that can't be put: the first one isn't, and nothing is asked.
+    folder = new_folder()
+    (folder / "trace.bin").symlink_to("/dev/full")
+    expect(run(folder, b"enrol a\n"), 6, b"")
+    (folder / "trace.bin").unlink()
+    (folder / "trace.bin").mkdir()
+    expect(run(folder, b"enrol a\n"), 6, b"")
+    (folder / "trace.bin").rmdir()
+    expect(run(folder), 0, b"end epoch 0\n")
 
 
 def memory_that_is_refused():
