@@ -1,0 +1,4 @@
+mod ListReading
+mod Listing
+mod Replies
+mod Sources
