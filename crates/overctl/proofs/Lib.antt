@@ -1,4 +1,9 @@
+mod Fronts
 mod ListReading
 mod Listing
+mod Owning
+mod Quiet
+mod Reading
 mod Replies
 mod Sources
+mod Stopping

@@ -8,6 +8,10 @@ use Rattle.ov_base.specs.NameLists.{appended, is_among, with_name}
 use Rattle.ov_fields.specs.Spelling.{name_field}
 use Rattle.ov_owner.specs.declared.limits.TheConstants.{MAX_LIST_BYTES, MAX_LIST_NAMES}
 use Rattle.ov_script.specs.WrittenLists.{IsList, list_text, with_commas, with_names}
+use Rattle.overctl.specs.Files.{HasListLimits}
+use Rattle.overctl.specs.Words.{IsLine}
+use Rattle.overctl.specs.declared.job.Act.{Act}
+use Rattle.overctl.specs.declared.job.Act.TheVariants as acts
 use Rattle.overctl.specs.declared.words.TheConstants.{MAX_WRITTEN_LIST}
 
 -- how many bytes the names have, with one more for each
@@ -67,3 +71,16 @@ list_is_few text names (said, are, e, once) few =
     let whole : length text ≡ length (list_text said) = ap length e in
     let count : length names ≤ size names = count_size names in
     (omega arith, omega arith)
+
+-- so is the list of a job that a line of words says
+pub line_limits : (act : Act) (address keys path : List ℕ) (words : List (List ℕ))
+    → IsLine act address keys path words → HasListLimits act
+line_limits (acts.Create file list) address keys path words (command, rest, e, (text, is, w, named, written)) =
+    list_is_few text list written.list written.short
+line_limits (acts.Enrol user) address keys path words is = tt
+line_limits (acts.Grant user file) address keys path words is = tt
+line_limits (acts.Revoke user file) address keys path words is = tt
+line_limits (acts.List file) address keys path words is = tt
+line_limits (acts.Key user) address keys path words is = tt
+line_limits (acts.Read file) address keys path words is = tt
+line_limits acts.Check address keys path words is = tt

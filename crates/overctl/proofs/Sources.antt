@@ -1,5 +1,5 @@
 -- What is found in the files that an act reads.
-use Rattle.std.proofs.Common.{◌≡◌, ◌⊎◌, ◌<◌, ℕ, List, [], length, Option, Some, None, Result, Ok, Err, ap₂, refl, sym, subst, inl, inr}
+use Rattle.std.proofs.Common.{◌≡◌, ◌⊎◌, ◌<◌, ℕ, List, [], length, Option, Some, None, Result, Ok, Err, ap, ap₂, refl, sym, subst, inl, inr, ◌∙◌}
 use Rattle.std.specs.Prelude.{IfSome}
 use Rattle.ov_base.specs.declared.limits.TheConstants.{MAX_FILE_BYTES}
 use Rattle.ov_base.specs.declared.refusal.Refusal.{Refusal}
@@ -9,10 +9,12 @@ use Rattle.ov_history.specs.Masters.{Masters}
 use Rattle.ov_keyfile.specs.KeyFile.{HasMasters, IsKeyFile}
 use Rattle.ov_keyfile.specs.declared.masters.Masters.{Masters as ReadMasters}
 use Rattle.ov_peer.specs.Asks.{Asked, Failed}
+use Rattle.overctl.proofs.Replies.{nothing_told}
 use Rattle.overctl.specs.Acts.{Acts, ChecksBy, GoesOn, OwnsBy, ReadsBy, SaysCheck}
 use Rattle.overctl.specs.Causes.{HasKeys, NeedsKeys, StoresTooMany}
 use Rattle.overctl.specs.Files.{FindsBody, FindsBytes, FindsMasters, FindsReader, plain_masters}
-use Rattle.overctl.specs.Machine.{StoresBytes}
+use Rattle.ov_protocol.specs.Serving.{Service}
+use Rattle.overctl.specs.Machine.{OwnersAsMachine, OwnsAsMachine, StoresBytes}
 use Rattle.overctl.specs.Printing.{PutsOutcome}
 use Rattle.overctl.specs.Stops.{Outcome}
 use Rattle.overctl.specs.declared.job.Act.{Act}
@@ -137,3 +139,32 @@ module _ {P : Type 0} (asked : Asked P) (failed : Failed P) where
   needs_keys act None body p q outcome old new status does puts = tt
   needs_keys act (Some file) body p q outcome old new status does puts = λ none.
       ends_so p q outcome old new status (no_keys act file body p q outcome none does) puts
+
+-- ---- an owner's act
+
+-- what is said of an owner's act with the masters and the bytes that were found is so with those
+-- that the files tell
+pub owner_told : (act : Act) (keys body : Option (List ℕ)) (v : Service) (Then : Service → Type 0)
+    (outcome : Outcome) (masters : ReadMasters) (bytes : List ℕ)
+    (once : (file base surface other another : List ℕ)
+    → IsKeyFile file base surface → IsKeyFile file other another
+    → (base ≡ other) × (surface ≡ another))
+    → FindsMasters keys (Ok masters) → FindsBody act body (Ok bytes)
+    → (v.surface ≡ masters.surface.bytes
+    → OwnsAsMachine (plain_masters masters) act bytes v Then outcome)
+    → OwnersAsMachine act keys body v Then outcome
+owner_told act keys body v Then outcome masters bytes once found taken told = λ file stored k is key stores same.
+    let found_there = subst (λ known. FindsMasters known (Ok masters)) is found in
+    let one : k ≡ plain_masters masters = same_masters file k masters once key found_there in
+    let all : stored ≡ bytes = same_bytes act body bytes stored taken stores in
+    let served : v.surface ≡ masters.surface.bytes = same ∙ ap (λ (m : Masters). m.surface) one in
+    subst (λ b. OwnsAsMachine k act b v Then outcome) (sym all)
+    (subst (λ (m : Masters). OwnsAsMachine m act bytes v Then outcome) (sym one) (told served))
+
+-- an owner's act that stops at its files says nothing of the machine
+pub stopped_told : (act : Act) (keys body : Option (List ℕ)) (v : Service)
+    (Then : Service → Type 0) (stop : Stop)
+    → ((why : Refusal) → stop ≡ stops.Refused why → ⊥)
+    → OwnersAsMachine act keys body v Then (Err stop)
+stopped_told act keys body v Then stop none = λ file stored k is key stores same.
+    nothing_told k v Then act stored stop none

@@ -105,14 +105,25 @@ abbrev pub StoresBytes : Act → Option (List ℕ) → List ℕ → Type 0
 StoresBytes (Create file list) body bytes = body ≡ Some bytes
 StoresBytes act body bytes = bytes ≡ []
 
--- so it is with every act whose files tell their bytes, where the masters of the key file, or those
--- of the reader's keys, are the ones that the server's surface is of
-abbrev pub ActsAsMachine : Act → Option (List ℕ) → Option (List ℕ) → Service → (Service → Type 0)
-    → Outcome → Type 0
-ActsAsMachine (Read file) keys body v Then outcome =
-    (line : List ℕ) (r : Reader) (k : Masters) → keys ≡ Some line → IsLineOf line r
-    → HoldsRootKeys k r → v.surface ≡ k.surface → ReadsAsMachine k r file v outcome
-ActsAsMachine act keys body v Then outcome =
+-- so it is with an owner's act whose files tell their bytes, where the surface master of the key file
+-- is the one that is served under
+abbrev pub OwnersAsMachine : Act → Option (List ℕ) → Option (List ℕ) → Service
+    → (Service → Type 0) → Outcome → Type 0
+OwnersAsMachine act keys body v Then outcome =
     (file bytes : List ℕ) (k : Masters) → keys ≡ Some file → IsKeyFile file k.base k.surface
     → StoresBytes act body bytes → v.surface ≡ k.surface
     → OwnsAsMachine k act bytes v Then outcome
+
+-- and with a reader's, where the file tells its key line, and the keys are those of its roots under
+-- masters of which the surface master is the one that is served under
+abbrev pub ReadersAsMachine : List ℕ → Option (List ℕ) → Service → Outcome → Type 0
+ReadersAsMachine file keys v outcome =
+    (line : List ℕ) (r : Reader) (k : Masters) → keys ≡ Some line → IsLineOf line r
+    → HoldsRootKeys k r → v.surface ≡ k.surface → ReadsAsMachine k r file v outcome
+
+-- so it is with every act; the check value comes of the key file alone
+abbrev pub ActsAsMachine : Act → Option (List ℕ) → Option (List ℕ) → Service → (Service → Type 0)
+    → Outcome → Type 0
+ActsAsMachine (Read file) keys body v Then outcome = ReadersAsMachine file keys v outcome
+ActsAsMachine Check keys body v Then outcome = Unit {0}
+ActsAsMachine act keys body v Then outcome = OwnersAsMachine act keys body v Then outcome

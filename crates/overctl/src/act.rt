@@ -1,18 +1,16 @@
 //! What a job does.
-ghost use Rattle.std.specs.Prelude.{◌≡◌, ◌≢◌, ◌⊎◌, ℕ, List, Some, IfOk, IfSome};
+ghost use Rattle.std.specs.Prelude.{◌≡◌, ◌≢◌, ◌⊎◌, IfOk, IfSome};
 ghost use Rattle.std.specs.Io.KnownBytes.{Keeps};
 ghost use Rattle.ov_base.specs.Causes.{Rose};
 ghost use Rattle.ov_client.specs.KeyLines.{IsLineOf};
-ghost use Rattle.ov_client.specs.Laws.{HoldsRootKeys};
 ghost use Rattle.ov_client.specs.Readers.{Reader};
-ghost use Rattle.ov_history.specs.Masters.{Masters};
 ghost use Rattle.ov_keyfile.specs.KeyFile.{HasMasters};
 ghost use Rattle.ov_protocol.specs.Serving.{Service};
 ghost use Rattle.overctl.specs.Acts.{Acts, ChecksBy, OwnsBy, ReadsBy, check_line};
 ghost use Rattle.overctl.specs.Causes.{EndsFor, HasKeys, NeedsKeys, StopsFor, StoresTooMany};
 ghost use Rattle.overctl.specs.Endings.{Ends};
 ghost use Rattle.overctl.specs.Files.{FindsBody, HasListLimits, IsOwners};
-ghost use Rattle.overctl.specs.Machine.{ActsAsMachine, ReadsAsMachine};
+ghost use Rattle.overctl.specs.Machine.{ActsAsMachine, OwnersAsMachine, ReadersAsMachine};
 
 use crate::command::greet_and_command;
 use crate::files::{bytes_of, client_of, masters_of};
@@ -22,7 +20,9 @@ use crate::stop::{Stop, stop_of_client};
 use ov_base::{Memory, Name, Octets};
 use ov_io::{Sink, Source};
 use ov_owner::Owner;
-use ov_peer::Peer;
+use ov_client::{lines_are_read_once, reads_are_the_machines};
+use ov_keyfile::one_pair_of_masters;
+use ov_peer::{Peer, asks_are_told};
 use ov_tokens::check_value;
 use std::alloc::Global;
 
@@ -50,14 +50,15 @@ fn own<K: Source, B: Source, P: Peer>(
     requires list { HasListLimits act.now }
     ensures acts { OwnsBy P.asked P.failed act.now (K.left keys.old) (B.left body.old)
         peer.old peer.new result }
-    ensures told { (v : Service) → P.serves peer.old v → ActsAsMachine act.now (K.left keys.old)
+    ensures told { (v : Service) → P.serves peer.old v → OwnersAsMachine act.now (K.left keys.old)
         (B.left body.old) v (P.serves peer.new) result }
     ensures cause { StopsFor (Rose (K.faults keys.old) (K.faults keys.new)
         ⊎ Rose (B.faults body.old) (B.faults body.new))
         (Rose (P.faults peer.old) (P.faults peer.new))
-        (IfSome (K.left keys.old) (λ bytes. HasKeys act.now bytes → ⊥))
+        (IfSome (K.left keys.old) (λ file. HasMasters file → ⊥))
         (StoresTooMany act.now (B.left body.old)) result }
 {
+    one_pair_of_masters();
     let masters = match masters_of(keys) {
         Ok(masters) => masters,
         Err(stop) => return Err(stop),
@@ -78,13 +79,15 @@ fn read<K: Source, P: Peer>(
     peer: &mut P,
 ) -> Result<Octets, Stop>
     ensures acts { ReadsBy P.asked P.failed file.now (K.left keys.old) peer.old peer.new result }
-    ensures told { (v : Service) → P.serves peer.old v → (line : List ℕ) (r : Reader) (k : Masters)
-        → K.left keys.old ≡ Some line → IsLineOf line r → HoldsRootKeys k r
-        → v.surface ≡ k.surface → ReadsAsMachine k r file.now v result }
+    ensures told { (v : Service) → P.serves peer.old v
+        → ReadersAsMachine file.now (K.left keys.old) v result }
     ensures cause { StopsFor (Rose (K.faults keys.old) (K.faults keys.new))
         (Rose (P.faults peer.old) (P.faults peer.new))
         (IfSome (K.left keys.old) (λ line. ((r : Reader) × IsLineOf line r) → ⊥)) ⊥ result }
 {
+    asks_are_told::<P>();
+    reads_are_the_machines();
+    lines_are_read_once();
     let client = match client_of(keys) {
         Ok(client) => client,
         Err(stop) => return Err(stop),
@@ -145,7 +148,12 @@ fn perform<K: Source, B: Source, P: Peer>(
     match act {
         Act::Check => check(alloc, keys),
         Act::Read { file } => read(alloc, file, keys, peer),
-        _ => own(alloc, act, keys, body, peer),
+        Act::Enrol { user: _ }
+        | Act::Grant { user: _, file: _ }
+        | Act::Revoke { user: _, file: _ }
+        | Act::Create { file: _, list: _ }
+        | Act::List { file: _ }
+        | Act::Key { user: _ } => own(alloc, act, keys, body, peer),
     }
 }
 

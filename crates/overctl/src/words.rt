@@ -71,9 +71,11 @@ fn judge<'a>(alloc: Global, words: &'a [String]) -> Result<(), WordsFault<'a>> {
         Err(_) => return Err(WordsFault::Memory),
     };
     match command.try_get_matches_from(words) {
-        Ok(_) => Ok(()),
-        Err(error) if error.kind() == ErrorKind::OutOfMemory => Err(WordsFault::Memory),
-        Err(error) => Err(WordsFault::Line(error)),
+        Ok(_matches) => Ok(()),
+        Err(error) => match error.kind() {
+            ErrorKind::OutOfMemory => Err(WordsFault::Memory),
+            _ => Err(WordsFault::Line(error)),
+        },
     }
 }
 
