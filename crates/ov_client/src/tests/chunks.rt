@@ -4,7 +4,7 @@ use super::long_vectors::*;
 use super::*;
 use ov_io::MemSink;
 use ov_peer::Traced;
-use ov_surface::over_encrypt;
+use ov_surface::{base_encrypt, over_encrypt};
 use sha2::{Digest, Sha256};
 
 /// The bytes of the file: byte number i is 7 times i, modulo 251.
@@ -19,8 +19,12 @@ fn text(alloc: Global) -> Result<Vec<u8>, Fail> {
 /// The stored bytes of the file, under the key of a surface node.
 fn stored(alloc: Global, surface: &Key) -> Result<Vec<u8>, Fail> {
     let mut bytes = text(alloc)?;
-    ov_surface::base_encrypt(&Key { bytes: ACCESS_KEY }, 0, 0, &mut bytes);
-    over_encrypt(surface, 0, 0, &mut bytes);
+    if bytes.len() == LENGTH {
+        base_encrypt(&Key { bytes: ACCESS_KEY }, 0, 0, &mut bytes);
+    }
+    if bytes.len() == LENGTH {
+        over_encrypt(surface, 0, 0, &mut bytes);
+    }
     Ok(bytes)
 }
 
