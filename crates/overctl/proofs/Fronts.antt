@@ -48,13 +48,13 @@ line_short text r is =
     let end : length is.end ≤ 1 = end_short is.end is.last in
     let whole : length text ≡ length (key_words r is.base is.surface ++ is.end) = ap length is.words in
     let last : length (key_words r is.base is.surface ++ is.end)
-        ≡ length (key_words r is.base is.surface) + length is.end =
+    ≡ length (key_words r is.base is.surface) + length is.end =
     length-append (key_words r is.base is.surface) is.end in
     let first : length (key_words r is.base is.surface)
-        ≡ length r.name + length (root_words r.base_root is.base ++ root_words r.surface_root is.surface) =
+    ≡ length r.name + length (root_words r.base_root is.base ++ root_words r.surface_root is.surface) =
     length-append r.name (root_words r.base_root is.base ++ root_words r.surface_root is.surface) in
     let roots : length (root_words r.base_root is.base ++ root_words r.surface_root is.surface)
-        ≡ length (root_words r.base_root is.base) + length (root_words r.surface_root is.surface) =
+    ≡ length (root_words r.base_root is.base) + length (root_words r.surface_root is.surface) =
     length-append (root_words r.base_root is.base) (root_words r.surface_root is.surface) in
     omega arith
 

@@ -46,7 +46,7 @@ read_told asked failed serves along law p q r file result v k
       told.1,
       told.2.0,
       λ right. outcome_told k (last_chain None asks told.0) r.name file result
-      (law k r file asks unanswered result v told.1 told.0 keys same talks told.2.0 right),
+          (law k r file asks unanswered result v told.1 told.0 keys same talks told.2.0 right),
     )
 
 -- a line's reader is the one that was found in it

@@ -12,8 +12,8 @@ ghost use Rattle.overctl.specs.Machine.{CommandsAsMachine, OwnsAsMachine};
 
 use crate::job::Act;
 use crate::stop::{Stop, stop_of_owner};
-use ov_client::Client;
 use ov_base::{Key, Memory, Name, Names, Octets};
+use ov_client::Client;
 use ov_owner::{Owner, OwnerFault};
 use ov_peer::Peer;
 use ov_script::{Reply, line};

@@ -8,12 +8,12 @@ ghost use Rattle.ov_keyfile.specs.KeyFile.{HasMasters};
 ghost use Rattle.overctl.specs.Causes.{StopsFor};
 ghost use Rattle.overctl.specs.Files.{FindsBytes, FindsMasters, FindsReader};
 
+use crate::fill::fill;
 use crate::stop::Stop;
 use ov_base::Octets;
 use ov_base::limits::MAX_FILE_BYTES;
 use ov_client::Client;
 use ov_io::Source;
-use crate::fill::fill;
 use ov_keyfile::{Masters, read_masters};
 use std::alloc::Global;
 

@@ -12,6 +12,7 @@
 //! | `act` | what a job does |
 //! | `files` | what is read of files: masters, a user key line, bytes to be stored |
 //! | `command` | an owner's commands |
+//! | `list`, `fill` | how a list of names, and a buffer, is read |
 //! | `finish` | what is put to standard output |
 //! | `stop`, `status` | why there is no result; the exit statuses |
 //! | `texts` | all texts |
@@ -22,7 +23,9 @@
 //! |---|---|
 //! | `Acts` | what an act asks, in which order, and what comes of it |
 //! | `Files` | what is found in the files, or why the act stops there |
-//! | `Printing` | what is put of it, and the status |
+//! | `Machine` | the same by the access-matrix machine, over a peer that tells its history |
+//! | `Printing`, `Endings` | what is put of it, and the status |
+//! | `Words` | which words are the line of a job |
 //! | `Stops`, `Status`, `Causes` | why there is no result, and the status of each reason |
 #![tactic(auto)]
 
@@ -33,7 +36,7 @@ mod fill;
 mod finish;
 mod job;
 mod list;
-// mod real;
+mod real;
 mod status;
 mod stop;
 #[cfg(test)]
@@ -42,22 +45,30 @@ mod texts;
 mod usage;
 mod words;
 
-use job::Job;
+use act::act;
+use real::{held_places, run_job, words_of};
+use std::io::ErrorKind;
+use std::process::ExitCode;
 use usage::explain_words;
 use words::read_job;
 
 fn answer_words(rt: &HostRuntime, words: &[String]) -> u8 {
     match read_job(rt.alloc(), words) {
-        Ok(job) => {
-            let _job = job;
-            let alloc = rt.alloc();
-            0
-        }
+        Ok(job) => run_job(rt, &job),
         Err(_) => explain_words(rt, words),
     }
 }
 
-fn main(rt: HostRuntime) {
-    let words: Vec<String> = Vec::new(rt.alloc());
-    let _code = answer_words(&rt, &words);
+fn main(rt: HostRuntime) -> ExitCode {
+    let _held = held_places(&rt);
+    let code = match words_of(&rt) {
+        Ok(words) => answer_words(&rt, &words),
+        Err(error) if error.kind() == ErrorKind::OutOfMemory => {
+            let _ = eprintln!(rt; "overctl: error: out of memory");
+            7
+        }
+        // A word that is no UTF-8 is no known word.
+        Err(_) => answer_words(&rt, &[]),
+    };
+    ExitCode::from(code)
 }

@@ -15,10 +15,12 @@ use std::process::Abort;
 use std::test::Fail;
 
 /// The key file of the masters 0 to 31 and 32 to 63.
-const KEYS: &[u8] = b"000102030405060708090a0b0c0d0e0f101112131415161718191a1b1c1d1e1f\n202122232425262728292a2b2c2d2e2f303132333435363738393a3b3c3d3e3f\n";
+const KEYS: &[u8] =
+    b"000102030405060708090a0b0c0d0e0f101112131415161718191a1b1c1d1e1f\n202122232425262728292a2b2c2d2e2f303132333435363738393a3b3c3d3e3f\n";
 
 /// The key line of c.
-const KEY_LINE: &[u8] = b"c 2 6829d4d2e470debd34bf50f13047db4dcf730cbfe88e9986e6fe30dd7d674731 2 e1fda146db9605768430fc279fa83120a9db575932132e13b257f8b099e61c11\n";
+const KEY_LINE: &[u8] =
+    b"c 2 6829d4d2e470debd34bf50f13047db4dcf730cbfe88e9986e6fe30dd7d674731 2 e1fda146db9605768430fc279fa83120a9db575932132e13b257f8b099e61c11\n";
 
 /// A job, what it is lent, and how it has to end.
 #[derive(Clone, Copy)]

@@ -217,7 +217,9 @@ pub fn hint_of(end: &Ending<'_>) -> Option<&'static str> {
             Some("an update may have been made: look with `overctl list` before you repeat it")
         }
         Status::WriteFault => Some("an update was made: only its line is lost"),
-        Status::OtherKeys => Some("use the key file whose `overctl check` the server's settings have"),
+        Status::OtherKeys => Some(
+            "use the key file whose `overctl check` the server's settings have",
+        ),
         Status::BadKeys if end.is_read => Some("the owner prints one with `overctl key`"),
         Status::BadKeys => Some("it has two different lines of 64 hexadecimal digits"),
         Status::BadReply => Some("see that overstored of this version listens there"),

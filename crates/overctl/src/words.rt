@@ -176,7 +176,11 @@ fn job_with<'a>(
     path: &str,
 ) -> Result<Job, WordsFault<'a>>
     ensures { IfOk result (λ job. job ≡ record {
-      address = address.now; keys = keys.now; path = path.now; act = act }) }
+      address = address.now;
+      keys = keys.now;
+      path = path.now;
+      act = act;
+    }) }
 {
     let address = match octets_of(alloc, address) {
         Ok(address) => address,

@@ -18,6 +18,6 @@ pieces-preserved g c =
       within = search rules;
       long = search rules;
       taken = piece_more _ _ _ _ _ _ _ _ c.split_at_mut-room.ensures.front_len
-      c.split_at_mut-room.ensures.front inv.taken c.in_ok-count.ensures.bytes.0;
+          c.split_at_mut-room.ensures.front inv.taken c.in_ok-count.ensures.bytes.0;
       later = search rules;
     }
