@@ -17,4 +17,4 @@ mod tests;
 
 pub use laws::one_pair_of_masters;
 pub use masters::Masters;
-pub use reading::read_masters;
+pub use reading::{fill, key_of, read_masters};

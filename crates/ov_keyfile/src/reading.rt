@@ -21,7 +21,7 @@ const SHORTEST: usize = 129;
 const ENOUGH: usize = 131;
 
 /// The key of a line of digits.
-fn key_of(line: &[u8]) -> Option<Key>
+pub fn key_of(line: &[u8]) -> Option<Key>
     ensures found { IfSome result (λ key. IsKeyLine line.now key.bytes) }
     ensures none { IfNone result ((key : List ℕ) → IsKeyLine line.now key → ⊥) }
 {
@@ -97,7 +97,7 @@ fn masters_of(file: &[u8]) -> Option<Masters>
 }
 
 /// Takes bytes until the buffer is full or the input ends, and says how many there are.
-fn fill<K: Source>(source: &mut K, buffer: &mut [u8]) -> Result<usize, Fault>
+pub fn fill<K: Source>(source: &mut K, buffer: &mut [u8]) -> Result<usize, Fault>
     ensures within { IfOk result (λ n. n ≤ length buffer.old) }
     ensures taken { IfOk result (λ n.
         Consumes (K.left source.old) (K.left source.new) (take n buffer.new)) }
