@@ -1,0 +1,87 @@
+-- What a door tells of the streams that it gave.
+use Rattle.std.specs.Prelude.{◌≡◌, ◌<◌, ◌+◌, ℕ, List, [], ◌∷◌, ◌++◌, slice_get, Bool, false, true}
+use Rattle.std.specs.Prelude.{Option, Some, None, Result, Ok, Err, OnOk, MatchResult}
+use Rattle.ov_base.specs.Causes.{Rose}
+use Rattle.ov_session.specs.declared.end.SessionEnd.{SessionEnd}
+
+-- a stream that was taken back, and how its session ended
+pub record Back (S : Type 0) : Type 0 where
+  pub stream : S
+  pub ending : SessionEnd
+
+-- a stream as it was given, and what was taken back of it
+pub record Given (S : Type 0) : Type 0 where
+  pub stream : S
+  pub back : Option (Back S)
+
+-- what a door shows: the streams that it gave, where it tells them; their number; whether it has
+-- answered that there are no more; and how often it has failed
+pub record Doorway (S : Type 0) : Type 0 where
+  pub told : Option (List (Given S))
+  pub given : ℕ
+  pub closed : Bool
+  pub faults : ℕ
+
+-- no streams are told, or none at all
+abbrev pub TellsNone : {S : Type 0} → Option (List (Given S)) → Type 0
+TellsNone None = Unit {0}
+TellsNone (Some streams) = streams ≡ []
+
+-- a door that gave no stream yet, and hasn't answered that there are no more
+pub record IsUnused {S : Type 0} (d : Doorway S) : Type 0 where
+  pub told : TellsNone d.told
+  pub given : d.given ≡ 0
+  pub open_ : d.closed ≡ false
+
+-- the count rises exactly at an error; one that stands at its last value is said to have risen
+abbrev pub FailsExactly : {T E : Type 0} → ℕ → ℕ → Result T E → Type 0
+FailsExactly before now result =
+    MatchResult result (λ _. now ≡ before) (λ _. Rose before now)
+
+-- it listens: nothing is given by that, and at Ok its address was appended
+pub record Listens {S E : Type 0} (old new : Doorway S) (before after : List ℕ)
+    (result : Result (Unit {0}) E) : Type 0 where
+  pub same : new ≡ record old { faults = new.faults }
+  pub cause : FailsExactly old.faults new.faults result
+  pub address : OnOk result ((text : List ℕ) × (after ≡ before ++ text))
+
+-- the streams that are told, and one more
+abbrev pub and_one : {S : Type 0} → Option (List (Given S)) → S → Option (List (Given S))
+and_one None stream = None
+and_one (Some streams) stream = Some (streams ++ record { stream = stream; back = None } ∷ [])
+
+-- a stream was given, or there are no more, or the door failed
+abbrev pub Accepts : {S E : Type 0} → Doorway S → Doorway S → Result (Option S) E → Type 0
+Accepts old new (Ok (Some stream)) =
+    new ≡ record old { told = and_one old.told stream; given = old.given + 1 }
+Accepts old new (Ok None) = new ≡ record old { closed = true }
+Accepts old new (Err fault) =
+    (new ≡ record old { faults = new.faults }) × Rose old.faults new.faults
+
+-- among these streams the one of this number wasn't taken back
+abbrev pub IsOutAmong : {S : Type 0} → Option (List (Given S)) → ℕ → Type 0
+IsOutAmong None number = Unit {0}
+IsOutAmong {S} (Some streams) number =
+    (stream : S) × (slice_get streams number ≡ Some (record { stream = stream; back = None }))
+
+-- the door gave the stream of this number, and hasn't taken it back
+pub record IsOut {S : Type 0} (d : Doorway S) (number : ℕ) : Type 0 where
+  pub given : number < d.given
+  pub out : IsOutAmong d.told number
+
+-- the streams, of which the one of this number was taken back
+pub back_at : {S : Type 0} → List (Given S) → ℕ → Back S → List (Given S)
+back_at [] number back = []
+back_at (given ∷ more) 0 back = record given { back = Some back } ∷ more
+back_at (given ∷ more) (suc number) back = given ∷ back_at more number back
+
+-- the same of the streams that are told
+abbrev pub told_back : {S : Type 0} → Option (List (Given S)) → ℕ → Back S
+    → Option (List (Given S))
+told_back None number back = None
+told_back (Some streams) number back = Some (back_at streams number back)
+
+-- the door has taken back the stream of this number, and nothing else
+abbrev pub taken_back : {S : Type 0} → Doorway S → ℕ → S → SessionEnd → Doorway S
+taken_back d number stream ending =
+    record d { told = told_back d.told number (record { stream = stream; ending = ending }) }

@@ -1,0 +1,9 @@
+pub mod Alone
+pub mod Asking
+pub mod Doors
+pub mod Ends
+pub mod Exchanges
+pub mod Links
+pub mod Memory
+pub mod Replies
+pub mod Serving

@@ -1,0 +1,36 @@
+//! An answerer that is asked by one session at a time.
+ghost use Rattle.std.specs.Prelude.{◌≡◌};
+ghost use Rattle.ov_session.specs.Alone.{AnswersOne};
+
+use crate::{AskFault, Asker};
+use ov_base::Memory;
+use ov_peer::Answerer;
+use std::sync::Wait;
+
+/// Asks its answerer by itself, as often as it wants.
+#[derive(Drop)]
+pub struct Alone<'a, V: Answerer> {
+    pub value: &'a mut V,
+}
+
+impl<'a, V: Answerer> Asker for Alone<'a, V> {
+    ghost asks = { λ a request reply b.
+        AnswersOne V.reached V.replies a.value.now request reply b.value.now };
+
+    ghost spent = { λ _. ⊥ };
+
+    ghost borrow = { λ a. a.value.ghost_name };
+
+    fn ask<R: Wait>(
+        &mut self,
+        rt: &R,
+        request: &[u8],
+        reply: &mut Vec<u8>,
+    ) -> Result<(), AskFault> {
+        let _ = rt;
+        match self.value.answer(request, reply) {
+            Ok(()) => Ok(()),
+            Err(Memory) => Err(AskFault::Memory),
+        }
+    }
+}

@@ -1,0 +1,31 @@
+//! Where sessions come from.
+ghost use Rattle.std.specs.Prelude.{◌≡◌};
+ghost use Rattle.ov_session.specs.Doors.{Accepts, Doorway, IsOut, Listens, taken_back};
+
+use crate::SessionEnd;
+use ov_io::{Fault, Stream};
+
+/// Gives streams, one for each session, and takes each back when its session has ended.
+pub trait Door {
+    /// What it gives.
+    type Stream: Stream + Drop;
+
+    /// What it shows: the streams that it gave and took back, where it tells them, and their number;
+    /// whether it has answered that there are no more; and how often it has failed.
+    ghost shows: { Self → Doorway Self.Stream };
+
+    /// Begins to listen, and appends the address at which it listens.
+    fn listen(&mut self, address: &mut Vec<u8>) -> Result<(), Fault>
+        ensures { Listens (shows self.old) (shows self.new) address.old.items address.new.items
+            result };
+
+    /// Gives the next stream; None where there are no more.
+    fn accept(&mut self) -> Result<Option<Self::Stream>, Fault>
+        ensures { Accepts (shows self.old) (shows self.new) result };
+
+    /// Takes back the stream of this number, counted from 0 in the order in which they were given,
+    /// with the end of its session.
+    fn ended(&mut self, number: u32, stream: Self::Stream, end: SessionEnd)
+        requires { IsOut (shows self.old) number }
+        ensures { shows self.new ≡ taken_back (shows self.old) number stream end };
+}

@@ -1,0 +1,176 @@
+//! One session: frames that are answered in order.
+ghost use Rattle.std.specs.Prelude.{◌≡◌};
+ghost use Rattle.ov_session.specs.Ends.{Serves};
+ghost use Rattle.ov_session.specs.Links.{IsLater, IsSameLoan, link};
+
+use crate::putting::put_frame;
+use crate::{AskFault, Asker, Gate, SessionEnd};
+use ov_base::{Memory, Octets};
+use ov_io::{Fault, Stream};
+use ov_wire::{Decoder, FeedFault};
+use std::alloc::Global;
+use std::sync::Wait;
+
+/// How many bytes are taken at once, at most.
+const PIECE: usize = 8_192;
+
+/// The frame that says that there was no memory for an answer.
+const NO_MEMORY: [u8; 1] = [0x8e];
+
+/// Who is told of a request before it is asked, and where it may wait.
+#[derive(Drop)]
+struct Desk<'a, R, G> {
+    rt: &'a R,
+    gate: &'a G,
+    session: u32,
+}
+
+/// Why frames aren't answered to the last.
+enum Stop {
+    Link,
+    Spent,
+}
+
+/// What a session keeps between two pieces.
+#[derive(Drop)]
+struct Reading {
+    alloc: Global,
+    decoder: Decoder,
+    room: Vec<u8>,
+    reply: Vec<u8>,
+    taken: u64,
+    asked: u32,
+}
+
+impl Reading {
+    fn new(alloc: Global) -> Result<Reading, Memory> {
+        let mut room = Vec::new(alloc);
+        room.resize(PIECE, 0)?;
+        Ok(Reading {
+            alloc,
+            decoder: Decoder::new(alloc)?,
+            room,
+            reply: Vec::new(alloc),
+            taken: 0,
+            asked: 0,
+        })
+    }
+
+    /// How the session ends where the input does.
+    fn at_end(&self) -> SessionEnd {
+        if self.decoder.pending() == 0 {
+            SessionEnd::End
+        } else {
+            SessionEnd::Bad { at: self.taken }
+        }
+    }
+}
+
+/// Asks one frame and puts its answer.
+fn answer_one<R: Wait, L: Stream, A: Asker>(
+    rt: &R,
+    stream: &mut L,
+    asker: &mut A,
+    frame: &[u8],
+    reply: &mut Vec<u8>,
+) -> Result<(), Stop> {
+    let put = match asker.ask(rt, frame, reply) {
+        Ok(()) => put_frame(stream, reply),
+        Err(AskFault::Memory) => put_frame(stream, &NO_MEMORY),
+        Err(AskFault::Spent) => return Err(Stop::Spent),
+    };
+    match put {
+        Ok(()) => Ok(()),
+        Err(Fault) => Err(Stop::Link),
+    }
+}
+
+/// Answers these frames in order.
+fn answer_each<R: Wait, L: Stream, A: Asker, G: Gate>(
+    desk: &Desk<'_, R, G>,
+    stream: &mut L,
+    asker: &mut A,
+    frames: &[Octets],
+    reply: &mut Vec<u8>,
+    asked: &mut u32,
+) -> Result<(), Stop> {
+    for frame in frames {
+        desk.gate.pause(desk.session, *asked);
+        *asked = asked.saturating_add(1);
+        answer_one(desk.rt, stream, asker, frame.as_slice(), reply)?;
+    }
+    Ok(())
+}
+
+/// How a session ends by what a decoder answered.
+fn go_on(fed: Result<(), FeedFault>) -> Result<(), SessionEnd> {
+    match fed {
+        Ok(()) => Ok(()),
+        Err(FeedFault::BadFrame { at }) => Err(SessionEnd::Bad { at }),
+        Err(FeedFault::Memory) => Err(SessionEnd::Memory),
+    }
+}
+
+/// Takes one piece, and answers the frames that are whole then.
+fn read_on<R: Wait, L: Stream, A: Asker, G: Gate>(
+    desk: &Desk<'_, R, G>,
+    stream: &mut L,
+    asker: &mut A,
+    reading: &mut Reading,
+) -> Result<(), SessionEnd> {
+    let count = match stream.take(&mut reading.room) {
+        Ok(count) => count,
+        Err(Fault) => return Err(SessionEnd::LinkFault),
+    };
+    if count == 0 {
+        return Err(reading.at_end());
+    }
+    reading.taken = reading.taken.saturating_add(count as u64);
+    let mut frames = Vec::new(reading.alloc);
+    let (piece, _) = reading.room.as_slice().split_at(count);
+    let fed = reading.decoder.feed(piece, &mut frames);
+    match answer_each(
+        desk,
+        stream,
+        asker,
+        &frames,
+        &mut reading.reply,
+        &mut reading.asked,
+    ) {
+        Ok(()) => go_on(fed),
+        Err(Stop::Link) => Err(SessionEnd::LinkFault),
+        Err(Stop::Spent) => Err(SessionEnd::Spent),
+    }
+}
+
+/// Serves a session: answers the frames of a stream in order, one answer each, until it ends.
+pub fn serve_one<R: Wait, L: Stream, A: Asker, G: Gate>(
+    rt: &R,
+    alloc: Global,
+    session: u32,
+    stream: &mut L,
+    asker: &mut A,
+    gate: &G,
+) -> SessionEnd
+    ensures serves { Serves A.asks A.spent asker.old asker.new
+        (link L.Source.left L.Sink.written L.Source.faults L.Sink.faults stream.old)
+        (link L.Source.left L.Sink.written L.Source.faults L.Sink.faults stream.new) result }
+    ensures later { IsLater
+        (link L.Source.left L.Sink.written L.Source.faults L.Sink.faults stream.old)
+        (link L.Source.left L.Sink.written L.Source.faults L.Sink.faults stream.new) }
+    ensures same { IsSameLoan L.Source.borrow L.Sink.borrow stream.old stream.new }
+    ensures asker { A.borrow asker.new ≡ A.borrow asker.old }
+{
+    let mut reading = match Reading::new(alloc) {
+        Ok(reading) => reading,
+        Err(Memory) => return SessionEnd::Memory,
+    };
+    let desk = Desk { rt, gate, session };
+    for _ in rt.forever() {
+        match read_on(&desk, stream, asker, &mut reading) {
+            Ok(()) => {}
+            Err(end) => return end,
+        }
+    }
+    unreachable!()
+}

@@ -1,0 +1,157 @@
+//! A peer behind a stream.
+ghost use Rattle.std.specs.Prelude.{◌≡◌, false, IfOk, OnErr, OnOk};
+ghost use Rattle.ov_wire.specs.Frames.{IsFrame};
+ghost use Rattle.ov_peer.specs.Causes.{HasLinkCause};
+ghost use Rattle.ov_session.specs.Links.{link};
+ghost use Rattle.ov_session.specs.Replies.{Breaks, CountsFault, Exchanges};
+
+use crate::putting::put_frame;
+use ov_base::Memory;
+use ov_base::limits::MAX_FRAME_BYTES;
+use ov_io::{Fault, Stream};
+use ov_peer::{Peer, PeerFault};
+
+/// A server behind a stream: each request is written to it, and the next frame that comes is the
+/// reply. It tells no history.
+#[derive(Drop)]
+pub struct NetPeer<L> {
+    link: L,
+    // A reply that memory was refused for may still come, and must not be taken for another's.
+    stale: bool,
+    faults: u64,
+}
+
+impl<L: Stream + Drop> NetPeer<L> {
+    /// A peer behind this stream, which has asked nothing yet.
+    pub fn new(link: L) -> Result<NetPeer<L>, Memory>
+        ensures { IfOk result (λ peer.
+            peer ≡ record { link = link; stale = false; faults = 0 }) }
+    {
+        Ok(NetPeer {
+            link,
+            stale: false,
+            faults: 0,
+        })
+    }
+
+    /// The stream.
+    pub fn link(&self) -> &L
+        ensures { result.now ≡ self.now.link }
+    {
+        &self.link
+    }
+
+    /// Gives the stream back.
+    pub fn into_link(self) -> L
+        ensures { result ≡ self.link }
+    {
+        self.link
+    }
+}
+
+/// Takes bytes until all of `buf` is filled or the input ends, and answers how many.
+fn fill<L: Stream>(stream: &mut L, buf: &mut [u8]) -> Result<usize, Fault> {
+    let len = buf.len();
+    let mut filled = 0;
+    while filled < len {
+        let count = stream.take(&mut buf[filled..])?;
+        if count == 0 {
+            return Ok(filled);
+        }
+        filled += count;
+    }
+    Ok(filled)
+}
+
+/// Reads a frame's length field; None where the input ended, or it is outside its limits.
+fn take_length<L: Stream>(stream: &mut L) -> Result<usize, Fault> {
+    let mut head = [0; 4];
+    let count = fill(stream, &mut head)?;
+    let wanted = u32::from_be_bytes(head);
+    if count < 4 || wanted == 0 || wanted > MAX_FRAME_BYTES {
+        return Err(Fault);
+    }
+    Ok(wanted as usize)
+}
+
+/// Reads the next frame, in place of what was in `reply`.
+fn take_frame<L: Stream>(stream: &mut L, reply: &mut Vec<u8>) -> Result<(), PeerFault> {
+    let wanted = match take_length(stream) {
+        Ok(wanted) => wanted,
+        Err(Fault) => return Err(PeerFault::Link),
+    };
+    reply.clear();
+    match reply.resize(wanted, 0) {
+        Ok(()) => {}
+        Err(_) => return Err(PeerFault::Memory),
+    }
+    match fill(stream, reply.as_mut_slice()) {
+        Ok(count) if count == wanted => Ok(()),
+        _ => Err(PeerFault::Link),
+    }
+}
+
+/// Writes a request, and reads the next frame.
+fn exchange<L: Stream>(
+    stream: &mut L,
+    request: &[u8],
+    reply: &mut Vec<u8>,
+) -> Result<(), PeerFault> {
+    match put_frame(stream, request) {
+        Ok(()) => take_frame(stream, reply),
+        Err(Fault) => Err(PeerFault::Link),
+    }
+}
+
+impl<L: Stream + Drop> Peer for NetPeer<L> {
+    ghost asked = { λ p request reply q.
+        Exchanges (link L.Source.left L.Sink.written L.Source.faults L.Sink.faults p.link)
+        (link L.Source.left L.Sink.written L.Source.faults L.Sink.faults q.link) request reply };
+
+    ghost failed = { λ p request q.
+        Breaks (link L.Source.left L.Sink.written L.Source.faults L.Sink.faults p.link)
+        (link L.Source.left L.Sink.written L.Source.faults L.Sink.faults q.link) request };
+
+    ghost serves = { λ p v. ⊥ };
+
+    ghost faults = { λ p. p.faults };
+
+    ghost borrow = { λ p. L.Source.borrow p.link };
+
+    ghost told = { λ p q request reply v a s. absurd s };
+
+    ghost left = { λ p q request v f s. absurd s };
+
+    fn ask(&mut self, request: &[u8], reply: &mut Vec<u8>) -> Result<(), PeerFault>
+        requires { IsFrame request.now }
+        ensures asked { OnOk result (Exchanges
+            (link L.Source.left L.Sink.written L.Source.faults L.Sink.faults self.old.link)
+            (link L.Source.left L.Sink.written L.Source.faults L.Sink.faults self.new.link)
+            request.now reply.new.items) }
+        ensures failed { OnErr result (Breaks
+            (link L.Source.left L.Sink.written L.Source.faults L.Sink.faults self.old.link)
+            (link L.Source.left L.Sink.written L.Source.faults L.Sink.faults self.new.link)
+            request.now) }
+        ensures frame { OnOk result (IsFrame reply.new.items) }
+        ensures same { L.Source.borrow self.new.link ≡ L.Source.borrow self.old.link }
+        ensures cause { HasLinkCause self.old.faults self.new.faults result }
+        ensures counts { CountsFault self.old.faults self.new.faults
+            (link L.Source.left L.Sink.written L.Source.faults L.Sink.faults self.old.link)
+            (link L.Source.left L.Sink.written L.Source.faults L.Sink.faults self.new.link) }
+    {
+        if self.stale {
+            return Err(PeerFault::Memory);
+        }
+        match exchange(&mut self.link, request, reply) {
+            Ok(()) => Ok(()),
+            Err(PeerFault::Link) => {
+                self.faults = self.faults.saturating_add(1);
+                Err(PeerFault::Link)
+            }
+            Err(PeerFault::Memory) => {
+                self.stale = true;
+                Err(PeerFault::Memory)
+            }
+        }
+    }
+}

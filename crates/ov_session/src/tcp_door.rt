@@ -1,0 +1,123 @@
+//! A door at a TCP port. What the system's sockets give and take is trusted.
+ghost use Rattle.std.specs.Prelude.{◌≡◌, None, false};
+
+use crate::{Door, SessionEnd};
+use ov_base::Memory;
+use ov_io::{Fault, StdStream};
+use std::io;
+use std::io::ErrorKind;
+use std::net::{Net, OpenListener, OpenStream, TcpListener};
+
+/// How many connections that broke before they were accepted are passed over in one call.
+const MOST_BROKEN: u32 = 100;
+
+/// A door that listens at an address, and gives a stream for each connection. It tells nothing of
+/// them, and always has more.
+#[derive(Drop)]
+pub struct TcpDoor<R: Net + AllocGlobal + Drop> {
+    rt: R,
+    address: String,
+    listener: Option<R::Listener>,
+    given: u64,
+    faults: u64,
+    reason: Option<ErrorKind>,
+}
+
+// Whether a connection broke while it waited, which says nothing of the next one.
+fn is_broken(kind: ErrorKind) -> bool {
+    kind == ErrorKind::ConnectionAborted || kind == ErrorKind::Interrupted
+}
+
+impl<R: Net + AllocGlobal + Drop> TcpDoor<R> {
+    /// A door at this address, a host and a port, which doesn't listen yet. At port 0 the system
+    /// chooses one.
+    pub fn new(rt: R, address: &str) -> Result<TcpDoor<R>, Memory> {
+        let address = String::from_str(rt.alloc(), address)?;
+        Ok(TcpDoor {
+            rt,
+            address,
+            listener: None,
+            given: 0,
+            faults: 0,
+            reason: None,
+        })
+    }
+
+    /// Why the last call that failed did, where the system said so.
+    pub fn reason(&self) -> Option<ErrorKind> {
+        self.reason
+    }
+
+    // Listens, and appends the address at which it does.
+    fn open(&mut self, address: &mut Vec<u8>) -> io::Result<()> {
+        let listener = TcpListener::bind(&self.rt, self.address.as_str())?;
+        let bound = listener.local_addr()?;
+        let text = format!(in self.rt.alloc(); "{bound}")?;
+        address.extend_from_slice(text.as_bytes())?;
+        self.listener = Some(listener);
+        Ok(())
+    }
+
+    // The next connection. Each small frame is sent at once.
+    fn next(&self) -> io::Result<R::Stream> {
+        let Some(listener) = &self.listener else {
+            return Err(io::Error::from(ErrorKind::NotConnected));
+        };
+        for _ in 0..MOST_BROKEN {
+            match listener.accept() {
+                Ok((stream, _)) => {
+                    stream.set_nodelay(true)?;
+                    return Ok(stream);
+                }
+                Err(error) => {
+                    if !is_broken(error.kind()) {
+                        return Err(error);
+                    }
+                }
+            }
+        }
+        Err(io::Error::from(ErrorKind::ConnectionAborted))
+    }
+
+    fn fail(&mut self, kind: ErrorKind) -> Fault {
+        self.reason = Some(kind);
+        self.faults = self.faults.saturating_add(1);
+        Fault
+    }
+}
+
+impl<R: Net + AllocGlobal + Drop> Door for TcpDoor<R> {
+    type Stream = StdStream<R::Stream>;
+
+    ghost shows = { λ d. record {
+      told = None;
+      given = d.given;
+      closed = false;
+      faults = d.faults;
+    } };
+
+    fn listen(&mut self, address: &mut Vec<u8>) -> Result<(), Fault> {
+        match self.open(address) {
+            Ok(()) => Ok(()),
+            Err(error) => Err(self.fail(error.kind())),
+        }
+    }
+
+    fn accept(&mut self) -> Result<Option<StdStream<R::Stream>>, Fault> {
+        // A number of streams past the last one of 64 bits can't be told.
+        if self.given == u64::MAX {
+            return Err(self.fail(ErrorKind::Other));
+        }
+        match self.next() {
+            Ok(stream) => {
+                self.given += 1;
+                Ok(Some(StdStream::new(stream)))
+            }
+            Err(error) => Err(self.fail(error.kind())),
+        }
+    }
+
+    fn ended(&mut self, number: u32, stream: StdStream<R::Stream>, end: SessionEnd) {
+        let _ = (number, stream, end);
+    }
+}
