@@ -49,11 +49,7 @@ fn text_of(
 }
 
 // The bytes of the digits at a key, or this fault.
-fn digits_of(
-    table: &Table,
-    key: &str,
-    fault: SettingsFault,
-) -> Result<Key, SettingsFault>
+fn digits_of(table: &Table, key: &str, fault: SettingsFault) -> Result<Key, SettingsFault>
     requires { fault_code fault ≡ 2 }
     ensures { FindsOr (λ found. HoldsDigits (table_view table.now) key.now found.bytes) result }
 {
