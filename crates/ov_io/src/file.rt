@@ -1,12 +1,13 @@
-//! A file as a source. What a file really holds is trusted.
+//! Files as sources and sinks. What a file really holds is trusted.
 ghost use Rattle.std.specs.Prelude.{◌≡◌, IfOk, ⊤};
 ghost use Rattle.std.specs.Io.{ReadsAtMost};
 ghost use Rattle.std.specs.Io.KnownBytes.{ReadConsumes};
 ghost use Rattle.ov_base.specs.Causes.{Counts, HasCause};
-ghost use Rattle.ov_io.specs.Files.{left_of};
+ghost use Rattle.ov_io.specs.Files.{left_of, written_of};
+ghost use Rattle.ov_io.specs.Putting.{Puts};
 
-use crate::outside::read_some;
-use crate::{Fault, Source};
+use crate::outside::{read_some, write_all};
+use crate::{Fault, Sink, Source};
 use ov_base::Memory;
 use std::fs;
 use std::rt::Files;
@@ -74,5 +75,69 @@ impl<R: Files + Alloc + Drop> Source for FileSource<R> {
             self.faults = self.faults.saturating_add(1);
         }
         taken
+    }
+}
+
+/// The file at a path, which is made anew at the first call and from then on tells of its bytes what
+/// the files of the runtime tell. What stood there before is gone then, and not earlier. A file that
+/// can't be made is a fault of that call; the next one tries again.
+#[derive(Drop)]
+pub struct FileSink<R: Files + Alloc + Drop> {
+    rt: R,
+    path: String<R::A>,
+    file: Option<R::File>,
+    faults: u64,
+}
+
+impl<R: Files + Alloc + Drop> FileSink<R> {
+    /// A sink over this path, which has not failed yet.
+    pub fn new(rt: R, path: &str) -> Result<FileSink<R>, Memory>
+        ensures { IfOk result (λ sink. sink.faults ≡ 0) }
+    {
+        let path = String::from_str(rt.alloc(), path)?;
+        Ok(FileSink {
+            rt,
+            path,
+            file: None,
+            faults: 0,
+        })
+    }
+
+    // Makes the file where it isn't open, and writes.
+    fn write(&mut self, bytes: &[u8]) -> Result<(), Fault>
+        ensures bytes { Puts (written_of R.File.contents self.old.file)
+            (written_of R.File.contents self.new.file) result bytes.now }
+        ensures same { self.new.faults ≡ self.old.faults }
+    {
+        if self.file.is_none() {
+            self.file = fs::create(&self.rt, self.path.as_str()).ok();
+        }
+        match &mut self.file {
+            Some(file) => write_all(file, bytes),
+            None => Err(Fault),
+        }
+    }
+}
+
+impl<R: Files + Alloc + Drop> Sink for FileSink<R> {
+    ghost written = { λ s. written_of R.File.contents s.file };
+
+    ghost faults = { λ s. s.faults };
+
+    ghost borrow = { λ _. 0 };
+
+    ghost puts = { λ _ _. ⊤ };
+
+    fn put(&mut self, bytes: &[u8]) -> Result<(), Fault>
+        ensures bytes { Puts (written_of R.File.contents self.old.file)
+            (written_of R.File.contents self.new.file) result bytes.now }
+        ensures cause { HasCause self.old.faults self.new.faults result }
+        ensures counted { Counts self.old.faults self.new.faults result }
+    {
+        let written = self.write(bytes);
+        if written.is_err() {
+            self.faults = self.faults.saturating_add(1);
+        }
+        written
     }
 }

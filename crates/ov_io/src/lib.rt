@@ -14,7 +14,7 @@
 //!
 //! * [`MemSource`], [`MemSink`] and [`MemStream`] are in memory, tell everything, and fail at the
 //!   calls that they are told to.
-//! * [`FileSource`] is over a path, [`StdSource`], [`StdSink`] and [`StdStream`] are over what std
+//! * [`FileSource`] and [`FileSink`] are over a path, [`StdSource`], [`StdSink`] and [`StdStream`] are over what std
 //!   reads and writes. Over files, sockets and terminals these tell nothing of their contents: they
 //!   are the edge where the system is trusted.
 //! * All three traits hold of `&mut S` where they hold of `S`, with the same meanings.
@@ -28,7 +28,7 @@ mod stream;
 mod tests;
 mod traits;
 
-pub use file::FileSource;
+pub use file::{FileSink, FileSource};
 pub use memory::{MemSink, MemSource};
 pub use outside::{StdSink, StdSource};
 pub use stream::{MemStream, StdStream};

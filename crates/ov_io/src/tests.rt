@@ -4,7 +4,7 @@ ghost use Rattle.std.specs.Io.KnownBytes.{Appends, Consumes};
 ghost use Rattle.ov_base.specs.Causes.{Rose};
 
 use crate::{
-    Fault, FileSource, MemSink, MemSource, MemStream, Sink, Source, StdSink, StdSource, StdStream,
+    Fault, FileSink, FileSource, MemSink, MemSource, MemStream, Sink, Source, StdSink, StdSource, StdStream,
     Stream,
 };
 use ov_base::Octets;
@@ -129,5 +129,29 @@ fn a_file_that_is_missing_then_grows_and_a_folder(rt: HostRuntime) -> Result<(),
     let read = source.take(&mut buf);
     fs::remove_dir(&rt, path)?;
     assert!(rt; read.is_err());
+    Ok(())
+}
+
+#[test]
+fn a_file_that_is_made_anew_and_a_folder(rt: HostRuntime) -> Result<(), Fail> {
+    let path = "a_file_of_another_run.bytes";
+    let mut buf = [0u8; 8];
+    fs::write(&rt, path, b"stale, and long".as_slice())?;
+    let mut sink = FileSink::new(rt, path)?;
+    let mut source = FileSource::new(rt, path)?;
+    assert_eq!(rt; source.take(&mut buf), Ok(8));
+    assert_eq!(rt; buf, *b"stale, a");
+    assert!(rt; sink.put(b"ab").is_ok());
+    assert!(rt; sink.put(b"cd").is_ok());
+    let mut source = FileSource::new(rt, path)?;
+    assert_eq!(rt; source.take(&mut buf), Ok(4));
+    assert_eq!(rt; buf, *b"abcde, a");
+    fs::remove_file(&rt, path)?;
+    let path = "another_folder";
+    fs::create_dir(&rt, path)?;
+    let mut sink = FileSink::new(rt, path)?;
+    let put = sink.put(b"ab");
+    fs::remove_dir(&rt, path)?;
+    assert!(rt; put.is_err());
     Ok(())
 }

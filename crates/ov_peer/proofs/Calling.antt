@@ -18,7 +18,7 @@ welcome_at : (v : Service) (w : Welcome) (made : List SealedUpdate)
     → (w.epoch ≡ (catalogue_of v.surface v.history).epoch) × (made ≡ [])
 welcome_at v w made (inl (is, makes)) =
     let same : w ≡ welcome_of (served v) = cc in (ap (λ (x : Welcome). x.epoch) same, makes)
-welcome_at v w made (inr (is, makes)) = absurd (cc)
+welcome_at v w made (inr (is, makes, needs)) = absurd (cc)
 
 pub epoch_told : {P : Type 0} (serves : P → Service → Type 0) (q : P) (v : Service)
     (answer : Answer) (w : Welcome)

@@ -14,14 +14,19 @@ use Rattle.ov_peer.specs.Asks.{Asked, IsReplyAt, Told}
 use Rattle.ov_peer.specs.Exchanges.{IsAnswerAt}
 use Rattle.ov_peer.specs.Laws.{AsksAreAlong, ExchangesAreTold}
 
-answer_at : (v : Service) (request : Request) (answer : Answer) (reply : List ℕ)
+-- what is read of a reply is an answer at the history, or says that the disk failed
+pub answer_at : (v : Service) (request : Request) (answer : Answer) (reply : List ℕ)
     (made : List SealedUpdate)
     → HasRequestForm request → AreAllBytes reply → answer_of request reply ≡ Ok answer
     → IsReplyAt v (request_bytes request) reply made → IsAnswerAt v request answer made
 answer_at v request answer reply made form bytes reads (inl replies) =
     inl (replies_are_read (served v) request reply made answer bytes form replies reads)
 answer_at v request answer reply made form bytes reads (inr failed) =
-    inr (sym (read_alike request reply DeviceFault answer bytes tt failed.spelled reads), failed.makes)
+    inr (
+      sym (read_alike request reply DeviceFault answer bytes tt failed.spelled reads),
+      failed.makes,
+      failed.needs,
+    )
 
 module _ {P : Type 0} (asked : Asked P) (serves : P → Service → Type 0)
     (told : (p q : P) (request reply : List ℕ) (v : Service)

@@ -6,10 +6,9 @@ use Rattle.ov_history.specs.Refusals.{IsLegal}
 use Rattle.ov_history.specs.Masters.{Masters}
 use Rattle.ov_history.specs.Sealed.{SealedHistory}
 use Rattle.ov_history.specs.Sealing.{sealed}
-use Rattle.ov_wire.specs.declared.answer.Answer.TheVariants.{DeviceFault}
-use Rattle.ov_wire.specs.AnswerBytes.{answer_bytes}
 use Rattle.ov_protocol.specs.Serving.{Service, followed, later, served}
 use Rattle.ov_protocol.specs.Replies.{MayMake, Replies}
+use Rattle.ov_peer.specs.Disks.{IsDiskFault}
 
 -- ---- asks of any peer
 
@@ -44,16 +43,11 @@ AreAsks {P} asked failed p asks unanswered q =
 
 -- ---- asks of a peer that tells its history
 
--- the server's disk failed, and it made nothing, or what it was asked for
-pub record IsDiskFault (request reply : List ℕ) (made : List SealedUpdate) : Type 0 where
-  pub spelled : reply ≡ answer_bytes DeviceFault
-  pub makes : MayMake request made
-
 -- the reply is the one at this history, with the updates that are made by it, or the server's disk
--- failed
+-- failed where it is needed
 abbrev pub IsReplyAt : Service → List ℕ → List ℕ → List SealedUpdate → Type 0
 IsReplyAt v request reply made =
-    Replies (served v) request reply made ⊎ IsDiskFault request reply made
+    Replies (served v) request reply made ⊎ IsDiskFault (served v) request reply made
 
 -- Asked this, who serves that history replies so: the reply is the one at a history that goes on
 -- from it by what others did, and what is served then goes on by what this request made.

@@ -11,6 +11,7 @@ use Rattle.ov_protocol.specs.Serving.{Service, later, served}
 use Rattle.ov_protocol.specs.Answers.{Answers, made_by}
 use Rattle.ov_protocol.specs.Replies.{MayMake}
 use Rattle.ov_peer.specs.Asks.{Asked, Failed}
+use Rattle.ov_peer.specs.Disks.{NeedsDisk}
 use Rattle.ov_peer.specs.declared.fault.ExchangeFault.{ExchangeFault}
 use Rattle.ov_peer.specs.declared.fault.ExchangeFault.TheVariants.{BadReply, Link, Memory}
 
@@ -38,11 +39,12 @@ Exchanges asked failed p q request (Err Link) = failed p (request_bytes request)
 Exchanges asked failed p q request (Err Memory) = Forgets asked failed p q request
 
 -- the answer is the one at this history, with the updates that are made by it, or the server's disk
--- failed
+-- failed where the request needs it
 abbrev pub IsAnswerAt : Service → Request → Answer → List SealedUpdate → Type 0
 IsAnswerAt v request answer made =
     (Answers (served v) request answer × (made ≡ made_by request answer))
-    ⊎ ((answer ≡ DeviceFault) × MayMake (request_bytes request) made)
+    ⊎ ((answer ≡ DeviceFault) × MayMake (request_bytes request) made
+    × NeedsDisk (served v) (request_bytes request))
 
 -- asked this request, who serves that history answers so, and then serves a history that goes on by
 -- what others did and by what the request made

@@ -1,5 +1,6 @@
 pub mod Asks
 pub mod Causes
+pub mod Disks
 pub mod Exchanges
 pub mod Fixed
 pub mod Laws

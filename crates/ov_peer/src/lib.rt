@@ -21,6 +21,7 @@
 //! |---|---|
 //! | `Asks` | lists of asks; replies of a peer that tells its history |
 //! | `Causes` | a fault of the link comes only where the count of faults rose |
+//! | `Disks` | which requests need the server's disk, and how a fault of it is told |
 //! | `Exchanges` | one request, and the answer that is read |
 //! | `Spellings` | which updates a list of asks made, by their spellings |
 //! | `Tracing`, `Fixed` | what a traced peer puts; what a fixed peer replies |

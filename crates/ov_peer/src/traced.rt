@@ -50,11 +50,14 @@ fn put_frame<T: Sink>(sink: &mut T, frame: &[u8]) -> Result<(), Fault>
 }
 
 impl<P: Peer + Drop, T: Sink + Drop> Peer for Traced<P, T> {
+    // The sink stays lent as it was.
     ghost asked = { λ p request reply q.
-        TracesAsk P.asked p.peer q.peer (T.written p.sink) (T.written q.sink) request reply };
+        TracesAsk P.asked p.peer q.peer (T.written p.sink) (T.written q.sink) request reply
+        × (T.borrow q.sink ≡ T.borrow p.sink) };
 
     ghost failed = { λ p request q.
-        TracesFault P.asked P.failed p.peer q.peer (T.written p.sink) (T.written q.sink) request };
+        TracesFault P.asked P.failed p.peer q.peer (T.written p.sink) (T.written q.sink) request
+        × (T.borrow q.sink ≡ T.borrow p.sink) };
 
     ghost serves = { λ p v. P.serves p.peer v };
 
@@ -62,11 +65,11 @@ impl<P: Peer + Drop, T: Sink + Drop> Peer for Traced<P, T> {
 
     ghost borrow = { λ p. P.borrow p.peer };
 
-    ghost told = { λ p q request reply v a s. P.told p.peer q.peer request reply v a.peer s };
+    ghost told = { λ p q request reply v a s. P.told p.peer q.peer request reply v a.0.peer s };
 
     ghost left = { λ p q request v f s.
         fault_leaves P.asked P.failed P.serves P.told P.left
-        p.peer q.peer (T.written p.sink) (T.written q.sink) request v f s };
+        p.peer q.peer (T.written p.sink) (T.written q.sink) request v f.0 s };
 
     fn ask(&mut self, request: &[u8], reply: &mut Vec<u8>) -> Result<(), PeerFault> {
         match put_frame(&mut self.sink, request) {

@@ -6,7 +6,7 @@ use Rattle.ov_store.specs.declared.fault.ChunkFault.TheVariants.{NoFile, Moved, 
 
 -- The file is there with this generation, and its stored bytes from `start` on, at most `count` of
 -- them, are appended. Or it isn't there, or has another generation, or the disk or memory failed:
--- then nothing is.
+-- then nothing is. The disk is asked only for a file that is there with this generation.
 abbrev pub Chunks : {T : Type 0} → Catalogue → List (List ℕ) → (file generation start count : ℕ)
     → List ℕ → List ℕ → Result T ChunkFault → Type 0
 Chunks c stored file generation start count old new (Ok done) =
@@ -17,5 +17,6 @@ Chunks c stored file generation start count old new (Err NoFile) =
 Chunks c stored file generation start count old new (Err (Moved now)) =
     (f : Filed) × (slice_get c.files file ≡ Some f) × (now ≡ f.generation) × (now ≢ generation)
     × (new ≡ old)
-Chunks c stored file generation start count old new (Err DiskFailed) = new ≡ old
+Chunks c stored file generation start count old new (Err DiskFailed) =
+    (f : Filed) × (slice_get c.files file ≡ Some f) × (f.generation ≡ generation) × (new ≡ old)
 Chunks c stored file generation start count old new (Err Memory) = new ≡ old

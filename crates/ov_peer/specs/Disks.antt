@@ -1,0 +1,52 @@
+-- Requests to which a server may reply that its disk failed.
+use Rattle.std.specs.Prelude.{◌≡◌, ◌⊎◌, ℕ, List, slice_get, Some, Ok}
+use Rattle.ov_record.specs.Reading.{update_of}
+use Rattle.ov_record.specs.Updates.{SealedUpdate}
+use Rattle.ov_history.specs.Catalogue.{Catalogue, Filed}
+use Rattle.ov_wire.specs.declared.request.Request.{Request}
+use Rattle.ov_wire.specs.declared.request.Request.TheVariants as requests
+use Rattle.ov_wire.specs.declared.answer.Answer.TheVariants.{DeviceFault}
+use Rattle.ov_wire.specs.AnswerBytes.{answer_bytes}
+use Rattle.ov_wire.specs.RequestReading.{request_of}
+use Rattle.ov_protocol.specs.Serving.{Serving}
+use Rattle.ov_protocol.specs.Updating.{owner_tag}
+use Rattle.ov_protocol.specs.Replies.{MayMake}
+
+-- the frame is an Update with the owner's tag that is made at the server's epoch, and spells this
+pub record HasUpdate (s : Serving) (request : List ℕ) (u : SealedUpdate) : Type 0 where
+  pub spelling : List ℕ
+  pub tag : List ℕ
+  pub is : request_of request ≡ Ok (requests.Update s.catalogue.epoch spelling tag)
+  pub right : tag ≡ owner_tag s.surface s.catalogue.epoch spelling
+  pub spells : update_of 32 spelling ≡ Ok u
+
+-- the file of this number is there, with this generation
+abbrev pub IsOfGeneration : Catalogue → (file generation : ℕ) → Type 0
+IsOfGeneration c file generation =
+    (f : Filed) × (slice_get c.files file ≡ Some f) × (f.generation ≡ generation)
+
+-- the frame asks for stored bytes of a file that is there, with the file's generation
+pub record AsksBytes (s : Serving) (request : List ℕ) : Type 0 where
+  pub file : ℕ
+  pub generation : ℕ
+  pub start : ℕ
+  pub count : ℕ
+  pub is : request_of request ≡ Ok (requests.Chunk file generation start count)
+  pub there : IsOfGeneration s.catalogue file generation
+
+-- the request is an update that is to be made, or asks for stored bytes that are there
+abbrev pub NeedsDisk : Serving → List ℕ → Type 0
+NeedsDisk s request = ((u : SealedUpdate) × HasUpdate s request u) ⊎ AsksBytes s request
+
+-- the server's disk failed at a request that needs it, and made nothing, or what it was asked for
+pub record IsDiskFault (s : Serving) (request reply : List ℕ) (made : List SealedUpdate) : Type 0
+  where
+    pub spelled : reply ≡ answer_bytes DeviceFault
+    pub makes : MayMake request made
+    pub needs : NeedsDisk s request
+
+-- the same of the kinds of request: an Update and a Chunk may need the disk
+abbrev pub MayNeedDisk : Request → Type 0
+MayNeedDisk (requests.Update epoch spelling tag) = Unit {0}
+MayNeedDisk (requests.Chunk file generation start count) = Unit {0}
+MayNeedDisk request = ⊥
