@@ -1,2 +1,1 @@
-pub mod Missing
-pub mod Whole
+pub mod Hosted

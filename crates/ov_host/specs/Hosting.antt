@@ -41,8 +41,15 @@ abbrev pub EndsServing : Bool → ℕ → Option (List ℕ) → Option (List ℕ
 EndsServing true served old new status = EndsIn door_line 13 old new status
 EndsServing false served old new status = EndsOr (served_line served) 0 old new status
 
-module _ {V S : Type 0} (one : OneSession V S) (v w : V) (old new : Doorway S)
+module _ {V S : Type 0} (one : OneSession V S) (v w : V) (old new : Doorway S) (wanted : ℕ)
     (before after : Option (List ℕ)) (status : ℕ) where
+  -- At most so many sessions are served, and then the last line is put.
+  pub record ServesAll : Type 0 where
+    pub served : ℕ
+    pub failed : Bool
+    pub sessions : ServesEach one v w old new wanted served failed
+    pub ends : EndsServing failed served before after status
+
   -- The door doesn't listen: no session is served, and the line says so.
   pub record FailsToListen : Type 0 where
     pub same : w ≡ v
@@ -50,29 +57,32 @@ module _ {V S : Type 0} (one : OneSession V S) (v w : V) (old new : Doorway S)
     pub rose : Rose old.faults new.faults
     pub ends : EndsIn door_line 13 before after status
 
-  -- It listens at an address, and the line that says so can't be put whole, or memory is refused for
-  -- it: no session is served.
-  pub record FailsToTell : Type 0 where
+  -- It listens, and the line that says where can't be put whole, or memory is refused for it: no
+  -- session is served.
+  pub record FailsToTell (address : List ℕ) : Type 0 where
     pub same : w ≡ v
     pub door : new ≡ old
-    pub address : List ℕ
     pub ends : ((status ≡ 6) × ((n : ℕ) × Appends before after (take n (listening_line address))))
         ⊎ EndsIn memory_line 7 before after status
 
-  -- The line that says where it listens is put, then at most so many sessions are served, and then
-  -- the last line is put.
-  pub record TellsAndServes (wanted : ℕ) : Type 0 where
-    pub address : List ℕ
+module _ {V S : Type 0} (one : OneSession V S) (v w : V) (old new : Doorway S) (wanted : ℕ)
+    (before after : Option (List ℕ)) (status : ℕ) where
+  -- The line that says where it listens is put, and then it serves.
+  pub record TellsAndServes (address : List ℕ) : Type 0 where
     pub between : Option (List ℕ)
     pub told : Appends before between (listening_line address)
-    pub served : ℕ
-    pub failed : Bool
-    pub sessions : ServesEach one v w old new wanted served failed
-    pub ends : EndsServing failed served between after status
+    pub serves : ServesAll one v w old new wanted between after status
 
-  -- one of the three
-  abbrev pub Serves : ℕ → Type 0
-  Serves wanted = FailsToListen ⊎ (FailsToTell ⊎ TellsAndServes wanted)
+  -- what comes of a door that listens at this address
+  abbrev pub Tells : List ℕ → Type 0
+  Tells address =
+      FailsToTell one v w old new wanted before after status address ⊎ TellsAndServes address
+
+  -- what comes of a door: it doesn't listen, or it does at some address
+  abbrev pub Serves : Type 0
+  Serves =
+      FailsToListen one v w old new wanted before after status
+      ⊎ ((address : List ℕ) × Tells address)
 
 -- The count of the door rose, and the status is 13, or 6 where the line couldn't be put; or it
 -- didn't, and the status is another one than 13.
@@ -117,7 +127,7 @@ pub record ServesStore {D S : Type 0} (one : OneSession (Opened D) S) (s : Opene
   pub disk : hosted.disk ≡ None
   pub start : Reaches (serving_of s) [] (serving_of s)
   pub last : Opened D
-  pub serves : Serves one s last old new before after hosted.status wanted
+  pub serves : Serves one s last old new wanted before after hosted.status
 
 -- what is done with a store that was begun, or wasn't
 abbrev pub Hosts : {D S : Type 0} → OneSession (Opened D) S → Result (Opened D) (BeginRefused D)

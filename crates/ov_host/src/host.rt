@@ -11,7 +11,7 @@ ghost use Rattle.ov_host.specs.Hosting.{serves_store};
 
 use crate::hosted::Hosted;
 use crate::serving::serve_door;
-use crate::settings::Settings;
+use ov_settings::Settings;
 use ov_disk::Disk;
 use ov_io::Sink;
 use ov_report::{put_fault, values_are_known};

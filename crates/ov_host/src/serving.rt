@@ -2,8 +2,9 @@
 ghost use Rattle.std.specs.Prelude.{◌≡◌, IfOk};
 ghost use Rattle.ov_session.specs.Doors.{IsUnused};
 ghost use Rattle.ov_session.specs.Serving.{serves_alone};
-ghost use Rattle.ov_report.specs.Ends.{EndsOr, IsPutTo};
-ghost use Rattle.ov_host.specs.Hosting.{SaysDoor, Serves, listening_line, served_line};
+ghost use Rattle.ov_report.specs.Ends.{EndsIn, EndsOr, IsPutTo};
+ghost use Rattle.ov_host.specs.Hosting.{SaysDoor, Serves, ServesAll, Tells};
+ghost use Rattle.ov_host.specs.Hosting.{door_line, listening_line, served_line};
 
 use ov_base::Memory;
 use ov_io::{Fault, Sink};
@@ -39,7 +40,10 @@ fn put_served<O: Sink>(alloc: Global, out: &mut O, served: u32) -> u8
 }
 
 // Puts the line on a door that failed.
-fn put_door<O: Sink>(out: &mut O) -> u8 {
+fn put_door<O: Sink>(out: &mut O) -> u8
+    ensures ends { EndsIn door_line 13 (O.written out.old) (O.written out.new) result }
+    ensures put { IsPutTo O.borrow O.faults out.old out.new result }
+{
     put_last(out, b"error door\n", DOOR_FAULT)
 }
 
@@ -51,7 +55,15 @@ fn serve_all<R: Wait, A: Door, V: Answerer, O: Sink>(
     value: &mut V,
     sessions: u32,
     out: &mut O,
-) -> u8 {
+) -> u8
+    requires { IsUnused (A.shows door.old) }
+    ensures serves { ServesAll (serves_alone V.reached V.replies A.Stream.Source.left
+        A.Stream.Sink.written A.Stream.Source.faults A.Stream.Sink.faults) value.old value.new
+        (A.shows door.old) (A.shows door.new) sessions (O.written out.old) (O.written out.new)
+        result }
+    ensures door { SaysDoor (A.shows door.old).faults (A.shows door.new).faults result }
+    ensures put { IsPutTo O.borrow O.faults out.old out.new result }
+{
     let (served, failed) = serve_each(rt, alloc, door, value, sessions);
     if failed {
         put_door(out)
@@ -69,7 +81,15 @@ fn tell_and_serve<R: Wait, A: Door, V: Answerer, O: Sink>(
     sessions: u32,
     out: &mut O,
     address: &[u8],
-) -> u8 {
+) -> u8
+    requires { IsUnused (A.shows door.old) }
+    ensures serves { Tells (serves_alone V.reached V.replies A.Stream.Source.left
+        A.Stream.Sink.written A.Stream.Source.faults A.Stream.Sink.faults) value.old value.new
+        (A.shows door.old) (A.shows door.new) sessions (O.written out.old) (O.written out.new)
+        result address.now }
+    ensures door { SaysDoor (A.shows door.old).faults (A.shows door.new).faults result }
+    ensures put { IsPutTo O.borrow O.faults out.old out.new result }
+{
     match line_on_address(alloc, address) {
         Ok(line) => match out.put(&line) {
             Ok(()) => serve_all(rt, alloc, door, value, sessions, out),
@@ -92,8 +112,8 @@ pub fn serve_door<R: Wait, A: Door, V: Answerer, O: Sink>(
     requires { IsUnused (A.shows door.old) }
     ensures serves { Serves (serves_alone V.reached V.replies A.Stream.Source.left
         A.Stream.Sink.written A.Stream.Source.faults A.Stream.Sink.faults) value.old value.new
-        (A.shows door.old) (A.shows door.new) (O.written out.old) (O.written out.new)
-        result sessions }
+        (A.shows door.old) (A.shows door.new) sessions (O.written out.old) (O.written out.new)
+        result }
     ensures door { SaysDoor (A.shows door.old).faults (A.shows door.new).faults result }
     ensures put { IsPutTo O.borrow O.faults out.old out.new result }
 {

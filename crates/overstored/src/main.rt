@@ -17,9 +17,10 @@ mod told;
 
 use door::SpokenDoor;
 use ov_disk::FileDisk;
-use ov_host::{Settings, host, read_settings};
+use ov_host::host;
 use ov_io::{FileSource, StdSink};
 use ov_session::TcpDoor;
+use ov_settings::{Settings, read_settings};
 use std::fs::File;
 use std::io::{self, ErrorKind};
 use std::net::Net;

@@ -1,5 +1,5 @@
 //! All that the program says beside the lines of a server.
-use ov_host::SettingsFault;
+use ov_settings::SettingsFault;
 use ov_session::SessionEnd;
 
 /// What `--help` prints.

@@ -1,7 +1,8 @@
 //! What is wrong and what to do, on standard error. Where that can't be written the status has to
 //! do.
 use crate::texts::{WRONG_WORDS, on_settings, on_status};
-use ov_host::{DOOR_FAULT, SettingsFault, settings_in};
+use ov_host::DOOR_FAULT;
+use ov_settings::{SettingsFault, settings_in};
 use std::fs;
 use std::io::ErrorKind;
 

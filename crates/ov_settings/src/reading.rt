@@ -3,9 +3,9 @@ ghost use Rattle.std.specs.Prelude.{◌≡◌, ◌⊎◌, length, IfErr, IfOk};
 ghost use Rattle.toml.specs.Data.{Members};
 ghost use Rattle.toml.specs.View.{table_view};
 ghost use Rattle.ov_io.specs.Calls.{IsCallOf};
-ghost use Rattle.ov_host.specs.Settings.{FindsOr, IsDocument, IsOneWord, IsReadAs};
-ghost use Rattle.ov_host.specs.Settings.{IsSettingsFile, IsSettingsStatus, TakesEnough};
-ghost use Rattle.ov_host.specs.Settings.{fault_code};
+ghost use Rattle.ov_settings.specs.Settings.{FindsOr, IsDocument, IsOneWord, IsReadAs};
+ghost use Rattle.ov_settings.specs.Settings.{IsSettingsFile, IsSettingsStatus, TakesEnough};
+ghost use Rattle.ov_settings.specs.Settings.{fault_code};
 
 use crate::fault::SettingsFault;
 use crate::keys::settings_of;

@@ -1,10 +1,10 @@
 use Rattle.ov_base.specs.declared.key.Key.{Key}
 use Rattle.std.proofs.Common.{codes}
 use Rattle.toml.specs.View.{table_view}
-use Rattle.ov_host.specs.Settings.{AreSettings, HoldsDigits}
-use Rattle.ov_host.specs.declared.settings.Settings.{Settings}
-use Rattle.ov_host.proofs.Missing.{missing_on}
-use Rattle.ov_host.proofs.keys.settings_of.Goals as goal
+use Rattle.ov_settings.specs.Settings.{AreSettings, HoldsDigits}
+use Rattle.ov_settings.specs.declared.settings.Settings.{Settings}
+use Rattle.ov_settings.proofs.Missing.{missing_on}
+use Rattle.ov_settings.proofs.keys.settings_of.Goals as goal
 
 pub returns-in_err-surface : goal.returns-in_err-surface
 returns-in_err-surface c =

@@ -1,6 +1,6 @@
 //! Why there are no settings.
 ghost use Rattle.std.specs.Prelude.{◌≡◌};
-ghost use Rattle.ov_host.specs.Settings.{fault_code};
+ghost use Rattle.ov_settings.specs.Settings.{fault_code};
 
 use ov_base::Memory;
 use ov_io::Fault;
@@ -40,7 +40,7 @@ impl SettingsFault {
 }
 
 impl From<Memory> for SettingsFault {
-    ghost use Rattle.ov_host.specs.declared.fault.SettingsFault.TheVariants.{Memory};
+    ghost use Rattle.ov_settings.specs.declared.fault.SettingsFault.TheVariants.{Memory};
 
     ghost from_gives = { λ _ fault. fault ≡ Memory };
 
@@ -50,7 +50,7 @@ impl From<Memory> for SettingsFault {
 }
 
 impl From<Fault> for SettingsFault {
-    ghost use Rattle.ov_host.specs.declared.fault.SettingsFault.TheVariants.{Read};
+    ghost use Rattle.ov_settings.specs.declared.fault.SettingsFault.TheVariants.{Read};
 
     ghost from_gives = { λ _ fault. fault ≡ Read };
 

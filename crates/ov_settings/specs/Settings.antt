@@ -8,13 +8,13 @@ use Rattle.ov_base.specs.declared.mode.Mode.TheVariants.{Full, Delta}
 use Rattle.ov_keyfile.specs.KeyFile.{IsKeyLine}
 use Rattle.toml.specs.Data.{Members, as_integer, as_str, get_member}
 use Rattle.toml.specs.Parse.{parse_document}
-use Rattle.ov_host.specs.declared.settings.Settings.{Settings}
-use Rattle.ov_host.specs.declared.fault.SettingsFault.{SettingsFault}
-use Rattle.ov_host.specs.declared.fault.SettingsFault.TheVariants.{Read, Memory, TooLong, NotToml}
-use Rattle.ov_host.specs.declared.fault.SettingsFault.TheVariants.{Address, Mode as ModeKey, Surface}
-use Rattle.ov_host.specs.declared.fault.SettingsFault.TheVariants.{BaseCheck, Book, Blobs, Sessions}
-use Rattle.ov_host.specs.declared.settings.TheConstants.{MAX_SESSIONS}
-use Rattle.ov_host.specs.declared.reading.TheConstants.{ENOUGH, LONGEST}
+use Rattle.ov_settings.specs.declared.settings.Settings.{Settings}
+use Rattle.ov_settings.specs.declared.fault.SettingsFault.{SettingsFault}
+use Rattle.ov_settings.specs.declared.fault.SettingsFault.TheVariants.{Read, Memory, TooLong, NotToml}
+use Rattle.ov_settings.specs.declared.fault.SettingsFault.TheVariants.{Address, Mode as ModeKey, Surface}
+use Rattle.ov_settings.specs.declared.fault.SettingsFault.TheVariants.{BaseCheck, Book, Blobs, Sessions}
+use Rattle.ov_settings.specs.declared.settings.TheConstants.{MAX_SESSIONS}
+use Rattle.ov_settings.specs.declared.reading.TheConstants.{ENOUGH, LONGEST}
 use Rattle.ov_io.specs.Calls.{TakesWhile}
 
 -- ---- the keys of a document

@@ -1,8 +1,8 @@
 use Rattle.std.proofs.Common.{◌≡◌, Err, ap}
 use Rattle.ov_io.proofs.Pieces.{while_as}
-use Rattle.ov_host.specs.Settings.{fault_code}
-use Rattle.ov_host.proofs.Whole.{code_of_read, nothing_taken}
-use Rattle.ov_host.proofs.reading.read_settings.Goals as goal
+use Rattle.ov_settings.specs.Settings.{fault_code}
+use Rattle.ov_settings.proofs.Whole.{code_of_read, nothing_taken}
+use Rattle.ov_settings.proofs.reading.read_settings.Goals as goal
 
 pub returns-in-Ok-clause-needed : goal.returns-in-Ok-clause-needed
 returns-in-Ok-clause-needed g c =

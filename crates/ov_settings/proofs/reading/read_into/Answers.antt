@@ -1,6 +1,6 @@
 use Rattle.std.proofs.Common.{refl, rules}
-use Rattle.ov_host.proofs.Whole.{enough_as, finds_no_read, read_of}
-use Rattle.ov_host.proofs.reading.read_into.Goals as goal
+use Rattle.ov_settings.proofs.Whole.{enough_as, finds_no_read, read_of}
+use Rattle.ov_settings.proofs.reading.read_into.Goals as goal
 
 pub returns-in_err-count-clause-needed : goal.returns-in_err-count-clause-needed
 returns-in_err-count-clause-needed g c =

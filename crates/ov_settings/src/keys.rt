@@ -1,8 +1,8 @@
 //! The keys of a settings file.
 ghost use Rattle.std.specs.Prelude.{◌≡◌, IfOk, option_map};
 ghost use Rattle.toml.specs.View.{table_view};
-ghost use Rattle.ov_host.specs.Settings.{AreSettings, Finds, FindsOr, HoldsDigits, HoldsMode};
-ghost use Rattle.ov_host.specs.Settings.{HoldsSessions, HoldsText, fault_code, integer_at, text_at};
+ghost use Rattle.ov_settings.specs.Settings.{AreSettings, Finds, FindsOr, HoldsDigits, HoldsMode};
+ghost use Rattle.ov_settings.specs.Settings.{HoldsSessions, HoldsText, fault_code, integer_at, text_at};
 ghost use Rattle.ov_keyfile.specs.KeyFile.{IsKeyLine};
 
 use crate::fault::SettingsFault;
