@@ -16,7 +16,8 @@ use Rattle.ov_store.specs.Chunks.{Chunks}
 use Rattle.ov_store.specs.Opened.{Opened}
 use Rattle.ov_store.specs.declared.fault.ChunkFault.{ChunkFault}
 use Rattle.ov_store.specs.declared.fault.ChunkFault.TheVariants.{NoFile, Moved, Disk as DiskFailed}
-use Rattle.ov_server.specs.Answering.{AsksBytes, AsksServer, LeavesAsked, serving_of}
+use Rattle.ov_peer.specs.Disks.{AsksBytes, IsOfGeneration}
+use Rattle.ov_server.specs.Answering.{AsksServer, LeavesAsked, serving_of}
 use Rattle.ov_server.proofs.Shown.{Puts, forgot, put_is, still_leaves}
 
 -- why no bytes were given
@@ -57,6 +58,10 @@ module _ (c : Catalogue) (stored : List (List ℕ)) (file generation start count
       subst (λ o. At o (answers.Moved now)) (sym there)
       ((λ e. other (at_it ∙ e)), at_it)
 
+  -- where the disk failed, it was asked for a file that is there
+  pub is_there : result ≡ Err DiskFailed → IsOfGeneration c file generation
+  is_there is = let (f, there, at_it, same) = subst Chunked is chunks in (f, there, at_it)
+
   -- no more bytes than were asked for
   pub few_bytes : (done : Unit {0}) (bytes : List ℕ) → result ≡ Ok done → before ≡ []
       → bytes ≡ after → count ≤ MAX_CHUNK_BYTES → HasAnswerForm (answers.Bytes bytes)
@@ -72,7 +77,7 @@ module _ {D : Type 0} (reads : D → Option Image) (may_leave : D → Image → 
     (moment : D → ℕ) (left_since : D → ℕ → Image → Type 0) (borrow faults : D → ℕ)
     (only_now : (d : D) (c : Image) → left_since d (moment d) c → may_leave d c) where
   pub chunk_failed : (s new : Opened D) (request reply : List ℕ)
-      (last : Result (Unit {0}) NoMemory) → new ≡ s → AsksBytes request
+      (last : Result (Unit {0}) NoMemory) → new ≡ s → AsksBytes (serving_of s) request
       → Puts (Ok answers.DeviceFault) reply last → Rose (faults s.disk) (faults new.disk)
       → AsksServer reads may_leave moment left_since borrow faults s new request reply last
   chunk_failed s new request reply (Ok done) same asks (put, err) rose = record {

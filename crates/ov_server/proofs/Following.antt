@@ -23,8 +23,9 @@ use Rattle.ov_protocol.proofs.Leaving.{later-nil}
 use Rattle.ov_protocol.proofs.Reading.{replies_are_frames}
 use Rattle.ov_peer.specs.Spellings.{IsUpdate, longer_if, says_accepted, spelling_in, spelling_of, with_accepted}
 use Rattle.ov_store.specs.Opened.{Opened, Serves}
-use Rattle.ov_server.specs.Answering.{AnswersOrFails, AsksBytes, HasUpdate, IsAnswered, IsFaulted, serving_of}
-use Rattle.ov_server.specs.Following.{NeedsDisk, Reaches, RepliesAfter, RepliesAt}
+use Rattle.ov_server.specs.Answering.{AnswersOrFails, IsAnswered, IsFaulted, serving_of}
+use Rattle.ov_server.specs.Following.{Reaches, RepliesAfter, RepliesAt}
+use Rattle.ov_server.specs.Locally.{needs}
 use Rattle.ov_server.proofs.AnswerKinds.{IsMade, accepted_made, nothing_made, says_so}
 
 -- ---- the start
@@ -141,18 +142,10 @@ module _ {D : Type 0} (reads : D → Option Image) (may_leave : D → Image → 
 
   module _ (start : Serving) (list : List (List ℕ))
       (reaches : Reaches start list (serving_of old)) where
-    needs : IsFaulted old new request reply → NeedsDisk (serving_of old) request
-    needs is = by_need is.needs where
-      by_need : ((u : SealedUpdate) × HasUpdate (serving_of old) request u × (new.failed ≡ true))
-          ⊎ (AsksBytes request × (new ≡ old))
-          → NeedsDisk (serving_of old) request
-      by_need (inl (u, has, failed)) = inl (u, has)
-      by_need (inr (asks, same)) = inr asks
-
     at_old : AnswersOrFails reads may_leave old new request reply
         → RepliesAt (serving_of old) request reply
     at_old (inl is) = inl (is.frame.made, is.frame.replies)
-    at_old (inr is) = inr (is.spelled, needs is)
+    at_old (inr is) = inr (is.spelled, needs old new request reply is)
 
     pub replies_after : RepliesAfter start list request reply
     replies_after v is =

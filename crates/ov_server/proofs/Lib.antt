@@ -12,3 +12,4 @@ pub mod Following
 pub mod ChunkAnswers
 pub mod Tagging
 pub mod AskedOnce
+pub mod Alone

@@ -32,7 +32,8 @@ use Rattle.ov_store.specs.Opened.{Opened, Serves, StaysTold}
 use Rattle.ov_store.specs.Updating.{Fails, GoesOnAfter, IsCallOf, LeavesEither, ServesMore, Updates, failed_after}
 use Rattle.ov_store.specs.declared.fault.StoreFault.{StoreFault}
 use Rattle.ov_store.specs.declared.fault.StoreFault.TheVariants.{Refused, BadPlan, Disk as DiskFailed, Failed, Memory as NoMemory}
-use Rattle.ov_server.specs.Answering.{AnswersOrFails, AsksServer, HasUpdate, IsAnswered, IsFaulted, IsNewFault, KeepsWith, LeavesAsked, serving_of}
+use Rattle.ov_peer.specs.Disks.{HasUpdate}
+use Rattle.ov_server.specs.Answering.{AnswersOrFails, AsksServer, IsAnswered, IsFaulted, IsNewFault, KeepsWith, LeavesAsked, serving_of}
 use Rattle.ov_wire.specs.AnswerForm.{HasAnswerForm}
 use Rattle.ov_server.proofs.Shown.{MakesNone, Puts, answers_still}
 use Rattle.ov_server.proofs.AnswerKinds.{accepted_apart, nothing_made}
@@ -158,6 +159,7 @@ module _ {D : Type 0} (reads : D → Option Image) (may_leave : D → Image → 
             };
           };
           lasts = served.0;
+          untouched = λ nothing. let wrong : u ∷ [] ≡ [] = nothing in absurd (cc);
           told = served.1;
           failed = state.failed.0;
           sound = λ w other.
@@ -199,7 +201,12 @@ module _ {D : Type 0} (reads : D → Option Image) (may_leave : D → Image → 
   is_faulted reply spelled answer state keys = record {
     spelled = spelled;
     same = same_serving old new answer.1 answer.2 keys;
-    needs = inl (u, has, state.failed.0);
+    needs = inl (record {
+      update = u;
+      has = has;
+      taken = λ none. answer.0;
+      failed = state.failed.0;
+    });
     before = λ failed. let wrong : Err DiskFailed ≡ Err Failed = state.failed.1 failed in absurd (cc);
   }
 
@@ -209,7 +216,12 @@ module _ {D : Type 0} (reads : D → Option Image) (may_leave : D → Image → 
   had_failed reply spelled state = record {
     spelled = spelled;
     same = ap (λ (s : Opened D). serving_of s) state.untouched;
-    needs = inl (u, has, state.failed.0 ∙ state.failed.2 refl);
+    needs = inl (record {
+      update = u;
+      has = has;
+      taken = λ none. absurd (true≢false (sym (state.failed.2 refl) ∙ none));
+      failed = state.failed.0 ∙ state.failed.2 refl;
+    });
     before = λ failed. state.untouched;
   }
 

@@ -19,7 +19,8 @@ use Rattle.ov_protocol.specs.Serving.{Serving, followed}
 use Rattle.ov_protocol.specs.Replies.{AnswersRead, made_of, updates_asked}
 use Rattle.ov_store.specs.Opened.{Opened, Serves, StaysTold}
 use Rattle.ov_store.specs.Updating.{IsCallOf}
-use Rattle.ov_server.specs.Answering.{AnswersOrFails, AsksServer, HasUpdate, IsAnswered, IsNewFault, KeepsWith, LeavesAsked, serving_of}
+use Rattle.ov_peer.specs.Disks.{HasUpdate}
+use Rattle.ov_server.specs.Answering.{AnswersOrFails, AsksServer, IsAnswered, IsNewFault, KeepsWith, LeavesAsked, serving_of}
 use Rattle.ov_server.proofs.AnswerKinds.{other_bytes}
 
 -- this is replied, or memory was refused
@@ -132,6 +133,7 @@ module _ {D : Type 0} (reads : D → Option Image) (may_leave : D → Image → 
       };
       lasts = λ g serves.
           subst (λ (h : SealedHistory). Serves reads may_leave h s) (sym (nothing_follows g)) serves;
+      untouched = λ nothing. refl;
       told = λ i at. (i, at);
       failed = refl;
       sound = sound;

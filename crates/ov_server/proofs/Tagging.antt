@@ -8,7 +8,7 @@ use Rattle.ov_wire.specs.declared.request.Request.TheVariants as requests
 use Rattle.ov_wire.specs.RequestReading.{request_of}
 use Rattle.ov_protocol.specs.Serving.{Serving}
 use Rattle.ov_protocol.specs.Updating.{owner_tag}
-use Rattle.ov_server.specs.Answering.{HasUpdate}
+use Rattle.ov_peer.specs.Disks.{HasUpdate}
 
 -- the parts of an update that a frame is
 record AreSame (epoch : ℕ) (spelling tag : List ℕ) (e : ℕ) (s t : List ℕ) : Type 0 where

@@ -1,20 +1,20 @@
 -- What a server answers to a frame, over a disk that may fail, and what it then stands for.
 use Rattle.std.specs.Prelude.{◌≡◌, ◌⊎◌, ℕ, List, [], true, false}
-use Rattle.std.specs.Prelude.{Option, Result, Ok, OnErr, OnOk}
+use Rattle.std.specs.Prelude.{Option, Result, OnErr, OnOk}
 use Rattle.ov_base.specs.declared.memory.Memory.{Memory}
-use Rattle.ov_record.specs.Reading.{update_of}
 use Rattle.ov_record.specs.Updates.{SealedUpdate}
+use Rattle.ov_history.specs.Briefs.{brief}
 use Rattle.ov_history.specs.Sealed.{SealedHistory}
+use Rattle.ov_state.specs.Plans.{IsTaken}
 use Rattle.ov_disk.specs.Disk.{Image, Told}
 use Rattle.ov_disk.specs.Moments.{LeavesOnly}
 use Rattle.ov_images.specs.Images.{Keys, Keeps}
-use Rattle.ov_wire.specs.declared.request.Request.TheVariants as requests
 use Rattle.ov_wire.specs.declared.answer.Answer.TheVariants.{DeviceFault}
 use Rattle.ov_wire.specs.AnswerBytes.{answer_bytes}
 use Rattle.ov_wire.specs.RequestReading.{request_of}
 use Rattle.ov_protocol.specs.Serving.{Serving, followed}
-use Rattle.ov_protocol.specs.Updating.{owner_tag}
 use Rattle.ov_protocol.specs.Replies.{AnswersFrame, updates_asked}
+use Rattle.ov_peer.specs.Disks.{AsksBytes, HasUpdate}
 use Rattle.ov_peer.specs.Spellings.{IsUpdate}
 use Rattle.ov_store.specs.Opened.{Opened, Serves, StaysTold}
 use Rattle.ov_store.specs.Updating.{IsCallOf}
@@ -28,45 +28,37 @@ serving_of s = record {
   base_check = s.keys.base_check;
 }
 
--- ---- requests that need the disk
-
--- the frame is an Update with the owner's tag that is made at the server's epoch, and spells this
-pub record HasUpdate (s : Serving) (request : List ℕ) (u : SealedUpdate) : Type 0 where
-  pub spelling : List ℕ
-  pub tag : List ℕ
-  pub is : request_of request ≡ Ok (requests.Update s.catalogue.epoch spelling tag)
-  pub right : tag ≡ owner_tag s.surface s.catalogue.epoch spelling
-  pub spells : update_of 32 spelling ≡ Ok u
-
--- the frame asks for stored bytes of a file
-pub record AsksBytes (request : List ℕ) : Type 0 where
-  pub file : ℕ
-  pub generation : ℕ
-  pub start : ℕ
-  pub count : ℕ
-  pub is : request_of request ≡ Ok (requests.Chunk file generation start count)
-
 -- ---- what is answered
 
 -- The answer is the one by what the server shows, which goes on by what it makes. With that, each
--- history for which it stood is one for which it stands then: so what is accepted lasts. An update
--- is looked at only where the disk has never failed in one.
+-- history for which it stood is one for which it stands then: so what is accepted lasts. Where it
+-- makes nothing all stays as it was, the disk too. An update is looked at only where the disk has
+-- never failed in one.
 pub record IsAnswered {D : Type 0} (reads : D → Option Image) (may_leave : D → Image → Type 0)
     (old new : Opened D) (request reply : List ℕ) : Type 0 where
   pub frame : AnswersFrame (serving_of old) (serving_of new) request reply
   pub lasts : (g : SealedHistory) → Serves reads may_leave g old
       → Serves reads may_leave (followed g frame.made) new
+  pub untouched : frame.made ≡ [] → new ≡ old
   pub told : StaysTold (reads old.disk) (reads new.disk)
   pub failed : new.failed ≡ old.failed
   pub sound : (u : SealedUpdate) → HasUpdate (serving_of old) request u → old.failed ≡ false
+
+-- The disk failed in an update: in the one that the frame has, which was to be made, or in one
+-- before.
+pub record FailsUpdate {D : Type 0} (old new : Opened D) (request : List ℕ) : Type 0 where
+  pub update : SealedUpdate
+  pub has : HasUpdate (serving_of old) request update
+  pub taken : old.failed ≡ false → IsTaken old.catalogue (brief update)
+  pub failed : new.failed ≡ true
 
 -- The answer is that the disk failed, and what the server shows stays. It comes only to what needs
 -- the disk. Once the disk failed in an update, each later one is answered so, and changes nothing.
 pub record IsFaulted {D : Type 0} (old new : Opened D) (request reply : List ℕ) : Type 0 where
   pub spelled : reply ≡ answer_bytes DeviceFault
   pub same : serving_of new ≡ serving_of old
-  pub needs : ((u : SealedUpdate) × HasUpdate (serving_of old) request u × (new.failed ≡ true))
-      ⊎ (AsksBytes request × (new ≡ old))
+  pub needs : FailsUpdate old new request
+      ⊎ (AsksBytes (serving_of old) request × (new ≡ old))
   pub before : old.failed ≡ true → new ≡ old
 
 -- one of the two

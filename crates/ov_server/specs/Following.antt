@@ -6,7 +6,7 @@ use Rattle.ov_wire.specs.AnswerBytes.{answer_bytes}
 use Rattle.ov_protocol.specs.Serving.{IsService, Service, Serving, later, served}
 use Rattle.ov_protocol.specs.Updating.{updates_of}
 use Rattle.ov_protocol.specs.Replies.{Replies}
-use Rattle.ov_server.specs.Answering.{AsksBytes, HasUpdate}
+use Rattle.ov_peer.specs.Disks.{NeedsDisk}
 
 -- From the start the updates with these spellings lead to what is served now: there is a history
 -- that was served at the start, and each, with these updates, is served now. Each spelling is that
@@ -15,10 +15,6 @@ pub record Reaches (start : Serving) (list : List (List ℕ)) (now : Serving) : 
   pub some : (v : Service) × IsService start v
   pub goes_on : (v : Service) → IsService start v → IsService now (later v (updates_of list))
   pub each : length (updates_of list) ≡ length list
-
--- the request is an update that is to be made, or asks for stored bytes
-abbrev pub NeedsDisk : Serving → List ℕ → Type 0
-NeedsDisk s request = ((u : SealedUpdate) × HasUpdate s request u) ⊎ AsksBytes request
 
 -- the reply is the one by what is served, or that the disk failed, where it is needed
 abbrev pub RepliesAt : Serving → List ℕ → List ℕ → Type 0

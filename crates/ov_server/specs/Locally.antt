@@ -1,62 +1,96 @@
--- Inner: no public contract needs this. What a server in this process tells.
-use Rattle.std.specs.Prelude.{◌≡◌, ℕ, List, [], Option}
-use Rattle.std.proofs.Common.{◌∙◌, inl, inr, refl, subst, sym}
+-- What a server in this process tells: nobody else updates what it serves.
+use Rattle.std.specs.Prelude.{◌≡◌, ◌⊎◌, ℕ, List, [], Option}
+use Rattle.std.proofs.Common.{inl, inr, refl, subst, sym}
 use Rattle.ov_record.specs.Updates.{SealedUpdate}
 use Rattle.ov_disk.specs.Disk.{Image}
 use Rattle.ov_protocol.specs.Serving.{IsService, Service, Serving, later, served}
 use Rattle.ov_protocol.specs.Replies.{Replies}
 use Rattle.ov_protocol.proofs.GoingOn.{servers_go_on, services_are_served}
 use Rattle.ov_protocol.proofs.Leaving.{later-nil}
-use Rattle.ov_peer.specs.Asks.{IsReplyAt, LeavesTold, Told}
+use Rattle.ov_peer.specs.Asks.{Asked, IsReplyAt, LeavesTold, Told}
+use Rattle.ov_peer.specs.Disks.{AsksBytes, NeedsDisk}
 use Rattle.ov_store.specs.Opened.{Opened}
-use Rattle.ov_server.specs.Answering.{AnswersOrFails, IsAnswered, IsFaulted, serving_of}
+use Rattle.ov_server.specs.Answering.{AnswersOrFails, FailsUpdate, IsAnswered, IsFaulted, serving_of}
 
 -- what a store serves
 abbrev pub IsServedBy : {D : Type 0} → Opened D → Service → Type 0
 IsServedBy s v = IsService (serving_of s) v
 
--- what was served, with nothing that others did
-nobody_else : (P : Service → Type 0) (v : Service) → P v → P (later v [])
-nobody_else P v is = subst P (sym (later-nil v)) is
+-- Asked this, who serves that history replies by just this one, and then serves it with what the
+-- request made: nobody else updates it.
+abbrev pub AnswersAlone : Service → List ℕ → List ℕ → (Service → Type 0) → Type 0
+AnswersAlone v request reply Then =
+    (made : List SealedUpdate) × IsReplyAt v request reply made × Then (later v made)
+
+-- so is each ask answered
+abbrev pub AreAlone : {D : Type 0} → Asked (Opened D) → Type 0
+AreAlone {D} asked =
+    (p q : Opened D) (request reply : List ℕ) (v : Service)
+    → asked p request reply q → IsServedBy p v → AnswersAlone v request reply (IsServedBy q)
+
+-- ---- inner: no public contract needs the rest
 
 -- an answer by what is shown is one at what is served
 answered : {D : Type 0} (reads : D → Option Image) (may_leave : D → Image → Type 0)
     (p q : Opened D) (request reply : List ℕ) (v : Service)
     → IsAnswered reads may_leave p q request reply → IsServedBy p v
-    → Told v request reply (IsServedBy q)
-answered reads may_leave p q request reply v is serves =
-    let none : later v [] ≡ v = later-nil v in
-    let goes_on = servers_go_on (serving_of p) (serving_of q) v request reply is.frame serves in
-    let at_it = subst (λ (s : Serving). Replies s request reply is.frame.made)
-    (services_are_served (serving_of p) v serves) is.frame.replies in (
-      [],
-      is.frame.made,
-      inl
-          (subst (λ (w : Service). Replies (served w) request reply is.frame.made) (sym none)
-          at_it),
-      subst (λ (w : Service). IsServedBy q (later w is.frame.made)) (sym none) goes_on,
-    )
+    → AnswersAlone v request reply (IsServedBy q)
+answered reads may_leave p q request reply v is serves = (
+  is.frame.made,
+  inl
+      (subst (λ (s : Serving). Replies s request reply is.frame.made)
+      (services_are_served (serving_of p) v serves) is.frame.replies),
+  servers_go_on (serving_of p) (serving_of q) v request reply is.frame serves,
+)
+
+-- a fault of the disk comes only where it is needed
+pub needs : {D : Type 0} (p q : Opened D) (request reply : List ℕ)
+    → IsFaulted p q request reply → NeedsDisk (serving_of p) request
+needs p q request reply is = by_need is.needs where
+  by_need : FailsUpdate p q request ⊎ (AsksBytes (serving_of p) request × (q ≡ p))
+      → NeedsDisk (serving_of p) request
+  by_need (inl fails) = inl (fails.update, fails.has)
+  by_need (inr (asks, same)) = inr asks
 
 -- where the disk failed the same is served
 faulted : {D : Type 0} (p q : Opened D) (request reply : List ℕ) (v : Service)
-    → IsFaulted p q request reply → IsServedBy p v → Told v request reply (IsServedBy q)
+    → IsFaulted p q request reply → IsServedBy p v → AnswersAlone v request reply (IsServedBy q)
 faulted p q request reply v is serves =
-    let still = subst (λ (s : Serving). IsService s v) (sym is.same) serves in (
+    let at_v : NeedsDisk (served v) request =
+    subst (λ (s : Serving). NeedsDisk s request) (services_are_served (serving_of p) v serves)
+    (needs p q request reply is) in (
       [],
-      [],
-      inr (record { spelled = is.spelled; makes = inl refl }),
-      nobody_else (λ w. IsServedBy q (later w [])) v (nobody_else (IsServedBy q) v still),
+      inr (record { spelled = is.spelled; makes = inl refl; needs = at_v }),
+      subst (IsServedBy q) (sym (later-nil v))
+          (subst (λ (s : Serving). IsService s v) (sym is.same) serves),
     )
 
--- what is served is what is answered by
+-- what is served is what is answered by, and nobody else updates it
+pub answers_alone : {D : Type 0} (reads : D → Option Image) (may_leave : D → Image → Type 0)
+    (p q : Opened D) (request reply : List ℕ) (v : Service)
+    → AnswersOrFails reads may_leave p q request reply → IsServedBy p v
+    → AnswersAlone v request reply (IsServedBy q)
+answers_alone reads may_leave p q request reply v (inl is) serves =
+    answered reads may_leave p q request reply v is serves
+answers_alone reads may_leave p q request reply v (inr is) serves =
+    faulted p q request reply v is serves
+
+-- what was served, with nothing that others did
+nobody_else : (P : Service → Type 0) (v : Service) → P v → P (later v [])
+nobody_else P v is = subst P (sym (later-nil v)) is
+
+-- so it is answered by what is served
 pub answers_told : {D : Type 0} (reads : D → Option Image) (may_leave : D → Image → Type 0)
     (p q : Opened D) (request reply : List ℕ) (v : Service)
     → AnswersOrFails reads may_leave p q request reply → IsServedBy p v
     → Told v request reply (IsServedBy q)
-answers_told reads may_leave p q request reply v (inl is) serves =
-    answered reads may_leave p q request reply v is serves
-answers_told reads may_leave p q request reply v (inr is) serves =
-    faulted p q request reply v is serves
+answers_told reads may_leave p q request reply v is serves =
+    let (made, at_it, goes_on) = answers_alone reads may_leave p q request reply v is serves in (
+      [],
+      made,
+      nobody_else (λ w. IsReplyAt w request reply made) v at_it,
+      nobody_else (λ w. IsServedBy q (later w made)) v goes_on,
+    )
 
 -- where nothing changed the same is served
 pub same_left : {D : Type 0} (p q : Opened D) (request : List ℕ) (v : Service) → q ≡ p

@@ -29,7 +29,8 @@
 //! |---|---|
 //! | `Answering` | what is answered to a frame, and what is left on the disk |
 //! | `Following` | how a server goes on from where it began, for `Answerer` |
-//! | `Telling`, `Locally` | inner: answers made of what a state tells; what a local peer tells |
+//! | `Locally` | what a server in this process tells: nobody else updates it |
+//! | `Telling` | inner: answers made of what a state tells |
 //!
 //! Nothing is claimed of who asks: an update is the owner's by its tag alone.
 #![tactic(auto)]
@@ -41,6 +42,7 @@ mod chaining;
 mod chunking;
 mod covering;
 mod form;
+mod laws;
 mod listing;
 mod local;
 mod paging;
@@ -50,5 +52,6 @@ mod server;
 mod tests;
 mod updating;
 
+pub use laws::asks_are_alone;
 pub use local::LocalPeer;
 pub use server::Server;

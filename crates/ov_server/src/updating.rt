@@ -6,7 +6,8 @@ ghost use Rattle.ov_record.specs.Updates.{sealed_update};
 ghost use Rattle.ov_wire.specs.declared.request.Request.TheVariants as requests;
 ghost use Rattle.ov_wire.specs.RequestReading.{request_of};
 ghost use Rattle.ov_protocol.specs.Updating.{owner_tag, spelling_place};
-ghost use Rattle.ov_server.specs.Answering.{serving_of, AsksServer, HasUpdate};
+ghost use Rattle.ov_peer.specs.Disks.{HasUpdate};
+ghost use Rattle.ov_server.specs.Answering.{serving_of, AsksServer};
 
 use crate::reply::{reply_fault, reply_with};
 use crate::server::Server;

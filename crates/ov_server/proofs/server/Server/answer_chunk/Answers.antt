@@ -6,10 +6,11 @@ use Rattle.ov_wire.specs.declared.request.Request.{Request}
 use Rattle.ov_wire.specs.declared.request.Request.TheVariants as requests
 use Rattle.ov_wire.specs.declared.answer.Answer.TheVariants as answers
 use Rattle.ov_protocol.specs.Reading.{AnswersChunk}
+use Rattle.ov_peer.specs.Disks.{IsOfGeneration}
 use Rattle.ov_store.specs.Opened.{Opened}
 use Rattle.ov_store.specs.declared.fault.ChunkFault.{ChunkFault}
 use Rattle.ov_server.specs.Answering.{AsksServer}
-use Rattle.ov_server.proofs.ChunkAnswers.{chunk_failed, few_bytes, says_bytes, says_moved, says_no_file, chunk_err}
+use Rattle.ov_server.proofs.ChunkAnswers.{chunk_failed, few_bytes, is_there, says_bytes, says_moved, says_no_file, chunk_err}
 use Rattle.ov_server.proofs.Shown.{answers_still, no_update}
 use Rattle.ov_server.proofs.server.Server.answer_chunk.Goals as goal
 
@@ -92,7 +93,9 @@ returns-in-Err-Moved g c =
 
 pub returns-in-Err-Disk : goal.returns-in-Err-Disk
 returns-in-Err-Disk g c =
+    let store = c.self.inside.store in
     let same : c.chunk.new.self ≡ c.args.self.now = c.chunk.ensures.same ∙ c.self.view_is in
+    let failed = chunk_err c.chunk.result c.in-Err-Disk.field-0 _ c.in-Err-Disk.is c.in-Err-Disk.field-0-is in
     λ request is.
     chunk_failed g.D.Disk.reads g.D.Disk.may_leave g.D.Disk.moment g.D.Disk.left_since
     g.D.Disk.borrow g.D.Disk.faults g.met.D.Disk.only_now c.args.self.now
@@ -104,13 +107,18 @@ returns-in-Err-Disk g c =
       start = c.args.start;
       count = c.args.count;
       is = is;
+      there = subst
+          (λ (o : Opened g.row.D.Denot). IsOfGeneration o.catalogue c.args.file c.args.generation)
+          c.self.view_is
+          (is_there store.catalogue store.stored c.args.file c.args.generation c.args.start
+          c.args.count c.new-bytes.result.items c.chunk.new.out.items c.chunk.result
+          c.chunk.ensures.answer failed);
     })
     (c.reply_with-in-Err-Disk.ensures.ok, c.reply_with-in-Err-Disk.ensures.err)
     (subst
     (λ (o : Opened g.row.D.Denot). Rose (g.D.Disk.faults o.disk) (g.D.Disk.faults c.chunk.new.self.disk))
     c.self.view_is
-    (c.chunk.ensures.cause
-    (chunk_err c.chunk.result c.in-Err-Disk.field-0 _ c.in-Err-Disk.is c.in-Err-Disk.field-0-is)))
+    (c.chunk.ensures.cause failed))
 
 pub returns : goal.returns
 returns g c =

@@ -3,7 +3,8 @@ use Rattle.ov_record.specs.Updates.{sealed_update}
 use Rattle.ov_history.specs.Catalogue.{Catalogue}
 use Rattle.ov_store.specs.declared.fault.StoreFault.{StoreFault}
 use Rattle.ov_store.specs.Opened.{Opened}
-use Rattle.ov_server.specs.Answering.{AsksServer, HasUpdate, serving_of}
+use Rattle.ov_peer.specs.Disks.{HasUpdate}
+use Rattle.ov_server.specs.Answering.{AsksServer, serving_of}
 use Rattle.ov_server.proofs.Shown.{forgot_by, put_is, puts_same}
 use Rattle.ov_server.proofs.Making.{err_is, on_bad_plan, on_disk, on_failed, on_made, on_memory, on_refused}
 use Rattle.ov_server.proofs.server.Server.make.Goals as goal

@@ -1,0 +1,14 @@
+//! What a server in this process tells, for the proofs of callers. The function does nothing.
+ghost use Rattle.std.specs.Prelude.{Ok};
+ghost use Rattle.ov_server.specs.Answering.{AsksServer};
+ghost use Rattle.ov_server.specs.Locally.{AreAlone};
+
+use ov_disk::Disk;
+
+/// Nobody else updates what a server in this process serves: by what it tells of an ask, it answers
+/// at just the history that it serves. And that its disk failed it answers only to what needs it.
+pub fn asks_are_alone<D: Disk>()
+    ensures { AreAlone (λ p request reply q.
+        AsksServer D.reads D.may_leave D.moment D.left_since D.borrow D.faults
+        p q request reply (Ok tt)) }
+{}

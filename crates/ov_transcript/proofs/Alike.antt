@@ -1,0 +1,167 @@
+-- What two histories that differ in their files' bytes alone have in common.
+use Rattle.std.proofs.Common.{◌≡◌, ◌∙◌, ℕ, ◌+◌, zero, suc, not, List, [], ◌∷◌, ◌++◌, length, refl}
+use Rattle.std.proofs.Common.{sym, ap}
+use Rattle.std.specs.Prelude.{nat_lt, slice_index}
+use Rattle.std.proofs.lemmas.List.{length-map}
+use Rattle.ov_base.specs.Sets.{has}
+use Rattle.ov_history.specs.History.{File, Granted, Matrix, Revoked, changed, changed_all, delisted}
+use Rattle.ov_history.specs.History.{epoch_of, listed, matrix_of, no_one}
+use Rattle.ov_history.specs.Layers.{Layers, layers_after, layers_all, layers_of, lists_after}
+use Rattle.ov_history.specs.Layers.{no_layers}
+use Rattle.ov_history.specs.Lists.{file_names, file_number, is_file, is_listed, is_user}
+use Rattle.ov_history.specs.Lists.{user_number}
+use Rattle.ov_history.specs.Places.{change_at, place_of}
+use Rattle.ov_history.specs.Plain.{PlainCreate, PlainEnrol, PlainGrant, PlainHistory, PlainRevoke}
+use Rattle.ov_history.specs.Plain.{PlainUpdate, history_of, measured, measured_all}
+use Rattle.ov_base.specs.declared.refusal.Refusal.TheVariants.{Listed, NoFile, NoUser, NotListed}
+use Rattle.ov_history.specs.Refusals.{tests_of, tests_of_room}
+use Rattle.ov_history.proofs.MatrixLaws.{file_lists, file_lists-changed, is_listed-list}
+use Rattle.ov_transcript.specs.Bytes.{AreAlike, DifferInBytes, IsAlike}
+
+-- ---- names of files
+
+names-append : (files : List File) (f : File) → file_names (files ++ f ∷ [])
+    ≡ file_names files ++ f.name ∷ []
+names-append [] f = refl
+names-append (first ∷ files) f = ap (λ (l : List (List ℕ)). first.name ∷ l) (names-append files f)
+
+names-listed : (user file : ℕ) (files : List File)
+    → file_names (change_at (listed user) file files) ≡ file_names files
+names-listed user file [] = refl
+names-listed user zero (f ∷ files) = refl
+names-listed user (suc file) (f ∷ files) =
+    ap (λ (l : List (List ℕ)). f.name ∷ l) (names-listed user file files)
+
+names-delisted : (user file : ℕ) (files : List File)
+    → file_names (change_at (delisted user) file files) ≡ file_names files
+names-delisted user file [] = refl
+names-delisted user zero (f ∷ files) = refl
+names-delisted user (suc file) (f ∷ files) =
+    ap (λ (l : List (List ℕ)). f.name ∷ l) (names-delisted user file files)
+
+-- ---- matrices that are the same but for the lengths of files
+
+pub record Matches (m n : Matrix) : Type 0 where
+  pub users : m.users ≡ n.users
+  pub names : file_names m.files ≡ file_names n.files
+  pub lists : file_lists m.files ≡ file_lists n.files
+
+matches_on : (m n : Matrix) (u v : PlainUpdate) → Matches m n → IsAlike u v
+    → Matches (changed m (measured u)) (changed n (measured v))
+matches_on m n (PlainEnrol user) (PlainEnrol other) ms is = record {
+  users = λ i. ms.users i ++ is i ∷ [];
+  names = ms.names;
+  lists = ms.lists;
+}
+matches_on m n (PlainCreate file list bytes) (PlainCreate other set text) ms (same, all) = record {
+  users = ms.users;
+  names = names-append m.files _ ∙ (λ i. ms.names i ++ same i ∷ []) ∙ sym (names-append n.files _);
+  lists = file_lists-changed m (measured (PlainCreate file list bytes))
+      ∙ (λ i. ms.lists i ++ all i ∷ [])
+      ∙ sym (file_lists-changed n (measured (PlainCreate other set text)));
+}
+matches_on m n (PlainGrant user file) (PlainGrant other item) ms (same, one) = record {
+  users = ms.users;
+  names = names-listed user file m.files ∙ ms.names ∙ sym (names-listed other item n.files);
+  lists = file_lists-changed m (Granted user file)
+      ∙ (λ i. lists_after (ms.lists i) (Granted (same i) (one i)))
+      ∙ sym (file_lists-changed n (Granted other item));
+}
+matches_on m n (PlainRevoke user file) (PlainRevoke other item) ms (same, one) = record {
+  users = ms.users;
+  names = names-delisted user file m.files ∙ ms.names ∙ sym (names-delisted other item n.files);
+  lists = file_lists-changed m (Revoked user file)
+      ∙ (λ i. lists_after (ms.lists i) (Revoked (same i) (one i)))
+      ∙ sym (file_lists-changed n (Revoked other item));
+}
+matches_on m n u v ms is = absurd is
+
+matches_all : (m n : Matrix) (us vs : List PlainUpdate) → Matches m n → AreAlike us vs
+    → Matches (changed_all m (measured_all us)) (changed_all n (measured_all vs))
+matches_all m n [] [] ms are = ms
+matches_all m n (u ∷ us) (v ∷ vs) ms (is, are) =
+    matches_all (changed m (measured u)) (changed n (measured v)) us vs
+    (matches_on m n u v ms is) are
+matches_all m n us vs ms are = absurd are
+
+-- ---- layers
+
+layers_on : (y : Layers) (u v : PlainUpdate) → IsAlike u v
+    → layers_after y (measured u) ≡ layers_after y (measured v)
+layers_on y (PlainEnrol user) (PlainEnrol other) is = refl
+layers_on y (PlainCreate file list bytes) (PlainCreate other set text) (same, all) =
+    λ i. layers_after y (measured (PlainCreate (same i) (all i) bytes))
+layers_on y (PlainGrant user file) (PlainGrant other item) (same, one) =
+    λ i. layers_after y (Granted (same i) (one i))
+layers_on y (PlainRevoke user file) (PlainRevoke other item) (same, one) =
+    λ i. layers_after y (Revoked (same i) (one i))
+layers_on y u v is = absurd is
+
+layers_alike : (y : Layers) (us vs : List PlainUpdate) → AreAlike us vs
+    → layers_all y (measured_all us) ≡ layers_all y (measured_all vs)
+layers_alike y [] [] are = refl
+layers_alike y (u ∷ us) (v ∷ vs) (is, are) =
+    ap (λ (z : Layers). layers_all z (measured_all us)) (layers_on y u v is)
+    ∙ layers_alike (layers_after y (measured v)) us vs are
+layers_alike y us vs are = absurd are
+
+count_alike : (us vs : List PlainUpdate) → AreAlike us vs
+    → length (measured_all us) ≡ length (measured_all vs)
+count_alike [] [] are = refl
+count_alike (u ∷ us) (v ∷ vs) (is, are) = ap suc (count_alike us vs are)
+count_alike us vs are = absurd are
+
+-- ---- of two histories
+
+module _ (p q : PlainHistory) (d : DifferInBytes p q) where
+  abbrev m : Matrix
+  m = matrix_of (history_of p)
+
+  abbrev n : Matrix
+  n = matrix_of (history_of q)
+
+  pub same_layers : layers_of (history_of p) ≡ layers_of (history_of q)
+  same_layers =
+      layers_alike (no_layers p.mode p.first) p.updates q.updates d.updates
+      ∙ (λ i. layers_all (no_layers (d.mode i) (d.first i)) (measured_all q.updates))
+
+  pub same_epoch : epoch_of (history_of p) ≡ epoch_of (history_of q)
+  same_epoch = λ i. d.first i + count_alike p.updates q.updates d.updates i
+
+  matches : Matches m n
+  matches =
+      matches_all no_one no_one p.updates q.updates
+      (record { users = refl; names = refl; lists = refl }) d.updates
+
+  pub same_user : (name : List ℕ) → user_number m name ≡ user_number n name
+  same_user name = ap (place_of name) matches.users
+
+  pub same_file : (name : List ℕ) → file_number m name ≡ file_number n name
+  same_file name = ap (place_of name) matches.names
+
+  is_user_too : (user : ℕ) → is_user m user ≡ is_user n user
+  is_user_too user = ap (λ (l : List (List ℕ)). nat_lt user (length l)) matches.users
+
+  is_file_too : (file : ℕ) → is_file m file ≡ is_file n file
+  is_file_too file =
+      ap (nat_lt file)
+      (sym (length-map m.files (λ (f : File). f.list)) ∙ ap length matches.lists
+      ∙ length-map n.files (λ (f : File). f.list))
+
+  is_listed_too : (user file : ℕ) → is_listed m user file ≡ is_listed n user file
+  is_listed_too user file =
+      is_listed-list m user file ∙ ap (λ (l : List ℕ). has (slice_index l file) user) matches.lists
+      ∙ sym (is_listed-list n user file)
+
+  -- so a grant and a revocation are refused alike
+  pub same_grant : (y : Layers) (epoch user file : ℕ)
+      → tests_of m y epoch (Granted user file) ≡ tests_of n y epoch (Granted user file)
+  same_grant y epoch user file =
+      λ i. (NoUser, not (is_user_too user i)) ∷ (NoFile, not (is_file_too file i))
+      ∷ (Listed, is_listed_too user file i) ∷ tests_of_room y epoch (Granted user file)
+
+  pub same_revocation : (y : Layers) (epoch user file : ℕ)
+      → tests_of m y epoch (Revoked user file) ≡ tests_of n y epoch (Revoked user file)
+  same_revocation y epoch user file =
+      λ i. (NoUser, not (is_user_too user i)) ∷ (NoFile, not (is_file_too file i))
+      ∷ (NotListed, not (is_listed_too user file i)) ∷ tests_of_room y epoch (Revoked user file)

@@ -1,0 +1,15 @@
+pub mod Refusing
+pub mod Fronts
+pub mod Engines
+pub mod Owners
+pub mod OwnersTalks
+pub mod Questions
+pub mod Chunks
+pub mod Readers
+pub mod ReadersTalks
+pub mod Once
+pub mod Forms
+pub mod Cutting
+pub mod Sizes
+pub mod Alike
+pub mod Grants

@@ -1,0 +1,41 @@
+-- Histories that differ in the bytes of their files alone, and commands that send no file.
+use Rattle.std.specs.Prelude.{◌≡◌, List, [], ◌∷◌}
+use Rattle.ov_script.specs.declared.command.Command.{Command}
+use Rattle.ov_script.specs.declared.command.Command.TheVariants.{Create, Enrol, Grant, Revoke}
+use Rattle.ov_history.specs.Plain.{PlainCreate, PlainEnrol, PlainGrant, PlainHistory, PlainRevoke}
+use Rattle.ov_history.specs.Plain.{PlainUpdate}
+
+-- two updates that are the same but for the bytes of a file, which may also be more or fewer
+abbrev pub IsAlike : PlainUpdate → PlainUpdate → Type 0
+IsAlike (PlainEnrol user) (PlainEnrol other) = user ≡ other
+IsAlike (PlainCreate file list bytes) (PlainCreate other set text) =
+    (file ≡ other) × (list ≡ set)
+IsAlike (PlainGrant user file) (PlainGrant other item) = (user ≡ other) × (file ≡ item)
+IsAlike (PlainRevoke user file) (PlainRevoke other item) = (user ≡ other) × (file ≡ item)
+IsAlike one other = ⊥
+
+-- so each of these updates and of those, in order
+abbrev pub AreAlike : List PlainUpdate → List PlainUpdate → Type 0
+AreAlike [] [] = Unit {0}
+AreAlike (u ∷ updates) (v ∷ others) = IsAlike u v × AreAlike updates others
+AreAlike updates others = ⊥
+
+-- two histories that are the same but for the bytes of their files
+pub record DifferInBytes (p q : PlainHistory) : Type 0 where
+  pub mode : p.mode ≡ q.mode
+  pub first : p.first ≡ q.first
+  pub updates : AreAlike p.updates q.updates
+
+-- the command is a grant or a revocation
+abbrev pub IsOfList : Command → Type 0
+IsOfList (Grant user file) = Unit {0}
+IsOfList (Revoke user file) = Unit {0}
+IsOfList command = ⊥
+
+-- the command is an update
+abbrev pub IsOfUpdate : Command → Type 0
+IsOfUpdate (Enrol user) = Unit {0}
+IsOfUpdate (Create file names bytes) = Unit {0}
+IsOfUpdate (Grant user file) = Unit {0}
+IsOfUpdate (Revoke user file) = Unit {0}
+IsOfUpdate command = ⊥

@@ -1,0 +1,4 @@
+pub mod Transcripts
+pub mod Talking
+pub mod Bytes
+pub mod Laws
