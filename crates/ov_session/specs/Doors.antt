@@ -1,5 +1,5 @@
 -- What a door tells of the streams that it gave.
-use Rattle.std.specs.Prelude.{◌≡◌, ◌<◌, ◌+◌, ℕ, List, [], ◌∷◌, ◌++◌, slice_get, Bool, false, true}
+use Rattle.std.specs.Prelude.{◌≡◌, ◌<◌, ◌+◌, ℕ, zero, suc, List, [], ◌∷◌, ◌++◌, slice_get, Bool, false, true}
 use Rattle.std.specs.Prelude.{Option, Some, None, Result, Ok, Err, OnOk, MatchResult}
 use Rattle.ov_base.specs.Causes.{Rose}
 use Rattle.ov_session.specs.declared.end.SessionEnd.{SessionEnd}
@@ -72,7 +72,7 @@ pub record IsOut {S : Type 0} (d : Doorway S) (number : ℕ) : Type 0 where
 -- the streams, of which the one of this number was taken back
 pub back_at : {S : Type 0} → List (Given S) → ℕ → Back S → List (Given S)
 back_at [] number back = []
-back_at (given ∷ more) 0 back = record given { back = Some back } ∷ more
+back_at (given ∷ more) zero back = record given { back = Some back } ∷ more
 back_at (given ∷ more) (suc number) back = given ∷ back_at more number back
 
 -- the same of the streams that are told

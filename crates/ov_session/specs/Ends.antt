@@ -43,7 +43,7 @@ pub record EndsAtLength {A : Type 0} (asks : Asks A) (a b : A) (old new : Link) 
   pub rest : List ℕ
   pub all : AnswersAll asks a b old new taken rest
   pub bad : IsBadLength rest
-  pub place : place ≡ later 0 (requests all.exchanges)
+  pub stands : place ≡ later 0 (requests all.exchanges)
 
 -- the input ended inside a frame, after so many bytes; a number past the last one of 64 bits stays
 -- there
@@ -55,7 +55,7 @@ pub record EndsInside {A : Type 0} (asks : Asks A) (a b : A) (old new : Link) (p
   pub inside : IsUnfinished rest
   pub some : rest ≢ []
   pub at_end : IsAtEnd new.left
-  pub place : place ≡ min (length taken) 18446744073709551615
+  pub stands : place ≡ min (length taken) 18446744073709551615
 
 -- the stream couldn't be read
 pub record EndsReading {A : Type 0} (asks : Asks A) (a b : A) (old new : Link) : Type 0 where
@@ -97,7 +97,7 @@ pub record EndsSpent {A : Type 0} (asks : Asks A) (spent : A → Type 0) (a b : 
   pub rest : List ℕ
   pub asked : Asked asks a b old new exchanges taken (request ∷ unasked) rest
   pub answered : Answered old new exchanges
-  pub spent : spent b
+  pub no_more : spent b
 
 -- what a session did that ended so
 abbrev pub Serves : {A : Type 0} → Asks A → (A → Type 0) → A → A → Link → Link → SessionEnd

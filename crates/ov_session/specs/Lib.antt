@@ -5,5 +5,7 @@ pub mod Ends
 pub mod Exchanges
 pub mod Links
 pub mod Memory
+pub mod Reading
 pub mod Replies
 pub mod Serving
+pub mod Steps

@@ -32,6 +32,6 @@ pub record IsLater (old new : Link) : Type 0 where
   pub writes : old.write_faults ≤ new.write_faults
 
 -- the stream is the same loan, if it is one
-pub record IsSameLoan {L : Type 0} (reads writes : L → ℕ) (old new : L) : Type 0 where
-  pub reads : reads new ≡ reads old
-  pub writes : writes new ≡ writes old
+pub record IsSameLoan {L : Type 0} (source sink : L → ℕ) (old new : L) : Type 0 where
+  pub reads : source new ≡ source old
+  pub writes : sink new ≡ sink old

@@ -58,9 +58,9 @@ pub record ServesEach {V S : Type 0} (one : OneSession V S) (v w : V) (old new :
     (wanted served : ℕ) (failed : Bool) : Type 0 where
   pub sessions : List (Session S)
   pub follows : Follows one v sessions w
-  pub served : served ≡ length sessions
+  pub number : served ≡ length sessions
   pub given : new.given ≡ old.given + served
   pub told : new.told ≡ and_all old.told sessions
   pub most : served ≤ wanted
   pub fewer : served < wanted → (new.closed ≡ true) ⊎ (failed ≡ true)
-  pub failed : SaysRose old.faults new.faults failed
+  pub says : SaysRose old.faults new.faults failed

@@ -1,7 +1,8 @@
 //! A door in memory, which fails at the calls that it is told to.
-ghost use Rattle.std.specs.Prelude.{◌≡◌, ◌↔◌, [], length, IsTrue, Contains, false, map, Some};
+ghost use Rattle.std.specs.Prelude.{◌≡◌, ◌↔◌, [], length, IsTrue, Contains, IfSome, false, Some};
+ghost use Rattle.ov_io.specs.Memory.{one_call};
+ghost use Rattle.ov_session.specs.Memory.{IsBackAt, seen_back};
 ghost use Rattle.ov_session.specs.Doors.{Accepts, Doorway, IsOut, Listens, taken_back};
-ghost use Rattle.ov_session.specs.Memory.{Keeping};
 
 use crate::{Door, SessionEnd};
 use ov_base::Octets;
@@ -35,6 +36,21 @@ pub struct MemDoor {
     faults: u64,
 }
 
+impl Model for MemDoor {
+    ghost use Rattle.ov_session.specs.Memory.{Keeping, all_seen};
+
+    ghost Value = { Keeping };
+
+    ghost view = { λ d. record {
+      waiting = d.waiting.items;
+      gave = all_seen d.gave.items;
+      fails = d.fails;
+      calls = d.calls;
+      closed = d.closed;
+      faults = d.faults;
+    } };
+}
+
 /// Whether the call of this number fails.
 fn is_failing(fails: &Octets, call: u64) -> bool
     ensures { IsTrue result ↔ Contains fails.now call }
@@ -45,7 +61,16 @@ fn is_failing(fails: &Octets, call: u64) -> bool
 impl MemDoor {
     /// A door that gives these streams in order. It fails exactly the calls whose numbers, from 0 and
     /// below 256, are in `fails`, and where memory for a growth is refused.
-    pub fn new(alloc: Global, streams: Vec<MemStream>, fails: Octets) -> MemDoor {
+    pub fn new(alloc: Global, streams: Vec<MemStream>, fails: Octets) -> MemDoor
+        ensures { result ≡ record {
+          waiting = streams.items;
+          gave = [];
+          fails = fails;
+          calls = 0;
+          closed = false;
+          faults = 0;
+        } }
+    {
         MemDoor {
             waiting: streams,
             gave: Vec::new(alloc),
@@ -57,7 +82,9 @@ impl MemDoor {
     }
 
     /// What was taken back of the stream of this number.
-    pub fn back(&self, number: usize) -> Option<&Returned> {
+    pub fn back(&self, number: usize) -> Option<&Returned>
+        ensures { IfSome result (λ returned. IsBackAt self.now.gave number (seen_back returned.now)) }
+    {
         match self.gave.as_slice().get(number) {
             Some(gave) => gave.back.as_ref(),
             None => None,
@@ -65,13 +92,18 @@ impl MemDoor {
     }
 
     // Whether this call fails.
-    fn fails_now(&mut self) -> bool {
+    fn fails_now(&mut self) -> bool
+        ensures same { self.new ≡ record self.old { calls = one_call self.old.calls } }
+        ensures exactly { IsTrue result ↔ Contains self.old.fails self.old.calls }
+    {
         let call = self.calls;
         self.calls = call.saturating_add(1);
         is_failing(&self.fails, call)
     }
 
-    fn fail(&mut self) -> Fault {
+    fn fail(&mut self) -> Fault
+        ensures { self.new ≡ record self.old { faults = one_call self.old.faults } }
+    {
         self.faults = self.faults.saturating_add(1);
         Fault
     }

@@ -1,7 +1,10 @@
 //! One session: frames that are answered in order.
-ghost use Rattle.std.specs.Prelude.{◌≡◌};
+ghost use Rattle.std.specs.Prelude.{◌≡◌, ◌≤◌, [], false, IfOk};
+ghost use Rattle.std.specs.List.{AllByRecursion};
+ghost use Rattle.ov_wire.specs.Frames.{IsFrame};
 ghost use Rattle.ov_session.specs.Ends.{Serves};
-ghost use Rattle.ov_session.specs.Links.{IsLater, IsSameLoan, link};
+ghost use Rattle.ov_session.specs.Links.{IsLater, IsSameLoan, Link, link};
+ghost use Rattle.ov_session.specs.Steps.{AnswersFrame, AnswersFrames, Going, GoesOn, IsEndOf, IsWriting, go_on};
 
 use crate::putting::put_frame;
 use crate::{AskFault, Asker, Gate, SessionEnd};
@@ -36,28 +39,32 @@ enum Stop {
 struct Reading {
     alloc: Global,
     decoder: Decoder,
-    room: Vec<u8>,
     reply: Vec<u8>,
     taken: u64,
     asked: u32,
 }
 
 impl Reading {
-    fn new(alloc: Global) -> Result<Reading, Memory> {
-        let mut room = Vec::new(alloc);
-        room.resize(PIECE, 0)?;
-        Ok(Reading {
-            alloc,
-            decoder: Decoder::new(alloc)?,
-            room,
-            reply: Vec::new(alloc),
-            taken: 0,
-            asked: 0,
-        })
+    fn new(alloc: Global) -> Result<Reading, Memory>
+        ensures { IfOk result (λ r.
+            (r.decoder ≡ record { start = 0; rest = []; bad = false }) × (r.taken ≡ 0)) }
+    {
+        match Decoder::new(alloc) {
+            Ok(decoder) => Ok(Reading {
+                alloc,
+                decoder,
+                reply: Vec::new(alloc),
+                taken: 0,
+                asked: 0,
+            }),
+            Err(memory) => Err(memory),
+        }
     }
 
     /// How the session ends where the input does.
-    fn at_end(&self) -> SessionEnd {
+    fn at_end(&self) -> SessionEnd
+        ensures { IsEndOf self.now.decoder.rest self.now.taken result }
+    {
         if self.decoder.pending() == 0 {
             SessionEnd::End
         } else {
@@ -73,7 +80,19 @@ fn answer_one<R: Wait, L: Stream, A: Asker>(
     asker: &mut A,
     frame: &[u8],
     reply: &mut Vec<u8>,
-) -> Result<(), Stop> {
+) -> Result<(), Stop>
+    requires { IsFrame frame.now }
+    ensures answers { AnswersFrame A.asks A.spent asker.old asker.new
+        (link L.Source.left L.Sink.written L.Source.faults L.Sink.faults stream.old)
+        (link L.Source.left L.Sink.written L.Source.faults L.Sink.faults stream.new)
+        frame.now result }
+    ensures half { IsWriting
+        (link L.Source.left L.Sink.written L.Source.faults L.Sink.faults stream.old)
+        (link L.Source.left L.Sink.written L.Source.faults L.Sink.faults stream.new) }
+    ensures later { L.Sink.faults stream.old ≤ L.Sink.faults stream.new }
+    ensures same { IsSameLoan L.Source.borrow L.Sink.borrow stream.old stream.new }
+    ensures asker { A.borrow asker.new ≡ A.borrow asker.old }
+{
     let put = match asker.ask(rt, frame, reply) {
         Ok(()) => put_frame(stream, reply),
         Err(AskFault::Memory) => put_frame(stream, &NO_MEMORY),
@@ -93,17 +112,34 @@ fn answer_each<R: Wait, L: Stream, A: Asker, G: Gate>(
     frames: &[Octets],
     reply: &mut Vec<u8>,
     asked: &mut u32,
-) -> Result<(), Stop> {
+) -> Result<(), Stop>
+    requires { AllByRecursion IsFrame frames.now }
+    ensures answers { AnswersFrames A.asks A.spent asker.old asker.new
+        (link L.Source.left L.Sink.written L.Source.faults L.Sink.faults stream.old)
+        (link L.Source.left L.Sink.written L.Source.faults L.Sink.faults stream.new)
+        frames.now result }
+    ensures half { IsWriting
+        (link L.Source.left L.Sink.written L.Source.faults L.Sink.faults stream.old)
+        (link L.Source.left L.Sink.written L.Source.faults L.Sink.faults stream.new) }
+    ensures later { L.Sink.faults stream.old ≤ L.Sink.faults stream.new }
+    ensures same { IsSameLoan L.Source.borrow L.Sink.borrow stream.old stream.new }
+    ensures asker { A.borrow asker.new ≡ A.borrow asker.old }
+{
     for frame in frames {
         desk.gate.pause(desk.session, *asked);
         *asked = asked.saturating_add(1);
-        answer_one(desk.rt, stream, asker, frame.as_slice(), reply)?;
+        match answer_one(desk.rt, stream, asker, frame.as_slice(), reply) {
+            Ok(()) => {}
+            Err(stop) => return Err(stop),
+        }
     }
     Ok(())
 }
 
 /// How a session ends by what a decoder answered.
-fn go_on(fed: Result<(), FeedFault>) -> Result<(), SessionEnd> {
+fn go_on(fed: Result<(), FeedFault>) -> Result<(), SessionEnd>
+    ensures { result ≡ go_on fed }
+{
     match fed {
         Ok(()) => Ok(()),
         Err(FeedFault::BadFrame { at }) => Err(SessionEnd::Bad { at }),
@@ -117,8 +153,21 @@ fn read_on<R: Wait, L: Stream, A: Asker, G: Gate>(
     stream: &mut L,
     asker: &mut A,
     reading: &mut Reading,
-) -> Result<(), SessionEnd> {
-    let count = match stream.take(&mut reading.room) {
+) -> Result<(), SessionEnd>
+    ensures goes { (a : A) (old : Link) → Going A.asks a asker.old old
+        (link L.Source.left L.Sink.written L.Source.faults L.Sink.faults stream.old)
+        reading.old.decoder reading.old.taken
+        → GoesOn A.asks A.spent a asker.new old
+        (link L.Source.left L.Sink.written L.Source.faults L.Sink.faults stream.new)
+        reading.new.decoder reading.new.taken result }
+    ensures later { IsLater
+        (link L.Source.left L.Sink.written L.Source.faults L.Sink.faults stream.old)
+        (link L.Source.left L.Sink.written L.Source.faults L.Sink.faults stream.new) }
+    ensures same { IsSameLoan L.Source.borrow L.Sink.borrow stream.old stream.new }
+    ensures asker { A.borrow asker.new ≡ A.borrow asker.old }
+{
+    let mut room = [0; PIECE];
+    let count = match stream.take(&mut room) {
         Ok(count) => count,
         Err(Fault) => return Err(SessionEnd::LinkFault),
     };
@@ -127,7 +176,7 @@ fn read_on<R: Wait, L: Stream, A: Asker, G: Gate>(
     }
     reading.taken = reading.taken.saturating_add(count as u64);
     let mut frames = Vec::new(reading.alloc);
-    let (piece, _) = reading.room.as_slice().split_at(count);
+    let (piece, _) = room.split_at(count);
     let fed = reading.decoder.feed(piece, &mut frames);
     match answer_each(
         desk,
@@ -166,7 +215,7 @@ pub fn serve_one<R: Wait, L: Stream, A: Asker, G: Gate>(
         Err(Memory) => return SessionEnd::Memory,
     };
     let desk = Desk { rt, gate, session };
-    for _ in rt.forever() {
+    'pieces: for _ in rt.forever() {
         match read_on(&desk, stream, asker, &mut reading) {
             Ok(()) => {}
             Err(end) => return end,

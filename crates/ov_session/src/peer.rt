@@ -1,8 +1,9 @@
 //! A peer behind a stream.
-ghost use Rattle.std.specs.Prelude.{◌≡◌, false, IfOk, OnErr, OnOk};
-ghost use Rattle.ov_wire.specs.Frames.{IsFrame};
+ghost use Rattle.std.specs.Prelude.{◌≡◌, length, false, IfOk, OnErr, OnOk};
+ghost use Rattle.ov_wire.specs.Frames.{IsFrame, IsFrameLength};
 ghost use Rattle.ov_peer.specs.Causes.{HasLinkCause};
-ghost use Rattle.ov_session.specs.Links.{link};
+ghost use Rattle.ov_session.specs.Links.{IsSameLoan, link};
+ghost use Rattle.ov_session.specs.Reading.{ExchangesOrFails, FillsUp, TakesBody, TakesFrame, TakesLength};
 ghost use Rattle.ov_session.specs.Replies.{Breaks, CountsFault, Exchanges};
 
 use crate::putting::put_frame;
@@ -50,44 +51,95 @@ impl<L: Stream + Drop> NetPeer<L> {
 }
 
 /// Takes bytes until all of `buf` is filled or the input ends, and answers how many.
-fn fill<L: Stream>(stream: &mut L, buf: &mut [u8]) -> Result<usize, Fault> {
-    let len = buf.len();
-    let mut filled = 0;
-    while filled < len {
-        let count = stream.take(&mut buf[filled..])?;
+fn fill<L: Stream>(stream: &mut L, buf: &mut [u8]) -> Result<usize, Fault>
+    ensures fills { FillsUp
+        (link L.Source.left L.Sink.written L.Source.faults L.Sink.faults stream.old)
+        (link L.Source.left L.Sink.written L.Source.faults L.Sink.faults stream.new)
+        buf.new result }
+    ensures len { length buf.new ≡ length buf.old }
+    ensures same { IsSameLoan L.Source.borrow L.Sink.borrow stream.old stream.new }
+{
+    let mut at = 0;
+    while at < buf.len() {
+        let count = match stream.take(&mut buf[at..]) {
+            Ok(count) => count,
+            Err(Fault) => return Err(Fault),
+        };
         if count == 0 {
-            return Ok(filled);
+            return Ok(at);
         }
-        filled += count;
+        at += count;
     }
-    Ok(filled)
+    Ok(at)
 }
 
-/// Reads a frame's length field; None where the input ended, or it is outside its limits.
-fn take_length<L: Stream>(stream: &mut L) -> Result<usize, Fault> {
+/// Reads a frame's length field. It is a fault where the input ends before it is whole, and where it
+/// is outside its limits.
+fn take_length<L: Stream>(stream: &mut L) -> Result<usize, Fault>
+    ensures takes { TakesLength
+        (link L.Source.left L.Sink.written L.Source.faults L.Sink.faults stream.old)
+        (link L.Source.left L.Sink.written L.Source.faults L.Sink.faults stream.new)
+        result }
+    ensures same { IsSameLoan L.Source.borrow L.Sink.borrow stream.old stream.new }
+{
     let mut head = [0; 4];
-    let count = fill(stream, &mut head)?;
-    let wanted = u32::from_be_bytes(head);
-    if count < 4 || wanted == 0 || wanted > MAX_FRAME_BYTES {
+    let count = match fill(stream, &mut head) {
+        Ok(count) => count,
+        Err(Fault) => return Err(Fault),
+    };
+    if count < 4 {
         return Err(Fault);
     }
-    Ok(wanted as usize)
+    let wanted = u32::from_be_bytes(head) as usize;
+    if wanted == 0 {
+        return Err(Fault);
+    }
+    if wanted > MAX_FRAME_BYTES as usize {
+        return Err(Fault);
+    }
+    Ok(wanted)
 }
 
-/// Reads the next frame, in place of what was in `reply`.
-fn take_frame<L: Stream>(stream: &mut L, reply: &mut Vec<u8>) -> Result<(), PeerFault> {
-    let wanted = match take_length(stream) {
-        Ok(wanted) => wanted,
-        Err(Fault) => return Err(PeerFault::Link),
-    };
+/// Reads the frame behind a length field, in place of what was in `reply`.
+fn take_body<L: Stream>(
+    stream: &mut L,
+    wanted: usize,
+    reply: &mut Vec<u8>,
+) -> Result<(), PeerFault>
+    requires { IsFrameLength wanted }
+    ensures takes { TakesBody
+        (link L.Source.left L.Sink.written L.Source.faults L.Sink.faults stream.old)
+        (link L.Source.left L.Sink.written L.Source.faults L.Sink.faults stream.new)
+        wanted reply.new.items result }
+    ensures same { IsSameLoan L.Source.borrow L.Sink.borrow stream.old stream.new }
+{
     reply.clear();
     match reply.resize(wanted, 0) {
         Ok(()) => {}
         Err(_) => return Err(PeerFault::Memory),
     }
     match fill(stream, reply.as_mut_slice()) {
-        Ok(count) if count == wanted => Ok(()),
-        _ => Err(PeerFault::Link),
+        Ok(count) => {
+            if count < wanted {
+                return Err(PeerFault::Link);
+            }
+            Ok(())
+        }
+        Err(Fault) => Err(PeerFault::Link),
+    }
+}
+
+/// Reads the next frame, in place of what was in `reply`.
+fn take_frame<L: Stream>(stream: &mut L, reply: &mut Vec<u8>) -> Result<(), PeerFault>
+    ensures takes { TakesFrame
+        (link L.Source.left L.Sink.written L.Source.faults L.Sink.faults stream.old)
+        (link L.Source.left L.Sink.written L.Source.faults L.Sink.faults stream.new)
+        reply.new.items result }
+    ensures same { IsSameLoan L.Source.borrow L.Sink.borrow stream.old stream.new }
+{
+    match take_length(stream) {
+        Ok(wanted) => take_body(stream, wanted, reply),
+        Err(Fault) => Err(PeerFault::Link),
     }
 }
 
@@ -96,7 +148,14 @@ fn exchange<L: Stream>(
     stream: &mut L,
     request: &[u8],
     reply: &mut Vec<u8>,
-) -> Result<(), PeerFault> {
+) -> Result<(), PeerFault>
+    requires { IsFrame request.now }
+    ensures exchanges { ExchangesOrFails
+        (link L.Source.left L.Sink.written L.Source.faults L.Sink.faults stream.old)
+        (link L.Source.left L.Sink.written L.Source.faults L.Sink.faults stream.new)
+        request.now reply.new.items result }
+    ensures same { IsSameLoan L.Source.borrow L.Sink.borrow stream.old stream.new }
+{
     match put_frame(stream, request) {
         Ok(()) => take_frame(stream, reply),
         Err(Fault) => Err(PeerFault::Link),

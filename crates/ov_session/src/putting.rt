@@ -1,9 +1,7 @@
 //! Frames that are put to a stream.
-ghost use Rattle.std.specs.Prelude.{◌≡◌};
-ghost use Rattle.ov_base.specs.Causes.{HasCause};
-ghost use Rattle.ov_io.specs.Putting.{Puts};
-ghost use Rattle.ov_io.specs.Streams.{LeavesHalf};
-ghost use Rattle.ov_wire.specs.Frames.{IsFrame, framed};
+ghost use Rattle.ov_wire.specs.Frames.{IsFrame};
+ghost use Rattle.ov_session.specs.Links.{IsSameLoan, link};
+ghost use Rattle.ov_session.specs.Steps.{PutsFrame};
 
 use ov_io::{Fault, Stream};
 
@@ -11,12 +9,11 @@ use ov_io::{Fault, Stream};
 /// is sent.
 pub fn put_frame<L: Stream>(stream: &mut L, frame: &[u8]) -> Result<(), Fault>
     requires { IsFrame frame.now }
-    ensures bytes { Puts (L.Sink.written stream.old) (L.Sink.written stream.new) result
-        (framed frame.now) }
-    ensures leaves { LeavesHalf L.Source.left L.Source.faults L.Source.borrow
-        stream.old stream.new }
-    ensures same { L.Sink.borrow stream.new ≡ L.Sink.borrow stream.old }
-    ensures cause { HasCause (L.Sink.faults stream.old) (L.Sink.faults stream.new) result }
+    ensures puts { PutsFrame
+        (link L.Source.left L.Sink.written L.Source.faults L.Sink.faults stream.old)
+        (link L.Source.left L.Sink.written L.Source.faults L.Sink.faults stream.new)
+        frame.now result }
+    ensures same { IsSameLoan L.Source.borrow L.Sink.borrow stream.old stream.new }
 {
     match stream.put(&(frame.len() as u32).to_be_bytes()) {
         Ok(()) => stream.put(frame),

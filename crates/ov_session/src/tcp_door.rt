@@ -1,5 +1,6 @@
 //! A door at a TCP port. What the system's sockets give and take is trusted.
-ghost use Rattle.std.specs.Prelude.{◌≡◌, None, false};
+ghost use Rattle.std.specs.Prelude.{◌≡◌, ◌++◌, None, false, List, ℕ, OnOk};
+ghost use Rattle.ov_base.specs.Causes.{Rose};
 
 use crate::{Door, SessionEnd};
 use ov_base::Memory;
@@ -49,7 +50,12 @@ impl<R: Net + AllocGlobal + Drop> TcpDoor<R> {
     }
 
     // Listens, and appends the address at which it does.
-    fn open(&mut self, address: &mut Vec<u8>) -> io::Result<()> {
+    fn open(&mut self, address: &mut Vec<u8>) -> io::Result<()>
+        ensures given { self.new.given ≡ self.old.given }
+        ensures faults { self.new.faults ≡ self.old.faults }
+        ensures appended { OnOk result ((text : List ℕ)
+            × (address.new.items ≡ address.old.items ++ text)) }
+    {
         let listener = TcpListener::bind(&self.rt, self.address.as_str())?;
         let bound = listener.local_addr()?;
         let text = format!(in self.rt.alloc(); "{bound}")?;
@@ -79,7 +85,10 @@ impl<R: Net + AllocGlobal + Drop> TcpDoor<R> {
         Err(io::Error::from(ErrorKind::ConnectionAborted))
     }
 
-    fn fail(&mut self, kind: ErrorKind) -> Fault {
+    fn fail(&mut self, kind: ErrorKind) -> Fault
+        ensures given { self.new.given ≡ self.old.given }
+        ensures rose { Rose self.old.faults self.new.faults }
+    {
         self.reason = Some(kind);
         self.faults = self.faults.saturating_add(1);
         Fault

@@ -1,5 +1,6 @@
 //! A client's stream over TCP. What the system's sockets give and take is trusted.
 ghost use Rattle.std.specs.Prelude.{◌≡◌, None, ⊤};
+ghost use Rattle.std.specs.Io.{ReadsAtMost};
 
 use ov_base::Memory;
 use ov_io::{Fault, Sink, Source, Stream};
@@ -39,7 +40,10 @@ impl<R: Net + AllocGlobal + Drop> TcpLink<R> {
     }
 
     // Connects where it isn't connected. Each small frame is sent at once.
-    fn connect(&mut self) -> io::Result<()> {
+    fn connect(&mut self) -> io::Result<()>
+        ensures reads { self.new.read_faults ≡ self.old.read_faults }
+        ensures writes { self.new.write_faults ≡ self.old.write_faults }
+    {
         if self.stream.is_none() {
             let stream = TcpStream::connect(&self.rt, self.address.as_str())?;
             stream.set_nodelay(true)?;
@@ -48,7 +52,11 @@ impl<R: Net + AllocGlobal + Drop> TcpLink<R> {
         Ok(())
     }
 
-    fn read(&mut self, buf: &mut [u8]) -> io::Result<usize> {
+    fn read(&mut self, buf: &mut [u8]) -> io::Result<usize>
+        ensures bound { ReadsAtMost result buf.new }
+        ensures reads { self.new.read_faults ≡ self.old.read_faults }
+        ensures writes { self.new.write_faults ≡ self.old.write_faults }
+    {
         self.connect()?;
         match &mut self.stream {
             Some(stream) => stream.read(buf),
@@ -56,7 +64,10 @@ impl<R: Net + AllocGlobal + Drop> TcpLink<R> {
         }
     }
 
-    fn write(&mut self, bytes: &[u8]) -> io::Result<()> {
+    fn write(&mut self, bytes: &[u8]) -> io::Result<()>
+        ensures reads { self.new.read_faults ≡ self.old.read_faults }
+        ensures writes { self.new.write_faults ≡ self.old.write_faults }
+    {
         self.connect()?;
         match &mut self.stream {
             Some(stream) => stream.write_all(bytes),

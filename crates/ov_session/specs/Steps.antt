@@ -1,0 +1,125 @@
+-- Inner: no public contract needs this. What the parts of a session do.
+use Rattle.std.specs.Prelude.{◌≡◌, ◌≢◌, ℕ, List, [], ◌∷◌, ◌++◌, length, min, take, false, Option, Result, Ok, Err}
+use Rattle.std.specs.Io.KnownBytes.{Appends}
+use Rattle.ov_base.specs.Causes.{HasCause, Rose}
+use Rattle.ov_io.specs.Putting.{Puts}
+use Rattle.ov_wire.specs.Frames.{Decoding, IsCut, IsFrame, IsUnfinished, framed, later}
+use Rattle.ov_wire.specs.declared.fault.FeedFault.{FeedFault}
+use Rattle.ov_wire.specs.declared.fault.FeedFault.TheVariants as feeds
+use Rattle.ov_session.specs.declared.end.SessionEnd.{SessionEnd}
+use Rattle.ov_session.specs.declared.end.SessionEnd.TheVariants as ends
+use Rattle.ov_session.specs.declared.one.Stop.{Stop}
+use Rattle.ov_session.specs.declared.one.Stop.TheVariants as stops
+use Rattle.ov_session.specs.Ends.{Answered, Asked, Serves}
+use Rattle.ov_session.specs.Exchanges.{Asks, Exchange, Leads, answer_for, answers, requests}
+use Rattle.ov_session.specs.Links.{Link}
+
+-- only the writing half of the stream was touched
+pub record IsWriting (old new : Link) : Type 0 where
+  pub left : new.left ≡ old.left
+  pub reads : new.read_faults ≡ old.read_faults
+
+-- a frame was put behind its length field, or a front of that
+pub record PutsFrame {E : Type 0} (old new : Link) (frame : List ℕ)
+    (result : Result (Unit {0}) E) : Type 0 where
+  pub half : IsWriting old new
+  pub written : Puts old.written new.written result (framed frame)
+  pub cause : HasCause old.write_faults new.write_faults result
+
+-- a frame was asked, and its answer written
+pub record AnswersIt {A : Type 0} (asks : Asks A) (a b : A) (old new : Link) (frame : List ℕ)
+    : Type 0 where
+  pub reply : Option (List ℕ)
+  pub asked : asks a frame reply b
+  pub fits : IsFrame (answer_for reply)
+  pub written : Appends old.written new.written (framed (answer_for reply))
+
+-- a frame was asked, and its answer wasn't written whole
+pub record BreaksOff {A : Type 0} (asks : Asks A) (a b : A) (old new : Link) (frame : List ℕ)
+    : Type 0 where
+  pub reply : Option (List ℕ)
+  pub asked : asks a frame reply b
+  pub front : ℕ
+  pub written : Appends old.written new.written (take front (framed (answer_for reply)))
+  pub rose : Rose old.write_faults new.write_faults
+
+-- what becomes of one frame
+abbrev pub AnswersFrame : {A : Type 0} → Asks A → (A → Type 0) → A → A → Link → Link → List ℕ
+    → Result (Unit {0}) Stop → Type 0
+AnswersFrame asks spent a b old new frame (Ok done) = AnswersIt asks a b old new frame
+AnswersFrame asks spent a b old new frame (Err stops.Link) = BreaksOff asks a b old new frame
+AnswersFrame asks spent a b old new frame (Err stops.Spent) = (b ≡ a) × spent a × (new ≡ old)
+
+-- these frames were asked, and their answers written
+pub record AnswersThem {A : Type 0} (asks : Asks A) (a b : A) (old new : Link)
+    (frames : List (List ℕ)) : Type 0 where
+  pub exchanges : List Exchange
+  pub same : frames ≡ requests exchanges
+  pub asked : Leads asks a exchanges b
+  pub answered : Answered old new exchanges
+
+-- the first of these frames were asked, and the answer to the last one asked wasn't written whole
+pub record StopsWriting {A : Type 0} (asks : Asks A) (a b : A) (old new : Link)
+    (frames : List (List ℕ)) : Type 0 where
+  pub before : List Exchange
+  pub last : Exchange
+  pub unasked : List (List ℕ)
+  pub same : frames ≡ requests (before ++ last ∷ []) ++ unasked
+  pub asked : Leads asks a (before ++ last ∷ []) b
+  pub bytes : List ℕ
+  pub cut : IsCut bytes (answers before) []
+  pub front : ℕ
+  pub written : Appends old.written new.written
+      (bytes ++ take front (framed (answer_for last.reply)))
+  pub rose : Rose old.write_faults new.write_faults
+
+-- the first of these frames were asked and answered, and then the asker was spent
+pub record StopsSpent {A : Type 0} (asks : Asks A) (spent : A → Type 0) (a b : A) (old new : Link)
+    (frames : List (List ℕ)) : Type 0 where
+  pub exchanges : List Exchange
+  pub request : List ℕ
+  pub unasked : List (List ℕ)
+  pub same : frames ≡ requests exchanges ++ request ∷ unasked
+  pub asked : Leads asks a exchanges b
+  pub answered : Answered old new exchanges
+  pub no_more : spent b
+
+-- what becomes of frames
+abbrev pub AnswersFrames : {A : Type 0} → Asks A → (A → Type 0) → A → A → Link → Link
+    → List (List ℕ) → Result (Unit {0}) Stop → Type 0
+AnswersFrames asks spent a b old new frames (Ok done) = AnswersThem asks a b old new frames
+AnswersFrames asks spent a b old new frames (Err stops.Link) = StopsWriting asks a b old new frames
+AnswersFrames asks spent a b old new frames (Err stops.Spent) =
+    StopsSpent asks spent a b old new frames
+
+-- so far a session has answered all frames that it read, and stands so in the stream
+pub record Going {A : Type 0} (asks : Asks A) (a b : A) (old new : Link) (decoding : Decoding)
+    (count : ℕ) : Type 0 where
+  pub exchanges : List Exchange
+  pub taken : List ℕ
+  pub asked : Asked asks a b old new exchanges taken [] decoding.rest
+  pub answered : Answered old new exchanges
+  pub good : decoding.bad ≡ false
+  pub start : decoding.start ≡ later 0 (requests exchanges)
+  pub unfinished : IsUnfinished decoding.rest
+  pub counted : count ≡ min (length taken) 18446744073709551615
+
+-- it goes on, or it ended
+abbrev pub GoesOn : {A : Type 0} → Asks A → (A → Type 0) → A → A → Link → Link → Decoding → ℕ
+    → Result (Unit {0}) SessionEnd → Type 0
+GoesOn asks spent a b old new decoding count (Ok done) = Going asks a b old new decoding count
+GoesOn asks spent a b old new decoding count (Err ending) = Serves asks spent a b old new ending
+
+-- how a session ends where the input does, by what came of a frame and the number of bytes
+abbrev pub IsEndOf : List ℕ → ℕ → SessionEnd → Type 0
+IsEndOf rest count ends.End = rest ≡ []
+IsEndOf rest count (ends.Bad place) = (rest ≢ []) × (place ≡ count)
+IsEndOf rest count ends.LinkFault = ⊥
+IsEndOf rest count ends.Spent = ⊥
+IsEndOf rest count ends.Memory = ⊥
+
+-- how a session goes on by what a decoder answered
+abbrev pub go_on : Result (Unit {0}) FeedFault → Result (Unit {0}) SessionEnd
+go_on (Ok done) = Ok tt
+go_on (Err (feeds.BadFrame place)) = Err (ends.Bad place)
+go_on (Err feeds.Memory) = Err ends.Memory
