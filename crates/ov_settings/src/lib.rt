@@ -9,6 +9,7 @@
 #![tactic(auto)]
 
 mod fault;
+mod filling;
 mod keys;
 mod reading;
 mod settings;
