@@ -3,11 +3,13 @@ pub mod Coats
 pub mod Fetching
 pub mod Fields
 pub mod Gathering
+pub mod KeyLines
 pub mod Leading
 pub mod Machine
 pub mod Opening
 pub mod Quiet
 pub mod ReadingBack
 pub mod Settled
+pub mod Spaces
 pub mod Staying
 pub mod Talking

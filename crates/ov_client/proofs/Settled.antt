@@ -1,8 +1,8 @@
 -- A read of a history that nobody changes meanwhile is answered.
-use Rattle.std.proofs.Common.{◌≡◌, ◌∙◌, ℕ, true}
+use Rattle.std.proofs.Common.{◌≡◌, ◌∙◌, ℕ}
 use Rattle.std.proofs.Common.{List, [], ◌∷◌, length, Option, Some, None}
 use Rattle.std.proofs.Common.{Result, Ok, Err, refl, sym, ap, subst, inl, inr}
-use Rattle.std.specs.Prelude.{◌⊎◌, ◌≢◌, slice_get, slice_index_or}
+use Rattle.std.specs.Prelude.{◌⊎◌, slice_get, slice_index_or}
 use Rattle.ov_base.specs.declared.limits.TheConstants.{MAX_CHUNK_BYTES}
 use Rattle.ov_record.specs.Updates.{SealedUpdate}
 use Rattle.ov_history.specs.Asking.{file_named, user_named}
@@ -26,8 +26,9 @@ use Rattle.ov_protocol.specs.Replies.{AnswersRead, Replies}
 use Rattle.ov_protocol.specs.Serving.{Service, later, served}
 use Rattle.ov_protocol.proofs.Reading.{request_back}
 use Rattle.ov_peer.specs.Asks.{Along, Ask, IsReplyAt}
-use Rattle.ov_client.specs.Laws.{AllAre, HasRoots, HoldsRootKeys, IsAnsweredOrCut, NoChainFails}
-use Rattle.ov_client.specs.Laws.{ReadsAreAnswered, is_chain}
+use Rattle.ov_peer.proofs.Needing.{needs_disk}
+use Rattle.ov_client.specs.Laws.{AllAre, HasRoots, HoldsRootKeys, IsAnsweredOrCut}
+use Rattle.ov_client.specs.Laws.{ReadsAreAnswered}
 use Rattle.ov_client.specs.Readers.{Reader}
 use Rattle.ov_client.specs.Talks.{AsksChain, AsksChunk, Closes, Ends, Goes, IsAfter, Moves, Stage}
 use Rattle.ov_client.specs.Talks.{after, asked_at}
@@ -138,10 +139,9 @@ module _ (k : Masters) (r : Reader) (file : List ℕ) (p : PlainHistory)
     -- the stage after an ask
     asked_stands : (stage next : Stage) (a : Ask) → Stands stage → Moves r file stage a next
         → IsReplyAt v a.request a.reply made
-        → (is_chain a.request ≡ true → a.reply ≢ answer_bytes answers.DeviceFault)
         → Stands next
     unfolding StandsQuiet
-    asked_stands stage next a stands moves at_v honest = by_read moves.reads where
+    asked_stands stage next a stands moves at_v = by_read moves.reads where
       spelled : a.request ≡ request_bytes moves.asks.request
       spelled = moves.asks.spelled
 
@@ -160,12 +160,10 @@ module _ (k : Masters) (r : Reader) (file : List ℕ) (p : PlainHistory)
           let at_chain : IsReplyAt v (request_bytes chain) a.reply made =
           subst (λ (x : Request). IsReplyAt v (request_bytes x) a.reply made) (sym request) at_it in
           let form : HasRequestForm chain = subst HasRequestForm (sym request) moves.asks.form in
-          let kind : is_chain a.request ≡ true = ap is_chain
-          (spelled ∙ ap request_bytes (sym request)) in
           subst Stands goes
           (elim at_chain [
             | inl replies ↦ chain_asked tries least a.reply none form replies
-            | inr fault ↦ absurd (honest kind fault.spelled)
+            | inr fault ↦ absurd (needs_disk (served v) chain form fault.needs)
           ])
       by_stage (AsksChunk tries c stored) is moved =
           let chunk : Request = requests.Chunk c.file c.generation (length stored)
@@ -197,17 +195,15 @@ module _ (k : Masters) (r : Reader) (file : List ℕ) (p : PlainHistory)
   all_stand : (asks : List Ask) (stage last : Stage) (v end : Service)
       (histories : List SealedHistory)
       → v.surface ≡ k.surface → Stands stage → Goes r file stage asks last
-      → Along v asks histories end → AllAre (sealed k p) histories → NoChainFails asks
+      → Along v asks histories end → AllAre (sealed k p) histories
       → Stands last
-  all_stand [] stage last v end histories under_k stands goes along same honest = subst Stands goes
-      stands
-  all_stand (a ∷ asks) stage last v end [] under_k stands goes along same honest = absurd along
+  all_stand [] stage last v end histories under_k stands goes along same = subst Stands goes stands
+  all_stand (a ∷ asks) stage last v end [] under_k stands goes along same = absurd along
   all_stand (a ∷ asks) stage last v end (g ∷ histories) under_k stands (next, moves, goes)
-      (others, made, at_g, at_u, along) (is, same) (first, honest) =
+      (others, made, at_g, at_u, along) (is, same) =
       all_stand asks next last (later (later v others) made) end histories under_k
-      (asked_stands (later v others) under_k (sym at_g ∙ is) made stage next a stands moves at_u
-      first)
-      goes along same honest
+      (asked_stands (later v others) under_k (sym at_g ∙ is) made stage next a stands moves at_u)
+      goes along same
 
   closed_so : (last : Stage) (unanswered : Option (List ℕ)) (result : Result (List ℕ) ClientFault)
       → Stands last → Closes r file last unanswered result → IsAnsweredOrCut result
@@ -224,8 +220,8 @@ module _ (k : Masters) (r : Reader) (file : List ℕ) (p : PlainHistory)
 
 pub reads_are_answered : ReadsAreAnswered
 reads_are_answered k r file asks unanswered result v last histories p holds roots under_k
-    (end, goes, closes) along legal same honest =
+    (end, goes, closes) along legal same =
     closed_so k r file p legal holds roots end unanswered result
     (all_stand k r file p legal holds roots asks (AsksChain [] 0) end v last histories under_k
-    (begins k r file p legal holds roots) goes along same honest)
+    (begins k r file p legal holds roots) goes along same)
     closes

@@ -1,5 +1,5 @@
 -- What a read gives over a peer that tells its history.
-use Rattle.std.specs.Prelude.{◌≡◌, ◌≢◌, ℕ, ◌==◌, Bool, true, false, List, [], ◌∷◌}
+use Rattle.std.specs.Prelude.{◌≡◌, ℕ, ◌==◌, Bool, true, false, List, [], ◌∷◌}
 use Rattle.std.specs.Prelude.{Option, Some, None, Result, Ok, Err}
 use Rattle.ov_tokens.specs.declared.label.Kind.TheVariants.{Derive, Surface}
 use Rattle.ov_tokens.specs.Keys.{node_key}
@@ -11,8 +11,6 @@ use Rattle.ov_history.specs.Plain.{PlainHistory, bytes_of, history_of}
 use Rattle.ov_history.specs.Refusals.{IsLegal, read_refusal}
 use Rattle.ov_history.specs.Sealed.{SealedHistory}
 use Rattle.ov_history.specs.Sealing.{sealed}
-use Rattle.ov_wire.specs.declared.answer.Answer.TheVariants.{DeviceFault}
-use Rattle.ov_wire.specs.AnswerBytes.{answer_bytes}
 use Rattle.ov_protocol.specs.Serving.{Service}
 use Rattle.ov_peer.specs.Asks.{Along, AreRight, Ask}
 use Rattle.ov_client.specs.Readers.{Reader}
@@ -98,12 +96,6 @@ abbrev pub AllAre : SealedHistory → List SealedHistory → Type 0
 AllAre g [] = Unit {0}
 AllAre g (other ∷ histories) = (other ≡ g) × AllAre g histories
 
--- to no Chain of these asks it was answered that the server's disk failed
-abbrev pub NoChainFails : List Ask → Type 0
-NoChainFails [] = Unit {0}
-NoChainFails (a ∷ asks) =
-    (is_chain a.request ≡ true → a.reply ≢ answer_bytes DeviceFault) × NoChainFails asks
-
 -- the read gave bytes or a refusal, or was cut off: by the link, the server's disk, or want of
 -- memory
 abbrev pub IsAnsweredOrCut : Result (List ℕ) ClientFault → Type 0
@@ -122,5 +114,4 @@ ReadsAreAnswered =
     → HoldsRootKeys k r → HasRoots p r → v.surface ≡ k.surface
     → Talks r file asks unanswered result
     → Along v asks histories last → IsLegal (history_of p) → AllAre (sealed k p) histories
-    → NoChainFails asks
     → IsAnsweredOrCut result

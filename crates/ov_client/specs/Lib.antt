@@ -4,4 +4,5 @@ pub mod Talks
 pub mod Reads
 pub mod Tries
 pub mod Causes
+pub mod KeyLines
 pub mod Laws

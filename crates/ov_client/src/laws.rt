@@ -1,5 +1,9 @@
-//! The laws of reads over a peer that tells its history. The functions do nothing.
+//! The laws of reads over a peer that tells its history, and of lines of keys. The functions do
+//! nothing.
+ghost use Rattle.std.specs.Prelude.{◌≡◌, ℕ, List};
+ghost use Rattle.ov_client.specs.KeyLines.{IsLineOf};
 ghost use Rattle.ov_client.specs.Laws.{ReadsAreAnswered, ReadsAreTheMachines};
+ghost use Rattle.ov_client.specs.Readers.{Reader};
 
 /// Over a peer whose histories are right under the masters of the reader's root keys, a read that
 /// gives bytes or a refusal answers as the access-matrix machine does at the history of its last
@@ -13,4 +17,9 @@ pub fn reads_are_the_machines()
 /// memory: no reply is bad, and no read is unsettled.
 pub fn reads_are_answered()
     ensures { ReadsAreAnswered }
+{}
+
+/// A line is that of one reader's keys.
+pub fn lines_are_read_once()
+    ensures { (text : List ℕ) (r s : Reader) → IsLineOf text r → IsLineOf text s → r ≡ s }
 {}

@@ -22,6 +22,10 @@
 //! tags, the nine generations. A fault of the link comes only where the peer's count of faults
 //! rose.
 //!
+//! An owner hands a user the keys as a line of text: [`Client::line`] writes it, and
+//! [`Client::from_line`] reads it exactly where it is one. A line has one reader
+//! ([`lines_are_read_once`]), and that of a written one is whose line was written.
+//!
 //! Which peer it is doesn't matter. Of one that tells its history, laws say what the result is
 //! worth: bytes and refusals are the machine's ([`reads_are_the_machines`]), and where nobody
 //! changes the history meanwhile a read ends so unless it is cut off ([`reads_are_answered`]).
@@ -34,6 +38,7 @@
 //! | `Reads` | the asks of a read, from peer to peer |
 //! | `Tries` | of the code alone: what came of a part of a try |
 //! | `Causes` | where a fault of the link comes |
+//! | `KeyLines` | the line of a reader's keys, as it is written and as it may be read |
 //! | `Laws` | the laws |
 //!
 //! Nothing is claimed of secrecy, nor of a peer that tells nothing beyond what its replies say: who
@@ -43,6 +48,7 @@
 mod asking;
 mod client;
 mod fault;
+mod key_line;
 mod keys;
 mod laws;
 mod reading;
@@ -52,4 +58,4 @@ mod tests;
 
 pub use client::Client;
 pub use fault::ClientFault;
-pub use laws::{reads_are_answered, reads_are_the_machines};
+pub use laws::{lines_are_read_once, reads_are_answered, reads_are_the_machines};

@@ -1,5 +1,8 @@
 //! Reads over peers that give fixed replies.
 
+mod chunks;
+mod key_lines;
+mod long_vectors;
 mod vectors;
 
 use super::*;

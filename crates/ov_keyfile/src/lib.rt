@@ -5,6 +5,8 @@
 //! differ. [`read_masters`] reads one from any source, and takes at most one byte more than the
 //! longest has.
 //!
+//! The line of one key is read by [`key_of`], for others that write keys so.
+//!
 //! `specs/KeyFile` says which bytes are a key file of which masters; that they have one pair of
 //! masters at most is the law [`one_pair_of_masters`].
 #![tactic(auto)]
@@ -17,4 +19,4 @@ mod tests;
 
 pub use laws::one_pair_of_masters;
 pub use masters::Masters;
-pub use reading::read_masters;
+pub use reading::{is_end, key_of, read_masters};

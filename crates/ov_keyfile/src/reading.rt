@@ -20,8 +20,8 @@ const SHORTEST: usize = 129;
 // One byte more than the longest key file has.
 const ENOUGH: usize = 131;
 
-/// The key of a line of digits.
-fn key_of(line: &[u8]) -> Option<Key>
+/// The key of 64 hexadecimal digits, small or capital.
+pub fn key_of(line: &[u8]) -> Option<Key>
     ensures found { IfSome result (λ key. IsKeyLine line.now key.bytes) }
     ensures none { IfNone result ((key : List ℕ) → IsKeyLine line.now key → ⊥) }
 {
@@ -61,8 +61,8 @@ fn masters_of_lines(first: &[u8], second: &[u8]) -> Option<Masters>
     differing(base, surface)
 }
 
-/// Whether these bytes may end a key file.
-fn is_end(end: &[u8]) -> bool
+/// Whether these bytes may end a key file: an LF, or nothing.
+pub fn is_end(end: &[u8]) -> bool
     ensures { IsTrue result ↔ IsEnd end.now }
 {
     matches!(end, [] | [b'\n'])

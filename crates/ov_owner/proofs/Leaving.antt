@@ -29,6 +29,7 @@ use Rattle.ov_protocol.proofs.Leaving.{replies_may_make}
 use Rattle.ov_protocol.proofs.Reading.{request_back}
 use Rattle.ov_peer.specs.Asks.{Ask, IsReplyAt}
 use Rattle.ov_peer.specs.Exchanges.{IsAnswerAt}
+use Rattle.ov_peer.proofs.Telling.{answer_at}
 use Rattle.ov_owner.specs.Alone.{AnsweredAlone, AskedAlone, IsOneOrNone, LeftAlone}
 use Rattle.ov_owner.specs.Errands.{Errand}
 use Rattle.ov_owner.specs.Laws.{OneUpdateAtMost}
@@ -36,7 +37,6 @@ use Rattle.ov_owner.specs.Talks.{Asks, Closes, Ends, Goes, IsAfter, IsDue, Moves
 use Rattle.ov_owner.specs.declared.limits.TheConstants.{MAX_TRIES}
 use Rattle.ov_owner.specs.declared.fault.OwnerFault.{OwnerFault}
 use Rattle.ov_owner.specs.declared.fault.OwnerFault.TheVariants as faults
-use Rattle.ov_owner.proofs.Answering.{answer_at}
 use Rattle.ov_owner.proofs.Histories.{followed-nil}
 use Rattle.ov_owner.proofs.Stepping.{read_back}
 use Rattle.ov_owner.proofs.Doing.{Does, does}
@@ -114,7 +114,7 @@ module _ (k : Masters) (command : Command) (e : Errand) (d : Does k command e) (
         → IsAnswerAt (serving g) e.first answer made
         → Serves (after_first tries least told) (followed g made)
     told_on (Err fault) tries least answer is at_g = inl (stays g made same none)
-    told_on (Ok (epoch, u)) tries least answer is (inr (disk, may)) =
+    told_on (Ok (epoch, u)) tries least answer is (inr (disk, may, needs)) =
         let other : e.sealed answer ≡ Err (faults.BadReply 0) = ap e.sealed disk ∙ d.makes.no_disk in
         absurd cc
     told_on (Ok (epoch, u)) tries least answer is (inl (answered, makes_it)) =
@@ -147,7 +147,7 @@ module _ (k : Masters) (command : Command) (e : Errand) (d : Does k command e) (
     answer_on (answers.Refused why) at_g = left
     answer_on (answers.Stale now) (inl (answered, makes_it)) =
         again_on (length (tries ++ epoch ∷ []) == MAX_TRIES) (tries ++ epoch ∷ []) now makes_it
-    answer_on (answers.Stale now) (inr (disk, may)) = absurd (cc disk)
+    answer_on (answers.Stale now) (inr (disk, may, needs)) = absurd (cc disk)
     answer_on answers.BadTag at_g = left
     answer_on answers.DeviceFault at_g = left
     answer_on answers.NoMemory at_g = left

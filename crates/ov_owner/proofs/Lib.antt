@@ -1,6 +1,7 @@
 pub mod Answering
 pub mod Copying
 pub mod Questioning
+pub mod Clients
 pub mod Talking
 pub mod Trying
 pub mod Histories

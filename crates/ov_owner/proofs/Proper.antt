@@ -31,8 +31,9 @@ use Rattle.ov_protocol.specs.Replies.{AnswersRead}
 use Rattle.ov_protocol.specs.Updating.{AnswersSealed, AnswersSpelled, AnswersUpdate, owner_tag}
 use Rattle.ov_protocol.proofs.Reading.{request_back}
 use Rattle.ov_peer.specs.Asks.{Ask, IsReplyAt}
-use Rattle.ov_peer.specs.Spellings.{IsUpdate}
-use Rattle.ov_owner.specs.Alone.{AnsweredAlone, AskedAlone, FailsAtUpdates}
+use Rattle.ov_peer.specs.Disks.{MayNeedDisk}
+use Rattle.ov_peer.proofs.Needing.{needs_disk}
+use Rattle.ov_owner.specs.Alone.{AnsweredAlone, AskedAlone}
 use Rattle.ov_owner.specs.Errands.{Errand, creating, enrolling, granting, revoking}
 use Rattle.ov_owner.specs.Laws.{IsProper, TalksAreProper}
 use Rattle.ov_owner.specs.Talks.{Asks, Closes, Ends, Goes, IsAfter, Moves, Sends, Stage, Talks, after as stage_after, after_first, sends_if, start, update_request}
@@ -51,7 +52,7 @@ module _ (k : Masters) (command : Command) (e : Errand) (d : Does k command e) (
     → HasAnswerForm a → IsAnswer e.first a)
     (proper : (a : Answer) → Answers (served (under k.surface base_check (sealed k p))) e.first a
     → IsProperTold (e.sealed a))
-    (no_update : IsUpdate (request_bytes e.first) → HasRequestForm e.first → ⊥) where
+    (no_disk : MayNeedDisk e.first → ⊥) where
   abbrev At : Stage → SealedHistory → Type 0
   At stage g = Serves k command e d base_check p legal stage g
 
@@ -108,19 +109,21 @@ module _ (k : Masters) (command : Command) (e : Errand) (d : Does k command e) (
 
   first_fine : (next : Stage) (a : Ask) (g : SealedHistory) (made : List SealedUpdate)
       (moves : Moves k.surface e start a next) → g ≡ sealed k p
-      → IsReplyAt (here g) a.request a.reply made
-      → (a.reply ≡ answer_bytes answers.DeviceFault → IsUpdate a.request) → Fine next
-  first_fine next a g made moves same replied fails = by_then moves.then where
+      → IsReplyAt (here g) a.request a.reply made → Fine next
+  first_fine next a g made moves same replied = by_then moves.then where
     ours : e.first ≡ moves.asked.request
     ours = is_first k command e d base_check p legal [] 0 a.request moves.asked
 
     frame : a.request ≡ request_bytes e.first
     frame = moves.asked.spelled ∙ ap request_bytes (sym ours)
 
+    form : HasRequestForm e.first
+    form = moves.asked.form
+
     by_reply : IsReplyAt (here g) (request_bytes e.first) a.reply made
         → next ≡ stage_after e start (answer_of e.first a.reply) → Fine next
     by_reply (inr failed) is =
-        absurd (no_update (subst IsUpdate frame (fails failed.spelled)) moves.asked.form)
+        absurd (no_disk (needs_disk (served (here g)) e.first form failed.needs))
     by_reply (inl replies) is =
         let x = replies.answer in
         let at_g : Answers (served (here g)) e.first x =
@@ -207,60 +210,49 @@ module _ (k : Masters) (command : Command) (e : Errand) (d : Does k command e) (
   pub talk_proper : (asks : List Ask) (unanswered : Option (List ℕ)) (result : Result ℕ OwnerFault)
       (g : SealedHistory) (last : Service)
       → g ≡ sealed k p → Talks k.surface e asks unanswered result
-      → AskedAlone (here g) asks unanswered last → FailsAtUpdates asks → IsProper result
-  talk_proper [] unanswered result g last same (final, goes, closes) alone fails =
+      → AskedAlone (here g) asks unanswered last → IsProper result
+  talk_proper [] unanswered result g last same (final, goes, closes) alone =
       none_asked unanswered result (subst (λ (s : Stage). Closes k.surface e s unanswered result) (sym goes) closes)
   talk_proper (a ∷ asks) unanswered result g last same (final, (next, moves, goes), closes)
-      (m, (made, replied, alone), left) (fails, more) =
+      (m, (made, replied, alone), left) =
       closes_fine final unanswered result
-      (goes_fine next final asks (followed g made) m (first_fine next a g made moves same replied fails)
+      (goes_fine next final asks (followed g made) m (first_fine next a g made moves same replied)
       (one_ask k command e d base_check p legal start next a g made moves same replied moves.then) goes alone)
       closes
 
 -- ---- by the commands
 
-asks_no_update : (question : Question) → IsUpdate (request_bytes (requests.Ask question))
-    → HasRequestForm (requests.Ask question) → ⊥
-asks_no_update question (epoch, spelled, tag, is) form =
-    let back = request_back (requests.Ask question) form in cc (is, back)
-
-covers_no_update : (file : List ℕ) (len : ℕ) (names : List (List ℕ))
-    → IsUpdate (request_bytes (requests.Cover file len names))
-    → HasRequestForm (requests.Cover file len names) → ⊥
-covers_no_update file len names (epoch, spelled, tag, is) form =
-    let back = request_back (requests.Cover file len names) form in cc (is, back)
-
 pub talks_are_proper : TalksAreProper
-talks_are_proper k (commands.Enrol user) e asks unanswered result v last p is talks same legal right alone fails =
+talks_are_proper k (commands.Enrol user) e asks unanswered result v last p is talks same legal right alone =
     let c = catalogue_of k.surface (sealed k p) in
     talk_proper k (commands.Enrol user) (enrolling user) (enrol_does k user) v.base_check p legal
-    (ask_fits c (questions.Enrol user)) (λ a. ask_proper c (questions.Enrol user) a _) (asks_no_update (questions.Enrol user))
+    (ask_fits c (questions.Enrol user)) (λ a. ask_proper c (questions.Enrol user) a _) (λ disk. disk)
     asks unanswered result v.history last right
     (subst (λ (x : Errand). Talks k.surface x asks unanswered result) is talks)
-    (subst (λ (s : List ℕ). AskedAlone (under s v.base_check v.history) asks unanswered last) same alone) fails
-talks_are_proper k (commands.Create file names bytes) e asks unanswered result v last p is talks same legal right alone fails =
+    (subst (λ (s : List ℕ). AskedAlone (under s v.base_check v.history) asks unanswered last) same alone)
+talks_are_proper k (commands.Create file names bytes) e asks unanswered result v last p is talks same legal right alone =
     let c = catalogue_of k.surface (sealed k p) in
     talk_proper k (commands.Create file names bytes) (creating k.base file names bytes) (create_does k file names bytes)
     v.base_check p legal
     (cover_fits c file (length bytes) names _) (λ a. cover_proper c file (length bytes) _ a _)
-    (covers_no_update file (length bytes) names)
+    (λ disk. disk)
     asks unanswered result v.history last right
     (subst (λ (x : Errand). Talks k.surface x asks unanswered result) is talks)
-    (subst (λ (s : List ℕ). AskedAlone (under s v.base_check v.history) asks unanswered last) same alone) fails
-talks_are_proper k (commands.Grant user file) e asks unanswered result v last p is talks same legal right alone fails =
+    (subst (λ (s : List ℕ). AskedAlone (under s v.base_check v.history) asks unanswered last) same alone)
+talks_are_proper k (commands.Grant user file) e asks unanswered result v last p is talks same legal right alone =
     let c = catalogue_of k.surface (sealed k p) in
     talk_proper k (commands.Grant user file) (granting k.base user file) (grant_does k user file) v.base_check p legal
     (ask_fits c (questions.Grant user file)) (λ a. ask_proper c (questions.Grant user file) a _)
-    (asks_no_update (questions.Grant user file))
+    (λ disk. disk)
     asks unanswered result v.history last right
     (subst (λ (x : Errand). Talks k.surface x asks unanswered result) is talks)
-    (subst (λ (s : List ℕ). AskedAlone (under s v.base_check v.history) asks unanswered last) same alone) fails
-talks_are_proper k (commands.Revoke user file) e asks unanswered result v last p is talks same legal right alone fails =
+    (subst (λ (s : List ℕ). AskedAlone (under s v.base_check v.history) asks unanswered last) same alone)
+talks_are_proper k (commands.Revoke user file) e asks unanswered result v last p is talks same legal right alone =
     let c = catalogue_of k.surface (sealed k p) in
     talk_proper k (commands.Revoke user file) (revoking user file) (revoke_does k user file) v.base_check p legal
     (ask_fits c (questions.Revoke user file)) (λ a. ask_proper c (questions.Revoke user file) a _)
-    (asks_no_update (questions.Revoke user file))
+    (λ disk. disk)
     asks unanswered result v.history last right
     (subst (λ (x : Errand). Talks k.surface x asks unanswered result) is talks)
-    (subst (λ (s : List ℕ). AskedAlone (under s v.base_check v.history) asks unanswered last) same alone) fails
-talks_are_proper k command e asks unanswered result v last p is talks same legal right alone fails = absurd is
+    (subst (λ (s : List ℕ). AskedAlone (under s v.base_check v.history) asks unanswered last) same alone)
+talks_are_proper k command e asks unanswered result v last p is talks same legal right alone = absurd is

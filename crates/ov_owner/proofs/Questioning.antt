@@ -46,7 +46,7 @@ module _ {P T : Type 0} (asked : Asked P) (failed : Failed P) (p q : P) (request
 -- ---- of a told peer
 
 -- nothing was made
-none_made : (Then : Service → Type 0) (v : Service) (others made : List SealedUpdate) → made ≡ []
+pub none_made : (Then : Service → Type 0) (v : Service) (others made : List SealedUpdate) → made ≡ []
     → Then (later (later v others) made) → Then (later v others)
 none_made Then v others made none then =
     subst Then (ap (later (later v others)) none ∙ later-nil (later v others)) then
@@ -56,7 +56,7 @@ pub welcome_told : (Then : Service → Type 0) (v : Service) (a : Answer)
 welcome_told Then v (answers.Welcome welcome) (others, made, inl (is, makes), then) =
     let same : welcome ≡ welcome_of (served (later v others)) = cc is in
     (others, same, none_made Then v others made makes then)
-welcome_told Then v (answers.Welcome welcome) (others, made, inr (disk, may), then) = absurd (cc disk)
+welcome_told Then v (answers.Welcome welcome) (others, made, inr (disk, may, needs), then) = absurd (cc disk)
 welcome_told Then v answers.NoMemory tells = tt
 welcome_told Then v a tells = tt
 
@@ -105,9 +105,9 @@ pub list_told : (Then : Service → Type 0) (v : Service) (file : List ℕ) (a :
     → Tells v (requests.List file) a Then → IsListOf v Then file (names_in a)
 list_told Then v file (answers.Listed names) (others, made, inl (answered, makes), then) =
     listed_there Then v file names others made answered makes then
-list_told Then v file (answers.Listed names) (others, made, inr (disk, may), then) = absurd (cc disk)
+list_told Then v file (answers.Listed names) (others, made, inr (disk, may, needs), then) = absurd (cc disk)
 list_told Then v file (answers.Refused why) (others, made, inl (answered, makes), then) =
     refused_there Then v file why others made answered makes then
-list_told Then v file (answers.Refused why) (others, made, inr (disk, may), then) = absurd (cc disk)
+list_told Then v file (answers.Refused why) (others, made, inr (disk, may, needs), then) = absurd (cc disk)
 list_told Then v file answers.NoMemory tells = tt
 list_told Then v file a tells = tt

@@ -21,6 +21,7 @@ use Rattle.ov_protocol.specs.Serving.{Service, followed, served}
 use Rattle.ov_protocol.specs.Answers.{Answers, made_by}
 use Rattle.ov_peer.specs.Asks.{Along, AreRight, Ask, IsReplyAt}
 use Rattle.ov_peer.specs.Exchanges.{IsAnswerAt}
+use Rattle.ov_peer.proofs.Telling.{answer_at}
 use Rattle.ov_owner.specs.Errands.{Errand}
 use Rattle.ov_owner.specs.Laws.{TalksAreSteps}
 use Rattle.ov_owner.specs.Steps.{IsMachines, IsStep}
@@ -28,7 +29,7 @@ use Rattle.ov_owner.specs.Talks.{Asks, Closes, Ends, Goes, IsAfter, IsDue, Sends
 use Rattle.ov_owner.specs.declared.limits.TheConstants.{MAX_TRIES}
 use Rattle.ov_owner.specs.declared.fault.OwnerFault.{OwnerFault}
 use Rattle.ov_owner.specs.declared.fault.OwnerFault.TheVariants as faults
-use Rattle.ov_owner.proofs.Answering.{answer_at, refusal_makes}
+use Rattle.ov_owner.proofs.Answering.{refusal_makes}
 use Rattle.ov_owner.proofs.Histories.{followed-nil}
 use Rattle.ov_owner.proofs.Stepping.{IsSealedAt, refused_step, update_accepted, update_refused}
 use Rattle.ov_owner.proofs.Doing.{Does, does}
@@ -142,7 +143,7 @@ module _ (k : Masters) (command : Command) (e : Errand) (d : Does k command e) (
             let none : made ≡ [] = makes_it ∙ ap (made_by e.first) refused ∙ refusal_makes e.first why in
             refused_step k command e d base_check p why h last.history legal right some
             (sym same ∙ ap (λ (us : List SealedUpdate). followed h us) none ∙ followed-nil h)
-        refused_first (faults.Refused why) answer is (inr (disk, may)) same =
+        refused_first (faults.Refused why) answer is (inr (disk, may, needs)) same =
             let other : e.sealed answer ≡ Err (faults.BadReply 0) = ap e.sealed disk ∙ d.makes.no_disk in
             absurd cc
         refused_first fault answer is at_h same = tt
@@ -154,7 +155,7 @@ module _ (k : Masters) (command : Command) (e : Errand) (d : Does k command e) (
             → IsMachines k command (h ∷ more) last.history result
         first_told (Err fault) tries least answer is at_h goes =
             off (Err fault) goes (refused_first fault answer is at_h)
-        first_told (Ok (epoch, u)) tries least answer is (inr (disk, may)) goes =
+        first_told (Ok (epoch, u)) tries least answer is (inr (disk, may, needs)) goes =
             let other : e.sealed answer ≡ Err (faults.BadReply 0) = ap e.sealed disk ∙ d.makes.no_disk in
             absurd cc
         first_told (Ok (epoch, u)) tries least answer is (inl (answered, makes_it)) goes =
@@ -200,13 +201,13 @@ module _ (k : Masters) (command : Command) (e : Errand) (d : Does k command e) (
             subst (λ (x : SealedHistory). IsStep k command (replies.Accepted n) h x) same
             (subst (λ (x : SealedHistory). IsStep k command (replies.Accepted n) x (followed x made)) (sym at_h)
             (update_accepted k command e d base_check g others made epoch n u t form answered makes_it)))
-        by_update (answers.Accepted n) (inr (disk, may)) goes = absurd cc
+        by_update (answers.Accepted n) (inr (disk, may, needs)) goes = absurd cc
         by_update (answers.Refused why) (inl (answered, makes_it)) goes =
             off (Err (faults.Refused why)) goes (λ same.
             subst (λ (x : SealedHistory). IsStep k command (replies.Refused why) h x) same
             (subst (λ (x : SealedHistory). IsStep k command (replies.Refused why) x (followed x made)) (sym at_h)
             (update_refused k command e d base_check g others made epoch why u t form answered makes_it)))
-        by_update (answers.Refused why) (inr (disk, may)) goes = absurd cc
+        by_update (answers.Refused why) (inr (disk, may, needs)) goes = absurd cc
         by_update (answers.Stale now) at_it goes =
             stale_next (length (tries ++ epoch ∷ []) == MAX_TRIES) (tries ++ epoch ∷ []) now goes
         by_update answers.BadTag at_it goes = off (Err faults.BadTag) goes (λ same. tt)

@@ -21,7 +21,7 @@ use Rattle.ov_owner.specs.Talks.{Asks, Closes, Ends, Goes, IsAfter, Moves, Sends
 use Rattle.ov_owner.specs.declared.limits.TheConstants.{MAX_TRIES}
 use Rattle.ov_owner.specs.declared.fault.OwnerFault.{OwnerFault}
 use Rattle.ov_owner.specs.declared.fault.OwnerFault.TheVariants as faults
-use Rattle.ov_owner.proofs.Answering.{answer_is}
+use Rattle.ov_client.proofs.Answering.{answer_is}
 
 -- a last number that isn't lower
 rises_up : (xs : List ℕ) (n m : ℕ) → Rises (xs ++ n ∷ []) → n ≤ m → Rises (xs ++ m ∷ [])

@@ -31,12 +31,12 @@ use Rattle.ov_protocol.specs.Updating.{AnswersUpdate, owner_tag}
 use Rattle.ov_protocol.proofs.Reading.{request_back}
 use Rattle.ov_peer.specs.Asks.{Ask, IsReplyAt}
 use Rattle.ov_peer.specs.Exchanges.{IsAnswerAt}
+use Rattle.ov_peer.proofs.Telling.{answer_at}
 use Rattle.ov_owner.specs.Alone.{AnsweredAlone, AskedAlone}
 use Rattle.ov_owner.specs.Errands.{Errand, creating, enrolling, granting, revoking}
 use Rattle.ov_owner.specs.Laws.{TalksAreShort, frame_bytes}
 use Rattle.ov_owner.specs.Talks.{Asks, Ends, Goes, IsAfter, Moves, Sends, Stage, Talks, after as stage_after, after_first, after_update, sends_if, start, update_request}
 use Rattle.ov_owner.specs.declared.fault.OwnerFault.{OwnerFault}
-use Rattle.ov_owner.proofs.Answering.{answer_at}
 use Rattle.ov_owner.proofs.Leaving.{Serves, is_first, is_update, nothing_due, one_ask}
 use Rattle.ov_owner.proofs.Sizes.{ask_answer_short, cover_answer_short, cover_short, creation_short, list_few, question_short, short_update, spelled_answer_short}
 use Rattle.ov_owner.proofs.Doing.{Does, create_does, enrol_does, grant_does, revoke_does}
@@ -115,7 +115,7 @@ module _ (k : Masters) (command : Command) (e : Errand) (d : Does k command e) (
   never_stale : (g : SealedHistory) (epoch now : ℕ) (u : SealedUpdate) (made : List SealedUpdate)
       → g ≡ sealed k p → epoch ≡ (catalogue_of k.surface (sealed k p)).epoch
       → IsAnswerAt (here g) (update_request k.surface epoch u) (answers.Stale now) made → ⊥
-  never_stale g epoch now u made same at_epoch (inr (disk, may)) = cc disk
+  never_stale g epoch now u made same at_epoch (inr (disk, may, needs)) = cc disk
   never_stale g epoch now u made same at_epoch (inl ((tagged, other, is), makes_it)) =
       other (at_epoch ∙ ap (λ (x : SealedHistory). (catalogue_of k.surface x).epoch) (sym same))
 

@@ -7,12 +7,9 @@ use Rattle.ov_history.specs.Plain.{PlainHistory}
 use Rattle.ov_history.specs.Sealed.{SealedHistory}
 use Rattle.ov_history.specs.Sealing.{sealed}
 use Rattle.ov_model.specs.Step.{after}
-use Rattle.ov_wire.specs.declared.answer.Answer.TheVariants.{DeviceFault}
-use Rattle.ov_wire.specs.AnswerBytes.{answer_bytes}
 use Rattle.ov_protocol.specs.Serving.{Service, later}
 use Rattle.ov_protocol.specs.Replies.{MayMake}
 use Rattle.ov_peer.specs.Asks.{Ask, IsReplyAt}
-use Rattle.ov_peer.specs.Spellings.{IsUpdate}
 
 -- each ask was answered at what the one before left
 abbrev pub AnsweredAlone : Service → List Ask → Service → Type 0
@@ -35,9 +32,3 @@ AskedAlone v asks unanswered last =
 -- the history is the one of before, or it with the update of this command
 abbrev pub IsOneOrNone : Masters → PlainHistory → Command → SealedHistory → Type 0
 IsOneOrNone k p command now = (now ≡ sealed k p) ⊎ (now ≡ sealed k (after p command))
-
--- the disk failed at no ask but an update
-abbrev pub FailsAtUpdates : List Ask → Type 0
-FailsAtUpdates [] = Unit {0}
-FailsAtUpdates (a ∷ asks) =
-    (a.reply ≡ answer_bytes DeviceFault → IsUpdate a.request) × FailsAtUpdates asks

@@ -11,7 +11,7 @@ use Rattle.ov_history.specs.Sealing.{sealed}
 use Rattle.ov_wire.specs.Frames.{framed}
 use Rattle.ov_protocol.specs.Serving.{Service}
 use Rattle.ov_peer.specs.Asks.{Along, AreRight, Ask}
-use Rattle.ov_owner.specs.Alone.{AskedAlone, FailsAtUpdates, IsOneOrNone}
+use Rattle.ov_owner.specs.Alone.{AskedAlone, IsOneOrNone}
 use Rattle.ov_owner.specs.Errands.{Errand}
 use Rattle.ov_owner.specs.Steps.{IsErrandFor, IsMachines}
 use Rattle.ov_owner.specs.Talks.{Talks}
@@ -82,12 +82,12 @@ IsProper (Err BadTag) = ⊥
 IsProper (Err (Unsettled epochs)) = ⊥
 IsProper result = Unit {0}
 
--- Of a server under the owner's surface master that nobody else updates meanwhile, whose history is
--- right and whose disk fails at updates alone, no call gets such a fault.
+-- Of a server under the owner's surface master that nobody else updates meanwhile, and whose
+-- history is right, no call gets such a fault.
 abbrev pub TalksAreProper : Type 0
 TalksAreProper =
     (k : Masters) (command : Command) (e : Errand) (asks : List Ask) (unanswered : Option (List ℕ))
     (result : Result ℕ OwnerFault) (v last : Service) (p : PlainHistory)
     → IsErrandFor k.base command e → Talks k.surface e asks unanswered result
     → v.surface ≡ k.surface → IsLegal (history_of p) → v.history ≡ sealed k p
-    → AskedAlone v asks unanswered last → FailsAtUpdates asks → IsProper result
+    → AskedAlone v asks unanswered last → IsProper result

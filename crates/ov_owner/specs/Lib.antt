@@ -2,6 +2,7 @@ pub mod Errands
 pub mod Talks
 pub mod Calls
 pub mod Questions
+pub mod Clients
 pub mod Causes
 pub mod Steps
 pub mod Alone

@@ -19,6 +19,7 @@
 //! | `Talks` | which asks come one after the other, and with which result they end |
 //! | `Calls`, `Causes` | the same of a peer; why a call ends with a fault of the link |
 //! | `Questions` | one question and what comes of it |
+//! | `Clients` | the reader that an owner makes for a user |
 //! | `Steps` | a result is the machine's, at the history of the last ask |
 //! | `Alone` | asks of a server that nobody else updates |
 //! | `Laws` | the laws |
@@ -32,6 +33,7 @@
 //! | the frames are as few bytes as command, list and file want | [`talks_are_short`] |
 #![tactic(auto)]
 
+mod client;
 mod fault;
 mod laws;
 pub mod limits;

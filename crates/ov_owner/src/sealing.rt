@@ -27,7 +27,7 @@ pub struct Sealed {
 }
 
 /// The numbers that are told, or why the call ends.
-fn known_of(answer: Answer) -> Result<Known, OwnerFault>
+pub fn known_of(answer: Answer) -> Result<Known, OwnerFault>
     ensures { result ≡ known_of answer }
 {
     match answer {

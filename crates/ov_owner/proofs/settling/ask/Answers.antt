@@ -6,7 +6,7 @@ use Rattle.ov_wire.specs.AnswersTo.{IsAnswer}
 use Rattle.ov_wire.specs.Requests.{HasRequestForm}
 use Rattle.ov_owner.specs.Talks.{Asks}
 use Rattle.ov_owner.specs.Tasks.{errand_of}
-use Rattle.ov_owner.proofs.Answering.{answer_is}
+use Rattle.ov_client.proofs.Answering.{answer_is}
 use Rattle.ov_owner.proofs.Trying.{seal_fails, seal_never_links, sends_next, too_low}
 use Rattle.ov_owner.proofs.Talking.{exchange_fails, nothing_asked}
 use Rattle.ov_owner.proofs.settling.ask.Goals as goal

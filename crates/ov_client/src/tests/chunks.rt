@@ -1,0 +1,76 @@
+//! A file of more than one chunk, whose surface changes while it is read.
+
+use super::long_vectors::*;
+use super::*;
+use ov_io::MemSink;
+use ov_peer::Traced;
+use ov_surface::over_encrypt;
+use sha2::{Digest, Sha256};
+
+/// The bytes of the file: byte number i is 7 times i, modulo 251.
+fn text(alloc: Global) -> Result<Vec<u8>, Fail> {
+    let mut text = Vec::with_capacity(alloc, LENGTH)?;
+    for i in 0..LENGTH {
+        text.push((i * 7 % 251) as u8)?;
+    }
+    Ok(text)
+}
+
+/// The stored bytes of the file, under the key of a surface node.
+fn stored(alloc: Global, surface: &Key) -> Result<Vec<u8>, Fail> {
+    let mut bytes = text(alloc)?;
+    ov_surface::base_encrypt(&Key { bytes: ACCESS_KEY }, 0, 0, &mut bytes);
+    over_encrypt(surface, 0, 0, &mut bytes);
+    Ok(bytes)
+}
+
+/// The reply that gives these bytes.
+fn bytes_reply(alloc: Global, bytes: &[u8]) -> Result<Octets, Fail> {
+    let mut reply = vec![in alloc; 0x86; 1]?;
+    reply.extend_from_slice(bytes)?;
+    Ok(Octets::from_vec(reply))
+}
+
+/// The replies that the file's chunks are in, up to so many.
+fn put_chunks(
+    alloc: Global,
+    surface: &Key,
+    count: usize,
+    replies: &mut Vec<Octets>,
+) -> Result<(), Fail> {
+    let bytes = stored(alloc, surface)?;
+    for chunk in bytes.chunks(65_536).take(count) {
+        replies.push(bytes_reply(alloc, chunk)?)?;
+    }
+    Ok(())
+}
+
+/// Two chunks of the file as it was, and all of it as it is after its surface changed.
+fn replies(alloc: Global) -> Result<Vec<Octets>, Fail> {
+    let mut replies = Vec::new(alloc);
+    replies.push(Octets::copy(alloc, &CHAINED)?)?;
+    put_chunks(alloc, &Key { bytes: SURFACE_KEY_A }, 2, &mut replies)?;
+    replies.push(Octets::copy(alloc, &MOVED)?)?;
+    replies.push(Octets::copy(alloc, &CHAINED_AGAIN)?)?;
+    put_chunks(alloc, &Key { bytes: SURFACE_KEY_AGAIN }, 4, &mut replies)?;
+    Ok(replies)
+}
+
+#[test]
+fn a_file_that_moved_before_its_third_chunk(rt: HostRuntime) -> Result<(), Fail> {
+    let alloc = rt.alloc();
+    let replies = replies(alloc)?;
+    assert_eq!(rt; replies.len(), 9);
+    let peer = FixedPeer::new(replies, Octets::new(alloc));
+    let mut traced = Traced::new(peer, MemSink::new(alloc, Octets::new(alloc)));
+    let mut into = Vec::new(alloc);
+    let result = reader_a()?.read(alloc, &mut traced, &name(b"f")?, &mut into);
+    assert_eq!(rt; result, Ok(()));
+    assert_eq!(rt; into.len(), LENGTH);
+    assert_eq!(rt; Sha256::digest(into.as_slice()).as_slice(), TEXT_SHA256.as_slice());
+    // The nine requests and the replies, each behind its length field.
+    let (_, sink) = traced.into_parts();
+    assert_eq!(rt; sink.written().len(), 331_445);
+    assert_eq!(rt; Sha256::digest(sink.written()).as_slice(), TRACE_SHA256.as_slice());
+    Ok(())
+}
