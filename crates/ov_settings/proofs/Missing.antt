@@ -1,10 +1,8 @@
 -- What is missing of a whole, where a part of it is missing.
-use Rattle.std.proofs.Common.{◌≡◌, ◌⊎◌, inl, inr, Result, Ok, Err, sym, subst}
+use Rattle.std.proofs.Common.{◌≡◌, inl, inr, Result, Ok, Err, sym, subst}
 use Rattle.std.specs.Result.{IsErrAnd}
-use Rattle.std.proofs.lemmas.Result.{err_from_is_err_and}
-use Rattle.ov_settings.specs.Settings.{FindsOr, fault_code}
+use Rattle.ov_settings.specs.Settings.{FindsOr}
 use Rattle.ov_settings.specs.declared.fault.SettingsFault.{SettingsFault}
-use Rattle.ov_settings.specs.declared.fault.SettingsFault.TheVariants.{Memory}
 
 module _ {T : Type 0} {U : Type 0} (IsPart : T → Type 0) (IsWhole : U → Type 0) (part : U → T)
     (has : (whole : U) → IsWhole whole → IsPart (part whole)) where

@@ -5,7 +5,7 @@ use Rattle.std.proofs.lemmas.List.{length-take-le}
 use Rattle.std.specs.Io.KnownBytes.{Consumes, IsAtEnd}
 use Rattle.ov_io.specs.Calls.{TakesWhile, each_gave, no_piece}
 use Rattle.ov_io.proofs.Pieces.{while_as}
-use Rattle.ov_settings.specs.Settings.{FindsOr, IsNoSettingsFile, IsReadAs, IsSettingsFile, TakesEnough, fault_code}
+use Rattle.ov_settings.specs.Settings.{FindsOr, IsReadAs, IsSettingsFile, TakesEnough, fault_code}
 use Rattle.ov_settings.specs.declared.settings.Settings.{Settings}
 use Rattle.ov_settings.specs.declared.fault.SettingsFault.{SettingsFault}
 use Rattle.ov_settings.specs.declared.fault.SettingsFault.TheVariants.{Memory, Read, TooLong, NotToml, Address, Mode as ModeKey, Surface, BaseCheck, Book, Blobs, Sessions}

@@ -1,5 +1,5 @@
 -- Which bytes are a settings file, and of which settings.
-use Rattle.std.specs.Prelude.{◌≡◌, ◌≤◌, ◌<◌, ◌⊎◌, ⊤, ℕ, ℤ, pos, List, [], ◌∷◌, length, codes}
+use Rattle.std.specs.Prelude.{◌≡◌, ◌≤◌, ◌<◌, ◌⊎◌, ⊤, ℕ, ℤ, pos, List, length, codes}
 use Rattle.std.specs.Prelude.{Option, Some, None, IfSome, option_and_then, Result, Ok, Err}
 use Rattle.std.specs.Prelude.{String, IsUtf8}
 use Rattle.std.specs.declared.alloc.Global.{Global}
