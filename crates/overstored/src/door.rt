@@ -24,6 +24,19 @@ impl<A, R> SpokenDoor<A, R> {
     }
 }
 
+// Says how a session ended, where it didn't end between two frames.
+fn say_end<R: Eprint>(rt: &R, number: u32, end: SessionEnd) {
+    match on_end(end) {
+        Some((why, Some(at))) => {
+            let _ = eprintln!(rt; "overstored: warning: session {number}: {why}, at byte {at}");
+        }
+        Some((why, None)) => {
+            let _ = eprintln!(rt; "overstored: warning: session {number}: {why}");
+        }
+        None => {}
+    }
+}
+
 impl<A: Door, R: Eprint> Door for SpokenDoor<A, R> {
     type Stream = A::Stream;
 
@@ -40,12 +53,7 @@ impl<A: Door, R: Eprint> Door for SpokenDoor<A, R> {
     }
 
     fn ended(&mut self, number: u32, stream: A::Stream, end: SessionEnd) {
-        match on_end(end) {
-            Some(why) => {
-                let _ = eprintln!(self.rt; "overstored: warning: session {number}: {why}");
-            }
-            None => {}
-        }
+        say_end(&self.rt, number, end);
         self.door.ended(number, stream, end);
     }
 }

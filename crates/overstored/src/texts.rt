@@ -1,6 +1,6 @@
 //! All that the program says beside the lines of a server.
-use ov_settings::SettingsFault;
 use ov_session::SessionEnd;
+use ov_settings::SettingsFault;
 
 /// What `--help` prints.
 pub const HELP: &str = "\
@@ -119,13 +119,13 @@ pub fn on_status(status: u8) -> Option<(&'static str, Option<&'static str>)> {
     }
 }
 
-/// How a session ended that didn't end between two frames.
-pub fn on_end(end: SessionEnd) -> Option<&'static str> {
+/// How a session ended that didn't end between two frames, and at which byte, where that is known.
+pub fn on_end(end: SessionEnd) -> Option<(&'static str, Option<u64>)> {
     match end {
         SessionEnd::End => None,
-        SessionEnd::LinkFault => Some("the connection failed"),
-        SessionEnd::Bad { at: _ } => Some("the bytes that came are no frames"),
-        SessionEnd::Spent => Some("it asked as often as a session may"),
-        SessionEnd::Memory => Some("out of memory"),
+        SessionEnd::LinkFault => Some(("the connection failed", None)),
+        SessionEnd::Bad { at } => Some(("what came is no frame", Some(at))),
+        SessionEnd::Spent => Some(("it asked as often as a session may", None)),
+        SessionEnd::Memory => Some(("out of memory", None)),
     }
 }

@@ -30,13 +30,25 @@ fn say_of(rt: &HostRuntime, path: &str, fault: SettingsFault) {
     let _ = eprintln!(rt; "overstored: hint: {hint}");
 }
 
+// The line of a text on which this byte stands, counted from 1.
+fn line_of(bytes: &[u8], at: usize) -> usize {
+    1 + bytes.iter().take(at).filter(|byte| **byte == b'\n').count()
+}
+
 // Says where a text stops being a TOML document, if it does.
 fn say_place(rt: &HostRuntime, path: &str, bytes: &[u8]) {
     match toml::table_from_slice(rt.alloc(), bytes) {
         Ok(_) => {}
-        Err(error) => {
-            let _ = eprintln!(rt; "overstored: error: {path}: {error}");
-        }
+        Err(error) => match error.span() {
+            Some(span) => {
+                let line = line_of(bytes, span.start);
+                let _ = eprintln!(rt;
+                    "overstored: error: {path}: line {line}: {}",
+                    error.message()
+                );
+            }
+            None => {}
+        },
     }
 }
 
@@ -46,7 +58,10 @@ fn explain(rt: &HostRuntime, path: &str, bytes: &[u8]) {
         Ok(_) => {}
         Err(SettingsFault::NotToml) => {
             say_place(rt, path, bytes);
-            say_of(rt, path, SettingsFault::NotToml);
+            let _ = eprintln!(rt;
+                "overstored: hint: {}",
+                on_settings(SettingsFault::NotToml).1
+            );
         }
         Err(fault) => say_of(rt, path, fault),
     }
