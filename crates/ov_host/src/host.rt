@@ -11,12 +11,12 @@ ghost use Rattle.ov_host.specs.Hosting.{serves_store};
 
 use crate::hosted::Hosted;
 use crate::serving::serve_door;
-use ov_settings::Settings;
 use ov_disk::Disk;
 use ov_io::Sink;
 use ov_report::{put_fault, values_are_known};
 use ov_server::Server;
 use ov_session::Door;
+use ov_settings::Settings;
 use ov_store::{BeginRefused, Store};
 use std::alloc::Global;
 use std::sync::Wait;

@@ -6,8 +6,6 @@ use std::alloc::{AllocError, Global};
 use std::process::Abort;
 use std::test::Fail;
 
-const SURFACE: &str = "000102030405060708090a0b0c0d0e0f101112131415161718191A1B1C1D1E1F";
-
 // The lines of a settings file, each with its key.
 static LINES: [(&str, &str); 7] = [
     ("address", "address = \"127.0.0.1:7400\"\n"),
