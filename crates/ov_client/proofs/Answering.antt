@@ -24,7 +24,7 @@ placed_ok : (n : ℕ) (r : Result Answer ℕ) (a : Answer) → placed n r ≡ Ok
 placed_ok n (Ok other) a e = e
 placed_ok n (Err left) a e = absurd cc
 
--- it is in the grammar of answers to its request
+-- what is read is one of the answers that the request allows
 pub answer_is : (request : Request) (reply : List ℕ) (a : Answer) → AreAllBytes reply
     → answer_of request reply ≡ Ok a → IsAnswer request a
 answer_is request reply a bytes e =

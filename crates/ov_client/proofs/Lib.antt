@@ -9,6 +9,7 @@ pub mod Machine
 pub mod Opening
 pub mod Quiet
 pub mod ReadingBack
+pub mod Rising
 pub mod Settled
 pub mod Spaces
 pub mod Staying

@@ -15,8 +15,8 @@ pub enum ClientFault {
     /// The link failed.
     #[error("the link failed")]
     Link,
-    /// A reply isn't in the grammar of answers to its request, or can't be by what was told before;
-    /// `at` is the place of its first wrong byte.
+    /// A reply can't be: its request allows no such answer, or what was told before speaks against
+    /// it; `at` is the place of its first wrong byte.
     #[error("a reply is no answer (byte {at})")]
     BadReply {
         at: u32,

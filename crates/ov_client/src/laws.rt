@@ -4,10 +4,11 @@ ghost use Rattle.std.specs.Prelude.{◌≡◌, ℕ, List};
 ghost use Rattle.ov_client.specs.KeyLines.{IsLineOf};
 ghost use Rattle.ov_client.specs.Laws.{ReadsAreAnswered, ReadsAreTheMachines};
 ghost use Rattle.ov_client.specs.Readers.{Reader};
+ghost use Rattle.ov_client.specs.Rising.{MovedGenerationsRise};
 
 /// Over a peer whose histories are right under the masters of the reader's root keys, a read that
-/// gives bytes or a refusal answers as the access-matrix machine does at the history of its last
-/// Chain, whatever others update meanwhile; and none is damaged.
+/// gives bytes or a refusal gives what the access-matrix machine answers where its last Chain was
+/// answered, whatever others update meanwhile; and none is damaged.
 pub fn reads_are_the_machines()
     ensures { ReadsAreTheMachines }
 {}
@@ -17,6 +18,11 @@ pub fn reads_are_the_machines()
 /// memory: no reply is bad, and no read is unsettled.
 pub fn reads_are_answered()
     ensures { ReadsAreAnswered }
+{}
+
+/// The generations of nine tries, in each of which the file moved, rise.
+pub fn moved_generations_rise()
+    ensures { MovedGenerationsRise }
 {}
 
 /// A line is that of one reader's keys.

@@ -28,7 +28,8 @@
 //!
 //! Which peer it is doesn't matter. Of one that tells its history, laws say what the result is
 //! worth: bytes and refusals are the machine's ([`reads_are_the_machines`]), and where nobody
-//! changes the history meanwhile a read ends so unless it is cut off ([`reads_are_answered`]).
+//! changes the history meanwhile a read ends so unless it is cut off ([`reads_are_answered`]). The
+//! nine generations rise ([`moved_generations_rise`]).
 //!
 //! | file in `specs/` | says |
 //! |---|---|
@@ -38,6 +39,7 @@
 //! | `Reads` | the asks of a read, from peer to peer |
 //! | `Tries` | of the code alone: what came of a part of a try |
 //! | `Causes` | where a fault of the link comes |
+//! | `Rising` | the generations of a read that is unsettled |
 //! | `KeyLines` | the line of a reader's keys, as it is written and as it may be read |
 //! | `Laws` | the laws |
 //!
@@ -58,4 +60,6 @@ mod tests;
 
 pub use client::Client;
 pub use fault::ClientFault;
-pub use laws::{lines_are_read_once, reads_are_answered, reads_are_the_machines};
+pub use laws::{
+    lines_are_read_once, moved_generations_rise, reads_are_answered, reads_are_the_machines,
+};

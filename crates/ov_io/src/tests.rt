@@ -4,8 +4,8 @@ ghost use Rattle.std.specs.Io.KnownBytes.{Appends, Consumes};
 ghost use Rattle.ov_base.specs.Causes.{Rose};
 
 use crate::{
-    Fault, FileSink, FileSource, MemSink, MemSource, MemStream, Sink, Source, StdSink, StdSource, StdStream,
-    Stream,
+    Fault, FileSink, FileSource, MemSink, MemSource, MemStream, Sink, Source, StdSink, StdSource,
+    StdStream, Stream,
 };
 use ov_base::Octets;
 use std::fs;

@@ -110,7 +110,7 @@ module _ (k : Masters) (v : Service) (others : List SealedUpdate) (p : PlainHist
       let test = a_refusal (is_user (matrix_shown c) (user_named c user)) why is in (
         test.0,
         λ has. let both : true ≡ false =
-        sym has ∙ (λ i. is_user (sym matrix_is i) (sym (user_is user) i)) ∙ test.1 in cc both,
+            sym has ∙ (λ i. is_user (sym matrix_is i) (sym (user_is user) i)) ∙ test.1 in cc both,
       )
 
 -- ---- what a told peer's answer makes

@@ -15,26 +15,15 @@ use Rattle.ov_wire.specs.AnswerReading.{answer_of}
 use Rattle.ov_wire.specs.AnswersTo.{IsAnswer}
 use Rattle.ov_peer.specs.Asks.{Ask}
 use Rattle.ov_owner.specs.Errands.{Errand, known_of, plan_of, sealed_by}
-use Rattle.ov_owner.specs.Laws.{Rises, StaleEpochsRise}
+use Rattle.ov_owner.specs.Laws.{StaleEpochsRise}
 use Rattle.ov_owner.specs.Steps.{IsErrandFor}
 use Rattle.ov_owner.specs.Talks.{Asks, Closes, Ends, Goes, IsAfter, Moves, Sends, Stage, after, after_first, after_update, again_if, sends_if, start, update_request}
 use Rattle.ov_owner.specs.declared.limits.TheConstants.{MAX_TRIES}
 use Rattle.ov_owner.specs.declared.fault.OwnerFault.{OwnerFault}
 use Rattle.ov_owner.specs.declared.fault.OwnerFault.TheVariants as faults
+use Rattle.ov_client.specs.Rising.{Rises}
 use Rattle.ov_client.proofs.Answering.{answer_is}
-
--- a last number that isn't lower
-rises_up : (xs : List ℕ) (n m : ℕ) → Rises (xs ++ n ∷ []) → n ≤ m → Rises (xs ++ m ∷ [])
-rises_up [] n m rises le = tt
-rises_up (x ∷ []) n m (lt, rises) le = (omega arith, tt)
-rises_up (x ∷ (y ∷ xs)) n m (lt, rises) le = (lt, rises_up (y ∷ xs) n m rises le)
-
--- and a higher one behind it
-rises_more : (xs : List ℕ) (n m : ℕ) → Rises (xs ++ n ∷ []) → n < m
-    → Rises ((xs ++ n ∷ []) ++ m ∷ [])
-rises_more [] n m rises lt = (lt, tt)
-rises_more (x ∷ []) n m (less, rises) lt = (less, rises_more [] n m rises lt)
-rises_more (x ∷ (y ∷ xs)) n m (less, rises) lt = (less, rises_more (y ∷ xs) n m rises lt)
+use Rattle.ov_client.proofs.Rising.{rises_more, rises_up}
 
 -- the fault isn't Unsettled
 abbrev IsOther : Result (ℕ × SealedUpdate) OwnerFault → Type 0

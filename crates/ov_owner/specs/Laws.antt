@@ -1,5 +1,5 @@
 -- The laws of an owner's talks.
-use Rattle.std.specs.Prelude.{◌≡◌, ℕ, ◌+◌, ◌*◌, ◌<◌, ◌≤◌, List, [], ◌∷◌, length, Option, Result}
+use Rattle.std.specs.Prelude.{◌≡◌, ℕ, ◌+◌, ◌*◌, ◌≤◌, List, [], ◌∷◌, length, Option, Result}
 use Rattle.std.specs.Prelude.{Err}
 use Rattle.ov_script.specs.declared.command.Command.{Command}
 use Rattle.ov_script.specs.declared.command.Command.TheVariants.{Create}
@@ -11,6 +11,7 @@ use Rattle.ov_history.specs.Sealing.{sealed}
 use Rattle.ov_wire.specs.Frames.{framed}
 use Rattle.ov_protocol.specs.Serving.{Service}
 use Rattle.ov_peer.specs.Asks.{Along, AreRight, Ask}
+use Rattle.ov_client.specs.Rising.{Rises}
 use Rattle.ov_owner.specs.Alone.{AskedAlone, IsOneOrNone}
 use Rattle.ov_owner.specs.Errands.{Errand}
 use Rattle.ov_owner.specs.Steps.{IsErrandFor, IsMachines}
@@ -29,12 +30,6 @@ TalksAreSteps =
     → IsErrandFor k.base command e → Talks k.surface e asks unanswered result
     → v.surface ≡ k.surface → Along v asks histories last → AreRight k histories
     → IsMachines k command histories last.history result
-
--- each is less than the next
-abbrev pub Rises : List ℕ → Type 0
-Rises [] = Unit {0}
-Rises (n ∷ []) = Unit {0}
-Rises (n ∷ (m ∷ more)) = (n < m) × Rises (m ∷ more)
 
 -- the epochs of tries that were all stale rise, and are as many as the tries
 abbrev pub StaleEpochsRise : Type 0

@@ -4,6 +4,7 @@ ghost use Rattle.ov_base.specs.declared.limits.TheConstants.{MAX_LAYER_NODES};
 ghost use Rattle.ov_wire.specs.AnswersTo.{IsAnswer};
 ghost use Rattle.ov_wire.specs.declared.request.Question.TheVariants.{Key as AsksKey};
 ghost use Rattle.ov_wire.specs.declared.request.Request.TheVariants.{Ask};
+ghost use Rattle.ov_wire.specs.Requests.{HasRequestForm};
 ghost use Rattle.ov_protocol.specs.Serving.{Service};
 ghost use Rattle.ov_owner.specs.Causes.{HasOwnerCause};
 ghost use Rattle.ov_owner.specs.Clients.{IsReaderOf, reader_in, reader_of};
@@ -56,6 +57,7 @@ impl Owner {
     ) -> Result<Client, OwnerFault>
         ensures asks { AsksOnce P.asked P.failed peer.old peer.new
             (Ask (AsksKey user.now)) (reader_in self.now user.now) result }
+        ensures form { HasRequestForm (Ask (AsksKey user.now)) }
         ensures told { (v : Service) → P.serves peer.old v
             → IsReaderOf self.now v (P.serves peer.new) user.now result }
         ensures same { P.borrow peer.new ≡ P.borrow peer.old }

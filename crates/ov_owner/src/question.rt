@@ -1,6 +1,7 @@
 //! Questions of an owner.
 ghost use Rattle.std.specs.Prelude.{◌≡◌};
 ghost use Rattle.ov_wire.specs.declared.request.Request.TheVariants.{Hello, List as ListNames};
+ghost use Rattle.ov_wire.specs.Requests.{HasRequestForm};
 ghost use Rattle.ov_protocol.specs.Serving.{Service};
 ghost use Rattle.ov_owner.specs.Causes.{HasOwnerCause};
 ghost use Rattle.ov_owner.specs.Questions.{AsksOnce, IsListOf, IsWelcomeOf, names_in, welcome_in};
@@ -39,6 +40,7 @@ impl Owner {
     /// Asks for the store's mode, its epoch, and the check value of its base master.
     pub fn hello<P: Peer>(&self, alloc: Global, peer: &mut P) -> Result<Welcome, OwnerFault>
         ensures asks { AsksOnce P.asked P.failed peer.old peer.new Hello welcome_in result }
+        ensures form { HasRequestForm Hello }
         ensures told { (v : Service) → P.serves peer.old v
             → IsWelcomeOf v (P.serves peer.new) result }
         ensures same { P.borrow peer.new ≡ P.borrow peer.old }
@@ -60,6 +62,7 @@ impl Owner {
     ) -> Result<Names, OwnerFault>
         ensures asks { AsksOnce P.asked P.failed peer.old peer.new
             (ListNames file.now) names_in result }
+        ensures form { HasRequestForm (ListNames file.now) }
         ensures told { (v : Service) → P.serves peer.old v
             → IsListOf v (P.serves peer.new) file.now result }
         ensures same { P.borrow peer.new ≡ P.borrow peer.old }

@@ -1,9 +1,8 @@
 -- What is answered by what a server shows is no fault of the disk, and an Accepted is an update's.
-use Rattle.std.proofs.Common.{◌≡◌, ◌∙◌, ◌==◌, ℕ, Bool, true, false, List, [], ◌∷◌, Result, Ok, Err, refl, ap, sym, true≢false}
+use Rattle.std.proofs.Common.{◌≡◌, ◌==◌, ℕ, Bool, true, false, List, [], ◌∷◌, Result, Ok, Err, refl, ap, sym, true≢false}
 use Rattle.ov_record.specs.Reading.{update_of}
 use Rattle.ov_record.specs.Updates.{SealedUpdate}
 use Rattle.ov_history.specs.Catalogue.{Catalogue}
-use Rattle.ov_wire.specs.declared.request.Question.{Question}
 use Rattle.ov_wire.specs.declared.request.Request.{Request}
 use Rattle.ov_wire.specs.declared.request.Request.TheVariants as requests
 use Rattle.ov_wire.specs.declared.answer.Answer.{Answer}
@@ -13,7 +12,7 @@ use Rattle.std.specs.Prelude.{Option, Some, None, slice_get, slice_index_or}
 use Rattle.ov_history.specs.Catalogue.{Filed}
 use Rattle.ov_protocol.specs.Serving.{Serving}
 use Rattle.ov_protocol.specs.Reading.{AnswersChunk}
-use Rattle.ov_protocol.specs.Updating.{AnswersSpelled, spelled_by, updates_in}
+use Rattle.ov_protocol.specs.Updating.{AnswersSpelled, spelled_by}
 use Rattle.ov_protocol.specs.Replies.{AnswersRead, made_of}
 use Rattle.ov_peer.specs.Spellings.{says_accepted}
 

@@ -1,5 +1,5 @@
 -- What is told of users and files is within the limits of a store.
-use Rattle.std.proofs.Common.{◌≡◌, ◌∙◌, ℕ, ◌+◌, ◌^◌, ◌<◌, ◌≤◌, true, false, List, [], ◌∷◌, length, ap, sym, subst, arith, length-append}
+use Rattle.std.proofs.Common.{◌≡◌, ℕ, ◌<◌, ◌≤◌, false, List, [], ◌∷◌, length, sym, subst, arith, length-append}
 use Rattle.std.specs.Prelude.{None, Some, not, slice_get}
 use Rattle.std.proofs.lemmas.Option.{slice_get-get_or}
 use Rattle.ov_base.specs.declared.limits.TheConstants.{MAX_USERS, MAX_FILES, MAX_LAYER_NODES}
@@ -7,13 +7,13 @@ use Rattle.ov_base.specs.Sets.{single}
 use Rattle.ov_base.proofs.Tests.{gt_of_false, true_of_not}
 use Rattle.ov_history.specs.History.{Enrolled, Granted, Revoked}
 use Rattle.ov_history.specs.Asking.{Numbers, key_refusal, newcomer, of_both, of_grant, of_user, refusal_at}
-use Rattle.ov_history.specs.Catalogue.{Catalogue, Filed, Nodes, filed_at, matrix_shown, outline}
+use Rattle.ov_history.specs.Catalogue.{Catalogue, Nodes, filed_at, matrix_shown, outline}
 use Rattle.ov_base.specs.declared.refusal.Refusal.TheVariants.{NoUser}
 use Rattle.ov_history.specs.Lists.{is_file, is_user}
-use Rattle.ov_history.specs.Layers.{Layers, grown, layers_after, lists_after, lists_of, node_of, root_of, wants_of, with_wants}
+use Rattle.ov_history.specs.Layers.{Layers, grown, layers_after, lists_after, lists_of, node_of, root_of, wants_of}
 use Rattle.ov_history.specs.Refusals.{tests_of}
 use Rattle.ov_history.specs.Sound.{IsLayer, IsPlaced}
-use Rattle.ov_history.specs.Briefs.{BriefEnrol, BriefRevoke}
+use Rattle.ov_history.specs.Briefs.{BriefEnrol}
 use Rattle.ov_history.proofs.Outlining.{node-shown}
 use Rattle.ov_history.proofs.PlanLaws.{node_for-there, with_wants-keeps}
 use Rattle.ov_history.proofs.SoundTests.{accepted, is_below, none_applies}

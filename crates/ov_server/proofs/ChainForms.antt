@@ -1,5 +1,5 @@
 -- Chains that are given are within the limits of a store.
-use Rattle.std.proofs.Common.{◌≡◌, ◌∙◌, ℕ, zero, suc, ◌+◌, ◌<◌, ◌≤◌, ◌==◌, ◌^◌, Bool, true, false, List, [], ◌∷◌, ◌++◌, length, ap, refl, sym, subst, arith, inl, inr, length-append}
+use Rattle.std.proofs.Common.{◌≡◌, ℕ, zero, suc, ◌<◌, ◌≤◌, ◌==◌, ◌^◌, Bool, true, false, List, [], ◌∷◌, ◌++◌, length, refl, sym, subst, arith, inl, inr, length-append}
 use Rattle.std.specs.Prelude.{None, Option, Some, Contains, IfSome, if◌then◌else◌, slice_index}
 use Rattle.std.specs.List.{AllByRecursion}
 use Rattle.ov_base.specs.declared.limits.TheConstants.{MAX_LAYER_NODES}
@@ -9,14 +9,13 @@ use Rattle.ov_tokens.specs.declared.chain.Step.{Step}
 use Rattle.ov_tokens.specs.declared.edge.Edge.{Edge}
 use Rattle.ov_tokens.specs.declared.label.Kind.{Kind}
 use Rattle.ov_tokens.specs.declared.label.Kind.TheVariants.{Derive, Access, Surface}
-use Rattle.ov_tokens.specs.declared.token.Token.{Token}
 use Rattle.ov_tokens.specs.Labels.{label_of}
 use Rattle.ov_graph.specs.Chain.{IsChosen, IsFirst}
 use Rattle.ov_graph.specs.Contents.{Contents, IsGraph, edges_to, starts_of}
 use Rattle.ov_graph.proofs.ListLaws.{Contains-first, Contains-later}
 use Rattle.ov_graph.proofs.ReachLaws.{starts-Contains}
 use Rattle.ov_base_layer.specs.declared.grant.Grant.{Grant}
-use Rattle.ov_fields.specs.Spelling.{IsOneOf, IsToken}
+use Rattle.ov_fields.specs.Spelling.{IsOneOf}
 use Rattle.ov_history.specs.Catalogue.{Catalogue, Filed, Nodes, filed_at, matrix_shown}
 use Rattle.ov_history.specs.Chains.{IsAccessChain, IsBaseChain, IsBaseChainIf, IsEdgeChain, IsSurfaceChain, graph_of}
 use Rattle.ov_history.specs.Layers.{root_of}

@@ -1,29 +1,26 @@
 -- A server goes on from where it began by what it accepts.
 use Rattle.std.proofs.Common.{◌≡◌, ◌∙◌, inl, inr, ℕ, ◌+◌, Bool, true, false, List, [], ◌∷◌, ◌++◌, length, Result, Ok, Err, refl, sym, ap, subst, arith, append_assoc, length-append, true≢false}
-use Rattle.std.specs.Prelude.{OnOk, Option, ◌⊎◌}
+use Rattle.std.specs.Prelude.{OnOk, Option}
 use Rattle.ov_base.specs.declared.memory.Memory.{Memory}
 use Rattle.std.proofs.lemmas.List.{append-nil}
-use Rattle.ov_record.specs.Reading.{update_of}
 use Rattle.ov_record.specs.Updates.{SealedUpdate}
 use Rattle.ov_history.specs.Catalogue.{Catalogue, empty_catalogue}
-use Rattle.ov_history.specs.Sealed.{SealedHistory, catalogue_all, catalogue_of}
+use Rattle.ov_history.specs.Sealed.{SealedHistory, catalogue_all}
 use Rattle.ov_disk.specs.Disk.{Image}
 use Rattle.ov_wire.specs.declared.request.Request.{Request}
-use Rattle.ov_wire.specs.declared.answer.Answer.{Answer}
 use Rattle.ov_wire.specs.declared.answer.Answer.TheVariants as answers
-use Rattle.ov_wire.specs.AnswerBytes.{answer_bytes}
 use Rattle.ov_wire.specs.Frames.{IsFrame}
 use Rattle.ov_wire.specs.RequestReading.{request_of}
 use Rattle.ov_wire.proofs.AnswerForms.{answer_is_frame}
-use Rattle.ov_protocol.specs.Serving.{IsService, Service, Serving, later, served}
+use Rattle.ov_protocol.specs.Serving.{IsService, Service, Serving, later}
 use Rattle.ov_protocol.specs.Updating.{spelled_by, updates_in, updates_of}
-use Rattle.ov_protocol.specs.Replies.{AnswersRead, Replies, made_of}
+use Rattle.ov_protocol.specs.Replies.{AnswersRead, made_of}
 use Rattle.ov_protocol.proofs.GoingOn.{epochs_all, servers_go_on, services_are_served}
 use Rattle.ov_protocol.proofs.Leaving.{later-nil}
 use Rattle.ov_protocol.proofs.Reading.{replies_are_frames}
 use Rattle.ov_peer.specs.Spellings.{IsUpdate, longer_if, says_accepted, spelling_in, spelling_of, with_accepted}
 use Rattle.ov_store.specs.Opened.{Opened, Serves}
-use Rattle.ov_server.specs.Answering.{AnswersOrFails, IsAnswered, IsFaulted, serving_of}
+use Rattle.ov_server.specs.Answering.{AnswersOrFails, IsAnswered, serving_of}
 use Rattle.ov_server.specs.Following.{Reaches, RepliesAfter, RepliesAt}
 use Rattle.ov_server.specs.Locally.{needs}
 use Rattle.ov_server.proofs.AnswerKinds.{IsMade, accepted_made, nothing_made, says_so}

@@ -1,6 +1,6 @@
 -- An update that a server makes, or that its store doesn't make.
-use Rattle.std.proofs.Common.{◌≡◌, ◌∙◌, inl, inr, ℕ, ◌+◌, ◌-◌, ◌*◌, ◌^◌, ◌<◌, ◌≤◌, Bool, true, false, List, [], ◌∷◌, ◌++◌, length, Result, Ok, Err, refl, sym, ap, subst, arith, true≢false}
-use Rattle.std.specs.Prelude.{IfOk, IsErrOf, None, OnErr, OnOk, Option, Some, min}
+use Rattle.std.proofs.Common.{◌≡◌, ◌∙◌, inl, inr, ℕ, ◌+◌, ◌-◌, ◌^◌, ◌<◌, Bool, true, false, List, [], ◌∷◌, Result, Ok, Err, refl, sym, ap, subst, arith, true≢false}
+use Rattle.std.specs.Prelude.{IfOk, IsErrOf, None, OnOk, Option, min}
 use Rattle.ov_base.specs.Causes.{Rose}
 use Rattle.ov_base.specs.declared.limits.TheConstants.{LAST_EPOCH}
 use Rattle.ov_base.specs.declared.memory.Memory.{Memory}
@@ -10,13 +10,12 @@ use Rattle.ov_fields.proofs.NameLaws.{name_reads}
 use Rattle.ov_record.specs.Reading.{update_of}
 use Rattle.ov_record.specs.Spelling.{HasForm}
 use Rattle.ov_record.specs.Updates.{SealedUpdate, SealedEnrol, SealedCreate, SealedGrant, SealedRevoke}
-use Rattle.ov_history.specs.Briefs.{brief, outer, part_place, text_of}
-use Rattle.ov_history.specs.Catalogue.{Catalogue, catalogue_after, matrix_shown, outline}
+use Rattle.ov_history.specs.Briefs.{brief, outer, part_place}
+use Rattle.ov_history.specs.Catalogue.{Catalogue, matrix_shown, outline}
 use Rattle.ov_history.specs.Refusals.{tests_of}
 use Rattle.ov_history.proofs.SoundTests.{NoneApplies, none_applies}
-use Rattle.ov_history.specs.Rewrites.{rewrites_of, stored_after}
-use Rattle.ov_history.specs.Sealed.{HasParts, SealedHistory, refusal_shown, with_sealed}
-use Rattle.ov_disk.specs.Disk.{Image, Told}
+use Rattle.ov_history.specs.Sealed.{refusal_shown}
+use Rattle.ov_disk.specs.Disk.{Image}
 use Rattle.ov_disk.specs.Moments.{LeavesOnly}
 use Rattle.ov_wire.specs.declared.request.Request.{Request}
 use Rattle.ov_wire.specs.declared.request.Request.TheVariants as requests
@@ -24,12 +23,12 @@ use Rattle.ov_wire.specs.declared.answer.Answer.{Answer}
 use Rattle.ov_wire.specs.declared.answer.Answer.TheVariants as answers
 use Rattle.ov_wire.specs.AnswerBytes.{answer_bytes}
 use Rattle.ov_wire.specs.RequestReading.{request_of}
-use Rattle.ov_protocol.specs.Serving.{Serving, followed, serving_after}
-use Rattle.ov_protocol.specs.Updating.{AnswersSealed, AnswersSpelled, spelled_by, spelling_place, updates_in}
+use Rattle.ov_protocol.specs.Serving.{Serving}
+use Rattle.ov_protocol.specs.Updating.{AnswersSealed, AnswersSpelled, spelled_by}
 use Rattle.ov_protocol.specs.Replies.{AnswersRead, made_of, updates_asked}
 use Rattle.ov_peer.specs.Spellings.{IsUpdate}
-use Rattle.ov_store.specs.Opened.{Opened, Serves, StaysTold}
-use Rattle.ov_store.specs.Updating.{Fails, GoesOnAfter, IsCallOf, LeavesEither, ServesMore, Updates, failed_after}
+use Rattle.ov_store.specs.Opened.{Opened, StaysTold}
+use Rattle.ov_store.specs.Updating.{GoesOnAfter, IsCallOf, LeavesEither, ServesMore, Updates}
 use Rattle.ov_store.specs.declared.fault.StoreFault.{StoreFault}
 use Rattle.ov_store.specs.declared.fault.StoreFault.TheVariants.{Refused, BadPlan, Disk as DiskFailed, Failed, Memory as NoMemory}
 use Rattle.ov_peer.specs.Disks.{HasUpdate}

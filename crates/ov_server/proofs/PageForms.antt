@@ -4,7 +4,7 @@ use Rattle.std.specs.Prelude.{Option, Some, None, IfSome, slice_get, slice_index
 use Rattle.std.specs.List.{AllByRecursion}
 use Rattle.std.proofs.lemmas.Nat.{ones-le}
 use Rattle.std.proofs.lemmas.Option.{slice_get-get_or, slice_get_within}
-use Rattle.ov_base.specs.declared.limits.TheConstants.{MAX_USERS, MAX_LAYER_NODES, MAX_FILE_BYTES}
+use Rattle.ov_base.specs.declared.limits.TheConstants.{MAX_USERS, MAX_LAYER_NODES}
 use Rattle.ov_base.specs.Names.{IsName}
 use Rattle.ov_base.specs.Sets.{IsBelow, size}
 use Rattle.ov_base.proofs.SetLaws.{IsBelow-small}
@@ -23,7 +23,7 @@ use Rattle.ov_state.specs.Contents.{IsWell}
 use Rattle.ov_wire.specs.AnswerForm.{IsSomeEntry}
 use Rattle.ov_wire.specs.Entries.{Entry, User, Node, Access, File, IsEdge, IsNode, IsNodeEntry, IsOfPart, entry_bytes}
 use Rattle.ov_wire.specs.Updates.{Has32}
-use Rattle.ov_protocol.specs.Pages.{entry_of, node_entry_of, page_of}
+use Rattle.ov_protocol.specs.Pages.{node_entry_of, page_of}
 use Rattle.ov_server.specs.Telling.{IsLayerOfStore, LeadByTokens, PagesNode}
 use Rattle.ov_server.proofs.AskForms.{AreNumbers, user_numbers}
 

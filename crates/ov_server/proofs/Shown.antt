@@ -1,12 +1,11 @@
 -- What a server answers by what it shows, and what it makes by that.
-use Rattle.std.proofs.Common.{◌≡◌, ◌∙◌, inl, inr, ℕ, ◌≤◌, Bool, true, false, List, [], ◌∷◌, ◌++◌, Result, Ok, Err, refl, sym, ap, subst, arith, true≢false}
-use Rattle.std.specs.Prelude.{IfOk, IsErr, OnErr, OnOk, Option, Some}
+use Rattle.std.proofs.Common.{◌≡◌, ◌∙◌, inl, ℕ, false, List, [], Result, Ok, Err, refl, sym, ap, subst, arith, true≢false}
+use Rattle.std.specs.Prelude.{IfOk, IsErr, OnErr, OnOk, Option}
 use Rattle.std.proofs.lemmas.List.{append-nil}
-use Rattle.ov_base.specs.Causes.{Rose}
 use Rattle.ov_base.specs.declared.memory.Memory.{Memory}
 use Rattle.ov_record.specs.Updates.{SealedUpdate}
 use Rattle.ov_history.specs.Sealed.{SealedHistory}
-use Rattle.ov_disk.specs.Disk.{Image, Told}
+use Rattle.ov_disk.specs.Disk.{Image}
 use Rattle.ov_disk.proofs.Runs.{started}
 use Rattle.ov_wire.specs.declared.request.Request.{Request}
 use Rattle.ov_wire.specs.declared.request.Request.TheVariants as requests
@@ -15,12 +14,12 @@ use Rattle.ov_wire.specs.declared.answer.Answer.TheVariants as answers
 use Rattle.ov_wire.specs.AnswerBytes.{answer_bytes}
 use Rattle.ov_wire.specs.AnswerForm.{HasAnswerForm}
 use Rattle.ov_wire.specs.RequestReading.{request_of}
-use Rattle.ov_protocol.specs.Serving.{Serving, followed}
+use Rattle.ov_protocol.specs.Serving.{followed}
 use Rattle.ov_protocol.specs.Replies.{AnswersRead, made_of, updates_asked}
-use Rattle.ov_store.specs.Opened.{Opened, Serves, StaysTold}
+use Rattle.ov_store.specs.Opened.{Opened, Serves}
 use Rattle.ov_store.specs.Updating.{IsCallOf}
 use Rattle.ov_peer.specs.Disks.{HasUpdate}
-use Rattle.ov_server.specs.Answering.{AnswersOrFails, AsksServer, IsAnswered, IsNewFault, KeepsWith, LeavesAsked, serving_of}
+use Rattle.ov_server.specs.Answering.{AsksServer, IsAnswered, IsNewFault, KeepsWith, LeavesAsked, serving_of}
 use Rattle.ov_server.proofs.AnswerKinds.{other_bytes}
 
 -- this is replied, or memory was refused

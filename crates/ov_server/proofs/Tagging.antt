@@ -1,5 +1,5 @@
 -- Updates that are told apart by tag, epoch and spelling.
-use Rattle.std.proofs.Common.{◌≡◌, ◌≢◌, ◌∙◌, ℕ, ◌≤◌, ◌-◌, List, length, Result, Ok, Err, refl, sym, ap, arith}
+use Rattle.std.proofs.Common.{◌≡◌, ◌≢◌, ◌∙◌, ℕ, ◌≤◌, ◌-◌, List, Result, Ok, Err, sym, ap, arith}
 use Rattle.ov_fields.specs.Reading.{placed}
 use Rattle.ov_record.specs.Reading.{update_of}
 use Rattle.ov_record.specs.Updates.{SealedUpdate}

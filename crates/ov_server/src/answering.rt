@@ -78,8 +78,8 @@ impl<D: Disk> Server<D> {
         }
     }
 
-    /// Answers a frame, in place of what was in `reply`. Both are without their length fields. All
-    /// memory is taken before anything changes.
+    /// Answers a frame; the answer takes the place of what `reply` had. Both are without their
+    /// length fields. All memory is taken before anything changes.
     pub fn answer(&mut self, request: &[u8], reply: &mut Vec<u8>) -> Result<(), Memory>
         requires { IsFrame request.now }
         // By what it shows, or that its disk failed.

@@ -1,5 +1,5 @@
 -- What one answer of an answerer does.
-use Rattle.std.specs.Prelude.{◌≡◌, ℕ, List, Option, Some, None}
+use Rattle.std.specs.Prelude.{ℕ, List, Option, Some, None}
 use Rattle.ov_peer.specs.Spellings.{with_accepted}
 use Rattle.ov_session.specs.Exchanges.{Asks}
 

@@ -70,7 +70,7 @@ pub record IsOut {S : Type 0} (d : Doorway S) (number : ℕ) : Type 0 where
   pub out : IsOutAmong d.told number
 
 -- the streams, of which the one of this number was taken back
-pub back_at : {S : Type 0} → List (Given S) → ℕ → Back S → List (Given S)
+abbrev pub back_at : {S : Type 0} → List (Given S) → ℕ → Back S → List (Given S)
 back_at [] number back = []
 back_at (given ∷ more) zero back = record given { back = Some back } ∷ more
 back_at (given ∷ more) (suc number) back = given ∷ back_at more number back

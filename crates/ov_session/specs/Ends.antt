@@ -8,8 +8,8 @@ use Rattle.ov_session.specs.declared.end.SessionEnd.TheVariants as ends
 use Rattle.ov_session.specs.Exchanges.{Asks, Exchange, Leads, answer_for, answers, requests}
 use Rattle.ov_session.specs.Links.{Link}
 
--- Of the bytes that were taken the frames were asked in order, one exchange each, but for the last
--- ones, which were not asked; what comes behind them is no whole frame.
+-- The bytes that were taken are frames and what comes behind them. The frames were asked in order,
+-- one exchange each, but for the last ones, which weren't asked.
 pub record Asked {A : Type 0} (asks : Asks A) (a b : A) (old new : Link)
     (exchanges : List Exchange) (taken : List ℕ) (unasked : List (List ℕ)) (rest : List ℕ)
     : Type 0 where

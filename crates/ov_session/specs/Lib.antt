@@ -3,9 +3,11 @@ pub mod Asking
 pub mod Doors
 pub mod Ends
 pub mod Exchanges
+pub mod Laws
 pub mod Links
 pub mod Memory
 pub mod Reading
 pub mod Replies
 pub mod Serving
 pub mod Steps
+pub mod Turns

@@ -1,5 +1,5 @@
 -- A door in memory.
-use Rattle.std.specs.Prelude.{◌≡◌, ℕ, List, Option, Some, map, Bool, slice_get}
+use Rattle.std.specs.Prelude.{◌≡◌, ℕ, List, Some, map, Bool, slice_get}
 use Rattle.std.specs.Option.{option_map}
 use Rattle.ov_io.specs.declared.stream.MemStream.{MemStream}
 use Rattle.ov_session.specs.declared.memory.Gave.{Gave}
@@ -27,7 +27,8 @@ seen gave = record { stream = gave.stream.value; back = option_map seen_back gav
 -- this was taken back of the stream of this number
 abbrev pub IsBackAt : List (Given MemStream) → ℕ → Back MemStream → Type 0
 IsBackAt gave number back =
-    (stream : MemStream) × (slice_get gave number ≡ Some (record { stream = stream; back = Some back }))
+    (stream : MemStream)
+    × (slice_get gave number ≡ Some (record { stream = stream; back = Some back }))
 
 -- so these streams
 abbrev pub all_seen : List Gave → List (Given MemStream)

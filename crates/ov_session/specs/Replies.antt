@@ -1,10 +1,10 @@
 -- What a peer behind a stream tells.
-use Rattle.std.specs.Prelude.{◌≡◌, ◌⊎◌, ℕ, List, [], take}
+use Rattle.std.specs.Prelude.{◌≡◌, ◌⊎◌, ℕ, List, take}
 use Rattle.std.specs.Io.KnownBytes.{Appends, Consumes, IsAtEnd}
 use Rattle.ov_wire.specs.Frames.{IsBadLength, IsUnfinished, framed}
 use Rattle.ov_session.specs.Links.{Link, LinkRose}
 
--- the request's frame was written, and the reply is the next frame of what was left
+-- the request was written as a frame, and the frame that came next is the reply
 pub record Exchanges (old new : Link) (request reply : List ℕ) : Type 0 where
   pub written : Appends old.written new.written (framed request)
   pub read : Consumes old.left new.left (framed reply)
@@ -16,14 +16,14 @@ pub record Breaks (old new : Link) (request : List ℕ) : Type 0 where
   pub taken : List ℕ
   pub read : Consumes old.left new.left taken
 
--- the input ended before a reply was whole
+-- the input ended, and no whole reply had come
 pub record EndsEarly (old new : Link) : Type 0 where
   pub taken : List ℕ
   pub read : Consumes old.left new.left taken
   pub unfinished : IsUnfinished taken
   pub at_end : IsAtEnd new.left
 
--- a reply's length field was outside its limits
+-- a length field came that no frame has
 pub record HasBadLength (old new : Link) : Type 0 where
   pub field : List ℕ
   pub read : Consumes old.left new.left field

@@ -1,18 +1,18 @@
 -- Inner: no public contract needs this. What the parts of a session do.
 use Rattle.std.specs.Prelude.{◌≡◌, ◌≢◌, ℕ, List, [], ◌∷◌, ◌++◌, length, min, take, false, Option, Result, Ok, Err}
-use Rattle.std.specs.Io.KnownBytes.{Appends}
+use Rattle.std.specs.Io.KnownBytes.{Appends, Consumes}
 use Rattle.ov_base.specs.Causes.{HasCause, Rose}
 use Rattle.ov_io.specs.Putting.{Puts}
-use Rattle.ov_wire.specs.Frames.{Decoding, IsCut, IsFrame, IsUnfinished, framed, later}
+use Rattle.ov_wire.specs.Frames.{Decoding, IsCut, IsFrame, Takes, framed}
 use Rattle.ov_wire.specs.declared.fault.FeedFault.{FeedFault}
 use Rattle.ov_wire.specs.declared.fault.FeedFault.TheVariants as feeds
 use Rattle.ov_session.specs.declared.end.SessionEnd.{SessionEnd}
 use Rattle.ov_session.specs.declared.end.SessionEnd.TheVariants as ends
 use Rattle.ov_session.specs.declared.one.Stop.{Stop}
 use Rattle.ov_session.specs.declared.one.Stop.TheVariants as stops
-use Rattle.ov_session.specs.Ends.{Answered, Asked, Serves}
+use Rattle.ov_session.specs.Ends.{Answered, Serves}
 use Rattle.ov_session.specs.Exchanges.{Asks, Exchange, Leads, answer_for, answers, requests}
-use Rattle.ov_session.specs.Links.{Link}
+use Rattle.ov_session.specs.Links.{IsLater, Link}
 
 -- only the writing half of the stream was touched
 pub record IsWriting (old new : Link) : Type 0 where
@@ -92,17 +92,21 @@ AnswersFrames asks spent a b old new frames (Err stops.Link) = StopsWriting asks
 AnswersFrames asks spent a b old new frames (Err stops.Spent) =
     StopsSpent asks spent a b old new frames
 
--- so far a session has answered all frames that it read, and stands so in the stream
+-- a decoder at the start of a stream
+abbrev pub fresh : Decoding
+fresh = record { start = 0; rest = []; bad = false }
+
+-- so far a session has answered all frames that it read, and its decoder has taken all bytes
 pub record Going {A : Type 0} (asks : Asks A) (a b : A) (old new : Link) (decoding : Decoding)
     (count : ℕ) : Type 0 where
   pub exchanges : List Exchange
   pub taken : List ℕ
-  pub asked : Asked asks a b old new exchanges taken [] decoding.rest
+  pub asked : Leads asks a exchanges b
   pub answered : Answered old new exchanges
-  pub good : decoding.bad ≡ false
-  pub start : decoding.start ≡ later 0 (requests exchanges)
-  pub unfinished : IsUnfinished decoding.rest
+  pub read : Consumes old.left new.left taken
+  pub fed : Takes fresh decoding taken [] (requests exchanges)
   pub counted : count ≡ min (length taken) 18446744073709551615
+  pub later : IsLater old new
 
 -- it goes on, or it ended
 abbrev pub GoesOn : {A : Type 0} → Asks A → (A → Type 0) → A → A → Link → Link → Decoding → ℕ
@@ -117,6 +121,11 @@ IsEndOf rest count (ends.Bad place) = (rest ≢ []) × (place ≡ count)
 IsEndOf rest count ends.LinkFault = ⊥
 IsEndOf rest count ends.Spent = ⊥
 IsEndOf rest count ends.Memory = ⊥
+
+-- how a session ends that stops so
+abbrev pub end_of : Stop → SessionEnd
+end_of stops.Link = ends.LinkFault
+end_of stops.Spent = ends.Spent
 
 -- how a session goes on by what a decoder answered
 abbrev pub go_on : Result (Unit {0}) FeedFault → Result (Unit {0}) SessionEnd

@@ -9,8 +9,8 @@ use std::sync::Wait;
 
 /// Asks one request at a time, for a session.
 pub trait Asker {
-    /// An ask: the asker before it, the request, its reply or none where memory was refused, and the
-    /// asker after it.
+    /// An ask: the asker before it, the request, its reply or none where memory was refused, and
+    /// the asker after it.
     ghost asks: { Self → List ℕ → Option (List ℕ) → Self → Type 0 };
 
     /// It has asked as often as it may.
@@ -21,12 +21,7 @@ pub trait Asker {
     ghost borrow: { Self → ℕ };
 
     /// Asks a frame; the reply replaces what `reply` had. Both are without their length fields.
-    fn ask<R: Wait>(
-        &mut self,
-        rt: &R,
-        request: &[u8],
-        reply: &mut Vec<u8>,
-    ) -> Result<(), AskFault>
+    fn ask<R: Wait>(&mut self, rt: &R, request: &[u8], reply: &mut Vec<u8>) -> Result<(), AskFault>
         requires { IsFrame request.now }
         ensures asked { TellsAsk asks self.old self.new request.now reply.new.items result }
         ensures spent { (result ≡ Err AskFault.Spent) ↔ spent self.old }

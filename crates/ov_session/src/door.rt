@@ -10,8 +10,8 @@ pub trait Door {
     /// What it gives.
     type Stream: Stream + Drop;
 
-    /// What it shows: the streams that it gave and took back, where it tells them, and their number;
-    /// whether it has answered that there are no more; and how often it has failed.
+    /// What it shows: the streams that it gave and took back, where it tells them, and their
+    /// number; whether it has answered that there are no more; and how often it has failed.
     ghost shows: { Self → Doorway Self.Stream };
 
     /// Begins to listen, and appends the address at which it listens.
@@ -23,8 +23,8 @@ pub trait Door {
     fn accept(&mut self) -> Result<Option<Self::Stream>, Fault>
         ensures { Accepts (shows self.old) (shows self.new) result };
 
-    /// Takes back the stream of this number, counted from 0 in the order in which they were given,
-    /// with the end of its session.
+    /// Takes back the stream of this number, with the end of its session. The first stream that was
+    /// given has number 0.
     fn ended(&mut self, number: u32, stream: Self::Stream, end: SessionEnd)
         requires { IsOut (shows self.old) number }
         ensures { shows self.new ≡ taken_back (shows self.old) number stream end };

@@ -2,6 +2,7 @@
 ghost use Rattle.std.specs.Prelude.{◌≡◌};
 ghost use Rattle.ov_session.specs.Doors.{IsUnused};
 ghost use Rattle.ov_session.specs.Serving.{ServesEach, serves_alone};
+ghost use Rattle.ov_session.specs.Turns.{IsAt, ServesNext};
 
 use crate::{Alone, Door, OpenGate, SessionEnd, serve_one};
 use ov_io::{Fault, Stream};
@@ -26,7 +27,10 @@ fn serve_alone<R: Wait, L: Stream, V: Answerer>(
     session: u32,
     stream: &mut L,
     value: &mut V,
-) -> SessionEnd {
+) -> SessionEnd
+    ensures { serves_alone V.reached V.replies L.Source.left L.Sink.written L.Source.faults
+        L.Sink.faults value.old value.new stream.old stream.new result }
+{
     let mut asker = Alone { value };
     serve_one(rt, alloc, session, stream, &mut asker, &OpenGate)
 }
@@ -38,7 +42,12 @@ fn serve_next<R: Wait, D: Door, V: Answerer>(
     door: &mut D,
     value: &mut V,
     number: u32,
-) -> Next {
+) -> Next
+    requires { IsAt (D.shows door.old) number }
+    ensures { ServesNext (serves_alone V.reached V.replies D.Stream.Source.left
+        D.Stream.Sink.written D.Stream.Source.faults D.Stream.Sink.faults) value.old value.new
+        (D.shows door.old) (D.shows door.new) result }
+{
     match door.accept() {
         Ok(Some(given)) => {
             let mut stream = given;

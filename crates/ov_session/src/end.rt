@@ -7,8 +7,8 @@ pub enum SessionEnd {
     End,
     /// The stream couldn't be read, or couldn't be written.
     LinkFault,
-    /// The input isn't frames: `at` is the place of a length field outside its limits, or the number
-    /// of bytes that came where the input ended inside a frame.
+    /// The input isn't frames: `at` is the place of a length field outside its limits, or the
+    /// number of bytes that came where the input ended inside a frame.
     Bad { at: u64 },
     /// The asker has asked as often as it may.
     Spent,

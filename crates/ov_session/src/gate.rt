@@ -1,4 +1,4 @@
-//! What is called between the reading of a request and its turn.
+//! What is told of a request before it is asked.
 
 /// Called before each request of a session is asked. A test holds a session here until another one
 /// went on.

@@ -1,4 +1,31 @@
-//! Sessions of frames over streams.
+//! Sessions of frames over streams, on both sides.
+//!
+//! A session is a stream of frames, each behind its length field, and of one answer for each. On
+//! the server's side [`serve_one`] reads frames, has an [`Asker`] answer them, and writes the
+//! answers in order; [`serve_each`] does so for each stream that a [`Door`] gives, one after the
+//! other, with an `Answerer` that is asked by itself ([`Alone`]). On the client's side [`NetPeer`]
+//! is a peer behind a stream, whatever is at its other end.
+//!
+//! No memory is taken between an answer and its writing, so an answer that was given is sent or
+//! the session ends. A [`NetPeer`] takes no byte past the reply that it waits for, so nothing that
+//! comes early is lost.
+//!
+//! * [`MemDoor`] is a door in memory: it gives the streams that it was made with, keeps what
+//!   comes back, and fails at the calls that it is told to.
+//! * [`TcpDoor`] and [`TcpLink`] are over the system's sockets, tell nothing, and are trusted.
+//! * A [`Gate`] is told of each request before it is asked, so that a test can hold a session there.
+//!
+//! | file in `specs/` | says |
+//! |---|---|
+//! | `Exchanges`, `Asking` | what an asker tells, and what is sent for a reply |
+//! | `Links` | what a stream tells |
+//! | `Ends` | what a session did, for each way in which it ends |
+//! | `Alone` | what one answer of an answerer does |
+//! | `Doors` | what a door shows, and what each call does to it |
+//! | `Serving` | sessions one after the other |
+//! | `Replies` | what a peer behind a stream tells, and why it fails |
+//! | `Memory` | a door in memory |
+//! | `Laws` | the same bytes end a session in the same way ([`inputs_end_one_way`]) |
 #![tactic(auto)]
 
 mod alone;
@@ -8,6 +35,7 @@ mod each;
 mod end;
 mod fault;
 mod gate;
+mod laws;
 mod memory;
 mod one;
 mod peer;
@@ -24,7 +52,8 @@ pub use each::serve_each;
 pub use end::SessionEnd;
 pub use fault::AskFault;
 pub use gate::{Gate, OpenGate};
-pub use memory::MemDoor;
+pub use laws::inputs_end_one_way;
+pub use memory::{MemDoor, Returned};
 pub use one::serve_one;
 pub use peer::NetPeer;
 pub use tcp_door::TcpDoor;

@@ -59,8 +59,8 @@ fn is_failing(fails: &Octets, call: u64) -> bool
 }
 
 impl MemDoor {
-    /// A door that gives these streams in order. It fails exactly the calls whose numbers, from 0 and
-    /// below 256, are in `fails`, and where memory for a growth is refused.
+    /// A door that gives these streams in order. It fails exactly the calls whose numbers, from 0
+    /// and below 256, are in `fails`, and where memory for a growth is refused.
     pub fn new(alloc: Global, streams: Vec<MemStream>, fails: Octets) -> MemDoor
         ensures { result ≡ record {
           waiting = streams.items;
@@ -83,7 +83,8 @@ impl MemDoor {
 
     /// What was taken back of the stream of this number.
     pub fn back(&self, number: usize) -> Option<&Returned>
-        ensures { IfSome result (λ returned. IsBackAt self.now.gave number (seen_back returned.now)) }
+        ensures { IfSome result (λ returned.
+            IsBackAt self.now.gave number (seen_back returned.now)) }
     {
         match self.gave.as_slice().get(number) {
             Some(gave) => gave.back.as_ref(),
@@ -127,7 +128,7 @@ impl Door for MemDoor {
     }
 
     fn accept(&mut self) -> Result<Option<MemStream>, Fault> {
-        if self.fails_now() || self.gave.reserve(1).is_err() {
+        if self.fails_now() {
             return Err(self.fail());
         }
         if self.waiting.is_empty() {
@@ -135,11 +136,13 @@ impl Door for MemDoor {
             return Ok(None);
         }
         let stream = self.waiting.remove(0);
-        self.gave.push_reserved(Gave {
+        match self.gave.push(Gave {
             stream: Snapshot::of(&stream),
             back: None,
-        });
-        Ok(Some(stream))
+        }) {
+            Ok(()) => Ok(Some(stream)),
+            Err(_) => Err(self.fail()),
+        }
     }
 
     fn ended(&mut self, number: u32, stream: MemStream, end: SessionEnd) {

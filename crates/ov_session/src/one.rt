@@ -4,7 +4,7 @@ ghost use Rattle.std.specs.List.{AllByRecursion};
 ghost use Rattle.ov_wire.specs.Frames.{IsFrame};
 ghost use Rattle.ov_session.specs.Ends.{Serves};
 ghost use Rattle.ov_session.specs.Links.{IsLater, IsSameLoan, Link, link};
-ghost use Rattle.ov_session.specs.Steps.{AnswersFrame, AnswersFrames, Going, GoesOn, IsEndOf, IsWriting, go_on};
+ghost use Rattle.ov_session.specs.Steps.{AnswersFrame, AnswersFrames, Going, GoesOn, IsEndOf, IsWriting, end_of, go_on};
 
 use crate::putting::put_frame;
 use crate::{AskFault, Asker, Gate, SessionEnd};
@@ -136,6 +136,16 @@ fn answer_each<R: Wait, L: Stream, A: Asker, G: Gate>(
     Ok(())
 }
 
+/// How a session ends that stops so.
+fn end_of(stop: Stop) -> SessionEnd
+    ensures { result ≡ end_of stop }
+{
+    match stop {
+        Stop::Link => SessionEnd::LinkFault,
+        Stop::Spent => SessionEnd::Spent,
+    }
+}
+
 /// How a session ends by what a decoder answered.
 fn go_on(fed: Result<(), FeedFault>) -> Result<(), SessionEnd>
     ensures { result ≡ go_on fed }
@@ -187,8 +197,7 @@ fn read_on<R: Wait, L: Stream, A: Asker, G: Gate>(
         &mut reading.asked,
     ) {
         Ok(()) => go_on(fed),
-        Err(Stop::Link) => Err(SessionEnd::LinkFault),
-        Err(Stop::Spent) => Err(SessionEnd::Spent),
+        Err(stop) => Err(end_of(stop)),
     }
 }
 

@@ -1,5 +1,6 @@
 //! A peer behind a stream.
-ghost use Rattle.std.specs.Prelude.{◌≡◌, length, false, IfOk, OnErr, OnOk};
+ghost use Rattle.std.specs.Prelude.{◌≡◌, ◌<◌, ◌^◌, length, false, IfOk, OnErr, OnOk};
+ghost use Rattle.ov_fields.specs.Spelling.{u32};
 ghost use Rattle.ov_wire.specs.Frames.{IsFrame, IsFrameLength};
 ghost use Rattle.ov_peer.specs.Causes.{HasLinkCause};
 ghost use Rattle.ov_session.specs.Links.{IsSameLoan, link};
@@ -73,8 +74,16 @@ fn fill<L: Stream>(stream: &mut L, buf: &mut [u8]) -> Result<usize, Fault>
     Ok(at)
 }
 
-/// Reads a frame's length field. It is a fault where the input ends before it is whole, and where it
-/// is outside its limits.
+/// The number in a length field.
+fn number_in(field: [u8; 4]) -> usize
+    ensures number { u32 result ≡ field }
+    ensures fits { result < 2 ^ 32 }
+{
+    u32::from_be_bytes(field) as usize
+}
+
+/// Reads a frame's length field. It is a fault where the input ends before it is whole, and where
+/// it is outside its limits.
 fn take_length<L: Stream>(stream: &mut L) -> Result<usize, Fault>
     ensures takes { TakesLength
         (link L.Source.left L.Sink.written L.Source.faults L.Sink.faults stream.old)
@@ -90,7 +99,7 @@ fn take_length<L: Stream>(stream: &mut L) -> Result<usize, Fault>
     if count < 4 {
         return Err(Fault);
     }
-    let wanted = u32::from_be_bytes(head) as usize;
+    let wanted = number_in(head);
     if wanted == 0 {
         return Err(Fault);
     }
@@ -100,12 +109,8 @@ fn take_length<L: Stream>(stream: &mut L) -> Result<usize, Fault>
     Ok(wanted)
 }
 
-/// Reads the frame behind a length field, in place of what was in `reply`.
-fn take_body<L: Stream>(
-    stream: &mut L,
-    wanted: usize,
-    reply: &mut Vec<u8>,
-) -> Result<(), PeerFault>
+/// Reads the frame behind a length field into `reply`, which loses what it had.
+fn take_body<L: Stream>(stream: &mut L, wanted: usize, reply: &mut Vec<u8>) -> Result<(), PeerFault>
     requires { IsFrameLength wanted }
     ensures takes { TakesBody
         (link L.Source.left L.Sink.written L.Source.faults L.Sink.faults stream.old)
@@ -129,7 +134,7 @@ fn take_body<L: Stream>(
     }
 }
 
-/// Reads the next frame, in place of what was in `reply`.
+/// Reads the next frame into `reply`, which loses what it had.
 fn take_frame<L: Stream>(stream: &mut L, reply: &mut Vec<u8>) -> Result<(), PeerFault>
     ensures takes { TakesFrame
         (link L.Source.left L.Sink.written L.Source.faults L.Sink.faults stream.old)
@@ -144,11 +149,7 @@ fn take_frame<L: Stream>(stream: &mut L, reply: &mut Vec<u8>) -> Result<(), Peer
 }
 
 /// Writes a request, and reads the next frame.
-fn exchange<L: Stream>(
-    stream: &mut L,
-    request: &[u8],
-    reply: &mut Vec<u8>,
-) -> Result<(), PeerFault>
+fn exchange<L: Stream>(stream: &mut L, request: &[u8], reply: &mut Vec<u8>) -> Result<(), PeerFault>
     requires { IsFrame request.now }
     ensures exchanges { ExchangesOrFails
         (link L.Source.left L.Sink.written L.Source.faults L.Sink.faults stream.old)

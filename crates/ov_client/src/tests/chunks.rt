@@ -4,7 +4,7 @@ use super::long_vectors::*;
 use super::*;
 use ov_io::MemSink;
 use ov_peer::Traced;
-use ov_surface::over_encrypt;
+use ov_surface::{base_encrypt, over_encrypt};
 use sha2::{Digest, Sha256};
 
 /// The bytes of the file: byte number i is 7 times i, modulo 251.
@@ -19,8 +19,12 @@ fn text(alloc: Global) -> Result<Vec<u8>, Fail> {
 /// The stored bytes of the file, under the key of a surface node.
 fn stored(alloc: Global, surface: &Key) -> Result<Vec<u8>, Fail> {
     let mut bytes = text(alloc)?;
-    ov_surface::base_encrypt(&Key { bytes: ACCESS_KEY }, 0, 0, &mut bytes);
-    over_encrypt(surface, 0, 0, &mut bytes);
+    if bytes.len() == LENGTH {
+        base_encrypt(&Key { bytes: ACCESS_KEY }, 0, 0, &mut bytes);
+    }
+    if bytes.len() == LENGTH {
+        over_encrypt(surface, 0, 0, &mut bytes);
+    }
     Ok(bytes)
 }
 
@@ -49,10 +53,24 @@ fn put_chunks(
 fn replies(alloc: Global) -> Result<Vec<Octets>, Fail> {
     let mut replies = Vec::new(alloc);
     replies.push(Octets::copy(alloc, &CHAINED)?)?;
-    put_chunks(alloc, &Key { bytes: SURFACE_KEY_A }, 2, &mut replies)?;
+    put_chunks(
+        alloc,
+        &Key {
+            bytes: SURFACE_KEY_A,
+        },
+        2,
+        &mut replies,
+    )?;
     replies.push(Octets::copy(alloc, &MOVED)?)?;
     replies.push(Octets::copy(alloc, &CHAINED_AGAIN)?)?;
-    put_chunks(alloc, &Key { bytes: SURFACE_KEY_AGAIN }, 4, &mut replies)?;
+    put_chunks(
+        alloc,
+        &Key {
+            bytes: SURFACE_KEY_AGAIN,
+        },
+        4,
+        &mut replies,
+    )?;
     Ok(replies)
 }
 
@@ -67,10 +85,16 @@ fn a_file_that_moved_before_its_third_chunk(rt: HostRuntime) -> Result<(), Fail>
     let result = reader_a()?.read(alloc, &mut traced, &name(b"f")?, &mut into);
     assert_eq!(rt; result, Ok(()));
     assert_eq!(rt; into.len(), LENGTH);
-    assert_eq!(rt; Sha256::digest(into.as_slice()).as_slice(), TEXT_SHA256.as_slice());
+    assert_eq!(rt;
+        Sha256::digest(into.as_slice()).as_slice(),
+        TEXT_SHA256.as_slice()
+    );
     // The nine requests and the replies, each behind its length field.
     let (_, sink) = traced.into_parts();
     assert_eq!(rt; sink.written().len(), 331_445);
-    assert_eq!(rt; Sha256::digest(sink.written()).as_slice(), TRACE_SHA256.as_slice());
+    assert_eq!(rt;
+        Sha256::digest(sink.written()).as_slice(),
+        TRACE_SHA256.as_slice()
+    );
     Ok(())
 }

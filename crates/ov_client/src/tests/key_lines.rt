@@ -8,6 +8,9 @@ const SURFACE: &[u8] = b"e1fda146db9605768430fc279fa83120a9db575932132e13b257f8b
 
 const CAPITAL: &[u8] = b"6829D4D2E470DEBD34BF50F13047DB4DCF730CBFE88E9986E6FE30DD7D674731";
 
+/// A digit too few.
+const SHORT: &[u8] = b"829d4d2e470debd34bf50f13047db4dcf730cbfe88e9986e6fe30dd7d674731";
+
 /// These parts, joined.
 fn joined(alloc: Global, parts: &[&[u8]]) -> Result<Vec<u8>, Fail> {
     let mut text = Vec::new(alloc);
@@ -46,24 +49,24 @@ fn lines_are_written_and_read(rt: HostRuntime) -> Result<(), Fail> {
 
 #[test]
 fn other_texts_are_no_lines(rt: HostRuntime) -> Result<(), Fail> {
-    let others: [[&[u8]; 5]; 14] = [
-        [b"", b"", b"", b"", b""],
-        [b"c 4096 ", BASE, b" 2 ", SURFACE, b"\n"],
-        [b"c 02 ", BASE, b" 2 ", SURFACE, b"\n"],
-        [b"c +2 ", BASE, b" 2 ", SURFACE, b"\n"],
-        [b"c  2 ", BASE, b" 2 ", SURFACE, b"\n"],
-        [b"C 2 ", BASE, b" 2 ", SURFACE, b"\n"],
-        [b" 2 ", BASE, b" 2 ", SURFACE, b"\n"],
-        [b"c 2 ", &BASE[1..], b" 2 ", SURFACE, b"\n"],
-        [b"c 2 ", BASE, b" 2 ", &SURFACE[1..], b"\n"],
-        [b"c 2 ", BASE, b" 2 ", &SURFACE[1..], b"g"],
-        [b"c 2 ", BASE, b"  ", SURFACE, b"\n"],
-        [b"c 2 ", BASE, b" 2\n", SURFACE, b"\n"],
-        [b"c 2 ", BASE, b" 2 ", SURFACE, b" \n"],
-        [b"c 2 ", BASE, b" 2 ", SURFACE, b"\n\n"],
+    let others: [&[&[u8]]; 14] = [
+        &[],
+        &[b"c 4096 ", BASE, b" 2 ", SURFACE, b"\n"],
+        &[b"c 02 ", BASE, b" 2 ", SURFACE, b"\n"],
+        &[b"c +2 ", BASE, b" 2 ", SURFACE, b"\n"],
+        &[b"c  2 ", BASE, b" 2 ", SURFACE, b"\n"],
+        &[b"C 2 ", BASE, b" 2 ", SURFACE, b"\n"],
+        &[b" 2 ", BASE, b" 2 ", SURFACE, b"\n"],
+        &[b"c 2 ", SHORT, b" 2 ", SURFACE, b"\n"],
+        &[b"c 2 ", BASE, b" 2 ", SHORT, b"\n"],
+        &[b"c 2 ", BASE, b" 2 ", SHORT, b"g"],
+        &[b"c 2 ", BASE, b"  ", SURFACE, b"\n"],
+        &[b"c 2 ", BASE, b" 2\n", SURFACE, b"\n"],
+        &[b"c 2 ", BASE, b" 2 ", SURFACE, b" \n"],
+        &[b"c 2 ", BASE, b" 2 ", SURFACE, b"\n\n"],
     ];
     for other in others {
-        let text = joined(rt.alloc(), &other)?;
+        let text = joined(rt.alloc(), other)?;
         assert!(rt; Client::from_line(&text).is_none());
     }
     Ok(())

@@ -1,4 +1,4 @@
-use Rattle.std.proofs.Common.{◌∙◌, ◌<◌, ◌++◌, List, length, ap, arith, rules, subst, sym}
+use Rattle.std.proofs.Common.{◌∙◌, ◌<◌, ◌++◌, List, length, ap, arith, rules, subst}
 use Rattle.ov_fields.specs.Entries.{node_entry}
 use Rattle.ov_state.specs.Contents.{nodes_of}
 use Rattle.ov_tokens.specs.declared.edge.Edge.{Edge}

@@ -13,8 +13,7 @@ pub returns-in-Err-put_frame-clause-failed : goal.returns-in-Err-put_frame-claus
 returns-in-Err-put_frame-clause-failed g c =
     let front = c.in-Err-put_frame.ensures.bytes in
     let both = put_part (g.T.Sink.written c.args.self.now.sink) (g.T.Sink.written c.put_frame.new.sink) (g.T.Sink.written c.put_frame-2.new.sink)
-    (framed c.args.request.now) (framed c.deref.result.now) c.in-Ok.ensures.bytes front in
-    (
+    (framed c.args.request.now) (framed c.deref.result.now) c.in-Ok.ensures.bytes front in (
       unput c.deref.result.now both.0
           (subst
           (λ r. g.P.Peer.asked c.args.self.now.peer c.args.request.now r c.ask.new.self)

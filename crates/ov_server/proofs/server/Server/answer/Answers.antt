@@ -1,4 +1,4 @@
-use Rattle.std.proofs.Common.{◌≡◌, ◌∙◌, ℕ, Ok, Err, refl, rules, subst, sym}
+use Rattle.std.proofs.Common.{◌≡◌, Ok, Err, refl, rules}
 use Rattle.ov_wire.specs.declared.answer.Answer.TheVariants as answers
 use Rattle.ov_wire.specs.RequestReading.{request_of}
 use Rattle.ov_server.proofs.Shown.{answers_still, no_frame, still_leaves}

@@ -1,5 +1,5 @@
-use Rattle.std.proofs.Common.{◌≡◌, ◌∙◌, [], Ok, Err, ap, refl, rules, subst, sym}
-use Rattle.std.specs.Prelude.{Result, slice_get, slice_index_or}
+use Rattle.std.proofs.Common.{◌≡◌, ◌∙◌, [], Ok, Err, refl, rules, subst, sym}
+use Rattle.std.specs.Prelude.{slice_get, slice_index_or}
 use Rattle.ov_base.specs.Causes.{Rose}
 use Rattle.ov_base.specs.declared.refusal.Refusal.TheVariants.{NoFile}
 use Rattle.ov_wire.specs.declared.request.Request.{Request}
@@ -8,7 +8,6 @@ use Rattle.ov_wire.specs.declared.answer.Answer.TheVariants as answers
 use Rattle.ov_protocol.specs.Reading.{AnswersChunk}
 use Rattle.ov_peer.specs.Disks.{IsOfGeneration}
 use Rattle.ov_store.specs.Opened.{Opened}
-use Rattle.ov_store.specs.declared.fault.ChunkFault.{ChunkFault}
 use Rattle.ov_server.specs.Answering.{AsksServer}
 use Rattle.ov_server.proofs.ChunkAnswers.{chunk_failed, few_bytes, is_there, says_bytes, says_moved, says_no_file, chunk_err}
 use Rattle.ov_server.proofs.Shown.{answers_still, no_update}

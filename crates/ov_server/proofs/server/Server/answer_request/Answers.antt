@@ -1,4 +1,4 @@
-use Rattle.std.proofs.Common.{◌≡◌, ◌∙◌, ℕ, List, Ok, Err, ap, refl, subst, sym}
+use Rattle.std.proofs.Common.{◌≡◌, ◌∙◌, Ok, ap, refl, subst, sym}
 use Rattle.std.specs.Prelude.{IfOk}
 use Rattle.ov_base.specs.NameLists.{AreDistinct}
 use Rattle.ov_history.specs.Asking.{file_named, user_named}

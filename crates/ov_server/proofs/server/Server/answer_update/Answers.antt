@@ -1,4 +1,4 @@
-use Rattle.std.proofs.Common.{◌≡◌, ◌≢◌, ◌∙◌, ◌+◌, ℕ, List, Result, Ok, Err, length, ap, arith, refl, subst, sym, true≢false}
+use Rattle.std.proofs.Common.{◌≡◌, ◌≢◌, ◌∙◌, ◌+◌, ℕ, Result, Ok, Err, length, ap, arith, refl, subst, sym, true≢false}
 use Rattle.ov_fields.specs.Reading.{all_of}
 use Rattle.ov_record.specs.Reading.{update_at, update_of}
 use Rattle.ov_record.specs.Updates.{SealedUpdate}

@@ -1,7 +1,6 @@
-use Rattle.std.proofs.Common.{ℕ, List, Vec, Global, Result, Err, ◌∙◌, ap, arith, refl, subst, sym}
+use Rattle.std.proofs.Common.{ℕ, List, Vec, Global, ◌∙◌, ap, arith, refl, subst}
 use Rattle.ov_record.specs.Updates.{sealed_update}
 use Rattle.ov_history.specs.Catalogue.{Catalogue}
-use Rattle.ov_store.specs.declared.fault.StoreFault.{StoreFault}
 use Rattle.ov_store.specs.Opened.{Opened}
 use Rattle.ov_peer.specs.Disks.{HasUpdate}
 use Rattle.ov_server.specs.Answering.{AsksServer, serving_of}

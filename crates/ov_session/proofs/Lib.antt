@@ -1,0 +1,6 @@
+pub mod Answering
+pub mod Doors
+pub mod Going
+pub mod Inputs
+pub mod Mapping
+pub mod Replying
