@@ -62,6 +62,8 @@ fn a_workload_one_after_another(rt: HostRuntime) -> Result<(), Fail> {
         (13, b"read u0 f0 "),
         (15, b"revoke u5 f0 "),
         (18, b"create f3 u2 u3 u6 u7 543 10..40"),
+        (19, b"grant u6 f2 "),
+        (28, b"read u3 f1 "),
         (47, b"grant u3 f3 "),
     ];
     let mut commands = Workload::new(rt.alloc(), 7, 40);
