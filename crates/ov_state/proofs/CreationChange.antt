@@ -119,11 +119,11 @@ module _ {W : ℕ} (limit : ℕ) (master : List ℕ) (s : Catalogue) (name : Lis
   rooted : IsBelow (length s.users) list → IsRooted s.base.sets list
   rooted below large user one = well.sound.base.rooted user (below user one)
 
-  few : (b : Bool) → (plan_of s.base.sets list).fresh ≡ b → b ≡ true → is_past_then master s list ≡ false
+  few : (b : Bool) → (plan_of s.base.sets list).fresh ≡ b → b ≡ true → is_past_then s list ≡ false
       → length s.base.sets < MAX_LAYER_NODES
   few false e fresh none = absurd (true≢false (sym fresh))
   few true e fresh none =
-      room (nat_lt MAX_LAYER_NODES (length (with_set s.base.sets list))) (nat_lt MAX_LAYER_NODES (length (surface_then master s list).sets)) none
+      room (nat_lt MAX_LAYER_NODES (length (with_set s.base.sets list))) _ none
       (ap (λ b. nat_lt MAX_LAYER_NODES (length (appended b s.base.sets list))) e) where
         room : (one other : Bool) → (one || other) ≡ false → one ≡ nat_lt MAX_LAYER_NODES (length (s.base.sets ++ list ∷ []))
             → length s.base.sets < MAX_LAYER_NODES

@@ -6,6 +6,7 @@ pub mod Places
 pub mod Faults
 pub mod Relistings
 pub mod NewFiles
+pub mod NewSets
 pub mod Creations
 pub mod Standing
 pub mod Queries

@@ -43,7 +43,8 @@
 //! * The queries give the epoch, the mode, sizes, numbers and names, files, and the list of a file,
 //!   which is read off the layers.
 //! * `ask_enrol`, `ask_grant`, `ask_revoke` and `cover` tell an owner, before an update, the numbers
-//!   that it needs, or why the update would be refused. They touch no bytes.
+//!   that it needs, or why the update would be refused. They touch no bytes, and plan no surface
+//!   nodes: of these they only count which sets would be new.
 //! * [`State::chain`] is refused exactly where a read is, unless memory is. It gives a reader of a
 //!   file the chains from the reader's two roots to the file's keys ([`Chained`]); over true tokens
 //!   they lead to these keys, and [`access_key_by`] walks the one of the base layer.
@@ -60,7 +61,7 @@
 //! | `Asking` | what an owner is told before an update |
 //! | `Chains` | chains to a file's keys, and where they lead |
 //! | `Faults` | a graph's refusal as a fault of `prepare` |
-//! | `Relistings`, `NewFiles`, `Creations` | how changes are planned: for the inside alone |
+//! | `Relistings`, `NewFiles`, `NewSets`, `Creations` | how changes are planned: for the inside alone |
 //!
 //! Sets of users have W words; [`WIDTH`] is the least that holds all users of a store, and
 //! [`Catalogue`] is the state of that width.
@@ -79,6 +80,7 @@ mod fault;
 mod files;
 mod lookup;
 mod new_nodes;
+mod new_sets;
 mod places;
 mod plan_list;
 mod plan_new;

@@ -27,7 +27,7 @@ returns-in_err-to-clause-err g c =
     ∙ (λ i. wanted_surface (ap (λ (held : Held). held.catalogue.mode) c.self.view_is i) c.args.list.now (c.holders_then-holders.ensures i)) in
     let full = subst (λ (held : Held). IsFull (with_want c.args.master.now.bytes (nodes_planned held.catalogue.surface c.new-new.result) c.wanted-want.result).sets c.in_err-to.field-0.0)
     c.self.view_is c.in_err-to.ensures.err in
-    let none : HasNoSite c.args.master.now.bytes c.args.self.now.catalogue c.args.list.now c.in_err-to.field-0.0 =
+    let none : HasNoSite c.args.self.now.catalogue c.args.list.now c.in_err-to.field-0.0 =
     surface_full c.args.master.now.bytes c.args.self.now.catalogue c.args.list.now c.wanted-want.result c.new-new.result c.in_err-to.field-0.0
     c.new-new.ensures.nodes wanted full in
     search rules
