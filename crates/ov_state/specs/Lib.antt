@@ -11,6 +11,7 @@ pub mod Creations
 pub mod Standing
 pub mod Queries
 pub mod Asking
+pub mod Remembering
 pub mod Chains
 pub use Rattle.ov_history.specs.Briefs
 pub use Rattle.ov_history.specs.Catalogue

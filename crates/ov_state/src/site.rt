@@ -61,7 +61,7 @@ impl<B: Graph<Base, W>, S: Graph<Surface, W>, const W: usize> State<B, S, W> {
         ensures err { IfErr result (HasNoSite self.now.catalogue list.now) }
     {
         self.known();
-        let cover = self.base.plan_create(alloc, list)?;
+        let cover = self.base_cover(alloc, list)?;
         let holders = self.holders_then(&cover, list);
         let want = wanted(self.mode, list, &holders);
         let mut new = NewNodes::new(alloc);
