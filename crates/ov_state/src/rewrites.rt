@@ -99,12 +99,7 @@ impl<B: Graph<Base, W>, S: Graph<Surface, W>, const W: usize> State<B, S, W> {
     /// Whether a file may need another surface after the relisting. No set is looked up for that.
     /// A file of another base node keeps its surface, and so does another file with one: the set of
     /// its surface is its list, and the holders are no fewer than before.
-    pub(crate) fn may_move(
-        &self,
-        relisting: &Relisting<W>,
-        file: u32,
-        entry: &FileEntry,
-    ) -> bool
+    pub(crate) fn may_move(&self, relisting: &Relisting<W>, file: u32, entry: &FileEntry) -> bool
         requires relisting { IsRelisting self.now.catalogue relisting.now }
         requires kept { slice_get self.now.catalogue.files file ≡ Some (plain_file entry.now) }
         ensures { MayMove result self.now.catalogue relisting.now file entry.now }
@@ -117,7 +112,12 @@ impl<B: Graph<Base, W>, S: Graph<Surface, W>, const W: usize> State<B, S, W> {
     }
 
     /// The wanted surface set of a file of the node, after the relisting.
-    pub(crate) fn want(&self, relisting: &Relisting<W>, file: u32, entry: &FileEntry) -> Option<UserSet<W>>
+    pub(crate) fn want(
+        &self,
+        relisting: &Relisting<W>,
+        file: u32,
+        entry: &FileEntry,
+    ) -> Option<UserSet<W>>
         requires relisting { IsRelisting self.now.catalogue relisting.now }
         requires placed { IsPlaced self.now.catalogue (plain_file entry.now) }
         requires node { entry.now.node ≡ relisting.now.node }
