@@ -18,7 +18,7 @@ use Rattle.ov_history.specs.Sealed.{refusal_shown}
 use Rattle.ov_history.proofs.SoundTests.{accepted, NoneApplies, none_applies}
 use Rattle.ov_state.specs.Contents.{IsWell}
 use Rattle.ov_state.specs.Changes.{applied, node_added_if, nodes_added, users_grown, files_grown, grants_grown, all_rewritten, Fits, IsNewNodeIf, AreNewNodes, AreOfFiles, rewritten}
-use Rattle.ov_state.specs.NewFiles.{surface_then, is_past_then, new_node_if, IsSite}
+use Rattle.ov_state.specs.NewFiles.{is_past_then, new_node_if, IsSite}
 use Rattle.ov_state.specs.Plans.{IsChange}
 use Rattle.ov_state.specs.Entries.{filed_names, plain_rewrites}
 use Rattle.ov_state.specs.Creations.{IsCreation}

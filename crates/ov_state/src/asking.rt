@@ -93,8 +93,8 @@ impl<B: Graph<Base, W>, S: Graph<Surface, W>, const W: usize> State<B, S, W> {
         asked
     }
 
-    /// Whether there is room for the surface nodes of all files after a relisting, and an epoch comes
-    /// after this one.
+    /// Whether there is room for the surface nodes of all files after a relisting, and an epoch
+    /// comes after this one.
     fn room_after(&self, alloc: Global, relisting: &Relisting<W>) -> Result<(), ChainFault>
         requires { IsRelisting self.now.catalogue relisting.now }
         ensures { let y = outline self.now.catalogue in

@@ -44,7 +44,8 @@ impl<B: Graph<Base, W>, S: Graph<Surface, W>, const W: usize> State<B, S, W> {
 
     /// The cover of a new file's base node, where both layers have room for the nodes of the file.
     fn cover_in_room(&self, alloc: Global, list: &UserSet<W>) -> Result<Cover, GraphRefusal>
-        ensures cover { IfOk result (λ cover. cover ≡ plan_of self.now.catalogue.base.sets list.now) }
+        ensures cover { let sets = self.now.catalogue.base.sets in
+            IfOk result (λ cover. cover ≡ plan_of sets list.now) }
         ensures few { IfOk result (λ _. is_past_then self.now.catalogue list.now ≡ false) }
         ensures err { IfErr result (λ why. HasNoSite self.now.catalogue list.now (fault_of why)) }
     {

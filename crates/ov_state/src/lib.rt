@@ -64,7 +64,8 @@
 //! | `Remembering` | what is kept of that until the update |
 //! | `Chains` | chains to a file's keys, and where they lead |
 //! | `Faults` | a graph's refusal as a fault of `prepare` |
-//! | `Relistings`, `NewFiles`, `NewSets`, `Creations` | how changes are planned: for the inside alone |
+//! | `Relistings`, `NewFiles`, `Creations` | how changes are planned: for the inside alone |
+//! | `NewSets` | which surface sets are new, for questions: for the inside alone |
 //!
 //! Sets of users have W words; [`WIDTH`] is the least that holds all users of a store, and
 //! [`Catalogue`] is the state of that width.

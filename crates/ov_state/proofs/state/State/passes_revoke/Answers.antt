@@ -1,4 +1,4 @@
-use Rattle.std.proofs.Common.{◌*◌, sym, ◌∙◌, ap, subst, rules, Option}
+use Rattle.std.proofs.Common.{◌*◌, sym, ◌∙◌, subst, rules, Option}
 use Rattle.std.proofs.lemmas.Result.{err_from_is_err_and}
 use Rattle.ov_base.specs.declared.refusal.Refusal.{Refusal}
 use Rattle.ov_history.specs.Asking.{refusal_at}

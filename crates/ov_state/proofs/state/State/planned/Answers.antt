@@ -1,4 +1,4 @@
-use Rattle.std.proofs.Common.{◌≡◌, ◌*◌, sym, ◌∙◌, [], rules, subst}
+use Rattle.std.proofs.Common.{◌*◌, sym, ◌∙◌, [], rules, subst}
 use Rattle.std.proofs.lemmas.Result.{err_from_is_err_and}
 use Rattle.ov_history.specs.Asking.{refusal_at}
 use Rattle.ov_history.specs.History.{Created}

@@ -1,4 +1,4 @@
-use Rattle.std.proofs.Common.{sym, ◌∙◌, ap, subst, Bool}
+use Rattle.std.proofs.Common.{ap, subst, Bool}
 use Rattle.std.proofs.lemmas.Result.{on_ok_weaker, IfErr-weaker}
 use Rattle.ov_history.specs.Catalogue.{Nodes}
 use Rattle.ov_state.specs.Contents.{Held}
