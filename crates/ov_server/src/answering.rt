@@ -12,7 +12,6 @@ ghost use Rattle.ov_server.specs.Answering.{IsNewFault, LeavesAsked};
 
 use crate::asking::answer_ask;
 use crate::chaining::answer_chain;
-use crate::covering::answer_cover;
 use crate::form::is_tag;
 use crate::listing::answer_list;
 use crate::paging::answer_page;
@@ -56,7 +55,7 @@ impl<D: Disk> Server<D> {
                 file,
                 length,
                 names,
-            } => reply_with(answer_cover(alloc, state, file, *length, names), reply),
+            } => self.cover_and_remember(file, *length, names, reply),
             Request::Update {
                 epoch,
                 spelling,

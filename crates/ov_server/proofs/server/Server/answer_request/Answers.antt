@@ -3,13 +3,12 @@ use Rattle.std.specs.Prelude.{IfOk}
 use Rattle.ov_base.specs.NameLists.{AreDistinct}
 use Rattle.ov_history.specs.Asking.{file_named, user_named}
 use Rattle.ov_history.specs.Catalogue.{Catalogue}
-use Rattle.ov_history.specs.Lists.{set_named}
 use Rattle.ov_wire.specs.declared.request.Request.{Request}
 use Rattle.ov_wire.specs.declared.request.Request.TheVariants as requests
 use Rattle.ov_wire.specs.declared.answer.Answer.{Answer}
 use Rattle.ov_wire.specs.declared.answer.Answer.TheVariants as answers
 use Rattle.ov_wire.specs.RequestReading.{request_of}
-use Rattle.ov_protocol.specs.Asking.{AnswersAsk, AnswersCover}
+use Rattle.ov_protocol.specs.Asking.{AnswersAsk}
 use Rattle.ov_protocol.specs.Pages.{entry_of, page_of}
 use Rattle.ov_protocol.specs.Reading.{AnswersChain, AnswersList}
 use Rattle.ov_store.specs.Opened.{Opened}
@@ -53,24 +52,6 @@ returns-in-Ask g c =
     (always c.answer_ask.result (MakesNone s request (Ok asked))
     (λ a. (refl, λ u has. absurd (no_update s request u has asked read (λ e. let wrong = e.3 in cc)))))
     (c.reply_with-in-Ask.ensures.ok, c.reply_with-in-Ask.ensures.err)
-
-pub returns-in-Cover : goal.returns-in-Cover
-returns-in-Cover g c =
-    let s = c.args.self.now in
-    let same : c.state-state.result.now.catalogue ≡ s.catalogue =
-    c.state-state.ensures ∙ ap (λ (o : Opened g.row.D.Denot). o.catalogue) c.self.view_is in
-    let asked : Request = requests.Cover c.in-Cover.file c.in-Cover.length c.in-Cover.names in
-    λ request is.
-    let read : request_of request ≡ Ok asked = is ∙ ap (λ (r : Request). Ok r) c.in-Cover.is in
-    answers_still g.D.Disk.reads g.D.Disk.may_leave g.D.Disk.moment g.D.Disk.left_since
-    g.D.Disk.borrow g.D.Disk.faults g.met.D.Disk.only_now s request (Ok asked) read c.answer_cover.result
-    c.reply_with-in-Cover.new.reply.items c.reply_with-in-Cover.result
-    (subst (λ (k : Catalogue). IfOk c.answer_cover.result (AnswersCover k c.in-Cover.file c.in-Cover.length
-    (set_named k.users c.in-Cover.names))) same
-    c.answer_cover.ensures.answer) c.answer_cover.ensures.form
-    (always c.answer_cover.result (MakesNone s request (Ok asked))
-    (λ a. (refl, λ u has. absurd (no_update s request u has asked read (λ e. let wrong = e.3 in cc)))))
-    (c.reply_with-in-Cover.ensures.ok, c.reply_with-in-Cover.ensures.err)
 
 pub returns-in-Chain : goal.returns-in-Chain
 returns-in-Chain g c =
