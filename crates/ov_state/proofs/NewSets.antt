@@ -50,6 +50,13 @@ want-few sets old new want wanted none is added few =
     let all = added ∙ (λ i. with_wants (sets ++ none i) (is i ∷ [])) ∙ ap (λ sets. with_wants sets (wanted ∷ [])) (append-nil sets) in
     omega (arith, ap length all, length-append sets new, few)
 
+-- there is none, so there is none for it after sets that are no others
+pub want-full : (sets old : List ℕ) (want wanted : Option ℕ) (fault : PrepareFault) → old ≡ [] → want ≡ wanted
+    → IsFull (with_wants (sets ++ old) (want ∷ [])) fault → IsFull (with_wants sets (wanted ∷ [])) fault
+want-full sets old want wanted fault none is full =
+    subst (λ (all : List ℕ). IsFull all fault)
+    ((λ i. with_wants (sets ++ none i) (is i ∷ [])) ∙ ap (λ sets. with_wants sets (wanted ∷ [])) (append-nil sets)) full
+
 -- ---- wanted sets, file by file
 
 pub ok-both : {A E : Type 0} (P Q : Type 0) (r : Result A E) → OnOk r P → OnOk r Q → OnOk r (P × Q)

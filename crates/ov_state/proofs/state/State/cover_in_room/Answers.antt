@@ -1,11 +1,15 @@
-use Rattle.std.proofs.Common.{◌≡◌, ◌≤◌, ◌+◌, ◌++◌, ◌∷◌, [], ◌∙◌, ap, subst, length, List, ℕ}
+use Rattle.std.proofs.Common.{◌≡◌, ◌≤◌, ◌+◌, ◌++◌, ◌∷◌, [], ◌∙◌, ap, sym, subst, length, List, ℕ}
+use Rattle.std.proofs.lemmas.Result.{err_from_is_err_and}
+use Rattle.ov_graph.specs.declared.cover.GraphRefusal.{GraphRefusal}
 use Rattle.ov_graph.specs.Contents.{plan_of}
 use Rattle.ov_surface.specs.Wanted.{wanted_surface}
 use Rattle.ov_history.specs.Layers.{with_wants}
 use Rattle.ov_state.specs.Contents.{Held}
-use Rattle.ov_state.specs.NewFiles.{want_then}
-use Rattle.ov_state.proofs.NewSets.{want-few}
-use Rattle.ov_state.proofs.Sites.{room_then}
+use Rattle.ov_state.specs.Faults.{fault_of}
+use Rattle.ov_state.specs.NewFiles.{want_then, HasNoSite}
+use Rattle.ov_state.specs.Relistings.{IsFull}
+use Rattle.ov_state.proofs.NewSets.{want-few, want-full}
+use Rattle.ov_state.proofs.Sites.{room_then, full_then}
 use Rattle.ov_state.proofs.state.State.cover_in_room.Goals as goal
 use Rattle.ov_base.specs.declared.limits.TheConstants.{MAX_LAYER_NODES}
 
@@ -26,3 +30,18 @@ returns-clause-few g c =
     (want-few s.surface.sets old new c.wanted.result (want_then s list) c.new-new.ensures wanted
     (subst (λ (sets : List ℕ). sets ++ new ≡ with_wants (sets ++ old) (c.wanted.result ∷ [])) sets c.in_ok-add.ensures.sets)
     (subst (λ (sets : List ℕ). length sets + length new ≤ MAX_LAYER_NODES) sets c.in_ok-add.ensures.few))
+
+pub returns-in_err-add-clause-err : goal.returns-in_err-add-clause-err
+returns-in_err-add-clause-err g c =
+    let s = c.args.self.now.catalogue in
+    let list = c.args.list.now in
+    let old = c.new-new.result.sets.items in
+    let fault = fault_of c.in_err-add.field-0.0 in
+    let sets = ap (λ (held : Held). held.catalogue.surface.sets) c.self.view_is in
+    let wanted : c.wanted.result ≡ want_then s list =
+    c.wanted.ensures ∙ (λ i. wanted_surface (ap (λ (held : Held). held.catalogue.mode) c.self.view_is i) list (c.holders_then-holders.ensures i)) in
+    let p = err_from_is_err_and c.from_residual-in_err-add.result c.from_residual-in_err-add.ensures.1 in
+    rw p.1 (subst (λ (why : GraphRefusal). HasNoSite s list (fault_of why)) (sym p.2)
+    (full_then s list fault
+    (want-full s.surface.sets old c.wanted.result (want_then s list) fault c.new-new.ensures wanted
+    (subst (λ (sets : List ℕ). IsFull (with_wants (sets ++ old) (c.wanted.result ∷ [])) fault) sets c.in_err-add.ensures.full))))
