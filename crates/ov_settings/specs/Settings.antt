@@ -10,9 +10,11 @@ use Rattle.toml.specs.Data.{Members, as_integer, as_str, get_member}
 use Rattle.toml.specs.Parse.{parse_document}
 use Rattle.ov_settings.specs.declared.settings.Settings.{Settings}
 use Rattle.ov_settings.specs.declared.fault.SettingsFault.{SettingsFault}
-use Rattle.ov_settings.specs.declared.fault.SettingsFault.TheVariants.{Read, Memory, TooLong, NotToml}
-use Rattle.ov_settings.specs.declared.fault.SettingsFault.TheVariants.{Address, Mode as ModeKey, Surface}
-use Rattle.ov_settings.specs.declared.fault.SettingsFault.TheVariants.{BaseCheck, Book, Blobs, Sessions}
+use Rattle.ov_settings.specs.declared.fault.SettingsFault.TheVariants.{Read, Memory, TooLong}
+use Rattle.ov_settings.specs.declared.fault.SettingsFault.TheVariants.{NotToml, Address}
+use Rattle.ov_settings.specs.declared.fault.SettingsFault.TheVariants.{Mode as ModeKey, Surface}
+use Rattle.ov_settings.specs.declared.fault.SettingsFault.TheVariants.{BaseCheck, Book, Blobs}
+use Rattle.ov_settings.specs.declared.fault.SettingsFault.TheVariants.{Sessions}
 use Rattle.ov_settings.specs.declared.settings.TheConstants.{MAX_SESSIONS}
 use Rattle.ov_settings.specs.declared.reading.TheConstants.{ENOUGH, LONGEST}
 use Rattle.ov_io.specs.Calls.{TakesWhile}

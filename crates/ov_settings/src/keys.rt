@@ -2,7 +2,8 @@
 ghost use Rattle.std.specs.Prelude.{◌≡◌, IfOk, option_map};
 ghost use Rattle.toml.specs.View.{table_view};
 ghost use Rattle.ov_settings.specs.Settings.{AreSettings, Finds, FindsOr, HoldsDigits, HoldsMode};
-ghost use Rattle.ov_settings.specs.Settings.{HoldsSessions, HoldsText, fault_code, integer_at, text_at};
+ghost use Rattle.ov_settings.specs.Settings.{HoldsSessions, HoldsText, fault_code};
+ghost use Rattle.ov_settings.specs.Settings.{integer_at, text_at};
 ghost use Rattle.ov_keyfile.specs.KeyFile.{IsKeyLine};
 
 use crate::fault::SettingsFault;
