@@ -45,7 +45,7 @@ taken c epoch u (answers.BadRequest place) ready (none, lacks, at_place) form =
     absurd (lacks ready.parts)
 taken c epoch u a ready is form = absurd is
 
-update_taken : (surface : List ℕ) (c : Catalogue) (epoch : ℕ) (u : SealedUpdate) (a : Answer)
+pub update_taken : (surface : List ℕ) (c : Catalogue) (epoch : ℕ) (u : SealedUpdate) (a : Answer)
     → IsMakeable c epoch u → HasForm 32 u
     → AnswersUpdate surface c epoch (spelling 32 u) (owner_tag surface epoch (spelling 32 u)) a
     → HasAnswerForm a

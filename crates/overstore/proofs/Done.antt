@@ -27,6 +27,7 @@ use Rattle.ov_owner.specs.declared.fault.OwnerFault.{OwnerFault}
 use Rattle.ov_owner.specs.declared.fault.OwnerFault.TheVariants as faults
 use Rattle.ov_server.specs.Locally.{IsServedBy}
 use Rattle.ov_transcript.specs.Transcripts.{service_of}
+use Rattle.overstore.specs.Disks.{HasMade}
 use Rattle.overstore.specs.Machine.{IsStep, KeptOn, StandsFor, Steps, StepsAt, opened_of}
 use Rattle.overstore.specs.Replying.{HasOwnFault, change_reply, epoch_reply, fault_reply, names_reply}
 use Rattle.overstore.specs.Seats.{IsSeat}
@@ -40,7 +41,9 @@ use Rattle.overstore.proofs.Putting.{change_put, question_put}
 use Rattle.overstore.proofs.Questioning.{IsCutOff, IsTakenOf, once_so}
 use Rattle.overstore.proofs.Seating.{leads_so, left_so}
 use Rattle.overstore.proofs.Staying.{EndsThere, HasOwnCause, still_call, still_steps}
-use Rattle.overstore.proofs.Stepping.{changes_step, serves_at}
+use Rattle.overstore.proofs.Stepping.{changes_step, has_made, serves_at}
+use Rattle.overstore.proofs.Transcripts.{traced_with}
+use Rattle.overstore.proofs.Updating.{still_made}
 
 -- a list ends so, and so is its fault caused
 abbrev ListEnds : List ℕ → PlainHistory → Result (List (List ℕ)) OwnerFault → Type 0
@@ -61,7 +64,7 @@ module _ {D : Type 0} (reads : D → Option Image) (may_leave : D → Image → 
     pub record IsDone (command : Command) (old new : KeptOn D) (a b : P)
         (r : Result Reply StepFault) : Type 0 where
       pub steps : Steps reads may_leave moment left_since command old new r
-      pub traced : Traces command old.kept (put a) (put b) r
+      pub traced : Traces reads may_leave command old new (put a) (put b) r
       pub step : IsStep borrow faults_of old new r
 
     -- ---- changes
@@ -107,7 +110,13 @@ module _ {D : Type 0} (reads : D → Option Image) (may_leave : D → Image → 
               stands masters sound command e ours is_honest made is);
           traced = λ p stands.
               change_put reads may_leave moment left_since borrow faults_of asked failed server put loan seat
-              k p stands.0.0 command e runs.asks runs.unanswered made a b ours
+              k p stands.0.0 command e runs.asks runs.unanswered made a b
+              (HasMade reads may_leave k p command old.disk new.disk)
+              (λ last serves comes.
+              has_made reads may_leave moment left_since borrow faults_of only_now counts_now old new p
+              stands masters sound command e ours is_honest made is last
+              (subst (λ (s : Opened D). IsServedBy s last) at_b serves) comes)
+              ours
               (subst (λ (s : Opened D). IsServedBy s (service_of k p)) (sym at_a) (serves_at old p stands))
               runs.are_asks runs.talks;
           step = changes_call reads may_leave moment left_since borrow faults_of k.surface e is_honest old
@@ -124,7 +133,7 @@ module _ {D : Type 0} (reads : D → Option Image) (may_leave : D → Image → 
         → ((p : PlainHistory) → StandsFor old.kept p → EndsThere p command r)
         → HasOwnCause (faults_of old.disk) r
         → ((p : PlainHistory) → StandsFor old.kept p → IsServedBy (server a) (service_of old.kept.masters p)
-        → TracesAt old.kept.masters p command (put a) (put b) r)
+        → TracesAt old.kept.masters p command (Unit {0}) (put a) (put b) r)
         → IsDone command old new a b r
     question_done command old new a b r at_a at_b still masters stay ends cause put_so =
         let same : opened_of new ≡ opened_of old = sym at_b ∙ still ∙ at_a in record {
@@ -132,8 +141,13 @@ module _ {D : Type 0} (reads : D → Option Image) (may_leave : D → Image → 
               subst (λ (x : Masters). StepsAt reads may_leave moment left_since x p command old new r) is
               (still_steps old new masters same reads may_leave moment left_since only_now p stands command
               (stay p) r (ends p stands));
-          traced = λ p stands. put_so p stands
-              (subst (λ (s : Opened D). IsServedBy s (service_of old.kept.masters p)) (sym at_a) (serves_at old p stands));
+          traced = λ p stands.
+              traced_with old.kept.masters p command (HasMade reads may_leave old.kept.masters p command old.disk new.disk)
+              (put a) (put b) r
+              (still_made reads may_leave moment left_since old.kept.masters p command old.disk new.disk (stay p)
+              (ap (λ (s : Opened D). s.disk) same))
+              (put_so p stands
+              (subst (λ (s : Opened D). IsServedBy s (service_of old.kept.masters p)) (sym at_a) (serves_at old p stands)));
           step = still_call old new masters same borrow faults_of r cause;
         }
 

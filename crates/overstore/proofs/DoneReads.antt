@@ -163,7 +163,7 @@ module _ {D : Type 0} (reads : D → Option Image) (may_leave : D → Image → 
           (key_so (Err fault) asks).0 masters (λ p. refl)
           (λ p stands. ends p stands unread_so) (cause unread_so)
           (λ p stands serves.
-          subst (λ (m : Masters). TracesAt m p (Read user file) (put a) (put b) (fault_reply fault)) at_k
+          subst (λ (m : Masters). TracesAt m p (Read user file) (Unit {0}) (put a) (put b) (fault_reply fault)) at_k
           (unread_put reads may_leave moment left_since borrow faults_of asked failed server put loan seat k p
           stands.0.0 user file fault a b form
           (subst (λ (m : Masters). IsServedBy (server a) (service_of m p)) (sym at_k) serves) asks)) where
@@ -233,7 +233,7 @@ module _ {D : Type 0} (reads : D → Option Image) (may_leave : D → Image → 
         (end_cause (faults_of old.disk) user file found
         (subst (λ (s : Opened D). IsReadEnd (faults_of s.disk) found) at_a fetched.1))
         (λ p stands serves.
-        subst (λ (m : Masters). TracesAt m p (Read user file) (put a) (put d) (read_reply user file found)) at_k
+        subst (λ (m : Masters). TracesAt m p (Read user file) (Unit {0}) (put a) (put d) (read_reply user file found)) at_k
         (read_put reads may_leave moment left_since borrow faults_of asked failed server put loan seat k p
         stands.0.0 user file r talk.0 talk.1 found (read_reply user file found) a b d form
         (subst (λ (m : Masters). IsServedBy (server a) (service_of m p)) (sym at_k) serves) still

@@ -12,8 +12,10 @@ use Rattle.overstore.specs.LoadEnding.{LoadEndsAs, LoadTracesAs}
 use Rattle.overstore.specs.Loading.{EndsLoad, ForLoad, ForLoadImage, IsComplete, KeepsSome, LastsAs, LoadsWell, after_load}
 use Rattle.overstore.specs.Machine.{AreMasters}
 use Rattle.overstore.specs.Running.{JudgesImage, LeavesAsAtStart}
+use Rattle.overstore.specs.Summary.{AddsUp}
 use Rattle.overstore.specs.declared.load_words.Load.{Load}
 use Rattle.overstore.proofs.Asking.{one_load}
+use Rattle.overstore.proofs.Counting.{adds_up}
 use Rattle.overstore.proofs.Lending.{lent_image, lent_leaves, lent_opens}
 use Rattle.overstore.proofs.LoadEnds.{completes}
 use Rattle.overstore.proofs.LoadTracing.{sent_lent}
@@ -27,7 +29,7 @@ module _ {L D : Type 0} (now : L → D) (reads : D → Option Image) (may_leave 
 
   abbrev W : Type 0 → Type 0 → Type 0 → Masters → PlainHistory → Load → Type 0
   W key_faults out disk k h asked =
-      LoadsWell (EndsLoad asked h old new status) (IsComplete status key_faults out disk)
+      LoadsWell (EndsLoad asked h old new status) (AddsUp asked h) (IsComplete status key_faults out disk)
       (LoadTracesAs may_leave k h asked final t_old t_new status (Unit {0}))
       (LeavesOnly moment left_since (now first) final (KeepsSome k h asked))
       (status ≡ 0 → LastsAs reads may_leave k (after_load h asked) final)
@@ -39,6 +41,7 @@ module _ {L D : Type 0} (now : L → D) (reads : D → Option Image) (may_leave 
       → (k : Masters) (h : PlainHistory) → E k h load → W key_faults out disk k h load
   well key_faults out disk call read write k h e = record {
     printed = e.printed;
+    sum = adds_up load h;
     complete = completes load h old new status key_faults out disk call read write e.printed;
     traced = subst (λ d. LoadTracesAs may_leave k h load d t_old t_new status (Unit {0})) back
         (sent_lent now may_leave k h load last t_old t_new status (Unit {0}) e.traced);

@@ -17,10 +17,12 @@ use Rattle.ov_owner.specs.Steps.{IsErrandFor}
 use Rattle.ov_owner.specs.declared.fault.OwnerFault.{OwnerFault}
 use Rattle.ov_owner.specs.declared.fault.OwnerFault.TheVariants as faults
 use Rattle.overstore.specs.Answering.{PutsTo}
-use Rattle.overstore.specs.Machine.{IsStep, KeptOn, Steps, opened_of}
+use Rattle.overstore.specs.Disks.{HasMade}
+use Rattle.overstore.specs.Machine.{KeptOn, opened_of}
 use Rattle.overstore.specs.Replying.{HasOwnFault, change_reply}
 use Rattle.overstore.specs.Seats.{IsSeat, served}
-use Rattle.overstore.specs.Tracing.{Traces, TracesAt}
+use Rattle.overstore.specs.Steps.{IsWholeStep}
+use Rattle.overstore.specs.Tracing.{TracesAt}
 use Rattle.overstore.specs.declared.fault.StepFault.{StepFault}
 use Rattle.overstore.specs.declared.fault.StepFault.TheVariants.{Trace}
 use Rattle.overstore.proofs.Done.{change_done, change_proper}
@@ -98,12 +100,10 @@ module _ {D T : Type 0} (reads : D → Option Image) (may_leave : D → Image �
       loan_of seat asks o a b are
 
   -- all that is said of a step
-  pub record IsWhole (command : Command) (old new : KeptOn D) (t_old t_new : T)
-      (r : Result Reply StepFault) : Type 0 where
-    pub steps : Steps reads may_leave moment left_since command old new r
-    pub traced : Traces command old.kept (written t_old) (written t_new) r
-    pub step : IsStep borrow faults_of old new r
-    pub sink : PutsTo written sink_faults (r ≡ Err Trace) t_old t_new
+  abbrev pub IsWhole : Command → KeptOn D → KeptOn D → T → T → Result Reply StepFault → Type 0
+  IsWhole command old new t_old t_new r =
+      IsWholeStep reads may_leave moment left_since borrow faults_of written sink_faults command old new
+      t_old t_new r
 
   -- what was put, where a fault of the trace comes of one of the link
   puts_so : {V : Type 0} (asks : List Ask) (o : Option (List ℕ)) (a b : Lent)
@@ -154,8 +154,8 @@ module _ {D T : Type 0} (reads : D → Option Image) (may_leave : D → Image �
         (record {
           steps = is.steps;
           traced = λ p stands.
-              subst (λ (x : T). TracesAt k p command (written t_old) (written x) (change_reply made)) put_b
-              (subst (λ (x : T). TracesAt k p command (written x) (written b.sink.now) (change_reply made)) put_a
+              subst (λ (x : T). TracesAt k p command (HasMade reads may_leave k p command s.disk t.disk) (written t_old) (written x) (change_reply made)) put_b
+              (subst (λ (x : T). TracesAt k p command (HasMade reads may_leave k p command s.disk t.disk) (written x) (written b.sink.now) (change_reply made)) put_a
               (is.traced p stands));
           step = is.step;
           sink = subst (λ (x : T). PutsTo written sink_faults (change_reply made ≡ Err Trace) t_old x) put_b

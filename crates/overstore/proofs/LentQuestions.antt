@@ -27,6 +27,7 @@ use Rattle.ov_owner.specs.Questions.{AsksOnce, names_in, welcome_in}
 use Rattle.ov_owner.specs.declared.fault.OwnerFault.{OwnerFault}
 use Rattle.ov_owner.specs.declared.fault.OwnerFault.TheVariants as faults
 use Rattle.overstore.specs.Answering.{PutsTo}
+use Rattle.overstore.specs.Disks.{HasMade}
 use Rattle.overstore.specs.Machine.{KeptOn, opened_of}
 use Rattle.overstore.specs.Replying.{HasFoundFault, HasOwnFault, HasReadFault, MayCome, epoch_reply, fault_reply, found_reply, names_reply, read_reply}
 use Rattle.overstore.specs.Seats.{HasFoundCause, ReadsBy}
@@ -143,8 +144,8 @@ module _ {D T : Type 0} (reads : D → Option Image) (may_leave : D → Image �
       (record {
         steps = is.steps;
         traced = λ p stands.
-            subst (λ (x : T). TracesAt k p command (written t_old) (written x) r) put_b
-            (subst (λ (x : T). TracesAt k p command (written x) (written b.sink.now) r) put_a
+            subst (λ (x : T). TracesAt k p command (HasMade reads may_leave k p command s.disk b.peer.now.disk) (written t_old) (written x) r) put_b
+            (subst (λ (x : T). TracesAt k p command (HasMade reads may_leave k p command s.disk b.peer.now.disk) (written x) (written b.sink.now) r) put_a
             (is.traced p stands));
         step = is.step;
         sink = subst (λ (x : T). PutsTo written sink_faults (r ≡ Err Trace) t_old x) put_b

@@ -3,6 +3,7 @@ pub mod Asking
 pub mod Beginning
 pub mod Changed
 pub mod Concluding
+pub mod Counting
 pub mod Done
 pub mod DoneReads
 pub mod Ending
@@ -19,6 +20,7 @@ pub mod Listing
 pub mod Lists
 pub mod LoadEnds
 pub mod LoadTracing
+pub mod Making
 pub mod Pacing
 pub mod Putting
 pub mod Questioning

@@ -14,16 +14,17 @@ use Rattle.ov_history.specs.Masters.{Masters}
 use Rattle.ov_history.specs.Plain.{PlainHistory}
 use Rattle.ov_model.specs.Step.{after, after_all}
 use Rattle.ov_model.proofs.Runs.{after_all-more}
-use Rattle.overstore.specs.Disks.{Holds, KeepsPlain, KeepsStep, StandsForPlain}
-use Rattle.overstore.specs.LoadEnding.{IsFrontAt, KeepsAt, LoadTracesAs, TracedTo, TracesLoad, TracesWhole}
+use Rattle.overstore.specs.Disks.{HasMade, Holds, KeepsPlain, KeepsStep, StandsForPlain}
+use Rattle.overstore.specs.LoadEnding.{IsFrontAt, IsMadeAt, KeepsAt, LoadTracesAs, TracedTo, TracesLoad, TracesWhole}
 use Rattle.overstore.specs.Loading.{LoadedTo, TalliesAt, after_first, after_load}
 use Rattle.overstore.specs.Machine.{KeptOn, StandsFor, StepsAt}
-use Rattle.ov_transcript.specs.Transcripts.{IsTranscriptFront}
-use Rattle.overstore.specs.Tracing.{TracesAt, Transcribes, TranscribesAll, TranscribesFront}
+use Rattle.ov_transcript.specs.Transcripts.{IsTranscriptFront, Transcribed}
+use Rattle.overstore.specs.Tracing.{BreaksOff, TracesAt, Transcribes, TranscribesAll}
 use Rattle.overstore.specs.declared.fault.StepFault.{StepFault}
 use Rattle.overstore.specs.declared.fault.StepFault.TheVariants.{Disk, Memory, Tag, Trace}
 use Rattle.overstore.specs.declared.load_words.Load.{Load}
 use Rattle.overstore.specs.declared.tally.Tally.{Tally}
+use Rattle.overstore.proofs.Making.{transcripts_have_bytes}
 use Rattle.overstore.proofs.Tracing.{all_more}
 use Rattle.overstore.proofs.Transcripts.{whole_is_front}
 use Rattle.overstore.proofs.WorkloadSteps.{first_more}
@@ -31,16 +32,21 @@ use Rattle.overstore.proofs.WorkloadSteps.{first_more}
 -- ---- one command
 
 -- a reply for whose line memory was refused was sent all the same
-pub sent_unread : (k : Masters) (h : PlainHistory) (command : Command) (old new : Option (List ℕ))
-    → Transcribes k h command old new → TranscribesFront k h command old new
-sent_unread k h command old new (bytes, traced, put) = (bytes, whole_is_front k h command bytes traced, put)
+sent_unread : (k : Masters) (h : PlainHistory) (command : Command) (Made : Type 0) (old new : Option (List ℕ))
+    → Made → Transcribes k h command old new → BreaksOff k h command Made old new
+sent_unread k h command Made old new made (bytes, traced, put) = (bytes, whole_is_front k h command bytes traced, λ whole. made, put)
 
-pub sent_unlined : {T : Type 0} (k : Masters) (h : PlainHistory) (command : Command) (old new : Option (List ℕ)) (result : Result T StepFault) → result ≡ Err Memory
-    → Transcribes k h command old new → TracesAt k h command old new result
-sent_unlined {T} k h command old new result is traced =
-    subst (λ (r : Result T StepFault). TracesAt k h command old new r) (sym is) (sent_unread k h command old new traced)
+pub sent_unlined : {T : Type 0} (k : Masters) (h : PlainHistory) (command : Command) (Made : Type 0) (old new : Option (List ℕ)) (result : Result T StepFault) → result ≡ Err Memory
+    → Made → Transcribes k h command old new → TracesAt k h command Made old new result
+sent_unlined {T} k h command Made old new result is made traced =
+    subst (λ (r : Result T StepFault). TracesAt k h command Made old new r) (sym is) (sent_unread k h command Made old new made traced)
 
 -- ---- the commands so far
+
+-- nothing is no whole transcript
+nothing_made : (k : Masters) (h : PlainHistory) (load : Load) (place : ℕ) (c : Image) → IsMadeAt k h load place [] c
+nothing_made k h load place c = λ low whole.
+    absurd (transcripts_have_bytes k (after_first h load place) (command_at load.number place) [] refl whole)
 
 -- nothing yet
 pub none_sent : (k : Masters) (h : PlainHistory) (load : Load) (trace : Option (List ℕ)) → TranscribesAll k h (first_commands load.number 0) trace trace
@@ -61,6 +67,7 @@ module _ {D : Type 0} (reads : D → Option Image) (may_leave : D → Image → 
     front = inl refl;
     put = subst (Appends old now) (sym (append-nil bytes)) put;
     leaves = λ holds c left. inl (inr ((s.holds holds).each c left));
+    made = λ holds c left. nothing_made k h load place c;
   }
 
   module _ (place : ℕ) (low : place ≤ WORKLOAD_USERS + load.count) (tally : Tally) (mid last : KeptOn D) (masters : mid.kept.masters ≡ k) (old now new : Option (List ℕ))
@@ -77,12 +84,16 @@ module _ {D : Type 0} (reads : D → Option Image) (may_leave : D → Image → 
 
     -- one more wasn't
     stops_in : (command : Command) → ((bytes : List ℕ) → IsTranscriptFront k q command bytes → IsFrontAt k h load place bytes)
-        → ((j : PlainHistory) → StandsFor mid.kept j → TranscribesFront mid.kept.masters j command now new)
+        → ((bytes : List ℕ) → (Transcribed k q command bytes → HasMade reads may_leave k q command mid.disk last.disk)
+        → Holds reads may_leave k q mid.disk → (c : Image) → may_leave last.disk c → IsMadeAt k h load place bytes c)
+        → ((j : PlainHistory) → StandsFor mid.kept j
+        → BreaksOff mid.kept.masters j command (HasMade reads may_leave mid.kept.masters j command mid.disk last.disk) now new)
         → (Holds reads may_leave k q mid.disk → (c : Image) → may_leave last.disk c → KeepsAt k h load place c)
         → TracedTo may_leave k h load last.disk old new (Holds reads may_leave k h first.disk)
-    stops_in command is_front traces leaves =
+    stops_in command is_front is_made traces leaves =
         let (bytes, all, put) = sent in
-        let (more, front, put_more) = subst (λ (x : Masters). TranscribesFront x q command now new) masters (traces q s.stands) in record {
+        let (more, front, whole, put_more) =
+        subst (λ (x : Masters). BreaksOff x q command (HasMade reads may_leave x q command mid.disk last.disk) now new) masters (traces q s.stands) in record {
           place = place;
           low = low;
           bytes = bytes;
@@ -91,6 +102,7 @@ module _ {D : Type 0} (reads : D → Option Image) (may_leave : D → Image → 
           front = inr (is_front more front);
           put = Appends-trans old now new bytes more put put_more;
           leaves = λ holds. leaves (s.holds holds);
+          made = λ holds. is_made more whole (s.holds holds);
         }
 
   -- ---- by what the workload gives
@@ -132,13 +144,22 @@ module _ {D : Type 0} (reads : D → Option Image) (may_leave : D → Image → 
     leaves_now T Memory tallies holds c left = keeps_at c ((tallies holds).now c left)
     leaves_now T (Tag bad) tallies holds c left = absurd tallies
 
+    made_at : (bytes : List ℕ)
+        → (Transcribed k (after_first h load w.place) command bytes
+        → HasMade reads may_leave k (after_first h load w.place) command mid.disk last.disk)
+        → Holds reads may_leave k (after_first h load w.place) mid.disk → (c : Image) → may_leave last.disk c → IsMadeAt k h load w.place bytes c
+    made_at bytes has_made holds c left = λ low whole.
+        let there = has_made (subst (λ x. Transcribed k (after_first h load w.place) x bytes) (sym command_is) whole) holds c left in
+        inr (subst (λ x. KeepsPlain k x c) (ap (after (after_first h load w.place)) command_is ∙ sym after_is) there)
+
     pub sent_stops : {T : Type 0} (r : Result T StepFault) (fault : StepFault) → r ≡ Err fault
         → ((j : Masters) (q : PlainHistory) → mid.kept.masters ≡ j → StandsFor mid.kept q → TalliesAt reads may_leave moment left_since j q command before now_tally mid last r)
-        → ((j : PlainHistory) → StandsFor mid.kept j → TranscribesFront mid.kept.masters j command now new)
+        → ((j : PlainHistory) → StandsFor mid.kept j
+        → BreaksOff mid.kept.masters j command (HasMade reads may_leave mid.kept.masters j command mid.disk last.disk) now new)
         → TracedTo may_leave k h load last.disk old new (Holds reads may_leave k h first.disk)
     sent_stops {T} r fault at tallies traces =
         stops_in w.place below before mid last masters old now new s sent command
-        (λ bytes front. inl (under, subst (λ c. IsTranscriptFront k (after_first h load w.place) c bytes) command_is front)) traces
+        (λ bytes front. inl (under, subst (λ c. IsTranscriptFront k (after_first h load w.place) c bytes) command_is front)) made_at traces
         (leaves_now T fault (subst (λ c. TalliesAt reads may_leave moment left_since {T = T} k (after_first h load w.place) c before now_tally mid last (Err fault)) command_is
         (subst (λ (x : Result T StepFault). TalliesAt reads may_leave moment left_since k (after_first h load w.place) command before now_tally mid last x) at
         (tallies k (after_first h load w.place) masters s.stands))))
@@ -166,20 +187,28 @@ module _ {D : Type 0} (reads : D → Option Image) (may_leave : D → Image → 
     leaves_end Memory steps holds c left = keeps_end c ((steps holds).now c left)
     leaves_end (Tag bad) steps holds c left = absurd steps
 
+    -- behind the last command none is made
+    none_made : (bytes : List ℕ)
+        → (Transcribed k (after_load h load) AskEpoch bytes → HasMade reads may_leave k (after_load h load) AskEpoch mid.disk last.disk)
+        → Holds reads may_leave k (after_load h load) mid.disk → (c : Image) → may_leave last.disk c → IsMadeAt k h load (WORKLOAD_USERS + load.count) bytes c
+    none_made bytes has_made holds c left = λ low whole. absurd (omega (arith, low))
+
     pub sent_end : (reply : Reply) → AreSteps (Ok reply) → ((j : PlainHistory) → StandsFor mid.kept j → Transcribes mid.kept.masters j AskEpoch now new)
         → TracesWhole k h load old new × TracedTo may_leave k h load last.disk old new (Holds reads may_leave k h first.disk)
     sent_end reply steps traces = (
       all_on (WORKLOAD_USERS + load.count) (omega arith) tally mid last masters old now new s sent AskEpoch traces,
-      stops_in (WORKLOAD_USERS + load.count) (omega arith) tally mid last masters old now new s sent AskEpoch (λ bytes front. inr (refl, front))
-          (λ j stands. sent_unread mid.kept.masters j AskEpoch now new (traces j stands))
+      stops_in (WORKLOAD_USERS + load.count) (omega arith) tally mid last masters old now new s sent AskEpoch (λ bytes front. inr (refl, front)) none_made
+          (λ j stands. sent_unread mid.kept.masters j AskEpoch (HasMade reads may_leave mid.kept.masters j AskEpoch mid.disk last.disk) now new
+          (λ holds c left. ((steps mid.kept.masters j refl stands).1.holds holds).each c left) (traces j stands))
           (λ holds c left. inl (inr (((steps k (after_load h load) masters s.stands).1.holds holds).each c left))),
     )
 
     pub sent_end_stops : (r : Result Reply StepFault) (fault : StepFault) → r ≡ Err fault → AreSteps r
-        → ((j : PlainHistory) → StandsFor mid.kept j → TranscribesFront mid.kept.masters j AskEpoch now new)
+        → ((j : PlainHistory) → StandsFor mid.kept j
+        → BreaksOff mid.kept.masters j AskEpoch (HasMade reads may_leave mid.kept.masters j AskEpoch mid.disk last.disk) now new)
         → TracedTo may_leave k h load last.disk old new (Holds reads may_leave k h first.disk)
     sent_end_stops r fault at steps traces =
-        stops_in (WORKLOAD_USERS + load.count) (omega arith) tally mid last masters old now new s sent AskEpoch (λ bytes front. inr (refl, front)) traces
+        stops_in (WORKLOAD_USERS + load.count) (omega arith) tally mid last masters old now new s sent AskEpoch (λ bytes front. inr (refl, front)) none_made traces
         (leaves_end fault (subst (λ (x : Result Reply StepFault). StepsAt reads may_leave moment left_since k (after_load h load) AskEpoch mid last x) at
         (steps k (after_load h load) masters s.stands)))
 
@@ -223,6 +252,7 @@ as_unsent may_leave k h load last trace holds status never stands = record {
     front = inl refl;
     put = Appends-nil trace;
     leaves = λ held c left. inl (stands held c left);
+    made = λ held c left. nothing_made k h load 0 c;
   };
 }
 
@@ -238,6 +268,7 @@ sent_holding may_leave k h load last old new holds held t = record {
   front = t.front;
   put = t.put;
   leaves = λ _. t.leaves held;
+  made = λ _. t.made held;
 }
 
 -- what is said of a disk behind a loan is said of the disk
@@ -255,5 +286,6 @@ sent_lent now may_leave k h load last old new status holds t = record {
     front = t.first.front;
     put = t.first.put;
     leaves = t.first.leaves;
+    made = t.first.made;
   };
 }

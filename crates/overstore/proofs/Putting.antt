@@ -41,18 +41,28 @@ use Rattle.ov_transcript.proofs.Questions.{first_answers_are_fronts, first_asks_
 use Rattle.ov_transcript.proofs.ReadersTalks.{reads_are_fronts, reads_are_transcripts}
 use Rattle.overstore.specs.Replying.{change_reply, fault_reply}
 use Rattle.overstore.specs.Seats.{IsSeat}
-use Rattle.overstore.specs.Tracing.{TracesAt, Transcribes, TranscribesFront}
+use Rattle.overstore.specs.Tracing.{BreaksOff, TracesAt, Transcribes, TranscribesFront}
 use Rattle.overstore.specs.declared.fault.StepFault.{StepFault}
-use Rattle.overstore.proofs.Seating.{alone_so, end_put, frames_put}
+use Rattle.overstore.proofs.Making.{ComesTo, whole_is_made}
+use Rattle.overstore.proofs.Seating.{alone_so, are_put, end_on, end_put, frames_put}
+use Rattle.overstore.proofs.Transcripts.{breaks_off}
 
 -- a reply is that of a transcript that was put, and a fault that of a front
+breaks_so : (k : Masters) (p : PlainHistory) (command : Command) (Made : Type 0) (old new : Option (List ℕ))
+    (r : Result Reply StepFault)
+    → ((reply : Reply) → r ≡ Ok reply → Transcribes k p command old new)
+    → BreaksOff k p command Made old new
+    → TracesAt k p command Made old new r
+breaks_so k p command Made old new (Ok reply) whole front = whole reply refl
+breaks_so k p command Made old new (Err fault) whole front = front
+
 traces_so : (k : Masters) (p : PlainHistory) (command : Command) (old new : Option (List ℕ))
     (r : Result Reply StepFault)
     → ((reply : Reply) → r ≡ Ok reply → Transcribes k p command old new)
     → TranscribesFront k p command old new
-    → TracesAt k p command old new r
-traces_so k p command old new (Ok reply) whole front = whole reply refl
-traces_so k p command old new (Err fault) whole front = front
+    → TracesAt k p command (Unit {0}) old new r
+traces_so k p command old new r whole front =
+    breaks_so k p command (Unit {0}) old new r whole (breaks_off k p command (Unit {0}) old new tt front)
 
 -- an answered call is replied to
 answered_so : (made : Result ℕ OwnerFault) (reply : Reply) → change_reply made ≡ Ok reply
@@ -84,22 +94,26 @@ module _ {D : Type 0} (reads : D → Option Image) (may_leave : D → Image → 
   -- ---- changes
 
   pub change_put : (command : Command) (e : Errand) (asks : List Ask) (o : Option (List ℕ))
-      (made : Result ℕ OwnerFault) (a b : P)
+      (made : Result ℕ OwnerFault) (a b : P) (Made : Type 0)
+      → ((last : Service) → IsServedBy (server b) last → ComesTo k p command last → Made)
       → IsErrandFor k.base command e → IsServedBy (server a) (service_of k p)
       → AreAsks asked failed a asks o b → Talks k.surface e asks o made
-      → TracesAt k p command (put a) (put b) (change_reply made)
-  change_put command e asks o made a b ours serves (m, leads, ends) talks =
+      → TracesAt k p command Made (put a) (put b) (change_reply made)
+  change_put command e asks o made a b Made comes ours serves (m, leads, ends) talks =
       let (w, alone, then) = alone_so reads may_leave moment left_since borrow faults_of asked failed
       server put loan seat asks a m (service_of k p) serves leads in
-      let (more, put_more, are_put) = end_put reads may_leave moment left_since borrow faults_of asked
+      let (more, last, put_more, on, serves_last) = end_on reads may_leave moment left_since borrow faults_of asked
       failed server put loan seat o m b w then ends in
+      let put_so = are_put reads may_leave moment left_since borrow faults_of asked failed server put loan seat o w last more on in
       let put_all = Appends-trans (put a) (put m) (put b) (frames asks) more
       (frames_put reads may_leave moment left_since borrow faults_of asked failed server put loan seat asks a m leads)
       put_more in
-      traces_so k p command (put a) (put b) (change_reply made)
-      (λ reply is. whole w alone more are_put put_all (answered_so made reply is)) (
+      breaks_so k p command Made (put a) (put b) (change_reply made)
+      (λ reply is. whole w alone more put_so put_all (answered_so made reply is)) (
         frames asks ++ more,
-        talks_are_fronts k p command e asks o made w more ours talks legal alone are_put,
+        talks_are_fronts k p command e asks o made w more ours talks legal alone put_so,
+        (λ is_whole. comes last serves_last
+            (whole_is_made k p legal asks o made w last more command e ours talks alone on is_whole)),
         put_all,
       ) where
         no_more : (more : List ℕ) (w : Service) (x : Option (List ℕ)) → ArePut w x more
@@ -180,7 +194,7 @@ module _ {D : Type 0} (reads : D → Option Image) (may_leave : D → Image → 
         → AsksOnce asked failed a b (first_request command) take result
         → ((reply : Reply) → r ≡ Ok reply → result ≡ Err faults.Link → ⊥)
         → ((reply : Reply) → r ≡ Ok reply → result ≡ Err faults.Memory → ⊥)
-        → TracesAt k p command (put a) (put b) r
+        → TracesAt k p command (Unit {0}) (put a) (put b) r
     question_put take result r a b one serves once no_link no_memory =
         traces_so k p command (put a) (put b) r (λ reply is. whole reply is once)
         (once_front take result a b serves once) where
@@ -199,7 +213,7 @@ module _ {D : Type 0} (reads : D → Option Image) (may_leave : D → Image → 
   pub unread_put : (user file : List ℕ) (fault : OwnerFault) (a b : P)
       → HasRequestForm (first_request (Read user file)) → IsServedBy (server a) (service_of k p)
       → AsksOnce asked failed a b (first_request (Read user file)) (reader_in k user) (Err fault)
-      → TracesAt k p (Read user file) (put a) (put b) (fault_reply fault)
+      → TracesAt k p (Read user file) (Unit {0}) (put a) (put b) (fault_reply fault)
   unread_put user file fault a b form serves once =
       traces_so k p (Read user file) (put a) (put b) (fault_reply fault)
       (λ reply is. by fault is once)
@@ -241,7 +255,7 @@ module _ {D : Type 0} (reads : D → Option Image) (may_leave : D → Image → 
       → AsksOnce asked failed a b (first_request (Read user file)) (reader_in k user) (Ok r)
       → AreAsks asked failed b asks o d → ReadTalks r file asks o found
       → ((x : Reply) → reply ≡ Ok x → IsReadAnswered found)
-      → TracesAt k p (Read user file) (put a) (put d) reply
+      → TracesAt k p (Read user file) (Unit {0}) (put a) (put d) reply
   read_put user file r asks o found reply a b d form serves still named (inr (inl (link, fault))) are talks replied =
       absurd (cc link)
   read_put user file r asks o found reply a b d form serves still named (inr (inr (memory, forgets))) are talks replied =
@@ -265,7 +279,7 @@ module _ {D : Type 0} (reads : D → Option Image) (may_leave : D → Image → 
             absurd (subst IsReadAnswered memory answer_so)
 
         by_known : (x : Answer) → x ≡ answer → Ok r ≡ reader_in k user x
-            → TracesAt k p (Read user file) (put a) (put d) reply
+            → TracesAt k p (Read user file) (Unit {0}) (put a) (put d) reply
         by_known x same_answer is =
             let (known, as_known) = has_known x is in
             let (key, same, first, key_bytes) = first_ask (Read user file) form a b answered.reply serves answered.sent in

@@ -12,6 +12,7 @@ use Rattle.ov_server.specs.Locally.{IsServedBy, answers_alone}
 use Rattle.ov_owner.specs.Alone.{AnsweredAlone}
 use Rattle.ov_transcript.specs.Talking.{ArePut}
 use Rattle.ov_transcript.specs.Transcripts.{frames}
+use Rattle.overstore.proofs.Making.{IsPutOn}
 use Rattle.overstore.proofs.Reading.{take_whole}
 use Rattle.overstore.specs.Seats.{IsSeat, LeftBy, served, unserved}
 
@@ -87,23 +88,50 @@ module _ {D : Type 0} (reads : D → Option Image) (may_leave : D → Image → 
       Appends-trans (put p) (put n) (put m) _ _ (seat.asks p n a.request a.reply first).0.put
       (frames_put asks n m leads)
 
-  -- those of the one that failed, as far as they were put
-  pub end_put : (o : Option (List ℕ)) (m q : P) (w : Service) → IsServedBy (server m) w
+  -- those of the one that failed, as far as they were put, and what is served then
+  pub end_on : (o : Option (List ℕ)) (m q : P) (w : Service) → IsServedBy (server m) w
       → EndsAt failed m o q
-      → (bytes : List ℕ) × Appends (put m) (put q) bytes × ArePut w o bytes
-  end_put None m q w serves same =
-      ([], subst (λ (x : P). Appends (put m) (put x) []) same (Appends-nil (put m)), refl)
-  end_put (Some request) m q w serves fault = by (seat.fails m q request fault).0 where
+      → (bytes : List ℕ) × (last : Service) × Appends (put m) (put q) bytes × IsPutOn w o bytes last
+      × IsServedBy (server q) last
+  end_on None m q w serves same = (
+    [],
+    w,
+    subst (λ (x : P). Appends (put m) (put x) []) same (Appends-nil (put m)),
+    (refl, refl),
+    subst (λ (x : P). IsServedBy (server x) w) same serves,
+  )
+  end_on (Some request) m q w serves fault = by (seat.fails m q request fault).0 where
     by : TracesFault asks_store (unserved reads may_leave moment left_since borrow faults)
         (server m) (server q) (put m) (put q) request
-        → (bytes : List ℕ) × Appends (put m) (put q) bytes × ArePut w (Some request) bytes
-    by (unasked same n bytes) = (_, bytes, inl (n, refl))
-    by (unanswered same bytes) =
-        (_, bytes, inl (length (framed request), sym (take_whole (framed request) (length (framed request)) refl)))
+        → (bytes : List ℕ) × (last : Service) × Appends (put m) (put q) bytes
+        × IsPutOn w (Some request) bytes last × IsServedBy (server q) last
+    by (unasked same n bytes) =
+        (_, w, bytes, inl (n, refl, refl), subst (λ (s : Opened D). IsServedBy s w) (sym same) serves)
+    by (unanswered same bytes) = (
+      _,
+      w,
+      bytes,
+      inl (length (framed request), sym (take_whole (framed request) (length (framed request)) refl), refl),
+      subst (λ (s : Opened D). IsServedBy s w) (sym same) serves,
+    )
     by (unput reply n asks bytes) =
         let (made, at_w, then) = answers_alone reads may_leave (server m) (server q) request reply w
         asks.answer serves in
-        (_, bytes, inr (reply, made, n, at_w, refl))
+        (_, later w made, bytes, inr (reply, made, n, at_w, refl, refl), then)
+
+  pub are_put : (o : Option (List ℕ)) (w last : Service) (bytes : List ℕ) → IsPutOn w o bytes last
+      → ArePut w o bytes
+  are_put None w last bytes on = on.0
+  are_put (Some request) w last bytes (inl (n, is, same)) = inl (n, is)
+  are_put (Some request) w last bytes (inr (reply, made, n, replied, is, then)) =
+      inr (reply, made, n, replied, is)
+
+  pub end_put : (o : Option (List ℕ)) (m q : P) (w : Service) → IsServedBy (server m) w
+      → EndsAt failed m o q
+      → (bytes : List ℕ) × Appends (put m) (put q) bytes × ArePut w o bytes
+  end_put o m q w serves ends =
+      let (bytes, last, put_it, on, then) = end_on o m q w serves ends in
+      (bytes, put_it, are_put o w last bytes on)
 
   -- what is served goes on by what the asks made
   pub alone_so : (asks : List Ask) (p m : P) (v : Service) → IsServedBy (server p) v

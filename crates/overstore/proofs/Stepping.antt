@@ -1,5 +1,5 @@
 -- What a change by the owner is at a history for which the machine stands: the machine's step.
-use Rattle.std.proofs.Common.{◌≡◌, ◌∙◌, inl, inr, ℕ, ◌+◌, ◌≤◌, [], ◌∷◌, false, refl, sym, ap, subst, true≢false, Option, None, Result, Ok, Err}
+use Rattle.std.proofs.Common.{◌≡◌, ◌∙◌, inl, inr, ℕ, ◌+◌, ◌≤◌, [], ◌∷◌, length, length-append, false, refl, sym, ap, subst, arith, true≢false, Option, None, Result, Ok, Err}
 use Rattle.std.specs.Prelude.{◌⊎◌}
 use Rattle.ov_base.specs.declared.refusal.Refusal.{Refusal}
 use Rattle.ov_disk.specs.Disk.{Image}
@@ -13,11 +13,12 @@ use Rattle.ov_history.specs.History.{epoch_of}
 use Rattle.ov_history.specs.Laws.{ShowsHistory}
 use Rattle.ov_history.specs.Layers.{layers_of}
 use Rattle.ov_history.specs.Masters.{Masters}
-use Rattle.ov_history.specs.Plain.{PlainHistory, PlainUpdate, history_of, measured, with_plain}
+use Rattle.ov_history.specs.Plain.{PlainHistory, PlainUpdate, history_of, measured, measured_all, with_plain}
 use Rattle.ov_history.specs.Refusals.{IsLegal, refusal_of}
 use Rattle.ov_history.specs.Sealed.{SealedHistory, catalogue_of, stored_of}
 use Rattle.ov_history.specs.Sealing.{sealed, sealed_update}
 use Rattle.ov_history.proofs.Keeping.{kept_shows, kept_stands_for}
+use Rattle.ov_history.proofs.PlainLaws.{measured_all-append}
 use Rattle.ov_history.proofs.Sealing.{sealing_goes_on}
 use Rattle.ov_model.specs.Step.{after, reply_to, step, update_step}
 use Rattle.ov_model.proofs.Legality.{legal-after}
@@ -41,12 +42,14 @@ use Rattle.ov_owner.specs.declared.fault.OwnerFault.TheVariants as faults
 use Rattle.ov_owner.proofs.Doing.{Does, does}
 use Rattle.ov_owner.proofs.Stepping.{read_back}
 use Rattle.ov_owner.proofs.Telling.{under}
-use Rattle.overstore.specs.Disks.{Holds, KeepsStep}
+use Rattle.overstore.specs.Disks.{HasMade, Holds, KeepsPlain, KeepsStep}
 use Rattle.overstore.specs.Machine.{Kept, KeptOn, LeavesStep, StandsFor, StepsAt, opened_of}
 use Rattle.overstore.specs.Replying.{change_reply}
 use Rattle.overstore.specs.declared.fault.StepFault.{StepFault}
+use Rattle.overstore.specs.declared.fault.StepFault.TheVariants.{Disk, Memory, Tag, Trace}
 use Rattle.overstore.proofs.Changed.{Changes, IsFailed, IsMade, IsSentTo, cut, refused, sent}
 use Rattle.overstore.proofs.Errands.{IsHonest}
+use Rattle.overstore.proofs.Making.{ComesTo}
 use Rattle.overstore.proofs.Updating.{now_so, stays, stays_left}
 
 -- what is kept shows the history
@@ -273,3 +276,61 @@ module _ {D : Type 0} (reads : D → Option Image) (may_leave : D → Image → 
         → StepsAt reads may_leave moment left_since k p command old new (change_reply result)
     by (inl made) = made_so result x made made.ends
     by (inr failed) = failed_so result x failed.ends
+
+  -- ---- where the whole transcript was put
+
+  -- where the command leaves the history the disk has it made
+  same_made : (r : Result Reply StepFault) → StepsAt reads may_leave moment left_since k p command old new r
+      → after p command ≡ p → HasMade reads may_leave k p command old.disk new.disk
+  same_made r steps same = λ holds c left. by r steps holds c left where
+    either_way : (c : Image) → KeepsStep k p command c → KeepsPlain k (after p command) c
+    either_way c (inl keeps) = subst (λ q. KeepsPlain k q c) (sym same) keeps
+    either_way c (inr keeps) = keeps
+
+    by : (x : Result Reply StepFault) → StepsAt reads may_leave moment left_since k p command old new x
+        → Holds reads may_leave k p old.disk → (c : Image) → may_leave new.disk c → KeepsPlain k (after p command) c
+    by (Ok reply) goes holds c left = (goes.1.holds holds).each c left
+    by (Err Disk) leaves holds c left = either_way c ((leaves holds).now c left)
+    by (Err Trace) leaves holds c left = either_way c ((leaves holds).now c left)
+    by (Err Memory) leaves holds c left = either_way c ((leaves holds).now c left)
+    by (Err (Tag bad)) never holds c left = absurd never
+
+  -- a store that shows what it showed doesn't serve the history with the update
+  still_unmade : (last : Service) (u : PlainUpdate) → IsService (serving_of t) last
+      → after p command ≡ with_plain p u → last.history ≡ sealed k (after p command)
+      → serving_of t ≡ serving_of s → ⊥
+  still_unmade last u serves is then same =
+      let there : StandsFor new.kept (after p command) =
+      stands_at new (after p command) last (legal-after p command legal).0 (sym serves.surface)
+      (then ∙ ap (λ (x : Masters). sealed x (after p command)) (sym masters)) serves in
+      let now = (shows new.kept (after p command) there).epoch in
+      let before = (shows old.kept p stands).epoch in
+      let still : new.kept.catalogue.epoch ≡ old.kept.catalogue.epoch =
+      ap (λ (x : Serving). x.catalogue.epoch) same in
+      let more : epoch_of (history_of (after p command)) ≡ epoch_of (history_of (with_plain p u)) =
+      ap (λ (q : PlainHistory). epoch_of (history_of q)) is in
+      let one = ap length (measured_all-append p.updates (u ∷ [])) in
+      let two = length-append (measured_all p.updates) (measured_all (u ∷ [])) in
+      omega (arith, now, before, still, more, one, two)
+
+  -- the whole transcript was put, and so the command is made
+  pub has_made : (result : Result ℕ OwnerFault)
+      → Changes reads may_leave moment left_since borrow faults_of k.surface e is_honest s t result
+      → (last : Service) → IsService (serving_of t) last → ComesTo k p command last
+      → HasMade reads may_leave k p command old.disk new.disk
+  has_made result changes last serves (inl same) =
+      same_made (change_reply result) (changes_step result changes) same
+  has_made result changes last serves (inr (u, is, then)) = by changes where
+    unmade : serving_of t ≡ serving_of s → ⊥
+    unmade same = still_unmade last u serves is then same
+
+    by : Changes reads may_leave moment left_since borrow faults_of k.surface e is_honest s t result
+        → HasMade reads may_leave k p command old.disk new.disk
+    by (refused a why same answered told so) = absurd (unmade (ap serving_of same))
+    by (cut same why) = absurd (unmade (ap serving_of same))
+    by (sent x) = by_reply x.comes where
+      by_reply : IsMade reads may_leave moment left_since borrow faults_of k.surface e is_honest s t x.epoch x.update x.reply result
+          ⊎ IsFailed reads may_leave moment left_since borrow faults_of k.surface e is_honest s t x.epoch x.update x.reply result
+          → HasMade reads may_leave k p command old.disk new.disk
+      by_reply (inl made) = λ holds c left. (holds_so result x made holds).each c left
+      by_reply (inr failed) = absurd (unmade failed.faulted.same)

@@ -26,7 +26,7 @@ use Rattle.overstore.specs.Faults.{tag_line}
 use Rattle.overstore.specs.Machine.{Kept, StandsFor}
 use Rattle.overstore.specs.Printing.{disk_line, memory_line, read_line}
 use Rattle.overstore.specs.Tracing.{IsNextFront, TracedAll, TracedFirst, TracedPart, TracedSoFar, TracesAs, TracesLine, TracesSoFar, TracesTo}
-use Rattle.overstore.specs.Tracing.{TranscribesAll, TranscribesFirst, TranscribesFront, Transcribes, asked_by}
+use Rattle.overstore.specs.Tracing.{BreaksOff, TranscribesAll, TranscribesFirst, TranscribesFront, Transcribes, asked_by}
 use Rattle.ov_transcript.specs.Transcripts.{IsTranscriptFront, Transcribed, Transcripts}
 use Rattle.overstore.specs.declared.answer.Stop.{Stop}
 use Rattle.overstore.specs.declared.answer.Stop.TheVariants.{End, BadLine, Long, Read, Write, Disk, Trace, Memory, Tag}
@@ -36,7 +36,7 @@ use Rattle.overstore.proofs.Answering.{kept}
 use Rattle.overstore.proofs.Concluding.{first_of}
 use Rattle.overstore.proofs.Running.{not_code, not_code_or}
 use Rattle.overstore.proofs.Surviving.{answered_error, answered_whole, front_put, none_put, part_answered, some_put}
-use Rattle.overstore.proofs.Transcripts.{whole_is_front}
+use Rattle.overstore.proofs.Transcripts.{front_of, whole_is_front}
 
 -- ---- transcripts
 
@@ -103,12 +103,12 @@ module _ (k : Masters) (p : PlainHistory) (command : Command) (old new t_old t_n
   line_traced (Some (Tag bad)) reply puts is traced = absurd puts
 
 -- it wasn't
-pub fault_traced : (k : Masters) (p : PlainHistory) (command : Command) (fault : StepFault) (out t_old t_new : Option (List ℕ))
-    → TranscribesFront k p command t_old t_new → TracesLine k p command (Some (stop_for fault)) out out t_old t_new
-fault_traced k p command NoDisk out t_old t_new traced = (kept out, traced)
-fault_traced k p command NoTrace out t_old t_new traced = (kept out, traced)
-fault_traced k p command NoMemory out t_old t_new traced = (kept out, traced)
-fault_traced k p command (WrongTag bad) out t_old t_new traced = (kept out, traced)
+pub fault_traced : (k : Masters) (p : PlainHistory) (command : Command) (Made : Type 0) (fault : StepFault) (out t_old t_new : Option (List ℕ))
+    → BreaksOff k p command Made t_old t_new → TracesLine k p command (Some (stop_for fault)) out out t_old t_new
+fault_traced k p command Made NoDisk out t_old t_new traced = (kept out, front_of k p command Made t_old t_new traced)
+fault_traced k p command Made NoTrace out t_old t_new traced = (kept out, front_of k p command Made t_old t_new traced)
+fault_traced k p command Made NoMemory out t_old t_new traced = (kept out, front_of k p command Made t_old t_new traced)
+fault_traced k p command Made (WrongTag bad) out t_old t_new traced = (kept out, front_of k p command Made t_old t_new traced)
 
 -- ---- the loop
 
@@ -173,16 +173,19 @@ module _ (k : Masters) (p : PlainHistory) (mid : Kept) (masters : mid.masters �
   end_fault text t (WrongTag bad) t_new first = first
 
   pub traced_end_stops : (input rest : Option (List ℕ)) (stop : Stop) (fault : StepFault) → stop ≡ stop_for fault → (t_new : Option (List ℕ)) → IfSome input (λ text. SoFar text rest) → IfSome rest (λ t. Reads line room t [] AtEnd)
-      → ((q : PlainHistory) → StandsFor mid q → TranscribesFront mid.masters q AskEpoch t_now t_new)
+      → (Made : PlainHistory → Type 0)
+      → ((q : PlainHistory) → StandsFor mid q → BreaksOff mid.masters q AskEpoch (Made q) t_now t_new)
       → IfSome input (λ text. TracesTo k p text stop old now t_old t_new)
-  traced_end_stops None rest stop fault same t_new s says traces = tt
-  traced_end_stops (Some text) None stop fault same t_new s says traces = absurd s
-  traced_end_stops (Some text) (Some t) stop fault same t_new s says traces = subst (λ (x : Stop). TracesTo k p text x old now t_old t_new) (sym same) (end_fault text t fault t_new (record {
+  traced_end_stops None rest stop fault same t_new s says Made traces = tt
+  traced_end_stops (Some text) None stop fault same t_new s says Made traces = absurd s
+  traced_end_stops (Some text) (Some t) stop fault same t_new s says Made traces = subst (λ (x : Stop). TracesTo k p text x old now t_old t_new) (sym same) (end_fault text t fault t_new (record {
     commands = s.commands;
     begins = (line, room, t, s.begins);
     put = s.put;
     traced = first_more k p text s.commands AskEpoch (inr (refl, BeginsWith-ends 1 MAX_SCRIPT_BYTES text s.commands line room t AtEnd s.begins says)) t_old t_now t_new s.traced
-        (subst (λ (x : Masters). TranscribesFront x (after_all p s.commands) AskEpoch t_now t_new) masters (traces (after_all p s.commands) s.stands));
+        (subst (λ (x : Masters). TranscribesFront x (after_all p s.commands) AskEpoch t_now t_new) masters
+        (front_of mid.masters (after_all p s.commands) AskEpoch (Made (after_all p s.commands)) t_now t_new
+        (traces (after_all p s.commands) s.stands)));
   }))
 
   module _ (last : Kept) (now' t_now' : Option (List ℕ)) (command : Command) where

@@ -9,7 +9,7 @@ use Rattle.ov_disk.proofs.Runs.{started}
 use Rattle.ov_history.specs.Masters.{Masters}
 use Rattle.ov_history.specs.Plain.{PlainHistory}
 use Rattle.ov_model.specs.Step.{after, reply_to}
-use Rattle.overstore.specs.Disks.{Holds, KeepsStep}
+use Rattle.overstore.specs.Disks.{HasMade, Holds, KeepsPlain, KeepsStep}
 use Rattle.overstore.specs.Machine.{KeptOn, StandsFor, LeavesStep, StepsAt}
 
 module _ {D : Type 0} (reads : D → Option Image) (may_leave : D → Image → Type 0)
@@ -19,6 +19,12 @@ module _ {D : Type 0} (reads : D → Option Image) (may_leave : D → Image → 
       → ((t : ℕ) (c : Image) → t ≤ moment new → may_leave new c → left_since new t c)
       → LeavesOnly moment left_since old new P → (c : Image) → may_leave new c → P c
   now_so old new P counts_now leaves c left = leaves.each c (counts_now (moment old) c leaves.later left)
+
+  -- what leaves the history is made on the disk as it is
+  pub still_made : (k : Masters) (p : PlainHistory) (command : Command) (old new : D) → after p command ≡ p → new ≡ old
+      → HasMade reads may_leave k p command old new
+  still_made k p command old new same still = λ holds c left.
+      subst (λ q. KeepsPlain k q c) (sym same) (holds.each c (subst (λ (d : D). may_leave d c) still left))
 
   module _ (m : KeptOn D) (only_now : (c : Image) → left_since m.disk (moment m.disk) c → may_leave m.disk c)
       (k : Masters) (p : PlainHistory) (command : Command) where

@@ -29,13 +29,9 @@ use Rattle.overstore.specs.declared.load_words.Load.{Load}
 use Rattle.overstore.specs.declared.tally.Counts.{Counts}
 use Rattle.overstore.specs.declared.tally.Tally.{Tally}
 use Rattle.overstore.proofs.Answering.{commands_come}
+use Rattle.overstore.proofs.Counting.{counted_all-more}
 
 -- ---- counts
-
-counted_all-more : (n : Counts) (h : PlainHistory) (commands : List Command) (command : Command)
-    → counted_all n h (commands ++ command ∷ []) ≡ counted (counted_all n h commands) (reply_to (after_all h commands) command)
-counted_all-more n h [] command = refl
-counted_all-more n h (c ∷ commands) command = counted_all-more (counted n (reply_to h c)) (after h c) commands command
 
 -- one more reply adds one at most
 counted_low : (n : Counts) (most : ℕ) (r : Reply) → AreAtMost n most → AreAtMost (counted n r) (most + 1)

@@ -100,6 +100,12 @@ module _ {D : Type 0} (reads : D → Option Image) (may_leave : D → Image → 
     pub told : (i : Image) × (reads disk ≡ Some i)
     pub each : (c : Image) → may_leave disk c → KeepsPlain k p c
 
+  -- where the disk held the history, each image that a crash may leave of it now keeps the history
+  -- after the command
+  abbrev pub HasMade : Masters → PlainHistory → Command → D → D → Type 0
+  HasMade k p command old new =
+      Holds k p old → (c : Image) → may_leave new c → KeepsPlain k (after p command) c
+
   -- The disk opens for the masters and the mode: it tells its bytes, nothing is pending, and the
   -- image stands for this legal history of the mode, as it is sealed under the masters.
   pub record OpensAs (k : Masters) (mode : Mode) (p : PlainHistory) (disk : D) : Type 0 where

@@ -12,6 +12,7 @@ pub mod Replying
 pub mod Running
 pub mod Seats
 pub mod Status
+pub mod Steps
 pub mod Summary
 pub mod Tallying
 pub mod Tracing

@@ -1,5 +1,6 @@
 -- How a load ends: what it prints and sends, and what a stop leaves.
-use Rattle.std.specs.Prelude.{◌≡◌, ◌⊎◌, ℕ, suc, ◌+◌, ◌<◌, ◌≤◌, List, [], ◌∷◌, ◌++◌, Option, Result, Ok, Err}
+use Rattle.std.specs.Prelude.{◌≡◌, ◌⊎◌, ℕ, suc, ◌+◌, ◌<◌, ◌≤◌, List, [], ◌∷◌, ◌++◌}
+use Rattle.std.specs.Prelude.{Option, Result, Ok, Err}
 use Rattle.std.specs.Io.KnownBytes.{Appends}
 use Rattle.ov_disk.specs.Disk.{Image}
 use Rattle.ov_disk.specs.Moments.{LeavesOnly}
@@ -11,7 +12,7 @@ use Rattle.ov_history.specs.Plain.{PlainHistory}
 use Rattle.overstore.specs.Disks.{StandsForPlain}
 use Rattle.overstore.specs.Loading.{EndsLoad, KeepsSome, LastsAs, after_first, after_load}
 use Rattle.overstore.specs.Tracing.{TranscribesAll}
-use Rattle.ov_transcript.specs.Transcripts.{IsTranscriptFront, Transcripts}
+use Rattle.ov_transcript.specs.Transcripts.{IsTranscriptFront, Transcribed, Transcripts}
 use Rattle.overstore.specs.declared.fault.StepFault.{StepFault}
 use Rattle.overstore.specs.declared.load_words.Load.{Load}
 use Rattle.overstore.specs.declared.tally.Tally.{Tally}
@@ -30,9 +31,18 @@ IsFrontAt k h load place bytes =
     ⊎ ((place ≡ WORKLOAD_USERS + load.count)
     × IsTranscriptFront k (after_first h load place) AskEpoch bytes)
 
+-- where these bytes are the whole transcript of the command behind so many, the image stands for
+-- the history with that command too
+abbrev pub IsMadeAt : Masters → PlainHistory → Load → ℕ → List ℕ → Image → Type 0
+IsMadeAt k h load place bytes c =
+    place < WORKLOAD_USERS + load.count
+    → Transcribed k (after_first h load place) (command_at load.number place) bytes
+    → StandsForPlain k (after_first h load (suc place)) c
+
 -- The transcripts of so many first commands were put, and perhaps a front of what comes next; and
 -- where this holds of the disk from before, each image that a crash may leave of it now stands for
--- the history after these commands, or after one more.
+-- the history after these commands, or after one more: after one more, where the front is all of
+-- that one's transcript.
 pub record TracedTo {D : Type 0} (may_leave : D → Image → Type 0) (k : Masters) (h : PlainHistory)
     (load : Load) (last : D) (old new : Option (List ℕ)) (holds : Type 0) : Type 0 where
   pub place : ℕ
@@ -43,6 +53,7 @@ pub record TracedTo {D : Type 0} (may_leave : D → Image → Type 0) (k : Maste
   pub front : (more ≡ []) ⊎ IsFrontAt k h load place more
   pub put : Appends old new (bytes ++ more)
   pub leaves : holds → (c : Image) → may_leave last c → KeepsAt k h load place c
+  pub made : holds → (c : Image) → may_leave last c → IsMadeAt k h load place more c
 
 -- all transcripts were put, and that of the end
 abbrev pub TracesWhole : Masters → PlainHistory → Load → Option (List ℕ) → Option (List ℕ) → Type 0
@@ -50,7 +61,8 @@ TracesWhole k h load old new =
     TranscribesAll k h (workload load.number load.count ++ AskEpoch ∷ []) old new
 
 -- With status 0 all transcripts were put. Whatever the status, those of some first commands were,
--- and a stop leaves the history after these, or after one more.
+-- and a stop leaves the history after these, or after one more: just that one where its transcript
+-- was put whole.
 pub record LoadTracesAs {D : Type 0} (may_leave : D → Image → Type 0) (k : Masters)
     (h : PlainHistory) (load : Load) (last : D) (old new : Option (List ℕ)) (status : ℕ)
     (holds : Type 0) : Type 0 where

@@ -152,10 +152,12 @@ ForLoadImage image words keys P =
     (load : Load) → IsLoad load words → IfSome keys (λ file.
     (k : Masters) → AreMasters file k → Told image (P k load.mode))
 
--- what a load promises where the disk opens: the lines that it prints, its status, the frames that
--- it sends, what a stop leaves at any moment, and what lasts at status 0
-pub record LoadsWell (Lines Status Frames Stops Lasts : Type 0) : Type 0 where
+-- what a load promises where the disk opens: the lines that it prints, what their counts add up
+-- to, its status, the frames that it sends, what a stop leaves at any moment, and what lasts at
+-- status 0
+pub record LoadsWell (Lines Sum Status Frames Stops Lasts : Type 0) : Type 0 where
   pub printed : Lines
+  pub sum : Sum
   pub complete : Status
   pub traced : Frames
   pub survives : Stops

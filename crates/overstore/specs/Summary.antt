@@ -1,5 +1,5 @@
 -- The seven lines of a load.
-use Rattle.std.specs.Prelude.{◌≡◌, ℕ, List, [], ◌∷◌, ◌++◌, codes}
+use Rattle.std.specs.Prelude.{◌≡◌, ℕ, ◌+◌, List, [], ◌∷◌, ◌++◌, codes}
 use Rattle.std.specs.Fmt.{decimal}
 use Rattle.hex.specs.Hex.{encode_lower}
 use Rattle.sha2.specs.Hashers.{Holds256}
@@ -7,11 +7,12 @@ use Rattle.sha2.specs.Sha256.{sha256}
 use Rattle.ov_script.specs.Lines.{reply_line}
 use Rattle.ov_script.specs.declared.reply.Reply.TheVariants.{End}
 use Rattle.ov_script.specs.Workload.{workload}
+use Rattle.ov_script.specs.declared.drawn.TheConstants.{WORKLOAD_USERS}
 use Rattle.ov_history.specs.History.{epoch_of}
 use Rattle.ov_history.specs.Plain.{PlainHistory, history_of}
 use Rattle.ov_model.specs.Lines.{lines}
 use Rattle.ov_model.specs.Step.{after_all}
-use Rattle.overstore.specs.Tallying.{counted_all, none_counted}
+use Rattle.overstore.specs.Tallying.{counted_all, none_counted, total}
 use Rattle.overstore.specs.Words.{mode_word}
 use Rattle.overstore.specs.declared.load_words.Load.{Load}
 use Rattle.overstore.specs.declared.tally.Counts.{Counts}
@@ -44,6 +45,14 @@ IsSummary load t epoch text =
     (hashed : List ℕ) → Holds256 t.hasher hashed
     → text ≡ seven_lines load t.counts epoch (sha256 (hashed ++ reply_line (End epoch)))
 
+-- the counts of the machine's replies to the commands of the workload, from this history on
+abbrev pub load_counts : Load → PlainHistory → Counts
+load_counts load h = counted_all none_counted h (workload load.number load.count)
+
+-- they add up to the commands, each of which is counted once
+abbrev pub AddsUp : Load → PlainHistory → Type 0
+AddsUp load h = total (load_counts load h) ≡ WORKLOAD_USERS + load.count
+
 -- The lines of a load from this history on: the counts of the machine's replies to the commands of
 -- the workload, the epoch behind them, and the hash of the lines that a script of these commands is
 -- answered with, its end line among them.
@@ -51,5 +60,5 @@ abbrev pub load_lines : Load → PlainHistory → List ℕ
 load_lines load h =
     let commands = workload load.number load.count in
     let epoch = epoch_of (history_of (after_all h commands)) in
-    seven_lines load (counted_all none_counted h commands) epoch
+    seven_lines load (load_counts load h) epoch
     (sha256 (lines h commands ++ reply_line (End epoch)))

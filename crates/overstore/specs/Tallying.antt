@@ -29,6 +29,10 @@ counted_all n h [] = n
 counted_all n h (command ∷ commands) =
     counted_all (counted n (reply_to h command)) (after h command) commands
 
+-- how many replies were counted
+abbrev pub total : Counts → ℕ
+total n = n.accepted + n.refused + n.given + n.listed
+
 -- none of the counts is above this
 pub record AreAtMost (n : Counts) (most : ℕ) : Type 0 where
   pub accepted : n.accepted ≤ most

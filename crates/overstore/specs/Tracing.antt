@@ -3,6 +3,7 @@ use Rattle.std.specs.Prelude.{◌≡◌, ◌⊎◌, ℕ, List, [], ◌∷◌, �
 use Rattle.std.specs.Prelude.{Option, Some, None, Result, Ok, Err}
 use Rattle.std.specs.Io.KnownBytes.{Appends, Keeps}
 use Rattle.ov_base.specs.declared.limits.TheConstants.{MAX_SCRIPT_BYTES}
+use Rattle.ov_disk.specs.Disk.{Image}
 use Rattle.ov_script.specs.declared.command.Command.{Command}
 use Rattle.ov_script.specs.declared.command.Command.TheVariants.{Epoch as AskEpoch}
 use Rattle.ov_script.specs.declared.reply.Reply.{Reply}
@@ -13,8 +14,8 @@ use Rattle.ov_history.specs.Masters.{Masters}
 use Rattle.ov_history.specs.Plain.{PlainHistory}
 use Rattle.ov_model.specs.Lines.{lines}
 use Rattle.ov_model.specs.Step.{after_all, reply_to}
-use Rattle.overstore.specs.Disks.{HasAnswered}
-use Rattle.overstore.specs.Machine.{Kept, StandsFor}
+use Rattle.overstore.specs.Disks.{HasAnswered, HasMade}
+use Rattle.overstore.specs.Machine.{Kept, KeptOn, StandsFor}
 use Rattle.ov_transcript.specs.Transcripts.{IsTranscriptFront, Transcribed, Transcripts}
 use Rattle.overstore.specs.declared.answer.Stop.{Stop}
 use Rattle.overstore.specs.declared.answer.Stop.TheVariants.{End, BadLine, Long}
@@ -35,17 +36,30 @@ abbrev pub TranscribesFront : Masters → PlainHistory → Command → Option (L
 TranscribesFront k p command old new =
     (bytes : List ℕ) × IsTranscriptFront k p command bytes × Appends old new bytes
 
--- The transcript was put, where the command was answered, and a front where a fault ended it.
-abbrev pub TracesAt : {T : Type 0} → Masters → PlainHistory → Command → Option (List ℕ)
-    → Option (List ℕ) → Result T StepFault → Type 0
-TracesAt k p command old new (Ok answered) = Transcribes k p command old new
-TracesAt k p command old new (Err fault) = TranscribesFront k p command old new
+-- A front was put of what is asked and replied for the command; and where it is all of that, this
+-- holds.
+abbrev pub BreaksOff : Masters → PlainHistory → Command → Type 0 → Option (List ℕ)
+    → Option (List ℕ) → Type 0
+BreaksOff k p command Made old new =
+    (bytes : List ℕ) × IsTranscriptFront k p command bytes
+    × (Transcribed k p command bytes → Made) × Appends old new bytes
 
--- so it is at whatever history is kept
-abbrev pub Traces : Command → Kept → Option (List ℕ) → Option (List ℕ) → Result Reply StepFault
+-- The transcript was put, where the command was answered. Where a fault ended it a front was; and
+-- this holds where the front is all of it.
+abbrev pub TracesAt : {T : Type 0} → Masters → PlainHistory → Command → Type 0
+    → Option (List ℕ) → Option (List ℕ) → Result T StepFault → Type 0
+TracesAt k p command Made old new (Ok answered) = Transcribes k p command old new
+TracesAt k p command Made old new (Err fault) = BreaksOff k p command Made old new
+
+-- So it is at whatever history is kept; and where the transcript was put whole the disk has the
+-- command made.
+abbrev pub Traces : {D T : Type 0} → (reads : D → Option Image) → (may_leave : D → Image → Type 0)
+    → Command → KeptOn D → KeptOn D → Option (List ℕ) → Option (List ℕ) → Result T StepFault
     → Type 0
-Traces command kept old new result =
-    (p : PlainHistory) → StandsFor kept p → TracesAt kept.masters p command old new result
+Traces reads may_leave command old new t_old t_new result =
+    (p : PlainHistory) → StandsFor old.kept p
+    → TracesAt old.kept.masters p command
+    (HasMade reads may_leave old.kept.masters p command old.disk new.disk) t_old t_new result
 
 -- The transcript was put, and then the command's line or a front of that. Or a front of the
 -- transcript was put, and no line.

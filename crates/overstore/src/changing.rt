@@ -1,12 +1,9 @@
 //! Updates, by the owner over the machine's server.
-ghost use Rattle.std.specs.Prelude.{◌≡◌, Err, false};
+ghost use Rattle.std.specs.Prelude.{◌≡◌, false};
 ghost use Rattle.ov_owner.specs.Errands.{IsCreation};
 ghost use Rattle.ov_script.specs.declared.command.Command.TheVariants.{Create, Enrol};
 ghost use Rattle.ov_script.specs.declared.command.Command.TheVariants.{Grant, Revoke};
-ghost use Rattle.overstore.specs.Answering.{PutsTo};
-ghost use Rattle.overstore.specs.Machine.{IsStep, Steps};
-ghost use Rattle.overstore.specs.Tracing.{Traces};
-ghost use Rattle.overstore.specs.declared.fault.StepFault.TheVariants.{Trace};
+ghost use Rattle.overstore.specs.Steps.{IsWholeStep};
 
 use crate::fault::StepFault;
 use crate::kept_loans;
@@ -28,12 +25,8 @@ impl<D: Disk> Machine<D> {
         trace: &mut T,
     ) -> Result<Reply, StepFault>
         requires healthy { self.old.failed ≡ false }
-        ensures steps { Steps D.reads D.may_leave D.moment D.left_since
-            (Enrol user.now) self.old self.new result }
-        ensures traced { Traces (Enrol user.now) self.old.kept
-            (T.written trace.old) (T.written trace.new) result }
-        ensures step { IsStep D.borrow D.faults self.old self.new result }
-        ensures sink { PutsTo T.written T.faults (result ≡ Err Trace) trace.old trace.new }
+        ensures { IsWholeStep D.reads D.may_leave D.moment D.left_since D.borrow D.faults
+            T.written T.faults (Enrol user.now) self.old self.new trace.old trace.new result }
     {
         let mut peer = Traced::new(&mut self.peer, trace);
         let made = kept_loans::enrol(&self.owner, alloc, &mut peer, user);
@@ -52,12 +45,9 @@ impl<D: Disk> Machine<D> {
     ) -> Result<Reply, StepFault>
         requires healthy { self.old.failed ≡ false }
         requires few { IsCreation list.now bytes.now }
-        ensures steps { Steps D.reads D.may_leave D.moment D.left_since
-            (Create file.now list.now bytes.now) self.old self.new result }
-        ensures traced { Traces (Create file.now list.now bytes.now) self.old.kept
-            (T.written trace.old) (T.written trace.new) result }
-        ensures step { IsStep D.borrow D.faults self.old self.new result }
-        ensures sink { PutsTo T.written T.faults (result ≡ Err Trace) trace.old trace.new }
+        ensures { IsWholeStep D.reads D.may_leave D.moment D.left_since D.borrow D.faults
+            T.written T.faults (Create file.now list.now bytes.now) self.old self.new
+            trace.old trace.new result }
     {
         let mut peer = Traced::new(&mut self.peer, trace);
         let made = kept_loans::create(&self.owner, alloc, &mut peer, file, list, bytes);
@@ -74,12 +64,9 @@ impl<D: Disk> Machine<D> {
         trace: &mut T,
     ) -> Result<Reply, StepFault>
         requires healthy { self.old.failed ≡ false }
-        ensures steps { Steps D.reads D.may_leave D.moment D.left_since
-            (Grant user.now file.now) self.old self.new result }
-        ensures traced { Traces (Grant user.now file.now) self.old.kept
-            (T.written trace.old) (T.written trace.new) result }
-        ensures step { IsStep D.borrow D.faults self.old self.new result }
-        ensures sink { PutsTo T.written T.faults (result ≡ Err Trace) trace.old trace.new }
+        ensures { IsWholeStep D.reads D.may_leave D.moment D.left_since D.borrow D.faults
+            T.written T.faults (Grant user.now file.now) self.old self.new
+            trace.old trace.new result }
     {
         let mut peer = Traced::new(&mut self.peer, trace);
         let made = kept_loans::grant(&self.owner, alloc, &mut peer, user, file);
@@ -96,12 +83,9 @@ impl<D: Disk> Machine<D> {
         trace: &mut T,
     ) -> Result<Reply, StepFault>
         requires healthy { self.old.failed ≡ false }
-        ensures steps { Steps D.reads D.may_leave D.moment D.left_since
-            (Revoke user.now file.now) self.old self.new result }
-        ensures traced { Traces (Revoke user.now file.now) self.old.kept
-            (T.written trace.old) (T.written trace.new) result }
-        ensures step { IsStep D.borrow D.faults self.old self.new result }
-        ensures sink { PutsTo T.written T.faults (result ≡ Err Trace) trace.old trace.new }
+        ensures { IsWholeStep D.reads D.may_leave D.moment D.left_since D.borrow D.faults
+            T.written T.faults (Revoke user.now file.now) self.old self.new
+            trace.old trace.new result }
     {
         let mut peer = Traced::new(&mut self.peer, trace);
         let made = kept_loans::revoke(&self.owner, alloc, &mut peer, user, file);

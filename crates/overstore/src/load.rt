@@ -17,6 +17,7 @@ ghost use Rattle.overstore.specs.Machine.{AreMasters, StandsFor, plain_masters};
 ghost use Rattle.overstore.specs.Printing.{IsKeysStatus, IsScriptStatus, IsStoreStatus};
 ghost use Rattle.overstore.specs.Running.{EndsFor, FailsForFaults, JudgesImage, JudgesKeys};
 ghost use Rattle.overstore.specs.Running.{LeavesAsAtStart, RefusesWords};
+ghost use Rattle.overstore.specs.Summary.{AddsUp};
 ghost use Rattle.overstore.specs.declared.load_words.Load.{Load as Asked};
 
 use crate::answer::stop_of;
@@ -136,12 +137,13 @@ fn load_with_keys<K: Source, O: Sink, T: Sink, D: Disk + Drop>(
 /// the same commands has them put.
 ///
 /// * `opened`: with a disk that opens, the lines tell of the access-matrix machine's replies to
-///   just these commands, from the history for which the disk stands: their counts, the epoch and
-///   the hash of all their lines; or an error line stands alone. But for faults and want of memory
-///   the status is 0. What is sent is the transcripts of the commands and of the end. At any moment
-///   a stop leaves the history after some first commands; at the exit it is that after commands
-///   whose transcripts were put, or after the one more of which a front was put, be it all of it;
-///   at status 0 the disk has it all, and the published tokens are the matrix.
+///   just these commands, from the history for which the disk stands: their counts, which add up to
+///   the commands, the epoch and the hash of all their lines; or an error line stands alone. But
+///   for faults and want of memory the status is 0. Put to `trace` is each command's transcript in
+///   turn, then that of the end. At any moment a stop leaves the history after some first commands;
+///   at the exit it is that after commands whose transcripts were put, or after the one more of
+///   which a front was put, and just that one where the front is all of it; at status 0 the disk
+///   has it all, and the published tokens are the matrix.
 /// * `image`: a disk that doesn't open for these masters and this mode is refused, and nothing is
 ///   sent or written.
 /// * `keys`: without a key file the disk is left as it is, and nothing is sent.
@@ -161,7 +163,7 @@ pub fn load<K: Source, O: Sink, T: Sink, D: Disk>(
 ) -> u8
     ensures opened { ForLoad D.reads D.may_leave disk.old words.now (K.left keys.old) (λ k h load.
         LoadsWell (EndsLoad load h (O.written out.old) (O.written out.new) result)
-        (IsComplete result (Rose (K.faults keys.old) (K.faults keys.new))
+        (AddsUp load h) (IsComplete result (Rose (K.faults keys.old) (K.faults keys.new))
         (Rose (O.faults out.old) (O.faults out.new)
         ⊎ Rose (T.faults trace.old) (T.faults trace.new))
         (Rose (D.faults disk.old) (D.faults disk.new)))

@@ -9,7 +9,7 @@ ghost use Rattle.overstore.specs.LoadEnding.{TracesLoad};
 ghost use Rattle.overstore.specs.Loading.{Loads, OneMore, TalliesAt};
 ghost use Rattle.overstore.specs.Machine.{IsCommand, IsStep, StandsFor};
 ghost use Rattle.overstore.specs.Tallying.{AreAtMost};
-ghost use Rattle.overstore.specs.Tracing.{TracesAt};
+ghost use Rattle.overstore.specs.Tracing.{Traces};
 ghost use Rattle.overstore.specs.declared.fault.StepFault.{StepFault};
 
 use crate::fault::StepFault;
@@ -38,9 +38,8 @@ fn answer<D: Disk, T: Sink>(
         tally.old tally.new machine.old machine.new result }
     ensures counts { OnOk result (OneMore tally.old.counts tally.new.counts) }
     ensures step { IsStep D.borrow D.faults machine.old machine.new result }
-    ensures traced { (h : PlainHistory) → StandsFor machine.old.kept h
-        → TracesAt machine.old.kept.masters h command (T.written trace.old) (T.written trace.new)
-        result }
+    ensures traced { Traces D.reads D.may_leave command machine.old machine.new
+        (T.written trace.old) (T.written trace.new) result }
     ensures trace { PutsTo T.written T.faults (result ≡ Err StepFault.Trace) trace.old trace.new }
 {
     let alloc = *buffer.allocator();

@@ -1,12 +1,9 @@
 //! The access-matrix machine over frames, for who has both masters.
-ghost use Rattle.std.specs.Prelude.{◌≡◌, Err, false};
+ghost use Rattle.std.specs.Prelude.{◌≡◌, false};
 ghost use Rattle.ov_images.specs.Images.{keys_of};
 ghost use Rattle.ov_script.specs.declared.command.Command.{Command};
-ghost use Rattle.overstore.specs.Answering.{PutsTo};
-ghost use Rattle.overstore.specs.Machine.{IsCommand, IsStep, Steps, opened_of};
-ghost use Rattle.overstore.specs.Machine.{plain_masters};
-ghost use Rattle.overstore.specs.Tracing.{Traces};
-ghost use Rattle.overstore.specs.declared.fault.StepFault.TheVariants.{Trace};
+ghost use Rattle.overstore.specs.Machine.{IsCommand, opened_of, plain_masters};
+ghost use Rattle.overstore.specs.Steps.{IsWholeStep};
 
 use crate::fault::StepFault;
 use ov_disk::Disk;
@@ -95,12 +92,8 @@ impl<D: Disk> Machine<D> {
     ) -> Result<Reply, StepFault>
         requires command { IsCommand command }
         requires healthy { self.old.failed ≡ false }
-        ensures steps { Steps D.reads D.may_leave D.moment D.left_since
-            command self.old self.new result }
-        ensures traced { Traces command self.old.kept
-            (T.written trace.old) (T.written trace.new) result }
-        ensures step { IsStep D.borrow D.faults self.old self.new result }
-        ensures sink { PutsTo T.written T.faults (result ≡ Err Trace) trace.old trace.new }
+        ensures { IsWholeStep D.reads D.may_leave D.moment D.left_since D.borrow D.faults
+            T.written T.faults command self.old self.new trace.old trace.new result }
     {
         match command {
             Command::Enrol { user } => self.enrol(alloc, &user, trace),

@@ -1,11 +1,8 @@
 //! What the machine's server is asked that changes nothing.
-ghost use Rattle.std.specs.Prelude.{◌≡◌, Err, false};
+ghost use Rattle.std.specs.Prelude.{◌≡◌, false};
 ghost use Rattle.ov_script.specs.declared.command.Command.TheVariants.{Epoch, List as ListNames};
 ghost use Rattle.ov_script.specs.declared.command.Command.TheVariants.{Read};
-ghost use Rattle.overstore.specs.Answering.{PutsTo};
-ghost use Rattle.overstore.specs.Machine.{IsStep, Steps};
-ghost use Rattle.overstore.specs.Tracing.{Traces};
-ghost use Rattle.overstore.specs.declared.fault.StepFault.TheVariants.{Trace};
+ghost use Rattle.overstore.specs.Steps.{IsWholeStep};
 
 use crate::fault::StepFault;
 use crate::kept_loans;
@@ -22,12 +19,8 @@ impl<D: Disk> Machine<D> {
     /// Gives the epoch.
     pub fn hello<T: Sink>(&mut self, alloc: Global, trace: &mut T) -> Result<Reply, StepFault>
         requires healthy { self.old.failed ≡ false }
-        ensures steps { Steps D.reads D.may_leave D.moment D.left_since
-            Epoch self.old self.new result }
-        ensures traced { Traces Epoch self.old.kept (T.written trace.old) (T.written trace.new)
-            result }
-        ensures step { IsStep D.borrow D.faults self.old self.new result }
-        ensures sink { PutsTo T.written T.faults (result ≡ Err Trace) trace.old trace.new }
+        ensures { IsWholeStep D.reads D.may_leave D.moment D.left_since D.borrow D.faults
+            T.written T.faults Epoch self.old self.new trace.old trace.new result }
     {
         let mut peer = Traced::new(&mut self.peer, trace);
         let told = kept_loans::hello(&self.owner, alloc, &mut peer);
@@ -43,12 +36,8 @@ impl<D: Disk> Machine<D> {
         trace: &mut T,
     ) -> Result<Reply, StepFault>
         requires healthy { self.old.failed ≡ false }
-        ensures steps { Steps D.reads D.may_leave D.moment D.left_since
-            (ListNames file) self.old self.new result }
-        ensures traced { Traces (ListNames file) self.old.kept
-            (T.written trace.old) (T.written trace.new) result }
-        ensures step { IsStep D.borrow D.faults self.old self.new result }
-        ensures sink { PutsTo T.written T.faults (result ≡ Err Trace) trace.old trace.new }
+        ensures { IsWholeStep D.reads D.may_leave D.moment D.left_since D.borrow D.faults
+            T.written T.faults (ListNames file) self.old self.new trace.old trace.new result }
     {
         let mut peer = Traced::new(&mut self.peer, trace);
         let told = kept_loans::list(&self.owner, alloc, &mut peer, &file);
@@ -65,12 +54,8 @@ impl<D: Disk> Machine<D> {
         trace: &mut T,
     ) -> Result<Reply, StepFault>
         requires healthy { self.old.failed ≡ false }
-        ensures steps { Steps D.reads D.may_leave D.moment D.left_since
-            (Read user file) self.old self.new result }
-        ensures traced { Traces (Read user file) self.old.kept
-            (T.written trace.old) (T.written trace.new) result }
-        ensures step { IsStep D.borrow D.faults self.old self.new result }
-        ensures sink { PutsTo T.written T.faults (result ≡ Err Trace) trace.old trace.new }
+        ensures { IsWholeStep D.reads D.may_leave D.moment D.left_since D.borrow D.faults
+            T.written T.faults (Read user file) self.old self.new trace.old trace.new result }
     {
         self.peer.server().known();
         let mut peer = Traced::new(&mut self.peer, trace);

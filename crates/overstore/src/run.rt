@@ -188,10 +188,10 @@ fn answer_with_keys<K: Source, I: Source, O: Sink, T: Sink, D: Disk + Drop>(
 ///
 /// * `opened`: with a disk that opens, the access-matrix machine's lines are printed, from the
 ///   history for which the disk stands; the script alone decides the status; a reply is put before
-///   more of the script is taken than its command needs; what is sent is the transcripts of the
-///   commands and of the end, and nothing else; and whatever the status, a stop leaves what was
-///   acknowledged, and at most one update more: at the end of the script the disk has it all, and
-///   the published tokens are the matrix.
+///   more of the script is taken than its command needs; put to `trace` is each command's
+///   transcript in turn, then that of the end, and nothing else; and whatever the status, a stop
+///   leaves what was acknowledged, and at most one update more: at the end of the script the disk
+///   has it all, and the published tokens are the matrix.
 /// * `image`: a disk that doesn't open for these masters and this mode is refused, the script isn't
 ///   read, and nothing is sent or written.
 /// * `keys`: without a key file the script and the disk are left as they are, and nothing is sent.

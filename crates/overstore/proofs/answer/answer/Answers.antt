@@ -71,7 +71,7 @@ pub returns-in-Err-clause-traced : goal.returns-in-Err-clause-traced
 returns-in-Err-clause-traced g c = λ p stands.
     subst (λ (stop : Stop). TracesLine c.args.machine.now.kept.masters p c.args.command (Some stop) (g.O.Sink.written c.args.out.now) (g.O.Sink.written c.args.out.now)
     (g.T.Sink.written c.args.trace.now) (g.T.Sink.written c.step.new.trace)) (sym c.stop_of.ensures)
-    (fault_traced c.args.machine.now.kept.masters p c.args.command c.in-Err.fault _ _ _ (c.in-Err.ensures.traced p stands))
+    (fault_traced c.args.machine.now.kept.masters p c.args.command _ c.in-Err.fault _ _ _ (c.in-Err.ensures.traced p stands))
 
 pub returns-in-Ok-clause-trace : goal.returns-in-Ok-clause-trace
 returns-in-Ok-clause-trace g c = record {

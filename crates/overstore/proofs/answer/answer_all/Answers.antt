@@ -238,7 +238,7 @@ returns-in-Ok-clause-traced g c = λ p stands.
 pub returns-in-Err-clause-traced : goal.returns-in-Err-clause-traced
 returns-in-Err-clause-traced g c = λ p stands.
     traced_end_stops _ p _ c.items.invariant.masters _ _ _ _ _ _ _ _ _ _ c.stop_of.ensures _
-    (c.items.invariant.traced p stands) (rw c.in-Ok-End.field-0-is at (c.in-Ok-End.ensures.says c.items.invariant.ended)) c.in-Err.ensures.traced
+    (c.items.invariant.traced p stands) (rw c.in-Ok-End.field-0-is at (c.in-Ok-End.ensures.says c.items.invariant.ended)) _ c.in-Err.ensures.traced
 
 pub returns-in-Ok-clause-machine : goal.returns-in-Ok-clause-machine
 returns-in-Ok-clause-machine g c =

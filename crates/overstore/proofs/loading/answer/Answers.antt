@@ -1,4 +1,4 @@
-use Rattle.std.proofs.Common.{rules, ℕ}
+use Rattle.std.proofs.Common.{refl, rules, ℕ}
 use Rattle.overstore.proofs.LoadTracing.{sent_unlined}
 use Rattle.overstore.proofs.WorkloadSteps.{tallied, unanswered_as, unlined}
 use Rattle.overstore.proofs.loading.answer.Goals as goal
@@ -21,4 +21,6 @@ returns-in_err-line-clause-answer g c = λ k h at stands.
 
 pub returns-in_err-line-clause-traced : goal.returns-in_err-line-clause-traced
 returns-in_err-line-clause-traced g c = λ h stands.
-    sent_unlined c.args.machine.now.kept.masters h c.args.command _ _ _ (search rules) (c.in_ok-reply.ensures.traced h stands)
+    sent_unlined c.args.machine.now.kept.masters h c.args.command _ _ _ _ (search rules)
+    (λ holds image left. ((c.in_ok-reply.ensures.steps c.args.machine.now.kept.masters h refl stands).1.holds holds).each image left)
+    (c.in_ok-reply.ensures.traced h stands)

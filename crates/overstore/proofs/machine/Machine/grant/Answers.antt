@@ -20,42 +20,12 @@ invariant_of-self g c =
     c.grant-made.new.peer c.grant-made.result c.grant-made.ensures.runs c.self.inside.peer
     c.grant-made.new.peer.peer.now c.self.invariant (search rules) refl
 
-pub returns-clause-steps : goal.returns-clause-steps
-returns-clause-steps g c =
-    (change_all g.D.Disk.reads g.D.Disk.may_leave g.D.Disk.moment g.D.Disk.left_since g.D.Disk.borrow g.D.Disk.faults
-    g.met.D.Disk.only_now g.met.D.Disk.counts_now g.T.Sink.written g.T.Sink.faults
-    c.self.inside.owner (Grant c.args.user.now c.args.file.now) (granting c.self.inside.owner.base c.args.user.now c.args.file.now) refl c.new-peer.result
-    c.grant-made.new.peer c.grant-made.result c.grant-made.ensures.runs c.self.inside.peer
-    c.grant-made.new.peer.peer.now c.self.invariant (search rules)
-    c.args.self.now c.self.view_is c.requires.healthy c.args.trace.now c.grant-made.new.peer.sink.now c.change_reply.result refl
-    (search rules) refl c.grant-made.ensures.cause c.change_reply.ensures).steps
-
-pub returns-clause-traced : goal.returns-clause-traced
-returns-clause-traced g c =
-    (change_all g.D.Disk.reads g.D.Disk.may_leave g.D.Disk.moment g.D.Disk.left_since g.D.Disk.borrow g.D.Disk.faults
+pub returns : goal.returns
+returns g c =
+    change_all g.D.Disk.reads g.D.Disk.may_leave g.D.Disk.moment g.D.Disk.left_since g.D.Disk.borrow g.D.Disk.faults
     g.met.D.Disk.only_now g.met.D.Disk.counts_now g.T.Sink.written g.T.Sink.faults
     c.self.inside.owner (Grant c.args.user.now c.args.file.now) (granting c.self.inside.owner.base c.args.user.now c.args.file.now) refl c.new-peer.result
     c.grant-made.new.peer c.grant-made.result c.grant-made.ensures.runs c.self.inside.peer
     c.grant-made.new.peer.peer.now c.self.invariant (search rules)
     c.args.self.now c.self.view_is c.requires.healthy c.args.trace.now _ c.change_reply.result refl
-    (search rules) (search rules) c.grant-made.ensures.cause c.change_reply.ensures).traced
-
-pub returns-clause-step : goal.returns-clause-step
-returns-clause-step g c =
-    (change_all g.D.Disk.reads g.D.Disk.may_leave g.D.Disk.moment g.D.Disk.left_since g.D.Disk.borrow g.D.Disk.faults
-    g.met.D.Disk.only_now g.met.D.Disk.counts_now g.T.Sink.written g.T.Sink.faults
-    c.self.inside.owner (Grant c.args.user.now c.args.file.now) (granting c.self.inside.owner.base c.args.user.now c.args.file.now) refl c.new-peer.result
-    c.grant-made.new.peer c.grant-made.result c.grant-made.ensures.runs c.self.inside.peer
-    c.grant-made.new.peer.peer.now c.self.invariant (search rules)
-    c.args.self.now c.self.view_is c.requires.healthy c.args.trace.now c.grant-made.new.peer.sink.now c.change_reply.result refl
-    (search rules) refl c.grant-made.ensures.cause c.change_reply.ensures).step
-
-pub returns-clause-sink : goal.returns-clause-sink
-returns-clause-sink g c =
-    (change_all g.D.Disk.reads g.D.Disk.may_leave g.D.Disk.moment g.D.Disk.left_since g.D.Disk.borrow g.D.Disk.faults
-    g.met.D.Disk.only_now g.met.D.Disk.counts_now g.T.Sink.written g.T.Sink.faults
-    c.self.inside.owner (Grant c.args.user.now c.args.file.now) (granting c.self.inside.owner.base c.args.user.now c.args.file.now) refl c.new-peer.result
-    c.grant-made.new.peer c.grant-made.result c.grant-made.ensures.runs c.self.inside.peer
-    c.grant-made.new.peer.peer.now c.self.invariant (search rules)
-    c.args.self.now c.self.view_is c.requires.healthy c.args.trace.now _ c.change_reply.result refl
-    (search rules) (search rules) c.grant-made.ensures.cause c.change_reply.ensures).sink
+    (search rules) (search rules) c.grant-made.ensures.cause c.change_reply.ensures

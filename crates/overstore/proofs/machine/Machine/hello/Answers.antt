@@ -18,38 +18,11 @@ invariant_of-self g c =
     c.args.self.now c.self.view_is
     c.hello-told.ensures.form c.hello-told.new.peer c.hello-told.result c.hello-told.ensures.asks
 
-pub returns-clause-steps : goal.returns-clause-steps
-returns-clause-steps g c =
-    (hello_all g.D.Disk.reads g.D.Disk.may_leave g.D.Disk.moment g.D.Disk.left_since g.D.Disk.borrow g.D.Disk.faults
-    g.met.D.Disk.only_now g.met.D.Disk.counts_now g.T.Sink.written g.T.Sink.faults
-    c.self.inside.owner c.new-peer.result c.self.inside.peer c.self.invariant (search rules)
-    c.args.self.now c.self.view_is
-    c.hello-told.ensures.form c.hello-told.new.peer c.hello-told.result c.hello-told.ensures.asks c.args.trace.now c.hello-told.new.peer.sink.now c.epoch_reply.result (search rules) refl
-    c.hello-told.ensures.cause c.epoch_reply.ensures).steps
-
-pub returns-clause-traced : goal.returns-clause-traced
-returns-clause-traced g c =
-    (hello_all g.D.Disk.reads g.D.Disk.may_leave g.D.Disk.moment g.D.Disk.left_since g.D.Disk.borrow g.D.Disk.faults
+pub returns : goal.returns
+returns g c =
+    hello_all g.D.Disk.reads g.D.Disk.may_leave g.D.Disk.moment g.D.Disk.left_since g.D.Disk.borrow g.D.Disk.faults
     g.met.D.Disk.only_now g.met.D.Disk.counts_now g.T.Sink.written g.T.Sink.faults
     c.self.inside.owner c.new-peer.result c.self.inside.peer c.self.invariant (search rules)
     c.args.self.now c.self.view_is
     c.hello-told.ensures.form c.hello-told.new.peer c.hello-told.result c.hello-told.ensures.asks c.args.trace.now _ c.epoch_reply.result (search rules) (search rules)
-    c.hello-told.ensures.cause c.epoch_reply.ensures).traced
-
-pub returns-clause-step : goal.returns-clause-step
-returns-clause-step g c =
-    (hello_all g.D.Disk.reads g.D.Disk.may_leave g.D.Disk.moment g.D.Disk.left_since g.D.Disk.borrow g.D.Disk.faults
-    g.met.D.Disk.only_now g.met.D.Disk.counts_now g.T.Sink.written g.T.Sink.faults
-    c.self.inside.owner c.new-peer.result c.self.inside.peer c.self.invariant (search rules)
-    c.args.self.now c.self.view_is
-    c.hello-told.ensures.form c.hello-told.new.peer c.hello-told.result c.hello-told.ensures.asks c.args.trace.now c.hello-told.new.peer.sink.now c.epoch_reply.result (search rules) refl
-    c.hello-told.ensures.cause c.epoch_reply.ensures).step
-
-pub returns-clause-sink : goal.returns-clause-sink
-returns-clause-sink g c =
-    (hello_all g.D.Disk.reads g.D.Disk.may_leave g.D.Disk.moment g.D.Disk.left_since g.D.Disk.borrow g.D.Disk.faults
-    g.met.D.Disk.only_now g.met.D.Disk.counts_now g.T.Sink.written g.T.Sink.faults
-    c.self.inside.owner c.new-peer.result c.self.inside.peer c.self.invariant (search rules)
-    c.args.self.now c.self.view_is
-    c.hello-told.ensures.form c.hello-told.new.peer c.hello-told.result c.hello-told.ensures.asks c.args.trace.now _ c.epoch_reply.result (search rules) (search rules)
-    c.hello-told.ensures.cause c.epoch_reply.ensures).sink
+    c.hello-told.ensures.cause c.epoch_reply.ensures

@@ -18,38 +18,11 @@ invariant_of-self g c =
     c.args.self.now c.self.view_is
     c.args.file c.list-told.ensures.form c.list-told.new.peer c.list-told.result c.list-told.ensures.asks
 
-pub returns-clause-steps : goal.returns-clause-steps
-returns-clause-steps g c =
-    (list_all g.D.Disk.reads g.D.Disk.may_leave g.D.Disk.moment g.D.Disk.left_since g.D.Disk.borrow g.D.Disk.faults
-    g.met.D.Disk.only_now g.met.D.Disk.counts_now g.T.Sink.written g.T.Sink.faults
-    c.self.inside.owner c.new-peer.result c.self.inside.peer c.self.invariant (search rules)
-    c.args.self.now c.self.view_is
-    c.args.file c.list-told.ensures.form c.list-told.new.peer c.list-told.result c.list-told.ensures.asks c.args.trace.now c.list-told.new.peer.sink.now c.names_reply.result (search rules) refl
-    c.list-told.ensures.cause c.names_reply.ensures).steps
-
-pub returns-clause-traced : goal.returns-clause-traced
-returns-clause-traced g c =
-    (list_all g.D.Disk.reads g.D.Disk.may_leave g.D.Disk.moment g.D.Disk.left_since g.D.Disk.borrow g.D.Disk.faults
+pub returns : goal.returns
+returns g c =
+    list_all g.D.Disk.reads g.D.Disk.may_leave g.D.Disk.moment g.D.Disk.left_since g.D.Disk.borrow g.D.Disk.faults
     g.met.D.Disk.only_now g.met.D.Disk.counts_now g.T.Sink.written g.T.Sink.faults
     c.self.inside.owner c.new-peer.result c.self.inside.peer c.self.invariant (search rules)
     c.args.self.now c.self.view_is
     c.args.file c.list-told.ensures.form c.list-told.new.peer c.list-told.result c.list-told.ensures.asks c.args.trace.now _ c.names_reply.result (search rules) (search rules)
-    c.list-told.ensures.cause c.names_reply.ensures).traced
-
-pub returns-clause-step : goal.returns-clause-step
-returns-clause-step g c =
-    (list_all g.D.Disk.reads g.D.Disk.may_leave g.D.Disk.moment g.D.Disk.left_since g.D.Disk.borrow g.D.Disk.faults
-    g.met.D.Disk.only_now g.met.D.Disk.counts_now g.T.Sink.written g.T.Sink.faults
-    c.self.inside.owner c.new-peer.result c.self.inside.peer c.self.invariant (search rules)
-    c.args.self.now c.self.view_is
-    c.args.file c.list-told.ensures.form c.list-told.new.peer c.list-told.result c.list-told.ensures.asks c.args.trace.now c.list-told.new.peer.sink.now c.names_reply.result (search rules) refl
-    c.list-told.ensures.cause c.names_reply.ensures).step
-
-pub returns-clause-sink : goal.returns-clause-sink
-returns-clause-sink g c =
-    (list_all g.D.Disk.reads g.D.Disk.may_leave g.D.Disk.moment g.D.Disk.left_since g.D.Disk.borrow g.D.Disk.faults
-    g.met.D.Disk.only_now g.met.D.Disk.counts_now g.T.Sink.written g.T.Sink.faults
-    c.self.inside.owner c.new-peer.result c.self.inside.peer c.self.invariant (search rules)
-    c.args.self.now c.self.view_is
-    c.args.file c.list-told.ensures.form c.list-told.new.peer c.list-told.result c.list-told.ensures.asks c.args.trace.now _ c.names_reply.result (search rules) (search rules)
-    c.list-told.ensures.cause c.names_reply.ensures).sink
+    c.list-told.ensures.cause c.names_reply.ensures

@@ -20,42 +20,12 @@ invariant_of-self g c =
     c.args.user c.args.file c.read-found.ensures.form c.read-found.new.peer (search rules) c.requires.healthy
     c.read-found.result c.read-found.ensures.reads
 
-pub returns-clause-steps : goal.returns-clause-steps
-returns-clause-steps g c =
-    (found_all g.D.Disk.reads g.D.Disk.may_leave g.D.Disk.moment g.D.Disk.left_since g.D.Disk.borrow g.D.Disk.faults
-    g.met.D.Disk.only_now g.met.D.Disk.counts_now g.T.Sink.written g.T.Sink.faults
-    c.self.inside.owner c.new-peer.result c.self.inside.peer c.self.invariant (search rules)
-    c.args.self.now c.self.view_is
-    c.args.user c.args.file c.read-found.ensures.form c.read-found.new.peer (search rules) c.requires.healthy
-    c.read-found.result c.args.trace.now c.read-found.new.peer.sink.now c.found_reply.result
-    c.read-found.ensures.reads (search rules) refl c.read-found.ensures.cause c.found_reply.ensures).steps
-
-pub returns-clause-traced : goal.returns-clause-traced
-returns-clause-traced g c =
-    (found_all g.D.Disk.reads g.D.Disk.may_leave g.D.Disk.moment g.D.Disk.left_since g.D.Disk.borrow g.D.Disk.faults
+pub returns : goal.returns
+returns g c =
+    found_all g.D.Disk.reads g.D.Disk.may_leave g.D.Disk.moment g.D.Disk.left_since g.D.Disk.borrow g.D.Disk.faults
     g.met.D.Disk.only_now g.met.D.Disk.counts_now g.T.Sink.written g.T.Sink.faults
     c.self.inside.owner c.new-peer.result c.self.inside.peer c.self.invariant (search rules)
     c.args.self.now c.self.view_is
     c.args.user c.args.file c.read-found.ensures.form c.read-found.new.peer (search rules) c.requires.healthy
     c.read-found.result c.args.trace.now _ c.found_reply.result
-    c.read-found.ensures.reads (search rules) (search rules) c.read-found.ensures.cause c.found_reply.ensures).traced
-
-pub returns-clause-step : goal.returns-clause-step
-returns-clause-step g c =
-    (found_all g.D.Disk.reads g.D.Disk.may_leave g.D.Disk.moment g.D.Disk.left_since g.D.Disk.borrow g.D.Disk.faults
-    g.met.D.Disk.only_now g.met.D.Disk.counts_now g.T.Sink.written g.T.Sink.faults
-    c.self.inside.owner c.new-peer.result c.self.inside.peer c.self.invariant (search rules)
-    c.args.self.now c.self.view_is
-    c.args.user c.args.file c.read-found.ensures.form c.read-found.new.peer (search rules) c.requires.healthy
-    c.read-found.result c.args.trace.now c.read-found.new.peer.sink.now c.found_reply.result
-    c.read-found.ensures.reads (search rules) refl c.read-found.ensures.cause c.found_reply.ensures).step
-
-pub returns-clause-sink : goal.returns-clause-sink
-returns-clause-sink g c =
-    (found_all g.D.Disk.reads g.D.Disk.may_leave g.D.Disk.moment g.D.Disk.left_since g.D.Disk.borrow g.D.Disk.faults
-    g.met.D.Disk.only_now g.met.D.Disk.counts_now g.T.Sink.written g.T.Sink.faults
-    c.self.inside.owner c.new-peer.result c.self.inside.peer c.self.invariant (search rules)
-    c.args.self.now c.self.view_is
-    c.args.user c.args.file c.read-found.ensures.form c.read-found.new.peer (search rules) c.requires.healthy
-    c.read-found.result c.args.trace.now _ c.found_reply.result
-    c.read-found.ensures.reads (search rules) (search rules) c.read-found.ensures.cause c.found_reply.ensures).sink
+    c.read-found.ensures.reads (search rules) (search rules) c.read-found.ensures.cause c.found_reply.ensures
