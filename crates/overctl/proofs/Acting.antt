@@ -62,8 +62,8 @@ keys_of_owner act (Some bytes) owns none = no_keys_of_owner act bytes owns none
 pub stops_as : {T U : Type 0} (stop : Stop) (outcome : Result U Stop)
     (reads links keys long more_reads more_links more_keys more_long : Type 0)
     → (reads → more_reads) → (links → more_links) → (keys → more_keys) → (long → more_long)
-    → StopsFor {T} reads links keys long (Err stop) → outcome ≡ Err stop
-    → StopsFor {U} more_reads more_links more_keys more_long outcome
+    → StopsFor {T = T} reads links keys long (Err stop) → outcome ≡ Err stop
+    → StopsFor {T = U} more_reads more_links more_keys more_long outcome
 stops_as stop outcome reads links keys long more_reads more_links more_keys more_long f g h i s e =
     record {
       read = λ x. f (s.read (cc));

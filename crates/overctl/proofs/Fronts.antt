@@ -38,6 +38,17 @@ root_short root digits low long =
     length-append (decimal root) (32 ∷ digits) in
     omega arith
 
+key_size : (name base surface : List ℕ)
+    → length (name ++ base ++ surface) ≡ length name + length base + length surface
+key_size name base surface =
+    omega (
+      arith,
+      length-append name (base ++ surface),
+      length-append base surface,
+      length-append (name ++ base) surface,
+      length-append name base,
+    )
+
 pub line_short : (text : List ℕ) (r : Reader) → IsLineOf text r → length text ≤ 205
 line_short text r is =
     let name : length r.name ≤ 64 = name_short r.name is.name in
@@ -51,11 +62,9 @@ line_short text r is =
     ≡ length (key_words r is.base is.surface) + length is.end =
     length-append (key_words r is.base is.surface) is.end in
     let first : length (key_words r is.base is.surface)
-    ≡ length r.name + length (root_words r.base_root is.base ++ root_words r.surface_root is.surface) =
-    length-append r.name (root_words r.base_root is.base ++ root_words r.surface_root is.surface) in
-    let roots : length (root_words r.base_root is.base ++ root_words r.surface_root is.surface)
-    ≡ length (root_words r.base_root is.base) + length (root_words r.surface_root is.surface) =
-    length-append (root_words r.base_root is.base) (root_words r.surface_root is.surface) in
+    ≡ length r.name + length (root_words r.base_root is.base)
+    + length (root_words r.surface_root is.surface) =
+    key_size r.name (root_words r.base_root is.base) (root_words r.surface_root is.surface) in
     omega arith
 
 -- ---- the user key line

@@ -57,11 +57,11 @@ module _ {P : Type 0} (asked : Asked P) (failed : Failed P) (serves : P → Serv
         asks,
         told.0,
         told.1,
-        told.2.0,
+        told.2,
         subst (λ x. serves x told.1)
-            (left failed m q r file stage unanswered result linked given closes ends) told.2.1,
+            (left failed m q r file stage unanswered result linked given closes ends) told.3,
         λ right. outcome_told k (last_chain None asks told.0) r.name file result
-            (law k r file asks unanswered result v told.1 told.0 keys same whole told.2.0 right),
+            (law k r file asks unanswered result v told.1 told.0 keys same whole told.2 right),
       )
 
   -- so it is with every read
@@ -112,3 +112,12 @@ pub unread_told : (keys : Option (List ℕ)) (file : List ℕ) (stop : Stop) (v 
     → FindsReader keys (Err stop) → ReadersAsMachine file keys v Then (Err stop)
 unread_told keys file stops.BadKeys v Then found = λ line r k told line_is holds same. tt
 unread_told keys file stops.Read v Then found = λ line r k told line_is holds same. tt
+unread_told keys file (stops.Refused why) v Then found = absurd found
+unread_told keys file stops.Device v Then found = absurd found
+unread_told keys file stops.Memory v Then found = absurd found
+unread_told keys file stops.Link v Then found = absurd found
+unread_told keys file stops.OtherKeys v Then found = absurd found
+unread_told keys file stops.BadReply v Then found = absurd found
+unread_told keys file stops.Damaged v Then found = absurd found
+unread_told keys file stops.Unsettled v Then found = absurd found
+unread_told keys file stops.TooLong v Then found = absurd found

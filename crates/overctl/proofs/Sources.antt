@@ -101,6 +101,15 @@ no_masters file (Ok masters) p q outcome Next none is goes =
     absurd (none (masters.base.bytes, masters.surface.bytes, is))
 no_masters file (Err stops.BadKeys) p q outcome Next none is goes = (goes.0, inl goes.1)
 no_masters file (Err stops.Read) p q outcome Next none is goes = (goes.0, inr goes.1)
+no_masters file (Err (stops.Refused why)) p q outcome Next none is goes = absurd is
+no_masters file (Err stops.Device) p q outcome Next none is goes = absurd is
+no_masters file (Err stops.Memory) p q outcome Next none is goes = absurd is
+no_masters file (Err stops.Link) p q outcome Next none is goes = absurd is
+no_masters file (Err stops.OtherKeys) p q outcome Next none is goes = absurd is
+no_masters file (Err stops.BadReply) p q outcome Next none is goes = absurd is
+no_masters file (Err stops.Damaged) p q outcome Next none is goes = absurd is
+no_masters file (Err stops.Unsettled) p q outcome Next none is goes = absurd is
+no_masters file (Err stops.TooLong) p q outcome Next none is goes = absurd is
 
 no_reader : {P : Type 0} (line : List ℕ) (found : Result Reader Stop) (p q : P)
     (outcome : Outcome) (Next : Reader → Type 0)
@@ -109,6 +118,15 @@ no_reader : {P : Type 0} (line : List ℕ) (found : Result Reader Stop) (p q : P
 no_reader line (Ok r) p q outcome Next none is goes = absurd (none (r, is))
 no_reader line (Err stops.BadKeys) p q outcome Next none is goes = (goes.0, inl goes.1)
 no_reader line (Err stops.Read) p q outcome Next none is goes = (goes.0, inr goes.1)
+no_reader line (Err (stops.Refused why)) p q outcome Next none is goes = absurd is
+no_reader line (Err stops.Device) p q outcome Next none is goes = absurd is
+no_reader line (Err stops.Memory) p q outcome Next none is goes = absurd is
+no_reader line (Err stops.Link) p q outcome Next none is goes = absurd is
+no_reader line (Err stops.OtherKeys) p q outcome Next none is goes = absurd is
+no_reader line (Err stops.BadReply) p q outcome Next none is goes = absurd is
+no_reader line (Err stops.Damaged) p q outcome Next none is goes = absurd is
+no_reader line (Err stops.Unsettled) p q outcome Next none is goes = absurd is
+no_reader line (Err stops.TooLong) p q outcome Next none is goes = absurd is
 
 no_check : {P : Type 0} (file : List ℕ) (found : Result ReadMasters Stop) (p q : P)
     (outcome : Outcome)
@@ -118,6 +136,15 @@ no_check file (Ok masters) p q outcome none is same says =
     absurd (none (masters.base.bytes, masters.surface.bytes, is))
 no_check file (Err stops.BadKeys) p q outcome none is same says = (same, inl says)
 no_check file (Err stops.Read) p q outcome none is same says = (same, inr says)
+no_check file (Err (stops.Refused why)) p q outcome none is same says = absurd is
+no_check file (Err stops.Device) p q outcome none is same says = absurd is
+no_check file (Err stops.Memory) p q outcome none is same says = absurd is
+no_check file (Err stops.Link) p q outcome none is same says = absurd is
+no_check file (Err stops.OtherKeys) p q outcome none is same says = absurd is
+no_check file (Err stops.BadReply) p q outcome none is same says = absurd is
+no_check file (Err stops.Damaged) p q outcome none is same says = absurd is
+no_check file (Err stops.Unsettled) p q outcome none is same says = absurd is
+no_check file (Err stops.TooLong) p q outcome none is same says = absurd is
 
 module _ {P : Type 0} (asked : Asked P) (failed : Failed P) where
   -- without keys nothing is asked

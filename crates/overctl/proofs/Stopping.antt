@@ -16,7 +16,7 @@ use Rattle.overctl.specs.declared.stop.Stop.TheVariants as stops
 
 -- a fault of an owner's call is none of a file, and one of the link only where the count rose
 owner_stops : {T U : Type 0} (fault : OwnerFault) (before now : ℕ) (outcome : Result U Stop)
-    → HasOwnerCause {T} before now (Err fault) → outcome ≡ Err (stop_of_owner fault)
+    → HasOwnerCause {T = T} before now (Err fault) → outcome ≡ Err (stop_of_owner fault)
     → StopsFor ⊥ (Rose before now) ⊥ ⊥ outcome
 owner_stops (owner.Refused why) before now outcome cause e =
     record { read = λ x. cc; link = λ x. cc; keys = λ x. cc; long = λ x. cc }
@@ -84,7 +84,7 @@ later_stops before mid now outcome later s = record {
 -- a fault of a read is none of a file, and one of the link only where the count rose
 pub client_stops : {T : Type 0} (fault : ClientFault) (before now : ℕ) (reads none : Type 0)
     (outcome : Outcome)
-    → HasClientCause {T} before now (Err fault) → outcome ≡ Err (stop_of_client fault)
+    → HasClientCause {T = T} before now (Err fault) → outcome ≡ Err (stop_of_client fault)
     → StopsFor reads (Rose before now) none ⊥ outcome
 client_stops (client.Refused why) before now reads none outcome cause e =
     record { read = λ x. cc; link = λ x. cc; keys = λ x. cc; long = λ x. cc }
