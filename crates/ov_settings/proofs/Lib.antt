@@ -1,0 +1,4 @@
+pub mod Missing
+pub mod OneReading
+pub mod Pieces
+pub mod Whole

@@ -1,0 +1,67 @@
+-- A settings file has one reading.
+use Rattle.std.proofs.Common.{◌≡◌, ℕ, List, length, refl, sym, ◌∙◌, ap, subst, arith}
+use Rattle.std.proofs.lemmas.Option.{same_Some}
+use Rattle.hex.proofs.HexLemmas.{decode_of-same}
+use Rattle.toml.specs.Data.{Members}
+use Rattle.ov_base.specs.declared.key.Key.{Key}
+use Rattle.ov_base.specs.declared.mode.Mode.{Mode}
+use Rattle.ov_base.specs.declared.mode.Mode.TheVariants.{Full, Delta}
+use Rattle.ov_keyfile.specs.KeyFile.{IsKeyLine}
+use Rattle.ov_settings.specs.Settings.{AreSettings, HoldsDigits, HoldsSessions, HoldsText, IsSettingsFile, mode_word}
+use Rattle.ov_settings.specs.declared.settings.Settings.{Settings}
+
+-- one text stands at a key
+text_once : (m : Members) (key one two : List ℕ) → HoldsText m key one → HoldsText m key two → one ≡ two
+text_once m key one two a b = same_Some one two (sym a ∙ b)
+
+-- two modes have two words
+mode_once : (one two : Mode) → mode_word one ≡ mode_word two → one ≡ two
+mode_once Full Full e = refl
+mode_once Delta Delta e = refl
+mode_once Full Delta e = let long : 4 ≡ 5 = ap length e in absurd (omega arith)
+mode_once Delta Full e = let long : 5 ≡ 4 = ap length e in absurd (omega arith)
+
+-- digits are of one key
+digits_once : (m : Members) (key one two : List ℕ) → HoldsDigits m key one → HoldsDigits m key two → one ≡ two
+digits_once m key one two (t, at_key, is) (u, at_it, other) =
+    let same : u ≡ t = text_once m key u t at_it at_key in
+    let there : IsKeyLine t two = subst (λ (line : List ℕ). IsKeyLine line two) same other in
+    decode_of-same t one two is.decoded there.decoded
+
+sessions_once : (m : Members) (one two : ℕ) → HoldsSessions m one → HoldsSessions m two → one ≡ two
+sessions_once m one two a b =
+    let same = same_Some _ _ (sym a.number ∙ b.number) in
+    cc
+
+key_of_bytes : List ℕ → Key
+key_of_bytes bytes = record { bytes = bytes }
+
+key_once : (one two : Key) → one.bytes ≡ two.bytes → one ≡ two
+unfolding key_of_bytes
+key_once one two e = ap key_of_bytes e
+
+-- settings of these values
+made : List ℕ → Mode → Key → List ℕ → List ℕ → List ℕ → ℕ → Settings
+made address mode surface base_check book blobs sessions =
+    record { address = address; mode = mode; surface = surface; base_check = base_check; book = book; blobs = blobs; sessions = sessions }
+
+made_of : (s : Settings) → made s.address s.mode s.surface s.base_check s.book s.blobs s.sessions ≡ s
+unfolding made
+made_of s = refl
+
+values_once : (m : Members) (one two : Settings) → AreSettings m one → AreSettings m two → one ≡ two
+values_once m one two a b =
+    let address : one.address ≡ two.address = text_once m _ _ _ a.address b.address in
+    let mode : one.mode ≡ two.mode = mode_once _ _ (text_once m _ _ _ a.mode b.mode) in
+    let surface : one.surface ≡ two.surface = key_once _ _ (digits_once m _ _ _ a.surface b.surface) in
+    let base : one.base_check ≡ two.base_check = digits_once m _ _ _ a.base_check b.base_check in
+    let book : one.book ≡ two.book = text_once m _ _ _ a.book b.book in
+    let blobs : one.blobs ≡ two.blobs = text_once m _ _ _ a.blobs b.blobs in
+    let sessions : one.sessions ≡ two.sessions = sessions_once m _ _ a.sessions b.sessions in
+    cc (made_of one, made_of two)
+
+-- the document is one, and so are the values
+pub one_reading : (bytes : List ℕ) (one two : Settings) → IsSettingsFile bytes one → IsSettingsFile bytes two → one ≡ two
+one_reading bytes one two a b =
+    let same : b.document ≡ a.document = same_Some _ _ (sym b.is.reads ∙ a.is.reads) in
+    values_once a.document one two a.values (subst (λ (m : Members). AreSettings m two) same b.values)

@@ -1,0 +1,129 @@
+-- Which bytes are a settings file, and of which settings.
+use Rattle.std.specs.Prelude.{◌≡◌, ◌≤◌, ◌<◌, ◌⊎◌, ⊤, ℕ, ℤ, pos, List, length, codes}
+use Rattle.std.specs.Prelude.{Option, Some, None, IfSome, option_and_then, Result, Ok, Err}
+use Rattle.std.specs.Prelude.{String, IsUtf8}
+use Rattle.std.specs.declared.alloc.Global.{Global}
+use Rattle.ov_base.specs.declared.mode.Mode.{Mode}
+use Rattle.ov_base.specs.declared.mode.Mode.TheVariants.{Full, Delta}
+use Rattle.ov_keyfile.specs.KeyFile.{IsKeyLine}
+use Rattle.toml.specs.Data.{Members, as_integer, as_str, get_member}
+use Rattle.toml.specs.Parse.{parse_document}
+use Rattle.ov_settings.specs.declared.settings.Settings.{Settings}
+use Rattle.ov_settings.specs.declared.fault.SettingsFault.{SettingsFault}
+use Rattle.ov_settings.specs.declared.fault.SettingsFault.TheVariants.{Read, Memory, TooLong, NotToml}
+use Rattle.ov_settings.specs.declared.fault.SettingsFault.TheVariants.{Address, Mode as ModeKey, Surface}
+use Rattle.ov_settings.specs.declared.fault.SettingsFault.TheVariants.{BaseCheck, Book, Blobs, Sessions}
+use Rattle.ov_settings.specs.declared.settings.TheConstants.{MAX_SESSIONS}
+use Rattle.ov_settings.specs.declared.reading.TheConstants.{ENOUGH, LONGEST}
+use Rattle.ov_io.specs.Calls.{TakesWhile}
+
+-- ---- the keys of a document
+
+-- the text at a key, where there is one
+abbrev pub text_at : Members → List ℕ → Option (List ℕ)
+text_at document key = option_and_then as_str (get_member key document)
+
+-- the integer at a key, where there is one
+abbrev pub integer_at : Members → List ℕ → Option ℤ
+integer_at document key = option_and_then as_integer (get_member key document)
+
+-- the word for a mode
+abbrev pub mode_word : Mode → List ℕ
+mode_word Full = codes "full"
+mode_word Delta = codes "delta"
+
+-- at the key stands this text
+abbrev pub HoldsText : Members → List ℕ → List ℕ → Type 0
+HoldsText document key text = text_at document key ≡ Some text
+
+-- the mode of the store is named
+abbrev pub HoldsMode : Members → Mode → Type 0
+HoldsMode document mode = HoldsText document (codes "mode") (mode_word mode)
+
+-- at the key stand 64 hexadecimal digits, in either case, which are these bytes
+abbrev pub HoldsDigits : Members → List ℕ → List ℕ → Type 0
+HoldsDigits document key bytes =
+    (text : List ℕ) × HoldsText document key text × IsKeyLine text bytes
+
+-- this number of sessions is wanted, and is one that a server takes
+pub record HoldsSessions (document : Members) (sessions : ℕ) : Type 0 where
+  pub number : integer_at document (codes "sessions") ≡ Some (pos sessions)
+  pub some : 1 ≤ sessions
+  pub most : sessions ≤ MAX_SESSIONS
+
+-- the document has each key as it should be, and these are the values
+pub record AreSettings (document : Members) (s : Settings) : Type 0 where
+  pub address : HoldsText document (codes "address") s.address
+  pub mode : HoldsMode document s.mode
+  pub surface : HoldsDigits document (codes "surface") s.surface.bytes
+  pub base_check : HoldsDigits document (codes "base_check") s.base_check
+  pub book : HoldsText document (codes "book") s.book
+  pub blobs : HoldsText document (codes "blobs") s.blobs
+  pub sessions : HoldsSessions document s.sessions
+
+-- ---- a settings file
+
+-- the bytes are the text of this TOML document
+pub record IsDocument (bytes : List ℕ) (document : Members) : Type 0 where
+  pub text : IsUtf8 bytes
+  pub reads : parse_document bytes ≡ Some document
+
+-- the bytes are the text of a TOML document that has these settings, and aren't too many
+pub record IsSettingsFile (bytes : List ℕ) (s : Settings) : Type 0 where
+  pub short : length bytes ≤ LONGEST
+  pub document : Members
+  pub is : IsDocument bytes document
+  pub values : AreSettings document s
+
+-- they are one of no settings
+abbrev pub IsNoSettingsFile : List ℕ → Type 0
+IsNoSettingsFile bytes = (s : Settings) → IsSettingsFile bytes s → ⊥
+
+-- ---- what is read
+
+-- a value is found that is so, or no value is
+abbrev pub Finds : {T : Type 0} → (T → Type 0) → Option T → Type 0
+Finds IsSo (Some value) = IsSo value
+Finds {T} IsSo None = (value : T) → IsSo value → ⊥
+
+-- the status for a fault: 5 where a read failed, 7 where memory was refused, and else 2
+abbrev pub fault_code : SettingsFault → ℕ
+fault_code Read = 5
+fault_code Memory = 7
+fault_code TooLong = 2
+fault_code NotToml = 2
+fault_code Address = 2
+fault_code ModeKey = 2
+fault_code Surface = 2
+fault_code BaseCheck = 2
+fault_code Book = 2
+fault_code Blobs = 2
+fault_code Sessions = 2
+
+-- A value is found that is so; or no value is, or memory was refused. It isn't said of a read.
+abbrev pub FindsOr : {T : Type 0} → (T → Type 0) → Result T SettingsFault → Type 0
+FindsOr IsSo (Ok value) = IsSo value
+FindsOr {T} IsSo (Err fault) =
+    (fault ≡ Memory) ⊎ ((fault_code fault ≡ 2) × ((value : T) → IsSo value → ⊥))
+
+-- the words behind the program's name are one word
+abbrev pub IsOneWord : List (String Global) → Type 0
+IsOneWord words = length words ≡ 1
+
+-- What is read from a source that has this left, where it tells that. At Ok these are the settings
+-- of a file, whose bytes are all that is left; 2 is said only where that is a file of none.
+abbrev pub IsReadAs : {E : Type 0} → (E → ℕ) → Option (List ℕ) → Result Settings E → Type 0
+IsReadAs code_of left (Ok s) =
+    (bytes : List ℕ) × IsSettingsFile bytes s × IfSome left (λ all. all ≡ bytes)
+IsReadAs code_of left (Err fault) = code_of fault ≡ 2 → IfSome left IsNoSettingsFile
+
+-- A call takes from a source until the longest settings file was exceeded or nothing was given, and
+-- may have failed then.
+abbrev pub TakesEnough : {S : Type 0} → (S → S → Type 0) → (S → Option (List ℕ)) → Type 0 → S → S
+    → Type 0
+TakesEnough takes left failed old new =
+    TakesWhile takes left (λ seen. length seen < ENOUGH) ⊤ failed old new
+
+-- one of the statuses with which there are no settings
+abbrev pub IsSettingsStatus : ℕ → Type 0
+IsSettingsStatus code = (code ≡ 2) ⊎ ((code ≡ 5) ⊎ (code ≡ 7))
