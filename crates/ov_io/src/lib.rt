@@ -14,13 +14,15 @@
 //!
 //! * [`MemSource`], [`MemSink`] and [`MemStream`] are in memory, tell everything, and fail at the
 //!   calls that they are told to.
-//! * [`FileSource`] and [`FileSink`] are over a path, [`StdSource`], [`StdSink`] and [`StdStream`] are over what std
-//!   reads and writes. Over files, sockets and terminals these tell nothing of their contents: they
-//!   are the edge where the system is trusted.
+//! * [`FileSource`] and [`FileSink`] are over a path, [`StdSource`], [`StdSink`] and [`StdStream`]
+//!   are over what std reads and writes. Over files, sockets and terminals these tell nothing of
+//!   their contents: they are the edge where the system is trusted.
+//! * [`fill`] takes pieces until a buffer is full or the input ends.
 //! * All three traits hold of `&mut S` where they hold of `S`, with the same meanings.
 #![tactic(auto)]
 
 mod file;
+mod filling;
 mod memory;
 mod outside;
 mod stream;
@@ -29,6 +31,7 @@ mod tests;
 mod traits;
 
 pub use file::{FileSink, FileSource};
+pub use filling::fill;
 pub use memory::{MemSink, MemSource};
 pub use outside::{StdSink, StdSource};
 pub use stream::{MemStream, StdStream};

@@ -9,7 +9,7 @@ ghost use Rattle.ov_keyfile.specs.KeyFile.{AreLines, IsEnd, IsKeyLine, IsReadAs}
 use crate::masters::Masters;
 use hex::decode_to_slice;
 use ov_base::Key;
-use ov_io::{Fault, Source};
+use ov_io::{Fault, Source, fill};
 
 // The digits of a key.
 const DIGITS: usize = 64;
@@ -94,29 +94,6 @@ fn masters_of(file: &[u8]) -> Option<Masters>
         Some((first, second)) => masters_of_lines(first, second),
         None => None,
     }
-}
-
-/// Takes bytes until the buffer is full or the input ends, and says how many there are.
-fn fill<K: Source>(source: &mut K, buffer: &mut [u8]) -> Result<usize, Fault>
-    ensures within { IfOk result (λ n. n ≤ length buffer.old) }
-    ensures taken { IfOk result (λ n.
-        Consumes (K.left source.old) (K.left source.new) (take n buffer.new)) }
-    ensures all { IfOk result (λ n. (n ≡ length buffer.old) ⊎ IsAtEnd (K.left source.new)) }
-    ensures needed { TakesWhile K.takes K.left (λ seen. length seen < length buffer.old)
-        ⊤ (IsErr result) source.old source.new }
-    ensures same { K.borrow source.new ≡ K.borrow source.old }
-    ensures cause { HasCause (K.faults source.old) (K.faults source.new) result }
-{
-    let mut end = 0;
-    'pieces: while end < buffer.len() {
-        let (_, room) = buffer.split_at_mut(end);
-        let count = source.take(room)?;
-        if count == 0 {
-            return Ok(end);
-        }
-        end += count;
-    }
-    Ok(end)
 }
 
 /// The masters of the key file that the source has left, or none where what it has left is no key

@@ -5,11 +5,11 @@ use Rattle.ov_keyfile.proofs.reading.read_masters.Goals as goal
 
 pub returns-clause-read : goal.returns-clause-read
 returns-clause-read g c =
-    read_all _ _ _ _ _ _ c.split_at.ensures.front c.split_at.ensures.front_len c.in_ok-count.ensures.taken c.in_ok-count.ensures.all c.masters_of.ensures
+    read_all _ _ _ _ _ _ c.split_at.ensures.front c.split_at.ensures.front_len c.in_ok-count.ensures.taken.1 c.in_ok-count.ensures.all c.masters_of.ensures
 
 pub returns-clause-taken : goal.returns-clause-taken
 returns-clause-taken g c =
-    (_, c.in_ok-count.ensures.taken, few _ _ c.in_ok-count.ensures.within)
+    (_, c.in_ok-count.ensures.taken.1, few _ _ c.in_ok-count.ensures.taken.0)
 
 pub returns-in_err-count-clause-needed : goal.returns-in_err-count-clause-needed
 returns-in_err-count-clause-needed g c =

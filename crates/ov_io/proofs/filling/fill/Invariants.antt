@@ -1,7 +1,7 @@
 use Rattle.std.proofs.Common.{◌≡◌, ◌≤◌, ◌<◌, ◌-◌, ℕ, List, length, take}
 use Rattle.std.specs.Io.KnownBytes.{Consumes}
 use Rattle.ov_io.specs.Calls.{TakesPieces}
-use Rattle.ov_keyfile.proofs.reading.fill.Given as goal
+use Rattle.ov_io.proofs.filling.fill.Given as goal
 
 abbrev pub invariant-pieces : goal.invariant-pieces
 invariant-pieces g l = record {
