@@ -1,4 +1,3 @@
 pub mod Missing
 pub mod OneReading
-pub mod Pieces
 pub mod Whole

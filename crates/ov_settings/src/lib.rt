@@ -9,7 +9,6 @@
 #![tactic(auto)]
 
 mod fault;
-mod filling;
 mod keys;
 mod laws;
 mod reading;

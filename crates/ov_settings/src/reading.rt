@@ -8,11 +8,10 @@ ghost use Rattle.ov_settings.specs.Settings.{IsSettingsFile, IsSettingsStatus, T
 ghost use Rattle.ov_settings.specs.Settings.{fault_code};
 
 use crate::fault::SettingsFault;
-use crate::filling::fill;
 use crate::keys::settings_of;
 use crate::settings::Settings;
 use ov_base::Memory;
-use ov_io::Source;
+use ov_io::{Source, fill};
 use std::alloc::Global;
 use toml::Table;
 

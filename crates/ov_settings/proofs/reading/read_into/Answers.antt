@@ -8,7 +8,7 @@ returns-in_err-count-clause-needed g c =
 
 pub returns-clause-read : goal.returns-clause-read
 returns-clause-read g c =
-    read_of _ _ _ _ _ _ _ c.split_at.ensures.front (search rules) c.requires c.in_ok-count.ensures.within c.in_ok-count.ensures.taken c.in_ok-count.ensures.all c.settings_in.ensures
+    read_of _ _ _ _ _ _ _ c.split_at.ensures.front (search rules) c.requires c.in_ok-count.ensures.taken.0 c.in_ok-count.ensures.taken.1 c.in_ok-count.ensures.all c.settings_in.ensures
 
 pub returns-clause-needed : goal.returns-clause-needed
 returns-clause-needed g c =
