@@ -1,1 +1,4 @@
 pub mod Hosted
+pub mod Lasting
+pub mod Surviving
+pub mod Accepting

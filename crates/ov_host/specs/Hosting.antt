@@ -1,23 +1,29 @@
 -- What a server does from its beginning to its last line.
 use Rattle.std.specs.Prelude.{◌≡◌, ◌≢◌, ◌⊎◌, ℕ, List, [], ◌∷◌, ◌++◌, codes, take}
 use Rattle.std.specs.Prelude.{Bool, true, false, Option, Some, None, Result, Ok, Err, IfErr, IfOk}
-use Rattle.std.specs.Prelude.{IfSome}
+use Rattle.std.proofs.Common.{inl, inr}
 use Rattle.std.specs.Fmt.{decimal}
 use Rattle.std.specs.Io.KnownBytes.{Appends}
 use Rattle.ov_base.specs.Causes.{Rose}
 use Rattle.ov_base.specs.declared.mode.Mode.{Mode}
-use Rattle.ov_disk.specs.Disk.{Image, Told}
-use Rattle.ov_images.specs.Images.{Keys, StandsIn}
+use Rattle.ov_disk.specs.Disk.{Image, Only, Told}
+use Rattle.ov_disk.specs.Moments.{IsUntouched}
+use Rattle.ov_history.specs.Sealed.{SealedHistory}
+use Rattle.ov_images.specs.Images.{IsImageOf, Keys}
+use Rattle.ov_protocol.specs.Updating.{updates_of}
 use Rattle.ov_store.specs.Beginning.{IsBeginFault, IsBegun, IsDiskCall, IsDiskFault, LeavesHistory}
 use Rattle.ov_store.specs.Beginning.{WritesNoBorn, disk_left}
 use Rattle.ov_store.specs.Opened.{Opened}
 use Rattle.ov_store.specs.declared.begin.BeginRefused.{BeginRefused}
+use Rattle.ov_store.specs.declared.fault.BeginFault.TheVariants.{Memory as NoMemory}
 use Rattle.ov_server.specs.Answering.{serving_of}
-use Rattle.ov_server.specs.Following.{Reaches, RepliesAfter}
+use Rattle.ov_server.specs.Following.{RepliesAfter}
 use Rattle.ov_session.specs.Doors.{Doorway}
 use Rattle.ov_session.specs.Serving.{OneSession, ServesEach, serves_alone}
 use Rattle.ov_report.specs.Ends.{EndsIn, EndsOr}
 use Rattle.ov_report.specs.Faults.{fault_line, fault_status, memory_line}
+use Rattle.ov_host.specs.Accepting.{accepted_in}
+use Rattle.ov_host.specs.Lasting.{GoesOn, Survives}
 use Rattle.ov_host.specs.declared.hosted.Hosted.{Hosted}
 
 -- ---- lines
@@ -102,15 +108,9 @@ pub record Begins {D : Type 0} (reads : D → Option Image) (may_leave : D → I
         IsBeginFault k mode i refused.fault))
     pub any_moment : LeavesHistory reads may_leave moment left_since k mode disk (disk_left begun)
     pub untouched : WritesNoBorn reads may_leave moment left_since disk (disk_left begun)
+    pub memory : IfErr begun (λ refused. refused.fault ≡ NoMemory
+        → IsUntouched moment left_since may_leave reads disk refused.disk)
     pub call : IsDiskCall borrow faults disk (disk_left begun) (IsDiskFault begun)
-
--- one session of a server over a store, by the bytes and the counts of its stream
-abbrev pub serves_store : {D S : Type 0} → (S → Option (List ℕ)) → (S → Option (List ℕ))
-    → (S → ℕ) → (S → ℕ) → OneSession (Opened D) S
-serves_store {D} left written read_faults write_faults =
-    serves_alone (λ (start : Opened D) list now. Reaches (serving_of start) list (serving_of now))
-    (λ (start : Opened D) list request reply. RepliesAfter (serving_of start) list request reply)
-    left written read_faults write_faults
 
 -- A store wasn't begun: the disk is handed back, the door isn't touched, and the line says why.
 pub record HandsBack {D S : Type 0} (refused : BeginRefused D) (old new : Doorway S)
@@ -120,22 +120,56 @@ pub record HandsBack {D S : Type 0} (refused : BeginRefused D) (old new : Doorwa
   pub ends : EndsOr (fault_line refused.fault) (fault_status refused.fault)
       before after hosted.status
 
--- The server of a store that was begun served, and the disk isn't handed back.
-pub record ServesStore {D S : Type 0} (one : OneSession (Opened D) S) (s : Opened D)
-    (old new : Doorway S) (wanted : ℕ) (before after : Option (List ℕ)) (hosted : Hosted D)
-    : Type 0 where
-  pub disk : hosted.disk ≡ None
-  pub start : Reaches (serving_of s) [] (serving_of s)
-  pub last : Opened D
-  pub serves : Serves one s last old new wanted before after hosted.status
+module _ {D S : Type 0} (reads : D → Option Image) (may_leave : D → Image → Type 0)
+    (moment : D → ℕ) (left_since : D → ℕ → Image → Type 0)
+    (left written : S → Option (List ℕ)) (read_faults write_faults : S → ℕ) where
+  -- how a store goes on
+  abbrev pub store_reached : Opened D → List (List ℕ) → Opened D → Type 0
+  store_reached start list now = GoesOn reads may_leave moment left_since start list now
 
--- what is done with a store that was begun, or wasn't
-abbrev pub Hosts : {D S : Type 0} → OneSession (Opened D) S → Result (Opened D) (BeginRefused D)
-    → Doorway S → Doorway S → ℕ → Option (List ℕ) → Option (List ℕ) → Hosted D → Type 0
-Hosts one (Ok s) old new wanted before after hosted =
-    ServesStore one s old new wanted before after hosted
-Hosts one (Err refused) old new wanted before after hosted =
-    HandsBack refused old new before after hosted
+  -- what a server over it replies
+  abbrev pub store_replies : Opened D → List (List ℕ) → List ℕ → List ℕ → Type 0
+  store_replies start list request reply = RepliesAfter (serving_of start) list request reply
+
+  -- one session of the server, by the bytes and the counts of its stream
+  abbrev pub serves_store : OneSession (Opened D) S
+  serves_store v w given stream ending =
+      serves_alone store_reached store_replies left written read_faults write_faults
+      v w given stream ending
+
+  -- the spellings of the updates that were accepted in all sessions, in order
+  abbrev pub accepted : (v w : Opened D) (old new : Doorway S) (wanted : ℕ)
+      (before after : Option (List ℕ)) (status : ℕ)
+      → Serves serves_store v w old new wanted before after status → List (List ℕ)
+  accepted v w old new wanted before after status (inl fails) = []
+  accepted v w old new wanted before after status (inr (address, inl fails)) = []
+  accepted v w old new wanted before after status (inr (address, inr tells)) =
+      accepted_in store_reached store_replies left written read_faults write_faults
+      v tells.serves.sessions.sessions w [] tells.serves.sessions.follows
+
+  -- The server of a store that was begun served, and the disk isn't handed back. The store went on
+  -- by the updates that were accepted, and by nothing else; and so did the disk, from one that had
+  -- nothing pending and whose image stood for a history of the mode.
+  pub record ServesStore (k : Keys) (mode : Mode) (disk : D) (s : Opened D) (old new : Doorway S)
+      (wanted : ℕ) (before after : Option (List ℕ)) (hosted : Hosted D) : Type 0 where
+    pub back : hosted.disk ≡ None
+    pub last : Opened D
+    pub serves : Serves serves_store s last old new wanted before after hosted.status
+    pub goes_on : store_reached s
+        (accepted s last old new wanted before after hosted.status serves) last
+    pub survives : Told (reads disk) (λ i. Only i (may_leave disk)
+        → (g : SealedHistory) → g.mode ≡ mode → IsImageOf k g i
+        → Survives reads may_leave moment left_since k g
+        (updates_of (accepted s last old new wanted before after hosted.status serves))
+        last.failed disk last.disk)
+
+  -- what is done with a store that was begun on this disk, or wasn't
+  abbrev pub Hosts : Keys → Mode → D → Result (Opened D) (BeginRefused D) → Doorway S → Doorway S
+      → ℕ → Option (List ℕ) → Option (List ℕ) → Hosted D → Type 0
+  Hosts k mode disk (Ok s) old new wanted before after hosted =
+      ServesStore k mode disk s old new wanted before after hosted
+  Hosts k mode disk (Err refused) old new wanted before after hosted =
+      HandsBack refused old new before after hosted
 
 -- the status is 4 only where a disk is handed back whose count of faults rose
 abbrev pub SaysDisk : {D : Type 0} → (D → ℕ) → D → Hosted D → Type 0

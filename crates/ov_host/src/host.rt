@@ -7,8 +7,8 @@ ghost use Rattle.ov_store.specs.declared.begin.BeginRefused.{BeginRefused};
 ghost use Rattle.ov_session.specs.Doors.{IsUnused};
 ghost use Rattle.ov_report.specs.Ends.{IsPutTo};
 ghost use Rattle.ov_host.specs.Hosting.{Begins, Hosts, IsOpenStatus, SaysDisk, SaysDoor};
-ghost use Rattle.ov_host.specs.Hosting.{serves_store};
 
+use crate::disk_server::DiskServer;
 use crate::hosted::Hosted;
 use crate::serving::serve_door;
 use ov_disk::Disk;
@@ -36,8 +36,10 @@ pub fn host<R: Wait, D: Disk + Drop, A: Door, O: Sink>(
     ensures hosts { (begun : Result (Opened D) (BeginRefused D))
         × Begins D.reads D.may_leave D.moment D.left_since D.borrow D.faults
         (keys settings.now.base_check settings.now.surface.bytes) settings.now.mode disk begun
-        × Hosts (serves_store A.Stream.Source.left A.Stream.Sink.written A.Stream.Source.faults
-        A.Stream.Sink.faults) begun (A.shows door.old) (A.shows door.new) settings.now.sessions
+        × Hosts D.reads D.may_leave D.moment D.left_since A.Stream.Source.left
+        A.Stream.Sink.written A.Stream.Source.faults A.Stream.Sink.faults
+        (keys settings.now.base_check settings.now.surface.bytes) settings.now.mode disk begun
+        (A.shows door.old) (A.shows door.new) settings.now.sessions
         (O.written out.old) (O.written out.new) result }
     ensures disk { SaysDisk D.faults disk result }
     ensures door { SaysDoor (A.shows door.old).faults (A.shows door.new).faults result.status }
@@ -55,7 +57,7 @@ pub fn host<R: Wait, D: Disk + Drop, A: Door, O: Sink>(
         settings.mode,
     ) {
         Ok(store) => {
-            let mut server = Server::new(store, settings.surface);
+            let mut server = DiskServer::new(Server::new(store, settings.surface));
             let status = serve_door(rt, alloc, door, &mut server, settings.sessions, out);
             Hosted { status, disk: None }
         }

@@ -19,12 +19,14 @@
 //! of just the store that was begun, and which status has which cause.
 #![tactic(auto)]
 
+mod disk_server;
 mod host;
 mod hosted;
 mod serving;
 #[cfg(test)]
 mod tests;
 
+pub use disk_server::DiskServer;
 pub use host::host;
 pub use hosted::Hosted;
 pub use serving::DOOR_FAULT;

@@ -45,14 +45,11 @@ fn words_of(rt: &HostRuntime) -> io::Result<Vec<String>> {
     Ok(words)
 }
 
-// What the words ask to be told, if they do.
-fn told_by(words: &[String]) -> Option<&'static str> {
-    match words {
-        [word] => match word.as_str() {
-            "--help" => Some(HELP),
-            "--version" => Some(VERSION),
-            _ => None,
-        },
+// What the word asks to be told, if it does.
+fn told_by(word: &str) -> Option<&'static str> {
+    match word {
+        "--help" => Some(HELP),
+        "--version" => Some(VERSION),
         _ => None,
     }
 }
@@ -61,8 +58,17 @@ fn told_by(words: &[String]) -> Option<&'static str> {
 fn print(rt: &HostRuntime, text: &str, status: u8) -> u8 {
     match rt.print(text) {
         Ok(()) => status,
-        Err(_) => WRITE_FAULT,
+        Err(_) => {
+            told::no_line(rt);
+            WRITE_FAULT
+        }
     }
+}
+
+// The status where memory is refused before there is a server.
+fn out_of_memory(rt: &HostRuntime) -> u8 {
+    told::no_memory(rt);
+    OUT_OF_MEMORY
 }
 
 // The bytes of a text of the settings as a text.
@@ -80,57 +86,60 @@ fn serve<N: Net + Wait + AllocGlobal + Copy + Drop>(
     rt: &HostRuntime,
     settings: &Settings,
 ) -> u8 {
-    let (book, blobs) = (settings.book.as_slice(), settings.blobs.as_slice());
-    let Ok(disk) = FileDisk::new(*rt, text_of(book), text_of(blobs)) else {
-        return print(rt, NO_MEMORY, OUT_OF_MEMORY);
-    };
+    let book = text_of(settings.book.as_slice());
     let address = text_of(settings.address.as_slice());
+    let Ok(disk) = FileDisk::new(*rt, book, text_of(settings.blobs.as_slice())) else {
+        return print(rt, NO_MEMORY, out_of_memory(rt));
+    };
     let Ok(door) = TcpDoor::new(*net, address) else {
-        return print(rt, NO_MEMORY, OUT_OF_MEMORY);
+        return print(rt, NO_MEMORY, out_of_memory(rt));
     };
     let mut door = SpokenDoor::new(door, *rt);
     let mut out = StdSink::new(rt.stdout());
-    let hosted = host(net, rt.alloc(), settings, disk, &mut door, &mut out);
-    told::end(rt, hosted.status, address, door.listens, door.door.reason());
-    hosted.status
+    let status = host(net, rt.alloc(), settings, disk, &mut door, &mut out).status;
+    told::end(rt, status, book);
+    told::door(rt, status, address, door.listens, door.door.reason());
+    status
 }
 
-// The path of the settings file: none where the words aren't one word.
-fn path_of(words: &[String]) -> &str {
-    match words {
-        [word] => word.as_str(),
-        _ => "",
+// Reads the settings in this file, which the words name where they are one word, and serves by them.
+fn serve_by<N: Net + Wait + AllocGlobal + Copy + Drop>(
+    net: &N,
+    rt: &HostRuntime,
+    words: &[String],
+    path: &str,
+) -> u8 {
+    let Ok(mut source) = FileSource::new(*rt, path) else {
+        return out_of_memory(rt);
+    };
+    match read_settings(rt.alloc(), words, &mut source) {
+        Ok(settings) => {
+            told::other_keys(rt, path);
+            serve(net, rt, &settings)
+        }
+        Err(status) => {
+            told::no_settings(rt, path, status);
+            if status == USAGE {
+                print(rt, NO_SETTINGS, status)
+            } else {
+                status
+            }
+        }
     }
 }
 
-// Reads the settings and serves, where the words ask for nothing else.
+// Does what the words ask for.
 fn answer_words<N: Net + Wait + AllocGlobal + Copy + Drop>(
     net: &N,
     rt: &HostRuntime,
     words: &[String],
 ) -> u8 {
-    match told_by(words) {
-        Some(text) => print(rt, text, 0),
-        None => {
-            let path = path_of(words);
-            let Ok(mut source) = FileSource::new(*rt, path) else {
-                return OUT_OF_MEMORY;
-            };
-            match read_settings(rt.alloc(), words, &mut source) {
-                Ok(settings) => {
-                    told::other_keys(rt, path);
-                    serve(net, rt, &settings)
-                }
-                Err(status) => {
-                    told::no_settings(rt, path, status);
-                    if status == USAGE {
-                        print(rt, NO_SETTINGS, status)
-                    } else {
-                        status
-                    }
-                }
-            }
-        }
+    match words {
+        [word] => match told_by(word.as_str()) {
+            Some(text) => print(rt, text, 0),
+            None => serve_by(net, rt, words, word.as_str()),
+        },
+        _ => serve_by(net, rt, words, ""),
     }
 }
 
@@ -148,7 +157,7 @@ fn main(rt: HostRuntime) -> ExitCode {
     let _held = held_places(&rt);
     let status = match words_of(&rt) {
         Ok(words) => answer_words(&rt, &rt, &words),
-        Err(error) if error.kind() == ErrorKind::OutOfMemory => OUT_OF_MEMORY,
+        Err(error) if error.kind() == ErrorKind::OutOfMemory => out_of_memory(&rt),
         // A word that is no UTF-8 names no settings file.
         Err(_) => answer_words(&rt, &rt, &[]),
     };

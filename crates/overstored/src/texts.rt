@@ -93,27 +93,42 @@ pub fn on_settings(fault: SettingsFault) -> (&'static str, &'static str) {
     }
 }
 
-/// What went wrong where a server ends with this status, and what to do, if there is something.
-pub fn on_status(status: u8) -> Option<(&'static str, Option<&'static str>)> {
+/// What is wrong where memory was refused, and what to do.
+pub const NO_ROOM: (&str, &str) = (
+    "out of memory",
+    "free some and start again; what was answered lasts",
+);
+
+/// What is wrong where a line couldn't be put.
+pub const NO_LINE: &str = "standard output can't be written";
+
+/// What is wrong with a file that was no settings file and now is one, and what to do.
+pub const CHANGED: (&str, &str) = ("it changed while it was read", "start again");
+
+/// What is wrong where no server can listen at an address.
+pub const LISTENING: &str = "can't listen there";
+
+/// What is wrong where one that listens can't accept connections.
+pub const ACCEPTING: &str = "can't accept connections there";
+
+/// What to do about both.
+pub const DOOR_HINT: &str =
+    "`address` is HOST:PORT of this machine, and nobody else may listen there";
+
+/// What is wrong with a book where a server ends with this status, and what to do.
+pub fn on_store(status: u8) -> Option<(&'static str, &'static str)> {
     match status {
         4 => Some((
-            "the store's files can't be used, or are in use",
-            Some(
-                "see that no other process has them open, that they may be written, and that there is room",
-            ),
-        )),
-        6 => Some(("standard output can't be written", None)),
-        7 => Some((
-            "out of memory",
-            Some("free some and start again; what was answered lasts"),
+            "it or the store's blobs can't be used, or another process has them",
+            "stop that one, and see that both may be read and written and that there is room",
         )),
         8 => Some((
-            "the book is damaged or no store",
-            Some("put a good copy of both files in place, or name others in the settings"),
+            "it is damaged or no store",
+            "put a good copy of both files in place, or name others in the settings",
         )),
         9 => Some((
-            "the store is of other keys or the other mode",
-            Some("standard output names both values; correct `surface`, `base_check` or `mode`"),
+            "it is a store of other keys or of the other mode",
+            "standard output says which; correct `surface`, `base_check` or `mode`",
         )),
         _ => None,
     }

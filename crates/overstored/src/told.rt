@@ -1,6 +1,8 @@
 //! What is wrong and what to do, on standard error. Where that can't be written the status has to
 //! do.
-use crate::texts::{WRONG_WORDS, on_settings, on_status};
+use crate::texts::{
+    ACCEPTING, CHANGED, DOOR_HINT, LISTENING, NO_LINE, NO_ROOM, WRONG_WORDS, on_settings, on_store,
+};
 use ov_host::DOOR_FAULT;
 use ov_settings::{SettingsFault, settings_in};
 use std::fs;
@@ -17,17 +19,36 @@ const KEYS: [&str; 7] = [
     "sessions",
 ];
 
-// Says what is wrong, and what to do.
-fn say(rt: &HostRuntime, error: &str, hint: &str) {
+// Says what is wrong.
+fn say(rt: &HostRuntime, error: &str) {
     let _ = eprintln!(rt; "overstored: error: {error}");
+}
+
+// Says what is wrong with this file, key or address.
+fn say_of(rt: &HostRuntime, name: &str, error: &str) {
+    let _ = eprintln!(rt; "overstored: error: {name}: {error}");
+}
+
+// Says what to do.
+fn advise(rt: &HostRuntime, hint: &str) {
     let _ = eprintln!(rt; "overstored: hint: {hint}");
 }
 
-// Says so of a settings file.
-fn say_of(rt: &HostRuntime, path: &str, fault: SettingsFault) {
-    let (error, hint) = on_settings(fault);
-    let _ = eprintln!(rt; "overstored: error: {path}: {error}");
-    let _ = eprintln!(rt; "overstored: hint: {hint}");
+// Says that the words behind the program's name aren't one settings file.
+fn wrong_words(rt: &HostRuntime) {
+    say(rt, WRONG_WORDS.0);
+    advise(rt, WRONG_WORDS.1);
+}
+
+/// Says that memory was refused.
+pub fn no_memory(rt: &HostRuntime) {
+    say(rt, NO_ROOM.0);
+    advise(rt, NO_ROOM.1);
+}
+
+/// Says that standard output can't be written.
+pub fn no_line(rt: &HostRuntime) {
+    say(rt, NO_LINE);
 }
 
 // The line of a text on which this byte stands, counted from 1.
@@ -35,10 +56,10 @@ fn line_of(bytes: &[u8], at: usize) -> usize {
     1 + bytes.iter().take(at).filter(|byte| **byte == b'\n').count()
 }
 
-// Says where a text stops being a TOML document, if it does.
+// Says where a text stops being a TOML document.
 fn say_place(rt: &HostRuntime, path: &str, bytes: &[u8]) {
     match toml::table_from_slice(rt.alloc(), bytes) {
-        Ok(_) => {}
+        Ok(_) => say_of(rt, path, CHANGED.0),
         Err(error) => match error.span() {
             Some(span) => {
                 let line = line_of(bytes, span.start);
@@ -47,38 +68,56 @@ fn say_place(rt: &HostRuntime, path: &str, bytes: &[u8]) {
                     error.message()
                 );
             }
-            None => {}
+            None => say_of(rt, path, on_settings(SettingsFault::NotToml).0),
         },
     }
 }
 
-// Says what is wrong with a settings file that was read.
+// Says what is wrong with the bytes of a settings file.
 fn explain(rt: &HostRuntime, path: &str, bytes: &[u8]) {
     match settings_in(rt.alloc(), bytes) {
-        Ok(_) => {}
-        Err(SettingsFault::NotToml) => {
-            say_place(rt, path, bytes);
-            let _ = eprintln!(rt;
-                "overstored: hint: {}",
-                on_settings(SettingsFault::NotToml).1
-            );
+        Ok(_) => {
+            say_of(rt, path, CHANGED.0);
+            advise(rt, CHANGED.1);
         }
-        Err(fault) => say_of(rt, path, fault),
+        Err(fault) => {
+            let (error, hint) = on_settings(fault);
+            if fault == SettingsFault::NotToml {
+                say_place(rt, path, bytes);
+            } else {
+                say_of(rt, path, error);
+            }
+            advise(rt, hint);
+        }
     }
 }
 
-/// Says why there are no settings.
+// Says that a settings file can't be read, and why where the system says so.
+fn unreadable(rt: &HostRuntime, path: &str, why: Option<ErrorKind>) {
+    let (error, hint) = on_settings(SettingsFault::Read);
+    match why {
+        Some(why) => {
+            let _ = eprintln!(rt; "overstored: error: {path}: {why}");
+        }
+        None => say_of(rt, path, error),
+    }
+    advise(rt, hint);
+}
+
+/// Says why there are no settings in this file; none is named where the words aren't one word.
 pub fn no_settings(rt: &HostRuntime, path: &str, status: u8) {
-    if path.is_empty() {
-        say(rt, WRONG_WORDS.0, WRONG_WORDS.1);
+    if status == 7 {
+        no_memory(rt);
+        return;
+    }
+    if status == 2 && path.is_empty() {
+        wrong_words(rt);
         return;
     }
     match fs::read(rt, path) {
         Ok(bytes) if status == 2 => explain(rt, path, &bytes),
-        Ok(_) => {}
-        Err(error) => {
-            let _ = eprintln!(rt; "overstored: error: {path}: {}", error.kind());
-        }
+        Ok(_) => unreadable(rt, path, None),
+        Err(error) => unreadable(rt, path, Some(error.kind())),
     }
 }
 
@@ -102,37 +141,33 @@ pub fn other_keys(rt: &HostRuntime, path: &str) {
     }
 }
 
-/// Says how a server ended.
-pub fn end(rt: &HostRuntime, status: u8, address: &str, listens: bool, why: Option<ErrorKind>) {
-    if status == DOOR_FAULT {
-        door(rt, address, listens, why);
-        return;
-    }
-    match on_status(status) {
-        Some((error, Some(hint))) => say(rt, error, hint),
-        Some((error, None)) => {
-            let _ = eprintln!(rt; "overstored: error: {error}");
-        }
-        None => {}
+/// Says how a server over this book ended.
+pub fn end(rt: &HostRuntime, status: u8, book: &str) {
+    match status {
+        6 => no_line(rt),
+        7 => no_memory(rt),
+        _ => match on_store(status) {
+            Some((error, hint)) => {
+                say_of(rt, book, error);
+                advise(rt, hint);
+            }
+            None => {}
+        },
     }
 }
 
-// Says why the door failed.
-fn door(rt: &HostRuntime, address: &str, listens: bool, why: Option<ErrorKind>) {
-    let act = if listens {
-        "accept connections at"
-    } else {
-        "listen at"
-    };
+/// Says why the door at this address failed, where the status says that it did: at listening, or
+/// behind that at accepting.
+pub fn door(rt: &HostRuntime, status: u8, address: &str, listens: bool, why: Option<ErrorKind>) {
+    if status != DOOR_FAULT {
+        return;
+    }
+    let act = if listens { ACCEPTING } else { LISTENING };
     match why {
         Some(why) => {
-            let _ = eprintln!(rt; "overstored: error: can't {act} {address}: {why}");
+            let _ = eprintln!(rt; "overstored: error: {address}: {act}: {why}");
         }
-        None => {
-            let _ = eprintln!(rt; "overstored: error: can't {act} {address}");
-        }
+        None => say_of(rt, address, act),
     }
-    let _ = eprintln!(rt;
-        "overstored: hint: `address` is HOST:PORT of this machine, and nobody else may listen there"
-    );
+    advise(rt, DOOR_HINT);
 }
