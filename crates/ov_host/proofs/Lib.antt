@@ -1,4 +1,4 @@
-pub mod Hosted
+pub mod Endings
 pub mod Lasting
 pub mod Surviving
 pub mod Accepting

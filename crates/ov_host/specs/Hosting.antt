@@ -103,7 +103,7 @@ pub record Begins {D : Type 0} (reads : D → Option Image) (may_leave : D → I
     (moment : D → ℕ) (left_since : D → ℕ → Image → Type 0) (borrow faults : D → ℕ)
     (k : Keys) (mode : Mode) (disk : D) (begun : Result (Opened D) (BeginRefused D)) : Type 0
   where
-    pub begun : IfOk begun (IsBegun reads may_leave k mode (reads disk))
+    pub opened : IfOk begun (IsBegun reads may_leave k mode (reads disk))
     pub fault : IfErr begun (λ refused. Told (reads disk) (λ i.
         IsBeginFault k mode i refused.fault))
     pub any_moment : LeavesHistory reads may_leave moment left_since k mode disk (disk_left begun)

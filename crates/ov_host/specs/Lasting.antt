@@ -1,12 +1,14 @@
 -- What the disk of a server keeps while it answers.
 use Rattle.std.specs.Prelude.{◌≡◌, ◌⊎◌, ℕ, List, [], ◌∷◌, ◌++◌, Bool, true, false, Option, Some}
+use Rattle.ov_base.specs.declared.mode.Mode.{Mode}
 use Rattle.ov_record.specs.Updates.{SealedUpdate}
 use Rattle.ov_history.specs.Sealed.{SealedHistory}
-use Rattle.ov_disk.specs.Disk.{Image, Told}
+use Rattle.ov_disk.specs.Disk.{Image, Only, Told}
 use Rattle.ov_disk.specs.Moments.{LeavesOnly}
 use Rattle.ov_images.specs.Images.{IsImageOf, Keeps, Keys}
 use Rattle.ov_protocol.specs.Serving.{followed}
 use Rattle.ov_protocol.specs.Updating.{updates_of}
+use Rattle.ov_store.specs.Beginning.{IsBegun, LeavesHistory}
 use Rattle.ov_store.specs.Opened.{Opened, Serves}
 use Rattle.ov_server.specs.Answering.{serving_of}
 use Rattle.ov_server.specs.Following.{Reaches}
@@ -60,3 +62,15 @@ module _ {D : Type 0} (reads : D → Option Image) (may_leave : D → Image → 
     pub any_moment : LeavesOnly moment left_since first last
         (λ c. IsImageOf k g c ⊎ KeepsSome k g updates failed c)
     pub at_end : (c : Image) → may_leave last c → KeepsAll k g updates failed c
+
+  -- where a store was begun on a disk that had nothing pending and whose image stood for a history,
+  -- and went on by some updates, the history survives with them
+  abbrev pub StoresSurvive : Type 0
+  StoresSurvive =
+      (k : Keys) (mode : Mode) (disk : D) (s last : Opened D) (list : List (List ℕ))
+      → IsBegun reads may_leave k mode (reads disk) s
+      → LeavesHistory reads may_leave moment left_since k mode disk s.disk
+      → GoesOn s list last
+      → Told (reads disk) (λ i. Only i (may_leave disk) → (g : SealedHistory)
+      → g.mode ≡ mode → IsImageOf k g i
+      → Survives k g (updates_of list) last.failed disk last.disk)

@@ -20,13 +20,15 @@
 #![tactic(auto)]
 
 mod disk_server;
-mod host;
 mod hosted;
+mod hosting;
+mod laws;
 mod serving;
 #[cfg(test)]
 mod tests;
 
 pub use disk_server::DiskServer;
-pub use host::host;
 pub use hosted::Hosted;
+pub use hosting::host;
+pub use laws::{accepted_updates_lead, stores_survive};
 pub use serving::DOOR_FAULT;
