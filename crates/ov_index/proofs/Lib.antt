@@ -5,5 +5,4 @@ pub mod SortedLists
 pub mod LargerFirst
 pub mod KeepSteps
 pub mod AddLaws
-pub mod SameLists
 pub mod AgreementLaws

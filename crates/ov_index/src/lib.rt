@@ -6,16 +6,20 @@
 //! sorts nothing, passes over the sets that are too large, and ends where its cover is whole.
 //!
 //! Whoever knows [`Graph`](ov_graph::Graph) alone can't tell the two graphs apart:
-//! [`graphs_answer_alike`] and [`put_in_both`] say so of any two.
+//! [`graphs_answer_alike`] and [`call_both`] say so of any two.
 #![tactic(auto)]
 
 mod agreement;
+mod asking;
 mod by_set;
 mod by_size;
+mod calls;
 mod index;
 mod insertion;
 #[cfg(test)]
 mod tests;
 
-pub use agreement::{answer_alike, graphs_answer_alike, put_in_both};
+pub use agreement::graphs_answer_alike;
+pub use asking::{Answers, NodeAnswers, ask_all};
+pub use calls::{Call, call_both, call_each};
 pub use index::IndexGraph;

@@ -1,5 +1,6 @@
 -- A state that begins.
 use Rattle.std.proofs.Common.{◌≡◌, ℕ, ◌≤◌, ◌*◌, List, [], refl, sym, subst}
+use Rattle.std.specs.Prelude.{None}
 use Rattle.ov_base.specs.declared.mode.Mode.{Mode}
 use Rattle.ov_base_layer.specs.BaseContents.{BaseContents}
 use Rattle.ov_graph.specs.Contents.{Contents}
@@ -21,9 +22,9 @@ begun mode first users base surface files u s e g t f none = λ i. record {
   files = none i;
 }
 
-pub begun_is_whole : (limit : ℕ) (mode : Mode) (first : ℕ) (users : List (List ℕ)) (base : BaseContents) (surface : Contents) (files : List Filed)
+pub begun_is_whole : (W limit : ℕ) (mode : Mode) (first : ℕ) (users : List (List ℕ)) (base : BaseContents) (surface : Contents) (files : List Filed)
     → users ≡ [] → base.graph.sets ≡ [] → base.graph.edges ≡ [] → base.grants ≡ [] → surface.sets ≡ [] → surface.edges ≡ [] → files ≡ []
-    → MAX_USERS ≤ limit → limit ≤ 64 * MAX_SET_WORDS → first ≤ LAST_EPOCH → IsWhole limit (catalogue_by mode first users base surface files) 0
-begun_is_whole limit mode first users base surface files u s e g t f none low high small =
-    subst (λ (x : Catalogue). IsWhole limit x 0) (sym (begun mode first users base surface files u s e g t f none))
-    (well_nothing limit low high mode first small, refl)
+    → MAX_USERS ≤ limit → limit ≤ 64 * MAX_SET_WORDS → first ≤ LAST_EPOCH → IsWhole {W = W} limit (catalogue_by mode first users base surface files) 0 None
+begun_is_whole W limit mode first users base surface files u s e g t f none low high small =
+    subst (λ (x : Catalogue). IsWhole {W = W} limit x 0 None) (sym (begun mode first users base surface files u s e g t f none))
+    (well_nothing limit low high mode first small, refl, tt)

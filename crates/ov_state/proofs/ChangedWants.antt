@@ -1,6 +1,6 @@
 -- The wanted sets of files after the list of one changed, by number.
 use Rattle.std.proofs.Common.{◌≡◌, ◌≢◌, ℕ, zero, suc, ◌+◌, ◌<◌, ◌≤◌, ◌==◌, Bool, true, false, List, [], ◌∷◌, ◌++◌, length, take, drop, refl, sym, ◌∙◌, ap, subst, arith, eqb-true, length-append}
-use Rattle.std.specs.Prelude.{slice_get, Option, Some, None, is_some}
+use Rattle.std.specs.Prelude.{slice_get, Option, Some, None, is_some, not}
 use Rattle.std.proofs.lemmas.Bool.{false≢true}
 use Rattle.std.proofs.lemmas.Bool.Decides.{nat_tests}
 use Rattle.std.proofs.lemmas.List.{take_all, take_more, take-append-drop, length-take-le}
@@ -22,7 +22,7 @@ use Rattle.ov_state.specs.declared.relisting.Relisting.{Relisting}
 use Rattle.ov_state.specs.declared.rewrites.Rewrites.{Rewrites}
 use Rattle.ov_state.specs.Contents.{IsWell}
 use Rattle.ov_state.specs.Entries.{plain_file}
-use Rattle.ov_state.specs.Relistings.{nodes_planned, list_if, want_if, want_after, wants_after, with_want, IsFull, IsRelisting, AreSettled, IsSettled}
+use Rattle.ov_state.specs.Relistings.{nodes_planned, list_if, want_if, want_after, wants_after, with_want, IsFull, IsRelisting, AreSettled, IsSettled, MayMove}
 use Rattle.ov_state.proofs.SettledFiles.{settled-next_file, settled-same_file, full-next_file}
 
 -- ---- by number
@@ -85,7 +85,7 @@ module _ {W : ℕ} (s : Catalogue) (r : Relisting W) (file : ℕ) (f : FileEntry
   abbrev want : Option ℕ
   want = want_after (outline s) r file own
 
-  next : take (file + 1) wants ≡ take file wants ++ want ∷ []
+  pub next : take (file + 1) wants ≡ take file wants ++ want ∷ []
   next =
       let same : 0 + file ≡ file = omega arith in
       take-next wants file want
@@ -98,62 +98,70 @@ module _ {W : ℕ} (s : Catalogue) (r : Relisting W) (file : ℕ) (f : FileEntry
       let all : length wants ≡ length s.files = length-wants_after (outline s) r (places s.files) 0 ∙ length-places s.files in
       sym (length-take-le file wants (omega arith))
 
-  module _ (master : List ℕ) (old : Rewrites W) (done : AreSettled master s (take file wants) old) where
-    -- it has another base node
-    pub other-node : (limit : ℕ) → IsWell limit s → f.node ≢ r.node → AreSettled master s (take (file + 1) wants) old
-    other-node limit well other =
-        let test : (f.node == r.node) ≡ false = grind (arith, nat_tests) in
-        let is : want ≡ wanted_surface s.mode (list_at (outline s) own) (holders (outline s) f.node) =
-        ap (λ b. want_if b (outline s) r file own) test in
-        subst (λ (ws : List (Option ℕ)). AreSettled master s ws old) (sym next)
-        (settled-same_file master s (take file wants) want file f many here old done (well.sound.files file _ here).surface
-        (subst (λ (o : Option ℕ). same_surface f.surface (surface_at s.surface.sets o) ≡ true) (sym is) (well.settled file _ here)))
+  pub wanted_is : f.node ≡ r.node → (wanted : Option ℕ) → wanted ≡ want_if true (outline s) r file own → wanted ≡ want
+  wanted_is same wanted is =
+      let test : (f.node == r.node) ≡ true = grind (arith, nat_tests) in
+      is ∙ ap (λ b. want_if b (outline s) r file own) (sym test)
 
-    -- or a surface of its own, and isn't the file whose list changed
-    pub surface-stays : (limit : ℕ) → IsWell limit s → IsRelisting s r → f.node ≡ r.node → file ≢ r.file → is_some f.surface ≡ true
-        → AreSettled master s (take (file + 1) wants) old
-    surface-stays limit well relisting same other there =
-        let y = outline s in
-        let settled : f.surface ≡ surface_at s.surface.sets (wanted_surface s.mode (list_at y own) (holders y f.node)) =
-        same_surface-is f.surface _ (well.settled file _ here) in
-        let wanted : is_some (surface_at s.surface.sets (wanted_surface s.mode (list_at y own) (holders y f.node))) ≡ true =
-        ap is_some (sym settled) ∙ there in
-        let before : holders y f.node ≡ r.before = ap (λ n. holders y n) same ∙ sym relisting.before in
-        let grown : wanted_surface s.mode (list_at y own) r.after ≡ wanted_surface s.mode (list_at y own) (holders y f.node) =
-        want-grown s.surface.sets s.mode (list_at y own) (holders y f.node) r.after wanted
-        (well.sound.files file _ here).list (subst (λ set. Within set r.after) (sym before) relisting.grows) in
-        let test : (f.node == r.node) ≡ true = grind (arith, nat_tests) in
-        let else : (file == r.file) ≡ false = grind (arith, nat_tests) in
-        let is : want ≡ wanted_surface s.mode (list_at y own) (holders y f.node) =
-        ap (λ b. want_if b y r file own) test ∙ ap (λ b. wanted_surface s.mode (list_if b r.list (list_at y own)) r.after) else ∙ grown in
+  -- the file stays as it is where it has another base node
+  pub other-node : (limit : ℕ) → IsWell limit s → f.node ≢ r.node → MayMove false s r file f
+  other-node limit well other =
+      let test : (f.node == r.node) ≡ false = grind (arith, nat_tests) in
+      let is : want ≡ wanted_surface s.mode (list_at (outline s) own) (holders (outline s) f.node) =
+      ap (λ b. want_if b (outline s) r file own) test in
+      subst (λ (o : Option ℕ). same_surface f.surface (surface_at s.surface.sets o) ≡ true) (sym is) (well.settled file _ here)
+
+  -- or has a surface of its own, and isn't the file whose list changed
+  pub surface-stays : (limit : ℕ) → IsWell limit s → IsRelisting s r → f.node ≡ r.node → file ≢ r.file → is_some f.surface ≡ true
+      → MayMove false s r file f
+  surface-stays limit well relisting same other there =
+      let y = outline s in
+      let settled : f.surface ≡ surface_at s.surface.sets (wanted_surface s.mode (list_at y own) (holders y f.node)) =
+      same_surface-is f.surface _ (well.settled file _ here) in
+      let wanted : is_some (surface_at s.surface.sets (wanted_surface s.mode (list_at y own) (holders y f.node))) ≡ true =
+      ap is_some (sym settled) ∙ there in
+      let before : holders y f.node ≡ r.before = ap (λ n. holders y n) same ∙ sym relisting.before in
+      let grown : wanted_surface s.mode (list_at y own) r.after ≡ wanted_surface s.mode (list_at y own) (holders y f.node) =
+      want-grown s.surface.sets s.mode (list_at y own) (holders y f.node) r.after wanted
+      (well.sound.files file _ here).list (subst (λ set. Within set r.after) (sym before) relisting.grows) in
+      let test : (f.node == r.node) ≡ true = grind (arith, nat_tests) in
+      let else : (file == r.file) ≡ false = grind (arith, nat_tests) in
+      let is : want ≡ wanted_surface s.mode (list_at y own) (holders y f.node) =
+      ap (λ b. want_if b y r file own) test ∙ ap (λ b. wanted_surface s.mode (list_if b r.list (list_at y own)) r.after) else ∙ grown in
+      subst (λ (o : Option ℕ). same_surface f.surface (surface_at s.surface.sets o) ≡ true) (sym is) (well.settled file _ here)
+
+  -- another file of the base node may move where it has no surface
+  pub moves-by : (limit : ℕ) → IsWell limit s → IsRelisting s r → f.node ≡ r.node → file ≢ r.file
+      → (lacks : Bool) → is_some f.surface ≡ not lacks → MayMove lacks s r file f
+  moves-by limit well relisting same other true is = same
+  moves-by limit well relisting same other false is = surface-stays limit well relisting same other is
+
+  module _ (master : List ℕ) (old : Rewrites W) (done : AreSettled master s (take file wants) old) where
+    -- it has its wanted surface
+    pub file-stays : (limit : ℕ) → IsWell limit s → MayMove false s r file f → AreSettled master s (take (file + 1) wants) old
+    file-stays limit well stays =
         subst (λ (ws : List (Option ℕ)). AreSettled master s ws old) (sym next)
-        (settled-same_file master s (take file wants) want file f many here old done (well.sound.files file _ here).surface
-        (subst (λ (o : Option ℕ). same_surface f.surface (surface_at s.surface.sets o) ≡ true) (sym is) (well.settled file _ here)))
+        (settled-same_file master s (take file wants) want file f many here old done (well.sound.files file _ here).surface stays)
 
     module _ (same : f.node ≡ r.node) (wanted : Option ℕ) (is : wanted ≡ want_if true (outline s) r file own) where
-      wanted_is : wanted ≡ want
-      wanted_is =
-          let test : (f.node == r.node) ≡ true = grind (arith, nat_tests) in
-          is ∙ ap (λ b. want_if b (outline s) r file own) (sym test)
-
-      -- or the same, and is settled
+      -- or it may move, and is settled
       pub same-node : (new : Rewrites W) → IsSettled master s.surface file f wanted old new
           → AreSettled master s (take (file + 1) wants) new
       same-node new settled =
           subst (λ (ws : List (Option ℕ)). AreSettled master s ws new) (sym next)
           (settled-next_file master s (take file wants) want file f many here old new done
-          (subst (λ (o : Option ℕ). IsSettled master s.surface file f o old new) wanted_is settled))
+          (subst (λ (o : Option ℕ). IsSettled master s.surface file f o old new) (wanted_is same wanted is) settled))
 
       pub same-node-full : (fault : PrepareFault) → IsFull (with_want master (nodes_planned s.surface old.nodes) wanted).sets fault
           → IsFull (with_wants s.surface.sets (take (file + 1) wants)) fault
       same-node-full fault full =
           subst (λ (ws : List (Option ℕ)). IsFull (with_wants s.surface.sets ws) fault) (sym next)
           (full-next_file master s (take file wants) want file f many here old fault done
-          (subst (λ (o : Option ℕ). IsFull (with_want master (nodes_planned s.surface old.nodes) o).sets fault) wanted_is full))
+          (subst (λ (o : Option ℕ). IsFull (with_want master (nodes_planned s.surface old.nodes) o).sets fault) (wanted_is same wanted is) full))
 
 -- ---- all files
 
-with_wants-both : (wants more : List (Option ℕ)) (sets : List ℕ) → with_wants sets (wants ++ more) ≡ with_wants (with_wants sets wants) more
+pub with_wants-both : (wants more : List (Option ℕ)) (sets : List ℕ) → with_wants sets (wants ++ more) ≡ with_wants (with_wants sets wants) more
 with_wants-both [] more sets = refl
 with_wants-both (None ∷ wants) more sets = with_wants-both wants more sets
 with_wants-both (Some set ∷ wants) more sets = with_wants-both wants more (with_set sets set)

@@ -1,5 +1,6 @@
 -- A change as it is made, part by part.
 use Rattle.std.proofs.Common.{◌≡◌, ℕ, ◌+◌, ◌≤◌, List, [], ◌∷◌, length, refl, sym, ◌∙◌, ap, subst, arith}
+use Rattle.std.specs.Prelude.{None}
 use Rattle.ov_base.specs.declared.limits.TheConstants.{MAX_FILES}
 use Rattle.ov_history.specs.Places.{change_at}
 use Rattle.ov_history.proofs.ChangeLaws.{length-change_at}
@@ -36,8 +37,8 @@ made_is_applied {W} old c mode epoch users new_users base new_base surface new_s
     ∙ ap (λ (x : Catalogue). applied x c) view
 
 -- so the state that is made is whole
-pub made_is_whole : {W : ℕ} (limit : ℕ) (old new : Catalogue) (c : Change W) → new ≡ applied old c → Suits limit old c → IsWhole limit new c.size
-made_is_whole {W} limit old new c is suits = subst (λ (s : Catalogue). IsWhole limit s c.size) (sym is) (suits.well, suits.size)
+pub made_is_whole : {W : ℕ} (limit : ℕ) (old new : Catalogue) (c : Change W) → new ≡ applied old c → Suits limit old c → IsWhole {W = W} limit new c.size None
+made_is_whole {W} limit old new c is suits = subst (λ (s : Catalogue). IsWhole {W = W} limit s c.size None) (sym is) (suits.well, suits.size, tt)
 
 length-rewritten : (epoch : ℕ) (rewrites : List Rewrite) (files : List Filed) → length (all_rewritten epoch rewrites files) ≡ length files
 length-rewritten epoch [] files = refl

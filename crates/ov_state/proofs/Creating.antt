@@ -9,6 +9,8 @@ use Rattle.ov_history.proofs.SoundTests.{NoneApplies, none_applies}
 use Rattle.ov_base.specs.declared.refusal.Refusal.{Refusal}
 use Rattle.ov_base.specs.declared.refusal.Refusal.TheVariants.{NodesFull, Spent}
 use Rattle.ov_tokens.specs.declared.token.Token.{Token}
+use Rattle.ov_graph.specs.declared.cover.GraphRefusal.{GraphRefusal}
+use Rattle.ov_graph.specs.declared.cover.GraphRefusal.TheVariants.{NodesFull as GraphFull, Memory as GraphMemory}
 use Rattle.ov_base_layer.specs.Holders.{accesses_of, holders_in, with_accesses}
 use Rattle.ov_surface.specs.Wanted.{wanted_surface}
 use Rattle.ov_history.specs.Briefs.{Brief, BriefCreate}
@@ -22,7 +24,9 @@ use Rattle.ov_history.specs.Sealed.{refusal_shown}
 use Rattle.ov_history.proofs.Listing.{length-lists_of}
 use Rattle.ov_history.proofs.Outlining.{with_node-sets, with_surfaces-sets, length-places, places-append}
 use Rattle.ov_history.proofs.PlanLaws.{with_set-keeps}
+use Rattle.ov_state.specs.Asking.{IsRefusedFor}
 use Rattle.ov_state.specs.Contents.{IsWell}
+use Rattle.ov_state.specs.Faults.{fault_of, chain_fault_of}
 use Rattle.ov_state.specs.NewFiles.{tests_before, want_then, surface_then, is_past_then, HasNoSite}
 use Rattle.ov_state.specs.Plans.{IsFaultOf}
 use Rattle.ov_state.specs.declared.fault.PrepareFault.{PrepareFault}
@@ -159,12 +163,12 @@ module _ (limit : ℕ) (master : List ℕ) (s : Catalogue) (name : List ℕ) (li
         z : Layers
         z = grown (outline s) (Created name list size)
 
-  past_nodes : is_past_nodes (layers_after (outline s) (Created name list size)) ≡ is_past_then master s list
+  past_nodes : is_past_nodes (layers_after (outline s) (Created name list size)) ≡ is_past_then s list
   past_nodes =
-      ap (λ sets. nat_lt MAX_LAYER_NODES (length (with_set s.base.sets list)) || nat_lt MAX_LAYER_NODES (length sets)) (surface_sets ∙ sets_then-is)
+      ap (λ sets. nat_lt MAX_LAYER_NODES (length (with_set s.base.sets list)) || nat_lt MAX_LAYER_NODES (length sets)) surface_sets
 
   pub refusal_create : refusal_shown s update
-      ≡ first_of_tests (tests_before s name list size ++ (NodesFull, is_past_then master s list) ∷ (Spent, is_last s.epoch) ∷ [])
+      ≡ first_of_tests (tests_before s name list size ++ (NodesFull, is_past_then s list) ∷ (Spent, is_last s.epoch) ∷ [])
   refusal_create =
       ap (λ b. first_of_tests (tests_before s name list size ++ (NodesFull, b) ∷ (Spent, is_last s.epoch) ∷ [])) past_nodes
 
@@ -173,16 +177,21 @@ module _ (limit : ℕ) (master : List ℕ) (s : Catalogue) (name : List ℕ) (li
   refused_before why is = refusal_create ∙ first_among (tests_before s name list size) _ why is
 
   module _ (passed : first_of_tests (tests_before s name list size) ≡ None) where
-    then_room : refusal_shown s update ≡ first_of_tests ((NodesFull, is_past_then master s list) ∷ (Spent, is_last s.epoch) ∷ [])
+    then_room : refusal_shown s update ≡ first_of_tests ((NodesFull, is_past_then s list) ∷ (Spent, is_last s.epoch) ∷ [])
     then_room = refusal_create ∙ first_after (tests_before s name list size) _ passed
 
     -- since there is no place for the file
-    pub refused_site : (words : ℕ) (fault : PrepareFault) → HasNoSite master s list fault → IsFaultOf words s update fault
+    pub refused_site : (words : ℕ) (fault : PrepareFault) → HasNoSite s list fault → IsFaultOf words s update fault
     refused_site words (Refused why) (is, past) = then_room ∙ first_here NodesFull _ _ past ∙ ap Some (sym is)
     refused_site words (BadPlan place) none = absurd none
     refused_site words Memory none = tt
 
-    module _ (few : is_past_then master s list ≡ false) where
+    -- and so is a question
+    pub asked_site : (why : GraphRefusal) → HasNoSite s list (fault_of why) → IsRefusedFor (refusal_shown s update) (chain_fault_of why)
+    asked_site GraphFull none = refused_site 0 (Refused NodesFull) none
+    asked_site GraphMemory none = tt
+
+    module _ (few : is_past_then s list ≡ false) where
       pub refused_spent : is_last s.epoch ≡ true → refusal_shown s update ≡ Some Spent
       refused_spent spent = then_room ∙ first_later NodesFull _ _ few ∙ first_here Spent _ _ spent
 

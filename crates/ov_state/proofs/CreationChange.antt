@@ -18,7 +18,7 @@ use Rattle.ov_history.specs.Sealed.{refusal_shown}
 use Rattle.ov_history.proofs.SoundTests.{accepted, NoneApplies, none_applies}
 use Rattle.ov_state.specs.Contents.{IsWell}
 use Rattle.ov_state.specs.Changes.{applied, node_added_if, nodes_added, users_grown, files_grown, grants_grown, all_rewritten, Fits, IsNewNodeIf, AreNewNodes, AreOfFiles, rewritten}
-use Rattle.ov_state.specs.NewFiles.{surface_then, is_past_then, new_node_if, IsSite}
+use Rattle.ov_state.specs.NewFiles.{is_past_then, new_node_if, IsSite}
 use Rattle.ov_state.specs.Plans.{IsChange}
 use Rattle.ov_state.specs.Entries.{filed_names, plain_rewrites}
 use Rattle.ov_state.specs.Creations.{IsCreation}
@@ -119,11 +119,11 @@ module _ {W : ℕ} (limit : ℕ) (master : List ℕ) (s : Catalogue) (name : Lis
   rooted : IsBelow (length s.users) list → IsRooted s.base.sets list
   rooted below large user one = well.sound.base.rooted user (below user one)
 
-  few : (b : Bool) → (plan_of s.base.sets list).fresh ≡ b → b ≡ true → is_past_then master s list ≡ false
+  few : (b : Bool) → (plan_of s.base.sets list).fresh ≡ b → b ≡ true → is_past_then s list ≡ false
       → length s.base.sets < MAX_LAYER_NODES
   few false e fresh none = absurd (true≢false (sym fresh))
   few true e fresh none =
-      room (nat_lt MAX_LAYER_NODES (length (with_set s.base.sets list))) (nat_lt MAX_LAYER_NODES (length (surface_then master s list).sets)) none
+      room (nat_lt MAX_LAYER_NODES (length (with_set s.base.sets list))) _ none
       (ap (λ b. nat_lt MAX_LAYER_NODES (length (appended b s.base.sets list))) e) where
         room : (one other : Bool) → (one || other) ≡ false → one ≡ nat_lt MAX_LAYER_NODES (length (s.base.sets ++ list ∷ []))
             → length s.base.sets < MAX_LAYER_NODES

@@ -23,7 +23,7 @@ use Rattle.ov_state.specs.declared.rewrites.Rewrites.{Rewrites}
 use Rattle.ov_state.specs.Contents.{IsWell}
 use Rattle.ov_state.specs.Changes.{Fits}
 use Rattle.ov_state.specs.Plans.{IsChange, IsFaultOf}
-use Rattle.ov_state.specs.Relistings.{access_of, change_with, wants_after, IsListing, IsMissing, IsNoRoom, AreSettled}
+use Rattle.ov_state.specs.Relistings.{access_of, change_with, room_refusal, wants_after, IsListing, IsMissing, IsNoRoom, AreSettled}
 use Rattle.ov_state.proofs.ListChanges.{at_next, list-change}
 use Rattle.ov_state.proofs.ListTests.{listed-is, grant_tests, missing-first, list-first, list-passed, none-first, room-fault}
 use Rattle.ov_state.proofs.Relistings.{wants-granted, granted_node}
@@ -71,7 +71,7 @@ module _ (limit : ℕ) (s : Catalogue) (user file : ℕ) (token : Option Token) 
     listed_is : (b : Bool) → has r.list user ≡ b → is_listed (matrix_shown s) user file ≡ b
     listed_is b is = listed-is s user file listing.there ∙ ap (λ list. has list user) (sym listing.list) ∙ is
 
-    held_is : has (holders (outline s) (node_of (outline s) file)) user ≡ has r.before user
+    pub held_is : has (holders (outline s) (node_of (outline s) file)) user ≡ has r.before user
     held_is =
         ap (λ n. has (holders (outline s) n) user) (granted_node s user file r listing)
         ∙ ap (λ held. has held user) (sym listing.before)
@@ -86,14 +86,17 @@ module _ (limit : ℕ) (s : Catalogue) (user file : ℕ) (token : Option Token) 
       wants_are : wants_after (outline s) next 0 (places s.files) ≡ wants
       wants_are = ap (λ (n : Relisting W). wants_after (outline s) n 0 (places s.files)) is ∙ wants-granted s user file r listing
 
-      -- there is no room
+      -- then it is refused where there is no room
+      pub grant-room : refusal_shown s update ≡ room_refusal (with_wants s.surface.sets (wants_after (outline s) next 0 (places s.files))) s.epoch
+      grant-room =
+          grant_tests s well.sound.base.few user file token
+          ∙ list-passed s user file listing.enrolled listing.there Listed (length (with_wants s.surface.sets wants)) _ (listed_is false unlisted)
+          ∙ ap (λ (ws : List (Option ℕ)). room_refusal (with_wants s.surface.sets ws) s.epoch) (sym wants_are)
+
       pub grant-full : (fault : PrepareFault)
           → IsNoRoom (with_wants s.surface.sets (wants_after (outline s) next 0 (places s.files))) s.epoch fault → IsFaultOf W s update fault
       grant-full fault found =
-          room-fault W s update (with_wants s.surface.sets wants) fault
-          (grant_tests s well.sound.base.few user file token
-          ∙ list-passed s user file listing.enrolled listing.there Listed (length (with_wants s.surface.sets wants)) _ (listed_is false unlisted))
-          (subst (λ (ws : List (Option ℕ)). IsNoRoom (with_wants s.surface.sets ws) s.epoch fault) wants_are found)
+          room-fault W s update (with_wants s.surface.sets (wants_after (outline s) next 0 (places s.files))) fault grant-room found
 
       module _ (master : List ℕ) (plan : Rewrites W) (h : AreSettled master s (wants_after (outline s) next 0 (places s.files)) plan)
           (more : is_last s.epoch ≡ false) where

@@ -29,6 +29,7 @@ pub mod SettledMore
 pub mod SettledFiles
 pub mod ChangedWants
 pub mod RoomTests
+pub mod NewSets
 pub mod Relistings
 pub mod ListTests
 pub mod ListChanges

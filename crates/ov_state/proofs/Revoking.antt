@@ -17,7 +17,7 @@ use Rattle.ov_state.specs.declared.relisting.Relisting.{Relisting}
 use Rattle.ov_state.specs.declared.rewrites.Rewrites.{Rewrites}
 use Rattle.ov_state.specs.Contents.{IsWell}
 use Rattle.ov_state.specs.Plans.{IsChange, IsFaultOf}
-use Rattle.ov_state.specs.Relistings.{change_with, wants_after, IsListing, IsMissing, IsNoRoom, AreSettled}
+use Rattle.ov_state.specs.Relistings.{change_with, room_refusal, wants_after, IsListing, IsMissing, IsNoRoom, AreSettled}
 use Rattle.ov_state.proofs.ListChanges.{list-change}
 use Rattle.ov_state.proofs.ListTests.{listed-is, revoke_tests, missing-first, list-first, list-passed, none-first, room-fault}
 use Rattle.ov_state.proofs.Relistings.{wants-revoked}
@@ -50,14 +50,17 @@ module _ (limit : ℕ) (s : Catalogue) (user file : ℕ) (well : IsWell limit s)
       wants_are : wants_after (outline s) next 0 (places s.files) ≡ wants
       wants_are = ap (λ (n : Relisting W). wants_after (outline s) n 0 (places s.files)) is ∙ wants-revoked s user file r listing
 
-      -- there is no room
+      -- then it is refused where there is no room
+      pub revoke-room : refusal_shown s update ≡ room_refusal (with_wants s.surface.sets (wants_after (outline s) next 0 (places s.files))) s.epoch
+      revoke-room =
+          revoke_tests s well.sound.base.few user file
+          ∙ list-passed s user file listing.enrolled listing.there NotListed (length (with_wants s.surface.sets wants)) _ (unlisted true listed)
+          ∙ ap (λ (ws : List (Option ℕ)). room_refusal (with_wants s.surface.sets ws) s.epoch) (sym wants_are)
+
       pub revoke-full : (fault : PrepareFault)
           → IsNoRoom (with_wants s.surface.sets (wants_after (outline s) next 0 (places s.files))) s.epoch fault → IsFaultOf W s update fault
       revoke-full fault found =
-          room-fault W s update (with_wants s.surface.sets wants) fault
-          (revoke_tests s well.sound.base.few user file
-          ∙ list-passed s user file listing.enrolled listing.there NotListed (length (with_wants s.surface.sets wants)) _ (unlisted true listed))
-          (subst (λ (ws : List (Option ℕ)). IsNoRoom (with_wants s.surface.sets ws) s.epoch fault) wants_are found)
+          room-fault W s update (with_wants s.surface.sets (wants_after (outline s) next 0 (places s.files))) fault revoke-room found
 
       -- it is planned
       pub revoke-change : (master : List ℕ) (plan : Rewrites W)

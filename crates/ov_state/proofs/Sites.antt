@@ -1,5 +1,5 @@
 -- A new file has its place where no layer is full.
-use Rattle.std.proofs.Common.{◌≡◌, ℕ, ◌+◌, ◌<◌, ◌≤◌, ◌==◌, Bool, true, false, List, [], ◌∷◌, ◌++◌, length, refl, sym, ◌∙◌, ap, subst, arith, length-append, eqb-true}
+use Rattle.std.proofs.Common.{◌≡◌, ℕ, ◌+◌, ◌≤◌, ◌==◌, Bool, true, false, List, [], ◌∷◌, ◌++◌, length, refl, sym, ◌∙◌, ap, subst, arith, length-append, eqb-true}
 use Rattle.std.specs.Prelude.{◌||◌, nat_lt, Option, Some, None, IfSome, IsTrue}
 use Rattle.std.proofs.lemmas.Bool.Decides.{nat_tests}
 use Rattle.ov_base.specs.Sets.{IsBelow}
@@ -8,12 +8,13 @@ use Rattle.ov_graph.specs.declared.cover.Cover.{Cover}
 use Rattle.ov_graph.specs.Contents.{plan_of}
 use Rattle.ov_graph.specs.Reach.{IsRooted}
 use Rattle.ov_surface.specs.Wanted.{wanted_surface}
-use Rattle.ov_history.specs.Layers.{appended, with_set, surface_at}
+use Rattle.ov_history.specs.Layers.{appended, with_set, with_wants, surface_at}
 use Rattle.ov_history.specs.Catalogue.{Nodes, Catalogue}
 use Rattle.ov_history.specs.Sound.{IsLayer}
 use Rattle.ov_history.proofs.SoundLists.{wanted-is}
 use Rattle.ov_state.specs.Changes.{nodes_added, node_added}
-use Rattle.ov_state.specs.NewFiles.{want_then, surface_then, HasNoSite, IsSite}
+use Rattle.ov_history.proofs.Outlining.{with_surfaces-sets}
+use Rattle.ov_state.specs.NewFiles.{want_then, surface_then, is_past_then, HasNoSite, IsSite}
 use Rattle.ov_state.specs.Relistings.{nodes_planned, with_want, IsFull, IsSurfaceFor}
 use Rattle.ov_state.specs.declared.change.NewNode.{NewNode}
 use Rattle.ov_state.specs.declared.fault.PrepareFault.{PrepareFault}
@@ -53,6 +54,28 @@ few_if true sets set few room = by_test (length sets == MAX_LAYER_NODES) refl wh
 
 -- ---- the place
 
+module _ (s : Catalogue) (list : ℕ) where
+  abbrev pub sets_then : List ℕ
+  sets_then = with_wants s.surface.sets (want_then s list ∷ [])
+
+  -- no layer is full
+  pub room_then : length s.base.sets ≤ MAX_LAYER_NODES
+      → (length s.base.sets ≡ MAX_LAYER_NODES → IsTrue (plan_of s.base.sets list).fresh → ⊥)
+      → length sets_then ≤ MAX_LAYER_NODES → is_past_then s list ≡ false
+  room_then few room few_surface =
+      ap (λ b. b || nat_lt MAX_LAYER_NODES (length sets_then))
+      (lt_is_false MAX_LAYER_NODES _ (few_if (plan_of s.base.sets list).fresh s.base.sets list few room))
+      ∙ lt_is_false MAX_LAYER_NODES (length sets_then) few_surface
+
+  -- or the surface layer is
+  pub full_then : (fault : PrepareFault) → IsFull sets_then fault → HasNoSite s list fault
+  full_then Memory full = tt
+  full_then (BadPlan place) full = full
+  full_then (Refused why) full = (
+    full.0,
+    or_right (nat_lt MAX_LAYER_NODES (length (with_set s.base.sets list))) _ (lt_is_true MAX_LAYER_NODES (length sets_then) full.1),
+  )
+
 module _ {W : ℕ} (master : List ℕ) (s : Catalogue) (list : ℕ) where
   pub site_is : (cover : Cover) (want to : Option ℕ) (old new : NewNodes W) → cover ≡ plan_of s.base.sets list
       → length s.base.sets ≤ MAX_LAYER_NODES
@@ -64,28 +87,22 @@ module _ {W : ℕ} (master : List ℕ) (s : Catalogue) (list : ℕ) where
     planned = target.planned.planned;
     nodes = nodes;
     to = target.surface ∙ (λ i. surface_at (nodes i).sets (wanted i));
-    few = both (nat_lt MAX_LAYER_NODES (length (with_set s.base.sets list))) (lt_is_false MAX_LAYER_NODES _ (few_if (plan_of s.base.sets list).fresh s.base.sets list few room))
-        ∙ lt_is_false MAX_LAYER_NODES (length (surface_then master s list).sets) few_surface;
+    few = room_then s list few room few_surface;
   } where
     nodes : nodes_added s.surface new.nodes.items ≡ surface_then master s list
     nodes = target.nodes ∙ (λ i. with_want master (nodes_added s.surface (none i)) (wanted i))
 
-    few_surface : length (surface_then master s list).sets ≤ MAX_LAYER_NODES
-    few_surface =
-        omega (arith, sym (ap (λ (n : Nodes). length n.sets) nodes), length-added s.surface new.nodes.items, target.planned.few)
+    sets : (nodes_added s.surface new.nodes.items).sets ≡ sets_then s list
+    sets = ap (λ (n : Nodes). n.sets) nodes ∙ with_surfaces-sets master (want_then s list ∷ []) s.surface
 
-    both : (b : Bool) → b ≡ false
-        → (b || nat_lt MAX_LAYER_NODES (length (surface_then master s list).sets)) ≡ nat_lt MAX_LAYER_NODES (length (surface_then master s list).sets)
-    both b e = ap (λ a. a || nat_lt MAX_LAYER_NODES (length (surface_then master s list).sets)) e
+    few_surface : length (sets_then s list) ≤ MAX_LAYER_NODES
+    few_surface =
+        omega (arith, sym (ap length sets), length-added s.surface new.nodes.items, target.planned.few)
 
   -- there is none where the surface layer is full
   pub surface_full : (want : Option ℕ) (old : NewNodes W) (fault : PrepareFault) → old.nodes.items ≡ [] → want ≡ want_then s list
-      → IsFull (with_want master (nodes_planned s.surface old) want).sets fault → HasNoSite master s list fault
-  surface_full want old Memory none wanted full = tt
-  surface_full want old (BadPlan place) none wanted full = full
-  surface_full want old (Refused why) none wanted full = (
-    full.0,
-    or_right (nat_lt MAX_LAYER_NODES (length (with_set s.base.sets list))) _
-        (lt_is_true MAX_LAYER_NODES _ (subst (λ (n : Nodes). MAX_LAYER_NODES < length n.sets)
-        (λ i. with_want master (nodes_added s.surface (none i)) (wanted i)) full.1)),
-  )
+      → IsFull (with_want master (nodes_planned s.surface old) want).sets fault → HasNoSite s list fault
+  surface_full want old fault none wanted full =
+      full_then s list fault
+      (subst (λ (sets : List ℕ). IsFull sets fault)
+      ((λ i. (with_want master (nodes_added s.surface (none i)) (wanted i)).sets) ∙ with_surfaces-sets master (want_then s list ∷ []) s.surface) full)

@@ -36,6 +36,11 @@ abbrev pub Asks : Option Refusal → Numbers → Result Asked ChainFault → Typ
 Asks refusal numbers (Ok asked) = (refusal ≡ None) × (numbers_of asked ≡ numbers)
 Asks refusal numbers (Err fault) = IsRefusedFor refusal fault
 
+-- the update isn't refused for this, or it is, or memory was refused
+abbrev pub Passes : {A : Type 0} → Option Refusal → Result A ChainFault → Type 0
+Passes refusal (Ok value) = refusal ≡ None
+Passes refusal (Err fault) = IsRefusedFor refusal fault
+
 -- whether an access token is needed, or why the update is refused
 abbrev pub AsksWhether : Option Refusal → Bool → Result Bool ChainFault → Type 0
 AsksWhether refusal wants (Ok told) = (refusal ≡ None) × (told ≡ wants)

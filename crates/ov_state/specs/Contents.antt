@@ -1,5 +1,6 @@
 -- What a state contains: its catalogue, and the room that it has.
-use Rattle.std.specs.Prelude.{◌≡◌, ℕ, ◌*◌, ◌≤◌, List, length, slice_get, Some, IsTrue}
+use Rattle.std.specs.Prelude.{◌≡◌, ℕ, ◌*◌, ◌≤◌, List, length, slice_get, Option, Some}
+use Rattle.std.specs.Prelude.{IfSome, IsTrue}
 use Rattle.ov_base.specs.declared.limits.TheConstants.{LAST_EPOCH, MAX_FILES, MAX_FILE_BYTES}
 use Rattle.ov_base.specs.declared.limits.TheConstants.{MAX_SET_WORDS, MAX_STORE_BYTES, MAX_USERS}
 use Rattle.ov_base.specs.declared.mode.Mode.{Mode}
@@ -11,6 +12,8 @@ use Rattle.ov_history.specs.Lists.{byte_sum}
 use Rattle.ov_history.specs.Catalogue.{Nodes, Filed, Catalogue, outline, matrix_shown}
 use Rattle.ov_history.specs.Catalogue.{place_of_file}
 use Rattle.ov_history.specs.Sound.{IsSound}
+use Rattle.ov_state.specs.Remembering.{IsPlannedIn}
+use Rattle.ov_state.specs.declared.covering.Planned.{Planned}
 
 -- for how many more of each there is room
 pub record Room : Type 0 where
@@ -63,6 +66,9 @@ pub record IsWell (limit : ℕ) (c : Catalogue) : Type 0 where
   pub each : (file : ℕ) (f : Filed) → slice_get c.files file ≡ Some f → f.length ≤ MAX_FILE_BYTES
   pub epoch : c.epoch ≤ LAST_EPOCH
 
--- so it is of a state with this catalogue, which keeps count of the bytes
-abbrev pub IsWhole : ℕ → Catalogue → ℕ → Type 0
-IsWhole limit c size = IsWell limit c × (size ≡ byte_sum (matrix_shown c).files)
+-- so it is of a state with this catalogue, which keeps count of the bytes, and remembers no cover
+-- but that of a list in this base layer
+abbrev pub IsWhole : {W : ℕ} → ℕ → Catalogue → ℕ → Option (Planned W) → Type 0
+IsWhole limit c size remembered =
+    IsWell limit c × (size ≡ byte_sum (matrix_shown c).files)
+    × IfSome remembered (IsPlannedIn c.base.sets)

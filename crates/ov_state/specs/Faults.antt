@@ -1,7 +1,10 @@
--- Faults of graphs, as faults of what is prepared.
+-- Faults of graphs, as faults of what is prepared and of questions.
 use Rattle.ov_base.specs.declared.refusal.Refusal.TheVariants.{NodesFull as Full}
 use Rattle.ov_graph.specs.declared.cover.GraphRefusal.{GraphRefusal}
 use Rattle.ov_graph.specs.declared.cover.GraphRefusal.TheVariants.{NodesFull, Memory as GraphMemory}
+use Rattle.ov_state.specs.declared.fault.ChainFault.{ChainFault}
+use Rattle.ov_state.specs.declared.fault.ChainFault.TheVariants.{Refused as NoChain}
+use Rattle.ov_state.specs.declared.fault.ChainFault.TheVariants.{Memory as NoChainMemory}
 use Rattle.ov_state.specs.declared.fault.PrepareFault.{PrepareFault}
 use Rattle.ov_state.specs.declared.fault.PrepareFault.TheVariants.{Refused, Memory}
 
@@ -9,3 +12,8 @@ use Rattle.ov_state.specs.declared.fault.PrepareFault.TheVariants.{Refused, Memo
 abbrev pub fault_of : GraphRefusal → PrepareFault
 fault_of NodesFull = Refused Full
 fault_of GraphMemory = Memory
+
+-- and a question about one
+abbrev pub chain_fault_of : GraphRefusal → ChainFault
+chain_fault_of NodesFull = NoChain Full
+chain_fault_of GraphMemory = NoChainMemory

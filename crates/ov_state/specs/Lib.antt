@@ -6,10 +6,12 @@ pub mod Places
 pub mod Faults
 pub mod Relistings
 pub mod NewFiles
+pub mod NewSets
 pub mod Creations
 pub mod Standing
 pub mod Queries
 pub mod Asking
+pub mod Remembering
 pub mod Chains
 pub use Rattle.ov_history.specs.Briefs
 pub use Rattle.ov_history.specs.Catalogue

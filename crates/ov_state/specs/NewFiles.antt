@@ -9,7 +9,7 @@ use Rattle.ov_base.specs.declared.refusal.Refusal.TheVariants.{NodesFull}
 use Rattle.ov_graph.specs.Contents.{plan_of}
 use Rattle.ov_base_layer.specs.Holders.{accesses_of, holders_in}
 use Rattle.ov_surface.specs.Wanted.{wanted_surface}
-use Rattle.ov_history.specs.Layers.{node_for, with_set, surface_at}
+use Rattle.ov_history.specs.Layers.{node_for, with_set, with_wants, surface_at}
 use Rattle.ov_history.specs.Lists.{file_number, is_file, everyone, byte_sum}
 use Rattle.ov_history.specs.Refusals.{Test}
 use Rattle.ov_history.specs.Catalogue.{Nodes, Catalogue, matrix_shown}
@@ -43,10 +43,10 @@ abbrev pub surface_then : List ℕ → Catalogue → ℕ → Nodes
 surface_then master c list = with_want master c.surface (want_then c list)
 
 -- a layer would have more nodes than it may have
-abbrev pub is_past_then : List ℕ → Catalogue → ℕ → Bool
-is_past_then master c list =
+abbrev pub is_past_then : Catalogue → ℕ → Bool
+is_past_then c list =
     nat_lt MAX_LAYER_NODES (length (with_set c.base.sets list))
-    || nat_lt MAX_LAYER_NODES (length (surface_then master c list).sets)
+    || nat_lt MAX_LAYER_NODES (length (with_wants c.surface.sets (want_then c list ∷ [])))
 
 -- where a new file for these users stands
 pub record IsSite {W : ℕ} (master : List ℕ) (c : Catalogue) (list : ℕ)
@@ -55,13 +55,13 @@ pub record IsSite {W : ℕ} (master : List ℕ) (c : Catalogue) (list : ℕ)
   pub planned : AreNewNodes c.surface.sets site.surface.items
   pub nodes : nodes_added c.surface site.surface.items ≡ surface_then master c list
   pub to : site.to ≡ surface_at (surface_then master c list).sets (want_then c list)
-  pub few : is_past_then master c list ≡ false
+  pub few : is_past_then c list ≡ false
 
 -- why there is no place for a new file: a layer is full, or memory was refused
-abbrev pub HasNoSite : List ℕ → Catalogue → ℕ → PrepareFault → Type 0
-HasNoSite master c list (Refused why) = (why ≡ NodesFull) × (is_past_then master c list ≡ true)
-HasNoSite master c list (BadPlan place) = ⊥
-HasNoSite master c list Memory = Unit {0}
+abbrev pub HasNoSite : Catalogue → ℕ → PrepareFault → Type 0
+HasNoSite c list (Refused why) = (why ≡ NodesFull) × (is_past_then c list ≡ true)
+HasNoSite c list (BadPlan place) = ⊥
+HasNoSite c list Memory = Unit {0}
 
 -- the node, where the test says that it is a new one
 abbrev pub new_node_if : {W : ℕ} → Bool → NewNode W → Option (NewNode W)

@@ -15,7 +15,7 @@ use Rattle.ov_history.specs.Catalogue.{Nodes, Filed, Catalogue, outline, filed_a
 use Rattle.ov_history.specs.Catalogue.{with_surfaces, settled_files}
 use Rattle.ov_history.specs.Rewrites.{rewrites_from}
 use Rattle.ov_state.specs.Changes.{nodes_added, all_rewritten, AreNewNodes, AreOfFiles}
-use Rattle.ov_state.specs.Entries.{plain_rewrites}
+use Rattle.ov_state.specs.Entries.{plain_file, plain_rewrites}
 use Rattle.ov_state.specs.declared.change.Growth.{Growth}
 use Rattle.ov_state.specs.declared.change.Growth.TheVariants.{Access, Nothing}
 use Rattle.ov_state.specs.declared.change.Change.{Change}
@@ -104,6 +104,15 @@ abbrev pub wants_after : {W : ℕ} → Layers → Relisting W → ℕ → List P
 wants_after y r number [] = []
 wants_after y r number (p ∷ places) = want_after y r number p ∷ wants_after y r (number + 1) places
 
+-- Where the test says so, the file of this number has the relisting's base node; where not, it has
+-- the wanted surface that it should have afterwards.
+abbrev pub MayMove : {W : ℕ} → Bool → Catalogue → Relisting W → ℕ → FileEntry → Type 0
+MayMove true c r number f = f.node ≡ r.node
+MayMove false c r number f =
+    same_surface f.surface
+    (surface_at c.surface.sets (want_after (outline c) r number (place_of_file (plain_file f))))
+    ≡ true
+
 -- a change of one file's list, as it is planned in a state with this catalogue
 pub record IsRelisting {W : ℕ} (c : Catalogue) (r : Relisting W) : Type 0 where
   pub before : r.before ≡ holders (outline c) r.node
@@ -152,12 +161,16 @@ IsMissing c user file why =
     ∷ (NoFile, not (nat_lt file (length c.files))) ∷ [])
     ≡ Some why
 
--- a layer of these sets has too many nodes, or no epoch comes after this one, or there is no memory
-abbrev pub IsNoRoom : List ℕ → ℕ → PrepareFault → Type 0
-IsNoRoom sets epoch (Refused why) =
+-- why an update finds no room: a layer of these sets has too many nodes, or no epoch comes after
+-- this one
+abbrev pub room_refusal : List ℕ → ℕ → Option Refusal
+room_refusal sets epoch =
     first_of_tests
     ((NodesFull, nat_lt MAX_LAYER_NODES (length sets)) ∷ (Spent, is_last epoch) ∷ [])
-    ≡ Some why
+
+-- there is no room, or no memory
+abbrev pub IsNoRoom : List ℕ → ℕ → PrepareFault → Type 0
+IsNoRoom sets epoch (Refused why) = room_refusal sets epoch ≡ Some why
 IsNoRoom sets epoch (BadPlan place) = ⊥
 IsNoRoom sets epoch Memory = Unit {0}
 

@@ -6,13 +6,15 @@ ghost use Rattle.ov_history.specs.Asking.{file_named, key_refusal, newcomer, of_
 ghost use Rattle.ov_history.specs.Asking.{of_user, refusal_at, user_named};
 ghost use Rattle.ov_history.specs.Catalogue.{outline};
 ghost use Rattle.ov_history.specs.History.{Enrolled, Granted, Revoked};
-ghost use Rattle.ov_history.specs.Layers.{holders, node_of, root_of};
-ghost use Rattle.ov_state.specs.Asking.{numbers_of, Asks, AsksWhether, Tells};
+ghost use Rattle.ov_history.specs.Layers.{holders, node_of, root_of, with_wants};
+ghost use Rattle.ov_state.specs.Asking.{numbers_of, Asks, AsksWhether, Passes, Tells};
+ghost use Rattle.ov_state.specs.Relistings.{room_refusal, wants_after, IsRelisting};
 
 use crate::chains::root;
-use crate::fault::{ChainFault, PrepareFault};
+use crate::fault::ChainFault;
+use crate::relisting::Relisting;
 use crate::state::State;
-use ov_base::{Key, Name, Refusal};
+use ov_base::{Name, Refusal};
 use ov_base_layer::BaseLayer;
 use ov_graph::Graph;
 use ov_tokens::{Base, Surface};
@@ -29,11 +31,6 @@ pub struct Asked {
     pub file: u32,
     pub node: u32,
     pub wants: bool,
-}
-
-/// A key for tokens of a plan that is only asked for: they are never seen, so any will do.
-pub fn any_key() -> Key {
-    Key { bytes: [0; 32] }
 }
 
 /// The root of a user in the base layer.
@@ -96,31 +93,47 @@ impl<B: Graph<Base, W>, S: Graph<Surface, W>, const W: usize> State<B, S, W> {
         asked
     }
 
+    /// Whether there is room for the surface nodes of all files after a relisting, and an epoch
+    /// comes after this one.
+    fn room_after(&self, alloc: Global, relisting: &Relisting<W>) -> Result<(), ChainFault>
+        requires { IsRelisting self.now.catalogue relisting.now }
+        ensures { let y = outline self.now.catalogue in
+            let sets = with_wants y.surface (wants_after y relisting.now 0 y.files) in
+            Passes (room_refusal sets y.epoch) result }
+    {
+        self.known();
+        self.new_sets(alloc, relisting)?;
+        if self.is_spent() {
+            return Err(ChainFault::Refused(Refusal::Spent));
+        }
+        Ok(())
+    }
+
     /// Whether a grant needs an access token, where it isn't refused.
     fn wants_access(&self, alloc: Global, user: u32, file: u32) -> Result<bool, ChainFault>
         ensures { let c = self.now.catalogue in AsksWhether (refusal_at c (Granted user file))
             (not (has (holders (outline c) (node_of (outline c) file)) user)) result }
     {
         self.known();
-        match self.plan_grant(alloc, &any_key(), user, file, None) {
-            Ok(_) => Ok(false),
-            Err(PrepareFault::BadPlan { .. }) => Ok(true),
-            Err(PrepareFault::Refused(why)) => Err(ChainFault::Refused(why)),
-            Err(PrepareFault::Memory) => Err(ChainFault::Memory),
+        let listing = self.listing(user, file)?;
+        if listing.list.contains(user) {
+            return Err(ChainFault::Refused(Refusal::Listed));
         }
+        let is_holder = listing.before.contains(user);
+        self.room_after(alloc, &listing.granted(user))?;
+        Ok(!is_holder)
     }
 
-    /// Whether a revocation needs an access token, which none does, where it isn't refused.
-    fn passes_revoke(&self, alloc: Global, user: u32, file: u32) -> Result<bool, ChainFault>
-        ensures { AsksWhether (refusal_at self.now.catalogue (Revoked user file)) false result }
+    /// Whether a revocation isn't refused.
+    fn passes_revoke(&self, alloc: Global, user: u32, file: u32) -> Result<(), ChainFault>
+        ensures { Passes (refusal_at self.now.catalogue (Revoked user file)) result }
     {
         self.known();
-        match self.plan_revoke(alloc, &any_key(), user, file) {
-            Ok(_) => Ok(false),
-            Err(PrepareFault::BadPlan { .. }) => unreachable!(),
-            Err(PrepareFault::Refused(why)) => Err(ChainFault::Refused(why)),
-            Err(PrepareFault::Memory) => Err(ChainFault::Memory),
+        let listing = self.listing(user, file)?;
+        if !listing.list.contains(user) {
+            return Err(ChainFault::Refused(Refusal::NotListed));
         }
+        self.room_after(alloc, &listing.revoked(user))
     }
 
     /// What is told of a user who is to be enrolled: which numbers the user and both roots will

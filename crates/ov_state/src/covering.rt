@@ -1,15 +1,19 @@
 //! What an owner is told before a creation.
-ghost use Rattle.std.specs.Prelude.{◌≡◌, ◌≤◌, false, length, IfNone, IfSome};
+ghost use Rattle.std.specs.Prelude.{◌≡◌, ◌≤◌, false, length, IfErr, IfNone, IfOk, IfSome};
 ghost use Rattle.ov_base.specs.Sets.{within};
 ghost use Rattle.ov_base.specs.declared.limits.TheConstants.{MAX_FILE_BYTES};
+ghost use Rattle.ov_graph.specs.Contents.{plan_of};
 ghost use Rattle.ov_history.specs.Lists.{everyone, set_named};
 ghost use Rattle.ov_state.specs.Asking.{Plans};
+ghost use Rattle.ov_state.specs.Faults.{fault_of};
+ghost use Rattle.ov_state.specs.NewFiles.{is_past_then, HasNoSite};
 
-use crate::asking::any_key;
-use crate::fault::{ChainFault, PrepareFault};
+use crate::fault::ChainFault;
+use crate::new_sets::NewSets;
 use crate::state::State;
 use ov_base::{Name, Refusal, UserSet};
-use ov_graph::{Cover, Graph};
+use ov_graph::{Cover, Graph, GraphRefusal};
+use ov_surface::wanted;
 use ov_tokens::{Base, Surface};
 use std::alloc::Global;
 
@@ -38,6 +42,21 @@ impl<B: Graph<Base, W>, S: Graph<Surface, W>, const W: usize> State<B, S, W> {
         Some(set)
     }
 
+    /// The cover of a new file's base node, where both layers have room for the nodes of the file.
+    fn cover_in_room(&self, alloc: Global, list: &UserSet<W>) -> Result<Cover, GraphRefusal>
+        ensures cover { let sets = self.now.catalogue.base.sets in
+            IfOk result (λ cover. cover ≡ plan_of sets list.now) }
+        ensures few { IfOk result (λ _. is_past_then self.now.catalogue list.now ≡ false) }
+        ensures err { IfErr result (λ why. HasNoSite self.now.catalogue list.now (fault_of why)) }
+    {
+        self.known();
+        let cover = self.base.plan_create(alloc, list)?;
+        let holders = self.holders_then(&cover, list);
+        let mut new = NewSets::new(alloc);
+        new.add(&self.surface, wanted(self.mode, list, &holders))?;
+        Ok(cover)
+    }
+
     /// What is told of a file that is to be created for these users.
     fn planned(
         &self,
@@ -53,18 +72,14 @@ impl<B: Graph<Base, W>, S: Graph<Surface, W>, const W: usize> State<B, S, W> {
         if let Some(why) = self.refusal_create(name, &list, size) {
             return Err(ChainFault::Refused(why));
         }
-        let site = match self.site(alloc, &any_key(), &list) {
-            Ok(site) => site,
-            Err(PrepareFault::Refused(why)) => return Err(ChainFault::Refused(why)),
-            Err(_) => return Err(ChainFault::Memory),
-        };
+        let cover = self.cover_in_room(alloc, &list)?;
         if self.is_spent() {
             return Err(ChainFault::Refused(Refusal::Spent));
         }
         Ok(Planned {
             file: self.files.count(),
             list,
-            cover: site.cover,
+            cover,
         })
     }
 

@@ -1,6 +1,6 @@
 //! Why a state answers no change, or no chain.
 ghost use Rattle.std.specs.Prelude.{◌≡◌};
-ghost use Rattle.ov_state.specs.Faults.{fault_of};
+ghost use Rattle.ov_state.specs.Faults.{chain_fault_of, fault_of};
 ghost use Rattle.ov_state.specs.declared.fault.PrepareFault.TheVariants.{Memory as NoMemory};
 ghost use Rattle.ov_state.specs.declared.fault.PrepareFault.TheVariants.{Refused};
 ghost use Rattle.ov_state.specs.declared.fault.ChainFault.TheVariants.{Memory as NoChainMemory};
@@ -49,10 +49,10 @@ impl From<GraphRefusal> for PrepareFault {
     }
 }
 
-/// Why no chain is given.
+/// Why no chain is given, or a question isn't answered.
 #[derive(Clone, Copy, Debug, PartialEq, Eq)]
 pub enum ChainFault {
-    /// The access-matrix machine refuses the read.
+    /// The access-matrix machine refuses the read, or the update that is asked about.
     Refused(Refusal),
     /// Memory was refused.
     Memory,
@@ -71,5 +71,16 @@ impl From<Refusal> for ChainFault {
 
     fn from(why: Refusal) -> Self {
         ChainFault::Refused(why)
+    }
+}
+
+impl From<GraphRefusal> for ChainFault {
+    ghost from_gives = { λ why fault. fault ≡ chain_fault_of why };
+
+    fn from(why: GraphRefusal) -> Self {
+        match why {
+            GraphRefusal::NodesFull => ChainFault::Refused(Refusal::NodesFull),
+            GraphRefusal::Memory => ChainFault::Memory,
+        }
     }
 }

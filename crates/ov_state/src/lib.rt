@@ -9,6 +9,7 @@
 //! Brief ── prepare ────────────────────────────────────────────────┐
 //!   lookup      why it is refused: names, numbers, limits          │
 //!   relisting   the list that changes         site  a new file's   │
+//!   remembering the base cover, where it was asked for before      │
 //!   rewrites    the wanted surface of each file of the base node   │
 //!   new_nodes   the surface nodes that these need                  │
 //!   plan_new, plan_list     all that as a change                   │
@@ -43,7 +44,9 @@
 //! * The queries give the epoch, the mode, sizes, numbers and names, files, and the list of a file,
 //!   which is read off the layers.
 //! * `ask_enrol`, `ask_grant`, `ask_revoke` and `cover` tell an owner, before an update, the numbers
-//!   that it needs, or why the update would be refused. They touch no bytes.
+//!   that it needs, or why the update would be refused. They touch no bytes, and plan no surface
+//!   nodes: of these they only count which sets would be new. What `cover` told can be given back
+//!   by [`State::remember`], so that the creation needn't plan it again.
 //! * [`State::chain`] is refused exactly where a read is, unless memory is. It gives a reader of a
 //!   file the chains from the reader's two roots to the file's keys ([`Chained`]); over true tokens
 //!   they lead to these keys, and [`access_key_by`] walks the one of the base layer.
@@ -58,9 +61,11 @@
 //! | `Standing` | what a catalogue stands for, before and after a change |
 //! | `Queries` | numbers, sizes and lists |
 //! | `Asking` | what an owner is told before an update |
+//! | `Remembering` | what is kept of that until the update |
 //! | `Chains` | chains to a file's keys, and where they lead |
 //! | `Faults` | a graph's refusal as a fault of `prepare` |
 //! | `Relistings`, `NewFiles`, `Creations` | how changes are planned: for the inside alone |
+//! | `NewSets` | which surface sets are new, for questions: for the inside alone |
 //!
 //! Sets of users have W words; [`WIDTH`] is the least that holds all users of a store, and
 //! [`Catalogue`] is the state of that width.
@@ -79,12 +84,14 @@ mod fault;
 mod files;
 mod lookup;
 mod new_nodes;
+mod new_sets;
 mod places;
 mod plan_list;
 mod plan_new;
 mod prepare;
 mod queries;
 mod relisting;
+mod remembering;
 mod rewrites;
 mod room;
 mod site;

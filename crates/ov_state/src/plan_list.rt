@@ -38,7 +38,7 @@ fn access(user: u32, node: u32, token: Option<Token>) -> Growth
 
 impl<B: Graph<Base, W>, S: Graph<Surface, W>, const W: usize> State<B, S, W> {
     /// A file, where it and a user are there, with its list and its holders as they are.
-    fn listing(&self, user: u32, file: u32) -> Result<Relisting<W>, Refusal>
+    pub(crate) fn listing(&self, user: u32, file: u32) -> Result<Relisting<W>, Refusal>
         ensures ok { IfOk result (IsListing self.now.catalogue user file) }
         ensures wide { IfOk result (λ _. user < 64 * W) }
         ensures err { IfErr result (IsMissing self.now.catalogue user file) }

@@ -10,6 +10,7 @@ ghost use Rattle.ov_state.specs.Entries.{plain_file};
 ghost use Rattle.ov_state.specs.Relistings.{nodes_planned, rewrite_for, want_if, wants_after};
 ghost use Rattle.ov_state.specs.Relistings.{with_rewrite, with_want};
 ghost use Rattle.ov_state.specs.Relistings.{ArePlanned, AreSettled, IsFull, IsRelisting, IsSettled};
+ghost use Rattle.ov_state.specs.Relistings.{MayMove};
 
 use crate::change::Rewrite;
 use crate::fault::PrepareFault;
@@ -95,8 +96,28 @@ impl<const W: usize> Rewrites<W> {
 }
 
 impl<B: Graph<Base, W>, S: Graph<Surface, W>, const W: usize> State<B, S, W> {
+    /// Whether a file may need another surface after the relisting. No set is looked up for that.
+    /// A file of another base node keeps its surface, and so does another file with one: the set of
+    /// its surface is its list, and the holders are no fewer than before.
+    pub(crate) fn may_move(&self, relisting: &Relisting<W>, file: u32, entry: &FileEntry) -> bool
+        requires relisting { IsRelisting self.now.catalogue relisting.now }
+        requires kept { slice_get self.now.catalogue.files file ≡ Some (plain_file entry.now) }
+        ensures { MayMove result self.now.catalogue relisting.now file entry.now }
+    {
+        self.known();
+        if entry.node != relisting.node {
+            return false;
+        }
+        file == relisting.file || entry.surface.is_none()
+    }
+
     /// The wanted surface set of a file of the node, after the relisting.
-    fn want(&self, relisting: &Relisting<W>, file: u32, entry: &FileEntry) -> Option<UserSet<W>>
+    pub(crate) fn want(
+        &self,
+        relisting: &Relisting<W>,
+        file: u32,
+        entry: &FileEntry,
+    ) -> Option<UserSet<W>>
         requires relisting { IsRelisting self.now.catalogue relisting.now }
         requires placed { IsPlaced self.now.catalogue (plain_file entry.now) }
         requires node { entry.now.node ≡ relisting.now.node }
@@ -136,19 +157,14 @@ impl<B: Graph<Base, W>, S: Graph<Surface, W>, const W: usize> State<B, S, W> {
     {
         self.known();
         let entry = self.entry(file);
-        if entry.node != relisting.node {
-            return Ok(());
-        }
-        if file != relisting.file && entry.surface.is_some() {
-            // The set of its surface is its list, and the holders are no fewer than before.
+        if !self.may_move(relisting, file, entry) {
             return Ok(());
         }
         let want = self.want(relisting, file, entry);
         plan.settle(alloc, &self.surface, master, file, entry, want)
     }
 
-    /// Plans the surfaces of all files after a relisting. No set is looked up for the files of
-    /// other base nodes and for other files with a surface, since they keep theirs.
+    /// Plans the surfaces of all files after a relisting.
     pub(crate) fn rewrites(
         &self,
         alloc: Global,

@@ -37,7 +37,7 @@ pub fn new_node<const W: usize>(set: UserSet<W>, cover: Cover, tokens: Tokens) -
 
 impl<B: Graph<Base, W>, S: Graph<Surface, W>, const W: usize> State<B, S, W> {
     /// The holders of the base node that is planned for these users. It takes no memory.
-    fn holders_then(&self, cover: &Cover, list: &UserSet<W>) -> UserSet<W>
+    pub(crate) fn holders_then(&self, cover: &Cover, list: &UserSet<W>) -> UserSet<W>
         requires { cover.now ≡ plan_of self.now.catalogue.base.sets list.now }
         ensures { result ≡ holders_then self.now.catalogue list.now }
     {
@@ -58,10 +58,10 @@ impl<B: Graph<Base, W>, S: Graph<Surface, W>, const W: usize> State<B, S, W> {
     ) -> Result<Site<W>, PrepareFault>
         requires { IsBelow (length self.now.catalogue.users) list.now }
         ensures ok { IfOk result (IsSite master.now.bytes self.now.catalogue list.now) }
-        ensures err { IfErr result (HasNoSite master.now.bytes self.now.catalogue list.now) }
+        ensures err { IfErr result (HasNoSite self.now.catalogue list.now) }
     {
         self.known();
-        let cover = self.base.plan_create(alloc, list)?;
+        let cover = self.base_cover(alloc, list)?;
         let holders = self.holders_then(&cover, list);
         let want = wanted(self.mode, list, &holders);
         let mut new = NewNodes::new(alloc);

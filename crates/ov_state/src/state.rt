@@ -4,6 +4,7 @@ ghost use Rattle.ov_base.specs.declared.limits.TheConstants.{MAX_SET_WORDS, MAX_
 ghost use Rattle.ov_history.specs.Catalogue.{empty_catalogue};
 ghost use Rattle.ov_state.specs.Contents.{IsWell};
 
+use crate::covering::Planned;
 use crate::files::Files;
 use indexmap::IndexSet;
 use ov_base::{Memory, Mode, Name};
@@ -33,6 +34,8 @@ pub struct State<B: Graph<Base, W>, S: Graph<Surface, W>, const W: usize> {
     pub(crate) surface: S,
     pub(crate) files: Files,
     pub(crate) size: u64,
+    /// What was asked for last, while no change was made since.
+    pub(crate) remembered: Option<Planned<W>>,
 }
 
 impl<B: Graph<Base, W>, S: Graph<Surface, W>, const W: usize> Model for State<B, S, W> {
@@ -58,7 +61,7 @@ impl<B: Graph<Base, W>, S: Graph<Surface, W>, const W: usize> Model for State<B,
 
     ghost invariant = { λ s. IsWhole (64 * W)
         (catalogue_by s.mode s.epoch s.users.keys s.base (S.contents s.surface) s.files.files)
-        s.size };
+        s.size s.remembered };
 }
 
 impl<B: Graph<Base, W>, S: Graph<Surface, W>, const W: usize> State<B, S, W> {
@@ -76,6 +79,7 @@ impl<B: Graph<Base, W>, S: Graph<Surface, W>, const W: usize> State<B, S, W> {
             surface: S::new(alloc)?,
             files: Files::new(alloc),
             size: 0,
+            remembered: None,
         })
     }
 }

@@ -21,7 +21,7 @@ use Rattle.ov_images.proofs.Keeping.{is_born}
 use Rattle.ov_store.specs.Beginning.{FindsHistory, IsBeginFault, IsBornStore, IsOpened, LeavesHistory, WritesNoBorn}
 use Rattle.ov_store.specs.Faults.{begin_fault_of, opening_fault_of}
 use Rattle.ov_store.specs.Opened.{Opened, Serves, open_with}
-use Rattle.ov_store.specs.declared.fault.BeginFault.TheVariants.{Memory as NoMemory}
+use Rattle.ov_store.specs.declared.fault.BeginFault.TheVariants.{Disk as DiskFailed, Memory as NoMemory}
 
 -- why a journal isn't opened is why a store isn't begun
 pub fault_found : (k : Keys) (mode : Mode) (i : Image) (fault : JournalFault)
@@ -36,6 +36,12 @@ pub fault_checked : (k : Keys) (mode : Mode) (i : Image) (why : CheckFault)
     → IsBeginFault k mode i (begin_fault_of why)
 fault_checked k mode i CheckDisk = tt
 fault_checked k mode i CheckMemory = tt
+
+-- where a store isn't begun for a fault of its disk, the disk failed
+pub disk_checked : (why : CheckFault) (P : Type 0) → (why ≡ CheckDisk → P)
+    → begin_fault_of why ≡ DiskFailed → P
+disk_checked CheckDisk P holds is = holds refl
+disk_checked CheckMemory P holds is = absurd (cc is)
 
 -- where a store isn't begun for want of memory, that of its records was wanted
 pub memory_checked : (why : CheckFault) (P : Type 0) → (why ≡ CheckMemory → P)

@@ -1,12 +1,13 @@
 //! An open store.
 ghost use Rattle.std.specs.Prelude.{◌≡◌};
 ghost use Rattle.ov_history.specs.Sealed.{SealedHistory};
+ghost use Rattle.ov_state.specs.Remembering.{IsPlannedIn};
 ghost use Rattle.ov_store.specs.Opened.{Serves};
 
 use ov_base::Key;
 use ov_disk::Disk;
 use ov_journal::Journal;
-use ov_state::Catalogue;
+use ov_state::{Catalogue, Planned, WIDTH};
 use ov_vault::CatalogueVault;
 use std::marker::Model;
 
@@ -63,6 +64,15 @@ impl<D: Disk> Store<D> {
         ensures { result.now.catalogue ≡ self.now.catalogue }
     {
         self.vault.catalogue()
+    }
+
+    /// Keeps what its catalogue told of a creation, which is then planned once
+    /// ([`ov_state::State::remember`]).
+    pub fn remember(&mut self, planned: Planned<WIDTH>)
+        requires { IsPlannedIn self.old.catalogue.base.sets planned }
+        ensures { self.new ≡ self.old }
+    {
+        self.vault.remember(planned);
     }
 
     /// Gives the disk back.

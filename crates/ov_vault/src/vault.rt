@@ -4,11 +4,12 @@ ghost use Rattle.std.specs.Option.{option_copied};
 ghost use Rattle.ov_base.specs.declared.limits.TheConstants.{MAX_SET_WORDS, MAX_USERS};
 ghost use Rattle.ov_history.specs.Catalogue.{empty_catalogue};
 ghost use Rattle.ov_state.specs.Contents.{IsWell};
+ghost use Rattle.ov_state.specs.Remembering.{IsPlannedIn};
 ghost use Rattle.ov_vault.specs.Vaults.{AreShort, AreStored};
 
 use ov_base::{Memory, Mode, Octets};
 use ov_graph::Graph;
-use ov_state::{LayerGraph, State, WIDTH};
+use ov_state::{LayerGraph, Planned, State, WIDTH};
 use ov_tokens::{Base, Surface};
 use std::alloc::Global;
 use std::marker::Model;
@@ -66,6 +67,14 @@ impl<B: Graph<Base, W>, S: Graph<Surface, W>, const W: usize> Vault<B, S, W> {
         ensures room { result.now.room ≡ self.now.room }
     {
         &self.catalogue
+    }
+
+    /// Keeps what its catalogue told of a creation ([`State::remember`]).
+    pub fn remember(&mut self, planned: Planned<W>)
+        requires { IsPlannedIn self.old.catalogue.base.sets planned }
+        ensures { self.new ≡ self.old }
+    {
+        self.catalogue.remember(planned);
     }
 
     /// The stored bytes of the file of this number.

@@ -19,6 +19,20 @@ fn numbered(rt: &impl Abort, letter: u8, number: u32) -> Name {
     name(rt, &digits)
 }
 
+/// Asks before a creation for the users of a file of the day.
+fn ask(rt: &impl Abort, alloc: Global, catalogue: &mut Catalogue, file: u32) {
+    assert!(rt; file < 40);
+    let names = [
+        numbered(rt, b'u', file % 12),
+        numbered(rt, b'u', (file + 1) % 12),
+        numbered(rt, b'u', (file + 5) % 12),
+    ];
+    let planned = catalogue
+        .cover(alloc, &numbered(rt, b'q', file), LENGTH, &names)
+        .expect(rt, "a plan");
+    catalogue.remember(planned);
+}
+
 /// The creation of a file for the users of its number, the next one, and the fourth behind that.
 fn creation(rt: &impl Abort, alloc: Global, catalogue: &Catalogue, file: u32) -> Brief<WIDTH>
     ensures { IsFitting (plain_brief result) }
@@ -76,10 +90,14 @@ fn update(rt: &impl Abort, alloc: Global, catalogue: &Catalogue, number: u32) ->
     }
 }
 
-/// The catalogue after the day.
+/// The catalogue after the day. Before each creation the cover of a list is asked for: for every
+/// other one, that of its own list, and else that of the list before.
 fn after_day(rt: &impl Abort, alloc: Global, mode: Mode) -> Catalogue {
     let mut catalogue: Catalogue = State::new(alloc, mode, 0).expect(rt, "memory");
     for number in 0..86 {
+        if (12..52).contains(&number) {
+            ask(rt, alloc, &mut catalogue, (number - 12) / 2 * 2);
+        }
         let brief = update(rt, alloc, &catalogue, number);
         let change = catalogue
             .prepare(alloc, &MASTER, brief)

@@ -138,14 +138,14 @@ fn traces(rt: HostRuntime) -> Result<(), Fail> {
     )
 }
 
-// Each frame is put in two calls, and an enrolment has four frames: what is put fails before the
-// question, in its reply, before the second reply, and at the end of the script.
+// Each of these frames is put in one call, and an enrolment has four: what is put fails at the
+// question, at its reply, at the second reply, at the next question, and at the end of the script.
 static FAILS: [(u64, &[u8]); 5] = [
     (0, b""),
+    (1, b""),
     (3, b""),
-    (7, b""),
-    (8, b"ok 1\n"),
-    (17, b"ok 1\nok 2\n"),
+    (4, b"ok 1\n"),
+    (9, b"ok 1\nok 2\n"),
 ];
 
 #[test]

@@ -1,5 +1,6 @@
 use Rattle.std.proofs.Common.{rules, ◌≡◌, Err, sym, ◌∙◌, ◌<◌, ◌^◌, [], length, ap, subst}
 use Rattle.std.proofs.lemmas.Result.{err_from_is_err_and}
+use Rattle.ov_base.specs.Causes.{Rose}
 use Rattle.ov_disk.specs.Disk.{Image, Told}
 use Rattle.ov_disk.specs.Moments.{LeavesOnly}
 use Rattle.ov_history.specs.Sealed.{blank}
@@ -10,8 +11,8 @@ use Rattle.ov_images.specs.Images.{header_of, keys}
 use Rattle.ov_store.proofs.Births.{born_none, leaves_none, none_left}
 use Rattle.ov_store.specs.Beginning.{IsBeginFault}
 use Rattle.ov_store.specs.declared.fault.BeginFault.{BeginFault}
-use Rattle.ov_store.specs.declared.fault.BeginFault.TheVariants.{Memory as NoMemory}
-use Rattle.ov_store.proofs.Opening.{fault_checked, memory_checked}
+use Rattle.ov_store.specs.declared.fault.BeginFault.TheVariants.{Disk as DiskFailed, Memory as NoMemory}
+use Rattle.ov_store.proofs.Opening.{disk_checked, fault_checked, memory_checked}
 use Rattle.ov_store.proofs.birth.birth.Goals as goal
 
 pub returns-in_err-vault-clause-any_moment : goal.returns-in_err-vault-clause-any_moment
@@ -75,6 +76,19 @@ returns-in_err-journal-clause-fault g c =
     c.from_residual-in_err-journal.ensures.1 in
     rw p.1 (subst (λ (fault : BeginFault). (i : Image) → IsBeginFault k c.args.mode i fault)
     (sym p.2) (λ i. fault_checked k c.args.mode i c.in_err-journal.field-0.0))
+
+pub returns-in_err-journal-clause-call : goal.returns-in_err-journal-clause-call
+returns-in_err-journal-clause-call g c = (
+  c.birth.ensures.call.same,
+  c.birth.ensures.call.later,
+  λ is.
+      let p = err_from_is_err_and c.from_residual-in_err-journal.result
+      c.from_residual-in_err-journal.ensures.1 in
+      let disk : p.0 ≡ DiskFailed = cc (p.1, is) in
+      disk_checked c.in_err-journal.field-0.0 (Rose (g.D.Disk.faults c.args.disk.now) (g.D.Disk.faults c.birth.new.disk))
+      (λ same. c.birth.ensures.call.rose (c.in_err-journal.was ∙ (λ j. Err (same j))))
+      (sym p.2 ∙ disk),
+)
 
 pub returns-in_err-journal-clause-memory : goal.returns-in_err-journal-clause-memory
 returns-in_err-journal-clause-memory g c is =

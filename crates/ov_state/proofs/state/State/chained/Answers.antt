@@ -1,4 +1,5 @@
-use Rattle.std.proofs.Common.{◌*◌, ap, refl, rules, subst, sym}
+use Rattle.std.proofs.Common.{◌*◌, Contains, ap, refl, rules, subst, sym}
+use Rattle.ov_base.specs.Sets.{single}
 use Rattle.ov_history.specs.Chains.{IsBaseChain, IsSurfaceChain}
 use Rattle.ov_state.specs.Contents.{Held}
 use Rattle.ov_state.specs.declared.chained.Chained.{Chained}
@@ -13,6 +14,11 @@ base_chain-requires g c =
     c.requires.user c.requires.listed in
     let own = subst (λ (h : Held). IsReader limit h.catalogue c.args.user c.entry-entry.result.now) (sym c.self.view_is) reader in
     (search rules, (own.low, (own.base, (own.node, own.holder))))
+
+pub surface_chain-requires-clause-rooted : goal.surface_chain-requires-clause-rooted
+surface_chain-requires-clause-rooted g c =
+    subst (λ (h : Held). Contains h.catalogue.surface.sets (single c.args.user)) (sym c.self.view_is)
+    (c.known.ensures.sound.surface.rooted c.args.user c.requires.user)
 
 pub surface_chain-requires-clause-node : goal.surface_chain-requires-clause-node
 surface_chain-requires-clause-node g c =

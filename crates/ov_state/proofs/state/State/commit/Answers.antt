@@ -6,6 +6,7 @@ use Rattle.ov_state.specs.Changes.{applied, Fits, GrowsWithin, IsNewNodeIf, AreO
 use Rattle.ov_state.proofs.Committing.{grown_few, made_is_applied, made_is_whole}
 use Rattle.ov_state.proofs.HistoryLaws.{goes_on, closures_are_matrix}
 use Rattle.ov_state.proofs.state.State.commit.Given.{Over}
+use Rattle.ov_state.proofs.state.State.commit.Goals.{Joined-self}
 use Rattle.ov_state.proofs.state.State.commit.Goals as goal
 
 pub grow-requires : goal.grow-requires
@@ -40,7 +41,7 @@ rewrite_all-requires g c =
     subst (λ (files : List Filed). AreOfFiles (length files) c.args.change.rewrites.items)
     (sym (c.grow.ensures.files ∙ ap (λ (h : Held). files_grown h.catalogue.files c.args.change.growth) c.self.view_is)) c.requires.suits.rewrites
 
-applied_is : (g : Over) (c : goal.After-self-2-1 g) → catalogue_by c.self.inside.mode (c.self.inside.epoch + 1) c.grow.new.users.keys c.add_base.new.layer
+applied_is : (g : Over) (c : Joined-self g) → catalogue_by c.self.inside.mode (c.self.inside.epoch + 1) c.grow.new.users.keys c.add_base.new.layer
     (g.S.Graph.contents c.add_surfaces.new.graph) c.rewrite_all.new.files.files ≡ applied c.args.self.now.catalogue c.args.change
 applied_is g c =
     made_is_applied c.args.self.now.catalogue c.args.change c.self.inside.mode c.self.inside.epoch c.self.inside.users.keys c.grow.new.users.keys

@@ -1,6 +1,5 @@
 use Rattle.std.proofs.Common.{◌≡◌, ◌≤◌, sym, ◌∙◌, ap, subst, length, rules}
 use Rattle.std.specs.Prelude.{IfSome}
-use Rattle.ov_graph.specs.Contents.{plan_of}
 use Rattle.ov_graph.specs.Reach.{IsRooted}
 use Rattle.ov_surface.specs.Wanted.{wanted_surface}
 use Rattle.ov_state.specs.Contents.{Held}
@@ -27,7 +26,7 @@ returns-in_err-to-clause-err g c =
     ∙ (λ i. wanted_surface (ap (λ (held : Held). held.catalogue.mode) c.self.view_is i) c.args.list.now (c.holders_then-holders.ensures i)) in
     let full = subst (λ (held : Held). IsFull (with_want c.args.master.now.bytes (nodes_planned held.catalogue.surface c.new-new.result) c.wanted-want.result).sets c.in_err-to.field-0.0)
     c.self.view_is c.in_err-to.ensures.err in
-    let none : HasNoSite c.args.master.now.bytes c.args.self.now.catalogue c.args.list.now c.in_err-to.field-0.0 =
+    let none : HasNoSite c.args.self.now.catalogue c.args.list.now c.in_err-to.field-0.0 =
     surface_full c.args.master.now.bytes c.args.self.now.catalogue c.args.list.now c.wanted-want.result c.new-new.result c.in_err-to.field-0.0
     c.new-new.ensures.nodes wanted full in
     search rules
@@ -37,13 +36,12 @@ returns-clause-ok g c =
     let wanted : c.wanted-want.result ≡ want_then c.args.self.now.catalogue c.args.list.now =
     c.wanted-want.ensures
     ∙ (λ i. wanted_surface (ap (λ (held : Held). held.catalogue.mode) c.self.view_is i) c.args.list.now (c.holders_then-holders.ensures i)) in
-    let base : c.self.inside.base.graph.sets ≡ c.args.self.now.catalogue.base.sets = ap (λ (held : Held). held.catalogue.base.sets) c.self.view_is in
     site_is c.args.master.now.bytes c.args.self.now.catalogue c.args.list.now c.in_ok-cover.cover c.wanted-want.result c.in_ok-to.to
     c.new-new.result c.surface_for.new.self
-    (c.in_ok-cover.ensures.cover ∙ ap (λ sets. plan_of sets c.args.list.now) base)
+    c.in_ok-cover.ensures.cover
     c.known.ensures.sound.base.few
     (λ many fresh.
-    let e = c.in_ok-cover.ensures.full.1 (ap length base ∙ many, ap (λ sets. (plan_of sets c.args.list.now).fresh) base ∙ fresh) in
+    let e = c.in_ok-cover.ensures.full.1 (many, fresh) in
     cc)
     c.new-new.ensures.nodes wanted
     (subst (λ (held : Held). IsSurfaceFor c.args.master.now.bytes held.catalogue.surface c.wanted-want.result c.new-new.result c.surface_for.new.self c.in_ok-to.to)

@@ -1,9 +1,16 @@
-use Rattle.std.proofs.Common.{◌*◌, ◌-◌, ◌∙◌, subst, ap, vec_capacity, vec_len}
+use Rattle.std.proofs.Common.{ℕ, ◌*◌, ◌-◌, ◌∙◌, subst, sym, ap, vec_capacity, vec_len}
 use Rattle.ov_history.specs.Rewrites.{with_text}
+use Rattle.ov_vault.specs.Rewritten.{HasRoomForNew}
 use Rattle.ov_vault.specs.Vaults.{Store}
 use Rattle.ov_vault.specs.Standing.{GoesOn}
 use Rattle.ov_vault.proofs.Preparing.{goes_on}
 use Rattle.ov_vault.proofs.vault.Vault.commit.Goals as goal
+
+pub put_new-requires : goal.put_new-requires
+put_new-requires g c =
+    subst (λ (spare : ℕ). HasRoomForNew spare c.args.prepared.new) (sym c.put_all.ensures.room)
+    (subst (λ (s : Store). HasRoomForNew s.spare c.args.prepared.new) (sym c.self.view_is)
+    c.requires.space)
 
 pub returns-clause-stands : goal.returns-clause-stands
 returns-clause-stands g c =

@@ -1,0 +1,28 @@
+use Rattle.std.proofs.Common.{◌≡◌, ◌≤◌, ◌+◌, ◌++◌, ◌∷◌, [], ◌∙◌, ap, subst, length, List, ℕ}
+use Rattle.ov_graph.specs.Contents.{plan_of}
+use Rattle.ov_surface.specs.Wanted.{wanted_surface}
+use Rattle.ov_history.specs.Layers.{with_wants}
+use Rattle.ov_state.specs.Contents.{Held}
+use Rattle.ov_state.specs.NewFiles.{want_then}
+use Rattle.ov_state.proofs.NewSets.{want-few}
+use Rattle.ov_state.proofs.Sites.{room_then}
+use Rattle.ov_state.proofs.state.State.cover_in_room.Goals as goal
+use Rattle.ov_base.specs.declared.limits.TheConstants.{MAX_LAYER_NODES}
+
+pub returns-clause-few : goal.returns-clause-few
+returns-clause-few g c =
+    let s = c.args.self.now.catalogue in
+    let list = c.args.list.now in
+    let old = c.new-new.result.sets.items in
+    let new = c.add.new.self.sets.items in
+    let base : c.self.inside.base.graph.sets ≡ s.base.sets = ap (λ (held : Held). held.catalogue.base.sets) c.self.view_is in
+    let sets = ap (λ (held : Held). held.catalogue.surface.sets) c.self.view_is in
+    let wanted : c.wanted.result ≡ want_then s list =
+    c.wanted.ensures ∙ (λ i. wanted_surface (ap (λ (held : Held). held.catalogue.mode) c.self.view_is i) list (c.holders_then-holders.ensures i)) in
+    room_then s list c.known.ensures.sound.base.few
+    (λ many fresh.
+    let e = c.in_ok-cover.ensures.full.1 (ap length base ∙ many, ap (λ sets. (plan_of sets list).fresh) base ∙ fresh) in
+    cc)
+    (want-few s.surface.sets old new c.wanted.result (want_then s list) c.new-new.ensures wanted
+    (subst (λ (sets : List ℕ). sets ++ new ≡ with_wants (sets ++ old) (c.wanted.result ∷ [])) sets c.in_ok-add.ensures.sets)
+    (subst (λ (sets : List ℕ). length sets + length new ≤ MAX_LAYER_NODES) sets c.in_ok-add.ensures.few))
