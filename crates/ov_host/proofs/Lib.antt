@@ -2,3 +2,4 @@ pub mod Endings
 pub mod Lasting
 pub mod Surviving
 pub mod Accepting
+pub mod Served
