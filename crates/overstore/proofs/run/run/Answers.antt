@@ -3,6 +3,7 @@ use Rattle.ov_history.specs.Masters.{Masters}
 use Rattle.ov_history.specs.Plain.{PlainHistory}
 use Rattle.overstore.specs.Pacing.{IsPaced}
 use Rattle.overstore.specs.Tracing.{TracesAs}
+use Rattle.overstore.proofs.Answered.{ends_of_each, pace_of_each, trace_of_each}
 use Rattle.overstore.proofs.Lending.{lent_each, run_decides, run_endures, run_image, run_prints, runs_well}
 use Rattle.overstore.proofs.Running.{judged_so, judged_unasked, words_refused}
 use Rattle.overstore.proofs.run.run.Goals as goal
@@ -12,31 +13,37 @@ returns-in-Some-clause-opened g c =
     runs_well g.D.Disk.reads g.D.Disk.may_leave c.args.disk.now c.args.words.now (g.K.Source.left c.args.keys.now) (g.I.Source.left c.args.input.now) _ _ _ _ _
     (run_prints (λ (l : MutBor g.row.D.Denot). l.now) g.D.Disk.reads g.D.Disk.may_leave g.D.Disk.moment g.D.Disk.left_since
     (record { ref_ptr = c.args.disk.ref_ptr; ghost_name = _; now = c.args.disk.now }) c.answer_with_keys-code.result.1 c.answer_with_keys-code.result.1.now refl
-    c.args.words.now (g.K.Source.left c.args.keys.now) (g.I.Source.left c.args.input.now) (g.O.Sink.written c.args.out.now) (g.O.Sink.written c.answer_with_keys-code.new.out) c.answer_with_keys-code.result.0 c.in-Some.mode c.in-Some.ensures.found c.answer_with_keys-code.ensures.ends)
+    c.args.words.now (g.K.Source.left c.args.keys.now) (g.I.Source.left c.args.input.now) (g.O.Sink.written c.args.out.now) (g.O.Sink.written c.answer_with_keys-code.new.out) c.answer_with_keys-code.result.0 c.in-Some.mode c.in-Some.ensures.found (ends_of_each (λ (l : MutBor g.row.D.Denot). g.D.Disk.reads l.now) (λ (l : MutBor g.row.D.Denot). g.D.Disk.may_leave l.now) (λ (l : MutBor g.row.D.Denot). g.D.Disk.moment l.now) (λ (l : MutBor g.row.D.Denot). g.D.Disk.left_since l.now) g.I.Source.takes g.I.Source.left
+    (g.K.Source.left c.args.keys.now) (g.I.Source.left c.args.input.now) _ _ _ _ _ _ _ _ _ _ c.answer_with_keys-code.ensures.text))
     (run_decides (λ (l : MutBor g.row.D.Denot). l.now) g.D.Disk.reads g.D.Disk.may_leave g.D.Disk.moment g.D.Disk.left_since
     (record { ref_ptr = c.args.disk.ref_ptr; ghost_name = _; now = c.args.disk.now }) c.answer_with_keys-code.result.1 c.answer_with_keys-code.result.1.now refl
-    c.args.words.now (g.K.Source.left c.args.keys.now) (g.I.Source.left c.args.input.now) (g.O.Sink.written c.args.out.now) (g.O.Sink.written c.answer_with_keys-code.new.out) c.answer_with_keys-code.result.0 c.in-Some.mode c.in-Some.ensures.found c.answer_with_keys-code.ensures.ends
+    c.args.words.now (g.K.Source.left c.args.keys.now) (g.I.Source.left c.args.input.now) (g.O.Sink.written c.args.out.now) (g.O.Sink.written c.answer_with_keys-code.new.out) c.answer_with_keys-code.result.0 c.in-Some.mode c.in-Some.ensures.found (ends_of_each (λ (l : MutBor g.row.D.Denot). g.D.Disk.reads l.now) (λ (l : MutBor g.row.D.Denot). g.D.Disk.may_leave l.now) (λ (l : MutBor g.row.D.Denot). g.D.Disk.moment l.now) (λ (l : MutBor g.row.D.Denot). g.D.Disk.left_since l.now) g.I.Source.takes g.I.Source.left
+    (g.K.Source.left c.args.keys.now) (g.I.Source.left c.args.input.now) _ _ _ _ _ _ _ _ _ _ c.answer_with_keys-code.ensures.text)
     _ _ _ _ (search rules) c.answer_with_keys-code.ensures.causes.read c.answer_with_keys-code.ensures.causes.write)
     (lent_each (λ (l : MutBor g.row.D.Denot). l.now) g.D.Disk.reads g.D.Disk.may_leave g.D.Disk.moment g.D.Disk.left_since
     (record { ref_ptr = c.args.disk.ref_ptr; ghost_name = _; now = c.args.disk.now })
     c.args.words.now (g.K.Source.left c.args.keys.now) (g.I.Source.left c.args.input.now) c.in-Some.mode c.in-Some.ensures.found
     (λ (k : Masters) (p : PlainHistory) (text : List ℕ). IsPaced g.I.Source.takes g.I.Source.left p c.args.input.now c.answer_with_keys-code.new.input (g.O.Sink.written c.args.out.now) (g.O.Sink.written c.answer_with_keys-code.new.out))
-    c.answer_with_keys-code.ensures.paced)
+    (pace_of_each (λ (l : MutBor g.row.D.Denot). g.D.Disk.reads l.now) (λ (l : MutBor g.row.D.Denot). g.D.Disk.may_leave l.now) (λ (l : MutBor g.row.D.Denot). g.D.Disk.moment l.now) (λ (l : MutBor g.row.D.Denot). g.D.Disk.left_since l.now) g.I.Source.takes g.I.Source.left
+    (g.K.Source.left c.args.keys.now) (g.I.Source.left c.args.input.now) _ _ _ _ _ _ _ _ _ _ c.answer_with_keys-code.ensures.text))
     (lent_each (λ (l : MutBor g.row.D.Denot). l.now) g.D.Disk.reads g.D.Disk.may_leave g.D.Disk.moment g.D.Disk.left_since
     (record { ref_ptr = c.args.disk.ref_ptr; ghost_name = _; now = c.args.disk.now })
     c.args.words.now (g.K.Source.left c.args.keys.now) (g.I.Source.left c.args.input.now) c.in-Some.mode c.in-Some.ensures.found
     (λ (k : Masters) (p : PlainHistory) (text : List ℕ). TracesAs k p text c.answer_with_keys-code.result.0 (g.O.Sink.written c.args.out.now) (g.O.Sink.written c.answer_with_keys-code.new.out)
     (g.T.Sink.written c.args.trace.now) (g.T.Sink.written c.answer_with_keys-code.new.trace))
-    c.answer_with_keys-code.ensures.traced)
+    (trace_of_each (λ (l : MutBor g.row.D.Denot). g.D.Disk.reads l.now) (λ (l : MutBor g.row.D.Denot). g.D.Disk.may_leave l.now) (λ (l : MutBor g.row.D.Denot). g.D.Disk.moment l.now) (λ (l : MutBor g.row.D.Denot). g.D.Disk.left_since l.now) g.I.Source.takes g.I.Source.left
+    (g.K.Source.left c.args.keys.now) (g.I.Source.left c.args.input.now) _ _ _ _ _ _ _ _ _ _ c.answer_with_keys-code.ensures.text))
     (run_endures (λ (l : MutBor g.row.D.Denot). l.now) g.D.Disk.reads g.D.Disk.may_leave g.D.Disk.moment g.D.Disk.left_since
     (record { ref_ptr = c.args.disk.ref_ptr; ghost_name = _; now = c.args.disk.now }) c.answer_with_keys-code.result.1 _ (search rules)
-    c.args.words.now (g.K.Source.left c.args.keys.now) (g.I.Source.left c.args.input.now) (g.O.Sink.written c.args.out.now) (g.O.Sink.written c.answer_with_keys-code.new.out) c.answer_with_keys-code.result.0 c.in-Some.mode c.in-Some.ensures.found c.answer_with_keys-code.ensures.ends)
+    c.args.words.now (g.K.Source.left c.args.keys.now) (g.I.Source.left c.args.input.now) (g.O.Sink.written c.args.out.now) (g.O.Sink.written c.answer_with_keys-code.new.out) c.answer_with_keys-code.result.0 c.in-Some.mode c.in-Some.ensures.found (ends_of_each (λ (l : MutBor g.row.D.Denot). g.D.Disk.reads l.now) (λ (l : MutBor g.row.D.Denot). g.D.Disk.may_leave l.now) (λ (l : MutBor g.row.D.Denot). g.D.Disk.moment l.now) (λ (l : MutBor g.row.D.Denot). g.D.Disk.left_since l.now) g.I.Source.takes g.I.Source.left
+    (g.K.Source.left c.args.keys.now) (g.I.Source.left c.args.input.now) _ _ _ _ _ _ _ _ _ _ c.answer_with_keys-code.ensures.text))
 
 pub returns-in-Some-clause-image : goal.returns-in-Some-clause-image
 returns-in-Some-clause-image g c =
     run_image (λ (l : MutBor g.row.D.Denot). l.now) g.D.Disk.reads g.D.Disk.may_leave g.D.Disk.moment g.D.Disk.left_since
     (record { ref_ptr = c.args.disk.ref_ptr; ghost_name = _; now = c.args.disk.now }) c.answer_with_keys-code.result.1 _ (search rules)
-    c.args.words.now (g.K.Source.left c.args.keys.now) (g.I.Source.left c.args.input.now) (g.O.Sink.written c.args.out.now) (g.O.Sink.written c.answer_with_keys-code.new.out) c.answer_with_keys-code.result.0 c.in-Some.mode c.in-Some.ensures.found c.answer_with_keys-code.ensures.ends (g.D.Disk.reads c.args.disk.now) _ c.answer_with_keys-code.ensures.image
+    c.args.words.now (g.K.Source.left c.args.keys.now) (g.I.Source.left c.args.input.now) (g.O.Sink.written c.args.out.now) (g.O.Sink.written c.answer_with_keys-code.new.out) c.answer_with_keys-code.result.0 c.in-Some.mode c.in-Some.ensures.found (ends_of_each (λ (l : MutBor g.row.D.Denot). g.D.Disk.reads l.now) (λ (l : MutBor g.row.D.Denot). g.D.Disk.may_leave l.now) (λ (l : MutBor g.row.D.Denot). g.D.Disk.moment l.now) (λ (l : MutBor g.row.D.Denot). g.D.Disk.left_since l.now) g.I.Source.takes g.I.Source.left
+    (g.K.Source.left c.args.keys.now) (g.I.Source.left c.args.input.now) _ _ _ _ _ _ _ _ _ _ c.answer_with_keys-code.ensures.text) (g.D.Disk.reads c.args.disk.now) _ c.answer_with_keys-code.ensures.image
 
 pub returns-in-Some-clause-causes : goal.returns-in-Some-clause-causes
 returns-in-Some-clause-causes g c =
