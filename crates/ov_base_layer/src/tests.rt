@@ -8,21 +8,21 @@ use super::*;
 use ov_base::limits::MAX_LAYER_NODES;
 use ov_base::{Key, UserSet};
 use ov_graph::{Cover, Graph, ListGraph, has_roots};
-use ov_tokens::{Base, Kind, Label, Layer, Numbers, access_key, derive};
+use ov_tokens::{Base, Kind, Label, Layer, Master, Numbers, access_key, derive};
 use std::alloc::Global;
 use std::process::Abort;
 use std::test::Fail;
 use vectors::{ACCESSES, COVERS};
 
 /// The master whose first byte is `start`, each next byte one more.
-fn master_from(start: u8) -> Key {
+fn master_from(start: u8) -> Master {
     let mut bytes = [0u8; 32];
     let mut next = start;
     for i in 0..32usize {
         bytes[i] = next;
         next = next.wrapping_add(1);
     }
-    Key { bytes }
+    Master::new(&Key { bytes })
 }
 
 #[test]
@@ -48,7 +48,7 @@ fn put<G: Graph<Base, W>, const W: usize>(
     rt: &impl Abort,
     alloc: Global,
     layer: &mut BaseLayer<G, W>,
-    master: &Key,
+    master: &Master,
     set: &UserSet<W>,
 ) -> Result<(), Fail> {
     assert!(rt; layer.graph().count() < MAX_LAYER_NODES);

@@ -7,7 +7,7 @@ mod vectors;
 use super::*;
 use ov_base::{Key, UserSet};
 use ov_graph::{Graph, ListGraph, has_roots, plan_and_add};
-use ov_tokens::{Base, Chain, Layer, Surface};
+use ov_tokens::{Base, Chain, Layer, Master, Surface};
 use std::alloc::Global;
 use std::process::Abort;
 use std::test::Fail;
@@ -23,7 +23,7 @@ fn put<L: Layer, G: Graph<L, W>, const W: usize>(
     set: &UserSet<W>,
 ) -> Result<(), Fail> {
     assert!(rt; has_roots::<L, G, W>(graph, set));
-    plan_and_add::<L, G, W>(alloc, graph, &MASTER, set)?;
+    plan_and_add::<L, G, W>(alloc, graph, &Master::new(&MASTER), set)?;
     Ok(())
 }
 
@@ -55,8 +55,8 @@ fn expect_chain<L: Layer, G: Graph<L, W>, const W: usize>(
     for n in 0..way.len() {
         assert_eq!(rt; steps[n].to, L::label(way[n]));
     }
-    let key = walk(&L::key_of(&MASTER, root), &chain);
-    assert_eq!(rt; key.bytes, L::key_of(&MASTER, node).bytes);
+    let key = walk(&L::key_of(&Master::new(&MASTER), root), &chain);
+    assert_eq!(rt; key.bytes, L::key_of(&Master::new(&MASTER), node).bytes);
     Ok(())
 }
 

@@ -5,8 +5,8 @@ ghost use Rattle.ov_graph.specs.Reach.{IsRooted};
 ghost use Rattle.ov_graph.specs.Seals.{HasSetBesides};
 
 use crate::{Graph, GraphRefusal, seal_edges};
-use ov_base::{Key, UserSet};
-use ov_tokens::Layer;
+use ov_base::UserSet;
+use ov_tokens::{Layer, Master};
 use std::alloc::Global;
 
 /// The node of a set, which is added where no node has it: it is planned, its edges get their tokens
@@ -15,7 +15,7 @@ use std::alloc::Global;
 pub fn plan_and_add<L: Layer, G: Graph<L, W>, const W: usize>(
     alloc: Global,
     graph: &mut G,
-    master: &Key,
+    master: &Master,
     set: &UserSet<W>,
 ) -> Result<u32, GraphRefusal>
     requires roots { IsRooted (G.contents graph.old).sets set.now }

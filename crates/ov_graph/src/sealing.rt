@@ -3,13 +3,13 @@ ghost use Rattle.std.specs.Prelude.{◌≡◌, IfOk};
 ghost use Rattle.ov_graph.specs.Seals.{cover_tokens};
 
 use crate::Cover;
-use ov_base::{Key, Memory};
-use ov_tokens::{Layer, Tokens, make};
+use ov_base::Memory;
+use ov_tokens::{Layer, Master, Tokens, make};
 use std::alloc::Global;
 
 /// The tokens of the edges of a fresh cover in a layer, under the layer's master: each leads from
 /// the key of the edge's start to the key of the cover's node.
-pub fn seal_edges<L: Layer>(alloc: Global, master: &Key, cover: &Cover) -> Result<Tokens, Memory>
+pub fn seal_edges<L: Layer>(alloc: Global, master: &Master, cover: &Cover) -> Result<Tokens, Memory>
     ensures { IfOk result (λ tokens.
         tokens ≡ cover_tokens L.label_kind master.now.bytes cover.now) }
 {

@@ -5,7 +5,7 @@ ghost use Rattle.ov_base.specs.declared.limits.TheConstants.{MAX_SET_WORDS};
 use super::*;
 use ov_base::limits::{MAX_LAYER_NODES, MAX_SET_WORDS};
 use ov_base::{Key, UserSet};
-use ov_tokens::{Base, Layer, Surface};
+use ov_tokens::{Base, Layer, Master, Surface};
 use std::alloc::Global;
 use std::process::Abort;
 use std::test::Fail;
@@ -20,7 +20,7 @@ fn put<L: Layer, G: Graph<L, W>, const W: usize>(
     set: &UserSet<W>,
 ) -> Result<u32, Fail> {
     assert!(rt; has_roots::<L, G, W>(graph, set));
-    Ok(plan_and_add::<L, G, W>(alloc, graph, &MASTER, set)?)
+    Ok(plan_and_add::<L, G, W>(alloc, graph, &Master::new(&MASTER), set)?)
 }
 
 /// The starts of the edges to all four of users a to d, who have {a, b} and {b, c} besides their

@@ -6,7 +6,7 @@ use super::*;
 use ov_base::limits::{MAX_LAYER_NODES, MAX_SET_WORDS};
 use ov_base::{Key, UserSet};
 use ov_graph::{Graph, GraphRefusal, ListGraph, has_roots, plan_and_add};
-use ov_tokens::{Base, Layer, Surface, Token, Tokens};
+use ov_tokens::{Base, Layer, Master, Surface, Token, Tokens};
 use std::alloc::Global;
 use std::process::Abort;
 use std::test::Fail;
@@ -21,7 +21,7 @@ fn put<L: Layer, G: Graph<L, W>, const W: usize>(
     set: &UserSet<W>,
 ) -> Result<u32, Fail> {
     assert!(rt; has_roots::<L, G, W>(graph, set));
-    Ok(plan_and_add::<L, G, W>(alloc, graph, &MASTER, set)?)
+    Ok(plan_and_add::<L, G, W>(alloc, graph, &Master::new(&MASTER), set)?)
 }
 
 /// The users a to d, each alone, then {a, b} and {b, c}, and the cover of all four, as it is

@@ -4,8 +4,8 @@
 //! every message of fewer than 2^32 bytes, given in two parts. [`Pieces`] takes a message piece by
 //! piece, as it comes: a value holds a message under a key, `Holds` of `specs/Holding`, and `finish`
 //! gives the HMAC of each message that it holds. [`mac_of_pieces`] is that of pieces which lie in
-//! memory, and the same as `mac` of the pieces joined. [`same`] is proved to be equality. None of
-//! them takes memory.
+//! memory, and the same as `mac` of the pieces joined. [`MacKey`] is a key whose two blocks are hashed
+//! once for many messages. [`same`] is proved to be equality. None of them takes memory.
 //!
 //! Nothing is claimed of what makes a keyed hash useful: not that a tag is hard to forge, that it
 //! keeps the key or the message secret, or that two messages have different tags. Nor is the time
@@ -16,10 +16,12 @@
 mod comparison;
 mod hmac;
 mod key_block;
+mod mac_key;
 mod pieces;
 #[cfg(test)]
 mod tests;
 
 pub use comparison::same;
 pub use hmac::{mac, mac_of_pieces};
+pub use mac_key::MacKey;
 pub use pieces::Pieces;

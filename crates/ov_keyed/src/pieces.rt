@@ -27,6 +27,18 @@ impl Pieces {
         Pieces { inner, outer }
     }
 
+    /// What is held, held a second time.
+    pub(crate) fn copy(&self) -> Pieces
+        ensures { result ≡ self.now }
+    {
+        let inner: Result<_, _> = self.inner.clone();
+        let outer: Result<_, _> = self.outer.clone();
+        match (inner, outer) {
+            (Ok(inner), Ok(outer)) => Pieces { inner, outer },
+            _ => unreachable!(),
+        }
+    }
+
     /// Puts a piece at the end of the message (RFC 2104, section 2, step 3).
     pub fn add(&mut self, piece: &[u8])
         ensures { (key message : List ℕ)

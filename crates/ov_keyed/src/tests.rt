@@ -4,7 +4,7 @@ ghost use Rattle.std.specs.Prelude.{◌<◌};
 
 mod vectors;
 
-use super::{Pieces, mac, mac_of_pieces, same};
+use super::{MacKey, Pieces, mac, mac_of_pieces, same};
 use std::process::Abort;
 use vectors::ROWS;
 
@@ -58,10 +58,13 @@ fn rfc_4231_cases_1_to_5(rt: HostRuntime) {
 fn a_message_cut_anywhere_has_one_tag(rt: HostRuntime) {
     let tag = "5bdcc146bf60754e6a042426089575c75a003f089d2739839dec58b964ec3843";
     let key = key_of(&rt, b"Jefe");
+    let kept = MacKey::new(&key);
     let message = b"what do ya want for nothing?";
     for cut in 0..29usize {
         let (first, second) = message.split_at(cut);
         let found = hex_of(&mac(&key, first, second));
+        assert_eq!(rt; found.as_slice(), tag.as_bytes());
+        let found = hex_of(&kept.mac(first, second));
         assert_eq!(rt; found.as_slice(), tag.as_bytes());
     }
 }

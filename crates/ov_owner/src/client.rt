@@ -32,7 +32,7 @@ impl Owner {
             known.base_root,
             Base::key_of(&self.base, known.base_root),
             known.surface_root,
-            Surface::key_of(&self.surface, known.surface_root),
+            Surface::key_of(self.surface.master(), known.surface_root),
         )
     }
 

@@ -14,14 +14,15 @@ use crate::settling::settle;
 use crate::task::Task;
 use ov_base::{Key, Name, Names};
 use ov_peer::{Peer, asks_are_told};
+use ov_tokens::{Master, SurfaceMaster};
 use std::alloc::Global;
 use std::marker::Model;
 
 /// The owner of a store: both masters.
 #[derive(Drop)]
 pub struct Owner {
-    pub(crate) base: Key,
-    pub(crate) surface: Key,
+    pub(crate) base: Master,
+    pub(crate) surface: SurfaceMaster,
 }
 
 impl Model for Owner {
@@ -37,7 +38,10 @@ impl Owner {
     pub fn new(base: Key, surface: Key) -> Owner
         ensures { result ≡ record { base = base.bytes; surface = surface.bytes } }
     {
-        Owner { base, surface }
+        Owner {
+            base: Master::new(&base),
+            surface: SurfaceMaster::new(&surface),
+        }
     }
 
     /// Makes a change.

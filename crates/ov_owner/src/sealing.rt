@@ -15,7 +15,7 @@ use ov_base_layer::{seal_access, seal_cover};
 use ov_graph::Cover;
 use ov_record::Update;
 use ov_surface::{base_encrypt, file_tag};
-use ov_tokens::{Base, Layer, access_key};
+use ov_tokens::{Base, Layer, Master, access_key};
 use ov_wire::{Answer, Known, Plan};
 use std::alloc::Global;
 
@@ -64,7 +64,7 @@ fn base_coated(alloc: Global, access: &Key, number: u32, bytes: &[u8]) -> Result
 /// token for each edge of a new node.
 fn seal_creation(
     alloc: Global,
-    base: &Key,
+    base: &Master,
     file: &Name,
     bytes: &[u8],
     plan: Plan,
@@ -96,7 +96,7 @@ fn seal_creation(
 
 /// A grant, by the numbers that were told, with an access token where one is wanted. It takes no
 /// memory.
-fn seal_grant(base: &Key, known: &Known) -> Update<4>
+fn seal_grant(base: &Master, known: &Known) -> Update<4>
     ensures { sealed_update result ≡ granted base.now.bytes known.now }
 {
     let token = if known.wants {
@@ -114,7 +114,7 @@ fn seal_grant(base: &Key, known: &Known) -> Update<4>
 /// What is sealed of an answer to a task's first request.
 pub fn seal(
     alloc: Global,
-    base: &Key,
+    base: &Master,
     task: &Task<'_>,
     answer: Answer,
 ) -> Result<Sealed, OwnerFault>

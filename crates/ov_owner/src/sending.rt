@@ -10,12 +10,11 @@ ghost use Rattle.ov_owner.specs.Tasks.{IsSent, owner_fault, sent_of};
 
 use crate::OwnerFault;
 use crate::sealing::Sealed;
-use ov_base::{Key, Memory, Octets};
-use ov_keyed::mac;
+use ov_base::{Memory, Octets};
 use ov_model::frames_take_updates;
 use ov_peer::{ExchangeFault, Peer, exchange};
 use ov_record::write;
-use ov_tokens::update_key;
+use ov_tokens::SurfaceMaster;
 use ov_wire::{Answer, Request};
 use std::alloc::Global;
 
@@ -55,7 +54,11 @@ fn sent_of(answer: Answer) -> Result<Sent, OwnerFault>
 }
 
 /// The request of an update, with the owner's tag under the surface master.
-fn update_request(alloc: Global, surface: &Key, sealed: &Sealed) -> Result<Request, Memory>
+fn update_request(
+    alloc: Global,
+    surface: &SurfaceMaster,
+    sealed: &Sealed,
+) -> Result<Request, Memory>
     requires { IsWithinLimits (sealed_update sealed.now.update) }
     ensures request { IfOk result (λ request. request
         ≡ update_request surface.now.bytes sealed.now.epoch (sealed_update sealed.now.update)) }
@@ -66,7 +69,7 @@ fn update_request(alloc: Global, surface: &Key, sealed: &Sealed) -> Result<Reque
     let mut spelling = Vec::new(alloc);
     write(&sealed.update, &mut spelling)?;
     let epoch = sealed.epoch.to_be_bytes();
-    let tag = mac(&update_key(surface).bytes, &epoch, &spelling);
+    let tag = surface.owner_mac(&epoch, &spelling);
     Ok(Request::Update {
         epoch: sealed.epoch,
         spelling: Octets::from_vec(spelling),
@@ -78,7 +81,7 @@ fn update_request(alloc: Global, surface: &Key, sealed: &Sealed) -> Result<Reque
 pub fn send<P: Peer>(
     alloc: Global,
     peer: &mut P,
-    surface: &Key,
+    surface: &SurfaceMaster,
     sealed: &Sealed,
 ) -> Result<Sent, OwnerFault>
     requires { IsWithinLimits (sealed_update sealed.now.update) }

@@ -11,8 +11,8 @@ use crate::limits::MAX_TRIES;
 use crate::sealing::{Sealed, seal};
 use crate::sending::{Sent, fault_of, send};
 use crate::task::{Task, first_request};
-use ov_base::Key;
 use ov_peer::{Peer, exchange};
+use ov_tokens::{Master, SurfaceMaster};
 use std::alloc::Global;
 
 /// Asks a task's first request, and seals the update of the answer. No epoch may come that is lower
@@ -20,7 +20,7 @@ use std::alloc::Global;
 fn ask<P: Peer>(
     alloc: Global,
     peer: &mut P,
-    base: &Key,
+    base: &Master,
     task: &Task<'_>,
     least: u32,
 ) -> Result<Sealed, OwnerFault>
@@ -49,8 +49,8 @@ fn ask<P: Peer>(
 pub fn settle<P: Peer>(
     alloc: Global,
     peer: &mut P,
-    base: &Key,
-    surface: &Key,
+    base: &Master,
+    surface: &SurfaceMaster,
     task: &Task<'_>,
 ) -> Result<u32, OwnerFault>
     requires { HasTaskLimits task.now }

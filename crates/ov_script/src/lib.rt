@@ -62,6 +62,7 @@ mod workload_tests;
 pub use command::Command;
 pub use drawn::{MAX_WORKLOAD, WORKLOAD_USERS};
 pub use feed::Buffer;
+pub use list::list_of;
 pub use next::{Next, ScriptFault};
 pub use reply::{Reply, line};
 pub use script::Script;

@@ -6,13 +6,14 @@ ghost use Rattle.ov_store.specs.Opened.{Serves};
 use ov_base::Key;
 use ov_disk::Disk;
 use ov_store::Store;
+use ov_tokens::SurfaceMaster;
 use std::marker::Model;
 
 /// A store that answers frames, and the surface master with which it was opened.
 #[derive(Drop)]
 pub struct Server<D: Disk> {
     pub(crate) store: Store<D>,
-    pub(crate) surface: Key,
+    pub(crate) surface: SurfaceMaster,
 }
 
 impl<D: Disk> Model for Server<D> {
@@ -34,7 +35,10 @@ impl<D: Disk> Server<D> {
         requires sound { store.failed ≡ false }
         ensures { result ≡ store }
     {
-        Server { store, surface }
+        Server {
+            store,
+            surface: SurfaceMaster::new(&surface),
+        }
     }
 
     /// Its store.

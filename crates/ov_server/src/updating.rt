@@ -11,13 +11,13 @@ ghost use Rattle.ov_server.specs.Answering.{serving_of, AsksServer};
 
 use crate::reply::{reply_fault, reply_with};
 use crate::server::Server;
-use ov_base::{Key, Memory};
+use ov_base::Memory;
 use ov_disk::Disk;
-use ov_keyed::{mac, same};
+use ov_keyed::same;
 use ov_record::{RecordFault, Update, read};
 use ov_state::WIDTH;
 use ov_store::StoreFault;
-use ov_tokens::update_key;
+use ov_tokens::SurfaceMaster;
 use ov_wire::Answer;
 use std::alloc::Global;
 
@@ -25,11 +25,11 @@ use std::alloc::Global;
 const SPELLING_PLACE: u32 = 5;
 
 /// The owner's tag of an update's spelling, made at an epoch.
-fn owner_tag(surface: &Key, epoch: u32, spelling: &[u8]) -> [u8; 32]
+fn owner_tag(surface: &SurfaceMaster, epoch: u32, spelling: &[u8]) -> [u8; 32]
     requires { length spelling.now ≤ MAX_FRAME_BYTES }
     ensures { result ≡ owner_tag surface.now.bytes epoch spelling.now }
 {
-    mac(&update_key(surface).bytes, &epoch.to_be_bytes(), spelling)
+    surface.owner_mac(&epoch.to_be_bytes(), spelling)
 }
 
 impl<D: Disk> Server<D> {

@@ -7,10 +7,10 @@ ghost use Rattle.ov_state.specs.Relistings.{IsSurfaceFor};
 
 use crate::change::NewNode;
 use crate::fault::PrepareFault;
-use ov_base::{Key, Memory, UserSet};
+use ov_base::{Memory, UserSet};
 use ov_base_layer::seal_edges;
 use ov_graph::{Cover, Graph};
-use ov_tokens::{Surface, Tokens};
+use ov_tokens::{Master, Surface, Tokens};
 use std::alloc::Global;
 
 /// The surface nodes that are planned, in order, and their sets again as a list.
@@ -48,7 +48,7 @@ impl<const W: usize> NewNodes<W> {
         &mut self,
         alloc: Global,
         graph: &S,
-        master: &Key,
+        master: &Master,
         set: UserSet<W>,
     ) -> Result<u32, PrepareFault>
         requires planned { ArePlanned (S.contents graph.now).sets self.old }
@@ -73,7 +73,7 @@ impl<const W: usize> NewNodes<W> {
         &mut self,
         alloc: Global,
         graph: &S,
-        master: &Key,
+        master: &Master,
         want: Option<UserSet<W>>,
     ) -> Result<Option<u32>, PrepareFault>
         requires planned { ArePlanned (S.contents graph.now).sets self.old }

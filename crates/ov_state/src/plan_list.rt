@@ -16,10 +16,10 @@ use crate::new_nodes::NewNodes;
 use crate::relisting::Relisting;
 use crate::rewrites::Rewrites;
 use crate::state::State;
-use ov_base::{Key, Refusal};
+use ov_base::Refusal;
 use ov_base_layer::Grant;
 use ov_graph::Graph;
-use ov_tokens::{Base, Surface, Token};
+use ov_tokens::{Base, Master, Surface, Token};
 use std::alloc::Global;
 
 /// The place of the access token's flag in the spelling of a grant: behind the kind and both
@@ -68,7 +68,7 @@ impl<B: Graph<Base, W>, S: Graph<Surface, W>, const W: usize> State<B, S, W> {
     fn rewrites_in_room(
         &self,
         alloc: Global,
-        master: &Key,
+        master: &Master,
         relisting: &Relisting<W>,
     ) -> Result<Rewrites<W>, PrepareFault>
         requires { IsRelisting self.now.catalogue relisting.now }
@@ -107,7 +107,7 @@ impl<B: Graph<Base, W>, S: Graph<Surface, W>, const W: usize> State<B, S, W> {
     pub(crate) fn plan_grant(
         &self,
         alloc: Global,
-        surface: &Key,
+        surface: &Master,
         user: u32,
         file: u32,
         token: Option<Token>,
@@ -133,7 +133,7 @@ impl<B: Graph<Base, W>, S: Graph<Surface, W>, const W: usize> State<B, S, W> {
     pub(crate) fn plan_revoke(
         &self,
         alloc: Global,
-        surface: &Key,
+        surface: &Master,
         user: u32,
         file: u32,
     ) -> Result<Change<W>, PrepareFault>

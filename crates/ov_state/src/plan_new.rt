@@ -14,9 +14,9 @@ use crate::fault::PrepareFault;
 use crate::files::FileEntry;
 use crate::site::{Site, new_node};
 use crate::state::State;
-use ov_base::{Key, Memory, Name, Refusal, UserSet};
+use ov_base::{Memory, Name, Refusal, UserSet};
 use ov_graph::{Cover, Graph};
-use ov_tokens::{Base, Numbers, Surface, Tokens};
+use ov_tokens::{Base, Master, Numbers, Surface, Tokens};
 use std::alloc::Global;
 
 /// The node of a new user alone, after so many nodes. It takes no memory.
@@ -172,7 +172,7 @@ impl<B: Graph<Base, W>, S: Graph<Surface, W>, const W: usize> State<B, S, W> {
     pub(crate) fn plan_create(
         &self,
         alloc: Global,
-        surface: &Key,
+        surface: &Master,
         name: Name,
         list: UserSet<W>,
         tokens: Tokens,

@@ -8,14 +8,19 @@ use crate::brief::Brief;
 use crate::change::Change;
 use crate::fault::PrepareFault;
 use crate::state::State;
-use ov_base::{Key, Memory};
+use ov_base::Memory;
 use ov_graph::Graph;
-use ov_tokens::{Base, Surface};
+use ov_tokens::{Base, Master, Surface};
 use std::alloc::Global;
 
 impl<B: Graph<Base, W>, S: Graph<Surface, W>, const W: usize> State<B, S, W> {
     /// The change of an update, or why there is none.
-    fn plan(&self, alloc: Global, surface: &Key, brief: Brief<W>) -> Result<Change<W>, PrepareFault>
+    fn plan(
+        &self,
+        alloc: Global,
+        surface: &Master,
+        brief: Brief<W>,
+    ) -> Result<Change<W>, PrepareFault>
         requires { IsFitting (plain_brief brief) }
         ensures { let b = plain_brief brief.entry in
             Prepares (64 * W) surface.now.bytes self.now.catalogue b result }
@@ -41,7 +46,7 @@ impl<B: Graph<Base, W>, S: Graph<Surface, W>, const W: usize> State<B, S, W> {
     pub fn prepare(
         &mut self,
         alloc: Global,
-        surface: &Key,
+        surface: &Master,
         brief: Brief<W>,
     ) -> Result<Change<W>, PrepareFault>
         requires { IsFitting (plain_brief brief) }

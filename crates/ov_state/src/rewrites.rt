@@ -18,10 +18,10 @@ use crate::files::FileEntry;
 use crate::new_nodes::NewNodes;
 use crate::relisting::Relisting;
 use crate::state::State;
-use ov_base::{Key, Memory, UserSet};
+use ov_base::{Memory, UserSet};
 use ov_graph::Graph;
 use ov_surface::wanted;
-use ov_tokens::{Base, Surface};
+use ov_tokens::{Base, Master, Surface};
 use std::alloc::Global;
 
 /// The surface nodes and the rewrites that are planned while files get their wanted surfaces.
@@ -77,7 +77,7 @@ impl<const W: usize> Rewrites<W> {
         &mut self,
         alloc: Global,
         graph: &S,
-        master: &Key,
+        master: &Master,
         file: u32,
         entry: &FileEntry,
         want: Option<UserSet<W>>,
@@ -140,7 +140,7 @@ impl<B: Graph<Base, W>, S: Graph<Surface, W>, const W: usize> State<B, S, W> {
     fn settle_file(
         &self,
         alloc: Global,
-        master: &Key,
+        master: &Master,
         relisting: &Relisting<W>,
         file: u32,
         plan: &mut Rewrites<W>,
@@ -168,7 +168,7 @@ impl<B: Graph<Base, W>, S: Graph<Surface, W>, const W: usize> State<B, S, W> {
     pub(crate) fn rewrites(
         &self,
         alloc: Global,
-        master: &Key,
+        master: &Master,
         relisting: &Relisting<W>,
     ) -> Result<Rewrites<W>, PrepareFault>
         requires { IsRelisting self.now.catalogue relisting.now }

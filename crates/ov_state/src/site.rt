@@ -8,10 +8,10 @@ use crate::change::NewNode;
 use crate::fault::PrepareFault;
 use crate::new_nodes::NewNodes;
 use crate::state::State;
-use ov_base::{Key, UserSet};
+use ov_base::UserSet;
 use ov_graph::{Cover, Graph};
 use ov_surface::wanted;
-use ov_tokens::{Base, Surface, Tokens};
+use ov_tokens::{Base, Master, Surface, Tokens};
 use std::alloc::Global;
 
 /// Where a new file stands: its base node as it is planned, its surface, and the nodes that the
@@ -53,7 +53,7 @@ impl<B: Graph<Base, W>, S: Graph<Surface, W>, const W: usize> State<B, S, W> {
     pub(crate) fn site(
         &self,
         alloc: Global,
-        master: &Key,
+        master: &Master,
         list: &UserSet<W>,
     ) -> Result<Site<W>, PrepareFault>
         requires { IsBelow (length self.now.catalogue.users) list.now }

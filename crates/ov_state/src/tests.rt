@@ -10,7 +10,7 @@ use ov_base::limits::{LAST_EPOCH, MAX_USERS};
 use ov_base::{Key, Mode, Name, Octets, Refusal, UserSet};
 use ov_graph::Graph;
 use ov_record::Update;
-use ov_tokens::{Token, Tokens};
+use ov_tokens::{Master, Token, Tokens};
 use rows::{FAULTS, READINGS, ROWS, Reading, Rewritten, Step};
 use std::alloc::Global;
 use std::process::Abort;
@@ -87,7 +87,7 @@ fn make(
     step: Step,
     expected: &[Rewritten],
 ) {
-    let change = catalogue.prepare(alloc, &MASTER, brief(rt, alloc, step));
+    let change = catalogue.prepare(alloc, &Master::new(&MASTER), brief(rt, alloc, step));
     let change = change.expect(rt, "a change");
     expect_rewrites(rt, change.rewrites(), expected);
     catalogue.commit(change);
@@ -101,7 +101,7 @@ fn expect_fault(
     step: Step,
     fault: PrepareFault,
 ) {
-    let answer = catalogue.prepare(alloc, &MASTER, brief(rt, alloc, step));
+    let answer = catalogue.prepare(alloc, &Master::new(&MASTER), brief(rt, alloc, step));
     assert_eq!(rt; answer.err(), Some(fault));
 }
 

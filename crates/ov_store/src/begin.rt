@@ -14,6 +14,7 @@ use crate::store::Store;
 use ov_base::{Key, Mode};
 use ov_disk::Disk;
 use ov_journal::{Found, Journal};
+use ov_tokens::Master;
 use ov_vault::CatalogueVault;
 use std::alloc::Global;
 
@@ -29,7 +30,7 @@ fn open<D: Disk>(
     alloc: Global,
     disk: &mut D,
     base_check: &[u8; 32],
-    surface: &Key,
+    surface: &Master,
     mode: Mode,
 ) -> Result<(CatalogueVault, Journal), BeginFault>
     ensures opened { IfOk result (λ parts.
@@ -89,6 +90,7 @@ impl<D: Disk> Store<D> {
         ensures call { IsDiskCall D.borrow D.faults disk (disk_left result) (IsDiskFault result) }
     {
         let mut disk = disk;
+        let surface = Master::new(&surface);
         match open(alloc, &mut disk, &base_check, &surface, mode) {
             Ok((vault, journal)) => Ok(Store {
                 disk,

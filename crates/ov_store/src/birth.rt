@@ -10,10 +10,10 @@ ghost use Rattle.ov_store.specs.Opened.{open_with};
 ghost use Rattle.ov_store.specs.declared.fault.BeginFault.TheVariants.{Disk as DiskFailed, Memory as NoMemory};
 
 use crate::fault::BeginFault;
-use ov_base::{Key, Mode};
+use ov_base::Mode;
 use ov_disk::Disk;
 use ov_journal::{Header, Journal};
-use ov_tokens::check_value;
+use ov_tokens::{Master, check_value};
 use ov_vault::{CatalogueVault, Vault};
 use std::alloc::Global;
 
@@ -22,7 +22,7 @@ pub(crate) fn birth<D: Disk>(
     alloc: Global,
     disk: &mut D,
     base_check: &[u8; 32],
-    surface: &Key,
+    surface: &Master,
     mode: Mode,
     first: u32,
 ) -> Result<(CatalogueVault, Journal), BeginFault>

@@ -22,14 +22,15 @@ use ov_disk::Disk;
 use ov_journal::{CheckFault, Journal};
 use ov_record::{RecordFault, read};
 use ov_state::{Brief, Catalogue, PrepareFault, State, WIDTH};
+use ov_tokens::Master;
 use std::alloc::Global;
 
 // Goes on with the record with this body, if its update is as its owner seals it.
 fn follow(
     alloc: Global,
     state: &mut Catalogue,
-    surface: &Key,
-    base: &Key,
+    surface: &Master,
+    base: &Master,
     body: &[u8],
 ) -> Result<bool, Memory>
     ensures { IfOk result (λ yes. (u : SealedUpdate) → IsBodyOf u body.now
@@ -62,8 +63,8 @@ fn first_false<D: Disk>(
     alloc: Global,
     disk: &mut D,
     journal: &Journal,
-    surface: &Key,
-    base: &Key,
+    surface: &Master,
+    base: &Master,
     mode: Mode,
     first: u32,
 ) -> Result<Option<u64>, CheckFault>
@@ -106,13 +107,14 @@ impl<D: Disk> Store<D> {
         ensures call { IsCallOf D.borrow D.faults self.old self.new (IsErrOf result DiskFailed) }
     {
         let mode = self.vault.catalogue().mode();
+        let base = Master::new(base);
         let first = self.vault.catalogue().epoch() - self.journal.count() as u32;
         first_false(
             alloc,
             &mut self.disk,
             &self.journal,
             &self.surface,
-            base,
+            &base,
             mode,
             first,
         )

@@ -16,11 +16,11 @@ use ov_graph::{GraphRefusal, root};
 use ov_record::Update;
 use ov_state::{Catalogue, WIDTH};
 use ov_surface::{base_encrypt, file_tag};
-use ov_tokens::{Base, Layer, Token, Tokens, access_key};
+use ov_tokens::{Base, Layer, Master, Token, Tokens, access_key};
 use std::alloc::Global;
 
 // Whether the access token of a grant is the one that the owner sends.
-fn is_grant(state: &Catalogue, base: &Key, user: u32, file: u32, token: &Token) -> bool
+fn is_grant(state: &Catalogue, base: &Master, user: u32, file: u32, token: &Token) -> bool
     ensures { (k : Masters) → k.base ≡ base.now.bytes
         → IsTaken state.now.catalogue (BriefGrant user file (Some token.now))
         → TellsOwners k (outline state.now.catalogue)
@@ -82,7 +82,7 @@ fn tag_under(alloc: Global, access: &Key, number: u32, bytes: &Octets) -> Result
 fn is_creation(
     alloc: Global,
     state: &Catalogue,
-    base: &Key,
+    base: &Master,
     list: &UserSet<WIDTH>,
     tokens: &Tokens,
     tag: &[u8; 32],
@@ -117,7 +117,7 @@ fn is_creation(
 pub(crate) fn is_owners(
     alloc: Global,
     state: &Catalogue,
-    base: &Key,
+    base: &Master,
     update: &Update<WIDTH>,
 ) -> Result<bool, Memory>
     requires { IsFitting (brief (sealed_update update.now)) }

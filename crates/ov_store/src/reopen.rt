@@ -11,10 +11,10 @@ ghost use Rattle.ov_store.specs.declared.fault.BeginFault.TheVariants.{Disk as D
 
 use crate::fault::BeginFault;
 use crate::replay::replay;
-use ov_base::{Key, Mode};
+use ov_base::Mode;
 use ov_disk::{Area, Disk};
 use ov_journal::{Header, Journal};
-use ov_tokens::check_value;
+use ov_tokens::{Master, check_value};
 use ov_vault::CatalogueVault;
 use std::alloc::Global;
 
@@ -22,7 +22,7 @@ use std::alloc::Global;
 fn compare(
     header: &Header,
     base_check: &[u8; 32],
-    surface: &Key,
+    surface: &Master,
     mode: Mode,
 ) -> Result<(), BeginFault>
     ensures same { OnOk result (IsFor (keys base_check.now surface.now.bytes) mode header.now) }
@@ -61,7 +61,7 @@ pub(crate) fn reopen<D: Disk>(
     header: Header,
     bad: Option<u64>,
     base_check: &[u8; 32],
-    surface: &Key,
+    surface: &Master,
     mode: Mode,
 ) -> Result<CatalogueVault, BeginFault>
     requires whole { bad ≡ None → journal.now.bad ≡ false }

@@ -9,11 +9,12 @@ ghost use Rattle.ov_store.specs.Replaying.{TakesBody, IsBodyFault, IsReplay, IsR
 ghost use Rattle.ov_store.specs.declared.fault.BeginFault.TheVariants.{Disk as DiskFailed};
 
 use crate::fault::BeginFault;
-use ov_base::{Key, Mode};
+use ov_base::Mode;
 use ov_disk::{Area, Disk};
 use ov_journal::Journal;
 use ov_record::{RecordFault, read};
 use ov_state::{PrepareFault, WIDTH};
+use ov_tokens::Master;
 use ov_vault::{CatalogueVault, Vault};
 use std::alloc::Global;
 
@@ -21,7 +22,7 @@ use std::alloc::Global;
 fn take_record(
     alloc: Global,
     vault: &mut CatalogueVault,
-    surface: &Key,
+    surface: &Master,
     body: &[u8],
     gate: u64,
 ) -> Result<(), BeginFault>
@@ -57,7 +58,7 @@ pub(crate) fn replay<D: Disk>(
     alloc: Global,
     disk: &mut D,
     journal: &Journal,
-    surface: &Key,
+    surface: &Master,
     mode: Mode,
     first: u32,
 ) -> Result<CatalogueVault, BeginFault>

@@ -4,10 +4,10 @@ ghost use Rattle.ov_history.specs.Sealed.{SealedHistory};
 ghost use Rattle.ov_state.specs.Remembering.{IsPlannedIn};
 ghost use Rattle.ov_store.specs.Opened.{Serves};
 
-use ov_base::Key;
 use ov_disk::Disk;
 use ov_journal::Journal;
 use ov_state::{Catalogue, Planned, WIDTH};
+use ov_tokens::Master;
 use ov_vault::CatalogueVault;
 use std::marker::Model;
 
@@ -15,7 +15,7 @@ use std::marker::Model;
 #[derive(Drop)]
 pub struct Store<D: Disk> {
     pub(crate) disk: D,
-    pub(crate) surface: Key,
+    pub(crate) surface: Master,
     pub(crate) base_check: [u8; 32],
     pub(crate) vault: CatalogueVault,
     pub(crate) journal: Journal,

@@ -12,7 +12,7 @@ use ov_base::{Key, Mode, Name, Octets, UserSet};
 use ov_disk::{Disk, FileDisk, MemDisk, Tear};
 use ov_record::Update;
 use ov_state::WIDTH;
-use ov_tokens::{Token, Tokens, check_value};
+use ov_tokens::{Master, Token, Tokens, check_value};
 use std::alloc::Global;
 use std::fs;
 use std::process::Abort;
@@ -27,6 +27,11 @@ const TOKEN: Token = Token { bytes: [0; 32] };
 /// them.
 fn master(byte: u8) -> Key {
     Key { bytes: [byte; 32] }
+}
+
+/// The value by which the master of this byte is known again.
+fn check_of(byte: u8) -> [u8; 32] {
+    check_value(&Master::new(&master(byte)))
 }
 
 // ---- a small store
@@ -158,8 +163,7 @@ fn first_book(rt: &impl Abort, alloc: Global) -> Vec<u8> {
         .to_vec(alloc)
         .expect(rt, "memory");
     book.extend_from_slice(&BASE_CHECK).expect(rt, "memory");
-    book.extend_from_slice(&check_value(&master(7)))
-        .expect(rt, "memory");
+    book.extend_from_slice(&check_of(7)).expect(rt, "memory");
     book.push(0).expect(rt, "memory");
     book
 }

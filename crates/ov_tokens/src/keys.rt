@@ -3,9 +3,10 @@
 ghost use Rattle.std.specs.Prelude.{◌≡◌};
 ghost use Rattle.ov_tokens.specs.Keys.{access_key_of, check_value_of, tag_key_of, update_key_of};
 
+use crate::Master;
 use crate::message::tagged;
 use ov_base::Key;
-use ov_keyed::mac;
+use ov_keyed::{MacKey, mac};
 use sha2::{Digest, Sha256};
 
 /// The access key of a base node, from its derivation key: the SHA-256 digest of its 32 bytes.
@@ -27,17 +28,15 @@ pub fn tag_key(access: &Key, file: u32) -> Key
 }
 
 /// The key under which the owner tags updates, from the surface master.
-pub fn update_key(surface: &Key) -> Key
-    ensures { result.bytes ≡ update_key_of surface.now.bytes }
+pub fn update_key(surface: &Master) -> MacKey
+    ensures { result ≡ update_key_of surface.now.bytes }
 {
-    Key {
-        bytes: mac(&surface.bytes, &tagged(b'U', 0), b""),
-    }
+    MacKey::new(&surface.mac(&tagged(b'U', 0)))
 }
 
 /// The value by which a store knows its master again.
-pub fn check_value(master: &Key) -> [u8; 32]
+pub fn check_value(master: &Master) -> [u8; 32]
     ensures { result ≡ check_value_of master.now.bytes }
 {
-    mac(&master.bytes, &tagged(b'C', 0), b"")
+    master.mac(&tagged(b'C', 0))
 }

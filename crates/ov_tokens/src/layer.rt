@@ -1,8 +1,7 @@
 //! The two layers of keys.
 
-use crate::{Kind, Label};
+use crate::{Kind, Label, Master};
 use ov_base::Key;
-use ov_keyed::mac;
 
 /// A layer of keys: the labels of its nodes, and how their keys come from the layer's master.
 ///
@@ -28,11 +27,11 @@ pub trait Layer {
         ensures { result ≡ label_of label_kind number };
 
     /// The key of a node's label, from the layer's master.
-    fn key_of(master: &Key, number: u32) -> Key
+    fn key_of(master: &Master, number: u32) -> Key
         ensures { result.bytes ≡ node_key label_kind master.now.bytes number }
     {
         Key {
-            bytes: mac(&master.bytes, &Self::label(number).bytes(), b""),
+            bytes: master.mac(&Self::label(number).bytes()),
         }
     }
 

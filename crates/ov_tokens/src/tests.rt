@@ -20,7 +20,7 @@ fn counted_key(start: u8, step: u8) -> Key {
 }
 
 /// A label and its key, by a layer alone.
-fn node_of<L: Layer>(master: &Key, number: u32) -> (Label, Key) {
+fn node_of<L: Layer>(master: &Master, number: u32) -> (Label, Key) {
     (L::label(number), L::key_of(master, number))
 }
 
@@ -50,7 +50,8 @@ fn access_key_of_zeros(rt: HostRuntime) {
 }
 
 fn expect_row(rt: &impl Abort, row: &Row) {
-    let (base, surface) = (counted_key(row.start, 1), counted_key(row.start, 3));
+    let base = Master::new(&counted_key(row.start, 1));
+    let surface = Master::new(&counted_key(row.start, 3));
     let (_, base_key) = node_of::<Base>(&base, row.number);
     assert_eq!(rt; base_key.bytes, row.base_key);
     let (_, surface_key) = node_of::<Surface>(&surface, row.number);
@@ -65,7 +66,7 @@ fn expect_row(rt: &impl Abort, row: &Row) {
     assert_eq!(rt; token.bytes, row.token);
     assert_eq!(rt; derive(&base_key, to, &token).bytes, row.access_key);
     assert_eq!(rt; tag_key(&access, row.number).bytes, row.tag_key);
-    assert_eq!(rt; update_key(&surface).bytes, row.update_key);
+    assert_eq!(rt; *update_key(&surface).bytes(), row.update_key);
     assert_eq!(rt; check_value(&base), row.check_value);
 }
 

@@ -12,11 +12,11 @@ ghost use Rattle.ov_vault.specs.Standing.{IsAnsweredByHistories};
 use crate::prepared::Prepared;
 use crate::rewritten::{restore, rewrite_copies};
 use crate::vault::Vault;
-use ov_base::{Key, Memory, Octets};
+use ov_base::{Memory, Octets};
 use ov_graph::Graph;
 use ov_record::Update;
 use ov_state::{Brief, Change, PrepareFault};
-use ov_tokens::{Base, Surface};
+use ov_tokens::{Base, Master, Surface};
 use std::alloc::Global;
 
 impl<B: Graph<Base, W>, S: Graph<Surface, W>, const W: usize> Vault<B, S, W> {
@@ -24,7 +24,7 @@ impl<B: Graph<Base, W>, S: Graph<Surface, W>, const W: usize> Vault<B, S, W> {
     fn rewrite(
         &self,
         alloc: Global,
-        surface: &Key,
+        surface: &Master,
         change: Change<W>,
         text: Option<Octets>,
     ) -> Result<Prepared<W>, Memory>
@@ -71,7 +71,7 @@ impl<B: Graph<Base, W>, S: Graph<Surface, W>, const W: usize> Vault<B, S, W> {
     fn finish(
         &mut self,
         alloc: Global,
-        surface: &Key,
+        surface: &Master,
         change: Change<W>,
         text: Option<Octets>,
     ) -> Result<Prepared<W>, Memory>
@@ -90,7 +90,7 @@ impl<B: Graph<Base, W>, S: Graph<Surface, W>, const W: usize> Vault<B, S, W> {
     pub fn prepare(
         &mut self,
         alloc: Global,
-        surface: &Key,
+        surface: &Master,
         update: Update<W>,
     ) -> Result<Prepared<W>, PrepareFault>
         requires { IsFitting (brief (sealed_update update)) }

@@ -10,7 +10,7 @@ ghost use Rattle.ov_vault.specs.Vaults.{AreShort, AreRewritesOf};
 use ov_base::{Key, Memory, Octets};
 use ov_state::Rewrite;
 use ov_surface::reencrypt;
-use ov_tokens::{Layer, Surface};
+use ov_tokens::{Layer, Master, Surface};
 use std::alloc::Global;
 
 /// The new stored bytes of a file.
@@ -21,7 +21,7 @@ pub struct Rewritten {
 }
 
 /// The key of a surface, where there is one, under the surface master.
-fn surface_key(master: &Key, surface: Option<u32>) -> Option<Key>
+fn surface_key(master: &Master, surface: Option<u32>) -> Option<Key>
     ensures { key_bytes result ≡ surface_key master.now.bytes surface }
 {
     match surface {
@@ -32,7 +32,7 @@ fn surface_key(master: &Key, surface: Option<u32>) -> Option<Key>
 
 /// The bytes of a file with the coat of its old surface taken off and that of its new one laid. It takes
 /// no memory.
-pub fn restore(master: &Key, rewrite: Rewrite, bytes: Octets) -> Octets
+pub fn restore(master: &Master, rewrite: Rewrite, bytes: Octets) -> Octets
     requires { length bytes ≤ MAX_FILE_BYTES }
     ensures { result ≡ restored master.now.bytes rewrite.old rewrite.new rewrite.file bytes }
 {
@@ -46,7 +46,7 @@ pub fn restore(master: &Key, rewrite: Rewrite, bytes: Octets) -> Octets
 /// The new stored bytes of these files, from copies of what is stored.
 pub fn rewrite_copies(
     alloc: Global,
-    master: &Key,
+    master: &Master,
     stored: &[Octets],
     rewrites: &[Rewrite],
 ) -> Result<Vec<Rewritten>, Memory>

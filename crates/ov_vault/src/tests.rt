@@ -7,7 +7,7 @@ use super::*;
 use ov_base::{Key, Mode, Name, Octets, UserSet};
 use ov_record::Update;
 use ov_state::WIDTH;
-use ov_tokens::{Token, Tokens};
+use ov_tokens::{Master, Token, Tokens};
 use std::alloc::Global;
 use std::process::Abort;
 
@@ -74,7 +74,7 @@ fn create(rt: &impl Abort, alloc: Global, text: &[u8], count: u32) -> Update<WID
 fn make(rt: &impl Abort, alloc: Global, vault: &mut CatalogueVault, update: Update<WIDTH>)
     requires { IsFitting (brief (sealed_update update)) }
 {
-    let prepared = vault.prepare(alloc, &MASTER, update);
+    let prepared = vault.prepare(alloc, &Master::new(&MASTER), update);
     vault.commit(prepared.expect(rt, "an update that is taken"));
 }
 

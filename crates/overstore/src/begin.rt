@@ -17,7 +17,7 @@ use ov_disk::{Area, Disk};
 use ov_journal::CheckFault;
 use ov_keyfile::Masters;
 use ov_store::{BeginFault, BeginRefused, Store};
-use ov_tokens::check_value;
+use ov_tokens::{Master, check_value};
 use std::alloc::Global;
 
 // Why the store isn't begun, if this was found of its updates.
@@ -81,7 +81,7 @@ pub fn begin<D: Disk>(
 
     ensures call { IsDiskCall D.borrow D.faults disk (disk_left result) (IsDiskFault result) }
 {
-    let base_check = check_value(&masters.base);
+    let base_check = check_value(&Master::new(&masters.base));
     match Store::begin(alloc, disk, masters.surface, base_check, mode) {
         Ok(store) => checked(alloc, store, &masters.base),
         Err(refused) => {

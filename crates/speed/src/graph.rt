@@ -7,7 +7,7 @@ use ov_base::limits::MAX_LAYER_NODES;
 use ov_base::{Key, UserSet};
 use ov_chain::shortest;
 use ov_graph::{Graph, has_roots, plan_and_add};
-use ov_tokens::{Base, Layer};
+use ov_tokens::{Base, Layer, Master};
 use std::alloc::Global;
 use std::test::Fail;
 
@@ -27,7 +27,7 @@ fn put<L: Layer, G: Graph<L, W>, const W: usize>(
     set: &UserSet<W>,
 ) -> Result<(), Fail> {
     if has_roots::<L, G, W>(graph, set) {
-        plan_and_add::<L, G, W>(alloc, graph, &MASTER, set)?;
+        plan_and_add::<L, G, W>(alloc, graph, &Master::new(&MASTER), set)?;
     }
     Ok(())
 }

@@ -5,6 +5,7 @@ use super::{LENGTH, MASTER, TOKEN, name, set_of, tokens};
 use crate::{Brief, Catalogue, Sizes, State, WIDTH};
 use ov_base::{Mode, Name};
 use ov_graph::Graph;
+use ov_tokens::Master;
 use std::alloc::Global;
 use std::process::Abort;
 
@@ -100,7 +101,7 @@ fn after_day(rt: &impl Abort, alloc: Global, mode: Mode) -> Catalogue {
         }
         let brief = update(rt, alloc, &catalogue, number);
         let change = catalogue
-            .prepare(alloc, &MASTER, brief)
+            .prepare(alloc, &Master::new(&MASTER), brief)
             .expect(rt, "a change");
         catalogue.commit(change);
     }

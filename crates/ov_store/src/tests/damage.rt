@@ -1,9 +1,8 @@
 //! Books with one byte changed, or cut, and the order in which causes are told.
-use super::{BASE_CHECK, master, small_store};
+use super::{BASE_CHECK, check_of, master, small_store};
 use crate::{BeginFault, Store};
 use ov_base::{Mode, Octets};
 use ov_disk::{Area, Disk, MemDisk};
-use ov_tokens::check_value;
 use std::alloc::Global;
 use std::process::Abort;
 
@@ -150,7 +149,7 @@ fn causes_in_their_order(rt: HostRuntime) {
     assert_eq!(rt; found, Some(BeginFault::BaseDiffers { stored, given }));
 
     let found = refused(alloc, with(79, 1), 8, BASE_CHECK, Mode::Full);
-    let (stored, given) = (check_value(&master(7)), check_value(&master(8)));
+    let (stored, given) = (check_of(7), check_of(8));
     assert_eq!(rt; found, Some(BeginFault::SurfaceDiffers { stored, given }));
 
     let found = refused(alloc, with(79, 1), 7, BASE_CHECK, Mode::Full);
