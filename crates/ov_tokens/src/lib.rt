@@ -4,7 +4,9 @@
 //! (`key_of_label` in `specs/Keys`). A [`Label`] is a [`Kind`] and a number: `B n` is the derivation key
 //! of base node n, `A n` its access key, `S n` the key of surface node n. No two labels have the same five
 //! bytes ([`labels_are_spelled_apart`]). A [`Layer`] says which labels a layer's nodes have and how their
-//! keys come from its master; it has two, [`Base`] and [`Surface`].
+//! keys come from its master; it has two, [`Base`] and [`Surface`]. A [`Master`] is a key with the
+//! blocks of its HMAC hashed once, and a [`SurfaceMaster`] has the key of the owner's tags besides: the
+//! model of both is the key.
 //!
 //! A [`Token`] leads from a key to a label: it is the label's key XORed with the keyed hash of the label
 //! under the first key ([`make`]). So whoever holds the first key has the second by [`derive`], and no
