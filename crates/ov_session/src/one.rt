@@ -188,14 +188,8 @@ fn read_on<R: Wait, L: Stream, A: Asker, G: Gate>(
     let mut frames = Vec::new(reading.alloc);
     let (piece, _) = room.split_at(count);
     let fed = reading.decoder.feed(piece, &mut frames);
-    match answer_each(
-        desk,
-        stream,
-        asker,
-        &frames,
-        &mut reading.reply,
-        &mut reading.asked,
-    ) {
+    let (reply, asked) = (&mut reading.reply, &mut reading.asked);
+    match answer_each(desk, stream, asker, &frames, reply, asked) {
         Ok(()) => go_on(fed),
         Err(stop) => Err(end_of(stop)),
     }
