@@ -1,5 +1,5 @@
-"""Runs the commands of README.md and docs/, and the scripts of examples/, and compares what they print
-with what stands on the page or beside the script.
+"""Runs the commands of README.md, docs/ and the man pages, and the scripts of examples/, and compares
+what they print with what stands on the page or beside the script.
 
     python3 tools/run_docs.py                 # what needs no proved program
     python3 tools/run_docs.py PROGRAM         # and what needs one, as crates/overstore/out/overstore
@@ -12,10 +12,12 @@ A block of a page is run where a comment stands above it:
     <!-- run: .., on -->     in the folder of the block before it
     <!-- run: kit -->        in this repository
     <!-- file: NAME -->      it isn't run: it is written to NAME in the folder of the next block
+    <!-- not run: WHY -->    it isn't run
 
 A block of `sh` is one script, and what it prints is the next block, if that has no language and nothing
 but text stands between them. In a block of `console` each line behind `$ ` is run and the lines below
-it are what it prints. Commands that aren't marked aren't run, and PERFORMANCE.md has no marks.
+it are what it prints. A man page's block is a literal display, and its mark is a comment of mdoc's. Each
+block of commands has a mark, but for those of PERFORMANCE.md, which measure.
 """
 import os
 import pathlib
@@ -26,13 +28,41 @@ import sys
 import tempfile
 
 ROOT = pathlib.Path(__file__).resolve().parent.parent
-PAGES = [ROOT / "README.md", *sorted((ROOT / "docs").glob("*.md")), ROOT / "examples" / "README.md"]
-MARK = re.compile(r"<!-- (run|file)(?:: (.*?))? -->")
+PAGES = [
+    ROOT / "README.md",
+    *sorted((ROOT / "docs").glob("*.md")),
+    ROOT / "examples" / "README.md",
+    *sorted((ROOT / "dist" / "man").glob("*.[1-8]")),
+]
+MEASURES = ROOT / "docs" / "PERFORMANCE.md"
+MARK = re.compile(r"<!-- (run|file|not run)(?:: (.*?))? -->")
+MAN_MARK = re.compile(r'\.\\" (run|file|not run)(?:: (.*))?')
+MAN_SIGNS = {r"\e": "\\", r"\&": "", r"\-": "-", r"\(aq": "'"}
 NEEDS = {"program", "kit"}
 
 
 def blocks_of(page):
     """Each block of a page: its line, its mark if it has one, its language and its text."""
+    return blocks_of_text(page) if page.suffix == ".md" else blocks_of_man(page)
+
+
+def blocks_of_man(page):
+    mark, begun, text = None, 0, []
+    for number, line in enumerate(page.read_text().split("\n"), 1):
+        if line.startswith(".Bd -literal"):
+            begun, text = number, []
+        elif line == ".Ed":
+            yield begun, mark, "console" if text[0].startswith("$ ") else "sh", "".join(text)
+            mark, begun = None, 0
+        elif begun:
+            text.append(re.sub(r"\\(?:[e&-]|\(aq)", lambda sign: MAN_SIGNS[sign.group()], line) + "\n")
+        elif found := MAN_MARK.fullmatch(line):
+            mark = found.groups()
+        elif not line.startswith(".Pp"):
+            mark = None
+
+
+def blocks_of_text(page):
     mark, language, begun, text = None, None, 0, []
     for number, line in enumerate(page.read_text().split("\n"), 1):
         if language is None and line.startswith("```"):
@@ -54,6 +84,9 @@ def runs_of(page):
     blocks, files = list(blocks_of(page)), {}
     for place, (line, mark, language, text) in enumerate(blocks):
         if mark is None:
+            assert language not in ("sh", "console") or page == MEASURES, f"{page.name}:{line} has no mark"
+            continue
+        if mark[0] == "not run":
             continue
         if mark[0] == "file":
             files[mark[1]] = text
