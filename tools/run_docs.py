@@ -83,10 +83,7 @@ def runs_of(page):
     they print, or None where that isn't said."""
     blocks, files = list(blocks_of(page)), {}
     for place, (line, mark, language, text) in enumerate(blocks):
-        if mark is None:
-            assert language not in ("sh", "console") or page == MEASURES, f"{page.name}:{line} has no mark"
-            continue
-        if mark[0] == "not run":
+        if mark is None or mark[0] == "not run":
             continue
         if mark[0] == "file":
             files[mark[1]] = text
@@ -101,6 +98,13 @@ def runs_of(page):
             printed = after[3] if after and after[1] is None and after[2] == "" else None
             yield line, words, files, [(text, printed)]
         files = {}
+
+
+def unmarked_of(page):
+    """The lines of the blocks of commands that have no mark."""
+    for line, mark, language, _ in blocks_of(page):
+        if mark is None and language in ("sh", "console") and page != MEASURES:
+            yield line
 
 
 def new_folder():
@@ -132,9 +136,13 @@ def without_kit(text):
 
 
 def run_page(page, have):
-    """The numbers of blocks that ran, of those left out, and of commands that printed something else."""
+    """The numbers of blocks that ran, of those left out, and of what is wrong: commands that printed
+    something else, and blocks without a mark."""
     ran = left = wrong = 0
     folder = place = None
+    for line in unmarked_of(page):
+        wrong += 1
+        print(f"{page.relative_to(ROOT)}:{line}: no mark says how this is run, or why it isn't")
     for line, words, files, commands in runs_of(page):
         if words & NEEDS - have:
             left += 1
@@ -201,5 +209,5 @@ with tempfile.TemporaryDirectory() as BASE:
         (pathlib.Path(BASE) / "bin" / "overstore").symlink_to(pathlib.Path(programs[0]).resolve())
     results = [run_page(page, have) for page in PAGES if page.exists()] + [run_examples(have)]
 ran, left, wrong = (sum(column) for column in zip(*results))
-print(f"{ran} blocks and scripts ran, {left} left out, {wrong} printed something else")
+print(f"{ran} blocks and scripts ran, {left} left out, {wrong} are wrong")
 sys.exit(1 if wrong else 0)
