@@ -52,13 +52,18 @@ def all_specs():
 SPECS = dict(all_specs())
 
 
+def contract_at(text, start):
+    """A function's signature and clauses."""
+    return re.split(r"\n\s*\{|;\n", text[start:], maxsplit=1)[0]
+
+
 def file_with(crate, function, owner):
-    """The text of the source file that has the function, and where the function begins in it."""
+    """The text of the source file in which the function has clauses, and where it begins there."""
     begins = re.compile(rf"\bfn {function}\b")
     for path in sorted((ROOT / "crates" / crate / "src").glob("*.rt")):
         text = path.read_text()
         found = begins.search(text)
-        if found and path.stem != "tests":
+        if found and path.stem != "tests" and "ensures" in contract_at(text, found.start()):
             heads = [line for line in text[: found.start()].split("\n") if line.startswith(("impl", "pub trait"))]
             if owner is None or heads and re.search(rf"\b{owner}\b", heads[-1]):
                 return text, found.start()
@@ -68,9 +73,8 @@ def file_with(crate, function, owner):
 def reading_of(crate, function, owner=None):
     """The lines of all definitions that have to be read, by crate, and how many definitions they are."""
     text, start = file_with(crate, function, owner)
-    contract = re.split(r"\n\s*\{|;\n", text[start:], maxsplit=1)[0]
     imports = imports_of(text)
-    waiting = [imports[word] for word in WORD.findall(contract) if word in imports]
+    waiting = [imports[word] for word in WORD.findall(contract_at(text, start)) if word in imports]
     seen, lines, count = set(), collections.Counter(), 0
     while waiting:
         module, name = waiting.pop()

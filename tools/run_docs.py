@@ -1,5 +1,5 @@
-"""Runs the commands of README.md and docs/, and the scripts of examples/, and compares what they print
-with what stands on the page or beside the script.
+"""Runs the commands of README.md, docs/ and the man pages, and the scripts of examples/, and compares
+what they print with what stands on the page or beside the script.
 
     python3 tools/run_docs.py                 # what needs no proved program
     python3 tools/run_docs.py PROGRAM         # and what needs one, as crates/overstore/out/overstore
@@ -12,10 +12,12 @@ A block of a page is run where a comment stands above it:
     <!-- run: .., on -->     in the folder of the block before it
     <!-- run: kit -->        in this repository
     <!-- file: NAME -->      it isn't run: it is written to NAME in the folder of the next block
+    <!-- not run: WHY -->    it isn't run
 
 A block of `sh` is one script, and what it prints is the next block, if that has no language and nothing
 but text stands between them. In a block of `console` each line behind `$ ` is run and the lines below
-it are what it prints. Commands that aren't marked aren't run, and PERFORMANCE.md has no marks.
+it are what it prints. A man page's block is a literal display, and its mark is a comment of mdoc's. Each
+block of commands has a mark, but for those of PERFORMANCE.md, which measure.
 """
 import os
 import pathlib
@@ -26,13 +28,41 @@ import sys
 import tempfile
 
 ROOT = pathlib.Path(__file__).resolve().parent.parent
-PAGES = [ROOT / "README.md", *sorted((ROOT / "docs").glob("*.md")), ROOT / "examples" / "README.md"]
-MARK = re.compile(r"<!-- (run|file)(?:: (.*?))? -->")
+PAGES = [
+    ROOT / "README.md",
+    *sorted((ROOT / "docs").glob("*.md")),
+    ROOT / "examples" / "README.md",
+    *sorted((ROOT / "dist" / "man").glob("*.[1-8]")),
+]
+MEASURES = ROOT / "docs" / "PERFORMANCE.md"
+MARK = re.compile(r"<!-- (run|file|not run)(?:: (.*?))? -->")
+MAN_MARK = re.compile(r'\.\\" (run|file|not run)(?:: (.*))?')
+MAN_SIGNS = {r"\e": "\\", r"\&": "", r"\-": "-", r"\(aq": "'"}
 NEEDS = {"program", "kit"}
 
 
 def blocks_of(page):
     """Each block of a page: its line, its mark if it has one, its language and its text."""
+    return blocks_of_text(page) if page.suffix == ".md" else blocks_of_man(page)
+
+
+def blocks_of_man(page):
+    mark, begun, text = None, 0, []
+    for number, line in enumerate(page.read_text().split("\n"), 1):
+        if line.startswith(".Bd -literal"):
+            begun, text = number, []
+        elif line == ".Ed":
+            yield begun, mark, "console" if text[0].startswith("$ ") else "", "".join(text)
+            mark, begun = None, 0
+        elif begun:
+            text.append(re.sub(r"\\(?:[e&-]|\(aq)", lambda sign: MAN_SIGNS[sign.group()], line) + "\n")
+        elif found := MAN_MARK.fullmatch(line):
+            mark = found.groups()
+        elif not line.startswith(".Pp"):
+            mark = None
+
+
+def blocks_of_text(page):
     mark, language, begun, text = None, None, 0, []
     for number, line in enumerate(page.read_text().split("\n"), 1):
         if language is None and line.startswith("```"):
@@ -53,7 +83,7 @@ def runs_of(page):
     they print, or None where that isn't said."""
     blocks, files = list(blocks_of(page)), {}
     for place, (line, mark, language, text) in enumerate(blocks):
-        if mark is None:
+        if mark is None or mark[0] == "not run":
             continue
         if mark[0] == "file":
             files[mark[1]] = text
@@ -68,6 +98,13 @@ def runs_of(page):
             printed = after[3] if after and after[1] is None and after[2] == "" else None
             yield line, words, files, [(text, printed)]
         files = {}
+
+
+def unmarked_of(page):
+    """The lines of the blocks of commands that have no mark."""
+    for line, mark, language, _ in blocks_of(page):
+        if mark is None and language in ("sh", "console") and page != MEASURES:
+            yield line
 
 
 def new_folder():
@@ -99,9 +136,13 @@ def without_kit(text):
 
 
 def run_page(page, have):
-    """The numbers of blocks that ran, of those left out, and of commands that printed something else."""
+    """The numbers of blocks that ran, of those left out, and of what is wrong: commands that printed
+    something else, and blocks without a mark."""
     ran = left = wrong = 0
     folder = place = None
+    for line in unmarked_of(page):
+        wrong += 1
+        print(f"{page.relative_to(ROOT)}:{line}: no mark says how this is run, or why it isn't")
     for line, words, files, commands in runs_of(page):
         if words & NEEDS - have:
             left += 1
@@ -168,5 +209,5 @@ with tempfile.TemporaryDirectory() as BASE:
         (pathlib.Path(BASE) / "bin" / "overstore").symlink_to(pathlib.Path(programs[0]).resolve())
     results = [run_page(page, have) for page in PAGES if page.exists()] + [run_examples(have)]
 ran, left, wrong = (sum(column) for column in zip(*results))
-print(f"{ran} blocks and scripts ran, {left} left out, {wrong} printed something else")
+print(f"{ran} blocks and scripts ran, {left} left out, {wrong} are wrong")
 sys.exit(1 if wrong else 0)

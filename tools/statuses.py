@@ -1,5 +1,5 @@
 """Compares the exit statuses that the definitions have with those that --help, the man pages and the
-pages of docs/ name.
+pages of docs/ name, for each program that is there.
 
 Run: python3 tools/statuses.py
 """
@@ -8,33 +8,61 @@ import re
 import sys
 
 ROOT = pathlib.Path(__file__).resolve().parent.parent
-PROGRAM = ROOT / "crates" / "overstore"
+
+# By program its man pages, and the sections of docs/ that have a row for each status.
+PROGRAMS = {
+    "overstore": (
+        ["overstore.1", "overstore-script.5"],
+        [("SCRIPTS.md", "How a run ends"), ("OPERATING.md", "How a run ends")],
+    ),
+    "overstored": (["overstored.1"], [("NETWORK.md", "How a server ends")]),
+    "overctl": (["overctl.1"], [("NETWORK.md", "How a command ends")]),
+}
 
 
 def numbers(pattern, text):
     return sorted({int(number) for number in re.findall(pattern, text, re.M)})
 
 
-def man(name):
-    text = (ROOT / "dist" / "man" / name).read_text()
-    return numbers(r"^\.It (\d+)$", text[text.index(".Sh EXIT STATUS") : text.index(".Sh EXAMPLES")])
+def help_of(program):
+    """Those of the text that --help prints, which stands in one file of the program."""
+    for path in sorted((ROOT / "crates" / program / "src").glob("*.rt")):
+        _, found, behind = path.read_text().partition("Exit status:")
+        if found:
+            return numbers(r'(?:^|[\s,"])(\d{1,2}) +(?=[`A-Za-z])', re.split(r'"(?:;|\n\s*\))', behind)[0])
+    return []
 
 
-def page(name, heading):
-    text = (ROOT / "docs" / name).read_text()
-    section = text[text.index(f"\n## {heading}\n") + 1 :]
-    return numbers(r"^\| (\d+) \|", section.split("\n## ")[0])
+def man(path):
+    text = path.read_text()
+    return numbers(r"^\.It (?:Li )?(\d+)$", text[text.index(".Sh EXIT STATUS") :].split("\n.Sh ")[0])
 
 
-help_text = (PROGRAM / "src" / "main.rt").read_text().split("Exit status:")[1].split("\";")[0]
-defined = numbers(r"^status_code \w+ = (\d+)$", (PROGRAM / "specs" / "Status.antt").read_text())
-named = {
-    "--help": numbers(r"(?:^|, |,\n| )(\d+) (?=[`a-z])", help_text),
-    "overstore.1": man("overstore.1"),
-    "overstore-script.5": man("overstore-script.5"),
-    "docs/SCRIPTS.md": page("SCRIPTS.md", "How a run ends"),
-    "docs/OPERATING.md": page("OPERATING.md", "How a run ends"),
-}
-wrong = {place: found for place, found in named.items() if found != defined}
-print(f"{len(defined)} statuses:", "all the same" if not wrong else f"{defined}, and not {wrong}")
+def page(path, heading):
+    text = path.read_text()
+    return numbers(r"^\| (\d+) \|", text[text.index(f"\n## {heading}\n") + 1 :].split("\n## ")[0])
+
+
+def places_of(program):
+    """By place the statuses that it names: the definitions where the program has some, and the rest."""
+    definitions = ROOT / "crates" / program / "specs" / "Status.antt"
+    if definitions.exists():
+        yield "definitions", numbers(r"^status_code \w+ = (\d+)$", definitions.read_text())
+    yield "--help", help_of(program)
+    pages, sections = PROGRAMS[program]
+    for path in (ROOT / "dist" / "man" / name for name in pages):
+        yield path.name, man(path) if path.exists() else []
+    for path, heading in ((ROOT / "docs" / name, heading) for name, heading in sections):
+        yield path.name, page(path, heading) if path.exists() else []
+
+
+wrong = False
+for program in PROGRAMS:
+    if not (ROOT / "crates" / program).exists():
+        continue
+    named = list(places_of(program))
+    first, found = named[0]
+    other = {place: statuses for place, statuses in named if statuses != found}
+    wrong = wrong or bool(other)
+    print(f"{program}: {len(found)} statuses,", f"not {found} of {first}: {other}" if other else "all the same")
 sys.exit(1 if wrong else 0)
