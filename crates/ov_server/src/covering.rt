@@ -1,9 +1,10 @@
 //! What an owner is told before a creation.
-ghost use Rattle.std.specs.Prelude.{◌≡◌, ◌≤◌, ℕ, List, IfOk, IfSome, Ok};
+ghost use Rattle.std.specs.Prelude.{◌≡◌, ◌≤◌, ℕ, List, IfOk, IfSome, Ok, Some};
 ghost use Rattle.ov_base.specs.declared.limits.TheConstants.{MAX_FILE_BYTES};
 ghost use Rattle.ov_history.specs.Catalogue.{Catalogue};
 ghost use Rattle.ov_history.specs.Lists.{set_named};
 ghost use Rattle.ov_state.specs.Remembering.{IsPlannedIn};
+ghost use Rattle.ov_state.specs.declared.covering.Planned.{Planned};
 ghost use Rattle.ov_wire.specs.AnswerForm.{HasAnswerForm};
 ghost use Rattle.ov_wire.specs.RequestReading.{request_of};
 ghost use Rattle.ov_wire.specs.declared.request.Request.TheVariants as requests;
@@ -36,9 +37,11 @@ fn plan(epoch: u32, planned: Planned<WIDTH>) -> Answer
 
 /// What an answer tells of a creation, where it tells a plan.
 fn planned_in(answer: Answer) -> Option<Planned<WIDTH>>
-    ensures { (c : Catalogue) (name : List ℕ) (size list : ℕ)
+    ensures right { (c : Catalogue) (name : List ℕ) (size list : ℕ)
         → AnswersCover c name size list answer
         → IfSome result (IsPlannedIn c.base.sets) }
+    ensures told { (epoch : ℕ) (planned : Planned 4)
+        → answer ≡ plan_answer epoch planned → result ≡ Some planned }
 {
     match answer {
         Answer::Plan(plan) => {
