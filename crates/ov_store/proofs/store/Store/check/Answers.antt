@@ -50,7 +50,7 @@ returns-clause-checked g c =
     ≡ c.self.inside.vault.catalogue.epoch - length c.self.inside.journal.offsets =
     λ j. epoch j - c.count.ensures j in
     let s : Opened g.row.D.Denot = store_of c.self.inside.disk k c.self.inside.vault.catalogue
-        c.self.inside.vault.stored c.self.inside.failed in
+    c.self.inside.vault.stored c.self.inside.failed in
     subst (λ (old : Opened g.row.D.Denot). IfOk c.first_false.result (λ found.
     (h : SealedHistory) → Serves g.D.Disk.reads g.D.Disk.may_leave h old
     → Told (g.D.Disk.reads old.disk)
