@@ -48,7 +48,7 @@ returns-in_err-write_answer g c =
 pub remember-requires : goal.remember-requires
 remember-requires g c =
     subst (λ (k : Catalogue). IsPlannedIn k.base.sets c.in-Some.planned) c.state.ensures
-    (c.in-Some.ensures c.state.result.now.catalogue c.args.file.now c.args.size
+    (c.in-Some.ensures.right c.state.result.now.catalogue c.args.file.now c.args.size
     (set_named c.state.result.now.catalogue.users c.args.names.now) c.in_ok-answer.ensures.answer)
 
 pub returns-in-Some : goal.returns-in-Some
