@@ -1,0 +1,10 @@
+mod Acting
+mod Fronts
+mod Lines
+mod Listing
+mod Owning
+mod Quiet
+mod Reading
+mod Replies
+mod Sources
+mod Stopping
