@@ -1,6 +1,8 @@
 -- What the bytes at the front of a file say of it: a user key line and the bytes to be stored.
-use Rattle.std.proofs.Common.{◌≡◌, ◌∙◌, ◌⊎◌, ℕ, ◌+◌, ◌<◌, ◌≤◌, List, [], ◌∷◌, ◌++◌, length, Option, Some, None}
-use Rattle.std.proofs.Common.{refl, sym, ap, subst, inl, inr, arith, append-nil, length-append}
+use Rattle.std.proofs.Common.{◌≡◌, ◌∙◌, ◌⊎◌, ℕ, ◌+◌, ◌<◌, ◌≤◌, List, [], ◌∷◌, ◌++◌, length, Option}
+use Rattle.std.proofs.Common.{Some, None}
+use Rattle.std.proofs.Common.{sym, ap, subst, inl, inr, arith, append-nil, length-append}
+use Rattle.std.proofs.Common.{drop, length-take-le, take}
 use Rattle.std.specs.Prelude.{IfSome}
 use Rattle.std.specs.Fmt.{decimal}
 use Rattle.std.specs.List.{list_all}
@@ -8,6 +10,7 @@ use Rattle.std.specs.Io.KnownBytes.{Consumes, IsAtEnd}
 use Rattle.std.proofs.lemmas.Bool.{and_parts}
 use Rattle.std.proofs.lemmas.Bool.Decides.{nat_tests}
 use Rattle.std.proofs.lemmas.Fmt.{length-decimal-le}
+use Rattle.std.proofs.lemmas.List.{take_all, take-append-le}
 use Rattle.ov_base.specs.declared.limits.TheConstants.{MAX_FILE_BYTES, MAX_LAYER_NODES, MAX_NAME_BYTES}
 use Rattle.ov_base.specs.Names.{IsName, is_letter_or_digit, is_name_byte}
 use Rattle.std.specs.Prelude.{◌&&◌, nat_lt}
@@ -96,6 +99,12 @@ no_reader_found (Some file) (Some rest) front count long had (inr end) none = λ
     let same : file ≡ front = had ∙ ap (λ x. front ++ x) end ∙ append-nil front in
     none r (subst (λ f. IsLineOf f r) same is)
 
+-- then it is none of any reader
+pub no_line : (keys : Option (List ℕ)) → IfSome keys (λ line. (r : Reader) → IsLineOf line r → ⊥)
+    → IfSome keys (λ line. ((r : Reader) × IsLineOf line r) → ⊥)
+no_line None none = tt
+no_line (Some line) none = λ has. none has.0 has.1
+
 -- ---- the bytes to be stored
 
 -- bytes that aren't too many are all of the file
@@ -119,3 +128,34 @@ too_many (Some file) None front count long more had = absurd had
 too_many (Some file) (Some rest) front count long more had =
     let size : length file ≡ length front + length rest = ap length had ∙ length-append front rest in
     omega arith
+
+-- ---- a buffer that was filled
+
+-- a vector whose elements were all written has those that were written
+pub written_back : (buffer items bytes : List ℕ) (size count : ℕ) → length buffer ≡ size
+    → bytes ≡ take count (take size (buffer ++ drop (length buffer) items))
+    → bytes ≡ take count buffer
+written_back buffer items bytes size count long e =
+    let whole : take size (buffer ++ drop (length buffer) items) ≡ buffer =
+    take-append-le size buffer (drop (length buffer) items) (omega arith)
+    ∙ take_all size buffer (omega arith) in
+    e ∙ ap (take count) whole
+
+-- what is given of a buffer that isn't full is all of the file
+pub filled_all : (old new : Option (List ℕ)) (buffer bytes : List ℕ) (size count : ℕ)
+    → size ≡ 1048577 → length buffer ≡ size → count ≤ size → count ≤ MAX_FILE_BYTES
+    → Consumes old new (take count buffer) → (count ≡ size) ⊎ IsAtEnd new
+    → bytes ≡ take count buffer → IsBodyOf old bytes
+filled_all old new buffer bytes size count big long within few had (inl full) e =
+    absurd (omega arith)
+filled_all old new buffer bytes size count big long within few had (inr none) e =
+    subst (IsBodyOf old) (sym e)
+    (body_found old new (take count buffer) count (length-take-le count buffer (omega arith)) few had
+    (inr none))
+
+-- and where more was taken than a file has, the file is too long
+pub filled_more : (old new : Option (List ℕ)) (buffer : List ℕ) (size count : ℕ)
+    → length buffer ≡ size → count ≤ size → MAX_FILE_BYTES < count
+    → Consumes old new (take count buffer) → IfSome old (λ file. MAX_FILE_BYTES < length file)
+filled_more old new buffer size count long within more had =
+    too_many old new (take count buffer) count (length-take-le count buffer (omega arith)) more had

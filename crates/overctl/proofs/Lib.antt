@@ -2,9 +2,7 @@ mod Acting
 mod Fronts
 mod Lines
 mod Listing
-mod Owning
-mod Quiet
 mod Reading
+mod Reasons
 mod Replies
 mod Sources
-mod Stopping

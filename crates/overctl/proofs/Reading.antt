@@ -16,8 +16,6 @@ use Rattle.overctl.specs.Acts.{read_outcome}
 use Rattle.overctl.specs.Files.{FindsReader}
 use Rattle.overctl.specs.Machine.{IsMachinesRead, ReadersAsMachine, ReadsAlong, ReadsAsMachine}
 use Rattle.overctl.specs.Stops.{Outcome}
-use Rattle.overctl.specs.declared.stop.Stop.{Stop}
-use Rattle.overctl.specs.declared.stop.Stop.TheVariants as stops
 
 outcome_told : (k : Masters) (at_one : Option SealedHistory) (user file : List ℕ)
     (result : Result (List ℕ) ClientFault)
@@ -105,19 +103,3 @@ reader_told asked failed serves along law once p q client file keys result outco
     let by_r = subst (λ (x : Reader). Reads asked failed p q x file result) one reads in
     subst (ReadsAsMachine k r file v (serves q)) (sym e)
     (read_told asked failed serves along law p q r file result v k by_r is holds same)
-
--- a read that stops at its line says nothing of the machine
-pub unread_told : (keys : Option (List ℕ)) (file : List ℕ) (stop : Stop) (v : Service)
-    (Then : Service → Type 0)
-    → FindsReader keys (Err stop) → ReadersAsMachine file keys v Then (Err stop)
-unread_told keys file stops.BadKeys v Then found = λ line r k told line_is holds same. tt
-unread_told keys file stops.Read v Then found = λ line r k told line_is holds same. tt
-unread_told keys file (stops.Refused why) v Then found = absurd found
-unread_told keys file stops.Device v Then found = absurd found
-unread_told keys file stops.Memory v Then found = absurd found
-unread_told keys file stops.Link v Then found = absurd found
-unread_told keys file stops.OtherKeys v Then found = absurd found
-unread_told keys file stops.BadReply v Then found = absurd found
-unread_told keys file stops.Damaged v Then found = absurd found
-unread_told keys file stops.Unsettled v Then found = absurd found
-unread_told keys file stops.TooLong v Then found = absurd found

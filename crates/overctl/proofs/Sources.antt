@@ -1,18 +1,16 @@
 -- What is found in the files that an act reads.
-use Rattle.std.proofs.Common.{◌≡◌, ◌⊎◌, ◌<◌, ◌≤◌, ℕ, List, [], length, arith, Option, Some, None, Result, Ok, Err, ap, ap₂, refl, sym, subst, inl, inr, ◌∙◌}
+use Rattle.std.proofs.Common.{◌≡◌, ◌∙◌, ◌⊎◌, ℕ, List, Option, Some, None, Result, Ok, Err, ap, ap₂}
+use Rattle.std.proofs.Common.{sym, subst, inl, inr}
 use Rattle.std.specs.Prelude.{IfSome}
-use Rattle.ov_base.specs.declared.limits.TheConstants.{MAX_FILE_BYTES}
-use Rattle.ov_base.specs.declared.refusal.Refusal.{Refusal}
 use Rattle.ov_client.specs.KeyLines.{IsLineOf}
 use Rattle.ov_client.specs.Readers.{Reader}
 use Rattle.ov_history.specs.Masters.{Masters}
 use Rattle.ov_keyfile.specs.KeyFile.{HasMasters, IsKeyFile}
 use Rattle.ov_keyfile.specs.declared.masters.Masters.{Masters as ReadMasters}
 use Rattle.ov_peer.specs.Asks.{Asked, Failed}
-use Rattle.overctl.proofs.Replies.{nothing_told}
-use Rattle.overctl.specs.Acts.{Acts, ChecksBy, GoesOn, OwnsBy, ReadsBy, SaysCheck}
-use Rattle.overctl.specs.Causes.{HasKeys, NeedsKeys, StoresTooMany}
-use Rattle.overctl.specs.Files.{FindsBody, FindsBytes, FindsMasters, FindsReader, plain_masters}
+use Rattle.overctl.specs.Acts.{Acts, GoesOn, SaysCheck}
+use Rattle.overctl.specs.Causes.{HasKeys, NeedsKeys}
+use Rattle.overctl.specs.Files.{FindsBody, FindsMasters, FindsReader, plain_masters}
 use Rattle.ov_protocol.specs.Serving.{Service}
 use Rattle.overctl.specs.Machine.{OwnersAsMachine, OwnsAsMachine, StoresBytes}
 use Rattle.overctl.specs.Printing.{PutsOutcome}
@@ -23,11 +21,6 @@ use Rattle.overctl.specs.declared.stop.Stop.{Stop}
 use Rattle.overctl.specs.declared.stop.Stop.TheVariants as stops
 
 -- ---- the masters
-
--- masters that aren't found are no refusal
-pub masters_unrefused : (keys : Option (List ℕ)) (stop : Stop) (why : Refusal)
-    → FindsMasters keys (Err stop) → stop ≡ stops.Refused why → ⊥
-masters_unrefused keys stop why found e = subst (λ s. FindsMasters keys (Err s)) e found
 
 -- a key file has these masters alone
 pub same_masters : (file : List ℕ) (k : Masters) (masters : ReadMasters)
@@ -41,38 +34,6 @@ same_masters file k masters once is found =
     ap₂ (λ b s. record { base = b; surface = s }) both.0 both.1
 
 -- ---- the bytes
-
-few_if_none : (bytes : List ℕ) (found : Result (List ℕ) Stop) → found ≡ Ok bytes → found ≡ Ok []
-    → length bytes ≤ MAX_FILE_BYTES
-few_if_none bytes found is e =
-    let none : bytes ≡ [] = cc in
-    let size : length bytes ≡ 0 = ap length none in
-    omega arith
-
--- bytes that aren't found are no refusal
-pub bytes_unrefused : (act : Act) (body : Option (List ℕ)) (stop : Stop) (why : Refusal)
-    → FindsBody act body (Err stop) → stop ≡ stops.Refused why → ⊥
-bytes_unrefused (acts.Create file list) body stop why found e =
-    subst (λ s. FindsBytes body (Err s)) e found
-bytes_unrefused (acts.Enrol user) body stop why found e = cc
-bytes_unrefused (acts.Grant user file) body stop why found e = cc
-bytes_unrefused (acts.Revoke user file) body stop why found e = cc
-bytes_unrefused (acts.List file) body stop why found e = cc
-bytes_unrefused (acts.Key user) body stop why found e = cc
-bytes_unrefused (acts.Read file) body stop why found e = cc
-bytes_unrefused acts.Check body stop why found e = cc
-
--- bytes that are found are few
-pub few_bytes : (act : Act) (body : Option (List ℕ)) (bytes : List ℕ) → FindsBody act body (Ok bytes)
-    → length bytes ≤ MAX_FILE_BYTES
-few_bytes (acts.Create file list) body bytes found = found.few
-few_bytes (acts.Enrol user) body bytes found = few_if_none bytes (Ok bytes) refl found
-few_bytes (acts.Grant user file) body bytes found = few_if_none bytes (Ok bytes) refl found
-few_bytes (acts.Revoke user file) body bytes found = few_if_none bytes (Ok bytes) refl found
-few_bytes (acts.List file) body bytes found = few_if_none bytes (Ok bytes) refl found
-few_bytes (acts.Key user) body bytes found = few_if_none bytes (Ok bytes) refl found
-few_bytes (acts.Read file) body bytes found = few_if_none bytes (Ok bytes) refl found
-few_bytes acts.Check body bytes found = few_if_none bytes (Ok bytes) refl found
 
 -- the bytes that are found are those that are stored
 pub same_bytes : (act : Act) (body : Option (List ℕ)) (bytes stored : List ℕ)
@@ -206,11 +167,3 @@ owner_told act keys body v Then outcome masters bytes once found taken told = λ
     let served : v.surface ≡ masters.surface.bytes = same ∙ ap (λ (m : Masters). m.surface) one in
     subst (λ b. OwnsAsMachine k act b v Then outcome) (sym all)
     (subst (λ (m : Masters). OwnsAsMachine m act bytes v Then outcome) (sym one) (told served))
-
--- an owner's act that stops at its files says nothing of the machine
-pub stopped_told : (act : Act) (keys body : Option (List ℕ)) (v : Service)
-    (Then : Service → Type 0) (stop : Stop)
-    → ((why : Refusal) → stop ≡ stops.Refused why → ⊥)
-    → OwnersAsMachine act keys body v Then (Err stop)
-stopped_told act keys body v Then stop none = λ file stored k is key stores same.
-    nothing_told k v Then act stored stop none
