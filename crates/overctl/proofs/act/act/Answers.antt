@@ -1,0 +1,9 @@
+use Rattle.overctl.proofs.Sources.{needs_keys}
+use Rattle.overctl.proofs.act.act.Goals as goal
+
+pub returns-clause-keys : goal.returns-clause-keys
+returns-clause-keys g c =
+    needs_keys g.P.Peer.asked g.P.Peer.failed c.args.job.now.act (g.K.Source.left c.args.keys.now)
+    (g.B.Source.left c.args.body.now) c.args.peer.now c.perform-outcome.new.peer
+    c.perform-outcome.result (g.O.Sink.written c.args.out.now) (g.O.Sink.written c.finish.new.out)
+    c.finish.result c.perform-outcome.ensures.acts c.finish.ensures.puts

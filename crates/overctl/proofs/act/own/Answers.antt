@@ -1,0 +1,20 @@
+use Rattle.std.proofs.Common.{◌∙◌, ℕ, List, ap, subst, sym}
+use Rattle.ov_history.specs.Masters.{Masters}
+use Rattle.overctl.proofs.Sources.{owner_told}
+use Rattle.overctl.specs.Machine.{OwnsAsMachine}
+use Rattle.overctl.proofs.act.own.Goals as goal
+
+pub returns-clause-told : goal.returns-clause-told
+returns-clause-told g c = λ v is.
+    let Then = g.P.Peer.serves c.greet_and_command.new.peer in
+    let outcome = c.greet_and_command.result in
+    owner_told c.args.act.now (g.K.Source.left c.args.keys.now) (g.B.Source.left c.args.body.now) v
+    Then outcome c.in-Ok.masters c.in-Ok-body_of.bytes c.one_pair_of_masters.ensures
+    c.in-Ok.ensures.found c.in-Ok-body_of.ensures.found
+    (λ same.
+    subst (λ (k : Masters). OwnsAsMachine k c.args.act.now c.in-Ok-body_of.bytes v Then outcome)
+    c.new-owner.ensures
+    (subst (λ (b : List ℕ). OwnsAsMachine c.new-owner.result c.args.act.now b v Then outcome)
+    c.as_slice.ensures
+    (c.greet_and_command.ensures.told v is
+    (same ∙ ap (λ (k : Masters). k.surface) (sym c.new-owner.ensures)))))

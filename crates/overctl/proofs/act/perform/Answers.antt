@@ -1,0 +1,19 @@
+use Rattle.std.proofs.Common.{arith, subst, sym}
+use Rattle.std.proofs.lemmas.Grind.{common_steps}
+use Rattle.overctl.proofs.Acting.{told_by_owner}
+use Rattle.overctl.specs.Machine.{ActsAsMachine}
+use Rattle.overctl.specs.declared.job.Act.{Act}
+use Rattle.overctl.proofs.act.perform.Goals as goal
+
+pub returns-in-Read-clause-told : goal.returns-in-Read-clause-told
+returns-in-Read-clause-told g c = λ v is.
+    subst (λ (act : Act). ActsAsMachine act (g.K.Source.left c.args.keys.now)
+    (g.B.Source.left c.args.body.now) v (g.P.Peer.serves c.read.new.peer) c.read.result)
+    (sym c.in-Read.is) (c.read.ensures.told v is)
+
+pub returns-in-Enrol-clause-told : goal.returns-in-Enrol-clause-told
+returns-in-Enrol-clause-told g c = λ v is.
+    let which = c.in-Enrol.is in
+    told_by_owner c.args.act.now (g.K.Source.left c.args.keys.now) (g.B.Source.left c.args.body.now)
+    v (g.P.Peer.serves c.own.new.peer) c.own.result (grind (arith, common_steps))
+    (c.own.ensures.told v is)

@@ -1,0 +1,9 @@
+pub mod Acts
+pub mod Causes
+pub mod Endings
+pub mod Files
+pub mod Machine
+pub mod Printing
+pub mod Status
+pub mod Stops
+pub mod Words

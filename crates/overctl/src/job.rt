@@ -1,0 +1,38 @@
+//! What the words of a command line ask for.
+
+use ov_base::{Name, Names, Octets};
+
+/// What is to be done.
+#[derive(Drop)]
+pub enum Act {
+    /// `enrol`: the user is added.
+    Enrol { user: Name },
+    /// `grant`: the user joins the file's list.
+    Grant { user: Name, file: Name },
+    /// `revoke`: the user leaves the file's list.
+    Revoke { user: Name, file: Name },
+    /// `create`: the file is made, for the users of the list.
+    Create { file: Name, list: Names },
+    /// `list`: the names in the file's list are asked for.
+    List { file: Name },
+    /// `key`: the user's key line is asked for.
+    Key { user: Name },
+    /// `read`: the file's bytes are asked for.
+    Read { file: Name },
+    /// `check`: the check value of the base master is computed.
+    Check,
+}
+
+/// An act, where its server is, and the files that it reads. A word that the command doesn't have
+/// is empty.
+#[derive(Drop)]
+pub struct Job {
+    /// The server's address.
+    pub address: Octets,
+    /// The path of the masters' file, or of that of a user key line.
+    pub keys: Octets,
+    /// The path of the bytes that are stored.
+    pub path: Octets,
+    /// What is to be done.
+    pub act: Act,
+}

@@ -1,0 +1,47 @@
+//! The command line as clap has it: one command with one level of subcommands, whose words all
+//! stand at their places.
+
+use crate::texts;
+use clap::error::ErrorKind;
+use clap::{Arg, Command, Error};
+use std::alloc::{AllocError, Global};
+
+/// The command with these words.
+fn subcommand(alloc: Global, line: &'static texts::Line) -> Result<Command<'static>, AllocError> {
+    let mut command = Command::new(alloc, line.name)
+        .about(line.about)
+        .override_usage(line.usage)
+        .after_help(line.after);
+    for word in line.words {
+        let arg = Arg::new(alloc, word)
+            .required(true)
+            .help(texts::about_word(word));
+        command = command.arg(arg)?;
+    }
+    Ok(command)
+}
+
+/// The whole command line.
+fn command(alloc: Global) -> Result<Command<'static>, AllocError> {
+    let mut command = Command::new(alloc, "overctl")
+        .about(texts::ABOUT)
+        .override_usage(texts::USAGE)
+        .after_help(texts::AFTER)
+        .version(texts::VERSION)
+        .no_binary_name(true)
+        .subcommand_required(true)
+        .disable_help_subcommand(true);
+    for line in texts::LINES.as_slice() {
+        command = command.subcommand(subcommand(alloc, line)?)?;
+    }
+    Ok(command)
+}
+
+/// Whether clap takes the words, or why it doesn't: help may be asked for.
+pub fn judge(alloc: Global, words: &[String]) -> Result<(), Error> {
+    let command = command(alloc)?;
+    match command.try_get_matches_from(words) {
+        Ok(_matches) => Ok(()),
+        Err(error) => Err(error),
+    }
+}

@@ -1,0 +1,138 @@
+//! The real files and the real stream.
+
+use crate::act::act;
+use crate::job::{Act, Job};
+use crate::status::Status;
+use crate::texts::{Ending, Problem, hint_of};
+use ov_base::{Memory, Octets};
+use ov_io::{FileSource, StdSink};
+use ov_peer::FixedPeer;
+use ov_session::{NetPeer, TcpLink};
+use std::fs::File;
+use std::io::{ErrorKind, Read};
+use std::os::unix::fs::PermissionsExt;
+use std::{env, fs, io};
+
+// What a mode has where others than the file's owner may read it.
+const OTHERS_READ: u32 = 0o044;
+
+/// The words behind the program's name.
+pub fn words_of(rt: &HostRuntime) -> io::Result<Vec<String>> {
+    let mut words = Vec::new(rt.alloc());
+    for word in env::args(rt)?.skip(1) {
+        words.push(word)?;
+    }
+    Ok(words)
+}
+
+/// Takes the places of standard streams that are closed, so that no other file comes to stand
+/// there. Where they are open it takes three places that nobody uses.
+pub fn held_places(rt: &HostRuntime) -> (io::Result<File>, io::Result<File>, io::Result<File>) {
+    (
+        File::open(rt, "."),
+        File::open(rt, "."),
+        File::open(rt, "."),
+    )
+}
+
+// The text of a word.
+fn text_of(word: &Octets) -> &str {
+    std::str::from_utf8(word.as_slice()).unwrap_or("")
+}
+
+// Says so where others may read a file of keys.
+fn warn_of_mode(rt: &HostRuntime, path: &str) {
+    match fs::metadata(rt, path) {
+        Ok(about) => {
+            if about.permissions().mode() & OTHERS_READ != 0 {
+                let _ = eprintln!(rt; "overctl: warning: others may read {path}");
+            }
+        }
+        Err(_) => {}
+    }
+}
+
+// Why this file can't be read, if so.
+fn read_fault(rt: &HostRuntime, path: &str) -> Option<ErrorKind> {
+    let mut one = [0; 1];
+    match File::open(rt, path) {
+        Ok(mut file) => match file.read(&mut one) {
+            Ok(_) => None,
+            Err(error) => Some(error.kind()),
+        },
+        Err(error) => Some(error.kind()),
+    }
+}
+
+// How a job ended.
+fn ending_of<'a>(
+    rt: &HostRuntime,
+    job: &'a Job,
+    status: Status,
+    link: Option<ErrorKind>,
+) -> Ending<'a> {
+    let (keys, path) = (text_of(&job.keys), text_of(&job.path));
+    let is_read = matches!(&job.act, Act::Read { file: _ });
+    let address = text_of(&job.address);
+    let (path, reason) = match status {
+        Status::ReadFault => match read_fault(rt, keys) {
+            Some(reason) => (keys, Some(reason)),
+            None => (path, read_fault(rt, path)),
+        },
+        _ => (path, link),
+    };
+    Ending {
+        status,
+        address,
+        keys,
+        path,
+        is_read,
+        reason,
+    }
+}
+
+// Says on standard error what went wrong and what to do.
+fn explain(rt: &HostRuntime, end: &Ending<'_>) {
+    if end.status == Status::Done {
+        return;
+    }
+    let problem = Problem(end);
+    let _ = eprintln!(rt; "overctl: error: {problem}");
+    match hint_of(end) {
+        Some(hint) => {
+            let _ = eprintln!(rt; "overctl: hint: {hint}");
+        }
+        None => {}
+    }
+}
+
+// Does the job over the real files and the real stream; gives the status, and why the stream failed
+// where it did.
+fn do_job(rt: &HostRuntime, job: &Job) -> Result<(u8, Option<ErrorKind>), Memory> {
+    let alloc = rt.alloc();
+    let mut keys = FileSource::new(*rt, text_of(&job.keys))?;
+    let mut body = FileSource::new(*rt, text_of(&job.path))?;
+    let mut out = StdSink::new(rt.stdout());
+    if matches!(&job.act, Act::Check) {
+        let mut peer = FixedPeer::new(Vec::new(alloc), Octets::new(alloc));
+        let code = act(alloc, job, &mut keys, &mut body, &mut out, &mut peer);
+        return Ok((code, None));
+    }
+    let mut peer = NetPeer::new(TcpLink::new(*rt, text_of(&job.address))?)?;
+    let code = act(alloc, job, &mut keys, &mut body, &mut out, &mut peer);
+    Ok((code, peer.link().reason()))
+}
+
+/// Does the job, says what went wrong, and gives the status.
+pub fn run_job(rt: &HostRuntime, job: &Job) -> u8 {
+    warn_of_mode(rt, text_of(&job.keys));
+    let (code, reason) = match do_job(rt, job) {
+        Ok(done) => done,
+        Err(Memory) => (Status::OutOfMemory.code(), None),
+    };
+    match Status::from_code(code) {
+        Some(status) => explain(rt, &ending_of(rt, job, status, reason)),
+        None => {}
+    }
+    code
+}

@@ -1,0 +1,94 @@
+//! What is said of words that are no line of a command, and of those that ask for help.
+
+use crate::line::judge;
+use crate::status::Status;
+use crate::texts::{LINES, OUT_OF_MEMORY, UNWRITTEN, WrongWords, usage_of};
+use crate::words::names_of;
+use clap::Error;
+use clap::error::ErrorKind;
+use ov_base::Name;
+use std::alloc::Global;
+
+/// What is wrong with words of which clap makes this error.
+fn wrong_words<'a>(error: &Error, words: &'a [String]) -> WrongWords<'a> {
+    match error.kind() {
+        ErrorKind::MissingRequiredArgument => WrongWords::TooFew,
+        ErrorKind::InvalidSubcommand => match words.first() {
+            Some(word) => WrongWords::Command(word.as_str()),
+            None => WrongWords::None,
+        },
+        ErrorKind::MissingSubcommand | ErrorKind::DisplayHelpOnMissingArgumentOrSubcommand => {
+            WrongWords::None
+        }
+        _ => WrongWords::Others,
+    }
+}
+
+/// What is wrong with a word that stands where the line has this one.
+fn wrong_word<'a>(alloc: Global, label: &str, word: &'a str) -> Option<WrongWords<'a>> {
+    match label {
+        "USER" | "FILE" => match Name::read(word.as_bytes()) {
+            Some(_) => None,
+            None => Some(WrongWords::Name(word)),
+        },
+        "LIST" => match names_of(alloc, word) {
+            Ok(None) => Some(WrongWords::List(word)),
+            _ => None,
+        },
+        _ => None,
+    }
+}
+
+/// What is wrong with words that clap takes.
+fn wrong_names<'a>(alloc: Global, words: &'a [String]) -> WrongWords<'a> {
+    let Some((command, words)) = words.split_first() else {
+        return WrongWords::None;
+    };
+    for line in LINES.as_slice() {
+        if line.name == command.as_str() {
+            for (label, word) in line.words.iter().zip(words) {
+                if let Some(wrong) = wrong_word(alloc, label, word.as_str()) {
+                    return wrong;
+                }
+            }
+        }
+    }
+    WrongWords::Others
+}
+
+/// Says on standard error what is wrong with the words, and which line they should have been.
+pub fn say_wrong(rt: &HostRuntime, words: &[String], wrong: WrongWords<'_>) -> u8 {
+    let usage = usage_of(words.first().map(|word| word.as_str()));
+    let _ = eprintln!(rt; "overctl: error: {wrong}");
+    let _ = eprintln!(rt; "overctl: hint: use `{usage}`");
+    Status::Usage.code()
+}
+
+/// Gives the help or the version, where the words ask for it; or says what is wrong with them.
+fn say_of_line(rt: &HostRuntime, words: &[String], error: Error) -> u8 {
+    if error.use_stderr() {
+        return say_wrong(rt, words, wrong_words(&error, words));
+    }
+    match rt.print(&error) {
+        Ok(()) => Status::Done.code(),
+        Err(_) => {
+            let _ = eprintln!(rt; "overctl: error: {UNWRITTEN}");
+            Status::WriteFault.code()
+        }
+    }
+}
+
+/// Says that memory was refused.
+pub fn say_out_of_memory(rt: &HostRuntime) -> u8 {
+    let _ = eprintln!(rt; "overctl: error: {OUT_OF_MEMORY}");
+    Status::OutOfMemory.code()
+}
+
+/// Says why words are no job, and gives the status.
+pub fn explain_words(rt: &HostRuntime, words: &[String]) -> u8 {
+    match judge(rt.alloc(), words) {
+        Ok(()) => say_wrong(rt, words, wrong_names(rt.alloc(), words)),
+        Err(error) if error.kind() == ErrorKind::OutOfMemory => say_out_of_memory(rt),
+        Err(error) => say_of_line(rt, words, error),
+    }
+}
