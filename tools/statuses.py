@@ -1,5 +1,5 @@
-"""Compares the exit statuses that the definitions have with those that --help, the man pages and the
-pages of docs/ name.
+"""Compares the exit statuses that the definitions of a program have with those that its --help, its man pages and
+the pages of docs/ name.
 
 Run: python3 tools/statuses.py
 """
@@ -8,16 +8,27 @@ import re
 import sys
 
 ROOT = pathlib.Path(__file__).resolve().parent.parent
-PROGRAM = ROOT / "crates" / "overstore"
+CRATES = ROOT / "crates"
 
 
 def numbers(pattern, text):
     return sorted({int(number) for number in re.findall(pattern, text, re.M)})
 
 
+def defined(program):
+    return numbers(r"^status_code \w+ = (\d+)$", (CRATES / program / "specs" / "Status.antt").read_text())
+
+
+def helped(program, file, end):
+    """The statuses of the help in this file, which begin behind `Exit status:` and go to this text."""
+    text = (CRATES / program / "src" / file).read_text().split("Exit status:")[1].split(end)[0]
+    return numbers(r"(?:^|, |,\n| )(\d+) (?=[`a-z])", text)
+
+
 def man(name):
     text = (ROOT / "dist" / "man" / name).read_text()
-    return numbers(r"^\.It (\d+)$", text[text.index(".Sh EXIT STATUS") : text.index(".Sh EXAMPLES")])
+    section = text[text.index(".Sh EXIT STATUS") + 1 :].split("\n.Sh ")[0]
+    return numbers(r"^\.It (\d+)$", section)
 
 
 def page(name, heading):
@@ -26,15 +37,24 @@ def page(name, heading):
     return numbers(r"^\| (\d+) \|", section.split("\n## ")[0])
 
 
-help_text = (PROGRAM / "src" / "main.rt").read_text().split("Exit status:")[1].split("\";")[0]
-defined = numbers(r"^status_code \w+ = (\d+)$", (PROGRAM / "specs" / "Status.antt").read_text())
-named = {
-    "--help": numbers(r"(?:^|, |,\n| )(\d+) (?=[`a-z])", help_text),
-    "overstore.1": man("overstore.1"),
-    "overstore-script.5": man("overstore-script.5"),
-    "docs/SCRIPTS.md": page("SCRIPTS.md", "How a run ends"),
-    "docs/OPERATING.md": page("OPERATING.md", "How a run ends"),
+NAMED = {
+    "overstore": {
+        "--help": helped("overstore", "main.rt", '";'),
+        "overstore.1": man("overstore.1"),
+        "overstore-script.5": man("overstore-script.5"),
+        "docs/SCRIPTS.md": page("SCRIPTS.md", "How a run ends"),
+        "docs/OPERATING.md": page("OPERATING.md", "How a run ends"),
+    },
+    "overctl": {
+        "--help": helped("overctl", "texts.rt", ")"),
+        "overctl.1": man("overctl.1"),
+    },
 }
-wrong = {place: found for place, found in named.items() if found != defined}
-print(f"{len(defined)} statuses:", "all the same" if not wrong else f"{defined}, and not {wrong}")
-sys.exit(1 if wrong else 0)
+
+failed = False
+for program, places in NAMED.items():
+    statuses = defined(program)
+    wrong = {place: found for place, found in places.items() if found != statuses}
+    print(f"{program}, {len(statuses)} statuses:", "all the same" if not wrong else f"{statuses}, and not {wrong}")
+    failed = failed or bool(wrong)
+sys.exit(1 if failed else 0)

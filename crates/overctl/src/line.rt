@@ -2,12 +2,11 @@
 //! stand at their places.
 
 use crate::texts;
-use clap::error::ErrorKind;
 use clap::{Arg, Command, Error};
 use std::alloc::{AllocError, Global};
 
 /// The command with these words.
-fn subcommand(alloc: Global, line: &'static texts::Line) -> Result<Command<'static>, AllocError> {
+fn subcommand<'a>(alloc: Global, line: &'a texts::Line) -> Result<Command<'a>, AllocError> {
     let mut command = Command::new(alloc, line.name)
         .about(line.about)
         .override_usage(line.usage)
@@ -22,7 +21,7 @@ fn subcommand(alloc: Global, line: &'static texts::Line) -> Result<Command<'stat
 }
 
 /// The whole command line.
-fn command(alloc: Global) -> Result<Command<'static>, AllocError> {
+fn command<'a>(alloc: Global) -> Result<Command<'a>, AllocError> {
     let mut command = Command::new(alloc, "overctl")
         .about(texts::ABOUT)
         .override_usage(texts::USAGE)

@@ -3,8 +3,8 @@
 use crate::act::act;
 use crate::job::{Act, Job};
 use crate::status::Status;
-use crate::texts::{Ending, Problem, hint_of};
-use ov_base::{Memory, Octets};
+use crate::texts::{Asks, Ending, hint_of};
+use ov_base::{Memory, Name, Octets};
 use ov_io::{FileSource, StdSink};
 use ov_peer::FixedPeer;
 use ov_session::{NetPeer, TcpLink};
@@ -40,19 +40,24 @@ fn text_of(word: &Octets) -> &str {
     std::str::from_utf8(word.as_slice()).unwrap_or("")
 }
 
+// The text of a name.
+fn name_of(name: &Name) -> &str {
+    std::str::from_utf8(name.as_bytes()).unwrap_or("")
+}
+
 // Says so where others may read a file of keys.
 fn warn_of_mode(rt: &HostRuntime, path: &str) {
     match fs::metadata(rt, path) {
         Ok(about) => {
-            if about.permissions().mode() & OTHERS_READ != 0 {
-                let _ = eprintln!(rt; "overctl: warning: others may read {path}");
+            if about.is_file() && about.permissions().mode() & OTHERS_READ != 0 {
+                let _ = eprintln!(rt; "overctl: warning: {path} can be read by others");
             }
         }
         Err(_) => {}
     }
 }
 
-// Why this file can't be read, if so.
+// Why the first read of this file fails, if it does.
 fn read_fault(rt: &HostRuntime, path: &str) -> Option<ErrorKind> {
     let mut one = [0; 1];
     match File::open(rt, path) {
@@ -64,6 +69,42 @@ fn read_fault(rt: &HostRuntime, path: &str) -> Option<ErrorKind> {
     }
 }
 
+// Why this file can't be read, if so. Whoever opens a pipe again may wait, so nobody does.
+fn fault_of(rt: &HostRuntime, path: &str) -> Option<ErrorKind> {
+    match fs::metadata(rt, path) {
+        Ok(about) => {
+            if about.is_file() || about.is_dir() {
+                read_fault(rt, path)
+            } else {
+                None
+            }
+        }
+        Err(error) => Some(error.kind()),
+    }
+}
+
+// Which file of a job can't be read, and why.
+fn unread_of<'a>(rt: &HostRuntime, job: &'a Job) -> (&'a str, Option<ErrorKind>) {
+    let (keys, path) = (text_of(&job.keys), text_of(&job.path));
+    match fault_of(rt, keys) {
+        None if !path.is_empty() => (path, fault_of(rt, path)),
+        reason => (keys, reason),
+    }
+}
+
+// What an act asks for, and the file that it names.
+fn asks_of(act: &Act) -> (Asks, &str) {
+    match act {
+        Act::Enrol { user: _ } => (Asks::User, ""),
+        Act::Grant { user: _, file } | Act::Revoke { user: _, file } => (Asks::List, name_of(file)),
+        Act::Create { file, list: _ } => (Asks::List, name_of(file)),
+        Act::List { file } => (Asks::Answer, name_of(file)),
+        Act::Key { user: _ } => (Asks::Answer, ""),
+        Act::Read { file } => (Asks::Bytes, name_of(file)),
+        Act::Check => (Asks::Nothing, ""),
+    }
+}
+
 // How a job ended.
 fn ending_of<'a>(
     rt: &HostRuntime,
@@ -71,22 +112,18 @@ fn ending_of<'a>(
     status: Status,
     link: Option<ErrorKind>,
 ) -> Ending<'a> {
-    let (keys, path) = (text_of(&job.keys), text_of(&job.path));
-    let is_read = matches!(&job.act, Act::Read { file: _ });
-    let address = text_of(&job.address);
+    let (asks, file) = asks_of(&job.act);
     let (path, reason) = match status {
-        Status::ReadFault => match read_fault(rt, keys) {
-            Some(reason) => (keys, Some(reason)),
-            None => (path, read_fault(rt, path)),
-        },
-        _ => (path, link),
+        Status::ReadFault => unread_of(rt, job),
+        _ => (text_of(&job.path), link),
     };
     Ending {
         status,
-        address,
-        keys,
+        asks,
+        address: text_of(&job.address),
+        keys: text_of(&job.keys),
+        file,
         path,
-        is_read,
         reason,
     }
 }
@@ -96,14 +133,9 @@ fn explain(rt: &HostRuntime, end: &Ending<'_>) {
     if end.status == Status::Done {
         return;
     }
-    let problem = Problem(end);
-    let _ = eprintln!(rt; "overctl: error: {problem}");
-    match hint_of(end) {
-        Some(hint) => {
-            let _ = eprintln!(rt; "overctl: hint: {hint}");
-        }
-        None => {}
-    }
+    let hint = hint_of(end);
+    let _ = eprintln!(rt; "overctl: error: {end}");
+    let _ = eprintln!(rt; "overctl: hint: {hint}");
 }
 
 // Does the job over the real files and the real stream; gives the status, and why the stream failed

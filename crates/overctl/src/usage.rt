@@ -2,7 +2,7 @@
 
 use crate::line::judge;
 use crate::status::Status;
-use crate::texts::{LINES, OUT_OF_MEMORY, UNWRITTEN, WrongWords, usage_of};
+use crate::texts::{FREE_SOME, LINES, OUT_OF_MEMORY, UNWRITTEN, WRITABLE, WrongWords, usage_of};
 use crate::words::names_of;
 use clap::Error;
 use clap::error::ErrorKind;
@@ -73,6 +73,7 @@ fn say_of_line(rt: &HostRuntime, words: &[String], error: Error) -> u8 {
         Ok(()) => Status::Done.code(),
         Err(_) => {
             let _ = eprintln!(rt; "overctl: error: {UNWRITTEN}");
+            let _ = eprintln!(rt; "overctl: hint: {WRITABLE}");
             Status::WriteFault.code()
         }
     }
@@ -81,6 +82,7 @@ fn say_of_line(rt: &HostRuntime, words: &[String], error: Error) -> u8 {
 /// Says that memory was refused.
 pub fn say_out_of_memory(rt: &HostRuntime) -> u8 {
     let _ = eprintln!(rt; "overctl: error: {OUT_OF_MEMORY}");
+    let _ = eprintln!(rt; "overctl: hint: {FREE_SOME}");
     Status::OutOfMemory.code()
 }
 
