@@ -20,8 +20,8 @@ fn subcommand<'a>(alloc: Global, line: &'a texts::Line) -> Result<Command<'a>, A
     Ok(command)
 }
 
-/// The whole command line.
-fn command<'a>(alloc: Global) -> Result<Command<'a>, AllocError> {
+/// The whole command line, of these commands.
+fn command<'a>(alloc: Global, lines: &'a [texts::Line]) -> Result<Command<'a>, AllocError> {
     let mut command = Command::new(alloc, "overctl")
         .about(texts::ABOUT)
         .override_usage(texts::USAGE)
@@ -30,7 +30,7 @@ fn command<'a>(alloc: Global) -> Result<Command<'a>, AllocError> {
         .no_binary_name(true)
         .subcommand_required(true)
         .disable_help_subcommand(true);
-    for line in texts::LINES.as_slice() {
+    for line in lines {
         command = command.subcommand(subcommand(alloc, line)?)?;
     }
     Ok(command)
@@ -38,7 +38,7 @@ fn command<'a>(alloc: Global) -> Result<Command<'a>, AllocError> {
 
 /// Whether clap takes the words, or why it doesn't: help may be asked for.
 pub fn judge(alloc: Global, words: &[String]) -> Result<(), Error> {
-    let command = command(alloc)?;
+    let command = command(alloc, texts::LINES.as_slice())?;
     match command.try_get_matches_from(words) {
         Ok(_matches) => Ok(()),
         Err(error) => Err(error),

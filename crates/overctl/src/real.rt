@@ -1,4 +1,5 @@
 //! The real files and the real stream.
+ghost use Rattle.overctl.specs.Files.{HasListLimits};
 
 use crate::act::act;
 use crate::job::{Act, Job};
@@ -140,7 +141,9 @@ fn explain(rt: &HostRuntime, end: &Ending<'_>) {
 
 // Does the job over the real files and the real stream; gives the status, and why the stream failed
 // where it did.
-fn do_job(rt: &HostRuntime, job: &Job) -> Result<(u8, Option<ErrorKind>), Memory> {
+fn do_job(rt: &HostRuntime, job: &Job) -> Result<(u8, Option<ErrorKind>), Memory>
+    requires list { HasListLimits job.now.act }
+{
     let alloc = rt.alloc();
     let mut keys = FileSource::new(*rt, text_of(&job.keys))?;
     let mut body = FileSource::new(*rt, text_of(&job.path))?;
@@ -156,7 +159,9 @@ fn do_job(rt: &HostRuntime, job: &Job) -> Result<(u8, Option<ErrorKind>), Memory
 }
 
 /// Does the job, says what went wrong, and gives the status.
-pub fn run_job(rt: &HostRuntime, job: &Job) -> u8 {
+pub fn run_job(rt: &HostRuntime, job: &Job) -> u8
+    requires list { HasListLimits job.now.act }
+{
     warn_of_mode(rt, text_of(&job.keys));
     let (code, reason) = match do_job(rt, job) {
         Ok(done) => done,

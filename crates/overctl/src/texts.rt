@@ -164,15 +164,17 @@ impl Display for WrongWords<'_> {
     }
 }
 
+/// The command of this name.
+pub fn line_of(name: &str) -> Option<&'static Line> {
+    LINES.as_slice().iter().find(|line| line.name == name)
+}
+
 /// The line of the command that the words begin with, or the way to all lines.
 pub fn usage_of(command: Option<&str>) -> &'static str {
-    let command = command.unwrap_or("");
-    for line in LINES.as_slice() {
-        if line.name == command {
-            return line.usage;
-        }
+    match line_of(command.unwrap_or("")) {
+        Some(line) => line.usage,
+        None => "overctl --help",
     }
-    "overctl --help"
 }
 
 /// What a command asks for.
