@@ -238,26 +238,25 @@ def output_that_is_not_written():
 
 
 def memory_that_is_refused():
-    """At the server; and here, under a limit of addresses, whatever the program comes to."""
+    """At the server; and here, under each limit of addresses at which the program starts."""
     no_memory = "out of memory, here or at @"
     case(ENROL, ["WELCOME", "NO_MEMORY"], 7, b"", no_memory, NEW_USER)
     case(READ, ["NO_MEMORY"], 7, b"", no_memory, AS_IT_WAS)
-    statuses = set()
-    for size in range(256 << 10, 16 << 20, 512 << 10):
-        server = Server([REPLIES[name] for name in ("WELCOME", "PLAN", "ACCEPTED")])
+    words = "create @ keys f1 a,b longest".split()
+    for size in range(1 << 20, 16 << 20, 1 << 20):
         limit = lambda: resource.setrlimit(resource.RLIMIT_AS, (size, size))
-        words = ["create", server.address, "keys", "f1", "a,b", "longest"]
         try:
-            status, out, lines = run(new_folder(), words, preexec_fn=limit)
+            starts = run(new_folder(), ["--version"], preexec_fn=limit)[0] == 0
         except OSError:
-            continue
-        finally:
-            server.end()
-        assert (status, out) in [(7, b""), (0, b"ok 8\n")] or status < 0 or status == 127, (size, status, out, lines)
-        if status == 7:
-            assert lines[0].startswith("overctl: error: out of memory"), lines
-        statuses.add(status)
-    assert 0 in statuses, statuses
+            starts = False
+        if starts:
+            server = Server([REPLIES[name] for name in ("WELCOME", "PLAN", "ACCEPTED")])
+            try:
+                found = run(new_folder(), [server.address if word == "@" else word for word in words], preexec_fn=limit)
+            finally:
+                server.end()
+            lines = two_lines(no_memory.replace("@", server.address), IN_DOUBT)
+            assert found in [(7, b"", lines), (0, b"ok 8\n", [])], (size, found)
 
 
 def links_that_fail():
@@ -271,6 +270,8 @@ def links_that_fail():
     for address in ("here", "127.0.0.1:port", "127.0.0.1:65536"):
         error, hint = "%s is no address" % address, "an address is HOST:PORT, as 127.0.0.1:7400"
         case("enrol %s keys a" % address, [], 8, b"", error, hint, asked=0)
+    error = "cannot reach nobody.invalid:7400: no such host"
+    case("enrol nobody.invalid:7400 keys a", [], 8, b"", error, "correct the address", asked=0)
     reset = "cannot reach @: connection reset"
     half = framed(REPLIES["WELCOME"])[:20]
     case(ENROL, [Broken(half, resets=True)], 8, b"", reset, NEW_USER, asked=1)

@@ -2,15 +2,17 @@
 ghost use Rattle.overctl.specs.Files.{HasListLimits};
 
 use crate::act::act;
+use crate::asks::{asks_of, file_of, stores};
 use crate::job::{Act, Job};
 use crate::status::Status;
-use crate::texts::{Asks, Ending, hint_of};
-use ov_base::{Memory, Name, Octets};
+use crate::texts::{Ending, hint_of};
+use ov_base::{Memory, Octets};
 use ov_io::{FileSource, StdSink};
 use ov_peer::FixedPeer;
 use ov_session::{NetPeer, TcpLink};
 use std::fs::File;
 use std::io::{ErrorKind, Read};
+use std::net::ToSocketAddrs;
 use std::os::unix::fs::PermissionsExt;
 use std::{env, fs, io};
 
@@ -39,11 +41,6 @@ pub fn held_places(rt: &HostRuntime) -> (io::Result<File>, io::Result<File>, io:
 // The text of a word.
 fn text_of(word: &Octets) -> &str {
     std::str::from_utf8(word.as_slice()).unwrap_or("")
-}
-
-// The text of a name.
-fn name_of(name: &Name) -> &str {
-    std::str::from_utf8(name.as_bytes()).unwrap_or("")
 }
 
 // Says so where others may read a file of keys.
@@ -88,21 +85,19 @@ fn fault_of(rt: &HostRuntime, path: &str) -> Option<ErrorKind> {
 fn unread_of<'a>(rt: &HostRuntime, job: &'a Job) -> (&'a str, Option<ErrorKind>) {
     let (keys, path) = (text_of(&job.keys), text_of(&job.path));
     match fault_of(rt, keys) {
-        None if !path.is_empty() => (path, fault_of(rt, path)),
+        None if stores(&job.act) => (path, fault_of(rt, path)),
         reason => (keys, reason),
     }
 }
 
-// What an act asks for, and the file that it names.
-fn asks_of(act: &Act) -> (Asks, &str) {
-    match act {
-        Act::Enrol { user: _ } => (Asks::User, ""),
-        Act::Grant { user: _, file } | Act::Revoke { user: _, file } => (Asks::List, name_of(file)),
-        Act::Create { file, list: _ } => (Asks::List, name_of(file)),
-        Act::List { file } => (Asks::Answer, name_of(file)),
-        Act::Key { user: _ } => (Asks::Answer, ""),
-        Act::Read { file } => (Asks::Bytes, name_of(file)),
-        Act::Check => (Asks::Nothing, ""),
+// Why a stream failed. The system has no kind for a host that isn't found, so it is asked once more.
+fn link_fault(rt: &HostRuntime, address: &str, reason: Option<ErrorKind>) -> Option<ErrorKind> {
+    match reason {
+        Some(ErrorKind::Uncategorized) => match address.to_socket_addrs(rt) {
+            Ok(_addresses) => reason,
+            Err(_) => Some(ErrorKind::NotFound),
+        },
+        _ => reason,
     }
 }
 
@@ -113,17 +108,17 @@ fn ending_of<'a>(
     status: Status,
     link: Option<ErrorKind>,
 ) -> Ending<'a> {
-    let (asks, file) = asks_of(&job.act);
+    let address = text_of(&job.address);
     let (path, reason) = match status {
         Status::ReadFault => unread_of(rt, job),
-        _ => (text_of(&job.path), link),
+        _ => (text_of(&job.path), link_fault(rt, address, link)),
     };
     Ending {
         status,
-        asks,
-        address: text_of(&job.address),
+        asks: asks_of(&job.act),
+        address,
         keys: text_of(&job.keys),
-        file,
+        file: file_of(&job.act),
         path,
         reason,
     }

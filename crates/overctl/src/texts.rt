@@ -1,5 +1,6 @@
 //! Every text of the program: its help, and what it says on standard error.
 
+use crate::asks::Asks;
 use crate::status::Status;
 use std::fmt;
 use std::fmt::{Display, Formatter, Write};
@@ -177,21 +178,6 @@ pub fn usage_of(command: Option<&str>) -> &'static str {
     }
 }
 
-/// What a command asks for.
-#[derive(Clone, Copy, Debug, PartialEq, Eq)]
-pub enum Asks {
-    /// A new user.
-    User,
-    /// A new file, or another list of a file.
-    List,
-    /// What the store has, with both masters.
-    Answer,
-    /// The bytes of a file, with a user's keys.
-    Bytes,
-    /// Nothing of a server.
-    Nothing,
-}
-
 /// How a job ended, with what its words name.
 #[derive(Clone, Copy)]
 pub struct Ending<'a> {
@@ -219,6 +205,7 @@ fn say_unreached<W: Write>(end: &Ending<'_>, f: &mut Formatter<W>) -> fmt::Resul
     let address = end.address;
     match end.reason {
         Some(ErrorKind::InvalidInput) => write!(f, "{address} is no address"),
+        Some(ErrorKind::NotFound) => write!(f, "cannot reach {address}: no such host"),
         Some(reason) => write!(f, "cannot reach {address}: {reason}"),
         None => write!(
             f,
@@ -265,6 +252,7 @@ fn hint_of_doubt(asks: Asks) -> &'static str {
 fn hint_of_link(end: &Ending<'_>) -> &'static str {
     match end.reason {
         Some(ErrorKind::ConnectionRefused) => "start the server, or correct the address",
+        Some(ErrorKind::NotFound) => "correct the address",
         Some(ErrorKind::InvalidInput) => "an address is HOST:PORT, as 127.0.0.1:7400",
         _ => hint_of_doubt(end.asks),
     }
