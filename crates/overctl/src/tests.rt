@@ -72,8 +72,9 @@ fn with_body(case: Case<'_>, body: usize) -> Case<'_> {
     Case { body, ..case }
 }
 
-/// The case with these calls that fail.
-fn with_fails<'a>(case: Case<'a>, fails: [&'a [u8]; 3]) -> Case<'a> {
+/// The case with these calls that fail, of the key file, of the file at PATH and of the output.
+fn with_fails<'a>(case: Case<'a>, keys: &'a [u8], body: &'a [u8], out: &'a [u8]) -> Case<'a> {
+    let fails = [keys, body, out];
     Case { fails, ..case }
 }
 
@@ -180,11 +181,13 @@ fn each_status_has_its_case(rt: HostRuntime) -> Result<(), Fail> {
             b"refused 1 Taken\n",
         ),
         stopped(ENROL, &[&WELCOME, &KNOWN, &DEVICE_FAULT], 4),
-        with_fails(stopped(ENROL, &[], 5), [&[0], b"", b""]),
-        with_fails(stopped(CREATE, &[], 5), [b"", &[0], b""]),
+        with_fails(stopped(ENROL, &[], 5), &[0], b"", b""),
+        with_fails(stopped(CREATE, &[], 5), b"", &[0], b""),
         with_fails(
             stopped(ENROL, &[&WELCOME, &KNOWN, &ACCEPTED], 6),
-            [b"", b"", &[0]],
+            b"",
+            b"",
+            &[0],
         ),
         stopped(ENROL, &[&WELCOME, &NO_MEMORY], 7),
         stopped(ENROL, &[&WELCOME], 8),
