@@ -11,14 +11,6 @@ use Rattle.overctl.specs.declared.job.Job.{Job}
 
 -- ---- some words, as texts
 
-pub one_text : (words : List (String Global)) (a : String Global) (x : List ℕ)
-    → 1 ≤ length words → length words < 2 → a ≡ get_or words 0 a → x ≡ string_bytes a
-    → map string_bytes words ≡ x ∷ []
-one_text [] a x low high p e = absurd (omega arith)
-one_text (w ∷ []) a x low high p e =
-    let is : a ≡ w = p in ap (λ t. t ∷ []) (sym (e ∙ ap string_bytes is))
-one_text (w ∷ v ∷ ws) a x low high p e = absurd (omega arith)
-
 two_first : (w v : String Global) (ws : List (String Global)) (a b : String Global) (x y : List ℕ)
     → a ≡ w → b ≡ v → x ≡ string_bytes a → y ≡ string_bytes b
     → map string_bytes (w ∷ v ∷ ws) ≡ x ∷ y ∷ map string_bytes ws
@@ -72,42 +64,6 @@ same_count (w ∷ words) = ap (λ n. suc n) (same_count words)
 
 -- ---- lines of acts
 
--- one word behind keys is a name
-pub one_word : (act : Act) (command word path : List ℕ) → IsActLine act command (word ∷ []) path
-    → IsName word × ((command ≡ codes "enrol") ⊎ ((command ≡ codes "list")
-    ⊎ ((command ≡ codes "key") ⊎ (command ≡ codes "read"))))
-one_word (acts.Enrol user) command word path (c, w, p, named) =
-    let e : user ≡ word = cc in (subst IsName e named, inl c)
-one_word (acts.Grant user file) command word path (c, w, p, named, other) = absurd (cc)
-one_word (acts.Revoke user file) command word path (c, w, p, named, other) = absurd (cc)
-one_word (acts.Create file list) command word path (text, c, w, named, written) = absurd (cc)
-one_word (acts.List file) command word path (c, w, p, named) =
-    let e : file ≡ word = cc in (subst IsName e named, inr (inl c))
-one_word (acts.Key user) command word path (c, w, p, named) =
-    let e : user ≡ word = cc in (subst IsName e named, inr (inr (inl c)))
-one_word (acts.Read file) command word path (c, w, p, named) =
-    let e : file ≡ word = cc in (subst IsName e named, inr (inr (inr c)))
-one_word acts.Check command word path is = absurd is
-
--- two words behind keys are names
-pub two_words : (act : Act) (command first second path : List ℕ)
-    → IsActLine act command (first ∷ second ∷ []) path
-    → IsName first × IsName second × ((command ≡ codes "grant") ⊎ (command ≡ codes "revoke"))
-two_words (acts.Enrol user) command first second path (c, w, p, named) = absurd (cc)
-two_words (acts.Grant user file) command first second path (c, w, p, named, other) =
-    let e : user ≡ first = cc in
-    let f : file ≡ second = cc in
-    (subst IsName e named, subst IsName f other, inl c)
-two_words (acts.Revoke user file) command first second path (c, w, p, named, other) =
-    let e : user ≡ first = cc in
-    let f : file ≡ second = cc in
-    (subst IsName e named, subst IsName f other, inr c)
-two_words (acts.Create file list) command first second path (text, c, w, named, written) = absurd (cc)
-two_words (acts.List file) command first second path (c, w, p, named) = absurd (cc)
-two_words (acts.Key user) command first second path (c, w, p, named) = absurd (cc)
-two_words (acts.Read file) command first second path (c, w, p, named) = absurd (cc)
-two_words acts.Check command first second path is = absurd is
-
 -- three are a file's name, a list and a path
 pub three_words : (act : Act) (command first second third path : List ℕ)
     → IsActLine act command (first ∷ second ∷ third ∷ []) path
@@ -146,19 +102,6 @@ few_words (acts.Read file) command path words (c, w, p, named) =
 few_words acts.Check command path words is = absurd is
 
 -- ---- lines of jobs
-
--- an act's words behind an address and keys are a line
-pub line_of_act : (act : Act) (command address keys path : List ℕ) (rest : List (List ℕ))
-    → IsActLine act command rest path
-    → IsLine act address keys path (command ∷ address ∷ keys ∷ rest)
-line_of_act (acts.Enrol user) command address keys path rest is = (command, rest, refl, is)
-line_of_act (acts.Grant user file) command address keys path rest is = (command, rest, refl, is)
-line_of_act (acts.Revoke user file) command address keys path rest is = (command, rest, refl, is)
-line_of_act (acts.Create file list) command address keys path rest is = (command, rest, refl, is)
-line_of_act (acts.List file) command address keys path rest is = (command, rest, refl, is)
-line_of_act (acts.Key user) command address keys path rest is = (command, rest, refl, is)
-line_of_act (acts.Read file) command address keys path rest is = (command, rest, refl, is)
-line_of_act acts.Check command address keys path rest is = absurd is
 
 -- an act's line of three words and more is that of its words behind address and keys
 act_of_line : (act : Act) (command address keys a k path : List ℕ) (rest : List (List ℕ))
@@ -261,13 +204,6 @@ created act command file list path words e w is =
     subst (λ c. IsActLine act c words path) (sym e)
     (subst (λ ws. IsActLine act (codes "create") ws path) (sym w) (is path))
 
--- three words behind another command are no act's
-pub not_created : (command : List ℕ) (a b c : List ℕ) (words : List (List ℕ))
-    → (command ≡ codes "create" → ⊥) → words ≡ a ∷ b ∷ c ∷ []
-    → (act : Act) (path : List ℕ) → IsActLine act command words path → ⊥
-not_created command a b c words none w act path is =
-    none (three_words act command a b c path (subst (λ ws. IsActLine act command ws path) w is)).0
-
 -- no words, and more than three, are no act's
 pub other_count : (words : List (String Global)) → (length words < 1) ⊎ (4 ≤ length words)
     → (act : Act) (command path : List ℕ)
@@ -287,14 +223,6 @@ pub checks : (job : Job) (words : List (List ℕ)) (check keys : List ℕ)
     → IsJobLine words job
 checks job words check keys w c e =
     subst (IsJobLine words) (sym e) (w ∙ ap (λ t. t ∷ keys ∷ []) c, refl, refl)
-
--- two words that aren't it
-pub not_check : (words : List (List ℕ)) (check keys : List ℕ) → words ≡ check ∷ keys ∷ []
-    → (check ≡ codes "check" → ⊥) → IsNoLine words
-not_check words check keys w none =
-    let count : length words ≡ 2 = ap length w in
-    short_no_line words (omega arith)
-    (λ other e. let same : check ∷ keys ∷ [] ≡ codes "check" ∷ other ∷ [] = sym w ∙ e in none (cc))
 
 -- fewer words than two
 pub none_short : (words : List (String Global)) → length words < 2

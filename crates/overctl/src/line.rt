@@ -2,12 +2,11 @@
 //! stand at their places.
 
 use crate::texts;
-use clap::error::ErrorKind;
 use clap::{Arg, Command, Error};
 use std::alloc::{AllocError, Global};
 
 /// The command with these words.
-fn subcommand(alloc: Global, line: &'static texts::Line) -> Result<Command<'static>, AllocError> {
+fn subcommand<'a>(alloc: Global, line: &'a texts::Line) -> Result<Command<'a>, AllocError> {
     let mut command = Command::new(alloc, line.name)
         .about(line.about)
         .override_usage(line.usage)
@@ -21,8 +20,8 @@ fn subcommand(alloc: Global, line: &'static texts::Line) -> Result<Command<'stat
     Ok(command)
 }
 
-/// The whole command line.
-fn command(alloc: Global) -> Result<Command<'static>, AllocError> {
+/// The whole command line, of these commands.
+fn command<'a>(alloc: Global, lines: &'a [texts::Line]) -> Result<Command<'a>, AllocError> {
     let mut command = Command::new(alloc, "overctl")
         .about(texts::ABOUT)
         .override_usage(texts::USAGE)
@@ -31,7 +30,7 @@ fn command(alloc: Global) -> Result<Command<'static>, AllocError> {
         .no_binary_name(true)
         .subcommand_required(true)
         .disable_help_subcommand(true);
-    for line in texts::LINES.as_slice() {
+    for line in lines {
         command = command.subcommand(subcommand(alloc, line)?)?;
     }
     Ok(command)
@@ -39,7 +38,7 @@ fn command(alloc: Global) -> Result<Command<'static>, AllocError> {
 
 /// Whether clap takes the words, or why it doesn't: help may be asked for.
 pub fn judge(alloc: Global, words: &[String]) -> Result<(), Error> {
-    let command = command(alloc)?;
+    let command = command(alloc, texts::LINES.as_slice())?;
     match command.try_get_matches_from(words) {
         Ok(_matches) => Ok(()),
         Err(error) => Err(error),

@@ -16,6 +16,7 @@
 //! | `finish` | what is put to standard output |
 //! | `stop`, `status` | why there is no result; the exit statuses |
 //! | `texts` | all texts |
+//! | `asks` | what an act asks for, as far as texts tell acts apart |
 //! | `usage` | what is said of wrong words, and help |
 //! | `real` | the real files and the real stream |
 //!
@@ -30,6 +31,7 @@
 #![tactic(auto)]
 
 mod act;
+mod asks;
 mod command;
 mod files;
 mod finish;

@@ -1,15 +1,18 @@
 //! The real files and the real stream.
+ghost use Rattle.overctl.specs.Files.{HasListLimits};
 
 use crate::act::act;
+use crate::asks::{asks_of, file_of, stores};
 use crate::job::{Act, Job};
 use crate::status::Status;
-use crate::texts::{Ending, Problem, hint_of};
+use crate::texts::{Ending, hint_of};
 use ov_base::{Memory, Octets};
 use ov_io::{FileSource, StdSink};
 use ov_peer::FixedPeer;
 use ov_session::{NetPeer, TcpLink};
 use std::fs::File;
 use std::io::{ErrorKind, Read};
+use std::net::ToSocketAddrs;
 use std::os::unix::fs::PermissionsExt;
 use std::{env, fs, io};
 
@@ -44,15 +47,15 @@ fn text_of(word: &Octets) -> &str {
 fn warn_of_mode(rt: &HostRuntime, path: &str) {
     match fs::metadata(rt, path) {
         Ok(about) => {
-            if about.permissions().mode() & OTHERS_READ != 0 {
-                let _ = eprintln!(rt; "overctl: warning: others may read {path}");
+            if about.is_file() && about.permissions().mode() & OTHERS_READ != 0 {
+                let _ = eprintln!(rt; "overctl: warning: {path} can be read by others");
             }
         }
         Err(_) => {}
     }
 }
 
-// Why this file can't be read, if so.
+// Why the first read of this file fails, if it does.
 fn read_fault(rt: &HostRuntime, path: &str) -> Option<ErrorKind> {
     let mut one = [0; 1];
     match File::open(rt, path) {
@@ -64,6 +67,40 @@ fn read_fault(rt: &HostRuntime, path: &str) -> Option<ErrorKind> {
     }
 }
 
+// Why this file can't be read, if so. Whoever opens a pipe again may wait, so nobody does.
+fn fault_of(rt: &HostRuntime, path: &str) -> Option<ErrorKind> {
+    match fs::metadata(rt, path) {
+        Ok(about) => {
+            if about.is_file() || about.is_dir() {
+                read_fault(rt, path)
+            } else {
+                None
+            }
+        }
+        Err(error) => Some(error.kind()),
+    }
+}
+
+// Which file of a job can't be read, and why.
+fn unread_of<'a>(rt: &HostRuntime, job: &'a Job) -> (&'a str, Option<ErrorKind>) {
+    let (keys, path) = (text_of(&job.keys), text_of(&job.path));
+    match fault_of(rt, keys) {
+        None if stores(&job.act) => (path, fault_of(rt, path)),
+        reason => (keys, reason),
+    }
+}
+
+// Why a stream failed. The system has no kind for a host that isn't found, so it is asked once more.
+fn link_fault(rt: &HostRuntime, address: &str, reason: Option<ErrorKind>) -> Option<ErrorKind> {
+    match reason {
+        Some(ErrorKind::Uncategorized) => match address.to_socket_addrs(rt) {
+            Ok(_addresses) => reason,
+            Err(_) => Some(ErrorKind::NotFound),
+        },
+        _ => reason,
+    }
+}
+
 // How a job ended.
 fn ending_of<'a>(
     rt: &HostRuntime,
@@ -71,22 +108,18 @@ fn ending_of<'a>(
     status: Status,
     link: Option<ErrorKind>,
 ) -> Ending<'a> {
-    let (keys, path) = (text_of(&job.keys), text_of(&job.path));
-    let is_read = matches!(&job.act, Act::Read { file: _ });
     let address = text_of(&job.address);
     let (path, reason) = match status {
-        Status::ReadFault => match read_fault(rt, keys) {
-            Some(reason) => (keys, Some(reason)),
-            None => (path, read_fault(rt, path)),
-        },
-        _ => (path, link),
+        Status::ReadFault => unread_of(rt, job),
+        _ => (text_of(&job.path), link_fault(rt, address, link)),
     };
     Ending {
         status,
+        asks: asks_of(&job.act),
         address,
-        keys,
+        keys: text_of(&job.keys),
+        file: file_of(&job.act),
         path,
-        is_read,
         reason,
     }
 }
@@ -96,19 +129,16 @@ fn explain(rt: &HostRuntime, end: &Ending<'_>) {
     if end.status == Status::Done {
         return;
     }
-    let problem = Problem(end);
-    let _ = eprintln!(rt; "overctl: error: {problem}");
-    match hint_of(end) {
-        Some(hint) => {
-            let _ = eprintln!(rt; "overctl: hint: {hint}");
-        }
-        None => {}
-    }
+    let hint = hint_of(end);
+    let _ = eprintln!(rt; "overctl: error: {end}");
+    let _ = eprintln!(rt; "overctl: hint: {hint}");
 }
 
 // Does the job over the real files and the real stream; gives the status, and why the stream failed
 // where it did.
-fn do_job(rt: &HostRuntime, job: &Job) -> Result<(u8, Option<ErrorKind>), Memory> {
+fn do_job(rt: &HostRuntime, job: &Job) -> Result<(u8, Option<ErrorKind>), Memory>
+    requires list { HasListLimits job.now.act }
+{
     let alloc = rt.alloc();
     let mut keys = FileSource::new(*rt, text_of(&job.keys))?;
     let mut body = FileSource::new(*rt, text_of(&job.path))?;
@@ -124,7 +154,9 @@ fn do_job(rt: &HostRuntime, job: &Job) -> Result<(u8, Option<ErrorKind>), Memory
 }
 
 /// Does the job, says what went wrong, and gives the status.
-pub fn run_job(rt: &HostRuntime, job: &Job) -> u8 {
+pub fn run_job(rt: &HostRuntime, job: &Job) -> u8
+    requires list { HasListLimits job.now.act }
+{
     warn_of_mode(rt, text_of(&job.keys));
     let (code, reason) = match do_job(rt, job) {
         Ok(done) => done,

@@ -57,6 +57,27 @@ fn printed<'a>(words: &'a [&'a str], replies: &'a [&'a [u8]], out: &'a [u8]) -> 
     }
 }
 
+/// The case with this printed.
+fn with_out<'a>(case: Case<'a>, out: &'a [u8]) -> Case<'a> {
+    Case { out, ..case }
+}
+
+/// The case with this file of keys.
+fn with_keys<'a>(case: Case<'a>, keys: &'a [u8]) -> Case<'a> {
+    Case { keys, ..case }
+}
+
+/// The case with so many bytes to be stored.
+fn with_body(case: Case<'_>, body: usize) -> Case<'_> {
+    Case { body, ..case }
+}
+
+/// The case with these calls that fail, of the key file, of the file at PATH and of the output.
+fn with_fails<'a>(case: Case<'a>, keys: &'a [u8], body: &'a [u8], out: &'a [u8]) -> Case<'a> {
+    let fails = [keys, body, out];
+    Case { fails, ..case }
+}
+
 /// The words of a command line.
 fn strings(alloc: Global, words: &[&str]) -> Result<Vec<String>, Fail> {
     let mut all = Vec::new(alloc);
@@ -143,10 +164,7 @@ fn acts_print_their_lines(rt: HostRuntime) -> Result<(), Fail> {
             &[&WELCOME, &KNOWN_C],
             KEY_LINE,
         ),
-        Case {
-            keys: KEY_LINE,
-            ..printed(READ, &[&CHAINED, &BYTES], b"x1")
-        },
+        with_keys(printed(READ, &[&CHAINED, &BYTES], b"x1"), KEY_LINE),
     ];
     for case in &cases {
         assert_case(&rt, rt.alloc(), case)?;
@@ -158,45 +176,29 @@ fn acts_print_their_lines(rt: HostRuntime) -> Result<(), Fail> {
 fn each_status_has_its_case(rt: HostRuntime) -> Result<(), Fail> {
     let cases = [
         stopped(&["enrol", "here:1", "keys"], &[], 2),
-        Case {
-            out: b"refused 1 Taken\n",
-            ..stopped(ENROL, &[&WELCOME, &REFUSED], 3)
-        },
+        with_out(
+            stopped(ENROL, &[&WELCOME, &REFUSED], 3),
+            b"refused 1 Taken\n",
+        ),
         stopped(ENROL, &[&WELCOME, &KNOWN, &DEVICE_FAULT], 4),
-        Case {
-            fails: [&[0], b"", b""],
-            ..stopped(ENROL, &[], 5)
-        },
-        Case {
-            fails: [b"", &[0], b""],
-            ..stopped(CREATE, &[], 5)
-        },
-        Case {
-            fails: [b"", b"", &[0]],
-            ..stopped(ENROL, &[&WELCOME, &KNOWN, &ACCEPTED], 6)
-        },
+        with_fails(stopped(ENROL, &[], 5), &[0], b"", b""),
+        with_fails(stopped(CREATE, &[], 5), b"", &[0], b""),
+        with_fails(
+            stopped(ENROL, &[&WELCOME, &KNOWN, &ACCEPTED], 6),
+            b"",
+            b"",
+            &[0],
+        ),
         stopped(ENROL, &[&WELCOME, &NO_MEMORY], 7),
         stopped(ENROL, &[&WELCOME], 8),
         stopped(ENROL, &[&WELCOME_OTHER], 9),
         stopped(ENROL, &[&WELCOME, &KNOWN, &BAD_TAG], 9),
-        Case {
-            keys: KEY_LINE,
-            ..stopped(ENROL, &[], 10)
-        },
+        with_keys(stopped(ENROL, &[], 10), KEY_LINE),
         stopped(READ, &[], 10),
         stopped(ENROL, &[&WELCOME, &ACCEPTED], 11),
-        Case {
-            keys: KEY_LINE,
-            ..stopped(READ, &[&CHAINED, &OTHER_BYTES], 12)
-        },
-        Case {
-            body: 1_048_577,
-            ..stopped(CREATE, &[], 14)
-        },
-        Case {
-            body: 1_048_576,
-            ..stopped(CREATE, &[], 8)
-        },
+        with_keys(stopped(READ, &[&CHAINED, &OTHER_BYTES], 12), KEY_LINE),
+        with_body(stopped(CREATE, &[], 14), 1_048_577),
+        with_body(stopped(CREATE, &[], 8), 1_048_576),
     ];
     for case in &cases {
         assert_case(&rt, rt.alloc(), case)?;

@@ -1,5 +1,6 @@
 //! Every text of the program: its help, and what it says on standard error.
 
+use crate::asks::Asks;
 use crate::status::Status;
 use std::fmt;
 use std::fmt::{Display, Formatter, Write};
@@ -20,12 +21,10 @@ macro_rules! after {
         concat!(
             "Example: ",
             $example,
-            "\n\nExit status:\n",
-            "   0 done               5 a file isn't read      10 no key file\n",
-            "   2 wrong words        6 output isn't written   11 a wrong reply\n",
-            "   3 refused            7 out of memory          12 the file is damaged\n",
-            "   4 the server's disk  8 the server's link      13 others were faster\n",
-            "     failed             9 other masters' store   14 more than 1048576 bytes"
+            "\nExit status:  0 done         5 read failed    9 other masters  13 others faster\n",
+            "              2 wrong words  6 write failed  10 no key file    14 file too long\n",
+            "              3 refused      7 out of memory 11 wrong reply\n",
+            "              4 disk failed  8 no server     12 file damaged"
         )
     };
 }
@@ -118,8 +117,14 @@ pub fn about_word(word: &str) -> &'static str {
 /// What is said where memory is refused to the program itself.
 pub const OUT_OF_MEMORY: &str = "out of memory";
 
+/// What to do then.
+pub const FREE_SOME: &str = "free some, and try again";
+
 /// What is said where standard output can't be written.
 pub const UNWRITTEN: &str = "cannot write standard output";
+
+/// What to do then.
+pub const WRITABLE: &str = "see that it is open, and that there is room";
 
 /// Why the words are no line of a command.
 #[derive(Drop)]
@@ -144,7 +149,7 @@ impl Display for WrongWords<'_> {
     fn fmt<W: Write>(&self, f: &mut Formatter<W>) -> fmt::Result {
         match self {
             WrongWords::None => f.write_str("no command is given"),
-            WrongWords::NoText => f.write_str("a word is no UTF-8"),
+            WrongWords::NoText => f.write_str("a word is no text"),
             WrongWords::Command(word) => write!(f, "`{word}` is no command"),
             WrongWords::TooFew => f.write_str("words are missing"),
             WrongWords::Others => f.write_str("there are too many words, or an unknown option"),
@@ -160,81 +165,123 @@ impl Display for WrongWords<'_> {
     }
 }
 
+/// The command of this name.
+pub fn line_of(name: &str) -> Option<&'static Line> {
+    LINES.as_slice().iter().find(|line| line.name == name)
+}
+
 /// The line of the command that the words begin with, or the way to all lines.
 pub fn usage_of(command: Option<&str>) -> &'static str {
-    let command = command.unwrap_or("");
-    for line in LINES.as_slice() {
-        if line.name == command {
-            return line.usage;
-        }
+    match line_of(command.unwrap_or("")) {
+        Some(line) => line.usage,
+        None => "overctl --help",
     }
-    "overctl --help"
 }
 
 /// How a job ended, with what its words name.
 #[derive(Clone, Copy)]
 pub struct Ending<'a> {
     pub status: Status,
+    pub asks: Asks,
     pub address: &'a str,
     pub keys: &'a str,
+    pub file: &'a str,
     pub path: &'a str,
-    pub is_read: bool,
     pub reason: Option<ErrorKind>,
 }
 
-/// What is wrong.
-#[derive(Clone, Copy)]
-pub struct Problem<'a>(pub &'a Ending<'a>);
+// Says that a file isn't read.
+fn say_unread<W: Write>(end: &Ending<'_>, f: &mut Formatter<W>) -> fmt::Result {
+    let path = end.path;
+    match end.reason {
+        Some(ErrorKind::NotFound) => write!(f, "cannot read {path}: no such file"),
+        Some(reason) => write!(f, "cannot read {path}: {reason}"),
+        None => write!(f, "cannot read {path}"),
+    }
+}
 
-impl Display for Problem<'_> {
+// Says that a server isn't reached, or doesn't reply.
+fn say_unreached<W: Write>(end: &Ending<'_>, f: &mut Formatter<W>) -> fmt::Result {
+    let address = end.address;
+    match end.reason {
+        Some(ErrorKind::InvalidInput) => write!(f, "{address} is no address"),
+        Some(ErrorKind::NotFound) => write!(f, "cannot reach {address}: no such host"),
+        Some(reason) => write!(f, "cannot reach {address}: {reason}"),
+        None => write!(
+            f,
+            "cannot reach {address}: its reply is cut off, or no frame"
+        ),
+    }
+}
+
+/// What is wrong.
+impl Display for Ending<'_> {
     fn fmt<W: Write>(&self, f: &mut Formatter<W>) -> fmt::Result {
-        let Problem(end) = self;
-        let (address, keys, path) = (end.address, end.keys, end.path);
-        match end.status {
+        let (address, keys) = (self.address, self.keys);
+        match self.status {
             Status::Done | Status::Usage => f.write_str("nothing is wrong"),
-            Status::Refused => write!(f, "{address} refuses it: standard output says why"),
-            Status::Device => write!(f, "the disk of {address} failed"),
-            Status::ReadFault => match end.reason {
-                Some(ErrorKind::NotFound) => write!(f, "cannot read {path}: no such file"),
-                Some(reason) => write!(f, "cannot read {path}: {reason}"),
-                None => write!(f, "cannot read {path}"),
-            },
+            Status::Refused => write!(f, "{address} refuses the command"),
+            Status::Device => write!(f, "the disk of the store at {address} failed"),
+            Status::ReadFault => say_unread(self, f),
             Status::WriteFault => f.write_str(UNWRITTEN),
-            Status::OutOfMemory => f.write_str("out of memory, here or at the server"),
-            Status::LinkFault => match end.reason {
-                Some(reason) => write!(f, "cannot reach {address}: {reason}"),
-                None => write!(f, "cannot reach {address}: it ended before its reply did"),
-            },
-            Status::OtherKeys => write!(f, "the store of {address} has other masters than {keys}"),
-            Status::BadKeys if end.is_read => write!(f, "{keys} is no user key line"),
+            Status::OutOfMemory if self.asks == Asks::Nothing => f.write_str(OUT_OF_MEMORY),
+            Status::OutOfMemory => write!(f, "out of memory, here or at {address}"),
+            Status::LinkFault => say_unreached(self, f),
+            Status::OtherKeys => write!(f, "the store at {address} has other masters than {keys}"),
+            Status::BadKeys if self.asks == Asks::Bytes => write!(f, "{keys} is no user key line"),
             Status::BadKeys => write!(f, "{keys} is no key file"),
-            Status::BadReply => write!(f, "{address} gave a reply that is none"),
-            Status::Damaged => write!(f, "the bytes of the file at {address} aren't its owner's"),
-            Status::Unsettled => write!(f, "others changed the store of {address} in nine tries"),
-            Status::TooLong => write!(f, "{path} has more than 1048576 bytes"),
+            Status::BadReply => write!(f, "{address} gave a reply to another request"),
+            Status::Damaged => write!(f, "the bytes of {} at {address} are damaged", self.file),
+            Status::Unsettled => write!(f, "others changed the store at {address} in nine tries"),
+            Status::TooLong => write!(f, "{} has more than 1048576 bytes", self.path),
         }
     }
 }
 
+// What to do where a command was sent and what came of it isn't known.
+fn hint_of_doubt(asks: Asks) -> &'static str {
+    match asks {
+        Asks::User => "it may be done: repeat it, and `refused 1 Taken` says that it was",
+        Asks::List => "it may be done: look with `overctl list` before you repeat it",
+        Asks::Answer | Asks::Bytes => "the store is as it was: try again",
+        Asks::Nothing => "try again",
+    }
+}
+
+// What to do where a server isn't reached.
+fn hint_of_link(end: &Ending<'_>) -> &'static str {
+    match end.reason {
+        Some(ErrorKind::ConnectionRefused) => "start the server, or correct the address",
+        Some(ErrorKind::NotFound) => "correct the address",
+        Some(ErrorKind::InvalidInput) => "an address is HOST:PORT, as 127.0.0.1:7400",
+        _ => hint_of_doubt(end.asks),
+    }
+}
+
+// What to do where standard output isn't written.
+fn hint_of_output(asks: Asks) -> &'static str {
+    match asks {
+        Asks::User | Asks::List => hint_of_doubt(asks),
+        Asks::Answer | Asks::Bytes | Asks::Nothing => WRITABLE,
+    }
+}
+
 /// What to do about it.
-pub fn hint_of(end: &Ending<'_>) -> Option<&'static str> {
+pub fn hint_of(end: &Ending<'_>) -> &'static str {
     match end.status {
-        Status::LinkFault if end.reason == Some(ErrorKind::ConnectionRefused) => {
-            Some("start the server, or correct ADDRESS")
-        }
-        Status::LinkFault | Status::Device if !end.is_read => {
-            Some("an update may have been made: look with `overctl list` before you repeat it")
-        }
-        Status::WriteFault => Some("an update was made: only its line is lost"),
-        Status::OtherKeys => Some(
-            "use the key file whose `overctl check` the server's settings have",
-        ),
-        Status::BadKeys if end.is_read => Some("the owner prints one with `overctl key`"),
-        Status::BadKeys => Some("it has two different lines of 64 hexadecimal digits"),
-        Status::BadReply => Some("see that overstored of this version listens there"),
-        Status::Damaged => Some("read again; if it stays so, the store or the key line is damaged"),
-        Status::Unsettled => Some("try again"),
-        Status::TooLong => Some("store it as several files"),
-        _ => None,
+        Status::Done => "nothing is to be done",
+        Status::Usage => "see `overctl --help`",
+        Status::Refused => "standard output says why, and overctl(1) what to do",
+        Status::ReadFault => "see that it is a file that you may read",
+        Status::LinkFault => hint_of_link(end),
+        Status::WriteFault => hint_of_output(end.asks),
+        Status::Device | Status::OutOfMemory => hint_of_doubt(end.asks),
+        Status::OtherKeys => "take the masters whose `overctl check` its settings have",
+        Status::BadKeys if end.asks == Asks::Bytes => "the owner prints one with `overctl key`",
+        Status::BadKeys => "it has two different lines of 64 hexadecimal digits",
+        Status::BadReply => "see that overstored listens there, of this version",
+        Status::Damaged => "read again; where it stays so, the store or the key line is damaged",
+        Status::Unsettled => "try again",
+        Status::TooLong => "store it as several files",
     }
 }

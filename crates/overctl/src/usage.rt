@@ -2,7 +2,7 @@
 
 use crate::line::judge;
 use crate::status::Status;
-use crate::texts::{LINES, OUT_OF_MEMORY, UNWRITTEN, WrongWords, usage_of};
+use crate::texts::{FREE_SOME, OUT_OF_MEMORY, UNWRITTEN, WRITABLE, WrongWords, line_of, usage_of};
 use crate::words::names_of;
 use clap::Error;
 use clap::error::ErrorKind;
@@ -44,13 +44,12 @@ fn wrong_names<'a>(alloc: Global, words: &'a [String]) -> WrongWords<'a> {
     let Some((command, words)) = words.split_first() else {
         return WrongWords::None;
     };
-    for line in LINES.as_slice() {
-        if line.name == command.as_str() {
-            for (label, word) in line.words.iter().zip(words) {
-                if let Some(wrong) = wrong_word(alloc, label, word.as_str()) {
-                    return wrong;
-                }
-            }
+    let Some(line) = line_of(command.as_str()) else {
+        return WrongWords::Command(command.as_str());
+    };
+    for (label, word) in line.words.iter().zip(words) {
+        if let Some(wrong) = wrong_word(alloc, label, word.as_str()) {
+            return wrong;
         }
     }
     WrongWords::Others
@@ -73,6 +72,7 @@ fn say_of_line(rt: &HostRuntime, words: &[String], error: Error) -> u8 {
         Ok(()) => Status::Done.code(),
         Err(_) => {
             let _ = eprintln!(rt; "overctl: error: {UNWRITTEN}");
+            let _ = eprintln!(rt; "overctl: hint: {WRITABLE}");
             Status::WriteFault.code()
         }
     }
@@ -81,6 +81,7 @@ fn say_of_line(rt: &HostRuntime, words: &[String], error: Error) -> u8 {
 /// Says that memory was refused.
 pub fn say_out_of_memory(rt: &HostRuntime) -> u8 {
     let _ = eprintln!(rt; "overctl: error: {OUT_OF_MEMORY}");
+    let _ = eprintln!(rt; "overctl: hint: {FREE_SOME}");
     Status::OutOfMemory.code()
 }
 

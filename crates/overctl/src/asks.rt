@@ -1,0 +1,54 @@
+//! What an act asks for, as far as texts tell acts apart.
+
+use crate::job::Act;
+use ov_base::Name;
+
+/// What an act asks for.
+#[derive(Clone, Copy, Debug, PartialEq, Eq)]
+pub enum Asks {
+    /// A new user.
+    User,
+    /// A new file, or another list of a file.
+    List,
+    /// What the store has, with both masters.
+    Answer,
+    /// The bytes of a file, with a user's keys.
+    Bytes,
+    /// Nothing of a server.
+    Nothing,
+}
+
+/// What the act asks for.
+pub fn asks_of(act: &Act) -> Asks {
+    match act {
+        Act::Enrol { user: _ } => Asks::User,
+        Act::Grant { user: _, file: _ }
+        | Act::Revoke { user: _, file: _ }
+        | Act::Create { file: _, list: _ } => Asks::List,
+        Act::List { file: _ } | Act::Key { user: _ } => Asks::Answer,
+        Act::Read { file: _ } => Asks::Bytes,
+        Act::Check => Asks::Nothing,
+    }
+}
+
+/// Whether it stores the bytes of a file.
+pub fn stores(act: &Act) -> bool {
+    matches!(act, Act::Create { file: _, list: _ })
+}
+
+// The text of a name.
+fn text_of(name: &Name) -> &str {
+    std::str::from_utf8(name.as_bytes()).unwrap_or("")
+}
+
+/// The file that the act names, if it names one.
+pub fn file_of(act: &Act) -> &str {
+    match act {
+        Act::Enrol { user: _ } | Act::Key { user: _ } | Act::Check => "",
+        Act::Grant { user: _, file }
+        | Act::Revoke { user: _, file }
+        | Act::Create { file, list: _ }
+        | Act::List { file }
+        | Act::Read { file } => text_of(file),
+    }
+}

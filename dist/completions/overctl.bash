@@ -1,0 +1,10 @@
+# What overctl(1) takes behind its name, for bash. Behind a command words are completed as files.
+_overctl() {
+    local word=${COMP_WORDS[COMP_CWORD]} words=
+    case $COMP_CWORD,$word in
+        1,*) words='enrol create grant revoke list key read check --help --version' ;;
+        *,-*) words=--help ;;
+    esac
+    mapfile -t COMPREPLY < <(compgen -W "$words" -- "$word")
+}
+complete -o default -F _overctl overctl

@@ -1,0 +1,15 @@
+# What overctl(1) takes behind its name, for fish.
+set -l command '__fish_use_subcommand'
+
+complete -c overctl -f
+complete -c overctl -l help -d 'Print help'
+complete -c overctl -n $command -l version -d 'Print the version'
+complete -c overctl -n $command -a enrol -d 'Add a user'
+complete -c overctl -n $command -a create -d 'Store bytes as a file for the users of a list'
+complete -c overctl -n $command -a grant -d "Put a user onto a file's list"
+complete -c overctl -n $command -a revoke -d "Take a user off a file's list"
+complete -c overctl -n $command -a list -d "Print a file's list"
+complete -c overctl -n $command -a key -d 'Print the key line with which a user reads'
+complete -c overctl -n $command -a read -d "Print a file's bytes, by a user's key line"
+complete -c overctl -n $command -a check -d "Print the base master's check value"
+complete -c overctl -n "not $command" -F

@@ -1,0 +1,445 @@
+"""Runs overctl by itself, over files and a server that gives fixed replies: each exit status with what it prints
+and its two lines on standard error, words that are no line, help, and a file of keys that others may read.
+
+Run, after `rt run` has built the program: python3 tools/ctl_cases.py crates/overctl/out/overctl
+"""
+import os
+import pathlib
+import re
+import resource
+import socket
+import struct
+import subprocess
+import sys
+import tempfile
+import threading
+import time
+
+PROGRAM = str(pathlib.Path(sys.argv[1]).resolve())
+CRATE = pathlib.Path(__file__).resolve().parent.parent / "crates" / "overctl" / "src"
+SECONDS = 60
+
+
+def bytes_of(text):
+    """The bytes that a list of numbers and letters of Rattle says."""
+    spelled = re.findall(r"0x[0-9a-f]+|\d+|b'.'", text)
+    return bytes(ord(word[2]) if word.startswith("b'") else int(word, 0) for word in spelled)
+
+
+# The replies of the crate's own tests, by name.
+REPLIES = {
+    name: bytes_of(text)
+    for name, text in re.findall(
+        r"^pub const (\w+): \[u8; \d+\] = \[(.*?)\];", (CRATE / "tests" / "replies.rt").read_text(), re.M | re.S
+    )
+}
+TESTS = (CRATE / "tests.rt").read_text()
+KEYS, KEY_LINE = (
+    re.search(r'^const %s: &\[u8\] =\s+b"(.*?)";' % name, TESTS, re.M | re.S)[1].replace("\\n", "\n")
+    for name in ("KEYS", "KEY_LINE")
+)
+CHECK = re.search(r'b"([0-9a-f]{64})\\n"', TESTS)[1]
+
+
+# ---- a server
+
+
+class Broken:
+    """Bytes in a reply's place, behind which the server leaves, by a reset or by an end."""
+
+    def __init__(self, raw, resets=False):
+        self.raw, self.resets = raw, resets
+
+
+def framed(frame):
+    return struct.pack(">I", len(frame)) + frame
+
+
+def taken(stream, count):
+    got = b""
+    while len(got) < count:
+        piece = stream.recv(count - len(got))
+        if not piece:
+            return None
+        got += piece
+    return got
+
+
+def request(stream):
+    head = taken(stream, 4)
+    return head and taken(stream, struct.unpack(">I", head)[0])
+
+
+class Server:
+    """Serves one connection with these replies, one for each request, and leaves at the next one."""
+
+    def __init__(self, replies):
+        self.replies, self.asked = replies, []
+        self.listener = socket.create_server(("127.0.0.1", 0))
+        self.address = "127.0.0.1:%d" % self.listener.getsockname()[1]
+        self.thread = threading.Thread(target=self.serve)
+        self.thread.start()
+
+    def serve(self):
+        self.listener.settimeout(SECONDS)
+        try:
+            stream, _ = self.listener.accept()
+        except OSError:
+            return
+        with stream:
+            stream.settimeout(SECONDS)
+            for reply in self.replies:
+                frame = request(stream)
+                if frame is None:
+                    return
+                self.asked.append(frame)
+                if isinstance(reply, Broken):
+                    stream.sendall(reply.raw)
+                    if reply.resets:
+                        time.sleep(0.2)
+                        stream.setsockopt(socket.SOL_SOCKET, socket.SO_LINGER, struct.pack("ii", 1, 0))
+                    return
+                stream.sendall(framed(reply))
+            frame = request(stream)
+            if frame is not None:
+                self.asked.append(frame)
+
+    def end(self):
+        # Whoever is still waited for isn't coming.
+        self.listener.shutdown(socket.SHUT_RDWR)
+        self.thread.join()
+        self.listener.close()
+
+
+# ---- runs
+
+
+def run(folder, words, **streams):
+    """The status of the program over these words, what it puts, and its lines on standard error."""
+    streams.setdefault("stdout", subprocess.PIPE)
+    done = subprocess.run(
+        [PROGRAM, *words], cwd=folder, stdin=subprocess.DEVNULL, stderr=subprocess.PIPE, timeout=SECONDS, **streams
+    )
+    return done.returncode, done.stdout, done.stderr.decode().splitlines()
+
+
+def two_lines(error, hint):
+    return ["overctl: error: " + error, "overctl: hint: " + hint]
+
+
+def is_in_form(lines):
+    """Each line is in lower case but for names, and ends with no full stop."""
+    for line in lines:
+        assert re.match(r"overctl: (error|hint|warning): [^A-Z]", line), line
+        assert not line.endswith("."), line
+
+
+def new_folder():
+    """A folder with a key file, a user key line, files to be stored, and what is neither."""
+    folder = pathlib.Path(tempfile.mkdtemp(dir=BASE))
+    for name, text in {
+        "keys": KEYS,
+        "key": KEY_LINE,
+        "body": "x1",
+        "long": "x" * 1_048_577,
+        "longest": "x" * 1_048_576,
+        "short": KEYS[1:],
+    }.items():
+        path = folder / name
+        path.write_text(text)
+        path.chmod(0o600)
+    (folder / "folder").mkdir()
+    return folder
+
+
+def case(words, replies, status, out, error=None, hint=None, asked=None, **streams):
+    """A run over a server with these replies, whose address stands for `@` in words and lines."""
+    server = Server([REPLIES[reply] if isinstance(reply, str) else reply for reply in replies])
+    at = lambda text: text.replace("@", server.address)
+    try:
+        found = run(new_folder(), [at(word) for word in words.split()], **streams)
+    finally:
+        server.end()
+    lines = [] if error is None else two_lines(at(error), at(hint))
+    assert found == (status, out, lines), (words, found, (status, out, lines))
+    is_in_form(lines)
+    assert asked is None or len(server.asked) == asked, (words, server.asked)
+
+
+ENROL = "enrol @ keys a"
+GRANT = "grant @ keys a f1"
+CREATE = "create @ keys f1 a,b body"
+READ = "read @ key f1"
+LIST = "list @ keys f1"
+KEY = "key @ keys c"
+
+
+# ---- statuses
+
+IN_DOUBT = "it may be done: look with `overctl list` before you repeat it"
+NEW_USER = "it may be done: repeat it, and `refused 1 Taken` says that it was"
+AS_IT_WAS = "the store is as it was: try again"
+NO_OUTPUT = "cannot write standard output"
+WHY = "standard output says why, and overctl(1) what to do"
+CUT_OFF = "cannot reach @: its reply is cut off, or no frame"
+
+
+def commands():
+    """Each command over a server that does what it asks."""
+    case(ENROL, ["WELCOME", "KNOWN", "ACCEPTED"], 0, b"ok 8\n", asked=3)
+    case(GRANT, ["WELCOME", "KNOWN", "ACCEPTED"], 0, b"ok 8\n", asked=3)
+    case("revoke @ keys a f1", ["WELCOME", "KNOWN", "ACCEPTED"], 0, b"ok 8\n", asked=3)
+    case(CREATE, ["WELCOME", "PLAN", "ACCEPTED"], 0, b"ok 8\n", asked=3)
+    case("create @ keys f1 - longest", ["WELCOME"], 8, b"", CUT_OFF, IN_DOUBT, asked=2)
+    case(LIST, ["WELCOME", "LISTED"], 0, b"list f1 a,b\n", asked=2)
+    case(LIST, ["WELCOME", "LISTED_NONE"], 0, b"list f1 -\n", asked=2)
+    case(KEY, ["WELCOME", "KNOWN_C"], 0, KEY_LINE.encode(), asked=2)
+    case(READ, ["CHAINED", "BYTES"], 0, b"x1", asked=2)
+    case("check keys", [], 0, CHECK.encode() + b"\n", asked=0)
+
+
+def refusals_and_disks():
+    case(ENROL, ["WELCOME", "REFUSED"], 3, b"refused 1 Taken\n", "@ refuses the command", WHY)
+    case(READ, [b"\x88\x04"], 3, b"refused 4 NoPath\n", "@ refuses the command", WHY)
+    failed = "the disk of the store at @ failed"
+    case(ENROL, ["WELCOME", "KNOWN", "DEVICE_FAULT"], 4, b"", failed, NEW_USER)
+    case(GRANT, ["WELCOME", "KNOWN", "DEVICE_FAULT"], 4, b"", failed, IN_DOUBT)
+    case(READ, ["CHAINED", "DEVICE_FAULT"], 4, b"", failed, AS_IT_WAS)
+
+
+def files_that_are_not_read():
+    see = "see that it is a file that you may read"
+    for words, error in {
+        "enrol @ nokeys a": "cannot read nokeys: no such file",
+        "check folder": "cannot read folder: is a directory",
+        "read @ nokey f1": "cannot read nokey: no such file",
+        "create @ keys f1 a nobody": "cannot read nobody: no such file",
+        "create @ keys f1 a folder": "cannot read folder: is a directory",
+        "create @ nokeys f1 a nobody": "cannot read nokeys: no such file",
+    }.items():
+        case(words, [], 5, b"", error, see, asked=0)
+
+
+def output_that_is_not_written():
+    writable = "see that it is open, and that there is room"
+    updated = ["WELCOME", "KNOWN", "ACCEPTED"]
+    for words, replies, hint in [
+        (ENROL, updated, NEW_USER),
+        (GRANT, updated, IN_DOUBT),
+        (LIST, ["WELCOME", "LISTED"], writable),
+        (READ, ["CHAINED", "BYTES"], writable),
+        ("check keys", [], writable),
+    ]:
+        with open("/dev/full", "wb") as full:
+            case(words, replies, 6, None, NO_OUTPUT, hint, stdout=full)
+    with open("/dev/full", "wb") as full:
+        found = run(new_folder(), ["--help"], stdout=full)
+        assert found == (6, None, two_lines(NO_OUTPUT, writable)), found
+
+
+def memory_that_is_refused():
+    """At the server; and here, under each limit of addresses at which the program starts."""
+    no_memory = "out of memory, here or at @"
+    case(ENROL, ["WELCOME", "NO_MEMORY"], 7, b"", no_memory, NEW_USER)
+    case(READ, ["NO_MEMORY"], 7, b"", no_memory, AS_IT_WAS)
+    words = "create @ keys f1 a,b longest".split()
+    for size in range(1 << 20, 16 << 20, 1 << 20):
+        limit = lambda: resource.setrlimit(resource.RLIMIT_AS, (size, size))
+        try:
+            starts = run(new_folder(), ["--version"], preexec_fn=limit)[0] == 0
+        except OSError:
+            starts = False
+        if starts:
+            server = Server([REPLIES[name] for name in ("WELCOME", "PLAN", "ACCEPTED")])
+            try:
+                found = run(new_folder(), [server.address if word == "@" else word for word in words], preexec_fn=limit)
+            finally:
+                server.end()
+            lines = two_lines(no_memory.replace("@", server.address), IN_DOUBT)
+            assert found in [(7, b"", lines), (0, b"ok 8\n", [])], (size, found)
+
+
+def links_that_fail():
+    hung = socket.create_server(("127.0.0.1", 0))
+    closed = "127.0.0.1:%d" % hung.getsockname()[1]
+    hung.close()
+    refused = "cannot reach %s: connection refused" % closed
+    start = "start the server, or correct the address"
+    for words in ("enrol %s keys a", "list %s keys f1", "read %s key f1"):
+        case(words % closed, [], 8, b"", refused, start, asked=0)
+    for address in ("here", "127.0.0.1:port", "127.0.0.1:65536"):
+        error, hint = "%s is no address" % address, "an address is HOST:PORT, as 127.0.0.1:7400"
+        case("enrol %s keys a" % address, [], 8, b"", error, hint, asked=0)
+    error = "cannot reach nobody.invalid:7400: no such host"
+    case("enrol nobody.invalid:7400 keys a", [], 8, b"", error, "correct the address", asked=0)
+    reset = "cannot reach @: connection reset"
+    half = framed(REPLIES["WELCOME"])[:20]
+    case(ENROL, [Broken(half, resets=True)], 8, b"", reset, NEW_USER, asked=1)
+    case(GRANT, ["WELCOME", Broken(b"", resets=True)], 8, b"", reset, IN_DOUBT, asked=2)
+    case(READ, ["CHAINED", Broken(b"\0\0", resets=True)], 8, b"", reset, AS_IT_WAS, asked=2)
+    for raw in (b"", half, b"\0\0", b"\0\0\0\0", struct.pack(">I", 1_114_113), b"\xff" * 100):
+        case(ENROL, [Broken(raw)], 8, b"", CUT_OFF, NEW_USER, asked=1)
+        case(GRANT, ["WELCOME", "KNOWN", Broken(raw)], 8, b"", CUT_OFF, IN_DOUBT, asked=3)
+
+
+def keys_of_others():
+    error = "the store at @ has other masters than keys"
+    hint = "take the masters whose `overctl check` its settings have"
+    case(ENROL, ["WELCOME_OTHER"], 9, b"", error, hint, asked=1)
+    case(CREATE, ["WELCOME_OTHER"], 9, b"", error, hint, asked=1)
+    case(ENROL, ["WELCOME", "KNOWN", "BAD_TAG"], 9, b"", error, hint, asked=3)
+    digits = "it has two different lines of 64 hexadecimal digits"
+    case("enrol @ key a", [], 10, b"", "key is no key file", digits, asked=0)
+    case("check short", [], 10, b"", "short is no key file", digits, asked=0)
+    case("create @ body f1 a nobody", [], 10, b"", "body is no key file", digits, asked=0)
+    prints = "the owner prints one with `overctl key`"
+    case("read @ keys f1", [], 10, b"", "keys is no user key line", prints, asked=0)
+
+
+def wrong_replies():
+    error = "@ gave a reply to another request"
+    hint = "see that overstored listens there, of this version"
+    for replies in (["ACCEPTED"], ["WELCOME", "LISTED"], ["WELCOME", "KNOWN", "WELCOME"], [b"\xff"], [b"\x81\x01"]):
+        case(ENROL, replies, 11, b"", error, hint, asked=len(replies))
+    case(LIST, ["WELCOME", "KNOWN"], 11, b"", error, hint, asked=2)
+    case(READ, ["BYTES"], 11, b"", error, hint, asked=1)
+    case(READ, ["CHAINED", "CHAINED"], 11, b"", error, hint, asked=2)
+    damaged = "the bytes of f1 at @ are damaged"
+    again = "read again; where it stays so, the store or the key line is damaged"
+    case(READ, ["CHAINED", "OTHER_BYTES"], 12, b"", damaged, again, asked=2)
+
+
+def others_are_faster():
+    replies = ["WELCOME"]
+    for epoch in range(1, 10):
+        known = bytearray(REPLIES["KNOWN"])
+        known[1:5] = struct.pack(">I", epoch)
+        replies += [bytes(known), b"\x89" + struct.pack(">I", epoch + 1)]
+    error = "others changed the store at @ in nine tries"
+    case(ENROL, replies, 13, b"", error, "try again", asked=19)
+
+
+def files_that_are_too_long():
+    error, hint = "long has more than 1048576 bytes", "store it as several files"
+    case("create @ keys f1 - long", [], 14, b"", error, hint, asked=0)
+
+
+# ---- words
+
+
+def words_that_are_no_line():
+    folder = new_folder()
+    usage = "use `overctl %s`"
+    lines = {
+        "enrol": "ADDRESS KEYS USER",
+        "create": "ADDRESS KEYS FILE LIST PATH",
+        "grant": "ADDRESS KEYS USER FILE",
+        "revoke": "ADDRESS KEYS USER FILE",
+        "list": "ADDRESS KEYS FILE",
+        "key": "ADDRESS KEYS USER",
+        "read": "ADDRESS USERKEY FILE",
+        "check": "KEYS",
+    }
+    name = "1 to 64 of a-z, 0-9, `.`, `_` and `-`, a letter or digit first"
+    cases = [
+        ([], "no command is given", "--help"),
+        (["help"], "`help` is no command", "--help"),
+        (["Enrol", "here:1", "keys", "a"], "`Enrol` is no command", "--help"),
+        (["--keys"], "there are too many words, or an unknown option", "--help"),
+        (["enrol", "here:1", "keys", "Al"], "`Al` is no name: " + name, "enrol " + lines["enrol"]),
+        (["grant", "here:1", "keys", "a", "_"], "`_` is no name: " + name, "grant " + lines["grant"]),
+        (
+            ["create", "here:1", "keys", "f", "a,,b", "body"],
+            "`a,,b` is no list: names with commas between them, or `-`, in 20000 bytes at most",
+            "create " + lines["create"],
+        ),
+    ]
+    for command, line in lines.items():
+        count = len(line.split())
+        for words, error in [
+            (["a"] * (count - 1), "words are missing"),
+            (["a"] * (count + 1), "there are too many words, or an unknown option"),
+            (["a"] * count + ["--quiet"], "there are too many words, or an unknown option"),
+        ]:
+            cases.append(([command, *words], error, command + " " + line))
+    for words, error, line in cases:
+        found = run(folder, words)
+        assert found == (2, b"", two_lines(error, usage % line)), (words, found)
+        is_in_form(found[2])
+    found = run(folder, [b"enrol", b"\xff", b"keys", b"a"])
+    assert found == (2, b"", two_lines("a word is no text", usage % "--help")), found
+
+
+def help_and_version():
+    folder = new_folder()
+    for words in ([], ["enrol"], ["create"], ["grant"], ["revoke"], ["list"], ["key"], ["read"], ["check"]):
+        for flag in ("--help", "-h"):
+            status, out, told = run(folder, [*words, flag])
+            lines = out.decode().splitlines()
+            assert (status, told) == (0, []), (words, status, told)
+            assert len(lines) <= 24 and max(map(len, lines)) <= 80, out.decode()
+            assert any(line.startswith("Example: overctl ") for line in lines), out.decode()
+            table = out.decode().split("Exit status:")[1]
+            assert sorted(map(int, re.findall(r"(?:^| )(\d+) (?=[a-z])", table))) == [0, *range(2, 15)], table
+    status, out, told = run(folder, ["--version"])
+    assert (status, told) == (0, []) and re.fullmatch(rb"overctl \d+\.\d+\.\d+\n", out), out
+
+
+def keys_that_others_read():
+    """A file of keys is read whatever its mode, with a warning where others may."""
+    folder = new_folder()
+    for mode in (0o600, 0o400, 0o700, 0o640, 0o604, 0o644):
+        (folder / "keys").chmod(mode)
+        warned = ["overctl: warning: keys can be read by others"] if mode & 0o044 else []
+        found = run(folder, ["check", "keys"])
+        assert found == (0, CHECK.encode() + b"\n", warned), (oct(mode), found)
+    (folder / "short").chmod(0o644)
+    status, _, lines = run(folder, ["check", "short"])
+    assert status == 10 and lines[0] == "overctl: warning: short can be read by others" and len(lines) == 3, lines
+
+
+def keys_in_a_pipe():
+    """A file of keys may be a pipe, which is opened once."""
+    folder = new_folder()
+    os.mkfifo(folder / "pipe", 0o600)
+    for words, status in ((["check", "pipe"], 0), (["create", "here:1", "pipe", "f", "-", "nobody"], 5)):
+        writer = threading.Thread(target=(folder / "pipe").write_text, args=(KEYS,))
+        writer.start()
+        found = run(folder, words)
+        writer.join()
+        assert found[0] == status, (words, found)
+    assert found[2][0] == "overctl: error: cannot read nobody: no such file", found
+
+
+def closed_streams():
+    """No file comes to stand where a standard stream was closed."""
+    folder = new_folder()
+    for closed, status in (("<&-", 0), (">&-", 6), ("2>&-", 0)):
+        done = subprocess.run('"%s" check keys %s' % (PROGRAM, closed), cwd=folder, shell=True, capture_output=True)
+        assert done.returncode == status, (closed, done)
+        assert (folder / "keys").read_text() == KEYS
+
+
+CASES = [
+    commands,
+    refusals_and_disks,
+    files_that_are_not_read,
+    output_that_is_not_written,
+    memory_that_is_refused,
+    links_that_fail,
+    keys_of_others,
+    wrong_replies,
+    others_are_faster,
+    files_that_are_too_long,
+    words_that_are_no_line,
+    help_and_version,
+    keys_that_others_read,
+    keys_in_a_pipe,
+    closed_streams,
+]
+
+with tempfile.TemporaryDirectory() as BASE:
+    for one in CASES:
+        one()
+        print(one.__name__, flush=True)
+print("all cases passed")
