@@ -2,13 +2,16 @@
 what they print with what stands on the page or beside the script.
 
     python3 tools/run_docs.py                 # what needs no proved program
-    python3 tools/run_docs.py PROGRAM         # and what needs one, as crates/overstore/out/overstore
-    python3 tools/run_docs.py [PROGRAM] kit   # and what calls the kit, which proves nothing here
+    python3 tools/run_docs.py PROGRAM..       # and what needs these, as crates/overstore/out/overstore
+    python3 tools/run_docs.py PROGRAM.. kit   # and what calls the kit, which proves nothing here
+
+A program is known by its name, which ends in overstore, overstored or overctl.
 
 A block of a page is run where a comment stands above it:
 
     <!-- run -->             in a new folder that has tools/, examples/ and dist/
-    <!-- run: program -->    so, with the example key file, and PROGRAM as `overstore`
+    <!-- run: program -->    so, with the example key file and `overstore`
+    <!-- run: network -->    so, with the example key file, `overstored` and `overctl`
     <!-- run: .., on -->     in the folder of the block before it
     <!-- run: kit -->        in this repository
     <!-- file: NAME -->      it isn't run: it is written to NAME in the folder of the next block
@@ -38,7 +41,8 @@ MEASURES = ROOT / "docs" / "PERFORMANCE.md"
 MARK = re.compile(r"<!-- (run|file|not run)(?:: (.*?))? -->")
 MAN_MARK = re.compile(r'\.\\" (run|file|not run)(?:: (.*))?')
 MAN_SIGNS = {r"\e": "\\", r"\&": "", r"\-": "-", r"\(aq": "'"}
-NEEDS = {"program", "kit"}
+NEEDS = {"program", "network", "kit"}
+PROGRAMS = ("overstored", "overstore", "overctl")
 
 
 def blocks_of(page):
@@ -149,7 +153,7 @@ def run_page(page, have):
             continue
         if "on" not in words or folder is None:
             folder = place = new_folder()
-            if "program" in words:
+            if words & {"program", "network"}:
                 shutil.copy(ROOT / "examples" / "keys.hex", folder)
         if "kit" in words:
             place = ROOT
@@ -201,12 +205,15 @@ def run_examples(have):
 
 words = sys.argv[1:]
 have = {"kit"} if "kit" in words else set()
-programs = [word for word in words if word != "kit"]
 with tempfile.TemporaryDirectory() as BASE:
-    if programs:
-        have.add("program")
-        (pathlib.Path(BASE) / "bin").mkdir()
-        (pathlib.Path(BASE) / "bin" / "overstore").symlink_to(pathlib.Path(programs[0]).resolve())
+    programs = pathlib.Path(BASE) / "bin"
+    programs.mkdir()
+    for path in (pathlib.Path(word).resolve() for word in words if word != "kit"):
+        name = next(name for name in PROGRAMS if path.name.endswith(name))
+        (programs / name).symlink_to(path)
+        have |= {"program"} if name == "overstore" else set()
+    if all((programs / name).exists() for name in ("overstored", "overctl")):
+        have.add("network")
     results = [run_page(page, have) for page in PAGES if page.exists()] + [run_examples(have)]
 ran, left, wrong = (sum(column) for column in zip(*results))
 print(f"{ran} blocks and scripts ran, {left} left out, {wrong} are wrong")
