@@ -209,7 +209,9 @@ with tempfile.TemporaryDirectory() as BASE:
     programs = pathlib.Path(BASE) / "bin"
     programs.mkdir()
     for path in (pathlib.Path(word).resolve() for word in words if word != "kit"):
-        name = next(name for name in PROGRAMS if path.name.endswith(name))
+        name = next((name for name in PROGRAMS if path.name.endswith(name)), None)
+        if name is None:
+            sys.exit(f"{path} is none of {', '.join(PROGRAMS)}")
         (programs / name).symlink_to(path)
         have |= {"program"} if name == "overstore" else set()
     if all((programs / name).exists() for name in ("overstored", "overctl")):
