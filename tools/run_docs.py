@@ -56,7 +56,7 @@ def blocks_of_man(page):
         if line.startswith(".Bd -literal"):
             begun, text = number, []
         elif line == ".Ed":
-            yield begun, mark, "console" if text[0].startswith("$ ") else "sh", "".join(text)
+            yield begun, mark, "console" if text[0].startswith("$ ") else "", "".join(text)
             mark, begun = None, 0
         elif begun:
             text.append(re.sub(r"\\(?:[e&-]|\(aq)", lambda sign: MAN_SIGNS[sign.group()], line) + "\n")
