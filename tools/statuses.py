@@ -29,7 +29,7 @@ def help_of(program):
     for path in sorted((ROOT / "crates" / program / "src").glob("*.rt")):
         _, found, behind = path.read_text().partition("Exit status:")
         if found:
-            return numbers(r'(?:^|[\s,"])(\d{1,2}) +(?=[`a-z])', re.split(r'"(?:;|\n\s*\))', behind)[0])
+            return numbers(r'(?:^|[\s,"])(\d{1,2}) +(?=[`A-Za-z])', re.split(r'"(?:;|\n\s*\))', behind)[0])
     return []
 
 
