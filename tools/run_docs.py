@@ -15,6 +15,7 @@ A block of a page is run where a comment stands above it:
     <!-- run: .., on -->     in the folder of the block before it
     <!-- run: kit -->        in this repository
     <!-- file: NAME -->      it isn't run: it is written to NAME in the folder of the next block
+    <!-- before: COMMAND --> is run before the next block, which has a mark of its own below
     <!-- not run: WHY -->    it isn't run
 
 A block of `sh` is one script, and what it prints is the next block, if that has no language and nothing
@@ -38,8 +39,8 @@ PAGES = [
     *sorted((ROOT / "dist" / "man").glob("*.[1-8]")),
 ]
 MEASURES = ROOT / "docs" / "PERFORMANCE.md"
-MARK = re.compile(r"<!-- (run|file|not run)(?:: (.*?))? -->")
-MAN_MARK = re.compile(r'\.\\" (run|file|not run)(?:: (.*))?')
+MARK = re.compile(r"<!-- (run|file|not run|before)(?:: (.*?))? -->")
+MAN_MARK = re.compile(r'\.\\" (run|file|not run|before)(?:: (.*))?')
 MAN_SIGNS = {r"\e": "\\", r"\&": "", r"\-": "-", r"\(aq": "'"}
 NEEDS = {"program", "network", "kit"}
 PROGRAMS = ("overstored", "overstore", "overctl")
@@ -62,6 +63,8 @@ def blocks_of_man(page):
             text.append(re.sub(r"\\(?:[e&-]|\(aq)", lambda sign: MAN_SIGNS[sign.group()], line) + "\n")
         elif found := MAN_MARK.fullmatch(line):
             mark = found.groups()
+            if mark[0] == "before":
+                yield number, mark, "", mark[1]
         elif not line.startswith(".Pp"):
             mark = None
 
@@ -78,6 +81,8 @@ def blocks_of_text(page):
             text.append(line + "\n")
         elif found := MARK.fullmatch(line):
             mark = found.groups()
+            if mark[0] == "before":
+                yield number, mark, "", mark[1]
         elif line.strip():
             mark = None
 
@@ -85,23 +90,26 @@ def blocks_of_text(page):
 def runs_of(page):
     """Each run of a page: its line, its words, the files to write before it, and commands with what
     they print, or None where that isn't said."""
-    blocks, files = list(blocks_of(page)), {}
+    blocks, files, before = list(blocks_of(page)), {}, []
     for place, (line, mark, language, text) in enumerate(blocks):
         if mark is None or mark[0] == "not run":
             continue
         if mark[0] == "file":
             files[mark[1]] = text
             continue
+        if mark[0] == "before":
+            before.append((text, None))
+            continue
         words = set(mark[1].split(", ")) if mark[1] else set()
         assert words <= NEEDS | {"on"}, f"{page.name}:{line}: {mark[1]}"
         if language == "console":
             parts = re.split(r"^\$ ", text, flags=re.M)[1:]
-            yield line, words, files, [part.partition("\n")[::2] for part in parts]
+            yield line, words, files, before + [part.partition("\n")[::2] for part in parts]
         else:
             after = blocks[place + 1] if place + 1 < len(blocks) else None
             printed = after[3] if after and after[1] is None and after[2] == "" else None
-            yield line, words, files, [(text, printed)]
-        files = {}
+            yield line, words, files, before + [(text, printed)]
+        files, before = {}, []
 
 
 def unmarked_of(page):
