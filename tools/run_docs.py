@@ -2,16 +2,20 @@
 what they print with what stands on the page or beside the script.
 
     python3 tools/run_docs.py                 # what needs no proved program
-    python3 tools/run_docs.py PROGRAM         # and what needs one, as crates/overstore/out/overstore
-    python3 tools/run_docs.py [PROGRAM] kit   # and what calls the kit, which proves nothing here
+    python3 tools/run_docs.py PROGRAM..       # and what needs these, as crates/overstore/out/overstore
+    python3 tools/run_docs.py PROGRAM.. kit   # and what calls the kit, which proves nothing here
+
+A program is known by its name, which ends in overstore, overstored or overctl.
 
 A block of a page is run where a comment stands above it:
 
     <!-- run -->             in a new folder that has tools/, examples/ and dist/
-    <!-- run: program -->    so, with the example key file, and PROGRAM as `overstore`
+    <!-- run: program -->    so, with the example key file and `overstore`
+    <!-- run: network -->    so, with the example key file, `overstored` and `overctl`
     <!-- run: .., on -->     in the folder of the block before it
     <!-- run: kit -->        in this repository
     <!-- file: NAME -->      it isn't run: it is written to NAME in the folder of the next block
+    <!-- before: COMMAND --> is run before the next block, which has a mark of its own below
     <!-- not run: WHY -->    it isn't run
 
 A block of `sh` is one script, and what it prints is the next block, if that has no language and nothing
@@ -35,10 +39,11 @@ PAGES = [
     *sorted((ROOT / "dist" / "man").glob("*.[1-8]")),
 ]
 MEASURES = ROOT / "docs" / "PERFORMANCE.md"
-MARK = re.compile(r"<!-- (run|file|not run)(?:: (.*?))? -->")
-MAN_MARK = re.compile(r'\.\\" (run|file|not run)(?:: (.*))?')
+MARK = re.compile(r"<!-- (run|file|not run|before)(?:: (.*?))? -->")
+MAN_MARK = re.compile(r'\.\\" (run|file|not run|before)(?:: (.*))?')
 MAN_SIGNS = {r"\e": "\\", r"\&": "", r"\-": "-", r"\(aq": "'"}
-NEEDS = {"program", "kit"}
+NEEDS = {"program", "network", "kit"}
+PROGRAMS = ("overstored", "overstore", "overctl")
 
 
 def blocks_of(page):
@@ -58,6 +63,8 @@ def blocks_of_man(page):
             text.append(re.sub(r"\\(?:[e&-]|\(aq)", lambda sign: MAN_SIGNS[sign.group()], line) + "\n")
         elif found := MAN_MARK.fullmatch(line):
             mark = found.groups()
+            if mark[0] == "before":
+                yield number, mark, "", mark[1]
         elif not line.startswith(".Pp"):
             mark = None
 
@@ -74,6 +81,8 @@ def blocks_of_text(page):
             text.append(line + "\n")
         elif found := MARK.fullmatch(line):
             mark = found.groups()
+            if mark[0] == "before":
+                yield number, mark, "", mark[1]
         elif line.strip():
             mark = None
 
@@ -81,23 +90,26 @@ def blocks_of_text(page):
 def runs_of(page):
     """Each run of a page: its line, its words, the files to write before it, and commands with what
     they print, or None where that isn't said."""
-    blocks, files = list(blocks_of(page)), {}
+    blocks, files, before = list(blocks_of(page)), {}, []
     for place, (line, mark, language, text) in enumerate(blocks):
         if mark is None or mark[0] == "not run":
             continue
         if mark[0] == "file":
             files[mark[1]] = text
             continue
+        if mark[0] == "before":
+            before.append((text, None))
+            continue
         words = set(mark[1].split(", ")) if mark[1] else set()
         assert words <= NEEDS | {"on"}, f"{page.name}:{line}: {mark[1]}"
         if language == "console":
             parts = re.split(r"^\$ ", text, flags=re.M)[1:]
-            yield line, words, files, [part.partition("\n")[::2] for part in parts]
+            yield line, words, files, before + [part.partition("\n")[::2] for part in parts]
         else:
             after = blocks[place + 1] if place + 1 < len(blocks) else None
             printed = after[3] if after and after[1] is None and after[2] == "" else None
-            yield line, words, files, [(text, printed)]
-        files = {}
+            yield line, words, files, before + [(text, printed)]
+        files, before = {}, []
 
 
 def unmarked_of(page):
@@ -149,7 +161,7 @@ def run_page(page, have):
             continue
         if "on" not in words or folder is None:
             folder = place = new_folder()
-            if "program" in words:
+            if words & {"program", "network"}:
                 shutil.copy(ROOT / "examples" / "keys.hex", folder)
         if "kit" in words:
             place = ROOT
@@ -201,12 +213,17 @@ def run_examples(have):
 
 words = sys.argv[1:]
 have = {"kit"} if "kit" in words else set()
-programs = [word for word in words if word != "kit"]
 with tempfile.TemporaryDirectory() as BASE:
-    if programs:
-        have.add("program")
-        (pathlib.Path(BASE) / "bin").mkdir()
-        (pathlib.Path(BASE) / "bin" / "overstore").symlink_to(pathlib.Path(programs[0]).resolve())
+    programs = pathlib.Path(BASE) / "bin"
+    programs.mkdir()
+    for path in (pathlib.Path(word).resolve() for word in words if word != "kit"):
+        name = next((name for name in PROGRAMS if path.name.endswith(name)), None)
+        if name is None:
+            sys.exit(f"{path} is none of {', '.join(PROGRAMS)}")
+        (programs / name).symlink_to(path)
+        have |= {"program"} if name == "overstore" else set()
+    if all((programs / name).exists() for name in ("overstored", "overctl")):
+        have.add("network")
     results = [run_page(page, have) for page in PAGES if page.exists()] + [run_examples(have)]
 ran, left, wrong = (sum(column) for column in zip(*results))
 print(f"{ran} blocks and scripts ran, {left} left out, {wrong} are wrong")
