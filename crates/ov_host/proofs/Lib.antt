@@ -1,0 +1,5 @@
+pub mod Endings
+pub mod Lasting
+pub mod Surviving
+pub mod Accepting
+pub mod Served
