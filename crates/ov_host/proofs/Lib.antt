@@ -1,4 +1,5 @@
 pub mod Endings
+pub mod Doorways
 pub mod Lasting
 pub mod Surviving
 pub mod Accepting

@@ -120,22 +120,18 @@ pub record HandsBack {D S : Type 0} (refused : BeginRefused D) (old new : Doorwa
   pub ends : EndsOr (fault_line refused.fault) (fault_status refused.fault)
       before after hosted.status
 
+-- what a server over a store replies
+abbrev pub store_replies : {D : Type 0} → Opened D → List (List ℕ) → List ℕ → List ℕ → Type 0
+store_replies start list request reply = RepliesAfter (serving_of start) list request reply
+
 module _ {D S : Type 0} (reads : D → Option Image) (may_leave : D → Image → Type 0)
     (moment : D → ℕ) (left_since : D → ℕ → Image → Type 0)
     (left written : S → Option (List ℕ)) (read_faults write_faults : S → ℕ) where
-  -- how a store goes on
-  abbrev pub store_reached : Opened D → List (List ℕ) → Opened D → Type 0
-  store_reached start list now = GoesOn reads may_leave moment left_since start list now
-
-  -- what a server over it replies
-  abbrev pub store_replies : Opened D → List (List ℕ) → List ℕ → List ℕ → Type 0
-  store_replies start list request reply = RepliesAfter (serving_of start) list request reply
-
   -- one session of the server, by the bytes and the counts of its stream
   abbrev pub serves_store : OneSession (Opened D) S
   serves_store v w given stream ending =
-      serves_alone store_reached store_replies left written read_faults write_faults
-      v w given stream ending
+      serves_alone (GoesOn reads may_leave moment left_since) store_replies
+      left written read_faults write_faults v w given stream ending
 
   -- the spellings of the updates that were accepted in all sessions, in order
   abbrev pub accepted : (v w : Opened D) (old new : Doorway S) (wanted : ℕ)
@@ -144,8 +140,9 @@ module _ {D S : Type 0} (reads : D → Option Image) (may_leave : D → Image �
   accepted v w old new wanted before after status (inl fails) = []
   accepted v w old new wanted before after status (inr (address, inl fails)) = []
   accepted v w old new wanted before after status (inr (address, inr tells)) =
-      accepted_in store_reached store_replies left written read_faults write_faults
-      v tells.serves.sessions.sessions w [] tells.serves.sessions.follows
+      accepted_in (GoesOn reads may_leave moment left_since) store_replies
+      left written read_faults write_faults v tells.serves.sessions.sessions w []
+      tells.serves.sessions.follows
 
   -- The server of a store that was begun served, and the disk isn't handed back. The store went on
   -- by the updates that were accepted, and by nothing else; and so did the disk, from one that had
@@ -155,7 +152,7 @@ module _ {D S : Type 0} (reads : D → Option Image) (may_leave : D → Image �
     pub back : hosted.disk ≡ None
     pub last : Opened D
     pub serves : Serves serves_store s last old new wanted before after hosted.status
-    pub goes_on : store_reached s
+    pub goes_on : GoesOn reads may_leave moment left_since s
         (accepted s last old new wanted before after hosted.status serves) last
     pub survives : Told (reads disk) (λ i. Only i (may_leave disk)
         → (g : SealedHistory) → g.mode ≡ mode → IsImageOf k g i
