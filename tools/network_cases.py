@@ -45,7 +45,7 @@ def new_folder():
     return pathlib.Path(tempfile.mkdtemp(dir=BASE))
 
 
-def settings(sessions, **other):
+def settings(sessions, /, **other):
     """The text of a settings file. A value None leaves its key out."""
     values = {
         "address": "127.0.0.1:0",
@@ -252,7 +252,7 @@ def statuses():
     is_told(done.stderr.decode(), "one settings file is wanted")
     done = subprocess.run([SERVER, "no.toml"], cwd=new_folder(), capture_output=True)
     assert (done.returncode, done.stdout) == (5, b"")
-    is_told(done.stderr.decode(), "no.toml")
+    is_told(done.stderr.decode(), "no.toml: there is no such file")
     for key in ("address", "mode", "surface", "base_check", "book", "blobs", "sessions"):
         refused(new_folder(), settings(1, **{key: None}), 2, b"error settings\n", "`%s`" % key)
     refused(new_folder(), settings(0), 2, b"error settings\n", "`sessions`")
