@@ -102,6 +102,9 @@ pub const NO_ROOM: (&str, &str) = (
 /// What is wrong where a line couldn't be put.
 pub const NO_LINE: &str = "standard output can't be written";
 
+/// What is wrong where there is no file of that name.
+pub const NO_FILE: &str = "there is no such file";
+
 /// What is wrong with a file that was no settings file and now is one, and what to do.
 pub const CHANGED: (&str, &str) = ("it changed while it was read", "start again");
 

@@ -1,7 +1,8 @@
 //! What is wrong and what to do, on standard error. Where that can't be written the status has to
 //! do.
 use crate::texts::{
-    ACCEPTING, CHANGED, DOOR_HINT, LISTENING, NO_LINE, NO_ROOM, WRONG_WORDS, on_settings, on_store,
+    ACCEPTING, CHANGED, DOOR_HINT, LISTENING, NO_FILE, NO_LINE, NO_ROOM, WRONG_WORDS, on_settings,
+    on_store,
 };
 use ov_host::DOOR_FAULT;
 use ov_settings::{SettingsFault, settings_in};
@@ -96,6 +97,7 @@ fn explain(rt: &HostRuntime, path: &str, bytes: &[u8]) {
 fn unreadable(rt: &HostRuntime, path: &str, why: Option<ErrorKind>) {
     let (error, hint) = on_settings(SettingsFault::Read);
     match why {
+        Some(ErrorKind::NotFound) => say_of(rt, path, NO_FILE),
         Some(why) => {
             let _ = eprintln!(rt; "overstored: error: {path}: {why}");
         }
