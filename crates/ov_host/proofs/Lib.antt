@@ -1,0 +1,6 @@
+pub mod Endings
+pub mod Doorways
+pub mod Lasting
+pub mod Surviving
+pub mod Accepting
+pub mod Served

@@ -1,0 +1,9 @@
+use Rattle.ov_server.specs.Answering.{serving_of}
+use Rattle.ov_server.proofs.Following.{reached_at_once, served_now}
+use Rattle.ov_host.proofs.Lasting.{begins}
+use Rattle.ov_host.proofs.disk_server.DiskServer.new.Goals as goal
+
+pub returns-clause-begins : goal.returns-clause-begins
+returns-clause-begins g c =
+    begins g.D.Disk.reads g.D.Disk.may_leave g.D.Disk.moment g.D.Disk.left_since g.met.D.Disk.counts_now g.met.D.Disk.only_now
+    _ (reached_at_once _ (served_now g.D.Disk.reads g.D.Disk.may_leave _ c.known.ensures.0 c.known.ensures.1))

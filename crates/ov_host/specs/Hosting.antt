@@ -1,0 +1,179 @@
+-- What a server does from its beginning to its last line.
+use Rattle.std.specs.Prelude.{◌≡◌, ◌≢◌, ◌⊎◌, ℕ, List, [], ◌∷◌, ◌++◌, codes, take}
+use Rattle.std.specs.Prelude.{Bool, true, false, Option, Some, None, Result, Ok, Err, IfErr, IfOk}
+use Rattle.std.proofs.Common.{inl, inr}
+use Rattle.std.specs.Fmt.{decimal}
+use Rattle.std.specs.Io.KnownBytes.{Appends}
+use Rattle.ov_base.specs.Causes.{Rose}
+use Rattle.ov_base.specs.declared.mode.Mode.{Mode}
+use Rattle.ov_disk.specs.Disk.{Image, Only, Told}
+use Rattle.ov_disk.specs.Moments.{IsUntouched}
+use Rattle.ov_history.specs.Sealed.{SealedHistory}
+use Rattle.ov_images.specs.Images.{IsImageOf, Keys}
+use Rattle.ov_protocol.specs.Updating.{updates_of}
+use Rattle.ov_store.specs.Beginning.{IsBeginFault, IsBegun, IsDiskCall, IsDiskFault, LeavesHistory}
+use Rattle.ov_store.specs.Beginning.{WritesNoBorn, disk_left}
+use Rattle.ov_store.specs.Opened.{Opened}
+use Rattle.ov_store.specs.declared.begin.BeginRefused.{BeginRefused}
+use Rattle.ov_store.specs.declared.fault.BeginFault.TheVariants.{Memory as NoMemory}
+use Rattle.ov_server.specs.Answering.{serving_of}
+use Rattle.ov_server.specs.Following.{RepliesAfter}
+use Rattle.ov_session.specs.Doors.{Doorway}
+use Rattle.ov_session.specs.Serving.{OneSession, ServesEach, serves_alone}
+use Rattle.ov_report.specs.Ends.{EndsIn, EndsOr}
+use Rattle.ov_report.specs.Faults.{fault_line, fault_status, memory_line}
+use Rattle.ov_host.specs.Accepting.{accepted_in}
+use Rattle.ov_host.specs.Lasting.{GoesOn, Survives}
+use Rattle.ov_host.specs.declared.hosted.Hosted.{Hosted}
+
+-- ---- lines
+
+-- the line that says where a server listens
+abbrev pub listening_line : List ℕ → List ℕ
+listening_line address = codes "listening " ++ address ++ 10 ∷ []
+
+-- the line that says how many sessions it served
+abbrev pub served_line : ℕ → List ℕ
+served_line n = codes "served " ++ decimal n ++ 10 ∷ []
+
+-- the line on a door that failed
+abbrev pub door_line : List ℕ
+door_line = codes "error door" ++ 10 ∷ []
+
+-- ---- serving
+
+-- what is put once the sessions were served: how many, or that the door failed
+abbrev pub EndsServing : Bool → ℕ → Option (List ℕ) → Option (List ℕ) → ℕ → Type 0
+EndsServing true served old new status = EndsIn door_line 13 old new status
+EndsServing false served old new status = EndsOr (served_line served) 0 old new status
+
+module _ {V S : Type 0} (one : OneSession V S) (v w : V) (old new : Doorway S) (wanted : ℕ)
+    (before after : Option (List ℕ)) (status : ℕ) where
+  -- At most so many sessions are served, and then the last line is put.
+  pub record ServesAll : Type 0 where
+    pub served : ℕ
+    pub failed : Bool
+    pub sessions : ServesEach one v w old new wanted served failed
+    pub ends : EndsServing failed served before after status
+
+  -- The door doesn't listen: no session is served, and the line says so.
+  pub record FailsToListen : Type 0 where
+    pub same : w ≡ v
+    pub door : new ≡ record old { faults = new.faults }
+    pub rose : Rose old.faults new.faults
+    pub ends : EndsIn door_line 13 before after status
+
+  -- It listens, and the line that says where can't be put whole, or memory is refused for it: no
+  -- session is served.
+  pub record FailsToTell (address : List ℕ) : Type 0 where
+    pub same : w ≡ v
+    pub door : new ≡ old
+    pub ends : ((status ≡ 6) × ((n : ℕ) × Appends before after (take n (listening_line address))))
+        ⊎ EndsIn memory_line 7 before after status
+
+module _ {V S : Type 0} (one : OneSession V S) (v w : V) (old new : Doorway S) (wanted : ℕ)
+    (before after : Option (List ℕ)) (status : ℕ) where
+  -- The line that says where it listens is put, and then it serves.
+  pub record TellsAndServes (address : List ℕ) : Type 0 where
+    pub between : Option (List ℕ)
+    pub told : Appends before between (listening_line address)
+    pub serves : ServesAll one v w old new wanted between after status
+
+  -- what comes of a door that listens at this address
+  abbrev pub Tells : List ℕ → Type 0
+  Tells address =
+      FailsToTell one v w old new wanted before after status address ⊎ TellsAndServes address
+
+  -- what comes of a door: it doesn't listen, or it does at some address
+  abbrev pub Serves : Type 0
+  Serves =
+      FailsToListen one v w old new wanted before after status
+      ⊎ ((address : List ℕ) × Tells address)
+
+-- The count of the door rose, and the status is 13, or 6 where the line couldn't be put; or it
+-- didn't, and the status is another one than 13.
+abbrev pub SaysDoor : ℕ → ℕ → ℕ → Type 0
+SaysDoor before now status =
+    (((status ≡ 13) ⊎ (status ≡ 6)) × Rose before now) ⊎ ((status ≢ 13) × (now ≡ before))
+
+-- ---- a store and its server
+
+-- What is known of a store that is begun, or isn't, on this disk: what `Store::begin` says.
+pub record Begins {D : Type 0} (reads : D → Option Image) (may_leave : D → Image → Type 0)
+    (moment : D → ℕ) (left_since : D → ℕ → Image → Type 0) (borrow faults : D → ℕ)
+    (k : Keys) (mode : Mode) (disk : D) (begun : Result (Opened D) (BeginRefused D)) : Type 0
+  where
+    pub opened : IfOk begun (IsBegun reads may_leave k mode (reads disk))
+    pub fault : IfErr begun (λ refused. Told (reads disk) (λ i.
+        IsBeginFault k mode i refused.fault))
+    pub any_moment : LeavesHistory reads may_leave moment left_since k mode disk (disk_left begun)
+    pub untouched : WritesNoBorn reads may_leave moment left_since disk (disk_left begun)
+    pub memory : IfErr begun (λ refused. refused.fault ≡ NoMemory
+        → IsUntouched moment left_since may_leave reads disk refused.disk)
+    pub call : IsDiskCall borrow faults disk (disk_left begun) (IsDiskFault begun)
+
+-- A store wasn't begun: the disk is handed back, the door isn't touched, and the line says why.
+pub record HandsBack {D S : Type 0} (refused : BeginRefused D) (old new : Doorway S)
+    (before after : Option (List ℕ)) (hosted : Hosted D) : Type 0 where
+  pub disk : hosted.disk ≡ Some refused.disk
+  pub door : new ≡ old
+  pub ends : EndsOr (fault_line refused.fault) (fault_status refused.fault)
+      before after hosted.status
+
+-- what a server over a store replies
+abbrev pub store_replies : {D : Type 0} → Opened D → List (List ℕ) → List ℕ → List ℕ → Type 0
+store_replies start list request reply = RepliesAfter (serving_of start) list request reply
+
+module _ {D S : Type 0} (reads : D → Option Image) (may_leave : D → Image → Type 0)
+    (moment : D → ℕ) (left_since : D → ℕ → Image → Type 0)
+    (left written : S → Option (List ℕ)) (read_faults write_faults : S → ℕ) where
+  -- one session of the server, by the bytes and the counts of its stream
+  abbrev pub serves_store : OneSession (Opened D) S
+  serves_store v w given stream ending =
+      serves_alone (GoesOn reads may_leave moment left_since) store_replies
+      left written read_faults write_faults v w given stream ending
+
+  -- the spellings of the updates that were accepted in all sessions, in order
+  abbrev pub accepted : (v w : Opened D) (old new : Doorway S) (wanted : ℕ)
+      (before after : Option (List ℕ)) (status : ℕ)
+      → Serves serves_store v w old new wanted before after status → List (List ℕ)
+  accepted v w old new wanted before after status (inl fails) = []
+  accepted v w old new wanted before after status (inr (address, inl fails)) = []
+  accepted v w old new wanted before after status (inr (address, inr tells)) =
+      accepted_in (GoesOn reads may_leave moment left_since) store_replies
+      left written read_faults write_faults v tells.serves.sessions.sessions w []
+      tells.serves.sessions.follows
+
+  -- The server of a store that was begun served, and the disk isn't handed back. The store went on
+  -- by the updates that were accepted, and by nothing else; and so did the disk, from one that had
+  -- nothing pending and whose image stood for a history of the mode.
+  pub record ServesStore (k : Keys) (mode : Mode) (disk : D) (s : Opened D) (old new : Doorway S)
+      (wanted : ℕ) (before after : Option (List ℕ)) (hosted : Hosted D) : Type 0 where
+    pub back : hosted.disk ≡ None
+    pub last : Opened D
+    pub serves : Serves serves_store s last old new wanted before after hosted.status
+    pub goes_on : GoesOn reads may_leave moment left_since s
+        (accepted s last old new wanted before after hosted.status serves) last
+    pub survives : Told (reads disk) (λ i. Only i (may_leave disk)
+        → (g : SealedHistory) → g.mode ≡ mode → IsImageOf k g i
+        → Survives reads may_leave moment left_since k g
+        (updates_of (accepted s last old new wanted before after hosted.status serves))
+        last.failed disk last.disk)
+
+  -- what is done with a store that was begun on this disk, or wasn't
+  abbrev pub Hosts : Keys → Mode → D → Result (Opened D) (BeginRefused D) → Doorway S → Doorway S
+      → ℕ → Option (List ℕ) → Option (List ℕ) → Hosted D → Type 0
+  Hosts k mode disk (Ok s) old new wanted before after hosted =
+      ServesStore k mode disk s old new wanted before after hosted
+  Hosts k mode disk (Err refused) old new wanted before after hosted =
+      HandsBack refused old new before after hosted
+
+-- the status is 4 only where a disk is handed back whose count of faults rose
+abbrev pub SaysDisk : {D : Type 0} → (D → ℕ) → D → Hosted D → Type 0
+SaysDisk {D} faults disk hosted =
+    hosted.status ≡ 4 → (left : D) × (hosted.disk ≡ Some left) × Rose (faults disk) (faults left)
+
+-- one of the statuses of a server whose disk has its store, or none yet
+abbrev pub IsOpenStatus : ℕ → Type 0
+IsOpenStatus status =
+    (status ≡ 0) ⊎ ((status ≡ 4) ⊎ ((status ≡ 6) ⊎ ((status ≡ 7) ⊎ (status ≡ 13))))

@@ -1,0 +1,58 @@
+//! A server that goes on from where it began, and so does its disk.
+
+use ov_base::Memory;
+use ov_disk::Disk;
+use ov_peer::Answerer;
+use ov_server::Server;
+use std::marker::Model;
+
+/// A server as an answerer that tells what its disk keeps, beside what it answers.
+#[derive(Drop)]
+pub struct DiskServer<D: Disk> {
+    server: Server<D>,
+}
+
+impl<D: Disk> Model for DiskServer<D> {
+    ghost use Rattle.ov_store.specs.Opened.{Opened};
+
+    ghost Value = { Opened D };
+
+    ghost view = { λ s. s.server };
+}
+
+impl<D: Disk> DiskServer<D> {
+    ghost use Rattle.std.specs.Prelude.{◌≡◌, []};
+    ghost use Rattle.ov_host.specs.Lasting.{GoesOn};
+
+    /// This server, which has made no update since.
+    pub fn new(server: Server<D>) -> DiskServer<D>
+        ensures same { result ≡ server }
+        ensures begins { GoesOn D.reads D.may_leave D.moment D.left_since result [] result }
+    {
+        server.known();
+        DiskServer { server }
+    }
+}
+
+impl<D: Disk> Answerer for DiskServer<D> {
+    ghost use Rattle.ov_host.specs.Lasting.{GoesOn};
+    ghost use Rattle.ov_server.specs.Answering.{serving_of};
+    ghost use Rattle.ov_server.specs.Following.{RepliesAfter};
+
+    ghost reached = { λ start list now.
+        GoesOn D.reads D.may_leave D.moment D.left_since start list now };
+
+    ghost replies = { λ start list request reply.
+        RepliesAfter (serving_of start) list request reply };
+
+    ghost epoch_of = { λ s. s.catalogue.epoch };
+
+    fn answer(&mut self, request: &[u8], reply: &mut Vec<u8>) -> Result<(), Memory> {
+        Server::<D>::answer(&mut self.server, request, reply)
+    }
+
+    fn epoch(&self) -> u32 {
+        self.server.known();
+        self.server.epoch()
+    }
+}

@@ -1,0 +1,73 @@
+//! A server over its disk and its door.
+ghost use Rattle.std.specs.Prelude.{◌≡◌, Result};
+ghost use Rattle.ov_disk.specs.Disk.{Told};
+ghost use Rattle.ov_images.specs.Images.{StandsIn, keys};
+ghost use Rattle.ov_store.specs.Opened.{Opened};
+ghost use Rattle.ov_store.specs.declared.begin.BeginRefused.{BeginRefused};
+ghost use Rattle.ov_session.specs.Doors.{IsUnused};
+ghost use Rattle.ov_report.specs.Ends.{IsPutTo};
+ghost use Rattle.ov_host.specs.Hosting.{Begins, Hosts, IsOpenStatus, SaysDisk, SaysDoor};
+
+use crate::disk_server::DiskServer;
+use crate::hosted::Hosted;
+use crate::serving::serve_door;
+use ov_disk::Disk;
+use ov_io::Sink;
+use ov_report::{put_fault, values_are_known};
+use ov_server::Server;
+use ov_session::Door;
+use ov_settings::Settings;
+use ov_store::{BeginRefused, Store};
+use std::alloc::Global;
+use std::sync::Wait;
+
+/// Begins the store on the disk by these settings, and serves it at the door: says where it listens,
+/// serves the sessions one after the other, and says how many there were. Where no store is begun
+/// the line says why, and the disk is handed back.
+pub fn host<R: Wait, D: Disk + Drop, A: Door, O: Sink>(
+    rt: &R,
+    alloc: Global,
+    settings: &Settings,
+    disk: D,
+    door: &mut A,
+    out: &mut O,
+) -> Hosted<D>
+    requires { IsUnused (A.shows door.old) }
+    ensures hosts { (begun : Result (Opened D) (BeginRefused D))
+        × Begins D.reads D.may_leave D.moment D.left_since D.borrow D.faults
+        (keys settings.now.base_check settings.now.surface.bytes) settings.now.mode disk begun
+        × Hosts D.reads D.may_leave D.moment D.left_since A.Stream.Source.left
+        A.Stream.Sink.written A.Stream.Source.faults A.Stream.Sink.faults
+        (keys settings.now.base_check settings.now.surface.bytes) settings.now.mode disk begun
+        (A.shows door.old) (A.shows door.new) settings.now.sessions
+        (O.written out.old) (O.written out.new) result }
+    ensures disk { SaysDisk D.faults disk result }
+    ensures door { SaysDoor (A.shows door.old).faults (A.shows door.new).faults result.status }
+    ensures put { IsPutTo O.borrow O.faults out.old out.new result.status }
+    // With no fault and ample memory a server over a store of its keys and mode ends with 0.
+    ensures opens { Told (D.reads disk) (λ i.
+        StandsIn (keys settings.now.base_check settings.now.surface.bytes) settings.now.mode i
+        → IsOpenStatus result.status) }
+{
+    match Store::begin(
+        alloc,
+        disk,
+        settings.surface,
+        settings.base_check,
+        settings.mode,
+    ) {
+        Ok(store) => {
+            let mut server = DiskServer::new(Server::new(store, settings.surface));
+            let status = serve_door(rt, alloc, door, &mut server, settings.sessions, out);
+            Hosted { status, disk: None }
+        }
+        Err(refused) => {
+            let BeginRefused { fault, disk } = refused;
+            values_are_known(fault);
+            Hosted {
+                status: put_fault(alloc, out, fault),
+                disk: Some(disk),
+            }
+        }
+    }
+}

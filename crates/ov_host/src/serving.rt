@@ -1,0 +1,125 @@
+//! Listening, serving, and the lines that say so.
+ghost use Rattle.std.specs.Prelude.{◌≡◌, IfOk};
+ghost use Rattle.ov_session.specs.Doors.{IsUnused};
+ghost use Rattle.ov_session.specs.Serving.{serves_alone};
+ghost use Rattle.ov_report.specs.Ends.{EndsIn, EndsOr, IsPutTo};
+ghost use Rattle.ov_host.specs.Hosting.{SaysDoor, Serves, ServesAll, Tells};
+ghost use Rattle.ov_host.specs.Hosting.{door_line, listening_line, served_line};
+
+use ov_base::Memory;
+use ov_io::{Fault, Sink};
+use ov_peer::Answerer;
+use ov_report::{WRITE_FAULT, put_last, put_memory};
+use ov_session::{Door, serve_each};
+use std::alloc::Global;
+use std::sync::Wait;
+
+/// The status of a server whose door failed.
+pub const DOOR_FAULT: u8 = 13;
+
+// The line that says where a server listens.
+fn line_on_address(alloc: Global, address: &[u8]) -> Result<Vec<u8>, Memory>
+    ensures { IfOk result (λ line. line.items ≡ listening_line address.now) }
+{
+    let mut line = b"listening ".to_vec(alloc)?;
+    line.extend_from_slice(address)?;
+    line.push(b'\n')?;
+    Ok(line)
+}
+
+// Puts the line that says how many sessions were served, or the one that says that memory was
+// refused for it.
+fn put_served<O: Sink>(alloc: Global, out: &mut O, served: u32) -> u8
+    ensures ends { EndsOr (served_line served) 0 (O.written out.old) (O.written out.new) result }
+    ensures put { IsPutTo O.borrow O.faults out.old out.new result }
+{
+    match format!(in alloc; "served {served}\n") {
+        Ok(text) => put_last(out, text.as_bytes(), 0),
+        Err(_) => put_memory(out),
+    }
+}
+
+// Puts the line on a door that failed.
+fn put_door<O: Sink>(out: &mut O) -> u8
+    ensures ends { EndsIn door_line 13 (O.written out.old) (O.written out.new) result }
+    ensures put { IsPutTo O.borrow O.faults out.old out.new result }
+{
+    put_last(out, b"error door\n", DOOR_FAULT)
+}
+
+// Serves the sessions of a door that listens, and puts the last line.
+fn serve_all<R: Wait, A: Door, V: Answerer, O: Sink>(
+    rt: &R,
+    alloc: Global,
+    door: &mut A,
+    value: &mut V,
+    sessions: u32,
+    out: &mut O,
+) -> u8
+    requires { IsUnused (A.shows door.old) }
+    ensures serves { ServesAll (serves_alone V.reached V.replies A.Stream.Source.left
+        A.Stream.Sink.written A.Stream.Source.faults A.Stream.Sink.faults) value.old value.new
+        (A.shows door.old) (A.shows door.new) sessions (O.written out.old) (O.written out.new)
+        result }
+    ensures door { SaysDoor (A.shows door.old).faults (A.shows door.new).faults result }
+    ensures put { IsPutTo O.borrow O.faults out.old out.new result }
+{
+    let (served, failed) = serve_each(rt, alloc, door, value, sessions);
+    if failed {
+        put_door(out)
+    } else {
+        put_served(alloc, out, served)
+    }
+}
+
+// Says where the door listens, and then serves its sessions.
+fn tell_and_serve<R: Wait, A: Door, V: Answerer, O: Sink>(
+    rt: &R,
+    alloc: Global,
+    door: &mut A,
+    value: &mut V,
+    sessions: u32,
+    out: &mut O,
+    address: &[u8],
+) -> u8
+    requires { IsUnused (A.shows door.old) }
+    ensures serves { Tells (serves_alone V.reached V.replies A.Stream.Source.left
+        A.Stream.Sink.written A.Stream.Source.faults A.Stream.Sink.faults) value.old value.new
+        (A.shows door.old) (A.shows door.new) sessions (O.written out.old) (O.written out.new)
+        result address.now }
+    ensures door { SaysDoor (A.shows door.old).faults (A.shows door.new).faults result }
+    ensures put { IsPutTo O.borrow O.faults out.old out.new result }
+{
+    match line_on_address(alloc, address) {
+        Ok(line) => match out.put(&line) {
+            Ok(()) => serve_all(rt, alloc, door, value, sessions, out),
+            Err(Fault) => WRITE_FAULT,
+        },
+        Err(Memory) => put_memory(out),
+    }
+}
+
+/// Listens, says where, serves at most so many sessions one after the other, and says how many
+/// there were: the status.
+pub fn serve_door<R: Wait, A: Door, V: Answerer, O: Sink>(
+    rt: &R,
+    alloc: Global,
+    door: &mut A,
+    value: &mut V,
+    sessions: u32,
+    out: &mut O,
+) -> u8
+    requires { IsUnused (A.shows door.old) }
+    ensures serves { Serves (serves_alone V.reached V.replies A.Stream.Source.left
+        A.Stream.Sink.written A.Stream.Source.faults A.Stream.Sink.faults) value.old value.new
+        (A.shows door.old) (A.shows door.new) sessions (O.written out.old) (O.written out.new)
+        result }
+    ensures door { SaysDoor (A.shows door.old).faults (A.shows door.new).faults result }
+    ensures put { IsPutTo O.borrow O.faults out.old out.new result }
+{
+    let mut address = Vec::new(alloc);
+    match door.listen(&mut address) {
+        Ok(()) => tell_and_serve(rt, alloc, door, value, sessions, out, &address),
+        Err(Fault) => put_door(out),
+    }
+}

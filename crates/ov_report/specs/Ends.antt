@@ -1,0 +1,23 @@
+-- How a program ends that puts a last line.
+use Rattle.std.specs.Prelude.{◌≡◌, ◌≤◌, ◌⊎◌, ℕ, List, take, Option}
+use Rattle.std.specs.Io.KnownBytes.{Appends}
+use Rattle.ov_base.specs.Causes.{Rose}
+use Rattle.ov_report.specs.Faults.{memory_line}
+
+-- this line was put, and the status is this; or a front of it, and the status is 6
+abbrev pub EndsIn : List ℕ → ℕ → Option (List ℕ) → Option (List ℕ) → ℕ → Type 0
+EndsIn last code old new status =
+    ((status ≡ code) × Appends old new last)
+    ⊎ ((status ≡ 6) × ((n : ℕ) × Appends old new (take n last)))
+
+-- so it is, or so it is of the line that says that memory was refused for this one
+abbrev pub EndsOr : List ℕ → ℕ → Option (List ℕ) → Option (List ℕ) → ℕ → Type 0
+EndsOr last code old new status =
+    EndsIn last code old new status ⊎ EndsIn memory_line 7 old new status
+
+-- A sink was put to: it keeps its loan, its count of faults doesn't fall, and the count rose where
+-- the status is 6.
+pub record IsPutTo {O : Type 0} (borrow faults : O → ℕ) (old new : O) (status : ℕ) : Type 0 where
+  pub same : borrow new ≡ borrow old
+  pub later : faults old ≤ faults new
+  pub write : status ≡ 6 → Rose (faults old) (faults new)

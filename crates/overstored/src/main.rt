@@ -1,0 +1,165 @@
+//! The program `overstored`: a server of an over-encryption store over TCP.
+//!
+//! `overstored SETTINGS` reads its settings by [`read_settings`], and serves by [`host`], whose
+//! contracts say what it answers and with which status it ends; `main` makes the real files, the
+//! real door and the sink, and says on standard error what is wrong and what to do.
+//!
+//! | module | what it does |
+//! |---|---|
+//! | `told` | says on standard error what is wrong |
+//! | `door` | a door that says how sessions end |
+//! | `texts` | all texts |
+#![tactic(auto)]
+
+mod door;
+mod texts;
+mod told;
+
+use door::SpokenDoor;
+use ov_disk::FileDisk;
+use ov_host::host;
+use ov_io::{FileSource, StdSink};
+use ov_session::TcpDoor;
+use ov_settings::{Settings, read_settings};
+use std::fs::File;
+use std::io::{self, ErrorKind};
+use std::net::Net;
+use std::process::ExitCode;
+use std::sync::Wait;
+use std::{env, str};
+use texts::{HELP, NO_MEMORY, NO_SETTINGS, VERSION};
+
+// The exit statuses that `main` itself gives.
+const USAGE: u8 = 2;
+
+const WRITE_FAULT: u8 = 6;
+
+const OUT_OF_MEMORY: u8 = 7;
+
+// The words behind the program's name.
+fn words_of(rt: &HostRuntime) -> io::Result<Vec<String>> {
+    let mut words = Vec::new(rt.alloc());
+    for word in env::args(rt)?.skip(1) {
+        words.push(word)?;
+    }
+    Ok(words)
+}
+
+// What the word asks to be told, if it does.
+fn told_by(word: &str) -> Option<&'static str> {
+    match word {
+        "--help" => Some(HELP),
+        "--version" => Some(VERSION),
+        _ => None,
+    }
+}
+
+// Prints to standard output, and gives this status where that succeeds.
+fn print(rt: &HostRuntime, text: &str, status: u8) -> u8 {
+    match rt.print(text) {
+        Ok(()) => status,
+        Err(_) => {
+            told::no_line(rt);
+            WRITE_FAULT
+        }
+    }
+}
+
+// The status where memory is refused before there is a server.
+fn out_of_memory(rt: &HostRuntime) -> u8 {
+    told::no_memory(rt);
+    OUT_OF_MEMORY
+}
+
+// The bytes of a text of the settings as a text.
+fn text_of(bytes: &[u8]) -> &str {
+    match str::from_utf8(bytes) {
+        Ok(text) => text,
+        Err(_) => "",
+    }
+}
+
+// Serves by these settings. The net is the runtime with the leave to open sockets and to wait, which
+// it has in `main` alone.
+fn serve<N: Net + Wait + AllocGlobal + Copy + Drop>(
+    net: &N,
+    rt: &HostRuntime,
+    settings: &Settings,
+) -> u8 {
+    let book = text_of(settings.book.as_slice());
+    let address = text_of(settings.address.as_slice());
+    let Ok(disk) = FileDisk::new(*rt, book, text_of(settings.blobs.as_slice())) else {
+        return print(rt, NO_MEMORY, out_of_memory(rt));
+    };
+    let Ok(door) = TcpDoor::new(*net, address) else {
+        return print(rt, NO_MEMORY, out_of_memory(rt));
+    };
+    let mut door = SpokenDoor::new(door, *rt);
+    let mut out = StdSink::new(rt.stdout());
+    let status = host(net, rt.alloc(), settings, disk, &mut door, &mut out).status;
+    told::end(rt, status, book);
+    told::door(rt, status, address, door.listens, door.door.reason());
+    status
+}
+
+// Reads the settings in this file, which the words name where they are one word, and serves by them.
+fn serve_by<N: Net + Wait + AllocGlobal + Copy + Drop>(
+    net: &N,
+    rt: &HostRuntime,
+    words: &[String],
+    path: &str,
+) -> u8 {
+    let Ok(mut source) = FileSource::new(*rt, path) else {
+        return out_of_memory(rt);
+    };
+    match read_settings(rt.alloc(), words, &mut source) {
+        Ok(settings) => {
+            told::other_keys(rt, path);
+            serve(net, rt, &settings)
+        }
+        Err(status) => {
+            told::no_settings(rt, path, status);
+            if status == USAGE {
+                print(rt, NO_SETTINGS, status)
+            } else {
+                status
+            }
+        }
+    }
+}
+
+// Does what the words ask for.
+fn answer_words<N: Net + Wait + AllocGlobal + Copy + Drop>(
+    net: &N,
+    rt: &HostRuntime,
+    words: &[String],
+) -> u8 {
+    match words {
+        [word] => match told_by(word.as_str()) {
+            Some(text) => print(rt, text, 0),
+            None => serve_by(net, rt, words, word.as_str()),
+        },
+        _ => serve_by(net, rt, words, ""),
+    }
+}
+
+// Takes the places of standard streams that are closed, so that no file of the store comes to stand
+// there. Where they are open it takes three places that nobody uses.
+fn held_places(rt: &HostRuntime) -> (io::Result<File>, io::Result<File>, io::Result<File>) {
+    (
+        File::open(rt, "."),
+        File::open(rt, "."),
+        File::open(rt, "."),
+    )
+}
+
+fn main(rt: HostRuntime) -> ExitCode {
+    let _held = held_places(&rt);
+    let status = match words_of(&rt) {
+        Ok(words) => answer_words(&rt, &rt, &words),
+        Err(error) if error.kind() == ErrorKind::OutOfMemory => out_of_memory(&rt),
+        // A word that is no UTF-8 names no settings file.
+        Err(_) => answer_words(&rt, &rt, &[]),
+    };
+    ExitCode::from(status)
+}

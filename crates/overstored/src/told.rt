@@ -1,0 +1,175 @@
+//! What is wrong and what to do, on standard error. Where that can't be written the status has to
+//! do.
+use crate::texts::{
+    ACCEPTING, CHANGED, DOOR_HINT, LISTENING, NO_FILE, NO_LINE, NO_ROOM, WRONG_WORDS, on_settings,
+    on_store,
+};
+use ov_host::DOOR_FAULT;
+use ov_settings::{SettingsFault, settings_in};
+use std::fs;
+use std::io::ErrorKind;
+
+// The keys that are read. All others are passed over.
+const KEYS: [&str; 7] = [
+    "address",
+    "mode",
+    "surface",
+    "base_check",
+    "book",
+    "blobs",
+    "sessions",
+];
+
+// Says what is wrong.
+fn say(rt: &HostRuntime, error: &str) {
+    let _ = eprintln!(rt; "overstored: error: {error}");
+}
+
+// Says what is wrong with this file, key or address.
+fn say_of(rt: &HostRuntime, name: &str, error: &str) {
+    let _ = eprintln!(rt; "overstored: error: {name}: {error}");
+}
+
+// Says what to do.
+fn advise(rt: &HostRuntime, hint: &str) {
+    let _ = eprintln!(rt; "overstored: hint: {hint}");
+}
+
+// Says that the words behind the program's name aren't one settings file.
+fn wrong_words(rt: &HostRuntime) {
+    say(rt, WRONG_WORDS.0);
+    advise(rt, WRONG_WORDS.1);
+}
+
+/// Says that memory was refused.
+pub fn no_memory(rt: &HostRuntime) {
+    say(rt, NO_ROOM.0);
+    advise(rt, NO_ROOM.1);
+}
+
+/// Says that standard output can't be written.
+pub fn no_line(rt: &HostRuntime) {
+    say(rt, NO_LINE);
+}
+
+// The line of a text on which this byte stands, counted from 1.
+fn line_of(bytes: &[u8], at: usize) -> usize {
+    1 + bytes.iter().take(at).filter(|byte| **byte == b'\n').count()
+}
+
+// Says where a text stops being a TOML document.
+fn say_place(rt: &HostRuntime, path: &str, bytes: &[u8]) {
+    match toml::table_from_slice(rt.alloc(), bytes) {
+        Ok(_) => say_of(rt, path, CHANGED.0),
+        Err(error) => match error.span() {
+            Some(span) => {
+                let line = line_of(bytes, span.start);
+                let _ = eprintln!(rt;
+                    "overstored: error: {path}: line {line}: {}",
+                    error.message()
+                );
+            }
+            None => say_of(rt, path, on_settings(SettingsFault::NotToml).0),
+        },
+    }
+}
+
+// Says what is wrong with the bytes of a settings file.
+fn explain(rt: &HostRuntime, path: &str, bytes: &[u8]) {
+    match settings_in(rt.alloc(), bytes) {
+        Ok(_) => {
+            say_of(rt, path, CHANGED.0);
+            advise(rt, CHANGED.1);
+        }
+        Err(fault) => {
+            let (error, hint) = on_settings(fault);
+            if fault == SettingsFault::NotToml {
+                say_place(rt, path, bytes);
+            } else {
+                say_of(rt, path, error);
+            }
+            advise(rt, hint);
+        }
+    }
+}
+
+// Says that a settings file can't be read, and why where the system says so.
+fn unreadable(rt: &HostRuntime, path: &str, why: Option<ErrorKind>) {
+    let (error, hint) = on_settings(SettingsFault::Read);
+    match why {
+        Some(ErrorKind::NotFound) => say_of(rt, path, NO_FILE),
+        Some(why) => {
+            let _ = eprintln!(rt; "overstored: error: {path}: {why}");
+        }
+        None => say_of(rt, path, error),
+    }
+    advise(rt, hint);
+}
+
+/// Says why there are no settings in this file; none is named where the words aren't one word.
+pub fn no_settings(rt: &HostRuntime, path: &str, status: u8) {
+    if status == 7 {
+        no_memory(rt);
+        return;
+    }
+    if status == 2 && path.is_empty() {
+        wrong_words(rt);
+        return;
+    }
+    match fs::read(rt, path) {
+        Ok(bytes) if status == 2 => explain(rt, path, &bytes),
+        Ok(_) => unreadable(rt, path, None),
+        Err(error) => unreadable(rt, path, Some(error.kind())),
+    }
+}
+
+// Whether a key is read.
+fn is_read(key: &str) -> bool {
+    KEYS.iter().any(|known| *known == key)
+}
+
+/// Names the keys of a settings file that are passed over.
+pub fn other_keys(rt: &HostRuntime, path: &str) {
+    let Ok(bytes) = fs::read(rt, path) else {
+        return;
+    };
+    let Ok(table) = toml::table_from_slice(rt.alloc(), &bytes) else {
+        return;
+    };
+    for key in table.keys() {
+        if !is_read(key.as_str()) {
+            let _ = eprintln!(rt; "overstored: warning: {path}: `{key}` is passed over");
+        }
+    }
+}
+
+/// Says how a server over this book ended.
+pub fn end(rt: &HostRuntime, status: u8, book: &str) {
+    match status {
+        6 => no_line(rt),
+        7 => no_memory(rt),
+        _ => match on_store(status) {
+            Some((error, hint)) => {
+                say_of(rt, book, error);
+                advise(rt, hint);
+            }
+            None => {}
+        },
+    }
+}
+
+/// Says why the door at this address failed, where the status says that it did: at listening, or
+/// behind that at accepting.
+pub fn door(rt: &HostRuntime, status: u8, address: &str, listens: bool, why: Option<ErrorKind>) {
+    if status != DOOR_FAULT {
+        return;
+    }
+    let act = if listens { ACCEPTING } else { LISTENING };
+    match why {
+        Some(why) => {
+            let _ = eprintln!(rt; "overstored: error: {address}: {act}: {why}");
+        }
+        None => say_of(rt, address, act),
+    }
+    advise(rt, DOOR_HINT);
+}

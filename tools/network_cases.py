@@ -1,0 +1,355 @@
+"""Runs the server over real sockets: sessions that are right and others that break in every way, every exit
+status with its line on standard error, and a kill between two sessions. With the client program besides it has
+that enrol a user, create a file and read it.
+
+Run, after `rt run` has built the programs, at the top of the repository:
+
+    python3 tools/network_cases.py crates/overstored/out/overstored [crates/overctl/out/overctl]
+"""
+import hashlib
+import hmac
+import os
+import pathlib
+import random
+import resource
+import shutil
+import socket
+import struct
+import subprocess
+import sys
+import tempfile
+import time
+
+SERVER = str(pathlib.Path(sys.argv[1]).resolve())
+CLIENT = str(pathlib.Path(sys.argv[2]).resolve()) if len(sys.argv) > 2 else None
+KEYS = pathlib.Path(__file__).resolve().parent.parent / "examples" / "keys.hex"
+BASE_MASTER, SURFACE = (bytes.fromhex(line) for line in KEYS.read_text().split())
+SECONDS = 60
+
+HELLO = b"\x01"
+WELCOME_SIZE = 42
+
+
+def keyed(key, message):
+    return hmac.new(key, message, hashlib.sha256).digest()
+
+
+BASE_CHECK = keyed(BASE_MASTER, b"C\0\0\0\0")
+UPDATE_KEY = keyed(SURFACE, b"U\0\0\0\0")
+
+
+# ---- servers
+
+
+def new_folder():
+    return pathlib.Path(tempfile.mkdtemp(dir=BASE))
+
+
+def settings(sessions, /, **other):
+    """The text of a settings file. A value None leaves its key out."""
+    values = {
+        "address": "127.0.0.1:0",
+        "mode": "delta",
+        "surface": SURFACE.hex(),
+        "base_check": BASE_CHECK.hex(),
+        "book": "store.book",
+        "blobs": "store.blobs",
+        "sessions": sessions,
+        **other,
+    }
+    line = lambda key, value: "%s = %s\n" % (key, value if isinstance(value, int) else '"%s"' % value)
+    return "".join(line(key, value) for key, value in values.items() if value is not None)
+
+
+def start(folder, text, **streams):
+    (folder / "settings.toml").write_text(text)
+    streams.setdefault("stdout", subprocess.PIPE)
+    return subprocess.Popen([SERVER, "settings.toml"], cwd=folder, stderr=subprocess.PIPE, **streams)
+
+
+class Server:
+    """A server that listens."""
+
+    def __init__(self, folder, sessions, **other):
+        self.process = start(folder, settings(sessions, **other))
+        line = self.process.stdout.readline().decode()
+        assert line.startswith("listening 127.0.0.1:"), (line, self.process.stderr.read())
+        self.address = line.split()[1]
+        self.port = int(self.address.rsplit(":", 1)[1])
+
+    def connect(self):
+        return socket.create_connection(("127.0.0.1", self.port), timeout=SECONDS)
+
+    def end(self, served):
+        """It ends by itself; what it said of sessions."""
+        out, told = self.process.communicate(timeout=SECONDS)
+        assert (self.process.returncode, out) == (0, b"served %d\n" % served), (self.process.returncode, out, told)
+        return told.decode().splitlines()
+
+    def kill(self):
+        self.process.kill()
+        self.process.wait()
+
+
+def refused(folder, text, status, out, words, **streams):
+    """It ends at once so, and says something with these words on standard error."""
+    process = start(folder, text, **streams)
+    put, told = process.communicate(timeout=SECONDS)
+    assert (process.returncode, put) == (status, out), (process.returncode, put, told)
+    is_told(told.decode(), words)
+
+
+def is_told(told, words):
+    lines = told.splitlines()
+    assert lines and lines[0].startswith("overstored: error: ") and words in lines[0], (words, told)
+    assert all(line.startswith(("overstored: error: ", "overstored: hint: ")) for line in lines), told
+    assert not any(line.endswith(".") for line in lines), told
+
+
+# ---- frames
+
+
+def framed(frame):
+    return struct.pack(">I", len(frame)) + frame
+
+
+def take(stream, count):
+    taken = b""
+    while len(taken) < count:
+        piece = stream.recv(count - len(taken))
+        assert piece, "the server left early"
+        taken += piece
+    return taken
+
+
+def reply(stream):
+    return take(stream, struct.unpack(">I", take(stream, 4))[0])
+
+
+def ask(stream, frame):
+    stream.sendall(framed(frame))
+    return reply(stream)
+
+
+def welcome(epoch):
+    return b"\x81\x01" + struct.pack(">I", epoch) + BASE_CHECK
+
+
+def enrolment(epoch, name):
+    spelling = b"\x01" + bytes([len(name)]) + name
+    at = struct.pack(">I", epoch)
+    return b"\x04" + at + spelling + keyed(UPDATE_KEY, at + spelling)
+
+
+def is_left(stream):
+    """The server has left: nothing more comes."""
+    try:
+        assert stream.recv(1) == b"", "something came behind the end of a session"
+    except ConnectionResetError:
+        pass
+
+
+# ---- sessions
+
+
+def right_sessions():
+    """Frames in order, in pieces of every size, one session after the other; what was accepted outlasts a kill."""
+    folder = new_folder()
+    server = Server(folder, 3)
+    with server.connect() as one:
+        assert ask(one, HELLO) == welcome(0)
+        assert ask(one, enrolment(0, b"alice")) == b"\x84" + struct.pack(">I", 1)
+        assert ask(one, enrolment(0, b"bob")) == b"\x89" + struct.pack(">I", 1)
+    with server.connect() as two:
+        two.sendall(framed(HELLO) * 3 + framed(enrolment(1, b"bob")))
+        assert [reply(two) for _ in range(4)] == [welcome(1)] * 3 + [b"\x84" + struct.pack(">I", 2)]
+    server.kill()
+    server = Server(folder, 2)
+    with server.connect() as one:
+        for byte in framed(HELLO):
+            one.sendall(bytes([byte]))
+            time.sleep(0.01)
+        assert reply(one) == welcome(2)
+        one.shutdown(socket.SHUT_WR)
+        is_left(one)
+    with server.connect() as two:
+        assert ask(two, b"\x02\x09") == b"\x8b" + struct.pack(">I", 1)
+    assert server.end(2) == []
+
+
+def half_a_frame(server):
+    with server.connect() as stream:
+        assert ask(stream, HELLO) == welcome(0)
+        stream.sendall(framed(HELLO)[:4])
+    return "what came is no frame, at byte 9"
+
+
+def a_reset(server):
+    stream = server.connect()
+    assert ask(stream, HELLO) == welcome(0)
+    stream.setsockopt(socket.SOL_SOCKET, socket.SO_LINGER, struct.pack("ii", 1, 0))
+    stream.close()
+    return "the connection failed"
+
+
+def a_bad_length(field):
+    def case(server):
+        with server.connect() as stream:
+            assert ask(stream, HELLO) == welcome(0)
+            stream.sendall(field + b"x" * 100)
+            is_left(stream)
+        return "what came is no frame, at byte 5"
+
+    return case
+
+
+def random_bytes(server):
+    with server.connect() as stream:
+        try:
+            stream.sendall(b"\xff" + random.Random(7).randbytes((1 << 20) - 1))
+            is_left(stream)
+        except (BrokenPipeError, ConnectionResetError):
+            pass
+    return "what came is no frame, at byte 0"
+
+
+def nobody(server):
+    server.connect().close()
+    return None
+
+
+BROKEN = [
+    half_a_frame,
+    a_reset,
+    a_bad_length(struct.pack(">I", 0)),
+    a_bad_length(struct.pack(">I", 1_114_113)),
+    a_bad_length(struct.pack(">I", 2**32 - 1)),
+    random_bytes,
+    nobody,
+]
+
+
+def broken_sessions():
+    """Behind each session that breaks a right one is answered, and the server says which broke, and how."""
+    server = Server(new_folder(), 2 * len(BROKEN))
+    told = []
+    for number, case in enumerate(BROKEN):
+        why = case(server)
+        if why is not None:
+            told.append("overstored: warning: session %d: %s" % (2 * number, why))
+        with server.connect() as stream:
+            assert ask(stream, HELLO) == welcome(0)
+    assert server.end(2 * len(BROKEN)) == told
+
+
+# ---- statuses
+
+
+def statuses():
+    """Each status but 0, with its line."""
+    done = subprocess.run([SERVER], capture_output=True)
+    assert (done.returncode, done.stdout) == (2, b"error settings\n")
+    is_told(done.stderr.decode(), "one settings file is wanted")
+    done = subprocess.run([SERVER, "no.toml"], cwd=new_folder(), capture_output=True)
+    assert (done.returncode, done.stdout) == (5, b"")
+    is_told(done.stderr.decode(), "no.toml: there is no such file")
+    for key in ("address", "mode", "surface", "base_check", "book", "blobs", "sessions"):
+        refused(new_folder(), settings(1, **{key: None}), 2, b"error settings\n", "`%s`" % key)
+    refused(new_folder(), settings(0), 2, b"error settings\n", "`sessions`")
+    refused(new_folder(), "sessions = 1\nmode delta\n", 2, b"error settings\n", "settings.toml: line 2")
+    refused(new_folder(), settings(1) + "#" * 65_536, 2, b"error settings\n", "settings.toml")
+    folder = new_folder()
+    (folder / "store.book").mkdir()
+    refused(folder, settings(1), 4, b"error disk\n", "store.book")
+    with open("/dev/full", "wb") as full:
+        refused(new_folder(), settings(1), 6, None, "standard output", stdout=full)
+    folder = new_folder()
+    (folder / "store.book").write_bytes(b"x" * 200)
+    (folder / "store.blobs").write_bytes(b"")
+    refused(folder, settings(1), 8, b"error notastore\n", "store.book")
+    refused(new_folder(), settings(1, address="127.0.0.1:port"), 13, b"error door\n", "127.0.0.1:port")
+
+
+def stores_of_others():
+    """Another mode and other keys; and a store and an address that another server has."""
+    folder = new_folder()
+    server = Server(folder, 1)
+    refused(folder, settings(1), 4, b"error disk\n", "store.book")
+    refused(new_folder(), settings(1, address=server.address), 13, b"error door\n", server.address)
+    server.connect().close()
+    server.end(1)
+    refused(folder, settings(1, mode="full"), 9, b"error mode delta full\n", "store.book")
+    for key, word in (("surface", b"surface"), ("base_check", b"base")):
+        process = start(folder, settings(1, **{key: "00" * 32}))
+        put, told = process.communicate(timeout=SECONDS)
+        assert process.returncode == 9 and put.startswith(b"error key %s " % word), put
+        is_told(told.decode(), "store.book")
+
+
+def keys_that_are_passed_over():
+    server = Server(new_folder(), 1, workers=4)
+    server.connect().close()
+    assert server.end(1) == ["overstored: warning: settings.toml: `workers` is passed over"]
+
+
+def memory_that_is_refused():
+    """Under a limit of addresses a frame of the greatest length is answered, or its session ends; the next goes on."""
+    folder = new_folder()
+    limit = lambda: resource.setrlimit(resource.RLIMIT_AS, (12 << 20, 12 << 20))
+    process = start(folder, settings(2), preexec_fn=limit)
+    line = process.stdout.readline().decode()
+    if not line.startswith("listening"):
+        assert process.wait() == 7 and line == "error memory\n", line
+        return
+    port = int(line.rsplit(":", 1)[1])
+    with socket.create_connection(("127.0.0.1", port), timeout=SECONDS) as stream:
+        try:
+            stream.sendall(framed(b"\x04" + b"\0" * 1_114_111))
+            assert reply(stream)[0] in (0x8B, 0x8E)
+        except (AssertionError, BrokenPipeError, ConnectionResetError):
+            pass
+    with socket.create_connection(("127.0.0.1", port), timeout=SECONDS) as stream:
+        assert ask(stream, HELLO) == welcome(0)
+    out, _ = process.communicate(timeout=SECONDS)
+    assert (process.returncode, out) == (0, b"served 2\n"), (process.returncode, out)
+
+
+# ---- with the client program
+
+
+def a_file_over_the_network():
+    """Enrol, create, key and read: four sessions, and the same bytes come back."""
+    folder = new_folder()
+    server = Server(folder, 4)
+    shutil.copy(KEYS, folder / "keys.hex")
+    (folder / "file").write_bytes(random.Random(24).randbytes(70_000))
+
+    def client(*words):
+        done = subprocess.run([CLIENT, *words], cwd=folder, capture_output=True, timeout=SECONDS)
+        assert done.returncode == 0, done
+        return done.stdout
+
+    assert client("enrol", server.address, "keys.hex", "alice") == b"ok 1\n"
+    assert client("create", server.address, "keys.hex", "report", "alice", "file") == b"ok 2\n"
+    (folder / "alice.key").write_bytes(client("key", server.address, "keys.hex", "alice"))
+    assert client("read", server.address, "alice.key", "report") == (folder / "file").read_bytes()
+    assert server.end(4) == []
+
+
+CASES = [
+    right_sessions,
+    broken_sessions,
+    statuses,
+    stores_of_others,
+    keys_that_are_passed_over,
+    memory_that_is_refused,
+]
+
+if __name__ == "__main__":
+    with tempfile.TemporaryDirectory() as base:
+        BASE = base
+        for case in CASES + ([a_file_over_the_network] if CLIENT else []):
+            began = time.monotonic()
+            case()
+            print("%-28s %5.1f s" % (case.__name__, time.monotonic() - began), flush=True)
+    print("all cases passed")
