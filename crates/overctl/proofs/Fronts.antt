@@ -11,7 +11,8 @@ use Rattle.std.proofs.lemmas.Bool.{and_parts}
 use Rattle.std.proofs.lemmas.Bool.Decides.{nat_tests}
 use Rattle.std.proofs.lemmas.Fmt.{length-decimal-le}
 use Rattle.std.proofs.lemmas.List.{take_all, take-append-le}
-use Rattle.ov_base.specs.declared.limits.TheConstants.{MAX_FILE_BYTES, MAX_LAYER_NODES, MAX_NAME_BYTES}
+use Rattle.ov_base.specs.declared.limits.TheConstants.{MAX_FILE_BYTES, MAX_LAYER_NODES}
+use Rattle.ov_base.specs.declared.limits.TheConstants.{MAX_NAME_BYTES}
 use Rattle.ov_base.specs.Names.{IsName, is_letter_or_digit, is_name_byte}
 use Rattle.std.specs.Prelude.{◌&&◌, nat_lt}
 use Rattle.ov_keyfile.specs.KeyFile.{IsEnd}
@@ -36,7 +37,8 @@ end_short end (inr e) = let long : length end ≡ 0 = ap length e in omega arith
 root_short : (root : ℕ) (digits : List ℕ) → root < MAX_LAYER_NODES → length digits ≡ 64
     → length (root_words root digits) ≤ 70
 root_short root digits low long =
-    let few : length (decimal root) ≤ 4 = length-decimal-le 4 root (omega arith) (omega (arith, low)) (omega (arith, low)) in
+    let few : length (decimal root) ≤ 4 =
+    length-decimal-le 4 root (omega arith) (omega (arith, low)) (omega (arith, low)) in
     let both : length (decimal root ++ 32 ∷ digits) ≡ length (decimal root) + length (32 ∷ digits) =
     length-append (decimal root) (32 ∷ digits) in
     omega arith
@@ -91,11 +93,13 @@ pub no_reader_found : (old new : Option (List ℕ)) (front : List ℕ) (count : 
     → IfSome old (λ line. (r : Reader) → IsLineOf line r → ⊥)
 no_reader_found None new front count long had all none = tt
 no_reader_found (Some file) None front count long had all none = absurd had
-no_reader_found (Some file) (Some rest) front count long had (inl full) none = λ (r : Reader) (is : IsLineOf file r).
+no_reader_found (Some file) (Some rest) front count long had (inl full) none =
+    λ (r : Reader) (is : IsLineOf file r).
     let size : length file ≡ length front + length rest = ap length had ∙ length-append front rest in
     let short : length file ≤ 205 = line_short file r is in
     absurd (omega arith)
-no_reader_found (Some file) (Some rest) front count long had (inr end) none = λ (r : Reader) (is : IsLineOf file r).
+no_reader_found (Some file) (Some rest) front count long had (inr end) none =
+    λ (r : Reader) (is : IsLineOf file r).
     let same : file ≡ front = had ∙ ap (λ x. front ++ x) end ∙ append-nil front in
     none r (subst (λ f. IsLineOf f r) same is)
 

@@ -1,5 +1,6 @@
 -- What is printed of a read is the machine's.
-use Rattle.std.proofs.Common.{◌≡◌, ◌⊎◌, ℕ, List, Option, Some, None, Result, Ok, Err, sym, subst, inl, inr}
+use Rattle.std.proofs.Common.{◌≡◌, ℕ, List, Option, Some, None, Result, Ok, Err, sym, subst}
+use Rattle.std.proofs.Common.{inl, inr}
 use Rattle.ov_client.specs.KeyLines.{IsLineOf}
 use Rattle.ov_client.specs.Laws.{HoldsRootKeys, IsAsMachine, ReadsAreTheMachines, last_chain}
 use Rattle.ov_client.specs.Readers.{Reader}

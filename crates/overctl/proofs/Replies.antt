@@ -1,5 +1,5 @@
 -- The key line that is printed is the one that the call gave.
-use Rattle.std.proofs.Common.{◌≡◌, ℕ, List, Result, Ok, Err, refl, sym, subst, inl, inr}
+use Rattle.std.proofs.Common.{ℕ, List, Result, Ok, Err, refl, sym, subst, inl, inr}
 use Rattle.ov_client.specs.KeyLines.{key_line}
 use Rattle.ov_client.specs.Readers.{Reader}
 use Rattle.ov_history.specs.Masters.{Masters}
