@@ -22,6 +22,7 @@ pub mod LoadEnds
 pub mod LoadTracing
 pub mod Making
 pub mod Pacing
+pub mod PutOn
 pub mod Putting
 pub mod Questioning
 pub mod Quiet
@@ -35,5 +36,7 @@ pub mod Surviving
 pub mod Tracing
 pub mod Transcripts
 pub mod TwoWords
+pub mod UpdatePut
+pub mod UpdateReplies
 pub mod Updating
 pub mod WorkloadSteps

@@ -24,7 +24,7 @@ use Rattle.overstore.specs.declared.fault.StepFault.{StepFault}
 use Rattle.overstore.specs.declared.fault.StepFault.TheVariants.{Disk, Memory, Tag, Trace}
 use Rattle.overstore.specs.declared.load_words.Load.{Load}
 use Rattle.overstore.specs.declared.tally.Tally.{Tally}
-use Rattle.overstore.proofs.Making.{transcripts_have_bytes}
+use Rattle.overstore.proofs.PutOn.{transcripts_have_bytes}
 use Rattle.overstore.proofs.Tracing.{all_more}
 use Rattle.overstore.proofs.Transcripts.{whole_is_front}
 use Rattle.overstore.proofs.WorkloadSteps.{first_more}

@@ -12,7 +12,7 @@ use Rattle.ov_server.specs.Locally.{IsServedBy, answers_alone}
 use Rattle.ov_owner.specs.Alone.{AnsweredAlone}
 use Rattle.ov_transcript.specs.Talking.{ArePut}
 use Rattle.ov_transcript.specs.Transcripts.{frames}
-use Rattle.overstore.proofs.Making.{IsPutOn}
+use Rattle.overstore.proofs.PutOn.{IsPutOn}
 use Rattle.overstore.proofs.Reading.{take_whole}
 use Rattle.overstore.specs.Seats.{IsSeat, LeftBy, served, unserved}
 

@@ -123,9 +123,9 @@ module _ {D : Type 0} (reads : D → Option Image) (may_leave : D → Image → 
         → Holds reads may_leave k (after p command) new.disk
 
   -- A command at a history for which what is kept stands. It is answered with the machine's reply,
-  -- and all goes on as the history does. Or a call of the disk failed, a frame wasn't put, or memory
-  -- was refused: then the disk has the history from before or from after the command. A wrong tag
-  -- is found at no history.
+  -- and all goes on as the history does. Or a call of the disk failed, a frame wasn't put, or
+  -- memory was refused: then the disk has the history from before or from after the command. A
+  -- wrong tag is found at no history.
   abbrev pub StepsAt : Masters → PlainHistory → Command → KeptOn D → KeptOn D
       → Result Reply StepFault → Type 0
   StepsAt k p command old new (Ok reply) =
