@@ -8,6 +8,7 @@ ghost use Rattle.ov_store.specs.Beginning.{IsDiskCall, IsDiskFault, IsNew, Leave
 ghost use Rattle.ov_store.specs.Beginning.{WritesNoBorn, disk_left};
 ghost use Rattle.ov_store.specs.Opened.{Serves, StaysTold};
 ghost use Rattle.ov_store.specs.Owners.{masters as both};
+ghost use Rattle.ov_tokens.specs.Keys.{check_value_of};
 ghost use Rattle.overstore.specs.Judging.{FindsPlain, IsChecked, Refuses, fault_for};
 ghost use Rattle.overstore.specs.Machine.{plain_masters};
 
@@ -57,6 +58,13 @@ fn checked<D: Disk>(alloc: Global, store: Store<D>, base: &Key) -> Result<Store<
     }
 }
 
+// The value by which a store knows this base master again.
+fn base_check_of(base: &Key) -> [u8; 32]
+    ensures { result ≡ check_value_of base.now.bytes }
+{
+    check_value(&Master::new(base))
+}
+
 /// Begins the store on this disk under the two masters, where the disk is unborn or all its records
 /// are those of their owner. The disk is handed back with a refusal.
 pub fn begin<D: Disk>(
@@ -81,7 +89,7 @@ pub fn begin<D: Disk>(
 
     ensures call { IsDiskCall D.borrow D.faults disk (disk_left result) (IsDiskFault result) }
 {
-    let base_check = check_value(&Master::new(&masters.base));
+    let base_check = base_check_of(&masters.base);
     match Store::begin(alloc, disk, masters.surface, base_check, mode) {
         Ok(store) => checked(alloc, store, &masters.base),
         Err(refused) => {

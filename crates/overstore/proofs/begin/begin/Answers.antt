@@ -11,15 +11,15 @@ returns-in-Ok-clause-new g c =
     new_so (keys_of (plain_masters c.args.masters)) c.args.mode c.in-Ok.store c.checked.result
     c.checked.ensures.same
     (subst (λ (x : Keys). IsNew x c.args.mode c.in-Ok.store)
-    (ap (λ b. keys b c.args.masters.surface.bytes) c.check_value-base_check.ensures)
+    (ap (λ b. keys b c.args.masters.surface.bytes) c.base_check_of-base_check.ensures)
     c.in-Ok.ensures.begun.new)
 
 pub returns-in-Ok-clause-found : goal.returns-in-Ok-clause-found
 returns-in-Ok-clause-found g c =
     (looked g.D.Disk.reads g.D.Disk.may_leave g.D.Disk.moment g.D.Disk.left_since
     (plain_masters c.args.masters)
-    (keys c.check_value-base_check.result c.args.masters.surface.bytes) c.args.mode c.args.disk
-    c.in-Ok.store (ap (λ b. keys b c.args.masters.surface.bytes) c.check_value-base_check.ensures)
+    (keys c.base_check_of-base_check.result c.args.masters.surface.bytes) c.args.mode c.args.disk
+    c.in-Ok.store (ap (λ b. keys b c.args.masters.surface.bytes) c.base_check_of-base_check.ensures)
     c.in-Ok.ensures.begun.new.0 (c.in-Ok.ensures.begun.found, c.in-Ok.ensures.begun.told)
     c.checked.result c.checked.ensures.owners
     c.checked.ensures.untouched.reads_same).0
@@ -28,8 +28,8 @@ pub returns-in-Ok-clause-fault : goal.returns-in-Ok-clause-fault
 returns-in-Ok-clause-fault g c =
     (looked g.D.Disk.reads g.D.Disk.may_leave g.D.Disk.moment g.D.Disk.left_since
     (plain_masters c.args.masters)
-    (keys c.check_value-base_check.result c.args.masters.surface.bytes) c.args.mode c.args.disk
-    c.in-Ok.store (ap (λ b. keys b c.args.masters.surface.bytes) c.check_value-base_check.ensures)
+    (keys c.base_check_of-base_check.result c.args.masters.surface.bytes) c.args.mode c.args.disk
+    c.in-Ok.store (ap (λ b. keys b c.args.masters.surface.bytes) c.base_check_of-base_check.ensures)
     c.in-Ok.ensures.begun.new.0 (c.in-Ok.ensures.begun.found, c.in-Ok.ensures.begun.told)
     c.checked.result c.checked.ensures.owners
     c.checked.ensures.untouched.reads_same).1
@@ -39,9 +39,9 @@ returns-in-Ok-clause-any_moment g c =
     leaves_still g.D.Disk.reads g.D.Disk.may_leave g.D.Disk.moment g.D.Disk.left_since
     c.args.disk c.in-Ok.store.disk _
     (g.met.D.Disk.counts_now c.in-Ok.store.disk) c.checked.ensures.untouched
-    (keys c.check_value-base_check.result c.args.masters.surface.bytes)
+    (keys c.base_check_of-base_check.result c.args.masters.surface.bytes)
     (keys_of (plain_masters c.args.masters)) c.args.mode
-    (ap (λ b. keys b c.args.masters.surface.bytes) c.check_value-base_check.ensures)
+    (ap (λ b. keys b c.args.masters.surface.bytes) c.base_check_of-base_check.ensures)
     c.in-Ok.ensures.any_moment
 
 pub returns-in-Ok-clause-untouched : goal.returns-in-Ok-clause-untouched
@@ -59,9 +59,9 @@ returns-in-Ok-clause-call g c =
 pub returns-in-Err-clause-fault : goal.returns-in-Err-clause-fault
 returns-in-Err-clause-fault g c = λ i read.
     begin_refused (plain_masters c.args.masters)
-    (keys c.check_value-base_check.result c.args.masters.surface.bytes) c.args.mode i
+    (keys c.base_check_of-base_check.result c.args.masters.surface.bytes) c.args.mode i
     c.in-Err.refused.fault
-    (ap (λ b. keys b c.args.masters.surface.bytes) c.check_value-base_check.ensures)
+    (ap (λ b. keys b c.args.masters.surface.bytes) c.base_check_of-base_check.ensures)
     c.values_are_known.ensures (c.in-Err.ensures.fault i read)
 
 pub returns-in-Err-clause-any_moment : goal.returns-in-Err-clause-any_moment
@@ -69,5 +69,5 @@ returns-in-Err-clause-any_moment g c =
     subst
     (λ (x : Keys). LeavesHistory g.D.Disk.reads g.D.Disk.may_leave g.D.Disk.moment
     g.D.Disk.left_since x c.args.mode c.args.disk c.in-Err.refused.disk)
-    (ap (λ b. keys b c.args.masters.surface.bytes) c.check_value-base_check.ensures)
+    (ap (λ b. keys b c.args.masters.surface.bytes) c.base_check_of-base_check.ensures)
     c.in-Err.ensures.any_moment

@@ -1,5 +1,6 @@
 use Rattle.std.proofs.Common.{◌≡◌, ◌-◌, length, sym, ◌∙◌, ap, subst}
 use Rattle.std.specs.Prelude.{IfOk}
+use Rattle.ov_base.specs.declared.key.Key.{Key}
 use Rattle.ov_disk.specs.Disk.{Told}
 use Rattle.ov_history.specs.Catalogue.{Catalogue}
 use Rattle.ov_history.specs.Sealed.{SealedHistory}
@@ -48,14 +49,19 @@ returns-clause-checked g c =
     let first : c.epoch.result - c.count.result
     ≡ c.self.inside.vault.catalogue.epoch - length c.self.inside.journal.offsets =
     λ j. epoch j - c.count.ensures j in
+    let s : Opened g.row.D.Denot = store_of c.self.inside.disk k c.self.inside.vault.catalogue
+    c.self.inside.vault.stored c.self.inside.failed in
     subst (λ (old : Opened g.row.D.Denot). IfOk c.first_false.result (λ found.
     (h : SealedHistory) → Serves g.D.Disk.reads g.D.Disk.may_leave h old
     → Told (g.D.Disk.reads old.disk)
     (λ _. Checks (masters c.args.base.now.bytes old.keys.surface) h found))) c.self.view_is
+    (subst (λ (base : Key). IfOk c.first_false.result (λ found.
+    (h : SealedHistory) → Serves g.D.Disk.reads g.D.Disk.may_leave h s
+    → Told (g.D.Disk.reads s.disk)
+    (λ _. Checks (masters base.bytes s.keys.surface) h found))) c.new-base.ensures
     (checks_all g.D.Disk.reads g.D.Disk.may_leave g.D.Disk.moment g.D.Disk.left_since
     g.met.D.Disk.reads_one
-    (masters c.args.base.now.bytes k.surface)
-    (store_of c.self.inside.disk k c.self.inside.vault.catalogue c.self.inside.vault.stored
-    c.self.inside.failed)
+    (masters c.new-base.result.bytes k.surface)
+    s
     c.self.inside.journal c.mode-mode.result (c.epoch.result - c.count.result)
-    c.first_false.result c.self.invariant mode first c.first_false.ensures.checked)
+    c.first_false.result c.self.invariant mode first c.first_false.ensures.checked))
