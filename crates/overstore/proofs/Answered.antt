@@ -1,5 +1,5 @@
 -- All that the answering of a script does, put together and taken apart.
-use Rattle.std.proofs.Common.{◌≡◌, ℕ, List, Option, Some, None}
+use Rattle.std.proofs.Common.{ℕ, List, Option, Some, None}
 use Rattle.std.specs.Prelude.{IfSome}
 use Rattle.ov_disk.specs.Disk.{Image}
 use Rattle.ov_history.specs.Masters.{Masters}

@@ -1,5 +1,5 @@
 -- Inner: no public contract needs this. What the answering of a script does, all in all.
-use Rattle.std.specs.Prelude.{◌≡◌, ℕ, List, Option}
+use Rattle.std.specs.Prelude.{ℕ, List, Option}
 use Rattle.ov_disk.specs.Disk.{Image}
 use Rattle.ov_history.specs.Masters.{Masters}
 use Rattle.ov_history.specs.Plain.{PlainHistory}

@@ -1,12 +1,9 @@
 use Rattle.std.proofs.KnownBytes.{Appends-nil}
-use Rattle.std.specs.Prelude.{IfSome, Err}
-use Rattle.std.proofs.Common.{[], ap, arith, ◌∙◌, List, ℕ, Option, Some, refl, subst, sym}
+use Rattle.std.specs.Prelude.{Err}
+use Rattle.std.proofs.Common.{[], ap, arith, ◌∙◌, Some, refl, sym}
 use Rattle.std.proofs.lemmas.Grind.{common_steps}
-use Rattle.ov_script.specs.Reading.{AtEnd, BadAt, TooLong}
+use Rattle.ov_script.specs.Reading.{BadAt, TooLong}
 use Rattle.overstore.proofs.Answering.{answered, answered_end, answered_first, answered_more, answer_stops, begins_so, commands_come, disk_only, end_stops, end_tag, goes_on, grows_on, kept_more, no_write, rose_since, starts_fresh, tag_at_none, tag_only, trace_only}
-use Rattle.overstore.specs.Answering.{Stops}
-use Rattle.overstore.specs.Tracing.{TracesTo}
-use Rattle.overstore.specs.declared.answer.Stop.{Stop}
 use Rattle.overstore.proofs.Tracing.{none_traced, traced_end, traced_end_stops, traced_first, traced_more, traced_stops, traced_whole}
 use Rattle.overstore.proofs.Answered.{text_stops}
 use Rattle.overstore.proofs.Pacing.{command_goes_on, none_pending, none_yet, paced_more, paced_next}

@@ -1,4 +1,4 @@
-use Rattle.std.proofs.Common.{MutBor, ℕ, List, arith, inl, refl, rules}
+use Rattle.std.proofs.Common.{MutBor, ℕ, arith, inl, refl, rules}
 use Rattle.overstore.proofs.Answered.{pace_of_text, stop_of_text, text_answers, trace_of_text}
 use Rattle.overstore.proofs.Running.{ends_so, finish_disk, finish_read, finish_tag, finishes_so, memory_not, rose_after, rose_lent, script_seven, script_six}
 use Rattle.overstore.proofs.Surviving.{ends_all, ends_unread}
