@@ -1,3 +1,4 @@
+pub mod Answered
 pub mod Answering
 pub mod Asking
 pub mod Beginning

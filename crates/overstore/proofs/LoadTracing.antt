@@ -1,5 +1,5 @@
 -- What a load puts to the sink of frames, command by command.
-use Rattle.std.proofs.Common.{◌≡◌, ◌⊎◌, inl, inr, ℕ, suc, ◌+◌, ◌<◌, ◌≤◌, List, [], ◌∷◌, ◌++◌, refl, sym, ◌∙◌, ap, subst, arith, Option, Some, None}
+use Rattle.std.proofs.Common.{◌≡◌, inl, inr, ℕ, suc, ◌+◌, ◌<◌, ◌≤◌, List, [], ◌∷◌, ◌++◌, refl, sym, ◌∙◌, ap, subst, arith, Option, Some}
 use Rattle.std.specs.Prelude.{Result, Ok, Err}
 use Rattle.std.specs.Io.KnownBytes.{Appends}
 use Rattle.std.proofs.KnownBytes.{Appends-trans, Appends-nil}
@@ -9,10 +9,10 @@ use Rattle.ov_script.specs.declared.command.Command.{Command}
 use Rattle.ov_script.specs.declared.command.Command.TheVariants.{Epoch as AskEpoch}
 use Rattle.ov_script.specs.declared.drawn.TheConstants.{WORKLOAD_USERS}
 use Rattle.ov_script.specs.declared.reply.Reply.{Reply}
-use Rattle.ov_script.specs.Workload.{Gives, Progress, command_at, first_commands, workload}
+use Rattle.ov_script.specs.Workload.{Gives, Progress, command_at, first_commands}
 use Rattle.ov_history.specs.Masters.{Masters}
 use Rattle.ov_history.specs.Plain.{PlainHistory}
-use Rattle.ov_model.specs.Step.{after, after_all}
+use Rattle.ov_model.specs.Step.{after}
 use Rattle.ov_model.proofs.Runs.{after_all-more}
 use Rattle.overstore.specs.Disks.{HasMade, Holds, KeepsPlain, KeepsStep, StandsForPlain}
 use Rattle.overstore.specs.LoadEnding.{IsFrontAt, IsMadeAt, KeepsAt, LoadTracesAs, TracedTo, TracesLoad, TracesWhole}

@@ -7,7 +7,7 @@ use Rattle.ov_script.specs.declared.command.Command.{Command}
 use Rattle.ov_history.specs.Masters.{Masters}
 use Rattle.ov_history.specs.Plain.{PlainHistory}
 use Rattle.ov_wire.specs.Frames.{framed}
-use Rattle.ov_protocol.specs.Serving.{Service, later, served}
+use Rattle.ov_protocol.specs.Serving.{Service, later}
 use Rattle.ov_peer.specs.Asks.{Ask, IsReplyAt}
 use Rattle.ov_transcript.specs.Transcripts.{Transcribed, frames, frames_of}
 

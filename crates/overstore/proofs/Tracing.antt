@@ -1,6 +1,6 @@
 -- What is put to the sink of frames, command by command.
 use Rattle.std.proofs.Common.{◌≡◌, ◌⊎◌, inl, inr, ℕ, ◌+◌, ◌-◌, ◌≤◌, List, [], ◌∷◌, ◌++◌, length, take, refl, sym, ◌∙◌, ap, subst, arith, append_assoc, Option, Some, None}
-use Rattle.std.specs.Prelude.{IfSome, Ok, Err}
+use Rattle.std.specs.Prelude.{IfSome}
 use Rattle.std.specs.Io.KnownBytes.{Appends, Keeps, prepend_known}
 use Rattle.std.proofs.KnownBytes.{Appends-trans, Appends-kept, Appends-nil}
 use Rattle.std.proofs.lemmas.List.{append-nil}
@@ -22,19 +22,18 @@ use Rattle.ov_model.specs.Step.{after, after_all, reply_to}
 use Rattle.ov_model.proofs.Runs.{after_all-more, lines-more}
 use Rattle.overstore.specs.Answering.{EndsIn, EndsOr, Finishes, PutsOr, stop_for}
 use Rattle.overstore.specs.Disks.{HasAnswered}
-use Rattle.overstore.specs.Faults.{tag_line}
 use Rattle.overstore.specs.Machine.{Kept, StandsFor}
 use Rattle.overstore.specs.Printing.{disk_line, memory_line, read_line}
-use Rattle.overstore.specs.Tracing.{IsNextFront, TracedAll, TracedFirst, TracedPart, TracedSoFar, TracesAs, TracesLine, TracesSoFar, TracesTo}
+use Rattle.overstore.specs.Tracing.{TracedAll, TracedFirst, TracedPart, TracedSoFar, TracesAs, TracesLine, TracesSoFar, TracesTo}
 use Rattle.overstore.specs.Tracing.{BreaksOff, TranscribesAll, TranscribesFirst, TranscribesFront, Transcribes, asked_by}
-use Rattle.ov_transcript.specs.Transcripts.{IsTranscriptFront, Transcribed, Transcripts}
+use Rattle.ov_transcript.specs.Transcripts.{Transcribed, Transcripts}
 use Rattle.overstore.specs.declared.answer.Stop.{Stop}
 use Rattle.overstore.specs.declared.answer.Stop.TheVariants.{End, BadLine, Long, Read, Write, Disk, Trace, Memory, Tag}
 use Rattle.overstore.specs.declared.fault.StepFault.{StepFault}
 use Rattle.overstore.specs.declared.fault.StepFault.TheVariants.{Disk as NoDisk, Memory as NoMemory, Tag as WrongTag, Trace as NoTrace}
 use Rattle.overstore.proofs.Answering.{kept}
 use Rattle.overstore.proofs.Concluding.{first_of}
-use Rattle.overstore.proofs.Running.{not_code, not_code_or}
+use Rattle.overstore.proofs.Running.{not_code_or}
 use Rattle.overstore.proofs.Surviving.{answered_error, answered_whole, front_put, none_put, part_answered, some_put}
 use Rattle.overstore.proofs.Transcripts.{front_of, whole_is_front}
 

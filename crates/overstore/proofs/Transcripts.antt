@@ -1,5 +1,5 @@
 -- Transcripts and fronts of them, as they are put.
-use Rattle.std.proofs.Common.{◌≡◌, List, [], ◌++◌, ℕ, length, refl, sym, ◌∙◌, Option, Result, Ok, Err}
+use Rattle.std.proofs.Common.{List, [], ◌++◌, ℕ, length, refl, sym, ◌∙◌, Option, Result, Ok, Err}
 use Rattle.std.proofs.lemmas.List.{append-nil}
 use Rattle.ov_script.specs.declared.command.Command.{Command}
 use Rattle.ov_history.specs.Masters.{Masters}

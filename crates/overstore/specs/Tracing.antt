@@ -6,7 +6,6 @@ use Rattle.ov_base.specs.declared.limits.TheConstants.{MAX_SCRIPT_BYTES}
 use Rattle.ov_disk.specs.Disk.{Image}
 use Rattle.ov_script.specs.declared.command.Command.{Command}
 use Rattle.ov_script.specs.declared.command.Command.TheVariants.{Epoch as AskEpoch}
-use Rattle.ov_script.specs.declared.reply.Reply.{Reply}
 use Rattle.ov_script.specs.Lines.{reply_line}
 use Rattle.ov_script.specs.Reading.{IsScript, BeginsScript, BeginsWith}
 use Rattle.ov_script.specs.Reading.{Ending, AtEnd, BadAt, TooLong}

@@ -6,11 +6,11 @@ ghost use Rattle.ov_history.specs.Masters.{Masters};
 ghost use Rattle.ov_history.specs.Plain.{PlainHistory};
 ghost use Rattle.ov_script.specs.Lines.{reply_line};
 ghost use Rattle.ov_script.specs.Place.{start, text_left};
-ghost use Rattle.overstore.specs.Answering.{Answers, IsAnswer, PutsOr, PutsTo, Stops, StopsAt};
+ghost use Rattle.overstore.specs.Answered.{StopsText};
+ghost use Rattle.overstore.specs.Answering.{Answers, IsAnswer, PutsOr, PutsTo, StopsAt};
 ghost use Rattle.overstore.specs.Answering.{stop_for};
 ghost use Rattle.overstore.specs.Machine.{IsCommand, StandsFor};
-ghost use Rattle.overstore.specs.Pacing.{IsPaced};
-ghost use Rattle.overstore.specs.Tracing.{TracesLine, TracesTo};
+ghost use Rattle.overstore.specs.Tracing.{TracesLine};
 
 use crate::fault::{BadTag, StepFault};
 use crate::machine::Machine;
@@ -88,8 +88,8 @@ fn answer<D: Disk, O: Sink, T: Sink>(
     ensures traced { (p : PlainHistory) → StandsFor machine.old.kept p
         → TracesLine machine.old.kept.masters p command result
         (O.written out.old) (O.written out.new) (T.written trace.old) (T.written trace.new) }
-    ensures sink { PutsTo O.written O.faults (result ≡ Some Stop.Write) out.old out.new }
-    ensures trace { PutsTo T.written T.faults (result ≡ Some Stop.Trace) trace.old trace.new }
+    ensures sinks { PutsTo O.written O.faults (result ≡ Some Stop.Write) out.old out.new
+        × PutsTo T.written T.faults (result ≡ Some Stop.Trace) trace.old trace.new }
 {
     let alloc = *buffer.allocator();
     match machine.step(alloc, command, trace) {
@@ -108,20 +108,15 @@ pub fn answer_all<S: Source + Drop, O: Sink, T: Sink, D: Disk>(
 ) -> Stop
     requires start { script.old ≡ start script.old.source }
     requires healthy { machine.old.failed ≡ false }
-    ensures stop { (p : PlainHistory) → StandsFor machine.old.kept p
+    ensures text { (p : PlainHistory) → StandsFor machine.old.kept p
         → IfSome (text_left S.left script.old) (λ text.
-        Stops D.reads D.may_leave D.moment D.left_since machine.old.kept.masters p text result
-        (O.written out.old) (O.written out.new) machine.old machine.new) }
-    ensures paced { (p : PlainHistory) → StandsFor machine.old.kept p
-        → IfSome (text_left S.left script.old) (λ _. IsPaced S.takes S.left p
-        script.old.source script.new.source (O.written out.old) (O.written out.new)) }
+        StopsText D.reads D.may_leave D.moment D.left_since S.takes S.left
+        machine.old.kept.masters p text result machine.old machine.new
+        script.old.source script.new.source (O.written out.old) (O.written out.new)
+        (T.written trace.old) (T.written trace.new)) }
     ensures source { IsCallOf S.borrow S.faults (result ≡ Stop.Read)
         script.old.source script.new.source }
     ensures machine { StopsAt D.borrow D.faults machine.old machine.new result }
-    ensures traced { (p : PlainHistory) → StandsFor machine.old.kept p
-        → IfSome (text_left S.left script.old) (λ text.
-        TracesTo machine.old.kept.masters p text result
-        (O.written out.old) (O.written out.new) (T.written trace.old) (T.written trace.new)) }
     ensures sinks { PutsTo O.written O.faults (result ≡ Stop.Write) out.old out.new
         × PutsTo T.written T.faults (result ≡ Stop.Trace) trace.old trace.new }
 {

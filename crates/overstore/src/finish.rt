@@ -35,8 +35,8 @@ pub fn put_last<O: Sink>(out: &mut O, bytes: &[u8], status: Status) -> u8
     }
 }
 
-// Puts the line that says that memory was refused.
-fn put_memory<O: Sink>(out: &mut O) -> u8
+/// Puts the line that says that memory was refused.
+pub fn put_memory<O: Sink>(out: &mut O) -> u8
     ensures ends { EndsIn memory_line 7 (O.written out.old) (O.written out.new) result }
     ensures later { O.faults out.old ≤ O.faults out.new }
     ensures write { result ≡ 6 → Rose (O.faults out.old) (O.faults out.new) }

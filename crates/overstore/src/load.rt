@@ -188,10 +188,7 @@ pub fn load<K: Source, O: Sink, T: Sink, D: Disk>(
     ensures no_script { IsOfNoScript result }
 {
     match load_of(words) {
-        Some(load) => {
-            let (code, _disk) = load_with_keys(alloc, &load, keys, disk, out, trace);
-            code
-        }
+        Some(load) => load_with_keys(alloc, &load, keys, disk, out, trace).0,
         None => put_last(out, b"error usage\n", Status::Usage),
     }
 }

@@ -27,6 +27,7 @@
 //! | `loading`, `tally` | the loop over its commands, and what is kept of their replies |
 //! | `summary` | its seven lines |
 //! | `fault`, `status` | why a command isn't answered; the exit statuses |
+//! | `watched`, `progress` | standard output as `main` hands it on; the count of replies |
 #![tactic(auto)]
 
 mod answer;
@@ -40,6 +41,7 @@ mod load;
 mod load_words;
 mod loading;
 mod machine;
+mod progress;
 mod questions;
 mod replying;
 mod run;
@@ -48,20 +50,23 @@ mod summary;
 mod tally;
 #[cfg(test)]
 mod tests;
+mod watched;
 
-use finish::put_last;
+use finish::put_memory;
 use load::load;
 use ov_disk::FileDisk;
 use ov_io::{FileSink, FileSource, StdSink, StdSource};
+use progress::Counted;
 use run::run;
 use status::Status;
 use std::env;
 use std::fs::File;
-use std::io::{self, ErrorKind};
+use std::io::{self, ErrorKind, IsTerminal, Write};
 use std::process::ExitCode;
+use watched::Watched;
 
 const HELP: &str = "\
-Usage: overstore run full|delta < SCRIPT
+Usage: overstore [--quiet] run full|delta < SCRIPT
        overstore load full|delta NUMBER COUNT
 
 Answers the script on standard input, one reply line for each command. In `full`
@@ -91,12 +96,19 @@ answers them in a script's place. It prints how many updates were accepted, how 
 commands refused, files given and lists given, the epoch, and the SHA-256 of all
 reply lines. NUMBER is below 18446744073709551616, COUNT is 1 to 20000.
 
+Where standard error is a terminal and standard output isn't, `run` counts there
+the replies that were put, by thousands; with `--quiet` it doesn't.
+
 The last line of `run` is `end epoch EPOCH`, or `error ..` where the script could not be
 answered to its end. Exit status: 0 answered, 2 words not known, 3 bad line,
 4 disk failed, 5 read failed or no `keys.hex`, 6 write failed, 7 out of memory,
 8 `store.book` is damaged or no store, 9 it is of other keys or the other mode,
 10 `keys.hex` is no key file, 11 script too long, 12 a file's tag is wrong.
 ";
+
+// Said in place of the status's words where a reply found that its reader is gone.
+const READER_IS_GONE: &str =
+    "whoever read the replies closed their end; what was put lasts; ask for the epoch, and run the rest";
 
 const VERSION: &str = "overstore 0.4.0\n";
 
@@ -133,8 +145,9 @@ fn told_by(words: &[String]) -> Option<&'static str> {
 }
 
 // Says on standard error what is wrong and what to do. Where that fails too, the status has to do.
-fn explain(rt: &HostRuntime, code: u8) {
+fn explain(rt: &HostRuntime, code: u8, reader_is_gone: bool) {
     let advice = match Status::from_code(code) {
+        Some(Status::WriteFault) if reader_is_gone => Some(READER_IS_GONE),
         Some(status) => status.advice(),
         None => None,
     };
@@ -146,6 +159,14 @@ fn explain(rt: &HostRuntime, code: u8) {
     }
 }
 
+// Whether the words begin with `--quiet`, and the other words.
+fn apart_from_quiet(words: &[String]) -> (bool, &[String]) {
+    match words {
+        [first, others @ ..] if first.as_str() == "--quiet" => (true, others),
+        _ => (false, words),
+    }
+}
+
 // Whether the words ask for a load, in form or not.
 fn is_load(words: &[String]) -> bool {
     match words {
@@ -154,44 +175,46 @@ fn is_load(words: &[String]) -> bool {
     }
 }
 
-// Answers `--help` and `--version`, and calls `load` or, with all other words, `run`.
-fn answer_words(rt: &HostRuntime, words: &[String]) -> u8 {
+// Calls `load` or, with all other words, `run`, over the files of the folder.
+fn answer_over_files<W: Write>(
+    rt: &HostRuntime,
+    words: &[String],
+    shows: bool,
+    replies: &mut Watched<W>,
+) -> u8 {
+    let mut out = Counted::new(StdSink::new(replies), *rt, shows);
+    let Ok(mut keys) = FileSource::new(*rt, KEY_FILE) else {
+        return put_memory(&mut out);
+    };
+    let Ok(mut disk) = FileDisk::new(*rt, BOOK_FILE, BLOBS_FILE) else {
+        return put_memory(&mut out);
+    };
+    let Ok(mut trace) = FileSink::new(*rt, TRACE_FILE) else {
+        return put_memory(&mut out);
+    };
+    let alloc = rt.alloc();
+    if is_load(words) {
+        return load(alloc, words, &mut keys, &mut out, &mut trace, &mut disk);
+    }
+    let mut input = StdSource::new(rt.stdin());
+    let code = run(
+        alloc, words, &mut keys, &mut input, &mut out, &mut trace, &mut disk,
+    );
+    out.end();
+    code
+}
+
+// Answers `--help` and `--version`, and all other words over the files of the folder.
+fn answer_words<W: Write>(rt: &HostRuntime, words: &[String], replies: &mut Watched<W>) -> u8 {
+    let (quiet, words) = apart_from_quiet(words);
     match told_by(words) {
-        Some(text) => match rt.print(text) {
+        Some(text) => match replies.write_all(text.as_bytes()) {
             Ok(()) => Status::Done.code(),
             Err(_) => Status::WriteFault.code(),
         },
         None => {
-            let mut out = StdSink::new(rt.stdout());
-            let Ok(mut keys) = FileSource::new(*rt, KEY_FILE) else {
-                return put_last(&mut out, b"error memory\n", Status::OutOfMemory);
-            };
-            let Ok(mut disk) = FileDisk::new(*rt, BOOK_FILE, BLOBS_FILE) else {
-                return put_last(&mut out, b"error memory\n", Status::OutOfMemory);
-            };
-            let Ok(mut trace) = FileSink::new(*rt, TRACE_FILE) else {
-                return put_last(&mut out, b"error memory\n", Status::OutOfMemory);
-            };
-            if is_load(words) {
-                return load(
-                    rt.alloc(),
-                    words,
-                    &mut keys,
-                    &mut out,
-                    &mut trace,
-                    &mut disk,
-                );
-            }
-            let mut input = StdSource::new(rt.stdin());
-            run(
-                rt.alloc(),
-                words,
-                &mut keys,
-                &mut input,
-                &mut out,
-                &mut trace,
-                &mut disk,
-            )
+            let shows = !quiet && rt.stderr().is_terminal() && !rt.stdout().is_terminal();
+            answer_over_files(rt, words, shows, replies)
         }
     }
 }
@@ -208,12 +231,15 @@ fn held_places(rt: &HostRuntime) -> (io::Result<File>, io::Result<File>, io::Res
 
 fn main(rt: HostRuntime) -> ExitCode {
     let _held = held_places(&rt);
+    let mut replies = Watched::new(rt.stdout());
     let code = match words_of(&rt) {
-        Ok(words) => answer_words(&rt, &words),
-        Err(error) if error.kind() == ErrorKind::OutOfMemory => Status::OutOfMemory.code(),
+        Ok(words) => answer_words(&rt, &words, &mut replies),
+        Err(error) if error.kind() == ErrorKind::OutOfMemory => {
+            put_memory(&mut StdSink::new(&mut replies))
+        }
         // A word that is no UTF-8 is no known word.
-        Err(_) => answer_words(&rt, &[]),
+        Err(_) => answer_words(&rt, &[], &mut replies),
     };
-    explain(&rt, code);
+    explain(&rt, code, replies.reader_is_gone());
     ExitCode::from(code)
 }

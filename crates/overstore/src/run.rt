@@ -5,12 +5,13 @@ ghost use Rattle.ov_base.specs.declared.mode.Mode.{Mode};
 ghost use Rattle.ov_disk.specs.Disk.{Told};
 ghost use Rattle.ov_history.specs.Masters.{Masters as PlainMasters};
 ghost use Rattle.ov_history.specs.Plain.{PlainHistory};
+ghost use Rattle.overstore.specs.Answered.{AnswersText};
 ghost use Rattle.overstore.specs.Answering.{SaysTag};
 ghost use Rattle.overstore.specs.Disks.{Endures, Holds, OpensAs, TellsNothing};
 ghost use Rattle.overstore.specs.Machine.{AreMasters, StandsFor, plain_masters};
 ghost use Rattle.overstore.specs.Pacing.{IsPaced};
 ghost use Rattle.overstore.specs.Printing.{IsKeysStatus, IsScriptStatus, IsStoreStatus};
-ghost use Rattle.overstore.specs.Running.{EndsAs, EndsFor, FailsForFaults, ForImage, FromEach};
+ghost use Rattle.overstore.specs.Running.{EndsFor, FailsForFaults, ForImage, FromEach};
 ghost use Rattle.overstore.specs.Running.{IsDecided, JudgesImage, JudgesKeys, LeavesAsAtStart};
 ghost use Rattle.overstore.specs.Running.{PrintsAs, RefusesWords, RunsWell};
 ghost use Rattle.overstore.specs.Tracing.{TracesAs};
@@ -60,17 +61,12 @@ fn answer_script<I: Source, O: Sink, T: Sink, D: Disk>(
     trace: &mut T,
 ) -> u8
     requires healthy { machine.old.failed ≡ false }
-    ensures ends { let k = machine.old.kept.masters in
+    ensures text { let k = machine.old.kept.masters in
         (p : PlainHistory) → StandsFor machine.old.kept p → IfSome (I.left input.old) (λ text.
-        EndsAs D.reads D.may_leave D.moment D.left_since k p text machine.old.disk machine.new.disk
-        (O.written out.old) (O.written out.new) result
+        AnswersText D.reads D.may_leave D.moment D.left_since I.takes I.left k p text result
+        machine.old.disk machine.new.disk input.old input.new
+        (O.written out.old) (O.written out.new) (T.written trace.old) (T.written trace.new)
         (Holds D.reads D.may_leave k p machine.old.disk)) }
-    ensures paced { (p : PlainHistory) → StandsFor machine.old.kept p
-        → IfSome (I.left input.old) (λ _. IsPaced I.takes I.left p input.old input.new
-        (O.written out.old) (O.written out.new)) }
-    ensures traced { (p : PlainHistory) → StandsFor machine.old.kept p
-        → IfSome (I.left input.old) (λ text. TracesAs machine.old.kept.masters p text result
-        (O.written out.old) (O.written out.new) (T.written trace.old) (T.written trace.new)) }
     ensures causes { EndsFor D.borrow D.faults machine.old.disk machine.new.disk result
         (Rose (I.faults input.old) (I.faults input.new))
         (Rose (O.faults out.old) (O.faults out.new)
@@ -101,19 +97,12 @@ fn answer_over<I: Source, O: Sink, T: Sink, D: Disk + Drop>(
     out: &mut O,
     trace: &mut T,
 ) -> (u8, D)
-    ensures ends { let k = plain_masters masters in
+    ensures text { let k = plain_masters masters in
         (p : PlainHistory) → OpensAs D.reads D.may_leave k mode p disk
         → IfSome (I.left input.old) (λ text.
-        EndsAs D.reads D.may_leave D.moment D.left_since k p text disk result.1
-        (O.written out.old) (O.written out.new) result.0 (Unit {0})) }
-    ensures paced { let k = plain_masters masters in
-        (p : PlainHistory) → OpensAs D.reads D.may_leave k mode p disk
-        → IfSome (I.left input.old) (λ _. IsPaced I.takes I.left p input.old input.new
-        (O.written out.old) (O.written out.new)) }
-    ensures traced { let k = plain_masters masters in
-        (p : PlainHistory) → OpensAs D.reads D.may_leave k mode p disk
-        → IfSome (I.left input.old) (λ text. TracesAs k p text result.0
-        (O.written out.old) (O.written out.new) (T.written trace.old) (T.written trace.new)) }
+        AnswersText D.reads D.may_leave D.moment D.left_since I.takes I.left k p text result.0
+        disk result.1 input.old input.new (O.written out.old) (O.written out.new)
+        (T.written trace.old) (T.written trace.new) (Unit {0})) }
     ensures image { let k = plain_masters masters in
         Told (D.reads disk) (λ i. JudgesImage k mode i result.0
         (O.written out.old) (O.written out.new)
@@ -146,19 +135,12 @@ fn answer_with_keys<K: Source, I: Source, O: Sink, T: Sink, D: Disk + Drop>(
     out: &mut O,
     trace: &mut T,
 ) -> (u8, D)
-    ensures ends { IfSome (K.left keys.old) (λ file. IfSome (I.left input.old) (λ text.
+    ensures text { IfSome (K.left keys.old) (λ file. IfSome (I.left input.old) (λ text.
         (k : PlainMasters) (p : PlainHistory) → AreMasters file k
         → OpensAs D.reads D.may_leave k mode p disk
-        → EndsAs D.reads D.may_leave D.moment D.left_since k p text disk result.1
-        (O.written out.old) (O.written out.new) result.0 (Unit {0}))) }
-    ensures paced { IfSome (K.left keys.old) (λ file. IfSome (I.left input.old) (λ _.
-        (k : PlainMasters) (p : PlainHistory) → AreMasters file k
-        → OpensAs D.reads D.may_leave k mode p disk
-        → IsPaced I.takes I.left p input.old input.new (O.written out.old) (O.written out.new))) }
-    ensures traced { IfSome (K.left keys.old) (λ file. IfSome (I.left input.old) (λ text.
-        (k : PlainMasters) (p : PlainHistory) → AreMasters file k
-        → OpensAs D.reads D.may_leave k mode p disk → TracesAs k p text result.0
-        (O.written out.old) (O.written out.new) (T.written trace.old) (T.written trace.new))) }
+        → AnswersText D.reads D.may_leave D.moment D.left_since I.takes I.left k p text result.0
+        disk result.1 input.old input.new (O.written out.old) (O.written out.new)
+        (T.written trace.old) (T.written trace.new) (Unit {0}))) }
     ensures image { IfSome (K.left keys.old) (λ file. (k : PlainMasters) → AreMasters file k
         → Told (D.reads disk) (λ i. JudgesImage k mode i result.0
         (O.written out.old) (O.written out.new)
@@ -211,20 +193,16 @@ pub fn run<K: Source, I: Source, O: Sink, T: Sink, D: Disk>(
     trace: &mut T,
     disk: &mut D,
 ) -> u8
-    ensures opened { FromEach D.reads D.may_leave disk.old
-        words.now (K.left keys.old) (I.left input.old) (λ k p text. RunsWell
-        (PrintsAs p text result (O.written out.old) (O.written out.new))
-        (IsDecided text result
-        (Rose (K.faults keys.old) (K.faults keys.new))
-        (Rose (I.faults input.old) (I.faults input.new))
-        (Rose (O.faults out.old) (O.faults out.new)
-        ⊎ Rose (T.faults trace.old) (T.faults trace.new))
-        (Rose (D.faults disk.old) (D.faults disk.new)))
+    ensures opened { FromEach D.reads D.may_leave disk.old words.now (K.left keys.old)
+        (I.left input.old) (λ k p text. RunsWell
+        (PrintsAs p text result (O.written out.old) (O.written out.new)) (IsDecided text result
+        (Rose (K.faults keys.old) (K.faults keys.new)) (Rose (I.faults input.old)
+        (I.faults input.new)) (Rose (O.faults out.old) (O.faults out.new) ⊎ Rose
+        (T.faults trace.old) (T.faults trace.new)) (Rose (D.faults disk.old) (D.faults disk.new)))
         (IsPaced I.takes I.left p input.old input.new (O.written out.old) (O.written out.new))
-        (TracesAs k p text result (O.written out.old) (O.written out.new)
-        (T.written trace.old) (T.written trace.new))
-        (Endures D.reads D.may_leave D.moment D.left_since k p text result disk.old disk.new
-        (O.written out.old) (O.written out.new))) }
+        (TracesAs k p text result (O.written out.old) (O.written out.new) (T.written trace.old)
+        (T.written trace.new)) (Endures D.reads D.may_leave D.moment D.left_since k p text result
+        disk.old disk.new (O.written out.old) (O.written out.new))) }
     ensures image { ForImage (D.reads disk.old) words.now (K.left keys.old) (λ k mode i.
         JudgesImage k mode i result (O.written out.old) (O.written out.new)
         ((input.new ≡ input.old) × (trace.new ≡ trace.old))
@@ -235,18 +213,14 @@ pub fn run<K: Source, I: Source, O: Sink, T: Sink, D: Disk>(
     ensures words { RefusesWords (AreOther words.now) result (O.written out.old) (O.written out.new)
         ((keys.new ≡ keys.old) × (input.new ≡ input.old) × (trace.new ≡ trace.old)
         × (disk.new ≡ disk.old)) }
-    ensures causes { FailsForFaults result (Rose (D.faults disk.old) (D.faults disk.new))
-        (Rose (K.faults keys.old) (K.faults keys.new)
-        ⊎ Rose (I.faults input.old) (I.faults input.new))
-        (Rose (O.faults out.old) (O.faults out.new)
-        ⊎ Rose (T.faults trace.old) (T.faults trace.new))
-        (SaysTag (O.written out.old) (O.written out.new) × TellsNothing (D.reads disk.old)) }
+    ensures causes { FailsForFaults result (Rose (D.faults disk.old) (D.faults disk.new)) (Rose
+        (K.faults keys.old) (K.faults keys.new) ⊎ Rose (I.faults input.old) (I.faults input.new))
+        (Rose (O.faults out.old) (O.faults out.new) ⊎ Rose (T.faults trace.old)
+        (T.faults trace.new)) (SaysTag (O.written out.old) (O.written out.new)
+        × TellsNothing (D.reads disk.old)) }
 {
     match mode_of(words) {
-        Some(mode) => {
-            let (code, _disk) = answer_with_keys(alloc, mode, keys, disk, input, out, trace);
-            code
-        }
+        Some(mode) => answer_with_keys(alloc, mode, keys, disk, input, out, trace).0,
         None => put_last(out, b"error usage\n", Status::Usage),
     }
 }

@@ -10,6 +10,7 @@ mod loads;
 mod running;
 mod stops;
 mod tags;
+mod watched;
 
 use ov_disk::MemDisk;
 use running::{Pieces, Row, Wants, assert_anew, assert_ended, assert_row, key_bytes, ran, words};

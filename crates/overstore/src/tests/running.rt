@@ -38,7 +38,7 @@ pub struct Pieces<'a> {
 }
 
 /// The number of a call that doesn't come.
-const NEVER: u64 = 1_000_000_000_000;
+pub const NEVER: u64 = 1_000_000_000_000;
 
 impl<'a> Pieces<'a> {
     /// These bytes, once, without a fault.

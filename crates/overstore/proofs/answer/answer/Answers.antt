@@ -48,19 +48,33 @@ returns-in-Err-clause-step g c = record {
   tag = λ bad. tag_so c.in-Err.fault c.stop_of.result bad c.stop_of.ensures (λ bad e. c.in-Err.ensures.step.tag bad (ap Err e));
 }
 
-pub returns-in-Ok-clause-sink : goal.returns-in-Ok-clause-sink
-returns-in-Ok-clause-sink g c = record {
-  grew = put_grows c.put_reply.result _ _ _ c.put_reply.ensures.put;
-  later = c.put_reply.ensures.later;
-  write = c.put_reply.ensures.write;
-}
+pub returns-in-Ok-clause-sinks : goal.returns-in-Ok-clause-sinks
+returns-in-Ok-clause-sinks g c = (
+  record {
+    grew = put_grows c.put_reply.result _ _ _ c.put_reply.ensures.put;
+    later = c.put_reply.ensures.later;
+    write = c.put_reply.ensures.write;
+  },
+  record {
+    grew = c.in-Ok.ensures.sink.grew;
+    later = c.in-Ok.ensures.sink.later;
+    write = λ e. absurd (put_no_trace c.put_reply.result _ _ _ c.put_reply.ensures.put e);
+  },
+)
 
-pub returns-in-Err-clause-sink : goal.returns-in-Err-clause-sink
-returns-in-Err-clause-sink g c = record {
-  grew = ([], Appends-nil _);
-  later = omega arith;
-  write = λ e. absurd (never_write c.in-Err.fault c.stop_of.result c.stop_of.ensures e);
-}
+pub returns-in-Err-clause-sinks : goal.returns-in-Err-clause-sinks
+returns-in-Err-clause-sinks g c = (
+  record {
+    grew = ([], Appends-nil _);
+    later = omega arith;
+    write = λ e. absurd (never_write c.in-Err.fault c.stop_of.result c.stop_of.ensures e);
+  },
+  record {
+    grew = c.in-Err.ensures.sink.grew;
+    later = c.in-Err.ensures.sink.later;
+    write = trace_so c.in-Err.fault c.stop_of.result _ c.stop_of.ensures (λ e. c.in-Err.ensures.sink.write (ap Err e));
+  },
+)
 
 pub returns-in-Ok-clause-traced : goal.returns-in-Ok-clause-traced
 returns-in-Ok-clause-traced g c = λ p stands.
@@ -72,17 +86,3 @@ returns-in-Err-clause-traced g c = λ p stands.
     subst (λ (stop : Stop). TracesLine c.args.machine.now.kept.masters p c.args.command (Some stop) (g.O.Sink.written c.args.out.now) (g.O.Sink.written c.args.out.now)
     (g.T.Sink.written c.args.trace.now) (g.T.Sink.written c.step.new.trace)) (sym c.stop_of.ensures)
     (fault_traced c.args.machine.now.kept.masters p c.args.command _ c.in-Err.fault _ _ _ (c.in-Err.ensures.traced p stands))
-
-pub returns-in-Ok-clause-trace : goal.returns-in-Ok-clause-trace
-returns-in-Ok-clause-trace g c = record {
-  grew = c.in-Ok.ensures.sink.grew;
-  later = c.in-Ok.ensures.sink.later;
-  write = λ e. absurd (put_no_trace c.put_reply.result _ _ _ c.put_reply.ensures.put e);
-}
-
-pub returns-in-Err-clause-trace : goal.returns-in-Err-clause-trace
-returns-in-Err-clause-trace g c = record {
-  grew = c.in-Err.ensures.sink.grew;
-  later = c.in-Err.ensures.sink.later;
-  write = trace_so c.in-Err.fault c.stop_of.result _ c.stop_of.ensures (λ e. c.in-Err.ensures.sink.write (ap Err e));
-}

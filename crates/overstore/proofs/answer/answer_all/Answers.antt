@@ -1,13 +1,11 @@
 use Rattle.std.proofs.KnownBytes.{Appends-nil}
-use Rattle.std.specs.Prelude.{IfSome, Err}
-use Rattle.std.proofs.Common.{[], ap, arith, ◌∙◌, List, ℕ, Option, Some, refl, subst, sym}
+use Rattle.std.specs.Prelude.{Err}
+use Rattle.std.proofs.Common.{[], ap, arith, ◌∙◌, Some, refl, sym}
 use Rattle.std.proofs.lemmas.Grind.{common_steps}
-use Rattle.ov_script.specs.Reading.{AtEnd, BadAt, TooLong}
+use Rattle.ov_script.specs.Reading.{BadAt, TooLong}
 use Rattle.overstore.proofs.Answering.{answered, answered_end, answered_first, answered_more, answer_stops, begins_so, commands_come, disk_only, end_stops, end_tag, goes_on, grows_on, kept_more, no_write, rose_since, starts_fresh, tag_at_none, tag_only, trace_only}
-use Rattle.overstore.specs.Answering.{Stops}
-use Rattle.overstore.specs.Tracing.{TracesTo}
-use Rattle.overstore.specs.declared.answer.Stop.{Stop}
 use Rattle.overstore.proofs.Tracing.{none_traced, traced_end, traced_end_stops, traced_first, traced_more, traced_stops, traced_whole}
+use Rattle.overstore.proofs.Answered.{text_stops}
 use Rattle.overstore.proofs.Pacing.{command_goes_on, none_pending, none_yet, paced_more, paced_next}
 use Rattle.overstore.proofs.answer.answer_all.Goals as goal
 
@@ -35,10 +33,15 @@ items-init g c = record {
 pub answer-requires-clause-command : goal.answer-requires-clause-command
 answer-requires-clause-command g c = commands_come _ c.in-Ok-Command.command c.in-Ok-Command.ensures.item c.in-Ok-Command.field-0-is
 
-pub returns-in-Some-clause-stop : goal.returns-in-Some-clause-stop
-returns-in-Some-clause-stop g c = λ p stands.
-    answer_stops g.D.Disk.reads g.D.Disk.may_leave g.D.Disk.moment g.D.Disk.left_since _ p _ _ c.items.invariant.masters _ _ _ _ _ _ _ _ _ _ _ _ _
-    (c.items.invariant.so_far p stands) (rw c.in-Ok-Command.field-0-is at (c.in-Ok-Command.ensures.says c.items.invariant.ended)) c.in-Some.ensures.answer
+pub returns-in-Some-clause-text : goal.returns-in-Some-clause-text
+returns-in-Some-clause-text g c = λ p stands.
+    text_stops g.D.Disk.reads g.D.Disk.may_leave g.D.Disk.moment g.D.Disk.left_since g.S.Source.takes g.S.Source.left _ p _ _ _ _ _ _ _ _ _ _
+    (answer_stops g.D.Disk.reads g.D.Disk.may_leave g.D.Disk.moment g.D.Disk.left_since _ p _ _ c.items.invariant.masters _ _ _ _ _ _ _ _ _ _ _ _ _
+    (c.items.invariant.so_far p stands) (rw c.in-Ok-Command.field-0-is at (c.in-Ok-Command.ensures.says c.items.invariant.ended)) c.in-Some.ensures.answer)
+    (paced_next g.S.Source.takes g.S.Source.left p g.D.Disk.reads g.D.Disk.may_leave g.D.Disk.moment g.D.Disk.left_since _ _ _ _ _ _ _ _ _ _ _ _ _ _ _
+    (none_pending _ c.requires.start) (c.items.invariant.so_far p stands) (c.items.invariant.paced p stands) c.in-Ok-Command.ensures.needed c.in-Some.ensures.sinks.0.grew)
+    (traced_stops _ p _ c.items.invariant.masters _ _ _ _ _ _ c.answer.new.machine.kept _ _ _ _ _ _ _ _ _
+    (c.items.invariant.traced p stands) (rw c.in-Ok-Command.field-0-is at (c.in-Ok-Command.ensures.says c.items.invariant.ended)) c.in-Some.ensures.traced)
 
 pub items-preserved : goal.items-preserved
 items-preserved g c = record {
@@ -47,47 +50,65 @@ items-preserved g c = record {
       (c.items.invariant.so_far p stands) (rw c.in-Ok-Command.field-0-is at (c.in-Ok-Command.ensures.says c.items.invariant.ended)) c.in-None.ensures.answer;
   paced = λ p stands.
       paced_more g.S.Source.takes g.S.Source.left p g.D.Disk.reads g.D.Disk.may_leave g.D.Disk.moment g.D.Disk.left_since _ _ _ _ _ _ _ _ _ _ _ _ _ _ _
-      (none_pending _ c.requires.start) (c.items.invariant.so_far p stands) (c.items.invariant.paced p stands) c.in-Ok-Command.ensures.needed c.in-None.ensures.sink.grew
+      (none_pending _ c.requires.start) (c.items.invariant.so_far p stands) (c.items.invariant.paced p stands) c.in-Ok-Command.ensures.needed c.in-None.ensures.sinks.0.grew
       (command_goes_on _ c.in-Ok-Command.command c.in-Ok-Command.field-0-is);
   kept = λ p stands.
       kept_more g.D.Disk.reads g.D.Disk.may_leave g.D.Disk.moment g.D.Disk.left_since _ _ _ _ _
       c.in-None.ensures.answer (c.items.invariant.kept p stands);
   masters = c.in-None.ensures.step.masters ∙ c.items.invariant.masters;
   healthy = c.in-None.ensures.step.sound;
-  grew = grows_on _ _ _ c.items.invariant.grew c.in-None.ensures.sink.grew;
+  grew = grows_on _ _ _ c.items.invariant.grew c.in-None.ensures.sinks.0.grew;
   ended = goes_on _ _ _ c.in-Ok-Command.command c.items.invariant.ended c.in-Ok-Command.ensures.ended c.in-Ok-Command.field-0-is;
   same = grind (arith, common_steps);
   read_later = grind (arith, common_steps);
   same_disk = c.in-None.ensures.step.call.same ∙ c.items.invariant.same_disk;
   disk_later = omega (arith, c.items.invariant.disk_later, c.in-None.ensures.step.call.later);
-  write_later = omega (arith, c.items.invariant.write_later, c.in-None.ensures.sink.later);
+  write_later = omega (arith, c.items.invariant.write_later, c.in-None.ensures.sinks.0.later);
   traced = λ p stands.
       traced_more _ p _ c.items.invariant.masters _ _ _ _ _ _ _ _ _ _ _ _ _ _ _
       (c.items.invariant.traced p stands) (rw c.in-Ok-Command.field-0-is at (c.in-Ok-Command.ensures.says c.items.invariant.ended))
       (λ q keeps. (c.in-None.ensures.answer _ q refl keeps).1.stands) c.in-None.ensures.traced;
-  trace_grew = grows_on _ _ _ c.items.invariant.trace_grew c.in-None.ensures.trace.grew;
-  trace_later = omega (arith, c.items.invariant.trace_later, c.in-None.ensures.trace.later);
+  trace_grew = grows_on _ _ _ c.items.invariant.trace_grew c.in-None.ensures.sinks.1.grew;
+  trace_later = omega (arith, c.items.invariant.trace_later, c.in-None.ensures.sinks.1.later);
 }
 
-pub returns-in-Ok-BadLine-clause-stop : goal.returns-in-Ok-BadLine-clause-stop
-returns-in-Ok-BadLine-clause-stop g c = λ p stands.
-    answered g.D.Disk.reads g.D.Disk.may_leave g.D.Disk.moment g.D.Disk.left_since _ p _ _ c.items.invariant.masters _ _ _ _ _ _ (BadAt c.in-Ok-BadLine.line)
-    (c.items.invariant.so_far p stands) (rw c.in-Ok-BadLine.field-0-is at (c.in-Ok-BadLine.ensures.says c.items.invariant.ended))
+pub returns-in-Ok-BadLine-clause-text : goal.returns-in-Ok-BadLine-clause-text
+returns-in-Ok-BadLine-clause-text g c = λ p stands.
+    text_stops g.D.Disk.reads g.D.Disk.may_leave g.D.Disk.moment g.D.Disk.left_since g.S.Source.takes g.S.Source.left _ p _ _ _ _ _ _ _ _ _ _
+    (answered g.D.Disk.reads g.D.Disk.may_leave g.D.Disk.moment g.D.Disk.left_since _ p _ _ c.items.invariant.masters _ _ _ _ _ _ (BadAt c.in-Ok-BadLine.line)
+    (c.items.invariant.so_far p stands) (rw c.in-Ok-BadLine.field-0-is at (c.in-Ok-BadLine.ensures.says c.items.invariant.ended)))
+    (paced_next g.S.Source.takes g.S.Source.left p g.D.Disk.reads g.D.Disk.may_leave g.D.Disk.moment g.D.Disk.left_since _ _ _ _ _ _ _ _ _ _ _ _ _ _ _
+    (none_pending _ c.requires.start) (c.items.invariant.so_far p stands) (c.items.invariant.paced p stands) c.in-Ok-BadLine.ensures.needed ([], Appends-nil _))
+    (traced_whole _ p _ c.items.invariant.masters _ _ _ _ _ _ _ _ (BadAt c.in-Ok-BadLine.line) (λ commands. refl)
+    (c.items.invariant.traced p stands) (rw c.in-Ok-BadLine.field-0-is at (c.in-Ok-BadLine.ensures.says c.items.invariant.ended)))
 
-pub returns-in-Ok-Long-clause-stop : goal.returns-in-Ok-Long-clause-stop
-returns-in-Ok-Long-clause-stop g c = λ p stands.
-    answered g.D.Disk.reads g.D.Disk.may_leave g.D.Disk.moment g.D.Disk.left_since _ p _ _ c.items.invariant.masters _ _ _ _ _ _ TooLong
-    (c.items.invariant.so_far p stands) (rw c.in-Ok-Long.field-0-is at (c.in-Ok-Long.ensures.says c.items.invariant.ended))
+pub returns-in-Ok-Long-clause-text : goal.returns-in-Ok-Long-clause-text
+returns-in-Ok-Long-clause-text g c = λ p stands.
+    text_stops g.D.Disk.reads g.D.Disk.may_leave g.D.Disk.moment g.D.Disk.left_since g.S.Source.takes g.S.Source.left _ p _ _ _ _ _ _ _ _ _ _
+    (answered g.D.Disk.reads g.D.Disk.may_leave g.D.Disk.moment g.D.Disk.left_since _ p _ _ c.items.invariant.masters _ _ _ _ _ _ TooLong
+    (c.items.invariant.so_far p stands) (rw c.in-Ok-Long.field-0-is at (c.in-Ok-Long.ensures.says c.items.invariant.ended)))
+    (paced_next g.S.Source.takes g.S.Source.left p g.D.Disk.reads g.D.Disk.may_leave g.D.Disk.moment g.D.Disk.left_since _ _ _ _ _ _ _ _ _ _ _ _ _ _ _
+    (none_pending _ c.requires.start) (c.items.invariant.so_far p stands) (c.items.invariant.paced p stands) c.in-Ok-Long.ensures.needed ([], Appends-nil _))
+    (traced_whole _ p _ c.items.invariant.masters _ _ _ _ _ _ _ _ TooLong (λ commands. refl)
+    (c.items.invariant.traced p stands) (rw c.in-Ok-Long.field-0-is at (c.in-Ok-Long.ensures.says c.items.invariant.ended)))
 
-pub returns-in-Err-Read-clause-stop : goal.returns-in-Err-Read-clause-stop
-returns-in-Err-Read-clause-stop g c = λ p stands.
-    answered_first g.D.Disk.reads g.D.Disk.may_leave g.D.Disk.moment g.D.Disk.left_since _ p _ _ c.items.invariant.masters _ _ _ _ _ _
-    (c.items.invariant.so_far p stands)
+pub returns-in-Err-Read-clause-text : goal.returns-in-Err-Read-clause-text
+returns-in-Err-Read-clause-text g c = λ p stands.
+    text_stops g.D.Disk.reads g.D.Disk.may_leave g.D.Disk.moment g.D.Disk.left_since g.S.Source.takes g.S.Source.left _ p _ _ _ _ _ _ _ _ _ _
+    (answered_first g.D.Disk.reads g.D.Disk.may_leave g.D.Disk.moment g.D.Disk.left_since _ p _ _ c.items.invariant.masters _ _ _ _ _ _
+    (c.items.invariant.so_far p stands))
+    (paced_next g.S.Source.takes g.S.Source.left p g.D.Disk.reads g.D.Disk.may_leave g.D.Disk.moment g.D.Disk.left_since _ _ _ _ _ _ _ _ _ _ _ _ _ _ _
+    (none_pending _ c.requires.start) (c.items.invariant.so_far p stands) (c.items.invariant.paced p stands) c.in-Err-Read.ensures.needed ([], Appends-nil _))
+    (traced_first _ p _ c.items.invariant.masters _ _ _ _ _ _ _ _ (c.items.invariant.traced p stands))
 
-pub returns-in-Err-Memory-clause-stop : goal.returns-in-Err-Memory-clause-stop
-returns-in-Err-Memory-clause-stop g c = λ p stands.
-    answered_first g.D.Disk.reads g.D.Disk.may_leave g.D.Disk.moment g.D.Disk.left_since _ p _ _ c.items.invariant.masters _ _ _ _ _ _
-    (c.items.invariant.so_far p stands)
+pub returns-in-Err-Memory-clause-text : goal.returns-in-Err-Memory-clause-text
+returns-in-Err-Memory-clause-text g c = λ p stands.
+    text_stops g.D.Disk.reads g.D.Disk.may_leave g.D.Disk.moment g.D.Disk.left_since g.S.Source.takes g.S.Source.left _ p _ _ _ _ _ _ _ _ _ _
+    (answered_first g.D.Disk.reads g.D.Disk.may_leave g.D.Disk.moment g.D.Disk.left_since _ p _ _ c.items.invariant.masters _ _ _ _ _ _
+    (c.items.invariant.so_far p stands))
+    (paced_next g.S.Source.takes g.S.Source.left p g.D.Disk.reads g.D.Disk.may_leave g.D.Disk.moment g.D.Disk.left_since _ _ _ _ _ _ _ _ _ _ _ _ _ _ _
+    (none_pending _ c.requires.start) (c.items.invariant.so_far p stands) (c.items.invariant.paced p stands) c.in-Err-Memory.ensures.needed ([], Appends-nil _))
+    (traced_first _ p _ c.items.invariant.masters _ _ _ _ _ _ _ _ (c.items.invariant.traced p stands))
 
 pub returns-in-Some-clause-machine : goal.returns-in-Some-clause-machine
 returns-in-Some-clause-machine g c = record {
@@ -124,55 +145,20 @@ returns-in-Err-Memory-clause-machine g c =
     let inv = c.items.invariant in
     record { call = record { same = inv.same_disk; later = inv.disk_later; disk = λ e. absurd (cc) }; tag = λ bad e. absurd (cc) }
 
-pub returns-in-Some-clause-paced : goal.returns-in-Some-clause-paced
-returns-in-Some-clause-paced g c = λ p stands.
-    paced_next g.S.Source.takes g.S.Source.left p g.D.Disk.reads g.D.Disk.may_leave g.D.Disk.moment g.D.Disk.left_since _ _ _ _ _ _ _ _ _ _ _ _ _ _ _
-    (none_pending _ c.requires.start) (c.items.invariant.so_far p stands) (c.items.invariant.paced p stands) c.in-Ok-Command.ensures.needed c.in-Some.ensures.sink.grew
-
-pub returns-in-Ok-BadLine-clause-paced : goal.returns-in-Ok-BadLine-clause-paced
-returns-in-Ok-BadLine-clause-paced g c = λ p stands.
-    paced_next g.S.Source.takes g.S.Source.left p g.D.Disk.reads g.D.Disk.may_leave g.D.Disk.moment g.D.Disk.left_since _ _ _ _ _ _ _ _ _ _ _ _ _ _ _
-    (none_pending _ c.requires.start) (c.items.invariant.so_far p stands) (c.items.invariant.paced p stands) c.in-Ok-BadLine.ensures.needed ([], Appends-nil _)
-
-pub returns-in-Ok-Long-clause-paced : goal.returns-in-Ok-Long-clause-paced
-returns-in-Ok-Long-clause-paced g c = λ p stands.
-    paced_next g.S.Source.takes g.S.Source.left p g.D.Disk.reads g.D.Disk.may_leave g.D.Disk.moment g.D.Disk.left_since _ _ _ _ _ _ _ _ _ _ _ _ _ _ _
-    (none_pending _ c.requires.start) (c.items.invariant.so_far p stands) (c.items.invariant.paced p stands) c.in-Ok-Long.ensures.needed ([], Appends-nil _)
-
-pub returns-in-Err-Read-clause-paced : goal.returns-in-Err-Read-clause-paced
-returns-in-Err-Read-clause-paced g c = λ p stands.
-    paced_next g.S.Source.takes g.S.Source.left p g.D.Disk.reads g.D.Disk.may_leave g.D.Disk.moment g.D.Disk.left_since _ _ _ _ _ _ _ _ _ _ _ _ _ _ _
-    (none_pending _ c.requires.start) (c.items.invariant.so_far p stands) (c.items.invariant.paced p stands) c.in-Err-Read.ensures.needed ([], Appends-nil _)
-
-pub returns-in-Err-Memory-clause-paced : goal.returns-in-Err-Memory-clause-paced
-returns-in-Err-Memory-clause-paced g c = λ p stands.
-    paced_next g.S.Source.takes g.S.Source.left p g.D.Disk.reads g.D.Disk.may_leave g.D.Disk.moment g.D.Disk.left_since _ _ _ _ _ _ _ _ _ _ _ _ _ _ _
-    (none_pending _ c.requires.start) (c.items.invariant.so_far p stands) (c.items.invariant.paced p stands) c.in-Err-Memory.ensures.needed ([], Appends-nil _)
-
 pub returns-in-Some-clause-sinks : goal.returns-in-Some-clause-sinks
 returns-in-Some-clause-sinks g c =
     let inv = c.items.invariant in (
       record {
-        grew = grows_on _ _ _ inv.grew c.in-Some.ensures.sink.grew;
-        later = omega (arith, inv.write_later, c.in-Some.ensures.sink.later);
-        write = λ e. rose_since _ _ _ inv.write_later (c.in-Some.ensures.sink.write (ap Some e));
+        grew = grows_on _ _ _ inv.grew c.in-Some.ensures.sinks.0.grew;
+        later = omega (arith, inv.write_later, c.in-Some.ensures.sinks.0.later);
+        write = λ e. rose_since _ _ _ inv.write_later (c.in-Some.ensures.sinks.0.write (ap Some e));
       },
       record {
-        grew = grows_on _ _ _ inv.trace_grew c.in-Some.ensures.trace.grew;
-        later = omega (arith, inv.trace_later, c.in-Some.ensures.trace.later);
-        write = λ e. rose_since _ _ _ inv.trace_later (c.in-Some.ensures.trace.write (ap Some e));
+        grew = grows_on _ _ _ inv.trace_grew c.in-Some.ensures.sinks.1.grew;
+        later = omega (arith, inv.trace_later, c.in-Some.ensures.sinks.1.later);
+        write = λ e. rose_since _ _ _ inv.trace_later (c.in-Some.ensures.sinks.1.write (ap Some e));
       },
     )
-
-pub returns-in-Some-clause-traced : goal.returns-in-Some-clause-traced
-returns-in-Some-clause-traced g c = λ p stands.
-    traced_stops _ p _ c.items.invariant.masters _ _ _ _ _ _ c.answer.new.machine.kept _ _ _ _ _ _ _ _ _
-    (c.items.invariant.traced p stands) (rw c.in-Ok-Command.field-0-is at (c.in-Ok-Command.ensures.says c.items.invariant.ended)) c.in-Some.ensures.traced
-
-pub returns-in-Ok-BadLine-clause-traced : goal.returns-in-Ok-BadLine-clause-traced
-returns-in-Ok-BadLine-clause-traced g c = λ p stands.
-    traced_whole _ p _ c.items.invariant.masters _ _ _ _ _ _ _ _ (BadAt c.in-Ok-BadLine.line) (λ commands. refl)
-    (c.items.invariant.traced p stands) (rw c.in-Ok-BadLine.field-0-is at (c.in-Ok-BadLine.ensures.says c.items.invariant.ended))
 
 pub returns-in-Ok-BadLine-clause-sinks : goal.returns-in-Ok-BadLine-clause-sinks
 returns-in-Ok-BadLine-clause-sinks g c =
@@ -181,11 +167,6 @@ returns-in-Ok-BadLine-clause-sinks g c =
       record { grew = inv.trace_grew; later = inv.trace_later; write = λ e. absurd (cc) },
     )
 
-pub returns-in-Ok-Long-clause-traced : goal.returns-in-Ok-Long-clause-traced
-returns-in-Ok-Long-clause-traced g c = λ p stands.
-    traced_whole _ p _ c.items.invariant.masters _ _ _ _ _ _ _ _ TooLong (λ commands. refl)
-    (c.items.invariant.traced p stands) (rw c.in-Ok-Long.field-0-is at (c.in-Ok-Long.ensures.says c.items.invariant.ended))
-
 pub returns-in-Ok-Long-clause-sinks : goal.returns-in-Ok-Long-clause-sinks
 returns-in-Ok-Long-clause-sinks g c =
     let inv = c.items.invariant in (
@@ -193,20 +174,12 @@ returns-in-Ok-Long-clause-sinks g c =
       record { grew = inv.trace_grew; later = inv.trace_later; write = λ e. absurd (cc) },
     )
 
-pub returns-in-Err-Read-clause-traced : goal.returns-in-Err-Read-clause-traced
-returns-in-Err-Read-clause-traced g c = λ p stands.
-    traced_first _ p _ c.items.invariant.masters _ _ _ _ _ _ _ _ (c.items.invariant.traced p stands)
-
 pub returns-in-Err-Read-clause-sinks : goal.returns-in-Err-Read-clause-sinks
 returns-in-Err-Read-clause-sinks g c =
     let inv = c.items.invariant in (
       record { grew = inv.grew; later = inv.write_later; write = λ e. absurd (cc) },
       record { grew = inv.trace_grew; later = inv.trace_later; write = λ e. absurd (cc) },
     )
-
-pub returns-in-Err-Memory-clause-traced : goal.returns-in-Err-Memory-clause-traced
-returns-in-Err-Memory-clause-traced g c = λ p stands.
-    traced_first _ p _ c.items.invariant.masters _ _ _ _ _ _ _ _ (c.items.invariant.traced p stands)
 
 pub returns-in-Err-Memory-clause-sinks : goal.returns-in-Err-Memory-clause-sinks
 returns-in-Err-Memory-clause-sinks g c =
@@ -220,25 +193,25 @@ returns-in-Err-Memory-clause-sinks g c =
 pub step-requires-clause-command : goal.step-requires-clause-command
 step-requires-clause-command g c = tt
 
-pub returns-in-Ok-clause-stop : goal.returns-in-Ok-clause-stop
-returns-in-Ok-clause-stop g c = λ p stands.
-    answered_end g.D.Disk.reads g.D.Disk.may_leave g.D.Disk.moment g.D.Disk.left_since _ p _ _ c.items.invariant.masters _ _ _ _ _ _ _ _
-    (c.items.invariant.so_far p stands) (rw c.in-Ok-End.field-0-is at (c.in-Ok-End.ensures.says c.items.invariant.ended)) c.in-Ok.ensures.steps
+pub returns-in-Ok-clause-text : goal.returns-in-Ok-clause-text
+returns-in-Ok-clause-text g c = λ p stands.
+    text_stops g.D.Disk.reads g.D.Disk.may_leave g.D.Disk.moment g.D.Disk.left_since g.S.Source.takes g.S.Source.left _ p _ _ _ _ _ _ _ _ _ _
+    (answered_end g.D.Disk.reads g.D.Disk.may_leave g.D.Disk.moment g.D.Disk.left_since _ p _ _ c.items.invariant.masters _ _ _ _ _ _ _ _
+    (c.items.invariant.so_far p stands) (rw c.in-Ok-End.field-0-is at (c.in-Ok-End.ensures.says c.items.invariant.ended)) c.in-Ok.ensures.steps)
+    (paced_next g.S.Source.takes g.S.Source.left p g.D.Disk.reads g.D.Disk.may_leave g.D.Disk.moment g.D.Disk.left_since _ _ _ _ _ _ _ _ _ _ _ _ _ _ _
+    (none_pending _ c.requires.start) (c.items.invariant.so_far p stands) (c.items.invariant.paced p stands) c.in-Ok-End.ensures.needed ([], Appends-nil _))
+    (traced_end _ p _ c.items.invariant.masters _ _ _ _ _ _ _ _ _
+    (c.items.invariant.traced p stands) (rw c.in-Ok-End.field-0-is at (c.in-Ok-End.ensures.says c.items.invariant.ended)) c.in-Ok.ensures.traced)
 
-pub returns-in-Err-clause-stop : goal.returns-in-Err-clause-stop
-returns-in-Err-clause-stop g c = λ p stands.
-    end_stops g.D.Disk.reads g.D.Disk.may_leave g.D.Disk.moment g.D.Disk.left_since _ p _ _ c.items.invariant.masters _ _ _ _ _ _ _ _ _ c.stop_of.ensures
-    (c.items.invariant.so_far p stands) c.in-Err.ensures.steps
-
-pub returns-in-Ok-clause-traced : goal.returns-in-Ok-clause-traced
-returns-in-Ok-clause-traced g c = λ p stands.
-    traced_end _ p _ c.items.invariant.masters _ _ _ _ _ _ _ _ _
-    (c.items.invariant.traced p stands) (rw c.in-Ok-End.field-0-is at (c.in-Ok-End.ensures.says c.items.invariant.ended)) c.in-Ok.ensures.traced
-
-pub returns-in-Err-clause-traced : goal.returns-in-Err-clause-traced
-returns-in-Err-clause-traced g c = λ p stands.
-    traced_end_stops _ p _ c.items.invariant.masters _ _ _ _ _ _ _ _ _ _ c.stop_of.ensures _
-    (c.items.invariant.traced p stands) (rw c.in-Ok-End.field-0-is at (c.in-Ok-End.ensures.says c.items.invariant.ended)) _ c.in-Err.ensures.traced
+pub returns-in-Err-clause-text : goal.returns-in-Err-clause-text
+returns-in-Err-clause-text g c = λ p stands.
+    text_stops g.D.Disk.reads g.D.Disk.may_leave g.D.Disk.moment g.D.Disk.left_since g.S.Source.takes g.S.Source.left _ p _ _ _ _ _ _ _ _ _ _
+    (end_stops g.D.Disk.reads g.D.Disk.may_leave g.D.Disk.moment g.D.Disk.left_since _ p _ _ c.items.invariant.masters _ _ _ _ _ _ _ _ _ c.stop_of.ensures
+    (c.items.invariant.so_far p stands) c.in-Err.ensures.steps)
+    (paced_next g.S.Source.takes g.S.Source.left p g.D.Disk.reads g.D.Disk.may_leave g.D.Disk.moment g.D.Disk.left_since _ _ _ _ _ _ _ _ _ _ _ _ _ _ _
+    (none_pending _ c.requires.start) (c.items.invariant.so_far p stands) (c.items.invariant.paced p stands) c.in-Ok-End.ensures.needed ([], Appends-nil _))
+    (traced_end_stops _ p _ c.items.invariant.masters _ _ _ _ _ _ _ _ _ _ c.stop_of.ensures _
+    (c.items.invariant.traced p stands) (rw c.in-Ok-End.field-0-is at (c.in-Ok-End.ensures.says c.items.invariant.ended)) _ c.in-Err.ensures.traced)
 
 pub returns-in-Ok-clause-machine : goal.returns-in-Ok-clause-machine
 returns-in-Ok-clause-machine g c =
@@ -285,13 +258,3 @@ returns-in-Err-clause-sinks g c =
         write = λ e. rose_since _ _ _ inv.trace_later (sink.write (ap Err (trace_only c.in-Err.fault (sym c.stop_of.ensures ∙ e))));
       },
     )
-
-pub returns-in-Ok-clause-paced : goal.returns-in-Ok-clause-paced
-returns-in-Ok-clause-paced g c = λ p stands.
-    paced_next g.S.Source.takes g.S.Source.left p g.D.Disk.reads g.D.Disk.may_leave g.D.Disk.moment g.D.Disk.left_since _ _ _ _ _ _ _ _ _ _ _ _ _ _ _
-    (none_pending _ c.requires.start) (c.items.invariant.so_far p stands) (c.items.invariant.paced p stands) c.in-Ok-End.ensures.needed ([], Appends-nil _)
-
-pub returns-in-Err-clause-paced : goal.returns-in-Err-clause-paced
-returns-in-Err-clause-paced g c = λ p stands.
-    paced_next g.S.Source.takes g.S.Source.left p g.D.Disk.reads g.D.Disk.may_leave g.D.Disk.moment g.D.Disk.left_since _ _ _ _ _ _ _ _ _ _ _ _ _ _ _
-    (none_pending _ c.requires.start) (c.items.invariant.so_far p stands) (c.items.invariant.paced p stands) c.in-Ok-End.ensures.needed ([], Appends-nil _)

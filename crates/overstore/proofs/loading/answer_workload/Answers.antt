@@ -1,7 +1,7 @@
 use Rattle.std.proofs.Common.{ap, arith, rules, ◌∙◌}
 use Rattle.ov_script.specs.Workload.{Progress}
 use Rattle.overstore.proofs.Answering.{grows_on, rose_since}
-use Rattle.overstore.proofs.LoadTracing.{as_fault, none_sent, same_fault, sent_end, sent_end_stops, sent_more, sent_stops, sent_to_end, stops_behind}
+use Rattle.overstore.proofs.LoadTracing.{as_fault, same_fault, sent_end, sent_end_stops, sent_more, sent_stops, sent_to_end, stops_behind}
 use Rattle.overstore.specs.declared.fault.StepFault.TheVariants.{Memory}
 use Rattle.overstore.proofs.WorkloadSteps.{ended, ends_asked, ends_unasked, goes_on, low_more, low_so, stops, to_end, workload_comes}
 use Rattle.overstore.proofs.loading.answer_workload.Goals as goal

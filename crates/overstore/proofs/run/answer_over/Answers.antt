@@ -8,6 +8,7 @@ use Rattle.std.specs.Prelude.{IfSome}
 use Rattle.overstore.specs.Tracing.{TracesAs}
 use Rattle.overstore.proofs.Tracing.{untraced_fault}
 use Rattle.ov_history.specs.Masters.{Masters}
+use Rattle.overstore.proofs.Answered.{ends_of_run, pace_of_run, text_answers, trace_of_run}
 use Rattle.overstore.proofs.Beginning.{disk_said, ends_in_fault, over_begun, over_refused, over_stands, tells_nothing}
 use Rattle.overstore.proofs.Judging.{judged_open, judged_refused}
 use Rattle.overstore.proofs.Pacing.{untouched}
@@ -20,9 +21,14 @@ returns-in-Err-clause-status g c =
     ends_or_so IsStoreStatus _ _ _ _ _ (fault_so c.in-Err.refused.fault) (inr script_six)
     (inr script_seven) c.put_fault.ensures.ends
 
-pub returns-in-Ok-clause-ends : goal.returns-in-Ok-clause-ends
-returns-in-Ok-clause-ends g c = λ p opens.
-    over_begun g.D.Disk.reads g.D.Disk.may_leave g.D.Disk.moment g.D.Disk.left_since
+pub returns-in-Ok-clause-text : goal.returns-in-Ok-clause-text
+returns-in-Ok-clause-text g c = λ p opens.
+    let stands = over_stands g.D.Disk.reads g.D.Disk.may_leave g.D.Disk.moment g.D.Disk.left_since
+    (plain_masters c.args.masters) c.args.mode p c.args.disk opens
+    c.of-machine.result c.in-Ok.store c.of-machine.ensures.store c.of-machine.ensures.masters
+    c.in-Ok.ensures.new c.in-Ok.ensures.found in
+    text_answers g.D.Disk.reads g.D.Disk.may_leave g.D.Disk.moment g.D.Disk.left_since g.I.Source.takes g.I.Source.left (plain_masters c.args.masters) p (g.I.Source.left c.args.input.now) _ _ _ _ _ _ _ _ _ _
+    (over_begun g.D.Disk.reads g.D.Disk.may_leave g.D.Disk.moment g.D.Disk.left_since
     (plain_masters c.args.masters) c.args.mode p c.args.disk opens
     (g.I.Source.left c.args.input.now) _ _ _
     c.of-machine.result c.in-Ok.store c.of-machine.ensures.store c.of-machine.ensures.masters
@@ -34,16 +40,29 @@ returns-in-Ok-clause-ends g c = λ p opens.
     (g.O.Sink.written c.args.out.now) (g.O.Sink.written c.answer_script-code.new.out)
     c.answer_script-code.result (Holds g.D.Disk.reads g.D.Disk.may_leave
     c.of-machine.result.kept.masters q c.of-machine.result.disk)))
-    (sym c.into_disk.ensures) (c.answer_script-code.ensures.ends q stands))
+    (sym c.into_disk.ensures) (ends_of_run g.D.Disk.reads g.D.Disk.may_leave g.D.Disk.moment g.D.Disk.left_since g.I.Source.takes g.I.Source.left _ q _ _ _ _ _ _ _ _ _ _ _ (c.answer_script-code.ensures.text q stands))))
+    (pace_of_run g.D.Disk.reads g.D.Disk.may_leave g.D.Disk.moment g.D.Disk.left_since g.I.Source.takes g.I.Source.left _ p _ _ _ _ _ _ _ _ _ _ _
+    (c.answer_script-code.ensures.text p stands))
+    (subst (λ (k : Masters). IfSome (g.I.Source.left c.args.input.now) (λ text. TracesAs k p text c.answer_script-code.result
+    (g.O.Sink.written c.args.out.now) (g.O.Sink.written c.answer_script-code.new.out)
+    (g.T.Sink.written c.args.trace.now) (g.T.Sink.written c.answer_script-code.new.trace))) c.of-machine.ensures.masters
+    (trace_of_run g.D.Disk.reads g.D.Disk.may_leave g.D.Disk.moment g.D.Disk.left_since g.I.Source.takes g.I.Source.left _ p _ _ _ _ _ _ _ _ _ _ _
+    (c.answer_script-code.ensures.text p stands)))
 
-pub returns-in-Err-clause-ends : goal.returns-in-Err-clause-ends
-returns-in-Err-clause-ends g c = λ p opens.
-    over_refused g.D.Disk.reads g.D.Disk.may_leave g.D.Disk.moment g.D.Disk.left_since
+pub returns-in-Err-clause-text : goal.returns-in-Err-clause-text
+returns-in-Err-clause-text g c = λ p opens.
+    text_answers g.D.Disk.reads g.D.Disk.may_leave g.D.Disk.moment g.D.Disk.left_since g.I.Source.takes g.I.Source.left (plain_masters c.args.masters) p (g.I.Source.left c.args.input.now) _ _ _ _ _ _ _ _ _ _
+    (over_refused g.D.Disk.reads g.D.Disk.may_leave g.D.Disk.moment g.D.Disk.left_since
     (plain_masters c.args.masters) c.args.mode p c.args.disk opens
     (g.I.Source.left c.args.input.now) _ _ _
     c.in-Err.refused.disk c.in-Err.refused.fault c.in-Err.ensures.fault c.put_fault.ensures.ends
     c.in-Err.ensures.any_moment
-    (g.met.D.Disk.counts_now c.in-Err.refused.disk)
+    (g.met.D.Disk.counts_now c.in-Err.refused.disk))
+    (untouched g.I.Source.takes g.I.Source.left p _ _ _ _)
+    (untraced_fault (plain_masters c.args.masters) p (g.I.Source.left c.args.input.now) _ _ _ _
+    (ends_in_fault c.in-Err.refused.fault _ _ _
+    ((c.in-Err.ensures.fault opens.image opens.told).opens (p, opens.legal, opens.mode_is, opens.stands))
+    c.put_fault.ensures.ends))
 
 pub returns-in-Ok-clause-image : goal.returns-in-Ok-clause-image
 returns-in-Ok-clause-image g c = λ i told.
@@ -93,33 +112,3 @@ returns-in-Err-clause-causes g c =
       write = λ e. inl (c.put_fault.ensures.write e);
       tag = λ e. absurd (fault_no_tag c.in-Err.refused.fault _ _ _ _ ends e);
     }
-
-pub returns-in-Ok-clause-paced : goal.returns-in-Ok-clause-paced
-returns-in-Ok-clause-paced g c = λ p opens.
-    c.answer_script-code.ensures.paced p
-    (over_stands g.D.Disk.reads g.D.Disk.may_leave g.D.Disk.moment g.D.Disk.left_since
-    (plain_masters c.args.masters) c.args.mode p c.args.disk opens
-    c.of-machine.result c.in-Ok.store c.of-machine.ensures.store c.of-machine.ensures.masters
-    c.in-Ok.ensures.new c.in-Ok.ensures.found)
-
-pub returns-in-Err-clause-paced : goal.returns-in-Err-clause-paced
-returns-in-Err-clause-paced g c = λ p opens.
-    untouched g.I.Source.takes g.I.Source.left p _ _ _ _
-
-pub returns-in-Ok-clause-traced : goal.returns-in-Ok-clause-traced
-returns-in-Ok-clause-traced g c = λ p opens.
-    subst (λ (k : Masters). IfSome (g.I.Source.left c.args.input.now) (λ text. TracesAs k p text c.answer_script-code.result
-    (g.O.Sink.written c.args.out.now) (g.O.Sink.written c.answer_script-code.new.out)
-    (g.T.Sink.written c.args.trace.now) (g.T.Sink.written c.answer_script-code.new.trace))) c.of-machine.ensures.masters
-    (c.answer_script-code.ensures.traced p
-    (over_stands g.D.Disk.reads g.D.Disk.may_leave g.D.Disk.moment g.D.Disk.left_since
-    (plain_masters c.args.masters) c.args.mode p c.args.disk opens
-    c.of-machine.result c.in-Ok.store c.of-machine.ensures.store c.of-machine.ensures.masters
-    c.in-Ok.ensures.new c.in-Ok.ensures.found))
-
-pub returns-in-Err-clause-traced : goal.returns-in-Err-clause-traced
-returns-in-Err-clause-traced g c = λ p opens.
-    untraced_fault (plain_masters c.args.masters) p (g.I.Source.left c.args.input.now) _ _ _ _
-    (ends_in_fault c.in-Err.refused.fault _ _ _
-    ((c.in-Err.ensures.fault opens.image opens.told).opens (p, opens.legal, opens.mode_is, opens.stands))
-    c.put_fault.ensures.ends)

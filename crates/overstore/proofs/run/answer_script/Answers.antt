@@ -1,4 +1,5 @@
-use Rattle.std.proofs.Common.{MutBor, ℕ, List, arith, inl, refl, rules}
+use Rattle.std.proofs.Common.{MutBor, ℕ, arith, inl, refl, rules}
+use Rattle.overstore.proofs.Answered.{pace_of_text, stop_of_text, text_answers, trace_of_text}
 use Rattle.overstore.proofs.Running.{ends_so, finish_disk, finish_read, finish_tag, finishes_so, memory_not, rose_after, rose_lent, script_seven, script_six}
 use Rattle.overstore.proofs.Surviving.{ends_all, ends_unread}
 use Rattle.overstore.proofs.Tracing.{traced_all, untraced_all}
@@ -9,14 +10,23 @@ use Rattle.overstore.specs.Machine.{StandsFor}
 use Rattle.overstore.specs.Printing.{IsScriptStatus}
 use Rattle.overstore.proofs.run.answer_script.Goals as goal
 
-pub returns-clause-ends : goal.returns-clause-ends
-returns-clause-ends g c = λ p stands.
-    ends_all g.D.Disk.reads g.D.Disk.may_leave g.D.Disk.moment g.D.Disk.left_since _ p (g.I.Source.left c.args.input.now) _ _ _ _ _ (g.met.D.Disk.reads_one c.answer_all-stop.new.machine.disk) _ _ _
-    (rw c.over-script.ensures at (c.answer_all-stop.ensures.stop p stands)) c.finish.ensures.finish c.epoch.ensures
+pub returns-clause-text : goal.returns-clause-text
+returns-clause-text g c = λ p stands.
+    text_answers g.D.Disk.reads g.D.Disk.may_leave g.D.Disk.moment g.D.Disk.left_since g.I.Source.takes g.I.Source.left _ p (g.I.Source.left c.args.input.now) _ _ _ _ _ _ _ _ _ _
+    (ends_all g.D.Disk.reads g.D.Disk.may_leave g.D.Disk.moment g.D.Disk.left_since _ p (g.I.Source.left c.args.input.now) _ _ _ _ _ (g.met.D.Disk.reads_one c.answer_all-stop.new.machine.disk) _ _ _
+    (rw c.over-script.ensures at (stop_of_text g.D.Disk.reads g.D.Disk.may_leave g.D.Disk.moment g.D.Disk.left_since _ _ _ p _ _ _ _ _ _ _ _ _ _ (c.answer_all-stop.ensures.text p stands))) c.finish.ensures.finish c.epoch.ensures)
+    (paced_then g.I.Source.takes g.I.Source.left p (g.I.Source.left c.args.input.now) _ _ _ _ _
+    (paced_lent (λ (l : MutBor g.row.I.Denot). l.now) _ g.I.Source.takes g.I.Source.left p (λ a b t. t.1) (g.I.Source.left c.args.input.now) _ c.answer_all-stop.new.script.source _ _ _ (search rules)
+    (rw c.over-script.ensures at (pace_of_text g.D.Disk.reads g.D.Disk.may_leave g.D.Disk.moment g.D.Disk.left_since _ _ _ p _ _ _ _ _ _ _ _ _ _ (c.answer_all-stop.ensures.text p stands)))) (finish_grows _ _ _ _ _ c.finish.ensures.finish))
+    (traced_all _ p (g.I.Source.left c.args.input.now) _ _ _ _ _ c.answer_all-stop.result c.epoch.result _
+    (rw c.over-script.ensures at (trace_of_text g.D.Disk.reads g.D.Disk.may_leave g.D.Disk.moment g.D.Disk.left_since _ _ _ p _ _ _ _ _ _ _ _ _ _ (c.answer_all-stop.ensures.text p stands))) c.finish.ensures.finish)
 
-pub returns-in-Err-clause-ends : goal.returns-in-Err-clause-ends
-returns-in-Err-clause-ends g c = λ p stands.
-    ends_unread g.D.Disk.reads g.D.Disk.may_leave g.D.Disk.moment g.D.Disk.left_since _ p (g.I.Source.left c.args.input.now) _ _ _ _ (g.met.D.Disk.only_now c.args.machine.now.disk) c.put_last.ensures.ends
+pub returns-in-Err-clause-text : goal.returns-in-Err-clause-text
+returns-in-Err-clause-text g c = λ p stands.
+    text_answers g.D.Disk.reads g.D.Disk.may_leave g.D.Disk.moment g.D.Disk.left_since g.I.Source.takes g.I.Source.left _ p (g.I.Source.left c.args.input.now) _ _ _ _ _ _ _ _ _ _
+    (ends_unread g.D.Disk.reads g.D.Disk.may_leave g.D.Disk.moment g.D.Disk.left_since _ p (g.I.Source.left c.args.input.now) _ _ _ _ (g.met.D.Disk.only_now c.args.machine.now.disk) c.put_last.ensures.ends)
+    (untouched g.I.Source.takes g.I.Source.left p _ _ _ _)
+    (untraced_all _ p (g.I.Source.left c.args.input.now) _ _ _ _ Memory (λ text first. first) c.put_last.ensures.ends)
 
 pub returns-clause-status : goal.returns-clause-status
 returns-clause-status g c = finishes_so _ _ _ _ _ c.finish.ensures.finish
@@ -48,21 +58,3 @@ returns-in-Err-clause-causes g c =
       write = λ e. inl (c.put_last.ensures.write (λ e. cc) e);
       tag = λ e. absurd (never 12 (λ z. omega arith) (λ z. omega arith) e);
     }
-
-pub returns-clause-paced : goal.returns-clause-paced
-returns-clause-paced g c = λ p stands.
-    paced_then g.I.Source.takes g.I.Source.left p (g.I.Source.left c.args.input.now) _ _ _ _ _
-    (paced_lent (λ (l : MutBor g.row.I.Denot). l.now) _ g.I.Source.takes g.I.Source.left p (λ a b t. t.1) (g.I.Source.left c.args.input.now) _ c.answer_all-stop.new.script.source _ _ _ (search rules)
-    (rw c.over-script.ensures at (c.answer_all-stop.ensures.paced p stands))) (finish_grows _ _ _ _ _ c.finish.ensures.finish)
-
-pub returns-in-Err-clause-paced : goal.returns-in-Err-clause-paced
-returns-in-Err-clause-paced g c = λ p stands. untouched g.I.Source.takes g.I.Source.left p _ _ _ _
-
-pub returns-clause-traced : goal.returns-clause-traced
-returns-clause-traced g c = λ p stands.
-    traced_all _ p (g.I.Source.left c.args.input.now) _ _ _ _ _ c.answer_all-stop.result c.epoch.result _
-    (rw c.over-script.ensures at (c.answer_all-stop.ensures.traced p stands)) c.finish.ensures.finish
-
-pub returns-in-Err-clause-traced : goal.returns-in-Err-clause-traced
-returns-in-Err-clause-traced g c = λ p stands.
-    untraced_all _ p (g.I.Source.left c.args.input.now) _ _ _ _ Memory (λ text first. first) c.put_last.ensures.ends

@@ -5,11 +5,10 @@ use Rattle.ov_history.specs.Masters.{Masters}
 use Rattle.ov_history.specs.Plain.{PlainHistory}
 use Rattle.overstore.specs.Disks.{OpensAs}
 use Rattle.overstore.specs.Machine.{plain_masters}
-use Rattle.overstore.specs.Pacing.{IsPaced}
-use Rattle.overstore.specs.Tracing.{TracesAs}
 use Rattle.overstore.specs.declared.answer.Stop.TheVariants.{Read}
 use Rattle.overstore.proofs.Tracing.{untraced}
-use Rattle.overstore.specs.Running.{EndsAs, JudgesImage, LeavesAsAtStart}
+use Rattle.overstore.specs.Answered.{AnswersText}
+use Rattle.overstore.specs.Running.{JudgesImage, LeavesAsAtStart}
 use Rattle.overstore.proofs.Judging.{judged_unread}
 use Rattle.overstore.proofs.KeyFiles.{ends_untouched, from_all, from_none, from_read, image_all, image_none, image_read}
 use Rattle.overstore.proofs.Pacing.{untaken}
@@ -37,23 +36,33 @@ returns-in-Ok-None-clause-keys g c =
 pub returns-in-Err-clause-keys : goal.returns-in-Err-clause-keys
 returns-in-Err-clause-keys g c = judged_failed _ (g.K.Source.left c.args.keys.now) _ _ _ _ c.put_last-in-Err.ensures.ends (refl, refl, refl)
 
-pub returns-in-Ok-Some-clause-ends : goal.returns-in-Ok-Some-clause-ends
-returns-in-Ok-Some-clause-ends g c =
+pub returns-in-Ok-Some-clause-text : goal.returns-in-Ok-Some-clause-text
+returns-in-Ok-Some-clause-text g c =
     from_read (λ (k : Masters) (p : PlainHistory). OpensAs g.D.Disk.reads g.D.Disk.may_leave k c.args.mode p c.args.disk)
-    (λ (k : Masters) (p : PlainHistory) (text : List ℕ). EndsAs g.D.Disk.reads g.D.Disk.may_leave g.D.Disk.moment g.D.Disk.left_since k p text c.args.disk c.answer_over.result.1 (g.O.Sink.written c.args.out.now) (g.O.Sink.written c.answer_over.new.out) c.answer_over.result.0 (Unit {0}))
-    (plain_masters c.in-Ok-Some.masters) (g.K.Source.left c.args.keys.now) (g.I.Source.left c.args.input.now) (rw c.in-Ok-Some.field-0-is at c.in-Ok-Some.ensures.read) c.answer_over.ensures.ends
+    (λ (k : Masters) (p : PlainHistory) (text : List ℕ). AnswersText g.D.Disk.reads g.D.Disk.may_leave g.D.Disk.moment g.D.Disk.left_since g.I.Source.takes g.I.Source.left k p text c.answer_over.result.0
+    c.args.disk c.answer_over.result.1 c.args.input.now c.answer_over.new.input (g.O.Sink.written c.args.out.now) (g.O.Sink.written c.answer_over.new.out)
+    (g.T.Sink.written c.args.trace.now) (g.T.Sink.written c.answer_over.new.trace) (Unit {0}))
+    (plain_masters c.in-Ok-Some.masters) (g.K.Source.left c.args.keys.now) (g.I.Source.left c.args.input.now) (rw c.in-Ok-Some.field-0-is at c.in-Ok-Some.ensures.read) c.answer_over.ensures.text
 
-pub returns-in-Ok-None-clause-ends : goal.returns-in-Ok-None-clause-ends
-returns-in-Ok-None-clause-ends g c =
+pub returns-in-Ok-None-clause-text : goal.returns-in-Ok-None-clause-text
+returns-in-Ok-None-clause-text g c =
     from_none (λ (k : Masters) (p : PlainHistory) (text : List ℕ). OpensAs g.D.Disk.reads g.D.Disk.may_leave k c.args.mode p c.args.disk
-    → EndsAs g.D.Disk.reads g.D.Disk.may_leave g.D.Disk.moment g.D.Disk.left_since k p text c.args.disk c.args.disk (g.O.Sink.written c.args.out.now) (g.O.Sink.written c.put_last.new.out) c.put_last.result (Unit {0})) (g.K.Source.left c.args.keys.now) (g.I.Source.left c.args.input.now) (rw c.in-Ok-None.field-0-is at c.in-Ok-None.ensures.read)
+    → AnswersText g.D.Disk.reads g.D.Disk.may_leave g.D.Disk.moment g.D.Disk.left_since g.I.Source.takes g.I.Source.left k p text c.put_last.result
+    c.args.disk c.args.disk c.args.input.now c.args.input.now (g.O.Sink.written c.args.out.now) (g.O.Sink.written c.put_last.new.out)
+    (g.T.Sink.written c.args.trace.now) (g.T.Sink.written c.args.trace.now) (Unit {0})) (g.K.Source.left c.args.keys.now) (g.I.Source.left c.args.input.now) (rw c.in-Ok-None.field-0-is at c.in-Ok-None.ensures.read)
 
-pub returns-in-Err-clause-ends : goal.returns-in-Err-clause-ends
-returns-in-Err-clause-ends g c =
+pub returns-in-Err-clause-text : goal.returns-in-Err-clause-text
+returns-in-Err-clause-text g c =
     from_all (λ (k : Masters) (p : PlainHistory) (text : List ℕ). OpensAs g.D.Disk.reads g.D.Disk.may_leave k c.args.mode p c.args.disk
-    → EndsAs g.D.Disk.reads g.D.Disk.may_leave g.D.Disk.moment g.D.Disk.left_since k p text c.args.disk c.args.disk (g.O.Sink.written c.args.out.now) (g.O.Sink.written c.put_last-in-Err.new.out) c.put_last-in-Err.result (Unit {0})) (g.K.Source.left c.args.keys.now) (g.I.Source.left c.args.input.now)
-    (λ k p text opens. ends_untouched g.D.Disk.reads g.D.Disk.may_leave g.D.Disk.moment g.D.Disk.left_since k c.args.mode p text c.args.disk _ _ _ c.put_last-in-Err.ensures.ends opens
-    (g.met.D.Disk.only_now c.args.disk) (g.met.D.Disk.counts_now c.args.disk))
+    → AnswersText g.D.Disk.reads g.D.Disk.may_leave g.D.Disk.moment g.D.Disk.left_since g.I.Source.takes g.I.Source.left k p text c.put_last-in-Err.result
+    c.args.disk c.args.disk c.args.input.now c.args.input.now (g.O.Sink.written c.args.out.now) (g.O.Sink.written c.put_last-in-Err.new.out)
+    (g.T.Sink.written c.args.trace.now) (g.T.Sink.written c.args.trace.now) (Unit {0})) (g.K.Source.left c.args.keys.now) (g.I.Source.left c.args.input.now)
+    (λ k p text opens. record {
+      ends = ends_untouched g.D.Disk.reads g.D.Disk.may_leave g.D.Disk.moment g.D.Disk.left_since k c.args.mode p text c.args.disk _ _ _ c.put_last-in-Err.ensures.ends opens
+          (g.met.D.Disk.only_now c.args.disk) (g.met.D.Disk.counts_now c.args.disk);
+      paced = untaken g.I.Source.takes g.I.Source.left p _ _ _;
+      traced = untraced k p text _ _ _ _ Read (λ first. first) c.put_last-in-Err.ensures.ends;
+    })
 
 pub returns-in-Ok-Some-clause-image : goal.returns-in-Ok-Some-clause-image
 returns-in-Ok-Some-clause-image g c =
@@ -94,37 +103,3 @@ returns-in-Err-clause-causes g c =
       write = λ e. inl (c.put_last-in-Err.ensures.write (λ e. cc) e);
       tag = λ e. absurd (never 12 (λ z. omega arith) (λ z. omega arith) e);
     }
-
-pub returns-in-Ok-Some-clause-paced : goal.returns-in-Ok-Some-clause-paced
-returns-in-Ok-Some-clause-paced g c =
-    from_read (λ (k : Masters) (p : PlainHistory). OpensAs g.D.Disk.reads g.D.Disk.may_leave k c.args.mode p c.args.disk)
-    (λ (k : Masters) (p : PlainHistory) (text : List ℕ). IsPaced g.I.Source.takes g.I.Source.left p c.args.input.now c.answer_over.new.input (g.O.Sink.written c.args.out.now) (g.O.Sink.written c.answer_over.new.out))
-    (plain_masters c.in-Ok-Some.masters) (g.K.Source.left c.args.keys.now) (g.I.Source.left c.args.input.now) (rw c.in-Ok-Some.field-0-is at c.in-Ok-Some.ensures.read) c.answer_over.ensures.paced
-
-pub returns-in-Ok-None-clause-paced : goal.returns-in-Ok-None-clause-paced
-returns-in-Ok-None-clause-paced g c =
-    from_none (λ (k : Masters) (p : PlainHistory) (text : List ℕ). OpensAs g.D.Disk.reads g.D.Disk.may_leave k c.args.mode p c.args.disk
-    → IsPaced g.I.Source.takes g.I.Source.left p c.args.input.now c.args.input.now (g.O.Sink.written c.args.out.now) (g.O.Sink.written c.put_last.new.out)) (g.K.Source.left c.args.keys.now) (g.I.Source.left c.args.input.now) (rw c.in-Ok-None.field-0-is at c.in-Ok-None.ensures.read)
-
-pub returns-in-Err-clause-paced : goal.returns-in-Err-clause-paced
-returns-in-Err-clause-paced g c =
-    from_all (λ (k : Masters) (p : PlainHistory) (text : List ℕ). OpensAs g.D.Disk.reads g.D.Disk.may_leave k c.args.mode p c.args.disk
-    → IsPaced g.I.Source.takes g.I.Source.left p c.args.input.now c.args.input.now (g.O.Sink.written c.args.out.now) (g.O.Sink.written c.put_last-in-Err.new.out)) (g.K.Source.left c.args.keys.now) (g.I.Source.left c.args.input.now)
-    (λ k p text opens. untaken g.I.Source.takes g.I.Source.left p _ _ _)
-
-pub returns-in-Ok-Some-clause-traced : goal.returns-in-Ok-Some-clause-traced
-returns-in-Ok-Some-clause-traced g c =
-    from_read (λ (k : Masters) (p : PlainHistory). OpensAs g.D.Disk.reads g.D.Disk.may_leave k c.args.mode p c.args.disk)
-    (λ (k : Masters) (p : PlainHistory) (text : List ℕ). TracesAs k p text c.answer_over.result.0 (g.O.Sink.written c.args.out.now) (g.O.Sink.written c.answer_over.new.out) (g.T.Sink.written c.args.trace.now) (g.T.Sink.written c.answer_over.new.trace))
-    (plain_masters c.in-Ok-Some.masters) (g.K.Source.left c.args.keys.now) (g.I.Source.left c.args.input.now) (rw c.in-Ok-Some.field-0-is at c.in-Ok-Some.ensures.read) c.answer_over.ensures.traced
-
-pub returns-in-Ok-None-clause-traced : goal.returns-in-Ok-None-clause-traced
-returns-in-Ok-None-clause-traced g c =
-    from_none (λ (k : Masters) (p : PlainHistory) (text : List ℕ). OpensAs g.D.Disk.reads g.D.Disk.may_leave k c.args.mode p c.args.disk
-    → TracesAs k p text c.put_last.result (g.O.Sink.written c.args.out.now) (g.O.Sink.written c.put_last.new.out) (g.T.Sink.written c.args.trace.now) (g.T.Sink.written c.args.trace.now)) (g.K.Source.left c.args.keys.now) (g.I.Source.left c.args.input.now) (rw c.in-Ok-None.field-0-is at c.in-Ok-None.ensures.read)
-
-pub returns-in-Err-clause-traced : goal.returns-in-Err-clause-traced
-returns-in-Err-clause-traced g c =
-    from_all (λ (k : Masters) (p : PlainHistory) (text : List ℕ). OpensAs g.D.Disk.reads g.D.Disk.may_leave k c.args.mode p c.args.disk
-    → TracesAs k p text c.put_last-in-Err.result (g.O.Sink.written c.args.out.now) (g.O.Sink.written c.put_last-in-Err.new.out) (g.T.Sink.written c.args.trace.now) (g.T.Sink.written c.args.trace.now)) (g.K.Source.left c.args.keys.now) (g.I.Source.left c.args.input.now)
-    (λ k p text opens. untraced k p text _ _ _ _ Read (λ first. first) c.put_last-in-Err.ensures.ends)

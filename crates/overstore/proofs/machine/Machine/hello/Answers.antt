@@ -1,4 +1,4 @@
-use Rattle.std.proofs.Common.{rules, refl}
+use Rattle.std.proofs.Common.{rules}
 use Rattle.overstore.proofs.LentQuestions.{hello_all, hello_fault, hello_keys}
 use Rattle.overstore.proofs.machine.Machine.hello.Goals as goal
 

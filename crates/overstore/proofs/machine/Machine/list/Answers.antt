@@ -1,4 +1,4 @@
-use Rattle.std.proofs.Common.{rules, refl}
+use Rattle.std.proofs.Common.{rules}
 use Rattle.overstore.proofs.LentQuestions.{list_all, list_fault, list_keys}
 use Rattle.overstore.proofs.machine.Machine.list.Goals as goal
 

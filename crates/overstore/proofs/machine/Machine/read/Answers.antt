@@ -1,4 +1,4 @@
-use Rattle.std.proofs.Common.{rules, refl}
+use Rattle.std.proofs.Common.{rules}
 use Rattle.overstore.proofs.LentQuestions.{found_all, found_fault, found_keys}
 use Rattle.overstore.proofs.machine.Machine.read.Goals as goal
 

@@ -1,0 +1,62 @@
+//! How far a script is, on standard error. A count that can't be written there is passed over.
+use ov_io::{Fault, Sink};
+
+// The count is shown at each multiple of this.
+const STEP: u64 = 1_000;
+
+/// A sink that counts the replies that are put to it, and may show their count.
+#[derive(Drop)]
+pub struct Counted<S: Sink> {
+    sink: S,
+    rt: HostRuntime,
+    shows: bool,
+    replies: u64,
+}
+
+impl<S: Sink> Counted<S> {
+    /// Counts what is put to this sink, and shows it or doesn't.
+    pub fn new(sink: S, rt: HostRuntime, shows: bool) -> Counted<S> {
+        Counted {
+            sink,
+            rt,
+            shows,
+            replies: 0,
+        }
+    }
+
+    // Shows the count in place of the one before, where it is due.
+    fn show(&self) {
+        if self.shows && self.replies % STEP == 0 {
+            let rt = self.rt;
+            let replies = self.replies;
+            let _ = eprint!(rt; "\roverstore: {replies} replies");
+        }
+    }
+
+    /// Ends the line of the count, where one was shown.
+    pub fn end(&self) {
+        if self.shows && self.replies >= STEP {
+            let rt = self.rt;
+            let _ = eprintln!(rt; "");
+        }
+    }
+}
+
+impl<S: Sink> Sink for Counted<S> {
+    ghost written = { λ s. S.written s.sink };
+
+    ghost faults = { λ s. S.faults s.sink };
+
+    ghost borrow = { λ s. S.borrow s.sink };
+
+    ghost puts = { λ a b. S.puts a.sink b.sink };
+
+    fn put(&mut self, bytes: &[u8]) -> Result<(), Fault> {
+        let put = self.sink.put(bytes);
+        if put.is_ok() {
+            self.replies = self.replies.saturating_add(1);
+            self.show();
+        }
+        put
+    }
+}
