@@ -1,3 +1,4 @@
+pub mod Counts
 pub mod Answered
 pub mod Answering
 pub mod Disks

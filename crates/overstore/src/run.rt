@@ -7,6 +7,7 @@ ghost use Rattle.ov_history.specs.Masters.{Masters as PlainMasters};
 ghost use Rattle.ov_history.specs.Plain.{PlainHistory};
 ghost use Rattle.overstore.specs.Answered.{AnswersText};
 ghost use Rattle.overstore.specs.Answering.{SaysTag};
+ghost use Rattle.overstore.specs.Counts.{OneRose};
 ghost use Rattle.overstore.specs.Disks.{Endures, Holds, OpensAs, TellsNothing};
 ghost use Rattle.overstore.specs.Machine.{AreMasters, StandsFor, plain_masters};
 ghost use Rattle.overstore.specs.Pacing.{IsPaced};
@@ -193,12 +194,13 @@ pub fn run<K: Source, I: Source, O: Sink, T: Sink, D: Disk>(
     trace: &mut T,
     disk: &mut D,
 ) -> u8
-    ensures opened { FromEach D.reads D.may_leave disk.old words.now (K.left keys.old)
-        (I.left input.old) (λ k p text. RunsWell
-        (PrintsAs p text result (O.written out.old) (O.written out.new)) (IsDecided text result
-        (Rose (K.faults keys.old) (K.faults keys.new)) (Rose (I.faults input.old)
-        (I.faults input.new)) (Rose (O.faults out.old) (O.faults out.new) ⊎ Rose
-        (T.faults trace.old) (T.faults trace.new)) (Rose (D.faults disk.old) (D.faults disk.new)))
+    ensures opened { FromEach D.reads D.may_leave disk.old
+        words.now (K.left keys.old) (I.left input.old) (λ k p text. RunsWell
+        (PrintsAs p text result (O.written out.old) (O.written out.new))
+        (IsDecided text result (Rose (K.faults keys.old) (K.faults keys.new))
+        (Rose (I.faults input.old) (I.faults input.new))
+        (OneRose (O.faults out.old) (O.faults out.new) (T.faults trace.old) (T.faults trace.new))
+        (Rose (D.faults disk.old) (D.faults disk.new)))
         (IsPaced I.takes I.left p input.old input.new (O.written out.old) (O.written out.new))
         (TracesAs k p text result (O.written out.old) (O.written out.new) (T.written trace.old)
         (T.written trace.new)) (Endures D.reads D.may_leave D.moment D.left_since k p text result
@@ -213,11 +215,10 @@ pub fn run<K: Source, I: Source, O: Sink, T: Sink, D: Disk>(
     ensures words { RefusesWords (AreOther words.now) result (O.written out.old) (O.written out.new)
         ((keys.new ≡ keys.old) × (input.new ≡ input.old) × (trace.new ≡ trace.old)
         × (disk.new ≡ disk.old)) }
-    ensures causes { FailsForFaults result (Rose (D.faults disk.old) (D.faults disk.new)) (Rose
-        (K.faults keys.old) (K.faults keys.new) ⊎ Rose (I.faults input.old) (I.faults input.new))
-        (Rose (O.faults out.old) (O.faults out.new) ⊎ Rose (T.faults trace.old)
-        (T.faults trace.new)) (SaysTag (O.written out.old) (O.written out.new)
-        × TellsNothing (D.reads disk.old)) }
+    ensures causes { FailsForFaults result (Rose (D.faults disk.old) (D.faults disk.new))
+        (OneRose (K.faults keys.old) (K.faults keys.new) (I.faults input.old) (I.faults input.new))
+        (OneRose (O.faults out.old) (O.faults out.new) (T.faults trace.old) (T.faults trace.new))
+        (SaysTag (O.written out.old) (O.written out.new) × TellsNothing (D.reads disk.old)) }
 {
     match mode_of(words) {
         Some(mode) => answer_with_keys(alloc, mode, keys, disk, input, out, trace).0,
