@@ -1,4 +1,7 @@
 //! Each status of a server, over a disk, a door and a sink in memory.
+
+ghost use Rattle.std.specs.Prelude.{◌≡◌, [], false};
+
 use crate::{Hosted, host};
 use ov_base::{Key, Mode, Octets};
 use ov_disk::MemDisk;
@@ -151,7 +154,11 @@ fn stream(rt: &impl Abort, alloc: Global) -> MemStream {
 }
 
 // A door with so many streams.
-fn door(rt: &impl Abort, alloc: Global, streams: u32, fails: &[u8]) -> MemDoor {
+fn door(rt: &impl Abort, alloc: Global, streams: u32, fails: &[u8]) -> MemDoor
+    ensures given { result.gave ≡ [] }
+    ensures faults { result.faults ≡ 0 }
+    ensures open { result.closed ≡ false }
+{
     let mut waiting = Vec::new(alloc);
     for _ in 0..streams {
         waiting.push(stream(rt, alloc)).expect(rt, "memory");
