@@ -1,11 +1,12 @@
 """Runs the program where `run` can't be run in a proof: every exit status over real files, standard
-streams that are closed at the start, files that are folders, two programs at once, a stop after each
+streams that are closed at the start, a reader that is gone, replies that are counted on a terminal, files that are folders, two programs at once, a stop after each
 write of a grant, 300 kills, and two loads of one number, which print the same.
 
 Run, after `rt run` has built the program: python3 tools/program_cases.py crates/overstore/out/overstore
 """
 import os
 import pathlib
+import pty
 import random
 import resource
 import shutil
@@ -151,6 +152,33 @@ def writes_that_fail():
     expect(run(folder, b"enrol a\n"), 6, b"")
     (folder / "trace.bin").rmdir()
     expect(run(folder), 0, b"end epoch 0\n")
+
+
+def a_reader_that_is_gone():
+    folder = new_folder()
+    behind, before = os.pipe()
+    os.close(behind)
+    done = subprocess.run([PROGRAM, "run", "full"], cwd=folder, input=b"enrol a\n", stdout=before, stderr=subprocess.PIPE)
+    os.close(before)
+    assert done.returncode == 6 and b"closed their end" in done.stderr, done
+    expect(run(folder, mode="full"), 0, b"end epoch 1\n")
+
+
+def replies_that_are_counted():
+    """On a terminal, where the replies go elsewhere, and not with --quiet."""
+    script = b"".join(b"enrol a\n" for _ in range(2500))
+    for words, shown in (["run", "full"], b"2000 replies"), (["--quiet", "run", "full"], b""):
+        master, terminal = pty.openpty()
+        done = subprocess.run([PROGRAM, *words], cwd=new_folder(), input=script, stdout=subprocess.PIPE, stderr=terminal)
+        os.set_blocking(master, False)
+        try:
+            said = os.read(master, 65536)
+        except BlockingIOError:
+            said = b""
+        os.close(terminal)
+        os.close(master)
+        assert done.returncode == 0 and done.stdout.endswith(b"end epoch 1\n"), done.returncode
+        assert (shown in said) if shown else said == b"", said
 
 
 def memory_that_is_refused():
@@ -320,6 +348,8 @@ cases = [
     disks_that_fail,
     reads_that_fail,
     writes_that_fail,
+    a_reader_that_is_gone,
+    replies_that_are_counted,
     memory_that_is_refused,
     stores_that_do_not_open,
     records_that_are_not_the_owners,

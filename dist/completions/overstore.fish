@@ -5,6 +5,7 @@ set -l mode '__fish_seen_subcommand_from run load; and not __fish_seen_subcomman
 complete -c overstore -f
 complete -c overstore -n $command -l help -d 'Print a summary'
 complete -c overstore -n $command -l version -d 'Print the version'
+complete -c overstore -n $command -l quiet -d 'Show no count of replies'
 complete -c overstore -n $command -a run -d 'Answer a script on standard input'
 complete -c overstore -n $command -a load -d 'Answer the commands of a workload'
 complete -c overstore -n $mode -a full -d 'Each file has a surface'

@@ -8,6 +8,7 @@ fi
 _arguments \
     '(- *)--help[print a summary]' \
     '(- *)--version[print the version]' \
+    '--quiet[show no count of replies]' \
     '1:command:((run\:"answer a script on standard input" load\:"answer the commands of a workload"))' \
     '2:mode:((full\:"each file has a surface" delta\:"a file has one where more hold its key"))' \
     $numbers
