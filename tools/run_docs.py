@@ -46,6 +46,12 @@ NEEDS = {"program", "network", "kit"}
 PROGRAMS = ("overstored", "overstore", "overctl")
 
 
+def lay_keys(folder):
+    """Lays the key file of the examples into a folder, for its owner alone."""
+    shutil.copy(ROOT / "examples" / "keys.hex", folder)
+    (pathlib.Path(folder) / "keys.hex").chmod(0o600)
+
+
 def blocks_of(page):
     """Each block of a page: its line, its mark if it has one, its language and its text."""
     return blocks_of_text(page) if page.suffix == ".md" else blocks_of_man(page)
@@ -162,7 +168,7 @@ def run_page(page, have):
         if "on" not in words or folder is None:
             folder = place = new_folder()
             if words & {"program", "network"}:
-                shutil.copy(ROOT / "examples" / "keys.hex", folder)
+                lay_keys(folder)
         if "kit" in words:
             place = ROOT
         for name, text in files.items():
@@ -197,7 +203,7 @@ def run_examples(have):
             continue
         for mode in ("full", "delta"):
             folder = new_folder()
-            shutil.copy(ROOT / "examples" / "keys.hex", folder)
+            lay_keys(folder)
             done = subprocess.run(
                 [f"{BASE}/bin/overstore", "run", mode],
                 cwd=folder,
