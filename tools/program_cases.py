@@ -1,6 +1,7 @@
 """Runs the program where `run` can't be run in a proof: every exit status over real files, standard
-streams that are closed at the start, a reader that is gone, replies that are counted on a terminal, files that are folders, two programs at once, a stop after each
-write of a grant, 300 kills, and two loads of one number, which print the same.
+streams that are closed at the start, a reader that is gone, replies that are counted on a terminal,
+files that are folders, two programs at once, a stop after each write of a grant, 300 kills, and two
+loads of one number, which print the same.
 
 Run, after `rt run` has built the program: python3 tools/program_cases.py crates/overstore/out/overstore
 """
