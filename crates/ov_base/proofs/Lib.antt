@@ -1,5 +1,8 @@
 pub mod SetLaws
 pub mod SetSizes
+pub mod NamePlaces
+pub mod Lists
+pub mod Modes
 pub mod Tests
 pub mod SetBytes
 pub mod SetOrder

@@ -52,7 +52,7 @@ size set = count_ones set
 abbrev pub IsBelow : ℕ → ℕ → Type 0
 IsBelow limit set = (user : ℕ) → Has set user → user < limit
 
--- the set as so many bytes: user n is bit n % 8, counted from the least, of byte n / 8
+-- the set as so many bytes, each with eight users and the lowest of them in its lowest bit
 unfoldable pub bytes_of : ℕ → ℕ → List ℕ
 bytes_of zero set = []
 bytes_of (suc count) set = set % 256 ∷ bytes_of count (set / 256)

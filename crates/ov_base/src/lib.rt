@@ -5,8 +5,8 @@
 //! a list of distinct names; [`Octets`] is a list of bytes on the heap; a [`UserSet`] is a set of
 //! users, of any width; a [`Mode`] says when a file has a surface layer; a [`Refusal`] says by
 //! number and word why the access-matrix machine refuses a command; a [`Key`] is 32 bytes that no
-//! text shows; [`Memory`] is the one answer that may come from any call that allocates. The limits
-//! of a store are the constants of [`limits`].
+//! text shows; [`Memory`] is what any call may answer that takes room on the heap. The limits of a
+//! store are the constants of [`limits`].
 //!
 //! Contracts see a name and octets as the list of their bytes, so a clause compares them with `≡`
 //! and knows nothing of how they are kept. They see a set of users as the number whose bits are its

@@ -108,8 +108,8 @@ impl<const W: usize> UserSet<W> {
         words::count(&self.words)
     }
 
-    /// Writes the set as `8 * W` bytes: user n is bit `n % 8`, counted from the least, of the byte
-    /// `n / 8`.
+    /// Writes the set as `8 * W` bytes, each with eight users: user 0 is the lowest bit of the first
+    /// byte, user 8 that of the second.
     pub fn write(&self, out: &mut [u8])
         requires { length out.old ≡ 8 * W }
         ensures bytes { out.new ≡ bytes_of (8 * W) self.now }

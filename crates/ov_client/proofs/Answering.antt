@@ -1,9 +1,9 @@
 -- What an answer that was read is.
-use Rattle.std.proofs.Common.{◌≡◌, ℕ, Bool, true, false, List, length, Option, Some, None}
-use Rattle.std.proofs.Common.{Result, Ok, Err}
+use Rattle.std.proofs.Common.{◌≡◌, ℕ, List, length, Option, Some, None}
+use Rattle.std.proofs.Common.{Ok}
 use Rattle.std.specs.Prelude.{IfOk}
 use Rattle.ov_fields.specs.Fronts.{AreAllBytes}
-use Rattle.ov_fields.specs.Reading.{all_of, by_rows, placed}
+use Rattle.ov_fields.specs.Reading.{all_of, by_rows}
 use Rattle.ov_wire.specs.declared.request.Request.{Request}
 use Rattle.ov_wire.specs.declared.request.Request.TheVariants as requests
 use Rattle.ov_wire.specs.declared.answer.Answer.{Answer}
@@ -11,18 +11,10 @@ use Rattle.ov_wire.specs.declared.answer.Answer.TheVariants as answers
 use Rattle.ov_wire.specs.declared.answer.Chained.{Chained}
 use Rattle.ov_wire.specs.AnswerReading.{answer_of, answer_rows}
 use Rattle.ov_wire.specs.AnswersTo.{IsAnswer, IsChained}
-use Rattle.ov_wire.specs.Places.{unless_long}
+use Rattle.ov_wire.proofs.AnswerForms.{long_ok, placed_ok}
 use Rattle.ov_wire.proofs.AnswerLaws.{answer_takes}
 use Rattle.ov_client.specs.Readers.{Reader}
 use Rattle.ov_client.specs.Telling.{TellsFewSteps, chained_in, chained_unless, wrong_field}
-
-long_ok : (b : Bool) (r : Result Answer ℕ) (a : Answer) → unless_long b r ≡ Ok a → r ≡ Ok a
-long_ok true r a e = absurd cc
-long_ok false r a e = e
-
-placed_ok : (n : ℕ) (r : Result Answer ℕ) (a : Answer) → placed n r ≡ Ok a → r ≡ Ok a
-placed_ok n (Ok other) a e = e
-placed_ok n (Err left) a e = absurd cc
 
 -- what is read is one of the answers that the request allows
 pub answer_is : (request : Request) (reply : List ℕ) (a : Answer) → AreAllBytes reply

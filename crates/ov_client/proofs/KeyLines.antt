@@ -1,5 +1,5 @@
 -- Lines of keys: their words, and that they are read once.
-use Rattle.std.proofs.Common.{◌≡◌, ◌∙◌, ℕ, ◌+◌, ◌^◌, ◌<◌, ◌≤◌, List, [], ◌∷◌, ◌++◌, length, Ok, Err}
+use Rattle.std.proofs.Common.{◌≡◌, ◌∙◌, ℕ, ◌+◌, ◌^◌, ◌<◌, List, [], ◌∷◌, ◌++◌, length, Ok, Err}
 use Rattle.std.proofs.Common.{refl, sym, ap, subst, inl, arith, append_assoc, length-append}
 use Rattle.std.proofs.Common.{take, drop, take-append-drop}
 use Rattle.std.specs.Prelude.{IfNone, Option, Some, None, Result}
@@ -10,6 +10,7 @@ use Rattle.hex.specs.Hex.{IsBytes, decode_of, encode_lower, lower_digits}
 use Rattle.hex.proofs.HexLemmas.{decode_of-encode_lower, decode_of-same, length-encode_with}
 use Rattle.ov_base.specs.declared.limits.TheConstants.{MAX_LAYER_NODES}
 use Rattle.ov_base.specs.Names.{IsName}
+use Rattle.ov_base.proofs.Lists.{cut_once}
 use Rattle.ov_keyfile.specs.KeyFile.{IsEnd, IsKeyLine}
 use Rattle.ov_client.specs.KeyLines.{HasNoSpace, IsLineOf, IsRoot, key_line, key_words, root_words}
 use Rattle.ov_client.specs.Readers.{Reader}
@@ -49,18 +50,6 @@ NoRoot text = (root : ℕ) (key rest : List ℕ) → IsRoot text root key rest �
 pub cut_in_two : (xs front back : List ℕ) (n : ℕ) → front ≡ take n xs → back ≡ drop n xs
     → xs ≡ front ++ back
 cut_in_two xs front back n f b = sym (take-append-drop n xs) ∙ (λ i. sym f i ++ sym b i)
-
--- a list that is cut at the same place in two ways has the same parts
-cut_once : (xs ys x y : List ℕ) → length xs ≡ length ys → xs ++ x ≡ ys ++ y
-    → (xs ≡ ys) × (x ≡ y)
-cut_once [] [] x y long e = (refl, e)
-cut_once [] (b ∷ ys) x y long e = absurd (omega arith)
-cut_once (a ∷ xs) [] x y long e = absurd (omega arith)
-cut_once (a ∷ xs) (b ∷ ys) x y long e =
-    let tail : xs ++ x ≡ ys ++ y = cc in
-    let rest = cut_once xs ys x y (omega arith) tail in
-    let same : xs ≡ ys = rest.0 in
-    let head : a ≡ b = cc in (cc, rest.1)
 
 -- the number of a root is the word before the space, and its key's digits are the 64 behind it
 pub root_of_word : (text word behind : List ℕ) (root : ℕ) (key rest : List ℕ) → HasNoSpace word

@@ -1,9 +1,9 @@
 -- What a reader finds of a file, after a history that is right under the masters of its keys.
 use Rattle.std.proofs.Common.{◌≡◌, ◌∙◌, ◌<◌, ℕ, Bool, true, false, List, [], ◌∷◌, length}
 use Rattle.std.proofs.Common.{None, Ok, Err, refl, sym, ap, arith}
-use Rattle.std.specs.Prelude.{slice_index_or, if◌then◌else◌, bytes_eq, not}
+use Rattle.std.specs.Prelude.{slice_index_or, if◌then◌else◌, bytes_eq}
 use Rattle.std.proofs.lemmas.Slice.Eq.{bytes_eq-Decides}
-use Rattle.ov_base.proofs.Tests.{lt_of_true}
+use Rattle.ov_base.proofs.Tests.{lt_of_true, true_of_not}
 use Rattle.ov_base.specs.declared.refusal.Refusal.TheVariants.{NoUser, NoFile, NoPath}
 use Rattle.ov_tokens.specs.declared.label.Kind.TheVariants.{Derive}
 use Rattle.ov_tokens.specs.Keys.{node_key}
@@ -49,10 +49,6 @@ file_there true b c none = cc
 file_there false true c none = cc
 file_there false false c none = refl
 
-not_is : (b : Bool) → not b ≡ false → b ≡ true
-not_is true is = refl
-not_is false is = cc
-
 module _ (k : Masters) (p : PlainHistory) (legal : IsLegal (history_of p)) where
   abbrev pub shown : Catalogue
   shown = catalogue_of k.surface (sealed k p)
@@ -86,7 +82,7 @@ module _ (k : Masters) (p : PlainHistory) (legal : IsLegal (history_of p)) where
   pub there : (user n : ℕ) → read_refusal (matrix_shown shown) user n ≡ None
       → n < length shown.files
   there user n none =
-      let test = not_is _ (file_there _ _ _ none) in
+      let test = true_of_not _ (file_there _ _ _ none) in
       let low : n < length (matrix_shown shown).files = lt_of_true n
       (length (matrix_shown shown).files) test in
       omega (arith, files_shown-length (outline shown) shown.files)

@@ -64,7 +64,7 @@ pub trait Disk {
         ensures time { Elapses moment left_since may_leave self.old self.new }
         ensures call { IsDiskCall borrow faults (IsErr result) self.old self.new };
 
-    /// Makes both areas last: after it a crash leaves what a read gives.
+    /// Makes both areas last: what is read now is all that a crash may leave, until the next write.
     fn sync(&mut self) -> Result<(), DiskFault>
         ensures durable { OnOk result (Told (reads self.old) (λ i. Only i (may_leave self.new))) }
         ensures reads { OnOk result (reads self.new ≡ reads self.old) }

@@ -82,7 +82,7 @@ impl MemDisk {
         }
     }
 
-    /// The call of this number, from 0, will fail and change nothing.
+    /// Of the calls, counted from 0, the one of this number will fail and leave the disk as it is.
     pub fn fail_at(&mut self, call: u64) -> Result<(), Memory>
         ensures ok { OnOk result
             (self.new ≡ record self.old { fails = self.old.fails ++ call ∷ [] }) }

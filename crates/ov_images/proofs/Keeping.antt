@@ -4,8 +4,7 @@ use Rattle.std.proofs.lemmas.List.{take_at, get_or-take, drop-take, take-take}
 use Rattle.std.proofs.lemmas.Nat.{from_be_bytes-to_be_bytes_4}
 use Rattle.std.specs.Int.{w32, to_be_bytes, from_be_bytes}
 use Rattle.ov_base.specs.Modes.{mode_byte}
-use Rattle.ov_base.specs.declared.mode.Mode.{Mode}
-use Rattle.ov_base.specs.declared.mode.Mode.TheVariants.{Full, Delta}
+use Rattle.ov_base.proofs.Modes.{one_byte}
 use Rattle.ov_keyed.proofs.HmacLemmas.{length-hmac}
 use Rattle.ov_fields.proofs.WholeLaws.{no_front}
 use Rattle.ov_record.specs.Updates.{SealedUpdate}
@@ -67,12 +66,6 @@ bodies_once (u ∷ us) (v ∷ vs) fu fv same =
     let others = bodies_once us vs fu.1 fv.1 rest in
     λ i. first i ∷ others i
 
-mode_once : (a b : Mode) → mode_byte a ≡ mode_byte b → a ≡ b
-mode_once Full Full same = refl
-mode_once Full Delta same = absurd (cc same)
-mode_once Delta Full same = absurd (cc same)
-mode_once Delta Delta same = refl
-
 -- what stands behind the magic of a header
 abbrev behind : Header → List ℕ
 behind h = to_be_bytes w32 h.first ++ h.base_check ++ h.surface_check
@@ -81,7 +74,7 @@ pub mode_of-spelled : (g h : Header) → spelled g ≡ spelled h → g.mode ≡ 
 mode_of-spelled g h same =
     let from : mode_byte g.mode ∷ behind g ≡ mode_byte h.mode ∷ behind h =
     ap (λ (l : List ℕ). drop 9 l) same in
-    mode_once g.mode h.mode (cc from)
+    one_byte g.mode h.mode (cc from)
 
 pub first_of-spelled : (g h : Header) → g.first < 2 ^ 32 → h.first < 2 ^ 32
     → spelled g ≡ spelled h → g.first ≡ h.first

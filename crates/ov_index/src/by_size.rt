@@ -1,5 +1,5 @@
-//! Nodes in the order in which the candidates of a cover are gone through: larger sets first, and
-//! then lower numbers first.
+//! Nodes in the order in which the candidates of a cover are gone through: by falling size of their
+//! sets, and by rising number among sets of one size.
 ghost use Rattle.std.specs.Prelude.{◌≡◌, ◌<◌, ◌≤◌, ◌+◌, ◌++◌, All, IfOk, length, slice_index};
 ghost use Rattle.std.specs.Prelude.{vec_len, vec_capacity};
 ghost use Rattle.ov_base.specs.Sets.{size};

@@ -9,8 +9,8 @@
 //! Each trait has one relation between the value before its call and after it, `takes` and `puts`.
 //! Code over any source can show the relation of one call alone, so contracts count takes by it
 //! (`TakesPieces` and `TakesWhile` in `specs/Calls`: each take was needed, and none follows one
-//! that gave nothing); and by it a stream says what a take leaves written and what a put leaves to
-//! be read.
+//! that gave nothing); and by it a stream says that a take changes nothing written, and a put
+//! nothing that is still to be read.
 //!
 //! * [`MemSource`], [`MemSink`] and [`MemStream`] are in memory, tell everything, and fail at the
 //!   calls that they are told to.

@@ -55,8 +55,8 @@ fn give(from: &[u8], to: &mut [u8], most: usize) -> usize
 }
 
 impl MemSource {
-    /// A source of these bytes, which gives at most `piece` of them in a call and fails exactly the
-    /// calls whose numbers, from 0 and below 256, are in `fails`.
+    /// A source of these bytes, at most `piece` of them a call. A call fails exactly where `fails`
+    /// has its number; calls are counted from 0, and 255 is the last that can be named.
     pub fn new(bytes: Octets, piece: usize, fails: Octets) -> MemSource
         requires { 0 < piece }
         ensures { result ≡ record {

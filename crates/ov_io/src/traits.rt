@@ -26,8 +26,8 @@ pub trait Source {
     /// exactly one call of `take`, not of none and not of two: so its contracts count takes by it.
     ghost takes: { Self → Self → Type 0 };
 
-    /// Takes the next bytes into the front of `buf`, and answers how many: none only at the end of
-    /// the input or where `buf` is empty. After a fault nothing was taken.
+    /// Takes the next bytes into the front of `buf`, and answers how many. It answers 0 where the
+    /// input has ended or `buf` is empty, and else never. After a fault nothing was taken.
     fn take(&mut self, buf: &mut [u8]) -> Result<usize, Fault>
         ensures bound { ReadsAtMost result buf.new }
         ensures bytes { ReadConsumes (left self.old) (left self.new) result buf.new }

@@ -3,20 +3,12 @@ use Rattle.std.proofs.Common.{◌≡◌, ℕ, ◌++◌, List, take, drop, get_or
 use Rattle.std.specs.Int.{w32, to_be_bytes, from_be_bytes}
 use Rattle.std.proofs.lemmas.List.{take_at, drop_at}
 use Rattle.std.proofs.lemmas.Nat.{from_be_bytes-to_be_bytes_4}
-use Rattle.ov_base.specs.declared.mode.Mode.{Mode}
-use Rattle.ov_base.specs.declared.mode.Mode.TheVariants.{Full, Delta}
-use Rattle.ov_base.specs.Modes.{mode_byte}
+use Rattle.ov_base.proofs.Modes.{one_byte}
 use Rattle.ov_journal.specs.Book.{HeadersAreSpelledApart}
-
-same_mode : (a b : Mode) → mode_byte a ≡ mode_byte b → a ≡ b
-same_mode Full Full e = refl
-same_mode Full Delta e = absurd (cc e)
-same_mode Delta Full e = absurd (cc e)
-same_mode Delta Delta e = refl
 
 pub spelled_apart : HeadersAreSpelledApart
 spelled_apart a b p q e =
-    let mode : a.mode ≡ b.mode = same_mode a.mode b.mode (ap (λ (l : List ℕ). get_or l 8 0) e) in
+    let mode : a.mode ≡ b.mode = one_byte a.mode b.mode (ap (λ (l : List ℕ). get_or l 8 0) e) in
     let field : to_be_bytes w32 a.first ≡ to_be_bytes w32 b.first =
     sym (take_at (to_be_bytes w32 a.first) (a.base_check ++ a.surface_check) 4 refl)
     ∙ ap (λ (l : List ℕ). take 4 (drop 9 l)) e

@@ -1,11 +1,11 @@
 -- Parts of a file that is taken piece by piece, and its two lines.
-use Rattle.std.proofs.Common.{◌≡◌, ℕ, ◌+◌, ◌<◌, ◌≤◌, ◌⊎◌, inl, inr, List, [], ◌∷◌, ◌++◌, length, take, drop, refl, sym, ◌∙◌, ap, subst, arith, length-append, append-nil, Option, Some, None}
+use Rattle.std.proofs.Common.{◌≡◌, ℕ, ◌+◌, ◌≤◌, ◌⊎◌, inl, inr, List, [], ◌∷◌, ◌++◌, length, take, drop, sym, ◌∙◌, ap, subst, arith, length-append, append-nil, Option, Some, None}
 use Rattle.std.specs.Prelude.{◌≢◌, IfSome, IfNone}
-use Rattle.std.proofs.lemmas.List.{length-take, length-take-le}
-use Rattle.std.proofs.Math.Seq.{take-append-add, drop-append_seam}
+use Rattle.std.proofs.lemmas.List.{length-take}
+use Rattle.std.proofs.Math.Seq.{drop-append_seam}
 use Rattle.std.specs.Io.KnownBytes.{Consumes, IsAtEnd}
-use Rattle.std.proofs.KnownBytes.{Consumes-trans}
 use Rattle.hex.proofs.HexLemmas.{decode_of-same}
+use Rattle.ov_base.proofs.Lists.{cut_once}
 use Rattle.ov_keyfile.specs.KeyFile.{AreLines, IsEnd, IsKeyFile, IsKeyLine, IsReadAs, HasMasters}
 use Rattle.ov_keyfile.specs.declared.masters.Masters.{Masters}
 
@@ -14,17 +14,6 @@ pub few : (n : ℕ) (xs : List ℕ) → n ≤ 131 → length (take n xs) ≤ 131
 few n xs h = omega (arith, length-take n xs)
 
 -- ---- lines
-
--- a list that is cut at the same place in two ways has the same parts
-cut_once : (first second rest others : List ℕ) → length first ≡ length second → first ++ rest ≡ second ++ others → (first ≡ second) × (rest ≡ others)
-cut_once [] [] rest others long e = (refl, e)
-cut_once [] (y ∷ second) rest others long e = absurd (omega arith)
-cut_once (x ∷ first) [] rest others long e = absurd (omega arith)
-cut_once (x ∷ first) (y ∷ second) rest others long e =
-    let head : x ≡ y = cc in
-    let tail : first ++ rest ≡ second ++ others = cc in
-    let r = cut_once first second rest others (omega arith) tail in
-    (ap (λ h. h ∷ first) head ∙ ap (λ t. y ∷ t) r.0, r.1)
 
 pub lines_once : (file first second other another : List ℕ) → AreLines file first second → AreLines file other another → (first ≡ other) × (second ≡ another)
 lines_once file first second other another one two =

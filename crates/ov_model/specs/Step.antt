@@ -10,8 +10,8 @@ use Rattle.ov_history.specs.Plain.{PlainUpdate, PlainEnrol, PlainCreate, PlainGr
 use Rattle.ov_history.specs.Lists.{user_number, file_number, file_at, names_in, set_named}
 use Rattle.ov_history.specs.Refusals.{refusal_of, read_refusal, list_refusal}
 
--- An update that is refused leaves the history; one that isn't is appended, and the reply is the
--- new epoch.
+-- An update that is refused leaves the history; one that isn't is appended, and answered with the
+-- epoch that it made.
 abbrev pub update_step : PlainHistory → PlainUpdate → Option Refusal → Reply × PlainHistory
 update_step h u None = (Accepted (epoch_of (history_of h) + 1), with_plain h u)
 update_step h u (Some why) = (Refused why, h)

@@ -14,7 +14,7 @@ pub fn a_refusal_changes_nothing()
         → reply_to h command ≡ Refused why → after h command ≡ h }
 {}
 
-/// An update that is accepted raises the epoch by one, and the reply is the new epoch.
+/// An update that is accepted raises the epoch by one, and is answered with the epoch that it made.
 pub fn an_update_raises_the_epoch()
     ensures { (h : PlainHistory) (command : Command) (epoch : ℕ)
         → reply_to h command ≡ Accepted epoch

@@ -20,8 +20,8 @@ use Rattle.ov_owner.specs.declared.limits.TheConstants.{MAX_TRIES}
 use Rattle.ov_owner.specs.declared.fault.OwnerFault.{OwnerFault}
 use Rattle.ov_owner.specs.declared.fault.OwnerFault.TheVariants.{BadReply, BadTag, Unsettled}
 
--- An Accepted and a Refused of a talk are the machine's replies at the history of its last ask,
--- whatever others update between the asks, where the asks are answered under the owner's surface
+-- An Accepted and a Refused of a talk are what the machine replies at the history that the server
+-- had at the last of its asks, whatever others update in between, where the asks are answered under the owner's surface
 -- master at histories that are right.
 abbrev pub TalksAreSteps : Type 0
 TalksAreSteps =

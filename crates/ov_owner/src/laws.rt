@@ -2,8 +2,8 @@
 ghost use Rattle.ov_owner.specs.Laws.{OneUpdateAtMost, StaleEpochsRise, TalksAreShort};
 ghost use Rattle.ov_owner.specs.Laws.{TalksAreProper, TalksAreSteps};
 
-/// What an owner was answered is the machine's step of its command, at the history by which its
-/// last ask was answered, whatever others updated between the asks.
+/// What an owner was answered is the machine's step of its command, at the history that the server
+/// had when it answered the last ask, whatever others updated in between.
 pub fn talks_are_steps()
     ensures { TalksAreSteps }
 {}

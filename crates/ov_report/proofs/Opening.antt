@@ -1,8 +1,9 @@
 -- An image that stands for a history is refused for nothing that stands in it.
-use Rattle.std.proofs.Common.{◌≡◌, ◌⊎◌, inl, inr, ℕ, ◌≤◌, ◌<◌, List, [], ◌∷◌, ◌++◌, length, take, drop, get_or, refl, sym, ◌∙◌, ap, arith, lit<}
+use Rattle.std.proofs.Common.{◌≡◌, ◌⊎◌, inl, inr, ℕ, ◌≤◌, ◌<◌, List, ◌++◌, length, take, drop, get_or, refl, sym, ◌∙◌, ap, arith, lit<}
 use Rattle.std.specs.Int.{w32, to_be_bytes}
 use Rattle.std.proofs.lemmas.List.{get_or-take}
 use Rattle.ov_base.specs.Modes.{mode_byte}
+use Rattle.ov_base.proofs.Lists.{cut_once}
 use Rattle.ov_base.specs.declared.mode.Mode.{Mode}
 use Rattle.ov_base.specs.declared.mode.Mode.TheVariants.{Full, Delta}
 use Rattle.ov_disk.specs.Disk.{Image}
@@ -18,17 +19,6 @@ use Rattle.ov_store.specs.Beginning.{IsBeginFault}
 use Rattle.ov_store.specs.declared.fault.BeginFault.{BeginFault}
 use Rattle.ov_store.specs.declared.fault.BeginFault.TheVariants.{Disk, NotAStore, Damaged, BaseDiffers, SurfaceDiffers, ModeDiffers, Memory}
 use Rattle.ov_report.specs.Faults.{HasValues}
-
--- lists of which the fronts are of one length have the same parts
-same_length : (a b c d : List ℕ) → length a ≡ length b → a ++ c ≡ b ++ d → (a ≡ b) × (c ≡ d)
-same_length [] [] c d long e = (refl, e)
-same_length [] (y ∷ b) c d long e = absurd (omega arith)
-same_length (x ∷ a) [] c d long e = absurd (omega arith)
-same_length (x ∷ a) (y ∷ b) c d long e =
-    let head : x ≡ y = cc in
-    let tail : a ++ c ≡ b ++ d = cc in
-    let r = same_length a b c d (omega arith) tail in
-    (ap (λ h. h ∷ a) head ∙ ap (λ t. y ∷ t) r.0, r.1)
 
 -- ---- headers
 
@@ -52,11 +42,11 @@ behind_once : (g h : Header) → spelled g ≡ spelled h → g.base_check ++ g.s
 behind_once g h same =
     let from : to_be_bytes w32 g.first ++ g.base_check ++ g.surface_check ≡ to_be_bytes w32 h.first ++ h.base_check ++ h.surface_check =
     ap (λ (l : List ℕ). drop 10 l) same in
-    (same_length (to_be_bytes w32 g.first) (to_be_bytes w32 h.first) (g.base_check ++ g.surface_check) (h.base_check ++ h.surface_check) refl from).1
+    (cut_once (to_be_bytes w32 g.first) (to_be_bytes w32 h.first) (g.base_check ++ g.surface_check) (h.base_check ++ h.surface_check) refl from).1
 
 base_once : (g h : Header) → spelled g ≡ spelled h → length g.base_check ≡ length h.base_check
     → (g.base_check ≡ h.base_check) × (g.surface_check ≡ h.surface_check)
-base_once g h same long = same_length g.base_check h.base_check g.surface_check h.surface_check long (behind_once g h same)
+base_once g h same long = cut_once g.base_check h.base_check g.surface_check h.surface_check long (behind_once g h same)
 
 -- ---- why a disk doesn't open
 

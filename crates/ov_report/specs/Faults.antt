@@ -6,7 +6,8 @@ use Rattle.ov_store.specs.declared.fault.BeginFault.{BeginFault}
 use Rattle.ov_store.specs.declared.fault.BeginFault.TheVariants.{Disk, NotAStore, Damaged}
 use Rattle.ov_store.specs.declared.fault.BeginFault.TheVariants.{BaseDiffers, SurfaceDiffers}
 use Rattle.ov_store.specs.declared.fault.BeginFault.TheVariants.{ModeDiffers, Memory}
-use Rattle.ov_report.specs.Words.{area_word, mode_word}
+use Rattle.ov_base.specs.Modes.{mode_word}
+use Rattle.ov_report.specs.Words.{area_word}
 
 -- the line on a call of the disk that failed
 abbrev pub disk_line : List ℕ

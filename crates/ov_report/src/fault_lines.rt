@@ -3,7 +3,8 @@ ghost use Rattle.std.specs.Prelude.{◌≡◌, ◌≢◌, ◌∷◌, ◌++◌, [
 ghost use Rattle.std.specs.Fmt.{decimal};
 ghost use Rattle.hex.specs.Hex.{encode_lower};
 ghost use Rattle.ov_report.specs.Faults.{HasValues, fault_line, fault_status, two_values};
-ghost use Rattle.ov_report.specs.Words.{area_word, mode_word};
+ghost use Rattle.ov_base.specs.Modes.{mode_word};
+ghost use Rattle.ov_report.specs.Words.{area_word};
 
 use ov_base::{Memory, Mode};
 use ov_disk::Area;

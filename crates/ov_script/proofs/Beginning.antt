@@ -17,7 +17,8 @@ use Rattle.ov_script.specs.LineEnds.{may_go_on}
 use Rattle.ov_script.specs.LineFeeds.{NoLf}
 use Rattle.ov_script.specs.LineFronts.{run}
 use Rattle.ov_script.specs.WrittenLists.{list_text, without_repeats}
-use Rattle.ov_script.proofs.ByteTexts.{front_before, same_length}
+use Rattle.ov_base.proofs.Lists.{cut_once}
+use Rattle.ov_script.proofs.ByteTexts.{front_before}
 use Rattle.ov_script.proofs.Fitting.{NameThen, SpaceThen, IsNothing, Fits}
 use Rattle.ov_script.proofs.Grammar.{item_parts, item_from, item_past, behind_line}
 use Rattle.ov_script.proofs.LineFits.{alive_fits, dead_fits}
@@ -187,6 +188,6 @@ pub wrong_behind_body : (line body more file : List ℕ) (names : List (List ℕ
     → BeginsWithItem (line ++ 10 ∷ (body ++ b ∷ more)) → ⊥
 wrong_behind_body line body more file names size b p count differs (item, rest, command, e, is) =
     let f = body_behind line (body ++ b ∷ more) file item rest names size command p e is in
-    let tails : b ∷ more ≡ 10 ∷ rest = (same_length body f.0 (b ∷ more) (10 ∷ rest) (count ∙ sym f.1) f.2).1 in
+    let tails : b ∷ more ≡ 10 ∷ rest = (cut_once body f.0 (b ∷ more) (10 ∷ rest) (count ∙ sym f.1) f.2).1 in
     let lf : b ≡ 10 = cc in
     differs lf

@@ -41,18 +41,6 @@ split_once c xs ys x y p q e =
     let tails : c ∷ x ≡ c ∷ y = append_cancel_left xs (c ∷ x) (c ∷ y) (e ∙ ap (λ l. l ++ c ∷ y) (sym same)) in
     (same, let t : x ≡ y = cc in t)
 
--- two fronts of one length are one
-pub same_length : (xs ys x y : List ℕ) → length xs ≡ length ys → xs ++ x ≡ ys ++ y → (xs ≡ ys) × (x ≡ y)
-same_length [] [] x y n e = (refl, e)
-same_length [] (b ∷ ys) x y n e = absurd (omega arith)
-same_length (a ∷ xs) [] x y n e = absurd (omega arith)
-same_length (a ∷ xs) (b ∷ ys) x y n e =
-    let tail : xs ++ x ≡ ys ++ y = cc in
-    let rest = same_length xs ys x y (omega arith) tail in
-    let same : xs ≡ ys = rest.0 in
-    let head : a ≡ b = cc in
-    (cc, rest.1)
-
 -- a text that lacks a byte doesn't have it
 pub lacks_not : (c : ℕ) (text xs ys : List ℕ) → Lacks c text → text ≡ xs ++ c ∷ ys → ⊥
 lacks_not c [] [] ys p e = absurd (cc)

@@ -10,7 +10,8 @@ use Rattle.ov_script.specs.declared.first_line.FirstLine.TheVariants.{Whole, Wit
 use Rattle.ov_script.specs.ItemLines.{SaysWhole, SaysCreate, SaysLine, Completes}
 use Rattle.ov_script.specs.Items.{IsItem, BeginsWithItem, spaced, create_line}
 use Rattle.ov_script.specs.LineFeeds.{NoLf}
-use Rattle.ov_script.proofs.ByteTexts.{split_once, same_length, past_front}
+use Rattle.ov_base.proofs.Lists.{cut_once}
+use Rattle.ov_script.proofs.ByteTexts.{split_once, past_front}
 use Rattle.ov_script.proofs.LineLaws.{says_no_lf, line_once}
 
 -- an item is a line, LF and what completes it
@@ -103,7 +104,7 @@ same_tail (Whole said) s t x y c d p q e =
 same_tail (WithBody file names size) s t x y c d p q e =
     let joined : p.0 ++ (10 ∷ x) ≡ q.0 ++ (10 ∷ y) =
     sym (ap (λ l. l ++ x) p.2 ∙ append_assoc p.0 (10 ∷ []) x) ∙ e ∙ ap (λ l. l ++ y) q.2 ∙ append_assoc q.0 (10 ∷ []) y in
-    let bodies = same_length p.0 q.0 (10 ∷ x) (10 ∷ y) (p.1 ∙ sym q.1) joined in
+    let bodies = cut_once p.0 q.0 (10 ∷ x) (10 ∷ y) (p.1 ∙ sym q.1) joined in
     let rests : x ≡ y = let t : 10 ∷ x ≡ 10 ∷ y = bodies.1 in cc in
     (p.2 ∙ ap (λ b. b ++ 10 ∷ []) bodies.0 ∙ sym q.2, rests, p.3 ∙ ap (λ b. Create file names b) bodies.0 ∙ sym q.3)
 

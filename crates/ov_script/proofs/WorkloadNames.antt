@@ -3,7 +3,7 @@ use Rattle.std.proofs.Common.{◌≡◌, ℕ, zero, suc, ◌+◌, ◌%◌, ◌^�
 use Rattle.std.specs.Fmt.{decimal}
 use Rattle.std.specs.List.{list_all, list_any}
 use Rattle.std.specs.Str.{bytes_eq}
-use Rattle.std.proofs.lemmas.Bool.{and_from}
+use Rattle.std.proofs.lemmas.Bool.{and_from, false_from_ne_true}
 use Rattle.std.proofs.lemmas.Bool.Decides.{nat_tests}
 use Rattle.std.proofs.lemmas.Fmt.{decimal_by_steps, length-decimal-le}
 use Rattle.std.proofs.lemmas.List.Folds.{list_all-append, list_any-append}
@@ -39,12 +39,8 @@ one_digit : (n : ℕ) → n < 10 → decimal n ≡ (48 + n) ∷ []
 one_digit n small =
     decimal_by_steps (λ m ds. m < 10 → ds ≡ (48 + m) ∷ []) (λ m l s. refl) (λ m ds l p s. absurd (omega arith)) n (omega arith) small
 
-is_false : (b : Bool) → (b ≡ true → ⊥) → b ≡ false
-is_false true p = absurd (p refl)
-is_false false p = refl
-
 users_differ : (k j : ℕ) → j < k → k < 8 → bytes_eq (user k) (user j) ≡ false
-users_differ k j less small = is_false (bytes_eq (user k) (user j)) (λ same.
+users_differ k j less small = false_from_ne_true (bytes_eq (user k) (user j)) (λ same.
     let e : user k ≡ user j = (bytes_eq-Decides (user k) (user j)).0 same in
     let a : decimal k ≡ (48 + k) ∷ [] = one_digit k (omega arith) in
     let b : decimal j ≡ (48 + j) ∷ [] = one_digit j (omega arith) in

@@ -77,8 +77,8 @@ impl<S: Source + Drop> Script<S> {
         feed.into_source()
     }
 
-    /// The next item, or how the reading ended. From then on each call answers the same and reads
-    /// nothing.
+    /// The next item, or how the reading ended. An end is final: later calls answer it again, with
+    /// nothing read.
     pub fn next(&mut self) -> Result<Next, ScriptFault>
         ensures says { self.old.ended ≡ None
             → IfOk result (λ next. SaysOf S.left self.old next self.new) }

@@ -20,7 +20,7 @@ use Rattle.ov_history.proofs.PlaceLaws.{place_low, not_among}
 use Rattle.ov_history.proofs.Pushing.{matrix_of-push, with_updates, with_updates-all}
 use Rattle.ov_history.proofs.Showing.{history_is_shown}
 use Rattle.ov_history.proofs.SoundTests.{none_applies}
-use Rattle.ov_server.proofs.NamesIn.{same_bytes}
+use Rattle.ov_base.proofs.NamePlaces.{bytes_eq_swapped}
 
 all_differ : (first name : List ℕ) (names : List (List ℕ))
     → AllByRecursion (λ y. bytes_eq first y ≡ false) names → bytes_eq first name ≡ false
@@ -41,7 +41,7 @@ distinct_last (first ∷ names) name distinct free =
     let both = or_parts (bytes_eq name first) (list_any (bytes_eq name) names) free in
     let differs =
     all_differ first name names (IsDistinct-head bytes_eq first names distinct)
-    (same_bytes name first false both.0) in
+    (bytes_eq_swapped name first false both.0) in
     IsDistinct-cons bytes_eq first (names ++ name ∷ []) differs
     (distinct_last names name (IsDistinct-tail bytes_eq first names distinct) both.1)
 

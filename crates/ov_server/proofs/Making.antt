@@ -1,6 +1,7 @@
 -- An update that a server makes, or that its store doesn't make.
-use Rattle.std.proofs.Common.{◌≡◌, ◌∙◌, inl, inr, ℕ, ◌+◌, ◌-◌, ◌^◌, ◌<◌, Bool, true, false, List, [], ◌∷◌, Result, Ok, Err, refl, sym, ap, subst, arith, true≢false}
+use Rattle.std.proofs.Common.{◌≡◌, ◌∙◌, inl, inr, ℕ, ◌+◌, ◌-◌, ◌^◌, ◌<◌, false, List, [], ◌∷◌, Result, Ok, Err, refl, sym, ap, subst, arith, true≢false}
 use Rattle.std.specs.Prelude.{IfOk, IsErrOf, None, OnOk, Option, min}
+use Rattle.std.proofs.lemmas.Bool.{false_from_ne_true}
 use Rattle.ov_base.specs.Causes.{Rose}
 use Rattle.ov_base.specs.declared.limits.TheConstants.{LAST_EPOCH}
 use Rattle.ov_base.specs.declared.memory.Memory.{Memory}
@@ -100,10 +101,6 @@ err_is r fault why is same = is ∙ ap (λ (f : StoreFault). Err f) same
 
 -- ---- what the store does with it
 
-never_failed : (before : Bool) → (before ≡ true → ⊥) → before ≡ false
-never_failed false never = refl
-never_failed true never = absurd (never refl)
-
 same_serving : {D : Type 0} (old new : Opened D) → new.catalogue ≡ old.catalogue
     → new.stored ≡ old.stored → new.keys ≡ old.keys → serving_of new ≡ serving_of old
 same_serving old new catalogue stored keys =
@@ -162,7 +159,7 @@ module _ {D : Type 0} (reads : D → Option Image) (may_leave : D → Image → 
           told = served.1;
           failed = state.failed.0;
           sound = λ w other.
-              never_failed old.failed
+              false_from_ne_true old.failed
               (λ failed. let wrong : Ok n ≡ Err Failed = state.failed.1 failed in cc);
         }
 
@@ -190,7 +187,7 @@ module _ {D : Type 0} (reads : D → Option Image) (may_leave : D → Image → 
   pub not_failed : (fault : StoreFault) → GoesOnAfter (Err fault) old new
       → (fault ≡ Failed → ⊥) → old.failed ≡ false
   not_failed fault state other =
-      never_failed old.failed
+      false_from_ne_true old.failed
       (λ failed. other (let same : Err fault ≡ Err Failed = state.failed.1 failed in cc))
 
   -- the disk failed

@@ -1,29 +1,18 @@
 -- A settings file has one reading.
-use Rattle.std.proofs.Common.{◌≡◌, ℕ, List, codes, length, refl, sym, ◌∙◌, ap, subst, arith}
+use Rattle.std.proofs.Common.{◌≡◌, ℕ, List, codes, refl, sym, ◌∙◌, ap, subst}
 use Rattle.std.proofs.lemmas.Option.{same_Some}
 use Rattle.hex.proofs.HexLemmas.{decode_of-same}
 use Rattle.toml.specs.Data.{Members}
 use Rattle.ov_base.specs.declared.key.Key.{Key}
 use Rattle.ov_base.specs.declared.mode.Mode.{Mode}
-use Rattle.ov_base.specs.declared.mode.Mode.TheVariants.{Full, Delta}
+use Rattle.ov_base.proofs.Modes.{one_word}
 use Rattle.ov_keyfile.specs.KeyFile.{IsKeyLine}
-use Rattle.ov_settings.specs.Settings.{AreSettings, HoldsDigits, HoldsSessions, HoldsText, IsSettingsFile, mode_word}
+use Rattle.ov_settings.specs.Settings.{AreSettings, HoldsDigits, HoldsSessions, HoldsText, IsSettingsFile}
 use Rattle.ov_settings.specs.declared.settings.Settings.{Settings}
 
 -- one text stands at a key
 text_once : (m : Members) (key one two : List ℕ) → HoldsText m key one → HoldsText m key two → one ≡ two
 text_once m key one two a b = same_Some one two (sym a ∙ b)
-
--- words of four and of five bytes are two
-two_words : (one two : List ℕ) → length one ≡ 4 → length two ≡ 5 → one ≡ two → ⊥
-two_words one two four five e = let same : length one ≡ length two = ap length e in omega arith
-
--- two modes have two words
-mode_once : (one two : Mode) → mode_word one ≡ mode_word two → one ≡ two
-mode_once Full Full e = refl
-mode_once Delta Delta e = refl
-mode_once Full Delta e = absurd (two_words (codes "full") (codes "delta") refl refl e)
-mode_once Delta Full e = absurd (two_words (codes "full") (codes "delta") refl refl (sym e))
 
 -- digits are of one key
 digits_once : (m : Members) (key one two : List ℕ) → HoldsDigits m key one → HoldsDigits m key two → one ≡ two
@@ -56,7 +45,7 @@ made_of s = refl
 values_once : (m : Members) (one two : Settings) → AreSettings m one → AreSettings m two → one ≡ two
 values_once m one two a b =
     let address : one.address ≡ two.address = text_once m (codes "address") _ _ a.address b.address in
-    let mode : one.mode ≡ two.mode = mode_once _ _ (text_once m (codes "mode") _ _ a.mode b.mode) in
+    let mode : one.mode ≡ two.mode = one_word _ _ (text_once m (codes "mode") _ _ a.mode b.mode) in
     let surface : one.surface ≡ two.surface = key_once _ _ (digits_once m (codes "surface") _ _ a.surface b.surface) in
     let base : one.base_check ≡ two.base_check = digits_once m (codes "base_check") _ _ a.base_check b.base_check in
     let book : one.book ≡ two.book = text_once m (codes "book") _ _ a.book b.book in

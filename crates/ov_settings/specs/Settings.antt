@@ -4,7 +4,7 @@ use Rattle.std.specs.Prelude.{Option, Some, None, IfSome, option_and_then, Resul
 use Rattle.std.specs.Prelude.{String, IsUtf8}
 use Rattle.std.specs.declared.alloc.Global.{Global}
 use Rattle.ov_base.specs.declared.mode.Mode.{Mode}
-use Rattle.ov_base.specs.declared.mode.Mode.TheVariants.{Full, Delta}
+use Rattle.ov_base.specs.Modes.{mode_word}
 use Rattle.ov_keyfile.specs.KeyFile.{IsKeyLine}
 use Rattle.toml.specs.Data.{Members, as_integer, as_str, get_member}
 use Rattle.toml.specs.Parse.{parse_document}
@@ -28,11 +28,6 @@ text_at document key = option_and_then as_str (get_member key document)
 -- the integer at a key, where there is one
 abbrev pub integer_at : Members → List ℕ → Option ℤ
 integer_at document key = option_and_then as_integer (get_member key document)
-
--- the word for a mode
-abbrev pub mode_word : Mode → List ℕ
-mode_word Full = codes "full"
-mode_word Delta = codes "delta"
 
 -- at the key stands this text
 abbrev pub HoldsText : Members → List ℕ → List ℕ → Type 0

@@ -1,6 +1,7 @@
 -- How many access tokens there can be: at most one for each user and base node.
 use Rattle.std.proofs.Common.{◌≡◌, ◌<◌, ◌≤◌, ◌+◌, ◌*◌, ◌==◌, ℕ, zero, suc, Bool, true, false, List, [], ◌∷◌, Some, length, take, refl, subst, arith, inl, inr, eqb-true}
 use Rattle.std.specs.Prelude.{Contains, nat_lt, slice_get, slice_index}
+use Rattle.std.proofs.lemmas.Bool.{false_from_ne_true}
 use Rattle.std.proofs.lemmas.Bool.Decides.{nat_tests}
 use Rattle.std.proofs.lemmas.List.{length-map}
 use Rattle.std.proofs.lemmas.Nat.{ones-le}
@@ -74,12 +75,8 @@ all_below node (access ∷ accesses) low =
 
 -- ---- by holders
 
-has_not : (b : Bool) → (b ≡ true → ⊥) → b ≡ false
-has_not true not = absurd (not refl)
-has_not false not = refl
-
 larger_if : (b : Bool) (set user : ℕ) → (b ≡ true → ¬ Has set user) → size (with_if b set user) ≡ size set + one_if b
-larger_if true set user new = size-with set user (has_not (has set user) (new refl))
+larger_if true set user new = size-with set user (false_from_ne_true (has set user) (new refl))
 larger_if false set user new = omega arith
 
 -- each access makes one holder more

@@ -23,8 +23,8 @@ GoesOn limit old change new =
     → StandsFor master old g → IsChange limit master old (brief u) change
     → StandsFor master new (with_sealed g u)
 
--- whatever history the catalogue stands for, each user's closure has every label that protects a
--- file exactly where the matrix lists the user
+-- whatever history the catalogue stands for, a user's closure has all labels that protect a file
+-- exactly where the matrix lists the user
 abbrev pub ClosuresAreMatrix : Catalogue → Type 0
 ClosuresAreMatrix c =
     (master : List ℕ) (g : SealedHistory) (user file : ℕ) (f : Filed)

@@ -1,7 +1,8 @@
 -- When an update is as its owner seals it.
-use Rattle.std.proofs.Common.{◌≡◌, ℕ, zero, suc, ◌<◌, ◌≤◌, Bool, true, false, not, true≢false, List, [], ◌∷◌, length, length-append, refl, sym, ◌∙◌, ap, subst, arith}
+use Rattle.std.proofs.Common.{◌≡◌, ℕ, zero, suc, ◌<◌, ◌≤◌, Bool, true, List, [], ◌∷◌, length, length-append, refl, sym, ◌∙◌, ap, subst, arith}
 use Rattle.std.specs.Prelude.{Some, None, slice_get}
 use Rattle.ov_base.specs.Sets.{has}
+use Rattle.ov_base.proofs.Tests.{false_of_not, true_of_not}
 use Rattle.ov_base.specs.declared.limits.TheConstants.{MAX_LAYER_NODES}
 use Rattle.ov_ctr.proofs.Pad.{xor_pad-xor_pad}
 use Rattle.ov_tokens.specs.declared.token.Token.{Token}
@@ -35,15 +36,6 @@ revoke_owners k c user file = (PlainRevoke user file, refl)
 
 -- ---- grants
 
--- a test that isn't the opposite of true
-unwanted : (b : Bool) → true ≡ not b → b ≡ false
-unwanted true e = absurd (true≢false e)
-unwanted false e = refl
-
-wanted : (b : Bool) → false ≡ not b → b ≡ true
-wanted true e = refl
-wanted false e = absurd (true≢false (sym e))
-
 -- the access token that the owner sends
 abbrev pub token_for : Masters → Catalogue → ℕ → ℕ → Token
 token_for k c user file =
@@ -54,7 +46,7 @@ module _ (k : Masters) (c : Catalogue) (user file : ℕ) where
   pub bare_owners : IsTaken c (BriefGrant user file None)
       → IsOwners k (outline c) (SealedGrant user file None)
   bare_owners taken =
-      let held = wanted (has (holders (outline c) (node_of (outline c) file)) user) taken.1 in (
+      let held = true_of_not (has (holders (outline c) (node_of (outline c) file)) user) (sym taken.1) in (
         PlainGrant user file,
         sym (ap (λ (b : Bool). SealedGrant user file (token_unless b (token_for k c user file)))
             held),
@@ -64,7 +56,7 @@ module _ (k : Masters) (c : Catalogue) (user file : ℕ) where
     sealed_is : sealed_update k (outline c) (PlainGrant user file)
         ≡ SealedGrant user file (Some (token_for k c user file))
     sealed_is =
-        let free = unwanted (has (holders (outline c) (node_of (outline c) file)) user) taken.1 in
+        let free = false_of_not (has (holders (outline c) (node_of (outline c) file)) user) (sym taken.1) in
         ap (λ (b : Bool). SealedGrant user file (token_unless b (token_for k c user file))) free
 
     pub grant_owners : token ≡ token_for k c user file

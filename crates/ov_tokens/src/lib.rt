@@ -12,8 +12,8 @@
 //! under the first key ([`make`]). So whoever holds the first key has the second by [`derive`], and no
 //! other secret is needed. [`tokens_lead_back`] is the law that this gives the very key.
 //!
-//! [`access_key`], [`tag_key`], [`update_key`] and [`check_value`] are the other values that are derived
-//! from a key, each with a tag byte of its own where it is a keyed hash.
+//! What else is derived from a key has a function each: [`access_key`], [`tag_key`], and of a master
+//! [`update_key`] and [`check_value`]. Those that are keyed hashes have tag bytes of their own.
 //!
 //! [`Edge`], [`Step`], [`Chain`] and the lists [`Tokens`], [`Numbers`] and [`Steps`] are what graphs of
 //! keys are made of, and stand here so that a record or a message can hold them without a graph.

@@ -235,11 +235,11 @@ answer_is_any request answer is = absurd is
 
 -- ---- what is read is what was sent
 
-long_ok : (b : Bool) (r : Result Answer ℕ) (x : Answer) → unless_long b r ≡ Ok x → r ≡ Ok x
+pub long_ok : (b : Bool) (r : Result Answer ℕ) (x : Answer) → unless_long b r ≡ Ok x → r ≡ Ok x
 long_ok true r x e = absurd cc
 long_ok false r x e = e
 
-placed_ok : (n : ℕ) (r : Result Answer ℕ) (x : Answer) → placed n r ≡ Ok x → r ≡ Ok x
+pub placed_ok : (n : ℕ) (r : Result Answer ℕ) (x : Answer) → placed n r ≡ Ok x → r ≡ Ok x
 placed_ok n (Ok a) x e = e
 placed_ok n (Err left) x e = absurd cc
 

@@ -210,13 +210,5 @@ is_done front count i bytes total le so_far =
     sym so_far ∙ one
 
 -- whether a name was appended
-pub not_false : (b : Bool) → true ≡ not b → b ≡ false
-not_false true e = absurd cc
-not_false false e = refl
-
-pub not_true : (b : Bool) → false ≡ not b → b ≡ true
-not_true true e = refl
-not_true false e = absurd cc
-
 pub was_appended : (names : List (List ℕ)) (name : List ℕ) → is_among name names ≡ false → with_name names name ≡ names ++ name ∷ []
 was_appended names name new = ap (λ (b : Bool). appended b names name) new

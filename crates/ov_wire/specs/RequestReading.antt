@@ -3,7 +3,7 @@ use Rattle.std.specs.Prelude.{ℕ, zero, suc, List, [], ◌∷◌, ◌++◌, len
 use Rattle.std.specs.Int.{w16, w32}
 use Rattle.ov_base.specs.declared.limits.TheConstants.{MAX_FILE_BYTES, MAX_CHUNK_BYTES}
 use Rattle.ov_base.specs.NameLists.{is_among}
-use Rattle.ov_fields.specs.Reading.{Read, ◌>>=◌, ◌>>◌, made, spanned, all_of, making, by_rows, placed, any, at_most, between, byte_at, bytes_at, number_at, number_that, name_at, nothing_at}
+use Rattle.ov_fields.specs.Reading.{Read, ◌>>◌, made, spanned, all_of, making, by_rows, placed, any, at_most, between, byte_at, bytes_at, number_at, number_that, name_at, nothing_at}
 use Rattle.ov_wire.specs.declared.request.Question.{Question}
 use Rattle.ov_wire.specs.declared.request.Question.TheVariants as questions
 use Rattle.ov_wire.specs.declared.request.Request.{Request}
@@ -19,7 +19,7 @@ grant (user, file) = questions.Grant user file
 abbrev pub revoke : List ℕ × List ℕ → Question
 revoke (user, file) = questions.Revoke user file
 
--- a verb, 1 enrol, 3 grant, 4 revoke or 5 key, and the names that the command has
+-- a verb (enrol is 1, grant 3, revoke 4, key 5) with the names that its command takes
 unfoldable pub question_at : List ℕ → Read Question
 question_at [] = Err 0
 question_at (suc zero ∷ bytes) = made questions.Enrol (name_at bytes)

@@ -28,7 +28,7 @@ fn take_two_names(bytes: &[u8]) -> Result<((Name, Name), &[u8]), FieldFault>
     Ok(((user, file), rest))
 }
 
-/// A verb, 1 enrol, 3 grant, 4 revoke or 5 key, and the names that the command has.
+/// A verb (enrol is 1, grant 3, revoke 4, key 5) with the names that its command takes.
 #[tactic(auto, unfolding(crate::specs::RequestReading::question_at))]
 fn take_question(bytes: &[u8]) -> Result<(Question, &[u8]), FieldFault>
     ensures { GivesField (λ q. q) result (question_at bytes.now) }

@@ -1,15 +1,13 @@
 -- The words that ask for a load.
-use Rattle.std.proofs.Common.{◌≡◌, ℕ, ◌≤◌, ◌<◌, ◌^◌, List, [], ◌∷◌, length, get_or, refl, sym, ◌∙◌, arith, ap}
+use Rattle.std.proofs.Common.{◌≡◌, ℕ, ◌≤◌, ◌<◌, ◌^◌, List, [], ◌∷◌, length, get_or, sym, ◌∙◌, arith, ap}
 use Rattle.std.specs.Prelude.{String, string_bytes, codes, map, Option, Some, None, IfSome, IfNone, Result, Ok, Err}
 use Rattle.std.specs.Fmt.{decimal}
 use Rattle.std.specs.declared.alloc.Global.{Global}
 use Rattle.std.specs.Str.Parse.{ParsesUnsigned}
 use Rattle.std.proofs.lemmas.Fmt.{decimal_injective, parse-decimal}
-use Rattle.ov_base.specs.declared.mode.Mode.{Mode}
-use Rattle.ov_base.specs.declared.mode.Mode.TheVariants.{Full, Delta}
 use Rattle.ov_script.specs.declared.drawn.TheConstants.{MAX_WORKLOAD}
 use Rattle.overstore.specs.LoadWords.{AreNoLoad, IsAsked, IsLoad}
-use Rattle.overstore.specs.Words.{mode_word}
+use Rattle.ov_base.proofs.Modes.{one_word}
 use Rattle.overstore.specs.declared.load_words.Load.{Load}
 
 -- ---- numbers
@@ -39,17 +37,6 @@ read_once word r m n found low is reads =
     let same = sym found ∙ is_read word r n low is reads in
     let one : m ≡ n = cc same in
     is ∙ ap decimal (sym one)
-
--- ---- modes
-
-one_length : (a b : List ℕ) → a ≡ b → length a ≡ length b
-one_length a b e = ap length e
-
-pub one_word : (a b : Mode) → mode_word a ≡ mode_word b → a ≡ b
-one_word Full Full e = refl
-one_word Delta Delta e = refl
-one_word Full Delta e = absurd (let long : 4 ≡ 5 = one_length (mode_word Full) (mode_word Delta) e in omega (arith, long))
-one_word Delta Full e = absurd (let long : 5 ≡ 4 = one_length (mode_word Delta) (mode_word Full) e in omega (arith, long))
 
 -- ---- words
 

@@ -19,7 +19,8 @@ use Rattle.overstore.specs.Printing.{IsAnswered, IsKeysStatus, IsRefused, IsScri
 use Rattle.overstore.specs.Running.{Concluded, IsDecided, JudgesKeys, PrintsAs, RefusesWords}
 use Rattle.overstore.specs.declared.answer.Stop.{Stop}
 use Rattle.overstore.specs.declared.answer.Stop.TheVariants.{End, BadLine, Long, Read, Write, Disk, Trace, Memory, Tag}
-use Rattle.overstore.specs.Words.{IsRun, mode_word}
+use Rattle.ov_base.specs.Modes.{mode_word}
+use Rattle.overstore.specs.Words.{IsRun}
 use Rattle.overstore.proofs.Concluding.{complete, exact, is_bad, is_disk, is_done, is_long, is_memory, is_read, is_write, neither}
 
 -- ---- the mode

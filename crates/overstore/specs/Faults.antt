@@ -9,7 +9,7 @@ use Rattle.ov_store.specs.declared.fault.BeginFault.TheVariants.{Disk, NotAStore
 use Rattle.ov_store.specs.declared.fault.BeginFault.TheVariants.{BaseDiffers, SurfaceDiffers}
 use Rattle.ov_store.specs.declared.fault.BeginFault.TheVariants.{ModeDiffers, Memory}
 use Rattle.overstore.specs.Printing.{disk_line, memory_line}
-use Rattle.overstore.specs.Words.{mode_word}
+use Rattle.ov_base.specs.Modes.{mode_word}
 use Rattle.overstore.specs.declared.fault.BadTag.{BadTag}
 
 -- two values in hexadecimal, each behind a space, and an LF

@@ -4,7 +4,7 @@ use Rattle.std.specs.Prelude.{String, string_bytes}
 use Rattle.std.specs.Fmt.{decimal}
 use Rattle.std.specs.declared.alloc.Global.{Global}
 use Rattle.ov_script.specs.declared.drawn.TheConstants.{MAX_WORKLOAD}
-use Rattle.overstore.specs.Words.{mode_word}
+use Rattle.ov_base.specs.Modes.{mode_word}
 use Rattle.overstore.specs.declared.load_words.Load.{Load}
 
 -- the load has a number of 64 bits, and some commands, but not too many

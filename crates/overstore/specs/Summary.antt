@@ -13,7 +13,7 @@ use Rattle.ov_history.specs.Plain.{PlainHistory, history_of}
 use Rattle.ov_model.specs.Lines.{lines}
 use Rattle.ov_model.specs.Step.{after_all}
 use Rattle.overstore.specs.Tallying.{counted_all, none_counted, total}
-use Rattle.overstore.specs.Words.{mode_word}
+use Rattle.ov_base.specs.Modes.{mode_word}
 use Rattle.overstore.specs.declared.load_words.Load.{Load}
 use Rattle.overstore.specs.declared.tally.Counts.{Counts}
 use Rattle.overstore.specs.declared.tally.Tally.{Tally}

@@ -5,7 +5,7 @@ ghost use Rattle.hex.specs.Hex.{encode_lower};
 ghost use Rattle.overstore.specs.Faults.{area_word, fault_line, fault_status, tag_line, two_values};
 ghost use Rattle.overstore.specs.Faults.{HasValues};
 ghost use Rattle.overstore.specs.Status.{status_code};
-ghost use Rattle.overstore.specs.Words.{mode_word};
+ghost use Rattle.ov_base.specs.Modes.{mode_word};
 
 use crate::fault::BadTag;
 use crate::status::Status;

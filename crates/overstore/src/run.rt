@@ -16,7 +16,8 @@ ghost use Rattle.overstore.specs.Running.{EndsFor, FailsForFaults, ForImage, Fro
 ghost use Rattle.overstore.specs.Running.{IsDecided, JudgesImage, JudgesKeys, LeavesAsAtStart};
 ghost use Rattle.overstore.specs.Running.{PrintsAs, RefusesWords, RunsWell};
 ghost use Rattle.overstore.specs.Tracing.{TracesAs};
-ghost use Rattle.overstore.specs.Words.{mode_word, AreOther, IsRun};
+ghost use Rattle.ov_base.specs.Modes.{mode_word};
+ghost use Rattle.overstore.specs.Words.{AreOther, IsRun};
 
 use crate::answer::answer_all;
 use crate::begin::begin;
