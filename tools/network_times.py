@@ -18,7 +18,7 @@ import tempfile
 import time
 
 # It takes the two programs from the same words.
-from network_cases import CLIENT, HELLO, KEYS, SERVER, framed, settings, take
+from network_cases import CLIENT, HELLO, KEYS, SERVER, ask, framed, settings
 from network_frames import ASK, LIST, MIB, Owner, begun, creations, reads, turns, u32
 
 TOOLS = pathlib.Path(__file__).resolve().parent
@@ -151,8 +151,7 @@ def memory():
     process, address = start_real(folder)
     for number in range(10_001):
         with socket.create_connection(address.rsplit(":", 1)) as stream:
-            stream.sendall(framed(HELLO))
-            assert take(stream, 46)[4] == 0x81
+            assert ask(stream, HELLO)[0] == 0x81
             if number in (10, 10_000):
                 lines = pathlib.Path("/proc/%d/status" % process.pid).read_text().splitlines()
                 print("behind %d sessions:" % number, *(it for it in lines if it.startswith(("VmRSS", "VmHWM"))))
