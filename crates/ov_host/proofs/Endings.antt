@@ -1,5 +1,5 @@
 -- Statuses of last lines, and counts over several puts.
-use Rattle.std.proofs.Common.{◌≡◌, ◌⊎◌, inl, inr, ℕ, ◌+◌, ◌-◌, ◌^◌, ◌≤◌, min, refl, sym, ◌∙◌, ap, subst, arith, List, take, Option, Bool, true, false}
+use Rattle.std.proofs.Common.{◌≡◌, ◌⊎◌, inl, inr, ℕ, ◌≤◌, refl, sym, ◌∙◌, ap, arith, List, take, Option, Bool, true, false}
 use Rattle.std.specs.Prelude.{◌≢◌}
 use Rattle.std.specs.Io.KnownBytes.{Appends}
 use Rattle.ov_base.specs.Causes.{Rose}
