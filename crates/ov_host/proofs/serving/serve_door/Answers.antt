@@ -4,8 +4,11 @@ use Rattle.ov_host.proofs.serving.serve_door.Goals as goal
 
 pub returns-in-Ok-clause-serves : goal.returns-in-Ok-clause-serves
 returns-in-Ok-clause-serves g c =
-    inr (c.deref.result.now, inl (record {
-      same = refl;
-      door = listened _ _ _ _ c.in-Ok.ensures;
-      ends = c.in-Err-tell.ensures.told;
-    }))
+    inr (
+      c.deref.result.now,
+      inl (record {
+        same = refl;
+        door = listened _ _ _ _ c.in-Ok.ensures;
+        ends = c.in-Err-tell.ensures.told;
+      }),
+    )
