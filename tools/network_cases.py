@@ -1,6 +1,7 @@
 """Runs the server over real sockets: sessions that are right and others that break in every way, every exit
-status with its line on standard error, and a kill between two sessions. With the client program besides it has
-that enrol a user, create a file and read it.
+status with its line on standard error, what it says of files, folders, addresses and modes that can't be meant,
+and a kill between two sessions. With the client program besides it has that enrol a user, create a file and
+read it.
 
 Run, after `rt run` has built the programs, at the top of the repository:
 
@@ -25,6 +26,9 @@ CLIENT = str(pathlib.Path(sys.argv[2]).resolve()) if len(sys.argv) > 2 else None
 KEYS = pathlib.Path(__file__).resolve().parent.parent / "examples" / "keys.hex"
 BASE_MASTER, SURFACE = (bytes.fromhex(line) for line in KEYS.read_text().split())
 SECONDS = 60
+
+# What is said where a server begins a store by the settings below.
+NOTE = "overstored: note: there is no store at store.book, so a new one is begun, in mode delta"
 
 HELLO = b"\x01"
 WELCOME_SIZE = 42
@@ -62,6 +66,7 @@ def settings(sessions, /, **other):
 
 
 def start(folder, text, **streams):
+    (folder / "settings.toml").touch(0o600)
     (folder / "settings.toml").write_text(text)
     streams.setdefault("stdout", subprocess.PIPE)
     return subprocess.Popen([SERVER, "settings.toml"], cwd=folder, stderr=subprocess.PIPE, **streams)
@@ -71,6 +76,7 @@ class Server:
     """A server that listens."""
 
     def __init__(self, folder, sessions, **other):
+        self.begins = not (folder / "store.book").exists()
         self.process = start(folder, settings(sessions, **other))
         line = self.process.stdout.readline().decode()
         assert line.startswith("listening 127.0.0.1:"), (line, self.process.stderr.read())
@@ -81,10 +87,12 @@ class Server:
         return socket.create_connection(("127.0.0.1", self.port), timeout=SECONDS)
 
     def end(self, served):
-        """It ends by itself; what it said of sessions."""
+        """It ends by itself; what it said beside that it begins a store, which it says where it does."""
         out, told = self.process.communicate(timeout=SECONDS)
         assert (self.process.returncode, out) == (0, b"served %d\n" % served), (self.process.returncode, out, told)
-        return told.decode().splitlines()
+        lines = told.decode().splitlines()
+        assert lines.count(NOTE) == self.begins, lines
+        return [line for line in lines if line != NOTE]
 
     def kill(self):
         self.process.kill()
@@ -100,7 +108,7 @@ def refused(folder, text, status, out, words, **streams):
 
 
 def is_told(told, words):
-    lines = told.splitlines()
+    lines = [line for line in told.splitlines() if line != NOTE]
     assert lines and lines[0].startswith("overstored: error: ") and words in lines[0], (words, told)
     assert all(line.startswith(("overstored: error: ", "overstored: hint: ")) for line in lines), told
     assert not any(line.endswith(".") for line in lines), told
@@ -246,7 +254,7 @@ def broken_sessions():
 
 
 def statuses():
-    """Each status but 0, with its line."""
+    """Each status but 0, 4 and 13, which have cases of their own, with its line."""
     done = subprocess.run([SERVER], capture_output=True)
     assert (done.returncode, done.stdout) == (2, b"error settings\n")
     is_told(done.stderr.decode(), "one settings file is wanted")
@@ -258,16 +266,81 @@ def statuses():
     refused(new_folder(), settings(0), 2, b"error settings\n", "`sessions`")
     refused(new_folder(), "sessions = 1\nmode delta\n", 2, b"error settings\n", "settings.toml: line 2")
     refused(new_folder(), settings(1) + "#" * 65_536, 2, b"error settings\n", "settings.toml")
-    folder = new_folder()
-    (folder / "store.book").mkdir()
-    refused(folder, settings(1), 4, b"error disk\n", "store.book")
     with open("/dev/full", "wb") as full:
         refused(new_folder(), settings(1), 6, None, "standard output", stdout=full)
     folder = new_folder()
     (folder / "store.book").write_bytes(b"x" * 200)
     (folder / "store.blobs").write_bytes(b"")
     refused(folder, settings(1), 8, b"error notastore\n", "store.book")
-    refused(new_folder(), settings(1, address="127.0.0.1:port"), 13, b"error door\n", "127.0.0.1:port")
+
+
+def nobody_but_root():
+    """A new folder of a user who isn't root, and how a program is run as that user."""
+    folder = new_folder()
+    if os.geteuid() != 0:
+        return folder, {}
+    for path in (folder.parent, folder):
+        path.chmod(0o755)
+    os.chown(folder, 65534, 65534)
+    (folder / "settings.toml").touch(0o600)
+    os.chown(folder / "settings.toml", 65534, 65534)
+    return folder, {"user": 65534, "group": 65534}
+
+
+def files_that_cant_be_used():
+    """A folder that isn't there, one that nobody may write to, and a file of somebody else: each is named."""
+    missing = {"book": "no/store.book", "blobs": "no/store.blobs"}
+    refused(new_folder(), settings(1, **missing), 4, b"error disk\n", "no: there is no such folder")
+    refused(new_folder(), settings(1, blobs="no/b"), 4, b"error disk\n", "no: there is no such folder")
+    folder = new_folder()
+    (folder / "store.book").mkdir()
+    refused(folder, settings(1), 4, b"error disk\n", "store.book: it is no regular file")
+    folder, user = nobody_but_root()
+    (folder / "kept").mkdir(0o555)
+    kept = {"book": "kept/store.book", "blobs": "kept/store.blobs"}
+    process = start(folder, settings(1, **kept), **user)
+    put, told = process.communicate(timeout=SECONDS)
+    assert (process.returncode, put) == (4, b"error disk\n"), (put, told)
+    is_told(told.decode().replace("kept/store.book", "store.book"), "kept: the server may not make files there")
+    (folder / "store.book").touch(0o444)
+    refused(folder, settings(1), 4, b"error disk\n", "store.book: the server may not read and write it", **user)
+
+
+def addresses_that_cant_be():
+    """One with no port, one whose port is no number, and a host that is another machine."""
+    for address in ("127.0.0.1", "127.0.0.1:port"):
+        refused(new_folder(), settings(1, address=address), 13, b"error door\n", address + ": it is no address")
+    refused(new_folder(), settings(1, address="203.0.113.7:7400"), 13, b"error door\n", "203.0.113.7:7400: can't")
+
+
+def stores_that_begin():
+    """A store is begun where there is no book, or one in which none was begun, and the server says so."""
+    for book in (None, b"", b"\x01", b"x" * 79):
+        folder = new_folder()
+        if book is not None:
+            (folder / "store.book").write_bytes(book)
+        server = Server(folder, 1)
+        server.begins = True
+        server.connect().close()
+        assert server.end(1) == []
+        server = Server(folder, 1)
+        server.connect().close()
+        assert server.end(1) == []
+
+
+def settings_that_others_may_read():
+    """They are read whatever their mode, with a warning; the service manager's own have none."""
+    warned = ["overstored: warning: settings.toml can be read by others, and has the surface master"]
+    folder = new_folder()
+    for mode in (0o600, 0o644, 0o640, 0o604):
+        (folder / "settings.toml").touch()
+        (folder / "settings.toml").chmod(mode)
+        server = Server(folder, 1)
+        server.connect().close()
+        assert server.end(1) == (warned if mode & 0o044 else []), mode
+    environment = {**os.environ, "CREDENTIALS_DIRECTORY": "settings"}
+    process = start(folder, settings(1, mode="full"), env=environment)
+    assert process.communicate(timeout=SECONDS)[1].count(b"warning") == 0
 
 
 def stores_of_others():
@@ -340,6 +413,10 @@ CASES = [
     right_sessions,
     broken_sessions,
     statuses,
+    files_that_cant_be_used,
+    addresses_that_cant_be,
+    stores_that_begin,
+    settings_that_others_may_read,
     stores_of_others,
     keys_that_are_passed_over,
     memory_that_is_refused,

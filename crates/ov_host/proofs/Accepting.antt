@@ -1,5 +1,5 @@
 -- What a value is reached by behind sessions is what their exchanges accepted.
-use Rattle.std.proofs.Common.{◌≡◌, ◌⊎◌, inl, inr, ℕ, List, [], ◌∷◌, ◌++◌, Option, sym, subst}
+use Rattle.std.proofs.Common.{inl, inr, ℕ, List, [], ◌∷◌, Option, subst}
 use Rattle.ov_session.specs.declared.end.SessionEnd.{SessionEnd}
 use Rattle.ov_session.specs.declared.end.SessionEnd.TheVariants as ends
 use Rattle.ov_session.specs.Alone.{AnswersOne, spellings_after}

@@ -1,53 +1,26 @@
--- Statuses of last lines, and counts over several puts.
-use Rattle.std.proofs.Common.{◌≡◌, ◌⊎◌, inl, inr, ℕ, ◌+◌, ◌-◌, ◌^◌, ◌≤◌, min, refl, sym, ◌∙◌, ap, subst, arith, List, take, Option, Bool, true, false}
-use Rattle.std.specs.Prelude.{◌≢◌}
+-- Statuses of last lines.
+use Rattle.std.proofs.Common.{◌≡◌, ◌⊎◌, inl, inr, ℕ, ◌∙◌, ap, arith, List, take, Option, Bool, true, false}
 use Rattle.std.specs.Io.KnownBytes.{Appends}
-use Rattle.ov_base.specs.Causes.{Rose}
 use Rattle.ov_session.specs.Doors.{Doorway}
-use Rattle.ov_session.specs.Serving.{OneSession, SaysRose}
+use Rattle.ov_session.specs.Serving.{OneSession}
 use Rattle.ov_store.specs.declared.fault.BeginFault.{BeginFault}
-use Rattle.ov_store.specs.declared.fault.BeginFault.TheVariants.{Disk, NotAStore, Damaged, BaseDiffers, SurfaceDiffers, ModeDiffers, Memory}
-use Rattle.ov_report.specs.Ends.{EndsIn, EndsOr, IsPutTo}
+use Rattle.ov_store.specs.declared.fault.BeginFault.TheVariants.{Disk, Memory}
+use Rattle.ov_report.specs.Ends.{EndsIn, EndsOr}
 use Rattle.ov_report.specs.Faults.{fault_line, fault_status, memory_line}
-use Rattle.ov_host.specs.Hosting.{EndsServing, IsOpenStatus, SaysDoor, Serves, door_line, listening_line, served_line}
-
--- a count that rose at last rose from the start
-pub rose_from : (first mid last : ℕ) → first ≤ mid → Rose mid last → Rose first last
-rose_from first mid last low rose = grind arith
-
--- puts one after the other
-pub put_then : {O : Type 0} (borrow faults : O → ℕ) (old mid new : O) (status other : ℕ) → other ≢ 6
-    → IsPutTo borrow faults old mid other → IsPutTo borrow faults mid new status → IsPutTo borrow faults old new status
-put_then borrow faults old mid new status other none first second = record {
-  same = second.same ∙ first.same;
-  later = omega (arith, first.later, second.later);
-  write = λ e. rose_from (faults old) (faults mid) (faults new) first.later (second.write e);
-}
+use Rattle.ov_host.specs.Hosting.{EndsServing, IsOpenStatus, Serves, door_line, listening_line, served_line}
 
 -- the status of a line that was put, or couldn't be
-pub ended_in : (last : List ℕ) (code : ℕ) (old new : Option (List ℕ)) (status : ℕ) → EndsIn last code old new status → (status ≡ code) ⊎ (status ≡ 6)
+ended_in : (last : List ℕ) (code : ℕ) (old new : Option (List ℕ)) (status : ℕ) → EndsIn last code old new status → (status ≡ code) ⊎ (status ≡ 6)
 ended_in last code old new status (inl (is, put)) = inl is
 ended_in last code old new status (inr (is, put)) = inr is
 
 -- the same where memory may have been refused for it
-pub ended_or : (last : List ℕ) (code : ℕ) (old new : Option (List ℕ)) (status : ℕ) → EndsOr last code old new status
+ended_or : (last : List ℕ) (code : ℕ) (old new : Option (List ℕ)) (status : ℕ) → EndsOr last code old new status
     → (status ≡ code) ⊎ ((status ≡ 6) ⊎ (status ≡ 7))
 ended_or last code old new status (inl (inl (is, put))) = inl is
 ended_or last code old new status (inl (inr (is, put))) = inr (inl is)
 ended_or last code old new status (inr (inl (is, put))) = inr (inr is)
 ended_or last code old new status (inr (inr (is, put))) = inr (inl is)
-
--- another status than 13, and a door that didn't fail
-other_status : (before now status : ℕ) → (status ≡ 0) ⊎ ((status ≡ 6) ⊎ (status ≡ 7)) → now ≡ before → SaysDoor before now status
-other_status before now status (inl is) same = inr (λ e. absurd (omega arith), same)
-other_status before now status (inr (inl is)) same = inr (λ e. absurd (omega arith), same)
-other_status before now status (inr (inr is)) same = inr (λ e. absurd (omega arith), same)
-
--- what the status says of the door, behind all sessions
-pub served_door : (failed : Bool) (served before now : ℕ) (old new : Option (List ℕ)) (status : ℕ) → SaysRose before now failed → EndsServing failed served old new status
-    → SaysDoor before now status
-served_door true served before now old new status rose ends = inl (ended_in _ 13 old new status ends, rose)
-served_door false served before now old new status same ends = other_status before now status (ended_or _ 0 old new status ends) same
 
 -- ---- the status of a server at its door
 
@@ -105,44 +78,7 @@ module _ {V S : Type 0} (one : OneSession V S) (v w : V) (old new : Doorway S) (
 
 -- ---- the status where no store was begun
 
--- 4 is said of a fault of the disk alone, and 13 of none
-fault_4 : (f : BeginFault) → fault_status f ≡ 4 → f ≡ Disk
-fault_4 Disk is = refl
-fault_4 NotAStore is = absurd (omega (arith, is))
-fault_4 (Damaged area place) is = absurd (omega (arith, is))
-fault_4 (BaseDiffers stored given) is = absurd (omega (arith, is))
-fault_4 (SurfaceDiffers stored given) is = absurd (omega (arith, is))
-fault_4 (ModeDiffers stored given) is = absurd (omega (arith, is))
-fault_4 Memory is = absurd (omega (arith, is))
-
-fault_below : (f : BeginFault) → fault_status f ≤ 9
-fault_below Disk = omega arith
-fault_below NotAStore = omega arith
-fault_below (Damaged area place) = omega arith
-fault_below (BaseDiffers stored given) = omega arith
-fault_below (SurfaceDiffers stored given) = omega arith
-fault_below (ModeDiffers stored given) = omega arith
-fault_below Memory = omega arith
-
 module _ (f : BeginFault) (old new : Option (List ℕ)) (status : ℕ) (ends : EndsOr (fault_line f) (fault_status f) old new status) where
-  pub faulted_4 : status ≡ 4 → f ≡ Disk
-  faulted_4 four = by_line (ended_or (fault_line f) (fault_status f) old new status ends) where
-    by_line : (status ≡ fault_status f) ⊎ ((status ≡ 6) ⊎ (status ≡ 7)) → f ≡ Disk
-    by_line (inl is) = fault_4 f (sym is ∙ four)
-    by_line (inr (inl is)) = absurd (omega (arith, is, four))
-    by_line (inr (inr is)) = absurd (omega (arith, is, four))
-
-  -- the door wasn't touched
-  pub faulted_door : (before now : ℕ) → now ≡ before → SaysDoor before now status
-  faulted_door before now same = by_line (ended_or (fault_line f) (fault_status f) old new status ends) where
-    low : fault_status f ≤ 9
-    low = fault_below f
-
-    by_line : (status ≡ fault_status f) ⊎ ((status ≡ 6) ⊎ (status ≡ 7)) → SaysDoor before now status
-    by_line (inl is) = inr (λ e. absurd (omega (arith, is, e, low)), same)
-    by_line (inr (inl is)) = inr (λ e. absurd (omega (arith, is, e)), same)
-    by_line (inr (inr is)) = inr (λ e. absurd (omega (arith, is, e)), same)
-
   -- a fault of the disk or want of memory
   pub faulted_open : (f ≡ Disk) ⊎ (f ≡ Memory) → IsOpenStatus status
   faulted_open why = by_line (ended_or (fault_line f) (fault_status f) old new status ends) why where

@@ -40,6 +40,12 @@ served_line n = codes "served " ++ decimal n ++ 10 ∷ []
 abbrev pub door_line : List ℕ
 door_line = codes "error door" ++ 10 ∷ []
 
+-- the line that says where a server listens can't be put whole, or memory is refused for it
+abbrev pub IsUntold : List ℕ → Option (List ℕ) → Option (List ℕ) → ℕ → Type 0
+IsUntold address old new status =
+    ((status ≡ 6) × ((n : ℕ) × Appends old new (take n (listening_line address))))
+    ⊎ EndsIn memory_line 7 old new status
+
 -- ---- serving
 
 -- what is put once the sessions were served: how many, or that the door failed
@@ -63,13 +69,11 @@ module _ {V S : Type 0} (one : OneSession V S) (v w : V) (old new : Doorway S) (
     pub rose : Rose old.faults new.faults
     pub ends : EndsIn door_line 13 before after status
 
-  -- It listens, and the line that says where can't be put whole, or memory is refused for it: no
-  -- session is served.
+  -- It listens, and can't say where: no session is served.
   pub record FailsToTell (address : List ℕ) : Type 0 where
     pub same : w ≡ v
     pub door : new ≡ old
-    pub ends : ((status ≡ 6) × ((n : ℕ) × Appends before after (take n (listening_line address))))
-        ⊎ EndsIn memory_line 7 before after status
+    pub ends : IsUntold address before after status
 
 module _ {V S : Type 0} (one : OneSession V S) (v w : V) (old new : Doorway S) (wanted : ℕ)
     (before after : Option (List ℕ)) (status : ℕ) where

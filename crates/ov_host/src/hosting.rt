@@ -1,11 +1,12 @@
 //! A server over its disk and its door.
-ghost use Rattle.std.specs.Prelude.{◌≡◌, Result};
+ghost use Rattle.std.specs.Prelude.{◌≡◌, Result, Some};
 ghost use Rattle.ov_disk.specs.Disk.{Told};
 ghost use Rattle.ov_images.specs.Images.{StandsIn, keys};
 ghost use Rattle.ov_store.specs.Opened.{Opened};
 ghost use Rattle.ov_store.specs.declared.begin.BeginRefused.{BeginRefused};
 ghost use Rattle.ov_session.specs.Doors.{IsUnused};
-ghost use Rattle.ov_report.specs.Ends.{IsPutTo};
+ghost use Rattle.ov_report.specs.Ends.{EndsOr, IsPutTo};
+ghost use Rattle.ov_report.specs.Faults.{HasValues, fault_line, fault_status};
 ghost use Rattle.ov_host.specs.Hosting.{Begins, Hosts, IsOpenStatus, SaysDisk, SaysDoor};
 
 use crate::disk_server::DiskServer;
@@ -21,9 +22,47 @@ use ov_store::{BeginRefused, Store};
 use std::alloc::Global;
 use std::sync::Wait;
 
-/// Begins the store on the disk by these settings, and serves it at the door: says where it listens,
-/// serves the sessions one after the other, and says how many there were. Where no store is begun
-/// the line says why, and the disk is handed back.
+// Begins the store on the disk by these settings.
+fn begin_store<D: Disk + Drop>(
+    alloc: Global,
+    settings: &Settings,
+    disk: D,
+) -> Result<Store<D>, BeginRefused<D>>
+    ensures { Begins D.reads D.may_leave D.moment D.left_since D.borrow D.faults
+        (keys settings.now.base_check settings.now.surface.bytes) settings.now.mode disk result }
+{
+    Store::begin(
+        alloc,
+        disk,
+        settings.surface,
+        settings.base_check,
+        settings.mode,
+    )
+}
+
+// Puts the line on a store that wasn't begun, and hands its disk back.
+fn hand_back<D: Disk + Drop, O: Sink>(
+    alloc: Global,
+    refused: BeginRefused<D>,
+    out: &mut O,
+) -> Hosted<D>
+    ensures disk { result.disk ≡ Some refused.disk }
+    ensures known { HasValues refused.fault }
+    ensures ends { EndsOr (fault_line refused.fault) (fault_status refused.fault)
+        (O.written out.old) (O.written out.new) result.status }
+    ensures put { IsPutTo O.borrow O.faults out.old out.new result.status }
+{
+    let BeginRefused { fault, disk } = refused;
+    values_are_known(fault);
+    Hosted {
+        status: put_fault(alloc, out, fault),
+        disk: Some(disk),
+    }
+}
+
+/// Begins the store on the disk by these settings, and serves it at the door: says where it
+/// listens, serves the sessions one after the other, and says how many there were. Where no store
+/// is begun the line says why, and the disk is handed back.
 pub fn host<R: Wait, D: Disk + Drop, A: Door, O: Sink>(
     rt: &R,
     alloc: Global,
@@ -49,25 +88,12 @@ pub fn host<R: Wait, D: Disk + Drop, A: Door, O: Sink>(
         StandsIn (keys settings.now.base_check settings.now.surface.bytes) settings.now.mode i
         → IsOpenStatus result.status) }
 {
-    match Store::begin(
-        alloc,
-        disk,
-        settings.surface,
-        settings.base_check,
-        settings.mode,
-    ) {
+    match begin_store(alloc, settings, disk) {
         Ok(store) => {
             let mut server = DiskServer::new(Server::new(store, settings.surface));
             let status = serve_door(rt, alloc, door, &mut server, settings.sessions, out);
             Hosted { status, disk: None }
         }
-        Err(refused) => {
-            let BeginRefused { fault, disk } = refused;
-            values_are_known(fault);
-            Hosted {
-                status: put_fault(alloc, out, fault),
-                disk: Some(disk),
-            }
-        }
+        Err(refused) => hand_back(alloc, refused, out),
     }
 }

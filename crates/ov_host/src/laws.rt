@@ -1,5 +1,5 @@
 //! Laws of servers.
-ghost use Rattle.std.specs.Prelude.{◌≡◌, ℕ, List};
+ghost use Rattle.std.specs.Prelude.{ℕ, List};
 ghost use Rattle.ov_session.specs.Serving.{Follows, Session, serves_alone};
 ghost use Rattle.ov_host.specs.Accepting.{accepted_in};
 ghost use Rattle.ov_host.specs.Lasting.{StoresSurvive};
@@ -18,9 +18,9 @@ pub fn accepted_updates_lead<V: Answerer, L: Stream>()
         L.Source.faults L.Sink.faults v sessions w list f) w }
 {}
 
-/// Where a store was begun on a disk with nothing pending and went on by some updates, a stop at any
-/// moment leaves the history for which the disk stood, with some first ones of them. The function
-/// does nothing.
+/// Where a store was begun on a disk with nothing pending and went on by some updates, a stop at
+/// any moment leaves the history for which the disk stood, with some first ones of them. The
+/// function does nothing.
 pub fn stores_survive<D: Disk>()
     ensures { StoresSurvive D.reads D.may_leave D.moment D.left_since }
 {}

@@ -1,9 +1,10 @@
 //! Listening, serving, and the lines that say so.
-ghost use Rattle.std.specs.Prelude.{◌≡◌, IfOk};
+ghost use Rattle.std.specs.Prelude.{◌≡◌, IfOk, MatchResult};
+ghost use Rattle.std.specs.Io.KnownBytes.{Appends};
 ghost use Rattle.ov_session.specs.Doors.{IsUnused};
 ghost use Rattle.ov_session.specs.Serving.{serves_alone};
 ghost use Rattle.ov_report.specs.Ends.{EndsIn, EndsOr, IsPutTo};
-ghost use Rattle.ov_host.specs.Hosting.{SaysDoor, Serves, ServesAll, Tells};
+ghost use Rattle.ov_host.specs.Hosting.{EndsServing, IsUntold, SaysDoor, Serves};
 ghost use Rattle.ov_host.specs.Hosting.{door_line, listening_line, served_line};
 
 use ov_base::Memory;
@@ -47,24 +48,11 @@ fn put_door<O: Sink>(out: &mut O) -> u8
     put_last(out, b"error door\n", DOOR_FAULT)
 }
 
-// Serves the sessions of a door that listens, and puts the last line.
-fn serve_all<R: Wait, A: Door, V: Answerer, O: Sink>(
-    rt: &R,
-    alloc: Global,
-    door: &mut A,
-    value: &mut V,
-    sessions: u32,
-    out: &mut O,
-) -> u8
-    requires { IsUnused (A.shows door.old) }
-    ensures serves { ServesAll (serves_alone V.reached V.replies A.Stream.Source.left
-        A.Stream.Sink.written A.Stream.Source.faults A.Stream.Sink.faults) value.old value.new
-        (A.shows door.old) (A.shows door.new) sessions (O.written out.old) (O.written out.new)
-        result }
-    ensures door { SaysDoor (A.shows door.old).faults (A.shows door.new).faults result }
+// Puts the last line behind so many sessions: how many there were, or that the door failed.
+fn put_end<O: Sink>(alloc: Global, out: &mut O, served: u32, failed: bool) -> u8
+    ensures ends { EndsServing failed served (O.written out.old) (O.written out.new) result }
     ensures put { IsPutTo O.borrow O.faults out.old out.new result }
 {
-    let (served, failed) = serve_each(rt, alloc, door, value, sessions);
     if failed {
         put_door(out)
     } else {
@@ -72,30 +60,20 @@ fn serve_all<R: Wait, A: Door, V: Answerer, O: Sink>(
     }
 }
 
-// Says where the door listens, and then serves its sessions.
-fn tell_and_serve<R: Wait, A: Door, V: Answerer, O: Sink>(
-    rt: &R,
-    alloc: Global,
-    door: &mut A,
-    value: &mut V,
-    sessions: u32,
-    out: &mut O,
-    address: &[u8],
-) -> u8
-    requires { IsUnused (A.shows door.old) }
-    ensures serves { Tells (serves_alone V.reached V.replies A.Stream.Source.left
-        A.Stream.Sink.written A.Stream.Source.faults A.Stream.Sink.faults) value.old value.new
-        (A.shows door.old) (A.shows door.new) sessions (O.written out.old) (O.written out.new)
-        result address.now }
-    ensures door { SaysDoor (A.shows door.old).faults (A.shows door.new).faults result }
-    ensures put { IsPutTo O.borrow O.faults out.old out.new result }
+// Says where a server listens, or gives the status where it can't.
+fn tell<O: Sink>(alloc: Global, out: &mut O, address: &[u8]) -> Result<(), u8>
+    ensures told { MatchResult result
+        (λ _. Appends (O.written out.old) (O.written out.new) (listening_line address.now))
+        (IsUntold address.now (O.written out.old) (O.written out.new)) }
+    ensures put { MatchResult result (λ _. IsPutTo O.borrow O.faults out.old out.new 0)
+        (IsPutTo O.borrow O.faults out.old out.new) }
 {
     match line_on_address(alloc, address) {
         Ok(line) => match out.put(&line) {
-            Ok(()) => serve_all(rt, alloc, door, value, sessions, out),
-            Err(Fault) => WRITE_FAULT,
+            Ok(()) => Ok(()),
+            Err(Fault) => Err(WRITE_FAULT),
         },
-        Err(Memory) => put_memory(out),
+        Err(Memory) => Err(put_memory(out)),
     }
 }
 
@@ -119,7 +97,13 @@ pub fn serve_door<R: Wait, A: Door, V: Answerer, O: Sink>(
 {
     let mut address = Vec::new(alloc);
     match door.listen(&mut address) {
-        Ok(()) => tell_and_serve(rt, alloc, door, value, sessions, out, &address),
+        Ok(()) => match tell(alloc, out, &address) {
+            Ok(()) => {
+                let (served, failed) = serve_each(rt, alloc, door, value, sessions);
+                put_end(alloc, out, served, failed)
+            }
+            Err(status) => status,
+        },
         Err(Fault) => put_door(out),
     }
 }

@@ -7,11 +7,13 @@
 //! | module | what it does |
 //! |---|---|
 //! | `told` | says on standard error what is wrong |
+//! | `files` | what the system says of the files that are named |
 //! | `door` | a door that says how sessions end |
 //! | `texts` | all texts |
 #![tactic(auto)]
 
 mod door;
+mod files;
 mod texts;
 mod told;
 
@@ -79,16 +81,17 @@ fn text_of(bytes: &[u8]) -> &str {
     }
 }
 
-// Serves by these settings. The net is the runtime with the leave to open sockets and to wait, which
-// it has in `main` alone.
+// Serves by these settings. The net is the runtime with the leave to open sockets and to wait,
+// which it has in `main` alone.
 fn serve<N: Net + Wait + AllocGlobal + Copy + Drop>(
     net: &N,
     rt: &HostRuntime,
     settings: &Settings,
 ) -> u8 {
     let book = text_of(settings.book.as_slice());
+    let blobs = text_of(settings.blobs.as_slice());
     let address = text_of(settings.address.as_slice());
-    let Ok(disk) = FileDisk::new(*rt, book, text_of(settings.blobs.as_slice())) else {
+    let Ok(disk) = FileDisk::new(*rt, book, blobs) else {
         return print(rt, NO_MEMORY, out_of_memory(rt));
     };
     let Ok(door) = TcpDoor::new(*net, address) else {
@@ -96,13 +99,15 @@ fn serve<N: Net + Wait + AllocGlobal + Copy + Drop>(
     };
     let mut door = SpokenDoor::new(door, *rt);
     let mut out = StdSink::new(rt.stdout());
+    told::new_store(rt, book, settings.mode);
     let status = host(net, rt.alloc(), settings, disk, &mut door, &mut out).status;
-    told::end(rt, status, book);
+    told::end(rt, status, book, blobs);
     told::door(rt, status, address, door.listens, door.door.reason());
     status
 }
 
-// Reads the settings in this file, which the words name where they are one word, and serves by them.
+// Reads the settings in this file, which the words name where they are one word, and serves by
+// them.
 fn serve_by<N: Net + Wait + AllocGlobal + Copy + Drop>(
     net: &N,
     rt: &HostRuntime,
@@ -114,6 +119,7 @@ fn serve_by<N: Net + Wait + AllocGlobal + Copy + Drop>(
     };
     match read_settings(rt.alloc(), words, &mut source) {
         Ok(settings) => {
+            told::open_settings(rt, path);
             told::other_keys(rt, path);
             serve(net, rt, &settings)
         }

@@ -1,38 +1,38 @@
 //! All that the program says beside the lines of a server.
+use crate::files::FileFault;
 use ov_session::SessionEnd;
 use ov_settings::SettingsFault;
+use std::io::ErrorKind;
 
 /// What `--help` prints.
 pub const HELP: &str = "\
 Usage: overstored SETTINGS
 
-Serves an over-encryption store over TCP, one session after the other. SETTINGS is
-a TOML file with these keys, and others are passed over:
+Serves an over-encryption store over TCP, one session after the other, by the
+settings in a TOML file, which nobody but the server may read:
 
-  address = \"127.0.0.1:7400\"   where it listens; at port 0 the system chooses one
-  mode = \"delta\"               the store's mode for good: full or delta
-  surface = \"64 HEX DIGITS\"    the surface master
-  base_check = \"64 HEX DIGITS\" what `overctl check KEYS` prints
-  book = \"store.book\"          the store's two files; the first start makes them
-  blobs = \"store.blobs\"
-  sessions = 1000000           how many are served before it ends, 1 to 1000000
+  address = \"127.0.0.1:7400\"  HOST:PORT where it listens; port 0 is any free one
+  mode = \"full\"               the store's for good: in \"full\" each file has a
+                              surface layer, in \"delta\" one whose base key more
+                              users hold than its list has
+  surface = \"64 DIGITS\"       the surface master, line 2 of the owner's keys.hex
+  base_check = \"64 DIGITS\"    what `overctl check keys.hex` prints
+  book = \"/var/lib/overstored/store.book\"    the store's files, which the first
+  blobs = \"/var/lib/overstored/store.blobs\"  start makes
+  sessions = 1000000          how many are served before it ends, 1 to 1000000
 
-It puts `listening ADDRESS` when it listens, and `served N` when it ends. An update
-is on the disk before it is answered, so the process may be stopped at any time.
+It puts `listening ADDRESS`, and `served N` at its end. SIGTERM ends it safely.
 
-Example:
-  overstored /etc/overstored/team.toml
-
-Exit status:
-   0  served                     7  out of memory
-   2  no settings                8  the book is damaged or no store
-   4  the store's files failed   9  the store is of other keys or the other mode
-   5  SETTINGS can't be read    13  can't listen, or accept connections
-   6  standard output failed
+Example:      overstored /etc/overstored/team.toml
+Exit status:  0  served                      7  out of memory
+              2  no settings                 8  the book is damaged or no store
+              4  the store's files failed    9  the store has other keys or mode
+              5  SETTINGS can't be read     13  can't listen, or accept
+              6  standard output failed
 ";
 
 /// What `--version` prints.
-pub const VERSION: &str = "overstored 0.1.0\n";
+pub const VERSION: &str = "overstored 0.4.0\n";
 
 /// What is put where there are no settings.
 pub const NO_SETTINGS: &str = "error settings\n";
@@ -46,50 +46,37 @@ pub const WRONG_WORDS: (&str, &str) = (
     "`overstored SETTINGS`; `overstored --help` lists what stands in it",
 );
 
-/// What is wrong with a settings file, and what to do.
-pub fn on_settings(fault: SettingsFault) -> (&'static str, &'static str) {
+/// What is wrong with a settings file.
+pub fn error_in(fault: SettingsFault) -> &'static str {
     match fault {
-        SettingsFault::Read => (
-            "it can't be read",
-            "see that it is a file that you may read",
-        ),
-        SettingsFault::Memory => ("out of memory", "free some and start again"),
-        SettingsFault::TooLong => (
-            "it has more than 65536 bytes",
-            "seven keys are wanted, and no more",
-        ),
-        SettingsFault::NotToml => (
-            "it isn't UTF-8 or no TOML document",
-            "a text stands in double quotes, and each key once",
-        ),
-        SettingsFault::Address => (
-            "`address` is missing or no text",
-            "write address = \"HOST:PORT\"",
-        ),
-        SettingsFault::Mode => (
-            "`mode` is missing or another word",
-            "write mode = \"full\" or mode = \"delta\"",
-        ),
-        SettingsFault::Surface => (
-            "`surface` is missing or not 64 hexadecimal digits",
-            "it is the second line of keys.hex, in double quotes",
-        ),
-        SettingsFault::BaseCheck => (
-            "`base_check` is missing or not 64 hexadecimal digits",
-            "it is what `overctl check KEYS` prints, in double quotes",
-        ),
-        SettingsFault::Book => (
-            "`book` is missing or no text",
-            "write the path of the store's book, in double quotes",
-        ),
-        SettingsFault::Blobs => (
-            "`blobs` is missing or no text",
-            "write the path of the store's blobs, in double quotes",
-        ),
-        SettingsFault::Sessions => (
-            "`sessions` is missing or no number from 1 to 1000000",
-            "write sessions = 1000000",
-        ),
+        SettingsFault::Read => "it can't be read",
+        SettingsFault::Memory => NO_ROOM.0,
+        SettingsFault::TooLong => "it has more than 65536 bytes",
+        SettingsFault::NotToml => "it isn't UTF-8 or no TOML document",
+        SettingsFault::Address => "`address` is missing or no text",
+        SettingsFault::Mode => "`mode` is missing or another word",
+        SettingsFault::Surface => "`surface` is missing or not 64 hexadecimal digits",
+        SettingsFault::BaseCheck => "`base_check` is missing or not 64 hexadecimal digits",
+        SettingsFault::Book => "`book` is missing or no text",
+        SettingsFault::Blobs => "`blobs` is missing or no text",
+        SettingsFault::Sessions => "`sessions` is missing or no number from 1 to 1000000",
+    }
+}
+
+/// What to do about it.
+pub fn hint_on(fault: SettingsFault) -> &'static str {
+    match fault {
+        SettingsFault::Read => "see that it is a file that you may read",
+        SettingsFault::Memory => NO_ROOM.1,
+        SettingsFault::TooLong => "seven keys are wanted, and no more",
+        SettingsFault::NotToml => "a text stands in double quotes, and each key once",
+        SettingsFault::Address => "write address = \"HOST:PORT\"",
+        SettingsFault::Mode => "write mode = \"full\" or mode = \"delta\"",
+        SettingsFault::Surface => "it is the second line of keys.hex, in double quotes",
+        SettingsFault::BaseCheck => "it is what `overctl check KEYS` prints, in double quotes",
+        SettingsFault::Book => "write the path of the store's book, in double quotes",
+        SettingsFault::Blobs => "write the path of the store's blobs, in double quotes",
+        SettingsFault::Sessions => "write sessions = 1000000",
     }
 }
 
@@ -99,8 +86,11 @@ pub const NO_ROOM: (&str, &str) = (
     "free some and start again; what was answered lasts",
 );
 
-/// What is wrong where a line couldn't be put.
-pub const NO_LINE: &str = "standard output can't be written";
+/// What is wrong where a line couldn't be put, and what to do.
+pub const NO_LINE: (&str, &str) = (
+    "standard output can't be written",
+    "see that it is open, and that there is room",
+);
 
 /// What is wrong where there is no file of that name.
 pub const NO_FILE: &str = "there is no such file";
@@ -114,17 +104,53 @@ pub const LISTENING: &str = "can't listen there";
 /// What is wrong where one that listens can't accept connections.
 pub const ACCEPTING: &str = "can't accept connections there";
 
-/// What to do about both.
-pub const DOOR_HINT: &str =
-    "`address` is HOST:PORT of this machine, and nobody else may listen there";
+/// What is wrong with an address that has no port, or no number for one.
+pub const NO_ADDRESS: &str = "it is no address";
+
+/// What to do about a door that failed for this reason.
+pub fn hint_on_door(why: Option<ErrorKind>) -> &'static str {
+    match why {
+        Some(ErrorKind::InvalidInput) => "an address is HOST:PORT, as 127.0.0.1:7400",
+        Some(ErrorKind::AddrInUse) => "stop what listens there, or take another port",
+        Some(ErrorKind::AddrNotAvailable | ErrorKind::Uncategorized) => {
+            "the host in `address` is to be a name or an address of this machine"
+        }
+        Some(ErrorKind::PermissionDenied) => "take a port from 1024 on",
+        _ => "see that `address` is HOST:PORT of this machine, and start again",
+    }
+}
+
+/// What is wrong with a file of a store, or with its folder, and what to do.
+pub fn on_file(fault: FileFault) -> (&'static str, &'static str) {
+    match fault {
+        FileFault::NoFolder => (
+            "there is no such folder",
+            "make it, by `mkdir -m 700` as the server's user, or correct `book` and `blobs`",
+        ),
+        FileFault::NotMade => (
+            "the server may not make files there",
+            "give the folder to the server's user by `chown`, and see that there is room",
+        ),
+        FileFault::NoFile => (
+            "it is no regular file",
+            "give `book` and `blobs` other names in the settings",
+        ),
+        FileFault::NotOurs => (
+            "the server may not read and write it",
+            "give it to the server's user by `chown`",
+        ),
+    }
+}
+
+/// What is wrong with a book where both files of the store may be used, and what to do.
+pub const IN_USE: (&str, &str) = (
+    "another process has it or the store's blobs, or one of them failed",
+    "stop that process, or see that there is room and that the disk is well",
+);
 
 /// What is wrong with a book where a server ends with this status, and what to do.
 pub fn on_store(status: u8) -> Option<(&'static str, &'static str)> {
     match status {
-        4 => Some((
-            "it or the store's blobs can't be used, or another process has them",
-            "stop that one, and see that both may be read and written and that there is room",
-        )),
         8 => Some((
             "it is damaged or no store",
             "put a good copy of both files in place, or name others in the settings",

@@ -1,10 +1,13 @@
 //! What is wrong and what to do, on standard error. Where that can't be written the status has to
 //! do.
+use crate::files::{FileFault, begins, fault_of, folder_of, is_open_to_others};
 use crate::texts::{
-    ACCEPTING, CHANGED, DOOR_HINT, LISTENING, NO_FILE, NO_LINE, NO_ROOM, WRONG_WORDS, on_settings,
-    on_store,
+    ACCEPTING, CHANGED, IN_USE, LISTENING, NO_ADDRESS, NO_FILE, NO_LINE, NO_ROOM, WRONG_WORDS,
+    error_in, hint_on, hint_on_door, on_file, on_store,
 };
+use ov_base::Mode;
 use ov_host::DOOR_FAULT;
+use ov_report::word_of;
 use ov_settings::{SettingsFault, settings_in};
 use std::fs;
 use std::io::ErrorKind;
@@ -49,7 +52,8 @@ pub fn no_memory(rt: &HostRuntime) {
 
 /// Says that standard output can't be written.
 pub fn no_line(rt: &HostRuntime) {
-    say(rt, NO_LINE);
+    say(rt, NO_LINE.0);
+    advise(rt, NO_LINE.1);
 }
 
 // The line of a text on which this byte stands, counted from 1.
@@ -69,7 +73,7 @@ fn say_place(rt: &HostRuntime, path: &str, bytes: &[u8]) {
                     error.message()
                 );
             }
-            None => say_of(rt, path, on_settings(SettingsFault::NotToml).0),
+            None => say_of(rt, path, error_in(SettingsFault::NotToml)),
         },
     }
 }
@@ -82,28 +86,26 @@ fn explain(rt: &HostRuntime, path: &str, bytes: &[u8]) {
             advise(rt, CHANGED.1);
         }
         Err(fault) => {
-            let (error, hint) = on_settings(fault);
             if fault == SettingsFault::NotToml {
                 say_place(rt, path, bytes);
             } else {
-                say_of(rt, path, error);
+                say_of(rt, path, error_in(fault));
             }
-            advise(rt, hint);
+            advise(rt, hint_on(fault));
         }
     }
 }
 
 // Says that a settings file can't be read, and why where the system says so.
 fn unreadable(rt: &HostRuntime, path: &str, why: Option<ErrorKind>) {
-    let (error, hint) = on_settings(SettingsFault::Read);
     match why {
         Some(ErrorKind::NotFound) => say_of(rt, path, NO_FILE),
         Some(why) => {
             let _ = eprintln!(rt; "overstored: error: {path}: {why}");
         }
-        None => say_of(rt, path, error),
+        None => say_of(rt, path, error_in(SettingsFault::Read)),
     }
-    advise(rt, hint);
+    advise(rt, hint_on(SettingsFault::Read));
 }
 
 /// Says why there are no settings in this file; none is named where the words aren't one word.
@@ -143,9 +145,51 @@ pub fn other_keys(rt: &HostRuntime, path: &str) {
     }
 }
 
-/// Says how a server over this book ended.
-pub fn end(rt: &HostRuntime, status: u8, book: &str) {
+/// Says so where others may read a settings file.
+pub fn open_settings(rt: &HostRuntime, path: &str) {
+    if is_open_to_others(rt, path) {
+        let _ = eprintln!(rt;
+            "overstored: warning: {path} can be read by others, and has the surface master"
+        );
+    }
+}
+
+/// Says so where a server over this book finds no store, and begins one in this mode.
+pub fn new_store(rt: &HostRuntime, book: &str, mode: Mode) {
+    if begins(rt, book) {
+        let mode = word_of(mode);
+        let _ = eprintln!(rt;
+            "overstored: note: there is no store at {book}, so a new one is begun, in mode {mode}"
+        );
+    }
+}
+
+// Says what is wrong with this file of a store, or with its folder.
+fn file_fault(rt: &HostRuntime, path: &str, fault: FileFault) {
+    let (error, hint) = on_file(fault);
+    match fault {
+        FileFault::NoFolder | FileFault::NotMade => say_of(rt, folder_of(path), error),
+        FileFault::NoFile | FileFault::NotOurs => say_of(rt, path, error),
+    }
+    advise(rt, hint);
+}
+
+// Says why a store in these files can't be used.
+fn disk_fault(rt: &HostRuntime, book: &str, blobs: &str) {
+    match (fault_of(rt, book), fault_of(rt, blobs)) {
+        (Some(fault), _) => file_fault(rt, book, fault),
+        (None, Some(fault)) => file_fault(rt, blobs, fault),
+        (None, None) => {
+            say_of(rt, book, IN_USE.0);
+            advise(rt, IN_USE.1);
+        }
+    }
+}
+
+/// Says how a server over a store in these files ended.
+pub fn end(rt: &HostRuntime, status: u8, book: &str, blobs: &str) {
     match status {
+        4 => disk_fault(rt, book, blobs),
         6 => no_line(rt),
         7 => no_memory(rt),
         _ => match on_store(status) {
@@ -166,10 +210,11 @@ pub fn door(rt: &HostRuntime, status: u8, address: &str, listens: bool, why: Opt
     }
     let act = if listens { ACCEPTING } else { LISTENING };
     match why {
+        Some(ErrorKind::InvalidInput) => say_of(rt, address, NO_ADDRESS),
+        Some(ErrorKind::Uncategorized) | None => say_of(rt, address, act),
         Some(why) => {
             let _ = eprintln!(rt; "overstored: error: {address}: {act}: {why}");
         }
-        None => say_of(rt, address, act),
     }
-    advise(rt, DOOR_HINT);
+    advise(rt, hint_on_door(why));
 }

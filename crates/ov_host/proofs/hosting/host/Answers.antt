@@ -10,21 +10,14 @@ pub returns-in-Ok-clause-hosts : goal.returns-in-Ok-clause-hosts
 returns-in-Ok-clause-hosts g c =
     let begun = c.in-Ok.ensures in (
       Ok c.in-Ok.store,
-      record {
-        opened = begun.begun;
-        fault = begun.fault;
-        any_moment = begun.any_moment;
-        untouched = begun.untouched;
-        memory = begun.memory;
-        call = begun.call;
-      },
+      begun,
       store_served g.D.Disk.reads g.D.Disk.may_leave g.D.Disk.moment g.D.Disk.left_since
           g.A.Stream.Source.left g.A.Stream.Sink.written g.A.Stream.Source.faults g.A.Stream.Sink.faults
           (keys c.args.settings.now.base_check c.args.settings.now.surface.bytes) c.args.settings.now.mode
           c.args.disk c.in-Ok.store c.serve_door-status.new.value (g.A.Door.shows c.args.door.now)
           (g.A.Door.shows c.serve_door-status.new.door) c.args.settings.now.sessions
           (g.O.Sink.written c.args.out.now) (g.O.Sink.written c.serve_door-status.new.out)
-          (record { status = c.serve_door-status.result; disk = None }) begun.begun begun.any_moment refl
+          (record { status = c.serve_door-status.result; disk = None }) begun.opened begun.any_moment refl
           c.new-server.result (c.new-server.ensures.same ∙ c.new.ensures) c.new-server.ensures.begins
           c.serve_door-status.ensures.serves,
     )
@@ -43,23 +36,16 @@ returns-in-Ok-clause-opens g c = λ i told stands.
 
 pub returns-in-Err-clause-hosts : goal.returns-in-Err-clause-hosts
 returns-in-Err-clause-hosts g c =
-    let begun = c.in-Err.ensures in (
+    let handed = c.hand_back.ensures in (
       Err c.in-Err.refused,
-      record {
-        opened = begun.begun;
-        fault = begun.fault;
-        any_moment = begun.any_moment;
-        untouched = begun.untouched;
-        memory = begun.memory;
-        call = begun.call;
-      },
-      record { disk = refl; door = refl; ends = c.put_fault.ensures.ends },
+      c.in-Err.ensures,
+      record { disk = handed.disk; door = refl; ends = handed.ends },
     )
 
 pub returns-in-Err-clause-opens : goal.returns-in-Err-clause-opens
 returns-in-Err-clause-opens g c = λ i told stands.
     let (h, mode_is, opens) = stands in
-    faulted_open c.in-Err.refused.fault _ _ _ c.put_fault.ensures.ends
+    faulted_open c.in-Err.refused.fault _ _ _ c.hand_back.ensures.ends
     (faulted_so (keys c.args.settings.now.base_check c.args.settings.now.surface.bytes)
-    c.args.settings.now.mode h i mode_is c.in-Err.refused.fault c.values_are_known.ensures opens
+    c.args.settings.now.mode h i mode_is c.in-Err.refused.fault c.hand_back.ensures.known opens
     (c.in-Err.ensures.fault i told))

@@ -1,4 +1,3 @@
-use Rattle.ov_server.specs.Answering.{serving_of}
 use Rattle.ov_server.proofs.Following.{reached_at_once, served_now}
 use Rattle.ov_host.proofs.Lasting.{begins}
 use Rattle.ov_host.proofs.disk_server.DiskServer.new.Goals as goal

@@ -1,0 +1,93 @@
+//! What the system says of the files that the settings name, and of the settings file.
+use std::fs::{File, OpenOptions};
+use std::io::{ErrorKind, Read};
+use std::os::unix::fs::PermissionsExt;
+use std::path::Path;
+use std::{env, fs};
+
+// What a mode has where others than the file's owner may read it.
+const OTHERS_READ: u32 = 0o044;
+
+// One byte more than the longest file that counts as no store, whatever its bytes.
+const STORE_LENGTH: usize = 80;
+
+/// Why a file of a store can't be used.
+#[derive(Clone, Copy)]
+pub enum FileFault {
+    /// Its folder isn't there.
+    NoFolder,
+    /// It isn't there, and can't be made in its folder.
+    NotMade,
+    /// It is a folder, or another thing that holds no bytes.
+    NoFile,
+    /// It may not be read and written.
+    NotOurs,
+}
+
+/// The folder that a file lies in.
+pub fn folder_of(path: &str) -> &str {
+    match Path::new(path).parent() {
+        Some(folder) if !folder.as_str().is_empty() => folder.as_str(),
+        _ => ".",
+    }
+}
+
+// Whether there is a folder of this name.
+fn is_folder(rt: &HostRuntime, path: &str) -> bool {
+    match fs::metadata(rt, path) {
+        Ok(about) => about.is_dir(),
+        Err(error) => error.kind() == ErrorKind::PermissionDenied,
+    }
+}
+
+/// Why this file of a store can't be used, where the system says so.
+pub fn fault_of(rt: &HostRuntime, path: &str) -> Option<FileFault> {
+    match fs::metadata(rt, path) {
+        Ok(about) if !about.is_file() => Some(FileFault::NoFile),
+        Ok(_) => match OpenOptions::new().read(true).write(true).open(rt, path) {
+            Ok(_) => None,
+            Err(_) => Some(FileFault::NotOurs),
+        },
+        Err(_) if is_folder(rt, folder_of(path)) => Some(FileFault::NotMade),
+        Err(_) => Some(FileFault::NoFolder),
+    }
+}
+
+// Whether no store was begun in this file.
+fn is_unborn(rt: &HostRuntime, book: &str) -> bool {
+    let mut front = [0; STORE_LENGTH];
+    let count = match File::open(rt, book) {
+        Ok(mut file) => file.read(&mut front).unwrap_or(STORE_LENGTH),
+        Err(_) => STORE_LENGTH,
+    };
+    count < 2 || count < STORE_LENGTH && front[0] != 1
+}
+
+/// Whether a server over this book begins a new store: there is no file of that name, but its
+/// folder, or no store was begun in it.
+pub fn begins(rt: &HostRuntime, book: &str) -> bool {
+    match fs::metadata(rt, book) {
+        Ok(about) => about.is_file() && is_unborn(rt, book),
+        Err(error) => error.kind() == ErrorKind::NotFound && is_folder(rt, folder_of(book)),
+    }
+}
+
+// Whether the service manager handed this file over, and looked itself to who may read it.
+fn is_handed_over(rt: &HostRuntime, path: &str) -> bool {
+    match env::var(rt, "CREDENTIALS_DIRECTORY") {
+        Ok(folder) => path.starts_with(folder.as_str()),
+        Err(_) => false,
+    }
+}
+
+/// Whether others than its owner may read this file.
+pub fn is_open_to_others(rt: &HostRuntime, path: &str) -> bool {
+    match fs::metadata(rt, path) {
+        Ok(about) => {
+            about.is_file()
+                && about.permissions().mode() & OTHERS_READ != 0
+                && !is_handed_over(rt, path)
+        }
+        Err(_) => false,
+    }
+}
