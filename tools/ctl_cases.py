@@ -30,15 +30,16 @@ def bytes_of(text):
 REPLIES = {
     name: bytes_of(text)
     for name, text in re.findall(
-        r"^pub const (\w+): \[u8; \d+\] = \[(.*?)\];", (CRATE / "tests" / "replies.rt").read_text(), re.M | re.S
+        r"^pub const (\w+): &\[u8\] = &\[(.*?)\];", (CRATE / "tests" / "replies.rt").read_text(), re.M | re.S
     )
 }
-TESTS = (CRATE / "tests.rt").read_text()
+ROWS = (CRATE / "tests" / "rows.rt").read_text()
 KEYS, KEY_LINE = (
-    re.search(r'^const %s: &\[u8\] =\s+b"(.*?)";' % name, TESTS, re.M | re.S)[1].replace("\\n", "\n")
+    re.search(r'^const %s: &\[u8\] =\s+b"(.*?)";' % name, ROWS, re.M | re.S)[1].replace("\\n", "\n")
     for name in ("KEYS", "KEY_LINE")
 )
-CHECK = re.search(r'b"([0-9a-f]{64})\\n"', TESTS)[1]
+VERSION = re.match(r"overstore \((.*?)\)", (CRATE.parents[2] / "dist" / "debian" / "changelog").read_text())[1]
+CHECK = re.search(r'b"([0-9a-f]{64})\\n"', ROWS)[1]
 
 
 # ---- a server
@@ -180,8 +181,9 @@ IN_DOUBT = "it may be done: look with `overctl list` before you repeat it"
 NEW_USER = "it may be done: repeat it, and `refused 1 Taken` says that it was"
 AS_IT_WAS = "the store is as it was: try again"
 NO_OUTPUT = "cannot write standard output"
-WHY = "standard output says why, and overctl(1) what to do"
-CUT_OFF = "cannot reach @: its reply is cut off, or no frame"
+WHY = "standard output says why, and DIAGNOSTICS of overctl(1) what to do"
+CUT_OFF = "no reply from @: what came is cut off, or no frame"
+OTHER_PROGRAM = "another program may listen there: check the port; if it is overstored, "
 
 
 def commands():
@@ -190,7 +192,7 @@ def commands():
     case(GRANT, ["WELCOME", "KNOWN", "ACCEPTED"], 0, b"ok 8\n", asked=3)
     case("revoke @ keys a f1", ["WELCOME", "KNOWN", "ACCEPTED"], 0, b"ok 8\n", asked=3)
     case(CREATE, ["WELCOME", "PLAN", "ACCEPTED"], 0, b"ok 8\n", asked=3)
-    case("create @ keys f1 - longest", ["WELCOME"], 8, b"", CUT_OFF, IN_DOUBT, asked=2)
+    case("create @ keys f1 - longest", ["WELCOME"], 8, b"", CUT_OFF, OTHER_PROGRAM + IN_DOUBT, asked=2)
     case(LIST, ["WELCOME", "LISTED"], 0, b"list f1 a,b\n", asked=2)
     case(LIST, ["WELCOME", "LISTED_NONE"], 0, b"list f1 -\n", asked=2)
     case(KEY, ["WELCOME", "KNOWN_C"], 0, KEY_LINE.encode(), asked=2)
@@ -202,8 +204,9 @@ def refusals_and_disks():
     case(ENROL, ["WELCOME", "REFUSED"], 3, b"refused 1 Taken\n", "@ refuses the command", WHY)
     case(READ, [b"\x88\x04"], 3, b"refused 4 NoPath\n", "@ refuses the command", WHY)
     failed = "the disk of the store at @ failed"
-    case(ENROL, ["WELCOME", "KNOWN", "DEVICE_FAULT"], 4, b"", failed, NEW_USER)
-    case(GRANT, ["WELCOME", "KNOWN", "DEVICE_FAULT"], 4, b"", failed, IN_DOUBT)
+    again = "have the server started again; "
+    case(ENROL, ["WELCOME", "KNOWN", "DEVICE_FAULT"], 4, b"", failed, again + NEW_USER)
+    case(GRANT, ["WELCOME", "KNOWN", "DEVICE_FAULT"], 4, b"", failed, again + IN_DOUBT)
     case(READ, ["CHAINED", "DEVICE_FAULT"], 4, b"", failed, AS_IT_WAS)
 
 
@@ -274,17 +277,26 @@ def links_that_fail():
     case("enrol nobody.invalid:7400 keys a", [], 8, b"", error, "correct the address", asked=0)
     reset = "cannot reach @: connection reset"
     half = framed(REPLIES["WELCOME"])[:20]
-    case(ENROL, [Broken(half, resets=True)], 8, b"", reset, NEW_USER, asked=1)
-    case(GRANT, ["WELCOME", Broken(b"", resets=True)], 8, b"", reset, IN_DOUBT, asked=2)
-    case(READ, ["CHAINED", Broken(b"\0\0", resets=True)], 8, b"", reset, AS_IT_WAS, asked=2)
+    case(ENROL, [Broken(half, resets=True)], 8, b"", reset, OTHER_PROGRAM + NEW_USER, asked=1)
+    case(GRANT, ["WELCOME", Broken(b"", resets=True)], 8, b"", reset, OTHER_PROGRAM + IN_DOUBT, asked=2)
+    case(READ, ["CHAINED", Broken(b"\0\0", resets=True)], 8, b"", reset, OTHER_PROGRAM + AS_IT_WAS, asked=2)
     for raw in (b"", half, b"\0\0", b"\0\0\0\0", struct.pack(">I", 1_114_113), b"\xff" * 100):
-        case(ENROL, [Broken(raw)], 8, b"", CUT_OFF, NEW_USER, asked=1)
-        case(GRANT, ["WELCOME", "KNOWN", Broken(raw)], 8, b"", CUT_OFF, IN_DOUBT, asked=3)
+        case(ENROL, [Broken(raw)], 8, b"", CUT_OFF, OTHER_PROGRAM + NEW_USER, asked=1)
+        case(GRANT, ["WELCOME", "KNOWN", Broken(raw)], 8, b"", CUT_OFF, OTHER_PROGRAM + IN_DOUBT, asked=3)
+
+
+def other_programs():
+    """A web server, one of ssh and one of TLS are no overstored, and neither is what sends all bytes back."""
+    for raw in (b"HTTP/1.1 400 Bad Request\r\n\r\n", b"SSH-2.0-OpenSSH_9.2\r\n", b"\x15\x03\x03\0\x02\x02\x46"):
+        case(GRANT, [Broken(raw)], 8, b"", CUT_OFF, OTHER_PROGRAM + IN_DOUBT, asked=1)
+        case(LIST, [Broken(raw)], 8, b"", CUT_OFF, OTHER_PROGRAM + AS_IT_WAS, asked=1)
+        case(READ, [Broken(raw)], 8, b"", CUT_OFF, OTHER_PROGRAM + AS_IT_WAS, asked=1)
+    case(GRANT, [b"\x01"], 11, b"", NO_ANSWER, SAME_VERSION + "; if it does, " + IN_DOUBT, asked=1)
 
 
 def keys_of_others():
     error = "the store at @ has other masters than keys"
-    hint = "take the masters whose `overctl check` its settings have"
+    hint = "take the key file of its settings: `base_check` is its `overctl check`, `surface` its second line"
     case(ENROL, ["WELCOME_OTHER"], 9, b"", error, hint, asked=1)
     case(CREATE, ["WELCOME_OTHER"], 9, b"", error, hint, asked=1)
     case(ENROL, ["WELCOME", "KNOWN", "BAD_TAG"], 9, b"", error, hint, asked=3)
@@ -296,16 +308,28 @@ def keys_of_others():
     case("read @ keys f1", [], 10, b"", "keys is no user key line", prints, asked=0)
 
 
+NO_ANSWER = "what @ replied is no answer to the request"
+SAME_VERSION = "see that overstored listens there, with the `--version` of overctl"
+
+
 def wrong_replies():
-    error = "@ gave a reply to another request"
-    hint = "see that overstored listens there, of this version"
+    hint = SAME_VERSION + "; if it does, " + NEW_USER
     for replies in (["ACCEPTED"], ["WELCOME", "LISTED"], ["WELCOME", "KNOWN", "WELCOME"], [b"\xff"], [b"\x81\x01"]):
-        case(ENROL, replies, 11, b"", error, hint, asked=len(replies))
-    case(LIST, ["WELCOME", "KNOWN"], 11, b"", error, hint, asked=2)
-    case(READ, ["BYTES"], 11, b"", error, hint, asked=1)
-    case(READ, ["CHAINED", "CHAINED"], 11, b"", error, hint, asked=2)
-    damaged = "the bytes of f1 at @ are damaged"
-    again = "read again; where it stays so, the store or the key line is damaged"
+        case(ENROL, replies, 11, b"", NO_ANSWER, hint, asked=len(replies))
+    case(LIST, ["WELCOME", "KNOWN"], 11, b"", NO_ANSWER, SAME_VERSION, asked=2)
+    hint = SAME_VERSION + ", and that key is of its store"
+    case(READ, ["BYTES"], 11, b"", NO_ANSWER, hint, asked=1)
+    case(READ, ["CHAINED", "CHAINED"], 11, b"", NO_ANSWER, hint, asked=2)
+
+
+def key_lines_of_others():
+    """Where the store has another root for the user the chains are no answer; else the bytes are damaged."""
+    other_root = bytearray(REPLIES["CHAINED"])
+    other_root[52] = 1
+    hint = SAME_VERSION + ", and that key is of its store"
+    case(READ, [bytes(other_root)], 11, b"", NO_ANSWER, hint, asked=1)
+    damaged = "the bytes of f1 at @ are damaged, or key is of another store"
+    again = "read again; if it stays so, ask the owner for a key line of this store"
     case(READ, ["CHAINED", "OTHER_BYTES"], 12, b"", damaged, again, asked=2)
 
 
@@ -340,7 +364,7 @@ def words_that_are_no_line():
         "read": "ADDRESS USERKEY FILE",
         "check": "KEYS",
     }
-    name = "1 to 64 of a-z, 0-9, `.`, `_` and `-`, a letter or digit first"
+    name = "1 to 64 of a-z, 0-9, `.`, `_`, `-`, a letter or digit first"
     cases = [
         ([], "no command is given", "--help"),
         (["help"], "`help` is no command", "--help"),
@@ -350,7 +374,7 @@ def words_that_are_no_line():
         (["grant", "here:1", "keys", "a", "_"], "`_` is no name: " + name, "grant " + lines["grant"]),
         (
             ["create", "here:1", "keys", "f", "a,,b", "body"],
-            "`a,,b` is no list: names with commas between them, or `-`, in 20000 bytes at most",
+            "`a,,b` is no list: names with commas between, or `-`, in 20000 bytes at most",
             "create " + lines["create"],
         ),
     ]
@@ -382,7 +406,7 @@ def help_and_version():
             table = out.decode().split("Exit status:")[1]
             assert sorted(map(int, re.findall(r"(?:^| )(\d+) (?=[a-z])", table))) == [0, *range(2, 15)], table
     status, out, told = run(folder, ["--version"])
-    assert (status, told) == (0, []) and re.fullmatch(rb"overctl \d+\.\d+\.\d+\n", out), out
+    assert (status, out.decode(), told) == (0, "overctl %s\n" % VERSION, []), out
 
 
 def keys_that_others_read():
@@ -427,8 +451,10 @@ CASES = [
     output_that_is_not_written,
     memory_that_is_refused,
     links_that_fail,
+    other_programs,
     keys_of_others,
     wrong_replies,
+    key_lines_of_others,
     others_are_faster,
     files_that_are_too_long,
     words_that_are_no_line,

@@ -1,6 +1,6 @@
 -- Words as texts, and which words are lines.
-use Rattle.std.proofs.Common.{◌≡◌, ◌⊎◌, ℕ, suc, ◌+◌, ◌≤◌, ◌<◌, List, [], ◌∷◌, length, get_or, refl, sym, ◌∙◌, arith, ap, subst, inl, inr, drop}
-use Rattle.std.specs.Prelude.{Bool, true, false, not, String, string_bytes, codes, map, Option, Some, None, Result, Ok, Err, IfOk, IfNone}
+use Rattle.std.proofs.Common.{◌≡◌, ◌⊎◌, ℕ, suc, ◌≤◌, ◌<◌, List, [], ◌∷◌, length, get_or, refl, sym, ◌∙◌, arith, ap, subst, inl, inr, drop}
+use Rattle.std.specs.Prelude.{String, string_bytes, codes, map, Option, Some, None, Result, Ok, Err, IfOk, IfNone}
 use Rattle.std.specs.declared.alloc.Global.{Global}
 use Rattle.ov_base.specs.Names.{IsName}
 use Rattle.ov_script.specs.WrittenLists.{IsList}
@@ -190,10 +190,6 @@ none_written (Ok None) bytes text same none =
     λ names is. none names (subst (λ t. IsList t names) (sym same) is.list)
 none_written (Ok (Some names)) bytes text same none = tt
 none_written (Err e) bytes text same none = tt
-
-pub not_false : (b : Bool) → not b ≡ false → b ≡ true
-not_false true e = refl
-not_false false e = absurd (cc)
 
 -- a creation by its words
 pub created : (act : Act) (command file list path : List ℕ) (words : List (List ℕ))

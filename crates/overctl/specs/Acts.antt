@@ -23,8 +23,8 @@ use Rattle.ov_wire.specs.declared.request.Request.TheVariants as requests
 use Rattle.overctl.specs.Files.{FindsBody, FindsMasters, FindsReader, plain_masters}
 use Rattle.overctl.specs.Stops.{Outcome, stop_of_client, stop_of_owner}
 use Rattle.overctl.specs.declared.job.Act.{Act}
-use Rattle.overctl.specs.declared.job.Act.TheVariants.{Check, Create, Enrol, Grant, Key, List as ListNames}
-use Rattle.overctl.specs.declared.job.Act.TheVariants.{Read, Revoke}
+use Rattle.overctl.specs.declared.job.Act.TheVariants.{Check, Create, Enrol, Grant, Key}
+use Rattle.overctl.specs.declared.job.Act.TheVariants.{List as ListNames, Read, Revoke}
 use Rattle.overctl.specs.declared.stop.Stop.{Stop}
 use Rattle.overctl.specs.declared.stop.Stop.TheVariants.{Memory, OtherKeys}
 
@@ -121,7 +121,7 @@ module _ {P : Type 0} (asked : Asked P) (failed : Failed P) where
       × AsksOnce asked failed p m requests.Hello welcome_in greeting
       × GoesOn (admitted k.base greeting) m q outcome (λ _. Performs k act bytes m q outcome)
 
-  -- the key file is read first, then the file of the bytes, and then the server is asked
+  -- nothing is asked until the masters are there and, behind them, the bytes to be stored
   abbrev pub OwnsBy : Act → Option (List ℕ) → Option (List ℕ) → P → P → Outcome → Type 0
   OwnsBy act keys body p q outcome =
       (found : Result ReadMasters Stop) × FindsMasters keys found

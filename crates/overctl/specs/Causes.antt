@@ -1,5 +1,5 @@
 -- Why an act stops at its files, or for a fault.
-use Rattle.std.specs.Prelude.{◌≡◌, ◌⊎◌, ℕ, ◌≤◌, ◌<◌, List, length, Option, Some, IfSome, Result, Err}
+use Rattle.std.specs.Prelude.{◌≡◌, ◌⊎◌, ℕ, ◌<◌, List, length, Option, IfSome, Result, Err}
 use Rattle.ov_base.specs.declared.limits.TheConstants.{MAX_FILE_BYTES}
 use Rattle.ov_client.specs.KeyLines.{IsLineOf}
 use Rattle.ov_client.specs.Readers.{Reader}

@@ -1,4 +1,4 @@
--- What comes of an act at a server that tells which history it serves, by the access-matrix machine.
+-- What comes of an act, by the access-matrix machine, at a server that tells what it serves.
 use Rattle.std.specs.Prelude.{◌≡◌, ℕ, List, [], Option, Some, None, Ok, Err}
 use Rattle.ov_client.specs.KeyLines.{IsLineOf, key_line}
 use Rattle.ov_client.specs.Laws.{HoldsRootKeys, MachineAnswers, last_chain}
@@ -20,8 +20,8 @@ use Rattle.ov_script.specs.declared.reply.Reply.TheVariants as replies
 use Rattle.overctl.specs.Acts.{list_line, update_line}
 use Rattle.overctl.specs.Stops.{Outcome}
 use Rattle.overctl.specs.declared.job.Act.{Act}
-use Rattle.overctl.specs.declared.job.Act.TheVariants.{Check, Create, Enrol, Grant, Key, List as ListNames}
-use Rattle.overctl.specs.declared.job.Act.TheVariants.{Read, Revoke}
+use Rattle.overctl.specs.declared.job.Act.TheVariants.{Check, Create, Enrol, Grant, Key}
+use Rattle.overctl.specs.declared.job.Act.TheVariants.{List as ListNames, Read, Revoke}
 use Rattle.overctl.specs.declared.stop.Stop.TheVariants.{Damaged, Refused}
 
 -- ---- an owner's acts
@@ -80,7 +80,7 @@ OwnsAsMachine k act bytes v Then (Err stop) = Unit {0}
 
 -- ---- a reader's
 
--- what the machine answers to this read, where it gives bytes or a refusal; none is damaged
+-- the machine's answer to this read, if that is bytes or a refusal; damaged bytes never come
 abbrev pub IsMachinesRead : Masters → Option SealedHistory → List ℕ → List ℕ → Outcome → Type 0
 IsMachinesRead k at_one user file (Ok bytes) = MachineAnswers k at_one user file (Ok bytes)
 IsMachinesRead k at_one user file (Err (Refused why)) =
@@ -113,8 +113,8 @@ abbrev pub StoresBytes : Act → Option (List ℕ) → List ℕ → Type 0
 StoresBytes (Create file list) body bytes = body ≡ Some bytes
 StoresBytes act body bytes = bytes ≡ []
 
--- so it is with an owner's act whose files tell their bytes, where the surface master of the key file
--- is the one that is served under
+-- so it is with an owner's act whose files tell their bytes, where the key file has the surface
+-- master that is served under
 abbrev pub OwnersAsMachine : Act → Option (List ℕ) → Option (List ℕ) → Service
     → (Service → Type 0) → Outcome → Type 0
 OwnersAsMachine act keys body v Then outcome =

@@ -1,7 +1,6 @@
 -- What an act puts to standard output, and its status.
-use Rattle.std.specs.Prelude.{◌≡◌, ◌⊎◌, ℕ, ◌≤◌, List, take, Option, Ok, Err}
+use Rattle.std.specs.Prelude.{◌≡◌, ◌⊎◌, ℕ, List, take, Option, Ok, Err}
 use Rattle.std.specs.Io.KnownBytes.{Appends, Keeps}
-use Rattle.ov_base.specs.Causes.{Rose}
 use Rattle.ov_script.specs.Lines.{reply_line}
 use Rattle.ov_script.specs.declared.reply.Reply.TheVariants.{Refused as RefusedReply}
 use Rattle.overctl.specs.Stops.{Outcome, stop_code}

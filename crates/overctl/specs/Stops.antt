@@ -1,5 +1,5 @@
 -- Why an act has no result, and the status of each reason.
-use Rattle.std.specs.Prelude.{ℕ, List, Result, Ok, Err}
+use Rattle.std.specs.Prelude.{ℕ, List, Result}
 use Rattle.ov_client.specs.declared.fault.ClientFault.{ClientFault}
 use Rattle.ov_client.specs.declared.fault.ClientFault.TheVariants as client
 use Rattle.ov_owner.specs.declared.fault.OwnerFault.{OwnerFault}

@@ -6,8 +6,8 @@ use Rattle.std.specs.declared.alloc.Global.{Global}
 use Rattle.ov_base.specs.Names.{IsName}
 use Rattle.ov_script.specs.WrittenLists.{IsList}
 use Rattle.overctl.specs.declared.job.Act.{Act}
-use Rattle.overctl.specs.declared.job.Act.TheVariants.{Check, Create, Enrol, Grant, Key, List as ListNames}
-use Rattle.overctl.specs.declared.job.Act.TheVariants.{Read, Revoke}
+use Rattle.overctl.specs.declared.job.Act.TheVariants.{Check, Create, Enrol, Grant, Key}
+use Rattle.overctl.specs.declared.job.Act.TheVariants.{List as ListNames, Read, Revoke}
 use Rattle.overctl.specs.declared.job.Job.{Job}
 use Rattle.overctl.specs.declared.words.TheConstants.{MAX_WRITTEN_LIST}
 
@@ -16,7 +16,7 @@ pub record IsWritten (text : List ℕ) (names : List (List ℕ)) : Type 0 where
   pub short : length text ≤ MAX_WRITTEN_LIST
   pub list : IsList text names
 
--- The words of an act: its name, and those behind ADDRESS and KEYS, with the path, where it has one.
+-- The words of an act: its name, those behind ADDRESS and KEYS, and the path, where it has one.
 abbrev pub IsActLine : Act → List ℕ → List (List ℕ) → List ℕ → Type 0
 IsActLine (Enrol user) command words path =
     (command ≡ codes "enrol") × (words ≡ user ∷ []) × (path ≡ []) × IsName user

@@ -109,7 +109,7 @@ fn line_on_check(alloc: Global, value: &[u8; 32]) -> Result<Octets, Memory>
     Ok(Octets::from_vec(line))
 }
 
-/// Gives the check value of the base master.
+/// Gives the base master's check value.
 fn check<K: Source>(alloc: Global, keys: &mut K) -> Result<Octets, Stop>
     ensures acts { ChecksBy (K.left keys.old) result }
     ensures cause { StopsFor (Rose (K.faults keys.old) (K.faults keys.new)) ⊥

@@ -7,9 +7,9 @@ use ov_base::{Name, Names, Octets};
 pub enum Act {
     /// `enrol`: the user is added.
     Enrol { user: Name },
-    /// `grant`: the user joins the file's list.
+    /// `grant`: the file's list gets the user.
     Grant { user: Name, file: Name },
-    /// `revoke`: the user leaves the file's list.
+    /// `revoke`: the file's list loses the user.
     Revoke { user: Name, file: Name },
     /// `create`: the file is made, for the users of the list.
     Create { file: Name, list: Names },
@@ -19,7 +19,7 @@ pub enum Act {
     Key { user: Name },
     /// `read`: the file's bytes are asked for.
     Read { file: Name },
-    /// `check`: the check value of the base master is computed.
+    /// `check`: the base master's check value is computed.
     Check,
 }
 

@@ -1,5 +1,5 @@
-//! The command line as clap has it: one command with one level of subcommands, whose words all
-//! stand at their places.
+//! What clap is told of the command line: a subcommand for each command, with a place for each of
+//! its words.
 
 use crate::texts;
 use clap::{Arg, Command, Error};

@@ -15,9 +15,9 @@
 //! | `command` | an owner's commands |
 //! | `finish` | what is put to standard output |
 //! | `stop`, `status` | why there is no result; the exit statuses |
-//! | `texts` | all texts |
-//! | `asks` | what an act asks for, as far as texts tell acts apart |
-//! | `usage` | what is said of wrong words, and help |
+//! | `texts` | the texts of help, and what wrong words are told |
+//! | `ending`, `asks` | what is said of how a job ended, by what its act asks for |
+//! | `usage` | what is said on standard error, and of wrong words |
 //! | `real` | the real files and the real stream |
 //!
 //! | file in `specs/` | says |
@@ -33,6 +33,7 @@
 mod act;
 mod asks;
 mod command;
+mod ending;
 mod files;
 mod finish;
 mod job;

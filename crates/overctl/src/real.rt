@@ -3,9 +3,10 @@ ghost use Rattle.overctl.specs.Files.{HasListLimits};
 
 use crate::act::act;
 use crate::asks::{asks_of, file_of, stores};
+use crate::ending::{Ending, Hint};
 use crate::job::{Act, Job};
 use crate::status::Status;
-use crate::texts::{Ending, hint_of};
+use crate::usage::say;
 use ov_base::{Memory, Octets};
 use ov_io::{FileSource, StdSink};
 use ov_peer::FixedPeer;
@@ -90,7 +91,7 @@ fn unread_of<'a>(rt: &HostRuntime, job: &'a Job) -> (&'a str, Option<ErrorKind>)
     }
 }
 
-// Why a stream failed. The system has no kind for a host that isn't found, so it is asked once more.
+// Why a stream failed. A host that isn't found has no kind of its own, so it is looked up again.
 fn link_fault(rt: &HostRuntime, address: &str, reason: Option<ErrorKind>) -> Option<ErrorKind> {
     match reason {
         Some(ErrorKind::Uncategorized) => match address.to_socket_addrs(rt) {
@@ -129,9 +130,7 @@ fn explain(rt: &HostRuntime, end: &Ending<'_>) {
     if end.status == Status::Done {
         return;
     }
-    let hint = hint_of(end);
-    let _ = eprintln!(rt; "overctl: error: {end}");
-    let _ = eprintln!(rt; "overctl: hint: {hint}");
+    say(rt, end, &Hint(end));
 }
 
 // Does the job over the real files and the real stream; gives the status, and why the stream failed

@@ -1,4 +1,4 @@
-//! What is said of words that are no line of a command, and of those that ask for help.
+//! What is said on standard error, and of words that are no line of a command or ask for help.
 
 use crate::line::judge;
 use crate::status::Status;
@@ -8,6 +8,13 @@ use clap::Error;
 use clap::error::ErrorKind;
 use ov_base::Name;
 use std::alloc::Global;
+use std::fmt::Display;
+
+/// Says on standard error what is wrong, and what to do.
+pub fn say<E: Display, H: Display>(rt: &HostRuntime, error: &E, hint: &H) {
+    let _ = eprintln!(rt; "overctl: error: {error}");
+    let _ = eprintln!(rt; "overctl: hint: {hint}");
+}
 
 /// What is wrong with words of which clap makes this error.
 fn wrong_words<'a>(error: &Error, words: &'a [String]) -> WrongWords<'a> {
@@ -58,8 +65,7 @@ fn wrong_names<'a>(alloc: Global, words: &'a [String]) -> WrongWords<'a> {
 /// Says on standard error what is wrong with the words, and which line they should have been.
 pub fn say_wrong(rt: &HostRuntime, words: &[String], wrong: WrongWords<'_>) -> u8 {
     let usage = usage_of(words.first().map(|word| word.as_str()));
-    let _ = eprintln!(rt; "overctl: error: {wrong}");
-    let _ = eprintln!(rt; "overctl: hint: use `{usage}`");
+    say(rt, &wrong, &usage);
     Status::Usage.code()
 }
 
@@ -71,8 +77,7 @@ fn say_of_line(rt: &HostRuntime, words: &[String], error: Error) -> u8 {
     match rt.print(&error) {
         Ok(()) => Status::Done.code(),
         Err(_) => {
-            let _ = eprintln!(rt; "overctl: error: {UNWRITTEN}");
-            let _ = eprintln!(rt; "overctl: hint: {WRITABLE}");
+            say(rt, &UNWRITTEN, &WRITABLE);
             Status::WriteFault.code()
         }
     }
@@ -80,8 +85,7 @@ fn say_of_line(rt: &HostRuntime, words: &[String], error: Error) -> u8 {
 
 /// Says that memory was refused.
 pub fn say_out_of_memory(rt: &HostRuntime) -> u8 {
-    let _ = eprintln!(rt; "overctl: error: {OUT_OF_MEMORY}");
-    let _ = eprintln!(rt; "overctl: hint: {FREE_SOME}");
+    say(rt, &OUT_OF_MEMORY, &FREE_SOME);
     Status::OutOfMemory.code()
 }
 

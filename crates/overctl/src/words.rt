@@ -5,7 +5,8 @@
 ghost use Rattle.std.specs.Prelude.{◌≡◌, ◌⊎◌, List, ℕ, ◌∷◌, [], IfErr, IfNone, IfOk, IfSome};
 ghost use Rattle.std.specs.Prelude.{codes, false, map, string_bytes};
 ghost use Rattle.overctl.specs.Files.{HasListLimits};
-ghost use Rattle.overctl.specs.Words.{IsActLine, IsJobLine, IsNoLine, IsWritten, has_option, is_option};
+ghost use Rattle.overctl.specs.Words.{IsActLine, IsJobLine, IsNoLine, IsWritten};
+ghost use Rattle.overctl.specs.Words.{has_option, is_option};
 ghost use Rattle.overctl.specs.declared.job.Act.{Act as ActValue};
 ghost use Rattle.overctl.specs.declared.job.Job.{Job as JobValue};
 
@@ -210,7 +211,8 @@ fn has_option(words: &[String]) -> bool
 /// Does nothing. Its contract is that the list of a job that words ask for is one that an owner can
 /// send.
 fn lists_are_few()
-    ensures { (words : List (List ℕ)) (job : JobValue) → IsJobLine words job → HasListLimits job.act }
+    ensures { (words : List (List ℕ)) (job : JobValue) → IsJobLine words job
+        → HasListLimits job.act }
 {}
 
 /// The job that the words ask for. 2 is the answer to words that are no job's line, and 7 where

@@ -1,56 +1,56 @@
-//! Replies of a store of mode Delta under the masters 0 to 31 and 32 to 63; the chains and the bytes
-//! of `f1` for `c` are from an implementation in Python that shares nothing with this one.
+//! Replies of a store of mode Delta under the masters 0 to 31 and 32 to 63. The chains and the
+//! bytes of `f1` for `c` are from an implementation in Python that shares nothing with this one.
 
 /// Its welcome at epoch 7.
-pub const WELCOME: [u8; 38] = [
+pub const WELCOME: &[u8] = &[
     0x81, 0x01, 0x00, 0x00, 0x00, 0x07, 0x2a, 0x4f, 0x6d, 0x54, 0xa4, 0x5f, 0x46, 0xe7, 0xa8, 0x18,
     0xa4, 0xf5, 0x94, 0x51, 0xe9, 0xfb, 0xb0, 0x95, 0x9a, 0xdd, 0x66, 0x60, 0xc9, 0x0f, 0xc1, 0xb8,
     0xbf, 0x8d, 0x4b, 0x73, 0xc7, 0x45,
 ];
 
 /// The same of a store whose base master has another check value.
-pub const WELCOME_OTHER: [u8; 38] = [
+pub const WELCOME_OTHER: &[u8] = &[
     0x81, 0x01, 0x00, 0x00, 0x00, 0x07, 0x2a, 0x4f, 0x6d, 0x54, 0xa4, 0x5f, 0x46, 0xe7, 0xa8, 0x18,
     0xa4, 0xf5, 0x94, 0x51, 0xe9, 0xfb, 0xb0, 0x95, 0x9a, 0xdd, 0x66, 0x60, 0xc9, 0x0f, 0xc1, 0xb8,
     0xbf, 0x8d, 0x4b, 0x73, 0xc7, 0x44,
 ];
 
 /// Numbers, at epoch 7.
-pub const KNOWN: [u8; 26] = [
+pub const KNOWN: &[u8] = &[
     0x82, 0, 0, 0, 7, 0, 0, 0, 0, 0, 0, 0, 0, 0, 0, 0, 0, 0, 0, 0, 0, 0, 0, 0, 0, 0,
 ];
 
 /// The numbers of c, who has number 2 and the third root in each layer.
-pub const KNOWN_C: [u8; 26] = [
+pub const KNOWN_C: &[u8] = &[
     0x82, 0, 0, 0, 7, 0, 0, 0, 2, 0, 0, 0, 2, 0, 0, 0, 2, 0, 0, 0, 0, 0, 0, 0, 0, 0,
 ];
 
 /// The plan of a list of two users, whose set is new.
-pub const PLAN: [u8; 56] = [
+pub const PLAN: &[u8] = &[
     0x83, 0x00, 0x00, 0x00, 0x07, 0x00, 0x00, 0x00, 0x00, 0x03, 0x00, 0x00, 0x00, 0x00, 0x00, 0x00,
     0x00, 0x00, 0x00, 0x00, 0x00, 0x00, 0x00, 0x00, 0x00, 0x00, 0x00, 0x00, 0x00, 0x00, 0x00, 0x00,
     0x00, 0x00, 0x00, 0x00, 0x00, 0x00, 0x00, 0x00, 0x00, 0x00, 0x00, 0x00, 0x03, 0x01, 0x00, 0x02,
     0x00, 0x00, 0x00, 0x00, 0x00, 0x00, 0x00, 0x01,
 ];
 
-pub const ACCEPTED: [u8; 5] = [0x84, 0, 0, 0, 8];
+pub const ACCEPTED: &[u8] = &[0x84, 0, 0, 0, 8];
 
-pub const REFUSED: [u8; 2] = [0x88, 1];
+pub const REFUSED: &[u8] = &[0x88, 1];
 
-pub const BAD_TAG: [u8; 1] = [0x8a];
+pub const BAD_TAG: &[u8] = &[0x8a];
 
-pub const DEVICE_FAULT: [u8; 1] = [0x8d];
+pub const DEVICE_FAULT: &[u8] = &[0x8d];
 
-pub const NO_MEMORY: [u8; 1] = [0x8e];
+pub const NO_MEMORY: &[u8] = &[0x8e];
 
 /// The list of two users.
-pub const LISTED: [u8; 7] = [0x8f, 0, 2, 1, b'a', 1, b'b'];
+pub const LISTED: &[u8] = &[0x8f, 0, 2, 1, b'a', 1, b'b'];
 
 /// The list of nobody.
-pub const LISTED_NONE: [u8; 3] = [0x8f, 0, 0];
+pub const LISTED_NONE: &[u8] = &[0x8f, 0, 0];
 
 /// The chains of c to f1.
-pub const CHAINED: [u8; 93] = [
+pub const CHAINED: &[u8] = &[
     0x85, 0x00, 0x00, 0x00, 0x06, 0x00, 0x00, 0x00, 0x00, 0x00, 0x00, 0x00, 0x02, 0x00, 0x00, 0x00,
     0x04, 0x8f, 0x91, 0xb5, 0x19, 0x72, 0x77, 0x1f, 0x09, 0x73, 0xed, 0xfe, 0x30, 0x01, 0x28, 0xb2,
     0xc0, 0x82, 0x46, 0x25, 0x9a, 0xdd, 0x35, 0xe2, 0x17, 0x3b, 0xe5, 0x7c, 0xa9, 0x0f, 0xe4, 0x8a,
@@ -60,7 +60,46 @@ pub const CHAINED: [u8; 93] = [
 ];
 
 /// The chunk of f1.
-pub const BYTES: [u8; 3] = [0x86, 0xa8, 0x27];
+pub const BYTES: &[u8] = &[0x86, 0xa8, 0x27];
 
 /// The same with one bit turned.
-pub const OTHER_BYTES: [u8; 3] = [0x86, 0xa8, 0x26];
+pub const OTHER_BYTES: &[u8] = &[0x86, 0xa8, 0x26];
+
+// What a new user is told at an epoch.
+macro_rules! known_at {
+    ($epoch:literal) => {
+        &[
+            0x82, 0, 0, 0, $epoch, 0, 0, 0, 0, 0, 0, 0, 0, 0, 0, 0, 0, 0, 0, 0, 0, 0, 0, 0, 0, 0,
+        ]
+    };
+}
+
+// That an update isn't made, since the epoch is this one.
+macro_rules! stale_at {
+    ($epoch:literal) => {
+        &[0x89, 0, 0, 0, $epoch]
+    };
+}
+
+/// The replies to nine tries of an enrolment, each of which comes too late.
+pub const STALE_NINE_TIMES: &[&[u8]] = &[
+    WELCOME,
+    known_at!(1),
+    stale_at!(2),
+    known_at!(2),
+    stale_at!(3),
+    known_at!(3),
+    stale_at!(4),
+    known_at!(4),
+    stale_at!(5),
+    known_at!(5),
+    stale_at!(6),
+    known_at!(6),
+    stale_at!(7),
+    known_at!(7),
+    stale_at!(8),
+    known_at!(8),
+    stale_at!(9),
+    known_at!(9),
+    stale_at!(10),
+];

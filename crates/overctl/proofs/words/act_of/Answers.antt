@@ -2,7 +2,8 @@ use Rattle.std.proofs.Common.{◌≡◌, ◌∙◌, sym, true, inr}
 use Rattle.std.specs.Prelude.{codes}
 use Rattle.std.specs.Str.{bytes_eq}
 use Rattle.std.proofs.lemmas.Slice.Eq.{bytes_eq-Decides}
-use Rattle.overctl.proofs.Lines.{created, not_false, other_count, three_texts}
+use Rattle.ov_base.proofs.Tests.{true_of_not}
+use Rattle.overctl.proofs.Lines.{created, other_count, three_texts}
 use Rattle.overctl.proofs.words.act_of.Goals as goal
 
 pub returns-in-Ok-Some-clause-found : goal.returns-in-Ok-Some-clause-found
@@ -11,7 +12,7 @@ returns-in-Ok-Some-clause-found c =
     c.file-item.is c.list-item.is c.path-item.is c.as_str-in-len3.ensures.value
     c.as_str-in-len3-2.ensures.value c.as_str-in-Ok-Some.ensures.value in
     let same : bytes_eq c.args.command.now (codes "create") ≡ true =
-    not_false _ (sym c.ne.ensures ∙ c.if-ne.false) in
+    true_of_not _ (sym c.ne.ensures ∙ c.if-ne.false) in
     created c.in-Ok-Some.act c.args.command.now _ _ _ _
     ((bytes_eq-Decides c.args.command.now (codes "create")).0 same) texts
     (rw c.in-Ok-Some.field-0-is at c.in-Ok-Some.ensures.found)

@@ -1,0 +1,170 @@
+//! What is said on standard error of how a job ended: what went wrong, and what to do.
+
+use crate::asks::Asks;
+use crate::status::Status;
+use crate::texts::{OUT_OF_MEMORY, UNWRITTEN, WRITABLE};
+use std::fmt;
+use std::fmt::{Display, Formatter, Write};
+use std::io::ErrorKind;
+
+/// How a job ended, with what its words name. Its text is what went wrong.
+#[derive(Clone, Copy)]
+pub struct Ending<'a> {
+    pub status: Status,
+    pub asks: Asks,
+    pub address: &'a str,
+    pub keys: &'a str,
+    pub file: &'a str,
+    pub path: &'a str,
+    pub reason: Option<ErrorKind>,
+}
+
+// Says that a file isn't read.
+fn say_unread<W: Write>(end: &Ending<'_>, f: &mut Formatter<W>) -> fmt::Result {
+    let path = end.path;
+    match end.reason {
+        Some(ErrorKind::NotFound) => write!(f, "cannot read {path}: no such file"),
+        Some(reason) => write!(f, "cannot read {path}: {reason}"),
+        None => write!(f, "cannot read {path}"),
+    }
+}
+
+// Says that a server isn't reached, or doesn't reply.
+fn say_unreached<W: Write>(end: &Ending<'_>, f: &mut Formatter<W>) -> fmt::Result {
+    let address = end.address;
+    match end.reason {
+        Some(ErrorKind::InvalidInput) => write!(f, "{address} is no address"),
+        Some(ErrorKind::NotFound) => write!(f, "cannot reach {address}: no such host"),
+        Some(reason) => write!(f, "cannot reach {address}: {reason}"),
+        None => write!(
+            f,
+            "no reply from {address}: what came is cut off, or no frame"
+        ),
+    }
+}
+
+impl Display for Ending<'_> {
+    fn fmt<W: Write>(&self, f: &mut Formatter<W>) -> fmt::Result {
+        let (address, keys, file) = (self.address, self.keys, self.file);
+        match self.status {
+            Status::Done | Status::Usage => f.write_str("nothing is wrong"),
+            Status::Refused => write!(f, "{address} refuses the command"),
+            Status::Device => write!(f, "the disk of the store at {address} failed"),
+            Status::ReadFault => say_unread(self, f),
+            Status::WriteFault => f.write_str(UNWRITTEN),
+            Status::OutOfMemory if self.asks == Asks::Nothing => f.write_str(OUT_OF_MEMORY),
+            Status::OutOfMemory => write!(f, "out of memory, here or at {address}"),
+            Status::LinkFault => say_unreached(self, f),
+            Status::OtherKeys => write!(f, "the store at {address} has other masters than {keys}"),
+            Status::BadKeys if self.asks == Asks::Bytes => write!(f, "{keys} is no user key line"),
+            Status::BadKeys => write!(f, "{keys} is no key file"),
+            Status::BadReply => write!(f, "what {address} replied is no answer to the request"),
+            Status::Damaged => write!(
+                f,
+                "the bytes of {file} at {address} are damaged, or {keys} is of another store"
+            ),
+            Status::Unsettled => write!(f, "others changed the store at {address} in nine tries"),
+            Status::TooLong => write!(f, "{} has more than 1048576 bytes", self.path),
+        }
+    }
+}
+
+// What to do where the store is of other masters.
+const KEYS_OF_SETTINGS: &str = concat!(
+    "take the key file of its settings: ",
+    "`base_check` is its `overctl check`, `surface` its second line"
+);
+
+/// What to do about how a job ended.
+#[derive(Clone, Copy)]
+pub struct Hint<'a>(pub &'a Ending<'a>);
+
+// What to do where a command was sent and what came of it isn't known.
+fn doubt_of(asks: Asks) -> &'static str {
+    match asks {
+        Asks::User => "it may be done: repeat it, and `refused 1 Taken` says that it was",
+        Asks::List => "it may be done: look with `overctl list` before you repeat it",
+        Asks::Answer | Asks::Bytes => "the store is as it was: try again",
+        Asks::Nothing => "try again",
+    }
+}
+
+// What to do where a server isn't reached, or doesn't reply.
+fn say_hint_of_link<W: Write>(end: &Ending<'_>, f: &mut Formatter<W>) -> fmt::Result {
+    let doubt = doubt_of(end.asks);
+    match end.reason {
+        Some(ErrorKind::ConnectionRefused) => {
+            f.write_str("start the server, or correct the address")
+        }
+        Some(ErrorKind::NotFound) => f.write_str("correct the address"),
+        Some(ErrorKind::InvalidInput) => {
+            f.write_str("an address is HOST:PORT, as 127.0.0.1:7400")
+        }
+        Some(ErrorKind::ConnectionReset) | None => write!(
+            f,
+            "another program may listen there: check the port; if it is overstored, {doubt}"
+        ),
+        Some(_) => write!(
+            f,
+            "check the address and the network; if it was reached, {doubt}"
+        ),
+    }
+}
+
+// What to do where a reply is no answer.
+fn say_hint_of_reply<W: Write>(end: &Ending<'_>, f: &mut Formatter<W>) -> fmt::Result {
+    f.write_str("see that overstored listens there, with the `--version` of overctl")?;
+    match end.asks {
+        Asks::User | Asks::List => write!(f, "; if it does, {}", doubt_of(end.asks)),
+        Asks::Bytes => write!(f, ", and that {} is of its store", end.keys),
+        Asks::Answer | Asks::Nothing => Ok(()),
+    }
+}
+
+// What to do where the server's disk failed.
+fn say_hint_of_disk<W: Write>(asks: Asks, f: &mut Formatter<W>) -> fmt::Result {
+    let doubt = doubt_of(asks);
+    match asks {
+        Asks::User | Asks::List => write!(f, "have the server started again; {doubt}"),
+        Asks::Answer | Asks::Bytes | Asks::Nothing => f.write_str(doubt),
+    }
+}
+
+// What to do where standard output isn't written.
+fn hint_of_output(asks: Asks) -> &'static str {
+    match asks {
+        Asks::User | Asks::List => doubt_of(asks),
+        Asks::Answer | Asks::Bytes | Asks::Nothing => WRITABLE,
+    }
+}
+
+impl Display for Hint<'_> {
+    fn fmt<W: Write>(&self, f: &mut Formatter<W>) -> fmt::Result {
+        let end = self.0;
+        match end.status {
+            Status::Done => f.write_str("nothing is to be done"),
+            Status::Usage => f.write_str("see `overctl --help`"),
+            Status::Refused => {
+                f.write_str("standard output says why, and DIAGNOSTICS of overctl(1) what to do")
+            }
+            Status::Device => say_hint_of_disk(end.asks, f),
+            Status::ReadFault => f.write_str("see that it is a file that you may read"),
+            Status::WriteFault => f.write_str(hint_of_output(end.asks)),
+            Status::OutOfMemory => f.write_str(doubt_of(end.asks)),
+            Status::LinkFault => say_hint_of_link(end, f),
+            Status::OtherKeys => f.write_str(KEYS_OF_SETTINGS),
+            Status::BadKeys if end.asks == Asks::Bytes => {
+                f.write_str("the owner prints one with `overctl key`")
+            }
+            Status::BadKeys => f.write_str("it has two different lines of 64 hexadecimal digits"),
+            Status::BadReply => say_hint_of_reply(end, f),
+            Status::Damaged => {
+                f.write_str(
+                    "read again; if it stays so, ask the owner for a key line of this store",
+                )
+            }
+            Status::Unsettled => f.write_str("try again"),
+            Status::TooLong => f.write_str("store it as several files"),
+        }
+    }
+}
