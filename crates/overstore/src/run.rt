@@ -21,13 +21,14 @@ ghost use Rattle.overstore.specs.Words.{AreOther, IsRun};
 
 use crate::answer::answer_all;
 use crate::begin::begin;
-use crate::finish::{finish, put_fault, put_last};
+use crate::finish::{finish, put_last};
 use crate::machine::Machine;
 use crate::status::Status;
 use ov_base::{Memory, Mode};
 use ov_disk::Disk;
 use ov_io::{Sink, Source};
 use ov_keyfile::{Masters, read_masters};
+use ov_report::put_fault;
 use ov_script::{Buffer, Script};
 use std::alloc::Global;
 
