@@ -31,8 +31,8 @@ const LOAD_WORDS: &str = "unknown words behind `load`; it takes full or delta, a
 
 const BAD_LINE: &str =
     "standard output names a bad line of the script, where one command stands on \
-    each line: `enrol USER`, `create FILE LIST LENGTH` with so many bytes and an LF behind it, \
-    `grant USER FILE`, `revoke USER FILE`, `read USER FILE`, `list FILE` or `epoch`; \
+    each line: `enrol USER`, `grant USER FILE`, `revoke USER FILE`, `list FILE`, `read USER FILE`, \
+    `epoch`, or `create FILE LIST LENGTH` with so many bytes and an LF behind it; \
     overstore-script(5) has their forms; what was answered before lasts; correct it, and run from \
     there on as a script of its own";
 

@@ -26,7 +26,8 @@
 //! | `loading`, `tally` | the loop over its commands, and what is kept of their replies |
 //! | `summary` | its seven lines |
 //! | `fault`, `status` | why a command isn't answered; the exit statuses |
-//! | `watched`, `progress` | the key file and standard output as `main` hands them on; the count of replies |
+//! | `watched` | the key file and standard output, as `main` hands them on |
+//! | `progress` | the count of replies |
 //! | `texts`, `advice` | what `--help` prints; what standard error is told |
 #![tactic(auto)]
 
@@ -185,7 +186,7 @@ fn answer_over_files<W: Write>(
     let mut out = Counted::new(StdSink::new(replies), *rt, shows);
     let (mut keys, mut disk, mut trace) = match files_of(*rt) {
         Ok(files) => files,
-        Err(Memory) => return (put_memory(&mut out), Stage::Unanswered),
+        Err(Memory) => return (put_memory(&mut out), stage_by_words(words, false)),
     };
     let code = if is_first("load", words) {
         load(alloc, words, &mut keys, &mut out, &mut trace, &mut disk)
