@@ -29,12 +29,11 @@ const QUIET_WORD: &str = "`--quiet` stands before `run`, and nowhere else: \
 const LOAD_WORDS: &str = "unknown words behind `load`; it takes full or delta, a number below \
     18446744073709551616 without leading zeros, and a count of 1 to 20000";
 
-const BAD_LINE: &str =
-    "standard output names a bad line of the script, where one command stands on \
-    each line: `enrol USER`, `grant USER FILE`, `revoke USER FILE`, `list FILE`, `read USER FILE`, \
-    `epoch`, or `create FILE LIST LENGTH` with so many bytes and an LF behind it; \
-    overstore-script(5) has their forms; what was answered before lasts; correct it, and run from \
-    there on as a script of its own";
+const BAD_LINE: &str = "standard output names a bad line of the script, where one command stands \
+    on each line: `enrol USER`, `list FILE`, `read USER FILE`, `grant USER FILE`, \
+    `revoke USER FILE`, `epoch`, or `create FILE LIST LENGTH` with so many bytes and an LF behind \
+    it; overstore-script(5) has their forms; what was answered before lasts; correct it, and run \
+    from there on as a script of its own";
 
 const DISK_AT_FIRST: &str = "store.book or store.blobs failed or is in use; nothing was answered; \
     ask for the epoch before you run the script again";
