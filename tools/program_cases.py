@@ -1,7 +1,7 @@
 """Runs the program where `run` can't be run in a proof: every exit status over real files, what standard
-error says of some, standard streams that are closed at the start, a reader that is gone, replies that are counted on a terminal,
-files that are folders, two programs at once, a stop after each write of a grant, 300 kills, and two
-loads of one number, which print the same.
+error says of some, standard streams that are closed at the start, a reader that is gone, replies that
+are counted on a terminal, files that are folders, two programs at once, a stop after each write of a
+grant, 300 kills, and two loads of one number, which print the same.
 
 Run, after `rt run` has built the program: python3 tools/program_cases.py crates/overstore/out/overstore
 """
@@ -89,7 +89,11 @@ def words_that_are_not_known():
         ["--quiet", "--help"],
         ["--quiet"],
     ]
-    rows = [([], "unknown words"), (["--quit", "run", "full"], "unknown words"), (["load", "full", "01", "5"], "a count of 1 to 20000")]
+    rows = [
+        ([], "unknown words"),
+        (["--quit", "run", "full"], "unknown words"),
+        (["load", "full", "01", "5"], "a count of 1 to 20000"),
+    ]
     folder = new_folder()
     for words, part in rows + [(words, "`--quiet` stands before `run`") for words in quiet]:
         status, lines, said = told(folder, *words)
