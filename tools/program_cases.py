@@ -1,7 +1,7 @@
-"""Runs the program where `run` can't be run in a proof: every exit status over real files, standard
-streams that are closed at the start, a reader that is gone, replies that are counted on a terminal,
-files that are folders, two programs at once, a stop after each write of a grant, 300 kills, and two
-loads of one number, which print the same.
+"""Runs the program where `run` can't be run in a proof: every exit status over real files, what standard
+error says of some, standard streams that are closed at the start, a reader that is gone, replies that
+are counted on a terminal, files that are folders, two programs at once, a stop after each write of a
+grant, 300 kills, and two loads of one number, which print the same.
 
 Run, after `rt run` has built the program: python3 tools/program_cases.py crates/overstore/out/overstore
 """
@@ -48,6 +48,13 @@ def load(folder, *words):
     return done.returncode, done.stdout
 
 
+def told(folder, *words, script=b""):
+    """The status of a call, what it put, and what it said on standard error."""
+    done = subprocess.run([PROGRAM, *words], cwd=folder, input=script, capture_output=True)
+    assert done.stderr.count(b"\n") == (done.returncode != 0), done.stderr
+    return done.returncode, done.stdout, done.stderr.decode()
+
+
 def expect(found, status, lines):
     assert found == (status, lines), (found, status, lines)
 
@@ -69,6 +76,46 @@ def good_and_bad_scripts():
     assert (folder / "store.book").stat().st_size == 101
     expect(run(folder, b"epoch\n"), 0, b"epoch 2\nend epoch 2\n")
     expect(run(folder, mode="half"), 2, b"error usage\n")
+
+
+def words_that_are_not_known():
+    """Nothing is made, and standard error says which words are; `--quiet` stands before `run` alone."""
+    quiet = [
+        ["run", "--quiet", "full"],
+        ["run", "full", "--quiet"],
+        ["load", "full", "7", "20", "--quiet"],
+        ["--quiet", "load", "full", "7", "20"],
+        ["--quiet", "--quiet", "run", "full"],
+        ["--quiet", "--help"],
+        ["--quiet"],
+    ]
+    rows = [
+        ([], "unknown words"),
+        (["--quit", "run", "full"], "unknown words"),
+        (["load", "full", "01", "5"], "a count of 1 to 20000"),
+    ]
+    folder = new_folder()
+    for words, part in rows + [(words, "`--quiet` stands before `run`") for words in quiet]:
+        status, lines, said = told(folder, *words)
+        assert (status, lines) == (2, b"error usage\n") and part in said, (words, status, lines, said)
+        assert list(files_of(folder)) == ["keys.hex"], words
+
+
+def lines_that_are_bad():
+    status, lines, said = told(new_folder(), "run", "full", script=b"enrol a\nenroll b\n")
+    assert (status, lines) == (3, b"ok 1\nerror line 2\n"), (status, lines)
+    assert "`enrol USER`" in said and "overstore-script(5)" in said and "what was answered before lasts" in said, said
+
+
+def a_key_file_that_is_not_there():
+    """Standard error says so, and has a command that makes one."""
+    for words in (["run", "full"], ["load", "full", "7", "20"]):
+        folder = new_folder(keys=False)
+        status, lines, said = told(folder, *words, script=b"epoch\n")
+        assert (status, lines) == (5, b"error read\n") and "no keys.hex" in said, (status, lines, said)
+        assert "nothing was answered" in said and list(files_of(folder)) == [], said
+        subprocess.run(["sh", "-c", said.partition("for a new store: ")[2]], cwd=folder, check=True)
+        expect(run(folder), 0, b"end epoch 0\n")
 
 
 def loads():
@@ -130,11 +177,14 @@ def reads_that_fail():
     folder = new_folder(keys=False)
     expect(run(folder, b"enrol a\n"), 5, b"error read\n")
     (folder / "keys.hex").mkdir()
-    expect(run(folder, b"enrol a\n"), 5, b"error read\n")
+    status, lines, said = told(folder, "run", "delta", script=b"enrol a\n")
+    assert (status, lines) == (5, b"error read\n") and "keys.hex can't be read" in said, (status, lines, said)
     assert sorted(path.name for path in folder.iterdir()) == ["keys.hex"]
     folder = new_folder()
     place = os.open(folder, os.O_RDONLY)
-    expect(run(folder, stdin=place), 5, b"error read\n")
+    done = subprocess.run([PROGRAM, "run", "delta"], cwd=folder, stdin=place, capture_output=True)
+    expect((done.returncode, done.stdout), 5, b"error read\n")
+    assert b"standard input failed; nothing was answered" in done.stderr, done.stderr
     os.close(place)
 
 
@@ -344,6 +394,9 @@ def killed_at_random():
 
 cases = [
     good_and_bad_scripts,
+    words_that_are_not_known,
+    lines_that_are_bad,
+    a_key_file_that_is_not_there,
     loads,
     a_script_that_is_too_long,
     disks_that_fail,

@@ -1,120 +1,33 @@
 -- A disk that is opened, or isn't, and what follows of a script that is answered over it.
-use Rattle.std.proofs.Common.{◌≡◌, ◌⊎◌, inl, inr, ℕ, ◌≤◌, ◌<◌, List, [], ◌∷◌, ◌++◌, length, take, drop, get_or, refl, sym, ◌∙◌, ap, subst, arith, lit<, Option, Some, None, false}
+use Rattle.std.proofs.Common.{◌≡◌, ◌⊎◌, inl, inr, ℕ, ◌≤◌, List, [], ◌∷◌, refl, sym, ◌∙◌, ap, subst, arith, Option, Some, None, false}
 use Rattle.std.specs.Prelude.{IfSome}
-use Rattle.std.specs.Int.{w32, to_be_bytes}
-use Rattle.std.proofs.lemmas.List.{get_or-take}
 use Rattle.std.proofs.KnownBytes.{Appends-nil}
-use Rattle.ov_base.specs.Modes.{mode_byte}
 use Rattle.ov_base.specs.declared.mode.Mode.{Mode}
-use Rattle.ov_base.specs.declared.mode.Mode.TheVariants.{Full, Delta}
 use Rattle.ov_disk.specs.Disk.{Image, Told}
 use Rattle.ov_disk.specs.Moments.{LeavesOnly}
 use Rattle.ov_disk.proofs.Runs.{then_on, weaker}
-use Rattle.ov_journal.specs.Book.{Contents, spelled}
-use Rattle.ov_journal.specs.Standing.{IsUnborn, HasMagic, HasNoMode}
-use Rattle.ov_journal.specs.declared.header.Header.{Header}
-use Rattle.ov_images.specs.Images.{IsImageOf, Keeps, Keys, header_of, keys_of}
-use Rattle.ov_images.specs.Damage.{HasBadRecords, HasHeader}
-use Rattle.ov_images.proofs.Damage.{damaged_keeps_none}
-use Rattle.ov_images.proofs.Keeping.{is_born, mode_of-spelled}
-use Rattle.ov_script.proofs.ByteTexts.{same_length}
+use Rattle.ov_images.specs.Images.{Keeps, keys_of}
 use Rattle.ov_history.specs.Masters.{Masters}
 use Rattle.ov_history.specs.Plain.{PlainHistory, history_of}
 use Rattle.ov_history.specs.Refusals.{IsLegal}
-use Rattle.ov_history.specs.Sealed.{SealedHistory}
 use Rattle.ov_history.specs.Sealing.{sealed}
-use Rattle.ov_store.specs.Beginning.{IsBeginFault, IsNew, LeavesHistory}
+use Rattle.ov_store.specs.Beginning.{IsNew, LeavesHistory}
 use Rattle.ov_store.specs.Opened.{Opened, Serves, StaysTold}
 use Rattle.ov_store.specs.declared.fault.BeginFault.{BeginFault}
 use Rattle.ov_store.specs.declared.fault.BeginFault.TheVariants.{Disk, NotAStore, Damaged, BaseDiffers, SurfaceDiffers, ModeDiffers, Memory}
-use Rattle.overstore.specs.Answering.{EndsIn, EndsOr}
+use Rattle.ov_report.specs.Ends.{EndsIn, EndsOr}
+use Rattle.ov_report.specs.Faults.{disk_line, fault_line, fault_status, memory_line}
 use Rattle.overstore.specs.Disks.{Holds, KeepsFirst, OpensAs, StandsForPlain, Survives}
 use Rattle.overstore.specs.Disks.{TellsNothing}
-use Rattle.overstore.specs.Faults.{HasValues, fault_line, fault_status}
 use Rattle.overstore.specs.Judging.{FindsPlain, Refuses}
 use Rattle.overstore.specs.Machine.{KeptOn, StandsFor, opened_of}
-use Rattle.overstore.specs.Printing.{DiskFault, OutOfMemory, disk_line, memory_line}
+use Rattle.overstore.specs.Printing.{DiskFault, OutOfMemory}
 use Rattle.overstore.specs.Running.{EndsAs}
 use Rattle.overstore.proofs.Concluding.{at_once, disk_printed, memory_printed, none_read}
 use Rattle.overstore.proofs.Surviving.{answered_error, front_put, not_zero}
 use Rattle.overstore.proofs.Updating.{now_so}
 
--- ---- headers
-
-never_born : (book : List ℕ) → IsUnborn book → HasMagic book → ⊥
-never_born book (inl short) has = let long = has.long in omega arith
-never_born book (inr (short, shut)) has = shut has.open_gate
-
-byte_low : (mode : Mode) → mode_byte mode ≤ 1
-byte_low Full = omega arith
-byte_low Delta = omega arith
-
--- a store whose header is this has its mode
-has_mode : (book : List ℕ) (h : Header) → take 78 book ≡ spelled h → HasNoMode book → ⊥
-has_mode book h head (has, no_mode) =
-    let byte : get_or book 9 0 ≡ mode_byte h.mode = sym (get_or-take 78 book 9 0 (lit< tt)) ∙ ap (λ (l : List ℕ). get_or l 9 0) head in
-    let past : 1 < get_or book 9 0 = no_mode in
-    omega (arith, byte, past, byte_low h.mode)
-
--- what stands behind the first epoch of a header
-behind_once : (g h : Header) → spelled g ≡ spelled h → g.base_check ++ g.surface_check ≡ h.base_check ++ h.surface_check
-behind_once g h same =
-    let from : to_be_bytes w32 g.first ++ g.base_check ++ g.surface_check ≡ to_be_bytes w32 h.first ++ h.base_check ++ h.surface_check =
-    ap (λ (l : List ℕ). drop 10 l) same in
-    (same_length (to_be_bytes w32 g.first) (to_be_bytes w32 h.first) (g.base_check ++ g.surface_check) (h.base_check ++ h.surface_check) refl from).1
-
-base_once : (g h : Header) → spelled g ≡ spelled h → length g.base_check ≡ length h.base_check
-    → (g.base_check ≡ h.base_check) × (g.surface_check ≡ h.surface_check)
-base_once g h same long = same_length g.base_check h.base_check g.surface_check h.surface_check long (behind_once g h same)
-
 -- ---- why a disk doesn't open
-
--- no store of these keys and mode is refused but for a fault of the disk or of memory
-module _ (k : Keys) (mode : Mode) (g : SealedHistory) (i : Image) (mode_is : g.mode ≡ mode) where
-  same_head : Keeps k g i → (h : Header) → HasHeader h i → spelled (header_of k g) ≡ spelled h
-  same_head keeps h has = sym (ap (λ (c : Contents). c.head) keeps.book) ∙ has.head
-
-  not_foreign : IsImageOf k g i → IsBeginFault k mode i NotAStore → ⊥
-  not_foreign (inl (unborn, blank_is)) (no_unborn, no_magic) = no_unborn unborn
-  not_foreign (inr keeps) (no_unborn, no_magic) = no_magic (is_born k g i keeps).0
-
-  never_bad : (place : ℕ) → IsImageOf k g i → (h : Header) → HasHeader h i → HasBadRecords h i place → ⊥
-  never_bad place (inl (unborn, blank_is)) h has bad = never_born i.book unborn has.magic
-  never_bad place (inr keeps) h has bad = damaged_keeps_none k g h i place has bad keeps
-
-  no_mode_never : IsImageOf k g i → HasNoMode i.book → ⊥
-  no_mode_never (inl (unborn, blank_is)) none = never_born i.book unborn none.0
-  no_mode_never (inr keeps) none = has_mode i.book (header_of k g) (ap (λ (c : Contents). c.head) keeps.book) none
-
-  not_damaged : (place : ℕ) → IsImageOf k g i
-      → ((place ≡ 9) × HasNoMode i.book) ⊎ ((h : Header) × HasHeader h i × Rattle.ov_images.specs.Damage.IsFor k mode h × HasBadRecords h i place) → ⊥
-  not_damaged place opens (inl none) = no_mode_never opens none.1
-  not_damaged place opens (inr (h, has, for_it, bad)) = never_bad place opens h has bad
-
-  not_base : (stored given : List ℕ) → length stored ≡ length given → IsImageOf k g i → IsBeginFault k mode i (BaseDiffers stored given) → ⊥
-  not_base stored given long (inl (unborn, blank_is)) (h, has, s, v, other) = never_born i.book unborn has.magic
-  not_base stored given long (inr keeps) (h, has, s, v, other) =
-      let lengths : length k.base_check ≡ length h.base_check = ap length (sym v) ∙ sym long ∙ ap length s in
-      other (s ∙ sym (base_once (header_of k g) h (same_head keeps h has) lengths).0 ∙ sym v)
-
-  not_surface : (stored given : List ℕ) → IsImageOf k g i → IsBeginFault k mode i (SurfaceDiffers stored given) → ⊥
-  not_surface stored given (inl (unborn, blank_is)) (h, has, b, s, v, other) = never_born i.book unborn has.magic
-  not_surface stored given (inr keeps) (h, has, b, s, v, other) =
-      other (s ∙ sym (base_once (header_of k g) h (same_head keeps h has) (ap length (sym b))).1 ∙ sym v)
-
-  not_mode : (stored given : Mode) → IsImageOf k g i → IsBeginFault k mode i (ModeDiffers stored given) → ⊥
-  not_mode stored given (inl (unborn, blank_is)) (h, has, b, c, s, v, other) = never_born i.book unborn has.magic
-  not_mode stored given (inr keeps) (h, has, b, c, s, v, other) =
-      other (s ∙ sym (mode_of-spelled (header_of k g) h (same_head keeps h has)) ∙ mode_is ∙ sym v)
-
-  pub faulted_so : (fault : BeginFault) → HasValues fault → IsImageOf k g i → IsBeginFault k mode i fault → (fault ≡ Disk) ⊎ (fault ≡ Memory)
-  faulted_so Disk values opens why = inl refl
-  faulted_so Memory values opens why = inr refl
-  faulted_so NotAStore values opens why = absurd (not_foreign opens why)
-  faulted_so (Damaged area place) values opens why = absurd (not_damaged place opens why.1)
-  faulted_so (BaseDiffers stored given) values opens why = absurd (not_base stored given values opens why)
-  faulted_so (SurfaceDiffers stored given) values opens why = absurd (not_surface stored given opens why)
-  faulted_so (ModeDiffers stored given) values opens why = absurd (not_mode stored given opens why)
 
 -- the line on such a fault
 pub ends_in_fault : (fault : BeginFault) (old new : Option (List ℕ)) (status : ℕ) → (fault ≡ Disk) ⊎ (fault ≡ Memory)

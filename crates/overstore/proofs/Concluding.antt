@@ -17,9 +17,11 @@ use Rattle.ov_history.specs.Plain.{PlainHistory, history_of}
 use Rattle.ov_model.specs.Lines.{lines}
 use Rattle.ov_model.specs.Step.{after_all, reply_to}
 use Rattle.ov_model.proofs.Runs.{lines-more}
-use Rattle.overstore.specs.Answering.{AnsweredAll, AnsweredFirst, AnsweredPart, EndsIn, EndsOr, Finishes, Stops}
+use Rattle.ov_report.specs.Ends.{EndsIn, EndsOr}
+use Rattle.ov_report.specs.Faults.{disk_line, memory_line}
+use Rattle.overstore.specs.Answering.{AnsweredAll, AnsweredFirst, AnsweredPart, Finishes, Stops}
 use Rattle.overstore.specs.Machine.{KeptOn}
-use Rattle.overstore.specs.Printing.{Outcome, Answered, DiskFault, ReadFault, OutOfMemory, status_of, last_line, disk_line, memory_line, read_line, IsPrinted, Prints, PrintsFront, IsFault}
+use Rattle.overstore.specs.Printing.{Outcome, Answered, DiskFault, ReadFault, OutOfMemory, status_of, last_line, read_line, IsPrinted, Prints, PrintsFront, IsFault}
 use Rattle.overstore.specs.Running.{Concluded, whole, part}
 use Rattle.overstore.specs.declared.answer.Stop.{Stop}
 use Rattle.overstore.specs.declared.answer.Stop.TheVariants.{End, BadLine, Long, Read, Write, Disk, Trace, Memory, Tag}

@@ -1,5 +1,5 @@
 -- How a read goes over the machine's server, whatever history it serves.
-use Rattle.std.proofs.Common.{◌≡◌, ◌∙◌, ◌<◌, ◌+◌, ℕ, Bool, true, false, not}
+use Rattle.std.proofs.Common.{◌≡◌, ◌∙◌, ◌<◌, ◌+◌, ℕ, Bool, true, false}
 use Rattle.std.proofs.Common.{List, [], ◌∷◌, ◌++◌, length, take, drop, Option, Some, None}
 use Rattle.std.proofs.Common.{Result, Ok, Err, refl, sym, ap, subst, arith, append_assoc, inl, inr}
 use Rattle.std.proofs.Common.{eq-eqb, length-append, true≢false}
@@ -7,7 +7,7 @@ use Rattle.std.proofs.lemmas.Slice.Eq.{bytes_eq-Decides}
 use Rattle.std.specs.Prelude.{◌⊎◌, ◌≢◌, bytes_eq, min, nat_lt, if◌then◌else◌, slice_get, slice_index, slice_index_or}
 use Rattle.std.proofs.Math.Seq.{drop-append_seam}
 use Rattle.std.proofs.lemmas.List.{length-take, take-append-drop}
-use Rattle.ov_base.proofs.Tests.{lt_of_true}
+use Rattle.ov_base.proofs.Tests.{lt_of_true, true_of_not}
 use Rattle.ov_base.specs.Causes.{Rose}
 use Rattle.ov_base.specs.declared.limits.TheConstants.{MAX_CHUNK_BYTES}
 use Rattle.ov_base.specs.declared.refusal.Refusal.TheVariants.{NoUser, NoFile, NoPath}
@@ -55,15 +55,11 @@ file_there true b c none = cc
 file_there false true c none = cc
 file_there false false c none = refl
 
-not_is : (b : Bool) → not b ≡ false → b ≡ true
-not_is true is = refl
-not_is false is = cc
-
 -- a file that may be read is there
 pub there : (c : Catalogue) (user n : ℕ) → read_refusal (matrix_shown c) user n ≡ None
     → n < length c.files
 there c user n none =
-    let test = not_is _ (file_there _ _ _ none) in
+    let test = true_of_not _ (file_there _ _ _ none) in
     let low : n < length (matrix_shown c).files = lt_of_true n (length (matrix_shown c).files) test in
     omega (arith, files_shown-length (outline c) c.files)
 

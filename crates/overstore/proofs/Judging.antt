@@ -34,13 +34,14 @@ use Rattle.ov_store.specs.declared.fault.BeginFault.{BeginFault}
 use Rattle.ov_store.specs.declared.fault.BeginFault.TheVariants.{Disk, NotAStore, Damaged}
 use Rattle.ov_store.specs.declared.fault.BeginFault.TheVariants.{BaseDiffers, SurfaceDiffers}
 use Rattle.ov_store.specs.declared.fault.BeginFault.TheVariants.{ModeDiffers, Memory}
-use Rattle.overstore.specs.Answering.{EndsIn, EndsOr}
-use Rattle.overstore.specs.Faults.{HasValues, fault_line, fault_status}
+use Rattle.ov_report.specs.Ends.{EndsIn, EndsOr}
+use Rattle.ov_report.specs.Faults.{HasValues, disk_line, fault_line, fault_status, memory_line}
+use Rattle.ov_report.proofs.Opening.{faulted_so}
 use Rattle.overstore.specs.Judging.{FindsPlain, HasFalseRecord, IsCheckFault, IsChecked, IsRefusal}
 use Rattle.overstore.specs.Judging.{Refuses, fault_for}
-use Rattle.overstore.specs.Printing.{IsRefused, disk_line, memory_line, read_line}
+use Rattle.overstore.specs.Printing.{IsRefused, read_line}
 use Rattle.overstore.specs.Running.{JudgesImage}
-use Rattle.overstore.proofs.Beginning.{ends_in_fault, faulted_so}
+use Rattle.overstore.proofs.Beginning.{ends_in_fault}
 use Rattle.overstore.proofs.Updating.{now_so}
 
 -- ---- updates that are as their owner seals them

@@ -9,7 +9,7 @@ use Rattle.ov_keyfile.specs.KeyFile.{HasMasters, IsKeyFile}
 use Rattle.ov_keyfile.proofs.Parts.{one_pair}
 use Rattle.ov_history.specs.Masters.{Masters}
 use Rattle.ov_history.specs.Plain.{PlainHistory}
-use Rattle.overstore.specs.Answering.{EndsIn}
+use Rattle.ov_report.specs.Ends.{EndsIn}
 use Rattle.overstore.specs.Disks.{OpensAs, StandsForPlain}
 use Rattle.overstore.specs.Machine.{AreMasters}
 use Rattle.overstore.specs.Printing.{ReadFault, read_line}

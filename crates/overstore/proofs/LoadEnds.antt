@@ -17,14 +17,15 @@ use Rattle.ov_store.specs.Beginning.{IsNew, LeavesHistory}
 use Rattle.ov_store.specs.Opened.{Opened, StaysTold}
 use Rattle.ov_store.specs.declared.fault.BeginFault.{BeginFault}
 use Rattle.ov_store.specs.declared.fault.BeginFault.TheVariants.{Disk as BeginDisk, NotAStore, Damaged, BaseDiffers, SurfaceDiffers, ModeDiffers, Memory as BeginMemory}
-use Rattle.overstore.specs.Answering.{EndsIn, EndsOr, Finishes, stop_for}
+use Rattle.ov_report.specs.Ends.{EndsIn, EndsOr}
+use Rattle.ov_report.specs.Faults.{disk_line, fault_line, fault_status, memory_line}
+use Rattle.overstore.specs.Answering.{Finishes, stop_for}
 use Rattle.overstore.specs.Disks.{Holds, OpensAs, StandsForPlain}
-use Rattle.overstore.specs.Faults.{fault_line, fault_status}
 use Rattle.overstore.specs.Judging.{FindsPlain, Refuses}
 use Rattle.overstore.specs.LoadEnding.{LoadEndsAs, LoadTracesAs, TracedTo, TracesLoad}
 use Rattle.overstore.specs.Loading.{EndsLoad, IsComplete, IsOfNoScript, KeepsSome, LastsAs, LoadedTo, Loads, PutsSummary, after_load}
 use Rattle.overstore.specs.Machine.{KeptOn, StandsFor, opened_of}
-use Rattle.overstore.specs.Printing.{IsScriptStatus, disk_line, memory_line, read_line}
+use Rattle.overstore.specs.Printing.{IsScriptStatus, read_line}
 use Rattle.overstore.specs.Summary.{load_lines, seven_lines}
 use Rattle.overstore.specs.Tallying.{counted_all, none_counted}
 use Rattle.overstore.specs.declared.fault.BadTag.{BadTag}

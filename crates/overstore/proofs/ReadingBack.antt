@@ -1,6 +1,7 @@
 -- What a read is at a history for which the machine stands: the machine's reply.
-use Rattle.std.proofs.Common.{◌≡◌, ◌∙◌, ℕ, List, [], ◌∷◌, length, Bool, true, false, not, Option, Some, None, Result, Ok, Err, refl, sym, ap, subst, inl, inr, arith}
+use Rattle.std.proofs.Common.{◌≡◌, ◌∙◌, ℕ, List, [], ◌∷◌, Bool, true, false, not, Option, Some, None, Result, Ok, Err, refl, sym, ap, subst, inl, inr, arith}
 use Rattle.std.specs.Prelude.{◌⊎◌}
+use Rattle.std.proofs.lemmas.List.{nil_from_length}
 use Rattle.ov_base.specs.declared.refusal.Refusal.{Refusal}
 use Rattle.ov_base.specs.declared.refusal.Refusal.TheVariants.{NoUser}
 use Rattle.ov_disk.specs.Disk.{Image}
@@ -74,10 +75,6 @@ reader_so k c user a r is made = absurd is
 
 -- ---- all is answered at one history
 
-no_updates : (us : List SealedUpdate) → length us ≡ 0 → us ≡ []
-no_updates [] none = refl
-no_updates (u ∷ us) none = absurd (omega arith)
-
 module _ {D : Type 0} (reads : D → Option Image) (may_leave : D → Image → Type 0)
     (moment : D → ℕ) (left_since : D → ℕ → Image → Type 0) (borrow faults_of : D → ℕ)
     (s : Opened D) (v : Service) (serves : IsServedBy s v) where
@@ -96,7 +93,7 @@ module _ {D : Type 0} (reads : D → Option Image) (may_leave : D → Image → 
     by (inl is) =
         let longer = epochs_go_on (serving_of s) (serving_of t) request reply is.frame in
         let none : is.frame.made ≡ [] =
-        no_updates is.frame.made
+        nil_from_length is.frame.made
         (omega (arith, longer, ap (λ (x : Opened D). x.catalogue.epoch) same)) in
         inl
         (subst (λ (x : Serving). Replies x request reply []) is_shown

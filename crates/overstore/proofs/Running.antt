@@ -10,12 +10,14 @@ use Rattle.ov_history.specs.Plain.{PlainHistory}
 use Rattle.ov_keyfile.specs.KeyFile.{HasMasters, IsKeyFile}
 use Rattle.ov_store.specs.declared.fault.BeginFault.{BeginFault}
 use Rattle.ov_store.specs.declared.fault.BeginFault.TheVariants.{Disk as BeginDisk, NotAStore, Damaged, BaseDiffers, SurfaceDiffers, ModeDiffers, Memory as BeginMemory}
-use Rattle.overstore.specs.Answering.{EndsIn, EndsOr, Finishes, Grows, SaysTag}
+use Rattle.ov_report.specs.Ends.{EndsIn, EndsOr}
+use Rattle.ov_report.specs.Faults.{fault_status, memory_line}
+use Rattle.overstore.specs.Answering.{Finishes, Grows, SaysTag}
 use Rattle.std.proofs.KnownBytes.{Appends-trans}
 use Rattle.overstore.specs.Machine.{AreOtherTags}
 use Rattle.overstore.specs.declared.fault.BadTag.{BadTag}
-use Rattle.overstore.specs.Faults.{fault_status, tag_line}
-use Rattle.overstore.specs.Printing.{IsAnswered, IsKeysStatus, IsRefused, IsScriptStatus, IsStoreStatus, keys_line, memory_line, read_line, usage_line}
+use Rattle.overstore.specs.Faults.{tag_line}
+use Rattle.overstore.specs.Printing.{IsAnswered, IsKeysStatus, IsRefused, IsScriptStatus, IsStoreStatus, keys_line, read_line, usage_line}
 use Rattle.overstore.specs.Running.{Concluded, IsDecided, JudgesKeys, PrintsAs, RefusesWords}
 use Rattle.overstore.specs.declared.answer.Stop.{Stop}
 use Rattle.overstore.specs.declared.answer.Stop.TheVariants.{End, BadLine, Long, Read, Write, Disk, Trace, Memory, Tag}

@@ -12,6 +12,7 @@ use Rattle.ov_server.specs.Locally.{IsServedBy, answers_alone}
 use Rattle.ov_owner.specs.Alone.{AnsweredAlone}
 use Rattle.ov_transcript.specs.Talking.{ArePut}
 use Rattle.ov_transcript.specs.Transcripts.{frames}
+use Rattle.overstore.proofs.KeptLoans.{asks_keep}
 use Rattle.overstore.proofs.PutOn.{IsPutOn}
 use Rattle.overstore.proofs.Reading.{take_whole}
 use Rattle.overstore.specs.Seats.{IsSeat, LeftBy, served, unserved}
@@ -42,18 +43,11 @@ module _ {D : Type 0} (reads : D → Option Image) (may_leave : D → Image → 
     by (unput reply n asks bytes) = inr (reply, asks)
 
   -- the sink stays lent as it was
-  lent : (asks : List Ask) (p m : P) → Leads asked p asks m → loan m ≡ loan p
-  lent [] p m same = ap loan (sym same)
-  lent (a ∷ asks) p m (n, first, leads) =
-      lent asks n m leads ∙ (seat.asks p n a.request a.reply first).1
-
-  lent_at : (o : Option (List ℕ)) (m q : P) → EndsAt failed m o q → loan q ≡ loan m
-  lent_at None m q same = ap loan (sym same)
-  lent_at (Some request) m q fault = (seat.fails m q request fault).1
-
   pub lent_so : (asks : List Ask) (o : Option (List ℕ)) (p q : P) → AreAsks asked failed p asks o q
       → loan q ≡ loan p
-  lent_so asks o p q (m, leads, ends) = lent_at o m q ends ∙ lent asks p m leads
+  lent_so =
+      asks_keep asked failed loan (λ p q request reply answered. (seat.asks p q request reply answered).1)
+      (λ p q request fault. (seat.fails p q request fault).1)
 
   -- the store keeps its keys
   keys_lead : (asks : List Ask) (p m : P) → Leads asked p asks m

@@ -3,7 +3,7 @@ use Rattle.std.proofs.Common.{◌≡◌, ◌⊎◌, inl, inr, ℕ, zero, suc, �
 use Rattle.std.specs.Prelude.{IfSome}
 use Rattle.std.specs.Io.KnownBytes.{Appends, Keeps, prepend_known}
 use Rattle.std.proofs.KnownBytes.{Appends-trans, Appends-kept, Appends-nil}
-use Rattle.std.proofs.lemmas.List.{append-nil}
+use Rattle.std.proofs.lemmas.List.{append-nil, length-take, take_all}
 use Rattle.ov_base.specs.declared.limits.TheConstants.{MAX_SCRIPT_BYTES}
 use Rattle.ov_disk.specs.Disk.{Image}
 use Rattle.ov_disk.proofs.Runs.{started}
@@ -24,10 +24,12 @@ use Rattle.ov_history.proofs.TrueHistories.{tokens_are_true}
 use Rattle.ov_model.specs.Lines.{lines}
 use Rattle.ov_model.specs.Step.{after_all, reply_to}
 use Rattle.ov_model.proofs.Runs.{lines-more}
-use Rattle.overstore.specs.Answering.{AnsweredAll, AnsweredFirst, AnsweredPart, EndsIn, EndsOr, Finishes, Stops}
+use Rattle.ov_report.specs.Ends.{EndsIn, EndsOr}
+use Rattle.ov_report.specs.Faults.{disk_line, memory_line}
+use Rattle.overstore.specs.Answering.{AnsweredAll, AnsweredFirst, AnsweredPart, Finishes, Stops}
 use Rattle.overstore.specs.Disks.{HasAnswered, Holds, KeepsFirst, KeepsNext, Lasts, PublishesMatrix, Survives, published}
 use Rattle.overstore.specs.Machine.{KeptOn}
-use Rattle.overstore.specs.Printing.{OutOfMemory, disk_line, long_line, memory_line, read_line}
+use Rattle.overstore.specs.Printing.{OutOfMemory, long_line, read_line}
 use Rattle.overstore.specs.Running.{EndsAs}
 use Rattle.overstore.specs.declared.answer.Stop.{Stop}
 use Rattle.overstore.specs.declared.answer.Stop.TheVariants.{End, BadLine, Long, Read, Write, Disk, Trace, Memory, Tag}
@@ -121,18 +123,6 @@ pub some_put : (last : List ℕ) (code : ℕ) (old new : Option (List ℕ)) (sta
 some_put last code old new status (inl e) = let f = front_put last code old new status e in (take f.0 last, f.1)
 some_put last code old new status (inr e) = let f = front_put memory_line 7 old new status e in (take f.0 memory_line, f.1)
 
-take_past : (xs : List ℕ) (n : ℕ) → length xs ≤ n → take n xs ≡ xs
-take_past [] zero le = refl
-take_past [] (suc n) le = refl
-take_past (x ∷ xs) zero le = absurd (omega arith)
-take_past (x ∷ xs) (suc n) le = ap (λ ys. x ∷ ys) (take_past xs n (omega arith))
-
-length_take : (n : ℕ) (xs : List ℕ) → length (take n xs) ≤ n
-length_take zero [] = omega arith
-length_take zero (x ∷ xs) = omega arith
-length_take (suc n) [] = omega arith
-length_take (suc n) (x ∷ xs) = omega (arith, length_take n xs)
-
 less_or : (m n : ℕ) → (m < n) ⊎ (n ≤ m)
 less_or zero zero = inr (omega arith)
 less_or zero (suc n) = inl (omega arith)
@@ -175,11 +165,11 @@ module _ (p : PlainHistory) (text : List ℕ) (commands : List Command) (next : 
         let same : next ≡ other = next_once 1 MAX_SCRIPT_BYTES text commands next other _ _ _ _ _ _ begins.3 begins_other.3 in
         let whole : take count line ≡ line ++ tail = e ∙ ap (λ c. reply_line (reply_to (after_all p commands) c) ++ tail) (sym same) in
         let sizes : length (take count line) ≡ length line + length tail = ap length whole ∙ length-append line tail in
-        omega (arith, low, sizes, length_take count line),
+        omega (arith, low, sizes, length-take count line),
   )
   by_count puts (inr past) =
       let all : lines p (commands ++ next ∷ []) ++ [] ≡ lines p commands ++ take count line =
-      append-nil (lines p (commands ++ next ∷ [])) ∙ lines-more p commands next ∙ ap (λ l. lines p commands ++ l) (sym (take_past line count past)) in
+      append-nil (lines p (commands ++ next ∷ [])) ∙ lines-more p commands next ∙ ap (λ l. lines p commands ++ l) (sym (take_all count line past)) in
       inr (
         [],
         subst (Appends old new) (sym all) puts,

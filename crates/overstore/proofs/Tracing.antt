@@ -20,10 +20,12 @@ use Rattle.ov_history.specs.Plain.{PlainHistory}
 use Rattle.ov_model.specs.Lines.{lines}
 use Rattle.ov_model.specs.Step.{after, after_all, reply_to}
 use Rattle.ov_model.proofs.Runs.{after_all-more, lines-more}
-use Rattle.overstore.specs.Answering.{EndsIn, EndsOr, Finishes, PutsOr, stop_for}
+use Rattle.ov_report.specs.Ends.{EndsIn, EndsOr}
+use Rattle.ov_report.specs.Faults.{disk_line, memory_line}
+use Rattle.overstore.specs.Answering.{Finishes, PutsOr, stop_for}
 use Rattle.overstore.specs.Disks.{HasAnswered}
 use Rattle.overstore.specs.Machine.{Kept, StandsFor}
-use Rattle.overstore.specs.Printing.{disk_line, memory_line, read_line}
+use Rattle.overstore.specs.Printing.{read_line}
 use Rattle.overstore.specs.Tracing.{TracedAll, TracedFirst, TracedPart, TracedSoFar, TracesAs, TracesLine, TracesSoFar, TracesTo}
 use Rattle.overstore.specs.Tracing.{BreaksOff, TranscribesAll, TranscribesFirst, TranscribesFront, Transcribes, asked_by}
 use Rattle.ov_transcript.specs.Transcripts.{Transcribed, Transcripts}

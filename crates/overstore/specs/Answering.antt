@@ -1,5 +1,5 @@
 -- What answering a script does, command by command.
-use Rattle.std.specs.Prelude.{◌≡◌, ◌⊎◌, ℕ, ◌≤◌, List, [], ◌∷◌, ◌++◌, take}
+use Rattle.std.specs.Prelude.{◌≡◌, ℕ, ◌≤◌, List, [], ◌∷◌, ◌++◌, take}
 use Rattle.std.specs.Prelude.{Option, Some, None, IfNone, false}
 use Rattle.std.specs.Io.KnownBytes.{Appends, Keeps}
 use Rattle.ov_base.specs.Causes.{Rose}
@@ -15,10 +15,12 @@ use Rattle.ov_history.specs.Plain.{PlainHistory}
 use Rattle.ov_model.specs.Lines.{lines}
 use Rattle.ov_model.specs.Step.{reply_to, after_all}
 use Rattle.ov_history.specs.Masters.{Masters}
+use Rattle.ov_report.specs.Ends.{EndsIn, EndsOr}
+use Rattle.ov_report.specs.Faults.{disk_line, memory_line}
 use Rattle.overstore.specs.Disks.{Holds, IsDiskCall, KeepsFirst, KeepsNext}
 use Rattle.overstore.specs.Faults.{tag_line}
 use Rattle.overstore.specs.Machine.{AreOtherTags, GoesOn, Kept, KeptOn, LeavesStep, StandsFor}
-use Rattle.overstore.specs.Printing.{bad_line, disk_line, long_line, read_line, memory_line}
+use Rattle.overstore.specs.Printing.{bad_line, long_line, read_line}
 use Rattle.overstore.specs.declared.fault.BadTag.{BadTag}
 use Rattle.overstore.specs.declared.fault.StepFault.{StepFault}
 use Rattle.overstore.specs.declared.fault.StepFault.TheVariants.{Disk as NoDisk, Memory as NoMemory}
@@ -55,17 +57,6 @@ SaysTag old new =
 -- two tags differ, and what was kept at the start stands for no history
 abbrev pub FindsTag : Kept → BadTag → Type 0
 FindsTag kept bad = AreOtherTags bad × ((p : PlainHistory) → StandsFor kept p → ⊥)
-
--- this line was put, and the status is this; or a front of it, and the status is 6
-abbrev pub EndsIn : List ℕ → ℕ → Option (List ℕ) → Option (List ℕ) → ℕ → Type 0
-EndsIn last code old new status =
-    ((status ≡ code) × Appends old new last)
-    ⊎ ((status ≡ 6) × ((n : ℕ) × Appends old new (take n last)))
-
--- so it is, or so it is of the line that says that memory was refused for this one
-abbrev pub EndsOr : List ℕ → ℕ → Option (List ℕ) → Option (List ℕ) → ℕ → Type 0
-EndsOr last code old new status =
-    EndsIn last code old new status ⊎ EndsIn memory_line 7 old new status
 
 -- the last line that is put at this epoch, or the one that says that memory was refused for it
 abbrev pub Finishes : Stop → ℕ → Option (List ℕ) → Option (List ℕ) → ℕ → Type 0

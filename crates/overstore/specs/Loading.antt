@@ -15,11 +15,12 @@ use Rattle.ov_history.specs.Masters.{Masters}
 use Rattle.ov_history.specs.Plain.{PlainHistory}
 use Rattle.ov_model.specs.Lines.{lines}
 use Rattle.ov_model.specs.Step.{after_all, reply_to}
-use Rattle.overstore.specs.Answering.{EndsIn, EndsOr}
+use Rattle.ov_report.specs.Ends.{EndsIn, EndsOr}
+use Rattle.ov_report.specs.Faults.{disk_line, memory_line}
 use Rattle.overstore.specs.Disks.{Holds, KeepsPlain, OpensAs, PublishesMatrix, StandsForPlain}
 use Rattle.overstore.specs.LoadWords.{IsLoad}
 use Rattle.overstore.specs.Machine.{AreMasters, GoesOn, KeptOn, LeavesStep, StandsFor}
-use Rattle.overstore.specs.Printing.{disk_line, memory_line, read_line}
+use Rattle.overstore.specs.Printing.{read_line}
 use Rattle.overstore.specs.Summary.{IsSummary, load_lines}
 use Rattle.overstore.specs.Tallying.{Takes, counted, counted_all, none_counted}
 use Rattle.overstore.specs.declared.fault.StepFault.{StepFault}

@@ -10,6 +10,7 @@ use Rattle.ov_history.specs.History.{epoch_of}
 use Rattle.ov_history.specs.Plain.{PlainHistory, history_of}
 use Rattle.ov_model.specs.Lines.{lines}
 use Rattle.ov_model.specs.Step.{after_all}
+use Rattle.ov_report.specs.Faults.{disk_line, memory_line}
 
 -- How a run ends that has its masters and whose disk opens: the script was read to its ending and
 -- answered, a call of the disk or a read failed, or memory was refused.
@@ -36,17 +37,9 @@ usage_line = codes "error usage" ++ 10 ∷ []
 abbrev pub keys_line : List ℕ
 keys_line = codes "error keys" ++ 10 ∷ []
 
--- the line on a call of the disk that failed
-abbrev pub disk_line : List ℕ
-disk_line = codes "error disk" ++ 10 ∷ []
-
 -- the line on a read that failed
 abbrev pub read_line : List ℕ
 read_line = codes "error read" ++ 10 ∷ []
-
--- the line on memory that was refused
-abbrev pub memory_line : List ℕ
-memory_line = codes "error memory" ++ 10 ∷ []
 
 -- the line that names a bad line of the script
 abbrev pub bad_line : ℕ → List ℕ

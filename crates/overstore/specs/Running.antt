@@ -11,9 +11,9 @@ use Rattle.ov_script.specs.Reading.{AtEnd, BadAt, TooLong}
 use Rattle.ov_history.specs.Masters.{Masters}
 use Rattle.ov_history.specs.Plain.{PlainHistory}
 use Rattle.ov_store.specs.declared.fault.BeginFault.{BeginFault}
-use Rattle.overstore.specs.Answering.{EndsIn, EndsOr}
+use Rattle.ov_report.specs.Ends.{EndsIn, EndsOr}
+use Rattle.ov_report.specs.Faults.{fault_line, fault_status}
 use Rattle.overstore.specs.Disks.{IsDiskCall, Lasts, OpensAs, Survives}
-use Rattle.overstore.specs.Faults.{fault_line, fault_status}
 use Rattle.overstore.specs.Judging.{IsRefusal}
 use Rattle.overstore.specs.Machine.{AreMasters}
 use Rattle.overstore.specs.Printing.{Outcome, status_of, Prints, PrintsFront}

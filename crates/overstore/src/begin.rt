@@ -12,11 +12,11 @@ ghost use Rattle.ov_tokens.specs.Keys.{check_value_of};
 ghost use Rattle.overstore.specs.Judging.{FindsPlain, IsChecked, Refuses, fault_for};
 ghost use Rattle.overstore.specs.Machine.{plain_masters};
 
-use crate::fault_lines::values_are_known;
 use ov_base::{Key, Mode};
 use ov_disk::{Area, Disk};
 use ov_journal::CheckFault;
 use ov_keyfile::Masters;
+use ov_report::values_are_known;
 use ov_store::{BeginFault, BeginRefused, Store};
 use ov_tokens::{Master, check_value};
 use std::alloc::Global;

@@ -1,55 +1,43 @@
 //! The last line of a run, and its status.
-ghost use Rattle.std.specs.Prelude.{◌≡◌, ◌≢◌, ◌⊎◌, ◌≤◌};
+ghost use Rattle.std.specs.Prelude.{◌≡◌, ◌≢◌, ◌⊎◌, ◌≤◌, IfOk};
 ghost use Rattle.ov_base.specs.Causes.{Rose};
+ghost use Rattle.ov_report.specs.Ends.{EndsIn, EndsOr, IsPutTo};
+ghost use Rattle.ov_report.specs.declared.last.TheConstants.{WRITE_FAULT};
 ghost use Rattle.ov_script.specs.Lines.{reply_line};
 ghost use Rattle.ov_script.specs.declared.reply.Reply.TheVariants.{End as EndReply};
-ghost use Rattle.overstore.specs.Answering.{EndsIn, EndsOr, Finishes};
-ghost use Rattle.overstore.specs.Faults.{fault_line, fault_status, tag_line};
+ghost use Rattle.overstore.specs.Answering.{Finishes};
+ghost use Rattle.overstore.specs.Faults.{tag_line};
 ghost use Rattle.overstore.specs.Loading.{PutsSummary};
-ghost use Rattle.overstore.specs.Printing.{bad_line, memory_line};
+ghost use Rattle.overstore.specs.Printing.{bad_line};
 ghost use Rattle.overstore.specs.Status.{status_code};
 
 use crate::answer::Stop;
 use crate::fault::BadTag;
-use crate::fault_lines::{line_on_fault, line_on_tag, status_of};
 use crate::load_words::Load;
 use crate::status::Status;
 use crate::summary::summary_of;
 use crate::tally::Tally;
+use ov_base::Memory;
 use ov_io::Sink;
+use ov_report::{push_values, put_memory};
 use ov_script::{Reply, line};
-use ov_store::BeginFault;
 use std::alloc::Global;
 
 /// Puts the last line, and gives its status where that succeeds.
 pub fn put_last<O: Sink>(out: &mut O, bytes: &[u8], status: Status) -> u8
+    requires { status_code status ≢ WRITE_FAULT }
     ensures ends { EndsIn bytes.now (status_code status)
         (O.written out.old) (O.written out.new) result }
-    ensures later { O.faults out.old ≤ O.faults out.new }
-    ensures write { status ≢ Status.WriteFault → result ≡ 6
-        → Rose (O.faults out.old) (O.faults out.new) }
+    ensures put { IsPutTo O.borrow O.faults out.old out.new result }
 {
-    match out.put(bytes) {
-        Ok(()) => status.code(),
-        Err(_) => Status::WriteFault.code(),
-    }
-}
-
-/// Puts the line that says that memory was refused.
-pub fn put_memory<O: Sink>(out: &mut O) -> u8
-    ensures ends { EndsIn memory_line 7 (O.written out.old) (O.written out.new) result }
-    ensures later { O.faults out.old ≤ O.faults out.new }
-    ensures write { result ≡ 6 → Rose (O.faults out.old) (O.faults out.new) }
-{
-    put_last(out, b"error memory\n", Status::OutOfMemory)
+    ov_report::put_last(out, bytes, status.code())
 }
 
 // Puts the end line, or the one that says that memory was refused for it.
 fn put_end<O: Sink>(alloc: Global, out: &mut O, epoch: u32) -> u8
     ensures ends { EndsOr (reply_line (EndReply epoch)) 0
         (O.written out.old) (O.written out.new) result }
-    ensures later { O.faults out.old ≤ O.faults out.new }
-    ensures write { result ≡ 6 → Rose (O.faults out.old) (O.faults out.new) }
+    ensures put { IsPutTo O.borrow O.faults out.old out.new result }
 {
     let mut bytes = Vec::new(alloc);
     match line(&Reply::End(epoch), &mut bytes) {
@@ -63,8 +51,7 @@ fn put_end<O: Sink>(alloc: Global, out: &mut O, epoch: u32) -> u8
 pub fn put_summary<O: Sink>(alloc: Global, load: &Load, tally: Tally, epoch: u32, out: &mut O) -> u8
     ensures ends { PutsSummary load.now tally epoch
         (O.written out.old) (O.written out.new) result }
-    ensures later { O.faults out.old ≤ O.faults out.new }
-    ensures write { result ≡ 6 → Rose (O.faults out.old) (O.faults out.new) }
+    ensures put { IsPutTo O.borrow O.faults out.old out.new result }
 {
     match summary_of(alloc, load, tally, epoch) {
         Ok(lines) => put_last(out, &lines, Status::Done),
@@ -75,8 +62,7 @@ pub fn put_summary<O: Sink>(alloc: Global, load: &Load, tally: Tally, epoch: u32
 // Puts the line that names a bad line, or the one that says that memory was refused for it.
 fn put_bad_line<O: Sink>(alloc: Global, out: &mut O, number: u64) -> u8
     ensures ends { EndsOr (bad_line number) 3 (O.written out.old) (O.written out.new) result }
-    ensures later { O.faults out.old ≤ O.faults out.new }
-    ensures write { result ≡ 6 → Rose (O.faults out.old) (O.faults out.new) }
+    ensures put { IsPutTo O.borrow O.faults out.old out.new result }
 {
     match format!(in alloc; "error line {number}\n") {
         Ok(text) => put_last(out, text.as_bytes(), Status::BadLine),
@@ -84,27 +70,23 @@ fn put_bad_line<O: Sink>(alloc: Global, out: &mut O, number: u64) -> u8
     }
 }
 
-// Puts the line on a file whose tag is wrong, or the one that says that memory was refused for it.
+// The line on a file whose tag is wrong.
+fn line_on_tag(alloc: Global, bad: &BadTag) -> Result<Vec<u8>, Memory>
+    ensures { IfOk result (λ line. line.items ≡ tag_line bad.now) }
+{
+    let mut line = b"error tag ".to_vec(alloc)?;
+    line.extend_from_slice(bad.file.as_bytes())?;
+    push_values(alloc, &bad.stored, &bad.computed, &mut line)?;
+    Ok(line)
+}
+
+// Puts that line, or the one that says that memory was refused for it.
 fn put_tag<O: Sink>(alloc: Global, out: &mut O, bad: &BadTag) -> u8
     ensures ends { EndsOr (tag_line bad.now) 12 (O.written out.old) (O.written out.new) result }
-    ensures later { O.faults out.old ≤ O.faults out.new }
-    ensures write { result ≡ 6 → Rose (O.faults out.old) (O.faults out.new) }
+    ensures put { IsPutTo O.borrow O.faults out.old out.new result }
 {
     match line_on_tag(alloc, bad) {
         Ok(bytes) => put_last(out, &bytes, Status::WrongTag),
-        Err(_) => put_memory(out),
-    }
-}
-
-/// Puts the line on a disk that doesn't open, or the one that says that memory was refused for it.
-pub fn put_fault<O: Sink>(alloc: Global, out: &mut O, fault: BeginFault) -> u8
-    ensures ends { EndsOr (fault_line fault) (fault_status fault)
-        (O.written out.old) (O.written out.new) result }
-    ensures later { O.faults out.old ≤ O.faults out.new }
-    ensures write { result ≡ 6 → Rose (O.faults out.old) (O.faults out.new) }
-{
-    match line_on_fault(alloc, fault) {
-        Ok(bytes) => put_last(out, &bytes, status_of(fault)),
         Err(_) => put_memory(out),
     }
 }

@@ -22,7 +22,7 @@ ghost use Rattle.overstore.specs.declared.load_words.Load.{Load as Asked};
 
 use crate::answer::stop_of;
 use crate::begin::begin;
-use crate::finish::{finish, put_fault, put_last, put_summary};
+use crate::finish::{finish, put_last, put_summary};
 use crate::load_words::{Load, load_of};
 use crate::loading::answer_workload;
 use crate::machine::Machine;
@@ -30,6 +30,7 @@ use crate::status::Status;
 use ov_disk::Disk;
 use ov_io::{Sink, Source};
 use ov_keyfile::{Masters, read_masters};
+use ov_report::put_fault;
 use std::alloc::Global;
 
 // Answers the workload with a machine that has answered nothing yet.

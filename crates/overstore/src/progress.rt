@@ -33,6 +33,11 @@ impl<S: Sink> Counted<S> {
         }
     }
 
+    /// Whether a reply was put before the last line.
+    pub fn answered(&self) -> bool {
+        self.replies > 1
+    }
+
     /// Ends the line of the count, where one was shown.
     pub fn end(&self) {
         if self.shows && self.replies >= STEP {

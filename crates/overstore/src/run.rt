@@ -21,13 +21,14 @@ ghost use Rattle.overstore.specs.Words.{AreOther, IsRun};
 
 use crate::answer::answer_all;
 use crate::begin::begin;
-use crate::finish::{finish, put_fault, put_last};
+use crate::finish::{finish, put_last};
 use crate::machine::Machine;
 use crate::status::Status;
 use ov_base::{Memory, Mode};
 use ov_disk::Disk;
 use ov_io::{Sink, Source};
 use ov_keyfile::{Masters, read_masters};
+use ov_report::{put_fault, put_memory};
 use ov_script::{Buffer, Script};
 use std::alloc::Global;
 
@@ -80,7 +81,7 @@ fn answer_script<I: Source, O: Sink, T: Sink, D: Disk>(
     // The buffer is there before the input is lent, so that without one the input is as it was.
     let buffer = match Buffer::new(alloc) {
         Ok(buffer) => buffer,
-        Err(Memory) => return put_last(out, b"error memory\n", Status::OutOfMemory),
+        Err(Memory) => return put_memory(out),
     };
     let mut script = Script::over(buffer, input);
     let stop = answer_all(alloc, &mut script, machine, out, trace);

@@ -74,44 +74,4 @@ impl Status {
             _ => None,
         }
     }
-
-    /// What is wrong and what to do, for standard error.
-    pub fn advice(self) -> Option<&'static str> {
-        match self {
-            Status::Done => None,
-            Status::Usage => Some(
-                "unknown words; use `overstore run full`, `run delta`, `load MODE NUMBER COUNT` or `--help`",
-            ),
-            Status::BadLine => Some(
-                "standard output names a bad line; what was answered before lasts; correct it and run the rest",
-            ),
-            Status::DiskFault => Some(
-                "store.book or store.blobs failed or is in use; what was answered lasts; ask for the epoch, and run the rest",
-            ),
-            Status::ReadFault => Some(
-                "reading keys.hex or standard input failed; what was answered lasts; run the rest",
-            ),
-            Status::WriteFault => Some(
-                "writing the replies failed; what was put lasts; ask for the epoch, and run the rest",
-            ),
-            Status::OutOfMemory => Some(
-                "the system refused memory; what was answered lasts; free some, and run the rest",
-            ),
-            Status::NotAStore => Some(
-                "store.book is damaged or no store; put a good copy in its place or run elsewhere",
-            ),
-            Status::OtherStore => Some(
-                "store.book is of other keys or the other mode; use its keys.hex and its mode",
-            ),
-            Status::BadKeys => Some(
-                "keys.hex has to be two different lines of 64 hexadecimal digits; correct it and run again",
-            ),
-            Status::Long => Some(
-                "the script is past 268435456 bytes; run what follows as a script of its own",
-            ),
-            Status::WrongTag => Some(
-                "a file isn't what its owner sent; run again, and if it stays so put a good store.book in its place",
-            ),
-        }
-    }
 }

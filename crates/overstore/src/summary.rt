@@ -4,10 +4,10 @@ ghost use Rattle.std.specs.Fmt.{decimal};
 ghost use Rattle.hex.specs.Hex.{encode_lower};
 ghost use Rattle.overstore.specs.Summary.{IsSummary, count_line, load_line, seven_lines};
 
-use crate::fault_lines::word_of;
 use crate::load_words::Load;
 use crate::tally::{Counts, Tally};
 use ov_base::Memory;
+use ov_report::word_of;
 use ov_script::{Reply, line};
 use sha2::Digest;
 use std::alloc::Global;

@@ -13,7 +13,10 @@ mod tags;
 mod watched;
 
 use ov_disk::MemDisk;
-use running::{Pieces, Row, Wants, assert_anew, assert_ended, assert_row, key_bytes, ran, words};
+use running::{
+    NOTHING, ONE_USER, Pieces, Row, Wants, assert_anew, assert_ended, assert_row, key_bytes, ran,
+    words,
+};
 use std::alloc::Global;
 use std::process::Abort;
 use std::test::Fail;
@@ -32,16 +35,8 @@ pub fn siblings() -> &'static Row<'static> {
 }
 
 static ROWS: [Row<'static>; 21] = [
-    Row {
-        script: b"",
-        status: 0,
-        lines: b"end epoch 0\n",
-    },
-    Row {
-        script: b"enrol alice\n",
-        status: 0,
-        lines: b"ok 1\nend epoch 1\n",
-    },
+    NOTHING,
+    ONE_USER,
     Row {
         script: b"enrol a\nenrol a\n",
         status: 0,

@@ -1,4 +1,5 @@
-//! Standard output, as `main` hands it on.
+//! The key file and standard output, as `main` hands them on.
+use ov_io::{Fault, Source};
 use std::io::{self, ErrorKind, Write};
 
 /// A writer that remembers whether a write found that its reader is gone.
@@ -38,5 +39,45 @@ impl<W: Write> Write for Watched<W> {
 
     fn flush(&mut self) -> io::Result<()> {
         self.writer.flush()
+    }
+}
+
+/// A source that remembers whether a take failed.
+#[derive(Drop)]
+pub struct Tried<S: Source> {
+    source: S,
+    failed: bool,
+}
+
+impl<S: Source> Tried<S> {
+    /// Watches this source.
+    pub fn new(source: S) -> Tried<S> {
+        Tried {
+            source,
+            failed: false,
+        }
+    }
+
+    /// Whether a take failed.
+    pub fn failed(&self) -> bool {
+        self.failed
+    }
+}
+
+impl<S: Source> Source for Tried<S> {
+    ghost left = { λ s. S.left s.source };
+
+    ghost faults = { λ s. S.faults s.source };
+
+    ghost borrow = { λ s. S.borrow s.source };
+
+    ghost takes = { λ a b. S.takes a.source b.source };
+
+    fn take(&mut self, buf: &mut [u8]) -> Result<usize, Fault> {
+        let taken = self.source.take(buf);
+        if taken.is_err() {
+            self.failed = true;
+        }
+        taken
     }
 }

@@ -1,5 +1,7 @@
 //! Runs over one disk after the other, and disks that don't open.
-use super::running::{Pieces, Row, Wants, assert_ended, assert_row, key_bytes, ran, words};
+use super::running::{
+    NOTHING, ONE_USER, Pieces, Row, Wants, assert_ended, assert_row, key_bytes, ran, words,
+};
 use super::siblings;
 use ov_base::Octets;
 use ov_disk::MemDisk;
@@ -81,16 +83,8 @@ fn assert_book(
 }
 
 static BOOKS: [Row<'static>; 3] = [
-    Row {
-        script: b"",
-        status: 0,
-        lines: b"end epoch 0\n",
-    },
-    Row {
-        script: b"enrol alice\n",
-        status: 0,
-        lines: b"ok 1\nend epoch 1\n",
-    },
+    NOTHING,
+    ONE_USER,
     Row {
         script: b"enrol alice\nenrol bob\n",
         status: 0,
@@ -147,12 +141,7 @@ fn assert_damaged(
     byte: u8,
     line: &[u8],
 ) -> Result<(), Fail> {
-    let row = Row {
-        script: b"enrol alice\n",
-        status: 0,
-        lines: b"ok 1\nend epoch 1\n",
-    };
-    let book = book_of(rt, alloc, "delta", &row)?;
+    let book = book_of(rt, alloc, "delta", &ONE_USER)?;
     let damaged = changed(alloc, &book, place, byte)?;
     assert_shut(rt, alloc, "delta", &damaged, 8, line)
 }
@@ -222,12 +211,7 @@ fn a_record_that_is_not_the_owners(rt: HostRuntime) -> Result<(), Fail> {
 
 #[test]
 fn another_mode(rt: HostRuntime) -> Result<(), Fail> {
-    let row = Row {
-        script: b"",
-        status: 0,
-        lines: b"end epoch 0\n",
-    };
-    let book = book_of(&rt, rt.alloc(), "delta", &row)?;
+    let book = book_of(&rt, rt.alloc(), "delta", &NOTHING)?;
     assert_shut(
         &rt,
         rt.alloc(),
@@ -242,13 +226,8 @@ fn another_mode(rt: HostRuntime) -> Result<(), Fail> {
 fn assert_other_key(rt: &impl Abort, alloc: Global, place: usize, line: &[u8]) -> Result<(), Fail> {
     let words = words(alloc, &["run", "full"])?;
     let keys = changed(alloc, key_bytes(), place, b'7')?;
-    let row = Row {
-        script: b"",
-        status: 0,
-        lines: b"end epoch 0\n",
-    };
     let mut out = Wants::of(line);
-    let mut disk = left_by(rt, alloc, &words, &row);
+    let mut disk = left_by(rt, alloc, &words, &NOTHING);
     let source = Pieces::of(&keys, 50);
     let code = ran(
         alloc,

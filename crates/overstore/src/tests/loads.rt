@@ -96,51 +96,7 @@ fn assert_load(rt: &impl Abort, alloc: Global, row: &Loaded<'_>) -> Result<(), F
     Ok(())
 }
 
-// Other words are refused, and nothing is sent or begun. Then come whole loads. Then the sink of
-// frames fails, which takes a short frame in one call, a longer one in two, and those of an enrolment
-// in four: before all of them, at the first update, at the reply to it and behind that; inside a
-// creation, at the reply to it, and at that for the epoch. An update whose frame was put is made.
-static LOADS: [Loaded<'static>; 14] = [
-    Loaded {
-        words: ["load", "full", "01", "5"],
-        fails: NEVER,
-        status: 2,
-        lines: b"error usage\n",
-        frames: NO_FRAMES,
-        end: b"end epoch 0\n",
-    },
-    Loaded {
-        words: ["load", "full", "18446744073709551616", "5"],
-        fails: NEVER,
-        status: 2,
-        lines: b"error usage\n",
-        frames: NO_FRAMES,
-        end: b"end epoch 0\n",
-    },
-    Loaded {
-        words: ["load", "full", "1", "0"],
-        fails: NEVER,
-        status: 2,
-        lines: b"error usage\n",
-        frames: NO_FRAMES,
-        end: b"end epoch 0\n",
-    },
-    Loaded {
-        words: ["load", "full", "1", "20001"],
-        fails: NEVER,
-        status: 2,
-        lines: b"error usage\n",
-        frames: NO_FRAMES,
-        end: b"end epoch 0\n",
-    },
-    Loaded {
-        words: ["load", "full", "+1", "5"],
-        fails: NEVER,
-        status: 2,
-        lines: b"error usage\n",
-        frames: NO_FRAMES,
-        end: b"end epoch 0\n",
-    },
+static LOADS: [Loaded<'static>; 2] = [
     Loaded {
         words: ["load", "full", "1", "3"],
         fails: NEVER,
@@ -159,64 +115,66 @@ static LOADS: [Loaded<'static>; 14] = [
             \x52\x4a\x17\x7e\xec\xc7\x62\x60\x40\x33\xf6\x93\x8c\x07\x0b\x52",
         end: b"end epoch 18\n",
     },
-    Loaded {
-        words: ["load", "full", "1", "3"],
+];
+
+// Words that are refused: nothing is sent or begun.
+static REFUSED: [[&str; 4]; 5] = [
+    ["load", "full", "01", "5"],
+    ["load", "full", "18446744073709551616", "5"],
+    ["load", "full", "1", "0"],
+    ["load", "full", "1", "20001"],
+    ["load", "full", "+1", "5"],
+];
+
+// At which call the sink of frames fails, the hash of the frames, and the last line of a run over
+// the store that the load leaves.
+struct Cut {
+    fails: u64,
+    frames: &'static [u8],
+    end: &'static [u8],
+}
+
+// The sink takes a short frame in one call, a longer one in two, and those of an enrolment in four.
+// It fails before all of them, at the first update, at the reply to it and behind that; inside a
+// creation, at the reply to it, and at that for the epoch. An update whose frame was put is made.
+static CUTS: [Cut; 7] = [
+    Cut {
         fails: 0,
-        status: 6,
-        lines: b"",
         frames: NO_FRAMES,
         end: b"end epoch 0\n",
     },
-    Loaded {
-        words: ["load", "full", "1", "3"],
+    Cut {
         fails: 2,
-        status: 6,
-        lines: b"",
         frames: b"\x1b\x9c\x09\xe0\xbf\x9c\x57\xdc\xd7\x40\x77\x65\xd6\xf0\xb4\x7e\
             \xd9\x00\x3e\x85\x4e\xf2\xc3\x36\x1d\x63\x78\xac\xd7\xbe\xbb\xf3",
         end: b"end epoch 0\n",
     },
-    Loaded {
-        words: ["load", "full", "1", "3"],
+    Cut {
         fails: 3,
-        status: 6,
-        lines: b"",
         frames: b"\xf5\xc1\x50\x71\x88\xfa\x84\x1a\xd4\x22\x46\xc7\x1d\x72\xb8\xc5\
             \x33\xfc\xf2\x95\x39\xec\x33\xfa\x74\xc7\x4e\x54\x1c\x2a\xbc\xd9",
         end: b"end epoch 1\n",
     },
-    Loaded {
-        words: ["load", "full", "1", "3"],
+    Cut {
         fails: 4,
-        status: 6,
-        lines: b"",
         frames: b"\x3b\x7c\x01\x99\xb7\x63\x99\xba\x93\x1d\xe1\xf7\xce\x43\x03\x1a\
             \x58\xaf\x83\x30\x51\x13\x1e\x8a\x2b\xb1\xbc\x2b\x29\xd4\xe0\x07",
         end: b"end epoch 1\n",
     },
-    Loaded {
-        words: ["load", "full", "1", "3"],
+    Cut {
         fails: 41,
-        status: 6,
-        lines: b"",
         frames: b"\x31\xe2\xe3\x02\xc1\xc7\x7d\x18\xf1\xc2\x2b\x6b\xfc\x87\xac\xc9\
             \xf9\xa0\x5a\x63\x1d\x5d\x46\x2f\xb8\xd8\xf7\x94\x90\x55\x71\x8d",
         end: b"end epoch 8\n",
     },
-    Loaded {
-        words: ["load", "full", "1", "3"],
+    Cut {
         fails: 42,
-        status: 6,
-        lines: b"",
         frames: b"\x0c\x1a\x0b\x5c\xd0\x93\x3e\xce\xee\x19\xe6\xa2\x99\x97\xc3\x9e\
             \x22\x77\xc3\x64\xb6\x5f\xcb\x44\x38\xbf\xee\x4f\xac\xfe\x4a\xe9",
         end: b"end epoch 9\n",
     },
-    Loaded {
-        words: ["load", "full", "1", "3"],
+    Cut {
         fails: 44,
-        status: 6,
-        lines: b"",
         frames: b"\x8e\x83\xef\x7b\x73\x4f\x84\x6e\x79\x99\xe4\xd5\x07\x5f\x51\x09\
             \x66\x4e\xfd\x8e\xde\x7e\x01\x05\xb2\x15\x29\x51\xb8\xd5\xae\x83",
         end: b"end epoch 9\n",
@@ -227,10 +185,50 @@ fn loads() -> &'static [Loaded<'static>] {
     &LOADS
 }
 
+fn refused() -> &'static [[&'static str; 4]] {
+    &REFUSED
+}
+
+fn cuts() -> &'static [Cut] {
+    &CUTS
+}
+
 #[test]
 fn lines_and_frames_of_loads(rt: HostRuntime) -> Result<(), Fail> {
     for row in loads() {
         assert_load(&rt, rt.alloc(), row)?;
+    }
+    Ok(())
+}
+
+#[test]
+fn words_of_no_load(rt: HostRuntime) -> Result<(), Fail> {
+    for words in refused() {
+        let row = Loaded {
+            words: *words,
+            fails: NEVER,
+            status: 2,
+            lines: b"error usage\n",
+            frames: NO_FRAMES,
+            end: b"end epoch 0\n",
+        };
+        assert_load(&rt, rt.alloc(), &row)?;
+    }
+    Ok(())
+}
+
+#[test]
+fn frames_that_are_not_put(rt: HostRuntime) -> Result<(), Fail> {
+    for cut in cuts() {
+        let row = Loaded {
+            words: ["load", "full", "1", "3"],
+            fails: cut.fails,
+            status: 6,
+            lines: b"",
+            frames: cut.frames,
+            end: cut.end,
+        };
+        assert_load(&rt, rt.alloc(), &row)?;
     }
     Ok(())
 }

@@ -205,6 +205,20 @@ pub struct Row<'a> {
     pub lines: &'a [u8],
 }
 
+/// No command, and how a run over it ends.
+pub const NOTHING: Row<'static> = Row {
+    script: b"",
+    status: 0,
+    lines: b"end epoch 0\n",
+};
+
+/// One user.
+pub const ONE_USER: Row<'static> = Row {
+    script: b"enrol alice\n",
+    status: 0,
+    lines: b"ok 1\nend epoch 1\n",
+};
+
 /// Asserts how a run ended, and that all lines that were wanted were put.
 pub fn assert_ended(rt: &impl Abort, code: u8, out: &Wants<'_>, status: u8) {
     assert_eq!(rt; out.lines, b"".as_slice());

@@ -1,5 +1,5 @@
 use Rattle.std.proofs.Common.{ℕ, List, ◌∙◌, subst, inl}
-use Rattle.overstore.specs.Answering.{EndsIn}
+use Rattle.ov_report.specs.Ends.{EndsIn}
 use Rattle.overstore.proofs.finish.put_bad_line.Goals as goal
 
 pub returns-in-Ok-clause-ends : goal.returns-in-Ok-clause-ends

@@ -46,7 +46,7 @@ returns-in-Ok-clause-causes g c =
         disk = λ e. absurd (summary_not 4 _ _ _ _ _ _ ends (λ z. omega arith) (λ z. omega arith) (λ z. omega arith) e);
       };
       read = λ e. summary_not 5 _ _ _ _ _ _ ends (λ z. omega arith) (λ z. omega arith) (λ z. omega arith) e;
-      write = λ e. inl (c.put_summary.ensures.write e);
+      write = λ e. inl (c.put_summary.ensures.put.write e);
       tag = λ e. absurd (summary_not 12 _ _ _ _ _ _ ends (λ z. omega arith) (λ z. omega arith) (λ z. omega arith) e);
     }
 

@@ -80,7 +80,7 @@ returns-in-Ok-None-clause-causes g c =
     record {
       disk = record { same = refl; later = omega arith; disk = λ e. absurd (never 4 (λ z. omega arith) (λ z. omega arith) e) };
       read = λ e. absurd (never 5 (λ z. omega arith) (λ z. omega arith) e);
-      write = λ e. inl (c.put_last.ensures.write (λ e. cc) e);
+      write = λ e. inl (c.put_last.ensures.put.write e);
       tag = λ e. absurd (never 12 (λ z. omega arith) (λ z. omega arith) e);
     }
 
@@ -90,6 +90,6 @@ returns-in-Err-clause-causes g c =
     record {
       disk = record { same = refl; later = omega arith; disk = λ e. absurd (never 4 (λ z. omega arith) (λ z. omega arith) e) };
       read = λ e. search rules;
-      write = λ e. inl (c.put_last-in-Err.ensures.write (λ e. cc) e);
+      write = λ e. inl (c.put_last-in-Err.ensures.put.write e);
       tag = λ e. absurd (never 12 (λ z. omega arith) (λ z. omega arith) e);
     }

@@ -109,6 +109,6 @@ returns-in-Err-clause-causes g c =
         disk = λ e. c.in-Err.ensures.call.2 (disk_said c.in-Err.refused.fault _ _ _ _ ends e);
       };
       read = λ e. absurd (fault_no_read c.in-Err.refused.fault _ _ _ _ ends e);
-      write = λ e. inl (c.put_fault.ensures.write e);
+      write = λ e. inl (c.put_fault.ensures.put.write e);
       tag = λ e. absurd (fault_no_tag c.in-Err.refused.fault _ _ _ _ ends e);
     }

@@ -24,15 +24,15 @@ returns-clause-text g c = λ p stands.
 pub returns-in-Err-clause-text : goal.returns-in-Err-clause-text
 returns-in-Err-clause-text g c = λ p stands.
     text_answers g.D.Disk.reads g.D.Disk.may_leave g.D.Disk.moment g.D.Disk.left_since g.I.Source.takes g.I.Source.left _ p (g.I.Source.left c.args.input.now) _ _ _ _ _ _ _ _ _ _
-    (ends_unread g.D.Disk.reads g.D.Disk.may_leave g.D.Disk.moment g.D.Disk.left_since _ p (g.I.Source.left c.args.input.now) _ _ _ _ (g.met.D.Disk.only_now c.args.machine.now.disk) c.put_last.ensures.ends)
+    (ends_unread g.D.Disk.reads g.D.Disk.may_leave g.D.Disk.moment g.D.Disk.left_since _ p (g.I.Source.left c.args.input.now) _ _ _ _ (g.met.D.Disk.only_now c.args.machine.now.disk) c.put_memory.ensures.ends)
     (untouched g.I.Source.takes g.I.Source.left p _ _ _ _)
-    (untraced_all _ p (g.I.Source.left c.args.input.now) _ _ _ _ Memory (λ text first. first) c.put_last.ensures.ends)
+    (untraced_all _ p (g.I.Source.left c.args.input.now) _ _ _ _ Memory (λ text first. first) c.put_memory.ensures.ends)
 
 pub returns-clause-status : goal.returns-clause-status
 returns-clause-status g c = finishes_so _ _ _ _ _ c.finish.ensures.finish
 
 pub returns-in-Err-clause-status : goal.returns-in-Err-clause-status
-returns-in-Err-clause-status g c = ends_so IsScriptStatus _ 7 _ _ _ script_seven script_six c.put_last.ensures.ends
+returns-in-Err-clause-status g c = ends_so IsScriptStatus _ 7 _ _ _ script_seven script_six c.put_memory.ensures.ends
 
 pub returns-clause-causes : goal.returns-clause-causes
 returns-clause-causes g c =
@@ -51,10 +51,10 @@ returns-clause-causes g c =
 
 pub returns-in-Err-clause-causes : goal.returns-in-Err-clause-causes
 returns-in-Err-clause-causes g c =
-    let never = λ (n : ℕ). memory_not n _ _ _ c.put_last.ensures.ends in
+    let never = λ (n : ℕ). memory_not n _ _ _ c.put_memory.ensures.ends in
     record {
       disk = record { same = refl; later = omega arith; disk = λ e. absurd (never 4 (λ z. omega arith) (λ z. omega arith) e) };
       read = λ e. absurd (never 5 (λ z. omega arith) (λ z. omega arith) e);
-      write = λ e. inl (c.put_last.ensures.write (λ e. cc) e);
+      write = λ e. inl (c.put_memory.ensures.put.write e);
       tag = λ e. absurd (never 12 (λ z. omega arith) (λ z. omega arith) e);
     }

@@ -1,0 +1,156 @@
+//! What is wrong and what to do, for standard error.
+use crate::status::Status;
+
+/// Where the program was when it ended.
+#[derive(Clone, Copy, Debug, PartialEq, Eq)]
+pub enum Stage {
+    /// It was printing a text about itself.
+    Telling,
+    /// There was a `--quiet` among its words that doesn't belong there.
+    Quiet,
+    /// There was no key file.
+    NoKeys,
+    /// The key file couldn't be read.
+    UnreadKeys,
+    /// It was asked for a load.
+    Load,
+    /// It had put no reply.
+    Unanswered,
+    /// It had put replies.
+    Answered,
+}
+
+const WORDS: &str = "unknown words; use `overstore run full`, `overstore run delta`, \
+    `overstore load full|delta NUMBER COUNT` or `overstore --help`";
+
+const QUIET_WORD: &str = "`--quiet` stands before `run`, and nowhere else: \
+    `overstore --quiet run full`";
+
+const LOAD_WORDS: &str = "unknown words behind `load`; it takes full or delta, a number below \
+    18446744073709551616 without leading zeros, and a count of 1 to 20000";
+
+const BAD_LINE: &str = "standard output names a bad line of the script, where one command stands \
+    on each line: `enrol USER`, `list FILE`, `read USER FILE`, `grant USER FILE`, \
+    `revoke USER FILE`, `epoch`, or `create FILE LIST LENGTH` with so many bytes and an LF behind \
+    it; overstore-script(5) has their forms; what was answered before lasts; correct it, and run \
+    from there on as a script of its own";
+
+const DISK_AT_FIRST: &str = "store.book or store.blobs failed or is in use; nothing was answered; \
+    ask for the epoch before you run the script again";
+
+const DISK: &str = "store.book or store.blobs failed; what was answered lasts; ask for the epoch, \
+    and run the rest";
+
+const LOAD_DISK: &str = "store.book or store.blobs failed or is in use; what the load did before \
+    lasts";
+
+const NO_KEYS: &str = "there is no keys.hex in this folder; no command was read and nothing was \
+    answered; bring the store's own, or make one for a new store: (umask 077; set -C; od -An -v \
+    -tx1 -N64 /dev/urandom | tr -d ' \\n' | fold -w 64 > keys.hex)";
+
+const UNREAD_KEYS: &str = "keys.hex can't be read; no command was read and nothing was answered; \
+    see that it is a file that you may read, and run again";
+
+const READ_AT_FIRST: &str = "reading standard input failed; nothing was answered; see where the \
+    script comes from, and run it again";
+
+const READ: &str = "reading standard input failed; what was answered lasts; see where the script \
+    comes from, and run the rest";
+
+const TELLING: &str = "writing to standard output failed";
+
+const WRITE: &str = "writing the replies or trace.bin failed; what was put lasts; ask for the \
+    epoch, and run the rest";
+
+const LOAD_WRITE: &str = "writing the lines or trace.bin failed; what the load did lasts";
+
+const READER_IS_GONE: &str = "whoever read the replies closed their end; what was put lasts; ask \
+    for the epoch, and run the rest";
+
+const LOAD_READER_IS_GONE: &str = "whoever read the lines closed their end; what the load did \
+    lasts";
+
+const MEMORY_AT_FIRST: &str = "the system refused memory; nothing was answered; free some, and \
+    ask for the epoch before you run the script again";
+
+const MEMORY: &str = "the system refused memory; what was answered lasts; free some, ask for the \
+    epoch, and run the rest";
+
+const LOAD_MEMORY: &str = "the system refused memory; what the load did before lasts; free some";
+
+const NOT_A_STORE: &str = "store.book is damaged or no store; put a good copy in its place or run \
+    elsewhere";
+
+const OTHER_STORE: &str = "store.book is of other keys or the other mode; use its keys.hex and \
+    its mode";
+
+const BAD_KEYS: &str = "keys.hex isn't two different lines of 64 hexadecimal digits; no command \
+    was read and nothing was answered; put the right one in its place, and run again";
+
+const LONG: &str = "the script is past 268435456 bytes; what was answered lasts; run what follows \
+    as a script of its own";
+
+const WRONG_TAG: &str = "a file isn't what its owner sent; run again, and if it stays so put a \
+    good store.book in its place";
+
+// On words that aren't known.
+fn on_words(stage: Stage) -> &'static str {
+    match stage {
+        Stage::Quiet => QUIET_WORD,
+        Stage::Load => LOAD_WORDS,
+        _ => WORDS,
+    }
+}
+
+// On a read that failed.
+fn on_read(stage: Stage) -> &'static str {
+    match stage {
+        Stage::NoKeys => NO_KEYS,
+        Stage::UnreadKeys => UNREAD_KEYS,
+        Stage::Answered => READ,
+        _ => READ_AT_FIRST,
+    }
+}
+
+// On a write that failed.
+fn on_write(stage: Stage, reader_is_gone: bool) -> &'static str {
+    match (stage, reader_is_gone) {
+        (Stage::Telling, _) => TELLING,
+        (Stage::Load, false) => LOAD_WRITE,
+        (Stage::Load, true) => LOAD_READER_IS_GONE,
+        (_, false) => WRITE,
+        (_, true) => READER_IS_GONE,
+    }
+}
+
+// The one of three texts that is right there.
+fn by_work(
+    stage: Stage,
+    load: &'static str,
+    at_first: &'static str,
+    behind_some: &'static str,
+) -> &'static str {
+    match stage {
+        Stage::Load => load,
+        Stage::Answered => behind_some,
+        _ => at_first,
+    }
+}
+
+/// What to say of an end with this status.
+pub fn advice_on(status: Status, stage: Stage, reader_is_gone: bool) -> Option<&'static str> {
+    match status {
+        Status::Done => None,
+        Status::Usage => Some(on_words(stage)),
+        Status::BadLine => Some(BAD_LINE),
+        Status::DiskFault => Some(by_work(stage, LOAD_DISK, DISK_AT_FIRST, DISK)),
+        Status::ReadFault => Some(on_read(stage)),
+        Status::WriteFault => Some(on_write(stage, reader_is_gone)),
+        Status::OutOfMemory => Some(by_work(stage, LOAD_MEMORY, MEMORY_AT_FIRST, MEMORY)),
+        Status::NotAStore => Some(NOT_A_STORE),
+        Status::OtherStore => Some(OTHER_STORE),
+        Status::BadKeys => Some(BAD_KEYS),
+        Status::Long => Some(LONG),
+        Status::WrongTag => Some(WRONG_TAG),
+    }
+}
