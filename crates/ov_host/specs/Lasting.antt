@@ -49,8 +49,8 @@ module _ {D : Type 0} (reads : D → Option Image) (may_leave : D → Image → 
     pub told : now.failed ≡ false → (i : Image) × (reads now.disk ≡ Some i)
 
   -- From one store the updates with these spellings lead to another: what is served goes on by
-  -- them, the keys stay, and, where the disk tells its bytes and hadn't failed, it endures. It failed
-  -- in an update only where its count of faults rose.
+  -- them, the keys stay, and, where the disk tells its bytes and hadn't failed, it endures. The
+  -- disk failed in an update only where its count of faults rose.
   pub record GoesOn (faults : D → ℕ) (start : Opened D) (list : List (List ℕ)) (now : Opened D)
       : Type 0 where
     pub reaches : Reaches (serving_of start) list (serving_of now)
