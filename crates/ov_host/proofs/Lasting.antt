@@ -1,5 +1,5 @@
 -- A server's disk goes on with it, answer by answer.
-use Rattle.std.proofs.Common.{◌≡◌, ◌∙◌, ◌⊎◌, inl, inr, ℕ, ◌≤◌, Bool, true, false, List, [], ◌∷◌, ◌++◌, Result, Ok, Err, Option, refl, sym, ap, subst, append_assoc, append-nil, true≢false}
+use Rattle.std.proofs.Common.{◌≡◌, ◌∙◌, ◌⊎◌, inl, inr, ℕ, ◌≤◌, Bool, true, false, List, [], ◌∷◌, ◌++◌, Result, Ok, Err, Option, refl, sym, ap, subst, append_assoc, append-nil, true≢false, arith}
 use Rattle.std.specs.Prelude.{OnErr, OnOk}
 use Rattle.ov_base.specs.declared.memory.Memory.{Memory as NoRoom}
 use Rattle.ov_record.specs.Updates.{SealedUpdate}
@@ -16,12 +16,22 @@ use Rattle.ov_protocol.specs.Updating.{AnswersUpdate, owner_tag, spelled_by, upd
 use Rattle.ov_protocol.specs.Replies.{AnswersRead, made_of, updates_asked}
 use Rattle.ov_peer.specs.Disks.{AsksBytes, HasUpdate}
 use Rattle.ov_peer.specs.Spellings.{longer_if, says_accepted, spelling_in, spelling_of, with_accepted}
+use Rattle.ov_base.specs.Causes.{Rose}
 use Rattle.ov_store.specs.Opened.{Opened, Serves}
-use Rattle.ov_server.specs.Answering.{AnswersOrFails, FailsUpdate, IsAnswered, IsFaulted, KeepsWith, LeavesAsked, serving_of}
+use Rattle.ov_store.specs.Updating.{IsCallOf}
+use Rattle.ov_server.specs.Answering.{AnswersOrFails, FailsUpdate, IsAnswered, IsFaulted, IsNewFault, KeepsWith, LeavesAsked, serving_of}
 use Rattle.ov_server.specs.Following.{Reaches, RepliesAfter}
 use Rattle.ov_server.proofs.AnswerKinds.{IsMade, accepted_made, nothing_made, says_so}
 use Rattle.ov_server.proofs.Following.{reached_after, replies_ok}
 use Rattle.ov_host.specs.Lasting.{Endures, GoesOn, KeepsAll, KeepsFirst, KeepsSome}
+
+-- ---- counts
+
+rose_from : (first mid last : ℕ) → first ≤ mid → Rose mid last → Rose first last
+rose_from first mid last low rose = grind arith
+
+rose_still : (first mid last : ℕ) → Rose first mid → mid ≤ last → Rose first last
+rose_still first mid last rose low = grind arith
 
 -- ---- histories with updates behind them
 
@@ -94,12 +104,14 @@ has_update s request n made is m =
 
 module _ {D : Type 0} (reads : D → Option Image) (may_leave : D → Image → Type 0) (moment : D → ℕ) (left_since : D → ℕ → Image → Type 0)
     (counts_now : (disk : D) (t : ℕ) (c : Image) → t ≤ moment disk → may_leave disk c → left_since disk t c)
-    (only_now : (disk : D) (c : Image) → left_since disk (moment disk) c → may_leave disk c) where
+    (only_now : (disk : D) (c : Image) → left_since disk (moment disk) c → may_leave disk c) (borrow faults : D → ℕ) where
   -- a store goes on from itself
-  pub begins : (s : Opened D) → Reaches (serving_of s) [] (serving_of s) → GoesOn reads may_leave moment left_since s [] s
+  pub begins : (s : Opened D) → Reaches (serving_of s) [] (serving_of s) → GoesOn reads may_leave moment left_since faults s [] s
   begins s reaches = record {
     reaches = reaches;
     keys = refl;
+    later = omega arith;
+    cause = λ sound failed. absurd (true≢false (sym failed ∙ sound));
     endures = λ g serves sound i told.
         let here : (c : Image) → may_leave s.disk c → Keeps s.keys (followed g []) c =
         λ c left. subst (λ (h : SealedHistory). Keeps s.keys h c) (sym (followed-nil g)) (serves.disk sound i told c left) in record {
@@ -113,8 +125,8 @@ module _ {D : Type 0} (reads : D → Option Image) (may_leave : D → Image → 
   -- ---- one answer
 
   module _ (old new : Opened D) (request reply : List ℕ) (answered : AnswersOrFails reads may_leave old new request reply)
-      (any : LeavesAsked reads may_leave moment left_since request old new) (same_keys : new.keys ≡ old.keys)
-      (start : Opened D) (list : List (List ℕ)) (before : GoesOn reads may_leave moment left_since start list old) where
+      (any : LeavesAsked reads may_leave moment left_since request old new) (call : IsCallOf borrow faults old new (IsNewFault old request reply))
+      (start : Opened D) (list : List (List ℕ)) (before : GoesOn reads may_leave moment left_since faults start list old) where
     -- the updates that were made so far endure in this store
     Lasts : SealedHistory → List SealedUpdate → Opened D → Type 0
     Lasts g us s = Endures reads may_leave moment left_since g us start s
@@ -155,7 +167,7 @@ module _ {D : Type 0} (reads : D → Option Image) (may_leave : D → Image → 
               (λ c keeps. asked_some start.keys g us c (updates_asked (request_of request)) is.frame.made new.failed asked
               (subst (λ (k : Keys). KeepsWith k (followed g us) (updates_asked (request_of request)) c) before.keys keeps));
           at_end = λ c left.
-              inl (subst (λ (k : Keys). Keeps k (followed g (us ++ is.frame.made)) c) (same_keys ∙ before.keys) (next.disk still told_new.0 told_new.1 c left));
+              inl (subst (λ (k : Keys). Keeps k (followed g (us ++ is.frame.made)) c) (call.0 ∙ before.keys) (next.disk still told_new.0 told_new.1 c left));
           goes_on = λ same. next;
           told = λ same. told_new;
         }
@@ -212,12 +224,23 @@ module _ {D : Type 0} (reads : D → Option Image) (may_leave : D → Image → 
     lasts_after true so (inr is) g e = absurd (true≢false (sym so ∙ ap says_accepted is.spelled))
     lasts_after false so (inr is) g e = faulted_lasts g (updates_of list) is e
 
+    -- the disk failed only where its count rose
+    cause_after : start.failed ≡ false → new.failed ≡ true → Rose (faults start.disk) (faults new.disk)
+    cause_after sound failed = by_old old.failed refl answered where
+      by_old : (was : Bool) → old.failed ≡ was → AnswersOrFails reads may_leave old new request reply → Rose (faults start.disk) (faults new.disk)
+      by_old true bad is = rose_still (faults start.disk) (faults old.disk) (faults new.disk) (before.cause sound bad) call.2
+      by_old false was (inl is) = absurd (true≢false (sym failed ∙ is.failed ∙ was))
+      by_old false was (inr is) =
+          rose_from (faults start.disk) (faults old.disk) (faults new.disk) before.later (call.3 (is.spelled, λ update. was))
+
     -- the store goes on by what was accepted
-    pub goes_on_after : GoesOn reads may_leave moment left_since start (with_accepted list request reply) new
+    pub goes_on_after : GoesOn reads may_leave moment left_since faults start (with_accepted list request reply) new
     unfolding Lasts
     goes_on_after = record {
       reaches = reached_after reads may_leave old new request reply answered (serving_of start) list before.reaches;
-      keys = same_keys ∙ before.keys;
+      keys = call.0 ∙ before.keys;
+      later = omega (arith, before.later, call.2);
+      cause = cause_after;
       endures = λ g serves sound i told.
           lasts_after (says_accepted reply) refl answered g (before.endures g serves sound i told);
     }
@@ -226,20 +249,20 @@ module _ {D : Type 0} (reads : D → Option Image) (may_leave : D → Image → 
 
   module _ (old new : Opened D) (request reply : List ℕ) where
     pub goes_on_ok : (r : Result (Unit {0}) NoRoom) → OnOk r (AnswersOrFails reads may_leave old new request reply)
-        → LeavesAsked reads may_leave moment left_since request old new → new.keys ≡ old.keys
-        → (start : Opened D) (list : List (List ℕ)) → GoesOn reads may_leave moment left_since start list old
-        → OnOk r (GoesOn reads may_leave moment left_since start (with_accepted list request reply) new)
-    goes_on_ok (Ok done) answered any same_keys start list before = goes_on_after old new request reply answered any same_keys start list before
-    goes_on_ok (Err why) answered any same_keys start list before = tt
+        → LeavesAsked reads may_leave moment left_since request old new → IsCallOf borrow faults old new (IsNewFault old request reply)
+        → (start : Opened D) (list : List (List ℕ)) → GoesOn reads may_leave moment left_since faults start list old
+        → OnOk r (GoesOn reads may_leave moment left_since faults start (with_accepted list request reply) new)
+    goes_on_ok (Ok done) answered any call start list before = goes_on_after old new request reply answered any call start list before
+    goes_on_ok (Err why) answered any call start list before = tt
 
     pub goes_on_err : (r : Result (Unit {0}) NoRoom) → OnErr r ((new ≡ old) × (reply ≡ []))
-        → (start : Opened D) (list : List (List ℕ)) → GoesOn reads may_leave moment left_since start list old
-        → OnErr r (GoesOn reads may_leave moment left_since start list new)
+        → (start : Opened D) (list : List (List ℕ)) → GoesOn reads may_leave moment left_since faults start list old
+        → OnErr r (GoesOn reads may_leave moment left_since faults start list new)
     goes_on_err (Ok done) same start list before = tt
-    goes_on_err (Err why) (same, none) start list before = subst (GoesOn reads may_leave moment left_since start list) (sym same) before
+    goes_on_err (Err why) (same, none) start list before = subst (GoesOn reads may_leave moment left_since faults start list) (sym same) before
 
   -- and of the replies
   pub replies_after : (old new : Opened D) (request reply : List ℕ) (r : Result (Unit {0}) NoRoom) → OnOk r (AnswersOrFails reads may_leave old new request reply)
-      → (start : Opened D) (list : List (List ℕ)) → GoesOn reads may_leave moment left_since start list old
+      → (start : Opened D) (list : List (List ℕ)) → GoesOn reads may_leave moment left_since faults start list old
       → OnOk r (RepliesAfter (serving_of start) list request reply)
   replies_after old new request reply r answered start list before = replies_ok reads may_leave old new request reply r answered start list before.reaches

@@ -12,35 +12,35 @@ use Rattle.ov_host.specs.declared.hosted.Hosted.{Hosted}
 use Rattle.ov_host.proofs.Accepting.{sessions_reach}
 use Rattle.ov_host.proofs.Surviving.{survives_from}
 
-module _ {D S : Type 0} (reads : D → Option Image) (may_leave : D → Image → Type 0) (moment : D → ℕ) (left_since : D → ℕ → Image → Type 0)
+module _ {D S : Type 0} (reads : D → Option Image) (may_leave : D → Image → Type 0) (moment : D → ℕ) (left_since : D → ℕ → Image → Type 0) (faults : D → ℕ)
     (left written : S → Option (List ℕ)) (read_faults write_faults : S → ℕ) where
   -- how a store goes on
   abbrev Reached : Opened D → List (List ℕ) → Opened D → Type 0
-  Reached v list w = GoesOn reads may_leave moment left_since v list w
+  Reached v list w = GoesOn reads may_leave moment left_since faults v list w
 
   pub served_reach : (v w : Opened D) (old new : Doorway S) (wanted : ℕ) (before after : Option (List ℕ)) (status : ℕ) → Reached v [] v
-      → (serves : Serves (serves_store reads may_leave moment left_since left written read_faults write_faults) v w old new wanted before after status)
-      → Reached v (accepted reads may_leave moment left_since left written read_faults write_faults v w old new wanted before after status serves) w
+      → (serves : Serves (serves_store reads may_leave moment left_since faults left written read_faults write_faults) v w old new wanted before after status)
+      → Reached v (accepted reads may_leave moment left_since faults left written read_faults write_faults v w old new wanted before after status serves) w
   served_reach v w old new wanted before after status here (inl fails) = subst (Reached v []) (sym fails.same) here
   served_reach v w old new wanted before after status here (inr (address, inl fails)) = subst (Reached v []) (sym fails.same) here
   served_reach v w old new wanted before after status here (inr (address, inr tells)) =
-      sessions_reach (GoesOn reads may_leave moment left_since) store_replies left written read_faults write_faults v v tells.serves.sessions.sessions w [] here tells.serves.sessions.follows
+      sessions_reach (GoesOn reads may_leave moment left_since faults) store_replies left written read_faults write_faults v v tells.serves.sessions.sessions w [] here tells.serves.sessions.follows
 
   -- the server of a store that was just begun on this disk served
   pub store_served : (k : Keys) (mode : Mode) (disk : D) (s last : Opened D) (old new : Doorway S) (wanted : ℕ) (before after : Option (List ℕ)) (hosted : Hosted D)
       → IsBegun reads may_leave k mode (reads disk) s → LeavesHistory reads may_leave moment left_since k mode disk s.disk → hosted.disk ≡ None
       → (v : Opened D) → v ≡ s → Reached v [] v
-      → Serves (serves_store reads may_leave moment left_since left written read_faults write_faults) v last old new wanted before after hosted.status
-      → ServesStore reads may_leave moment left_since left written read_faults write_faults k mode disk s old new wanted before after hosted
+      → Serves (serves_store reads may_leave moment left_since faults left written read_faults write_faults) v last old new wanted before after hosted.status
+      → ServesStore reads may_leave moment left_since faults left written read_faults write_faults k mode disk s old new wanted before after hosted
   store_served k mode disk s last old new wanted before after hosted begun first back v same here serves =
-      let from : Serves (serves_store reads may_leave moment left_since left written read_faults write_faults) s last old new wanted before after hosted.status =
-      subst (λ (m : Opened D). Serves (serves_store reads may_leave moment left_since left written read_faults write_faults) m last old new wanted before after hosted.status) same serves in
+      let from : Serves (serves_store reads may_leave moment left_since faults left written read_faults write_faults) s last old new wanted before after hosted.status =
+      subst (λ (m : Opened D). Serves (serves_store reads may_leave moment left_since faults left written read_faults write_faults) m last old new wanted before after hosted.status) same serves in
       let on = served_reach s last old new wanted before after hosted.status (subst (λ (m : Opened D). Reached m [] m) same here) from in
       record {
         back = back;
         last = last;
         serves = from;
         goes_on = on;
-        survives = survives_from reads may_leave moment left_since k mode disk s last
-            (accepted reads may_leave moment left_since left written read_faults write_faults s last old new wanted before after hosted.status from) begun first on;
+        survives = survives_from reads may_leave moment left_since faults k mode disk s last
+            (accepted reads may_leave moment left_since faults left written read_faults write_faults s last old new wanted before after hosted.status from) begun first on;
       }

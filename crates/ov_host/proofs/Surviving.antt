@@ -10,10 +10,10 @@ use Rattle.ov_store.specs.Beginning.{IsBegun, LeavesHistory}
 use Rattle.ov_store.specs.Opened.{Opened}
 use Rattle.ov_host.specs.Lasting.{Endures, GoesOn, KeepsAll, KeepsSome, Survives}
 
-module _ {D : Type 0} (reads : D → Option Image) (may_leave : D → Image → Type 0) (moment : D → ℕ) (left_since : D → ℕ → Image → Type 0) where
+module _ {D : Type 0} (reads : D → Option Image) (may_leave : D → Image → Type 0) (moment : D → ℕ) (left_since : D → ℕ → Image → Type 0) (faults : D → ℕ) where
   pub survives_from : (k : Keys) (mode : Mode) (disk : D) (s last : Opened D) (list : List (List ℕ))
       → IsBegun reads may_leave k mode (reads disk) s → LeavesHistory reads may_leave moment left_since k mode disk s.disk
-      → GoesOn reads may_leave moment left_since s list last
+      → GoesOn reads may_leave moment left_since faults s list last
       → Told (reads disk) (λ i. Only i (may_leave disk) → (g : SealedHistory) → g.mode ≡ mode → IsImageOf k g i
       → Survives reads may_leave moment left_since k g (updates_of list) last.failed disk last.disk)
   survives_from k mode disk s last list begun first on i told only g mode_is stands =

@@ -129,12 +129,12 @@ abbrev pub store_replies : {D : Type 0} → Opened D → List (List ℕ) → Lis
 store_replies start list request reply = RepliesAfter (serving_of start) list request reply
 
 module _ {D S : Type 0} (reads : D → Option Image) (may_leave : D → Image → Type 0)
-    (moment : D → ℕ) (left_since : D → ℕ → Image → Type 0)
+    (moment : D → ℕ) (left_since : D → ℕ → Image → Type 0) (faults : D → ℕ)
     (left written : S → Option (List ℕ)) (read_faults write_faults : S → ℕ) where
   -- one session of the server, by the bytes and the counts of its stream
   abbrev pub serves_store : OneSession (Opened D) S
   serves_store v w given stream ending =
-      serves_alone (GoesOn reads may_leave moment left_since) store_replies
+      serves_alone (GoesOn reads may_leave moment left_since faults) store_replies
       left written read_faults write_faults v w given stream ending
 
   -- the spellings of the updates that were accepted in all sessions, in order
@@ -144,7 +144,7 @@ module _ {D S : Type 0} (reads : D → Option Image) (may_leave : D → Image �
   accepted v w old new wanted before after status (inl fails) = []
   accepted v w old new wanted before after status (inr (address, inl fails)) = []
   accepted v w old new wanted before after status (inr (address, inr tells)) =
-      accepted_in (GoesOn reads may_leave moment left_since) store_replies
+      accepted_in (GoesOn reads may_leave moment left_since faults) store_replies
       left written read_faults write_faults v tells.serves.sessions.sessions w []
       tells.serves.sessions.follows
 
@@ -156,7 +156,7 @@ module _ {D S : Type 0} (reads : D → Option Image) (may_leave : D → Image �
     pub back : hosted.disk ≡ None
     pub last : Opened D
     pub serves : Serves serves_store s last old new wanted before after hosted.status
-    pub goes_on : GoesOn reads may_leave moment left_since s
+    pub goes_on : GoesOn reads may_leave moment left_since faults s
         (accepted s last old new wanted before after hosted.status serves) last
     pub survives : Told (reads disk) (λ i. Only i (may_leave disk)
         → (g : SealedHistory) → g.mode ≡ mode → IsImageOf k g i

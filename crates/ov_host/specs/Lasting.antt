@@ -1,5 +1,7 @@
 -- What the disk of a server keeps while it answers.
-use Rattle.std.specs.Prelude.{◌≡◌, ◌⊎◌, ℕ, List, [], ◌∷◌, ◌++◌, Bool, true, false, Option, Some}
+use Rattle.std.specs.Prelude.{◌≡◌, ◌≤◌, ◌⊎◌, ℕ, List, [], ◌∷◌, ◌++◌}
+use Rattle.std.specs.Prelude.{Bool, true, false, Option, Some}
+use Rattle.ov_base.specs.Causes.{Rose}
 use Rattle.ov_base.specs.declared.mode.Mode.{Mode}
 use Rattle.ov_record.specs.Updates.{SealedUpdate}
 use Rattle.ov_history.specs.Sealed.{SealedHistory}
@@ -47,10 +49,15 @@ module _ {D : Type 0} (reads : D → Option Image) (may_leave : D → Image → 
     pub told : now.failed ≡ false → (i : Image) × (reads now.disk ≡ Some i)
 
   -- From one store the updates with these spellings lead to another: what is served goes on by
-  -- them, the keys stay, and, where the disk tells its bytes and hadn't failed, it endures.
-  pub record GoesOn (start : Opened D) (list : List (List ℕ)) (now : Opened D) : Type 0 where
+  -- them, the keys stay, and, where the disk tells its bytes and hadn't failed, it endures. The
+  -- disk failed in an update only where its count of faults rose.
+  pub record GoesOn (faults : D → ℕ) (start : Opened D) (list : List (List ℕ)) (now : Opened D)
+      : Type 0 where
     pub reaches : Reaches (serving_of start) list (serving_of now)
     pub keys : now.keys ≡ start.keys
+    pub later : faults start.disk ≤ faults now.disk
+    pub cause : start.failed ≡ false → now.failed ≡ true
+        → Rose (faults start.disk) (faults now.disk)
     pub endures : (g : SealedHistory) → Serves reads may_leave g start → start.failed ≡ false
         → Told (reads start.disk) (λ _. Endures g (updates_of list) start now)
 
@@ -65,12 +72,12 @@ module _ {D : Type 0} (reads : D → Option Image) (may_leave : D → Image → 
 
   -- where a store was begun on a disk that had nothing pending and whose image stood for a history,
   -- and went on by some updates, the history survives with them
-  abbrev pub StoresSurvive : Type 0
-  StoresSurvive =
+  abbrev pub StoresSurvive : (D → ℕ) → Type 0
+  StoresSurvive faults =
       (k : Keys) (mode : Mode) (disk : D) (s last : Opened D) (list : List (List ℕ))
       → IsBegun reads may_leave k mode (reads disk) s
       → LeavesHistory reads may_leave moment left_since k mode disk s.disk
-      → GoesOn s list last
+      → GoesOn faults s list last
       → Told (reads disk) (λ i. Only i (may_leave disk) → (g : SealedHistory)
       → g.mode ≡ mode → IsImageOf k g i
       → Survives k g (updates_of list) last.failed disk last.disk)

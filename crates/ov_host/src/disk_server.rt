@@ -27,7 +27,8 @@ impl<D: Disk> DiskServer<D> {
     /// This server, which has made no update since.
     pub fn new(server: Server<D>) -> DiskServer<D>
         ensures same { result ≡ server }
-        ensures begins { GoesOn D.reads D.may_leave D.moment D.left_since result [] result }
+        ensures begins { GoesOn D.reads D.may_leave D.moment D.left_since D.faults
+            result [] result }
     {
         server.known();
         DiskServer { server }
@@ -40,7 +41,7 @@ impl<D: Disk> Answerer for DiskServer<D> {
     ghost use Rattle.ov_server.specs.Following.{RepliesAfter};
 
     ghost reached = { λ start list now.
-        GoesOn D.reads D.may_leave D.moment D.left_since start list now };
+        GoesOn D.reads D.may_leave D.moment D.left_since D.faults start list now };
 
     ghost replies = { λ start list request reply.
         RepliesAfter (serving_of start) list request reply };

@@ -75,7 +75,7 @@ pub fn host<R: Wait, D: Disk + Drop, A: Door, O: Sink>(
     ensures hosts { (begun : Result (Opened D) (BeginRefused D))
         × Begins D.reads D.may_leave D.moment D.left_since D.borrow D.faults
         (keys settings.now.base_check settings.now.surface.bytes) settings.now.mode disk begun
-        × Hosts D.reads D.may_leave D.moment D.left_since A.Stream.Source.left
+        × Hosts D.reads D.may_leave D.moment D.left_since D.faults A.Stream.Source.left
         A.Stream.Sink.written A.Stream.Source.faults A.Stream.Sink.faults
         (keys settings.now.base_check settings.now.surface.bytes) settings.now.mode disk begun
         (A.shows door.old) (A.shows door.new) settings.now.sessions

@@ -22,5 +22,5 @@ pub fn accepted_updates_lead<V: Answerer, L: Stream>()
 /// any moment leaves the history for which the disk stood, with some first ones of them. The
 /// function does nothing.
 pub fn stores_survive<D: Disk>()
-    ensures { StoresSurvive D.reads D.may_leave D.moment D.left_since }
+    ensures { StoresSurvive D.reads D.may_leave D.moment D.left_since D.faults }
 {}

@@ -6,3 +6,4 @@ mod Reading
 mod Reasons
 mod Replies
 mod Sources
+mod Taking

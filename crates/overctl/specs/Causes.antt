@@ -1,8 +1,9 @@
 -- Why an act stops at its files, or for a fault.
-use Rattle.std.specs.Prelude.{◌≡◌, ◌⊎◌, ℕ, ◌<◌, List, length, Option, IfSome, Result, Err}
+use Rattle.std.specs.Prelude.{◌≡◌, ◌⊎◌, ℕ, ◌<◌, ◌+◌, List, length, Option, IfSome, Result, Err, ⊤}
 use Rattle.ov_base.specs.declared.limits.TheConstants.{MAX_FILE_BYTES}
 use Rattle.ov_client.specs.KeyLines.{IsLineOf}
 use Rattle.ov_client.specs.Readers.{Reader}
+use Rattle.ov_io.specs.Calls.{TakesWhile}
 use Rattle.ov_keyfile.specs.KeyFile.{HasMasters}
 use Rattle.overctl.specs.declared.job.Act.{Act}
 use Rattle.overctl.specs.declared.job.Act.TheVariants.{Create, Read}
@@ -44,3 +45,37 @@ pub record EndsFor (status : ℕ) (reads writes links no_keys too_long : Type 0)
 abbrev pub NeedsKeys : {P : Type 0} → Act → Option (List ℕ) → P → P → ℕ → Type 0
 NeedsKeys act keys p q status =
     IfSome keys (λ bytes. (HasKeys act bytes → ⊥) → (q ≡ p) × ((status ≡ 10) ⊎ (status ≡ 5)))
+
+-- the act stores the bytes of a file
+abbrev pub IsCreation : Act → Type 0
+IsCreation (Create file list) = Unit {0}
+IsCreation act = ⊥
+
+-- how many bytes of a file of keys are taken at most: one more than the longest of its form has
+abbrev pub most_keys : Act → ℕ
+most_keys (Read file) = 206
+most_keys act = 131
+
+-- how many bytes of a file to be stored are taken at most
+abbrev pub most_bytes : ℕ
+most_bytes = MAX_FILE_BYTES + 1
+
+-- a source is taken from only while so many bytes haven't come, and not again once it gave nothing
+abbrev pub TakesUpTo : {S : Type 0} → (S → S → Type 0) → (S → Option (List ℕ)) → ℕ → S → S
+    → Type 0
+TakesUpTo takes left most old new = TakesWhile takes left (λ seen. length seen < most) ⊤ ⊥ old new
+
+-- The file to be stored is taken from only for a creation, and only once the file of keys was found
+-- to be of its form.
+abbrev pub TakesBody : {S : Type 0} → (S → S → Type 0) → (S → Option (List ℕ)) → Act
+    → Option (List ℕ) → S → S → Type 0
+TakesBody takes left act keys old new =
+    (new ≡ old)
+    ⊎ (IsCreation act × IfSome keys (HasKeys act) × TakesUpTo takes left most_bytes old new)
+
+-- what an act takes of its two files
+pub record TakesFiles {K B : Type 0} (keys_takes : K → K → Type 0) (keys_left : K → Option (List ℕ))
+    (body_takes : B → B → Type 0) (body_left : B → Option (List ℕ)) (act : Act)
+    (k k_after : K) (b b_after : B) : Type 0 where
+  pub keys : TakesUpTo keys_takes keys_left (most_keys act) k k_after
+  pub body : TakesBody body_takes body_left act (keys_left k) b b_after

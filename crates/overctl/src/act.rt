@@ -7,7 +7,8 @@ ghost use Rattle.ov_client.specs.Readers.{Reader};
 ghost use Rattle.ov_keyfile.specs.KeyFile.{HasMasters};
 ghost use Rattle.ov_protocol.specs.Serving.{Service};
 ghost use Rattle.overctl.specs.Acts.{Acts, ChecksBy, OwnsBy, ReadsBy, check_line};
-ghost use Rattle.overctl.specs.Causes.{EndsFor, HasKeys, NeedsKeys, StopsFor, StoresTooMany};
+ghost use Rattle.overctl.specs.Causes.{EndsFor, HasKeys, IsCreation, NeedsKeys, StopsFor};
+ghost use Rattle.overctl.specs.Causes.{StoresTooMany, TakesFiles, TakesUpTo, most_bytes};
 ghost use Rattle.overctl.specs.Endings.{Ends};
 ghost use Rattle.overctl.specs.Files.{FindsBody, HasListLimits, IsOwners};
 ghost use Rattle.overctl.specs.Machine.{ActsAsMachine, OwnersAsMachine, ReadersAsMachine};
@@ -31,6 +32,8 @@ fn body_of<B: Source>(alloc: Global, act: &Act, body: &mut B) -> Result<Octets, 
     ensures found { FindsBody act.now (B.left body.old) result }
     ensures cause { StopsFor (Rose (B.faults body.old) (B.faults body.new)) ⊥ ⊥
         (StoresTooMany act.now (B.left body.old)) result }
+    ensures takes { (body.new ≡ body.old)
+        ⊎ (IsCreation act.now × TakesUpTo B.takes B.left most_bytes body.old body.new) }
 {
     match act {
         Act::Create { file: _, list: _ } => bytes_of(alloc, body),
@@ -57,6 +60,8 @@ fn own<K: Source, B: Source, P: Peer>(
         (Rose (P.faults peer.old) (P.faults peer.new))
         (IfSome (K.left keys.old) (λ file. HasMasters file → ⊥))
         (StoresTooMany act.now (B.left body.old)) result }
+    ensures files { TakesFiles K.takes K.left B.takes B.left act.now keys.old keys.new
+        body.old body.new }
 {
     one_pair_of_masters();
     let masters = match masters_of(keys) {
@@ -84,6 +89,7 @@ fn read<K: Source, P: Peer>(
     ensures cause { StopsFor (Rose (K.faults keys.old) (K.faults keys.new))
         (Rose (P.faults peer.old) (P.faults peer.new))
         (IfSome (K.left keys.old) (λ line. ((r : Reader) × IsLineOf line r) → ⊥)) ⊥ result }
+    ensures takes { TakesUpTo K.takes K.left 206 keys.old keys.new }
 {
     asks_are_told::<P>();
     reads_are_the_machines();
@@ -114,6 +120,7 @@ fn check<K: Source>(alloc: Global, keys: &mut K) -> Result<Octets, Stop>
     ensures acts { ChecksBy (K.left keys.old) result }
     ensures cause { StopsFor (Rose (K.faults keys.old) (K.faults keys.new)) ⊥
         (IfSome (K.left keys.old) (λ file. HasMasters file → ⊥)) ⊥ result }
+    ensures takes { TakesUpTo K.takes K.left 131 keys.old keys.new }
 {
     let masters = match masters_of(keys) {
         Ok(masters) => masters,
@@ -143,6 +150,8 @@ fn perform<K: Source, B: Source, P: Peer>(
         (Rose (P.faults peer.old) (P.faults peer.new))
         (IfSome (K.left keys.old) (λ bytes. HasKeys act.now bytes → ⊥))
         (StoresTooMany act.now (B.left body.old)) result }
+    ensures files { TakesFiles K.takes K.left B.takes B.left act.now keys.old keys.new
+        body.old body.new }
 {
     match act {
         Act::Check => check(alloc, keys),
@@ -177,6 +186,8 @@ pub fn act<K: Source, B: Source, O: Sink, P: Peer>(
         (StoresTooMany job.now.act (B.left body.old)) }
     ensures quiet { (result ≢ 0) → (result ≢ 3) → (result ≢ 6)
         → Keeps (O.written out.old) (O.written out.new) }
+    ensures files { TakesFiles K.takes K.left B.takes B.left job.now.act keys.old keys.new
+        body.old body.new }
 {
     let outcome = perform(alloc, &job.act, keys, body, peer);
     finish(alloc, outcome, out)

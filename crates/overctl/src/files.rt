@@ -1,11 +1,11 @@
 //! What is read of files: the masters, a user key line, and the bytes to be stored.
-ghost use Rattle.std.specs.Prelude.{◌<◌, IfSome, length};
+ghost use Rattle.std.specs.Prelude.{◌≡◌, ◌⊎◌, ◌<◌, IfSome, length};
 ghost use Rattle.ov_base.specs.Causes.{Rose};
 ghost use Rattle.ov_base.specs.declared.limits.TheConstants.{MAX_FILE_BYTES};
 ghost use Rattle.ov_client.specs.KeyLines.{IsLineOf};
 ghost use Rattle.ov_client.specs.Readers.{Reader};
 ghost use Rattle.ov_keyfile.specs.KeyFile.{HasMasters};
-ghost use Rattle.overctl.specs.Causes.{StopsFor};
+ghost use Rattle.overctl.specs.Causes.{StopsFor, TakesUpTo, most_bytes};
 ghost use Rattle.overctl.specs.Files.{FindsBytes, FindsMasters, FindsReader};
 
 use crate::stop::Stop;
@@ -24,6 +24,7 @@ const TOO_MANY: usize = 1_048_577;
 
 /// The masters of the key file.
 pub fn masters_of<K: Source>(keys: &mut K) -> Result<Masters, Stop>
+    ensures takes { TakesUpTo K.takes K.left 131 keys.old keys.new }
     ensures found { FindsMasters (K.left keys.old) result }
     ensures cause { StopsFor (Rose (K.faults keys.old) (K.faults keys.new)) ⊥
         (IfSome (K.left keys.old) (λ file. HasMasters file → ⊥)) ⊥ result }
@@ -37,6 +38,7 @@ pub fn masters_of<K: Source>(keys: &mut K) -> Result<Masters, Stop>
 
 /// The reader of the user key line.
 pub fn client_of<K: Source>(keys: &mut K) -> Result<Client, Stop>
+    ensures takes { TakesUpTo K.takes K.left ENOUGH keys.old keys.new }
     ensures found { FindsReader (K.left keys.old) result }
     ensures cause { StopsFor (Rose (K.faults keys.old) (K.faults keys.new)) ⊥
         (IfSome (K.left keys.old) (λ line. ((r : Reader) × IsLineOf line r) → ⊥)) ⊥ result }
@@ -56,6 +58,8 @@ pub fn client_of<K: Source>(keys: &mut K) -> Result<Client, Stop>
 
 /// The bytes of the file, where they aren't too many.
 pub fn bytes_of<B: Source>(alloc: Global, body: &mut B) -> Result<Octets, Stop>
+    ensures takes { (body.new ≡ body.old)
+        ⊎ TakesUpTo B.takes B.left most_bytes body.old body.new }
     ensures found { FindsBytes (B.left body.old) result }
     ensures cause { StopsFor (Rose (B.faults body.old) (B.faults body.new)) ⊥ ⊥
         (IfSome (B.left body.old) (λ bytes. MAX_FILE_BYTES < length bytes)) result }

@@ -11,7 +11,7 @@ returns-in-Ok-clause-hosts g c =
     let begun = c.in-Ok.ensures in (
       Ok c.in-Ok.store,
       begun,
-      store_served g.D.Disk.reads g.D.Disk.may_leave g.D.Disk.moment g.D.Disk.left_since
+      store_served g.D.Disk.reads g.D.Disk.may_leave g.D.Disk.moment g.D.Disk.left_since g.D.Disk.faults
           g.A.Stream.Source.left g.A.Stream.Sink.written g.A.Stream.Source.faults g.A.Stream.Sink.faults
           (keys c.args.settings.now.base_check c.args.settings.now.surface.bytes) c.args.settings.now.mode
           c.args.disk c.in-Ok.store c.serve_door-status.new.value (g.A.Door.shows c.args.door.now)
@@ -25,12 +25,12 @@ returns-in-Ok-clause-hosts g c =
 pub returns-in-Ok-clause-disk : goal.returns-in-Ok-clause-disk
 returns-in-Ok-clause-disk g c = λ four.
     absurd (serves_not_4 (serves_store g.D.Disk.reads g.D.Disk.may_leave g.D.Disk.moment
-    g.D.Disk.left_since g.A.Stream.Source.left g.A.Stream.Sink.written g.A.Stream.Source.faults
+    g.D.Disk.left_since g.D.Disk.faults g.A.Stream.Source.left g.A.Stream.Sink.written g.A.Stream.Source.faults
     g.A.Stream.Sink.faults) _ _ _ _ _ _ _ _ c.serve_door-status.ensures.serves four)
 
 pub returns-in-Ok-clause-opens : goal.returns-in-Ok-clause-opens
 returns-in-Ok-clause-opens g c = λ i told stands.
-    serves_open (serves_store g.D.Disk.reads g.D.Disk.may_leave g.D.Disk.moment g.D.Disk.left_since
+    serves_open (serves_store g.D.Disk.reads g.D.Disk.may_leave g.D.Disk.moment g.D.Disk.left_since g.D.Disk.faults
     g.A.Stream.Source.left g.A.Stream.Sink.written g.A.Stream.Source.faults
     g.A.Stream.Sink.faults) _ _ _ _ _ _ _ _ c.serve_door-status.ensures.serves
 

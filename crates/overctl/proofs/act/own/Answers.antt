@@ -1,6 +1,7 @@
-use Rattle.std.proofs.Common.{◌∙◌, ℕ, List, ap, subst, sym}
+use Rattle.std.proofs.Common.{◌∙◌, ℕ, List, ap, refl, subst, sym}
 use Rattle.ov_history.specs.Masters.{Masters}
 use Rattle.overctl.proofs.Sources.{owner_told}
+use Rattle.overctl.proofs.Taking.{both_files, keys_alone}
 use Rattle.overctl.specs.Machine.{OwnsAsMachine}
 use Rattle.overctl.proofs.act.own.Goals as goal
 
@@ -18,3 +19,20 @@ returns-clause-told g c = λ v is.
     c.as_slice.ensures
     (c.greet_and_command.ensures.told v is
     (same ∙ ap (λ (k : Masters). k.surface) (sym c.new-owner.ensures)))))
+
+pub returns-in-Err-clause-files : goal.returns-in-Err-clause-files
+returns-in-Err-clause-files g c =
+    keys_alone g.K.Source.takes g.K.Source.left g.B.Source.takes g.B.Source.left c.args.act.now _ _
+    _ _ c.requires.owners c.masters_of.ensures.takes refl
+
+pub returns-in-Err-body_of-clause-files : goal.returns-in-Err-body_of-clause-files
+returns-in-Err-body_of-clause-files g c =
+    both_files g.K.Source.takes g.K.Source.left g.B.Source.takes g.B.Source.left c.args.act.now _ _
+    _ _ c.in-Ok.masters c.requires.owners c.in-Ok.ensures.found c.masters_of.ensures.takes
+    c.body_of.ensures.takes
+
+pub returns-clause-files : goal.returns-clause-files
+returns-clause-files g c =
+    both_files g.K.Source.takes g.K.Source.left g.B.Source.takes g.B.Source.left c.args.act.now _ _
+    _ _ c.in-Ok.masters c.requires.owners c.in-Ok.ensures.found c.masters_of.ensures.takes
+    c.body_of.ensures.takes

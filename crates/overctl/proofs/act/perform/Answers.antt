@@ -1,6 +1,8 @@
-use Rattle.std.proofs.Common.{arith, subst, sym}
+use Rattle.std.proofs.Common.{ap, arith, subst, sym}
 use Rattle.std.proofs.lemmas.Grind.{common_steps}
 use Rattle.overctl.proofs.Acting.{told_by_owner}
+use Rattle.overctl.proofs.Taking.{keys_only}
+use Rattle.overctl.specs.Causes.{most_keys}
 use Rattle.overctl.specs.Machine.{ActsAsMachine}
 use Rattle.overctl.specs.declared.job.Act.{Act}
 use Rattle.overctl.proofs.act.perform.Goals as goal
@@ -17,3 +19,13 @@ returns-in-Enrol-clause-told g c = λ v is.
     told_by_owner c.args.act.now (g.K.Source.left c.args.keys.now) (g.B.Source.left c.args.body.now)
     v (g.P.Peer.serves c.own.new.peer) c.own.result (grind (arith, common_steps))
     (c.own.ensures.told v is)
+
+pub returns-in-Check-clause-files : goal.returns-in-Check-clause-files
+returns-in-Check-clause-files g c =
+    keys_only g.K.Source.takes g.K.Source.left g.B.Source.takes g.B.Source.left c.args.act.now 131
+    _ _ _ (ap most_keys c.in-Check.is) c.check.ensures.takes
+
+pub returns-in-Read-clause-files : goal.returns-in-Read-clause-files
+returns-in-Read-clause-files g c =
+    keys_only g.K.Source.takes g.K.Source.left g.B.Source.takes g.B.Source.left c.args.act.now 206
+    _ _ _ (ap most_keys c.in-Read.is) c.read.ensures.takes

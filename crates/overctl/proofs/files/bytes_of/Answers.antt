@@ -1,6 +1,7 @@
-use Rattle.std.proofs.Common.{◌∙◌, length, refl}
+use Rattle.std.proofs.Common.{◌∙◌, length, inr, refl}
 use Rattle.overctl.proofs.Fronts.{filled_all, filled_more, written_back}
 use Rattle.overctl.proofs.Reasons.{stops_long, stops_unread}
+use Rattle.overctl.proofs.Taking.{takes_so}
 use Rattle.overctl.proofs.files.bytes_of.Goals as goal
 
 pub returns-then-count-clause-found : goal.returns-then-count-clause-found
@@ -30,3 +31,18 @@ returns-else-count-clause-found g c =
 pub returns-in-Err-fill-clause-cause : goal.returns-in-Err-fill-clause-cause
 returns-in-Err-fill-clause-cause g c =
     stops_unread _ _ _ _ _ refl c.in-Err-fill.ensures.cause.failed
+
+pub returns-then-count-clause-takes : goal.returns-then-count-clause-takes
+returns-then-count-clause-takes g c =
+    inr (takes_so g.B.Source.takes g.B.Source.left _ _ _ _ _
+    (c.deref_mut.ensures.len ∙ c.in-Ok.ensures.len) c.fill.ensures.needed)
+
+pub returns-else-count-clause-takes : goal.returns-else-count-clause-takes
+returns-else-count-clause-takes g c =
+    inr (takes_so g.B.Source.takes g.B.Source.left _ _ _ _ _
+    (c.deref_mut.ensures.len ∙ c.in-Ok.ensures.len) c.fill.ensures.needed)
+
+pub returns-in-Err-fill-clause-takes : goal.returns-in-Err-fill-clause-takes
+returns-in-Err-fill-clause-takes g c =
+    inr (takes_so g.B.Source.takes g.B.Source.left _ _ _ _ _
+    (c.deref_mut.ensures.len ∙ c.in-Ok.ensures.len) c.fill.ensures.needed)

@@ -2,6 +2,7 @@ use Rattle.std.proofs.Common.{refl, subst, sym}
 use Rattle.std.specs.Io.KnownBytes.{Consumes}
 use Rattle.overctl.proofs.Fronts.{no_line, no_reader_found, reader_found}
 use Rattle.overctl.proofs.Reasons.{stops_unkeyed}
+use Rattle.overctl.proofs.Taking.{takes_so}
 use Rattle.overctl.proofs.files.client_of.Goals as goal
 
 pub returns-in-Some-clause-found : goal.returns-in-Some-clause-found
@@ -29,3 +30,15 @@ returns-in-None-clause-cause g c =
     (no_reader_found old new c.split_at.result.0.now c.in-Ok.count c.split_at.ensures.front_len
     (subst (Consumes old new) (sym c.split_at.ensures.front) c.in-Ok.ensures.taken.1)
     c.in-Ok.ensures.all c.in-None.ensures.none))
+
+pub returns-in-Some-clause-takes : goal.returns-in-Some-clause-takes
+returns-in-Some-clause-takes g c =
+    takes_so g.K.Source.takes g.K.Source.left _ _ _ _ _ refl c.fill.ensures.needed
+
+pub returns-in-None-clause-takes : goal.returns-in-None-clause-takes
+returns-in-None-clause-takes g c =
+    takes_so g.K.Source.takes g.K.Source.left _ _ _ _ _ refl c.fill.ensures.needed
+
+pub returns-in-Err-clause-takes : goal.returns-in-Err-clause-takes
+returns-in-Err-clause-takes g c =
+    takes_so g.K.Source.takes g.K.Source.left _ _ _ _ _ refl c.fill.ensures.needed
