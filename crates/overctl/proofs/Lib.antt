@@ -1,4 +1,6 @@
 mod Acting
+mod AskingAlone
+mod Completing
 mod Fronts
 mod Lines
 mod Listing

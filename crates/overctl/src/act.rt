@@ -8,6 +8,7 @@ ghost use Rattle.ov_keyfile.specs.KeyFile.{HasMasters};
 ghost use Rattle.ov_protocol.specs.Serving.{Service};
 ghost use Rattle.overctl.specs.Acts.{Acts, ChecksBy, OwnsBy, ReadsBy, check_line};
 ghost use Rattle.overctl.specs.Causes.{EndsFor, HasKeys, NeedsKeys, StopsFor, StoresTooMany};
+ghost use Rattle.overctl.specs.Completeness.{AsksByName, IsComplete};
 ghost use Rattle.overctl.specs.Endings.{Ends};
 ghost use Rattle.overctl.specs.Files.{FindsBody, HasListLimits, IsOwners};
 ghost use Rattle.overctl.specs.Machine.{ActsAsMachine, OwnersAsMachine, ReadersAsMachine};
@@ -156,6 +157,18 @@ fn perform<K: Source, B: Source, P: Peer>(
     }
 }
 
+/// Does nothing. Its contract is that what an act asks by is a name.
+fn known_names(act: &Act)
+    ensures { AsksByName act.now }
+{
+    match act {
+        Act::List { file: name } | Act::Key { user: name } => {
+            let _ = name.as_bytes();
+        }
+        _ => {}
+    }
+}
+
 /// Does what the job asks for, and gives the exit status.
 pub fn act<K: Source, B: Source, O: Sink, P: Peer>(
     alloc: Global,
@@ -177,7 +190,10 @@ pub fn act<K: Source, B: Source, O: Sink, P: Peer>(
         (StoresTooMany job.now.act (B.left body.old)) }
     ensures quiet { (result ≢ 0) → (result ≢ 3) → (result ≢ 6)
         → Keeps (O.written out.old) (O.written out.new) }
+    ensures complete { IsComplete P.asked P.serves job.now.act (K.left keys.old) (B.left body.old)
+        peer.old result }
 {
+    known_names(&job.act);
     let outcome = perform(alloc, &job.act, keys, body, peer);
     finish(alloc, outcome, out)
 }
