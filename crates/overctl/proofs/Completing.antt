@@ -1,268 +1,31 @@
 -- Acts over a server that nobody else updates are answered.
-use Rattle.std.proofs.Common.{◌≡◌, ◌∙◌, ℕ, ◌≤◌, List, [], ◌∷◌, length, Bool, true, false}
-use Rattle.std.proofs.Common.{Option, Some, None, Result, Ok, Err, refl, sym, ap, subst, inl, inr}
+use Rattle.std.proofs.Common.{◌≡◌, ℕ, ◌≤◌, List, [], length}
+use Rattle.std.proofs.Common.{Option, Some, Result, Ok, Err, sym, subst, inl, inr}
 use Rattle.std.proofs.Common.{arith}
-use Rattle.std.proofs.lemmas.Slice.Eq.{bytes_eq-Decides}
-use Rattle.std.specs.Prelude.{bytes_eq}
-use Rattle.ov_base.specs.Names.{IsName}
 use Rattle.ov_base.specs.declared.limits.TheConstants.{MAX_FILE_BYTES}
-use Rattle.ov_base.specs.declared.refusal.Refusal.{Refusal}
-use Rattle.ov_base.specs.declared.refusal.Refusal.TheVariants.{NoFile}
 use Rattle.ov_client.proofs.KeyLines.{lines_once}
-use Rattle.ov_client.proofs.Settled.{reads_are_answered}
-use Rattle.ov_client.specs.KeyLines.{IsLineOf, key_line}
-use Rattle.ov_client.specs.Laws.{AllAre, HasRoots, HoldsRootKeys, IsAnsweredOrCut}
+use Rattle.ov_client.specs.KeyLines.{IsLineOf}
 use Rattle.ov_client.specs.Readers.{Reader}
-use Rattle.ov_client.specs.Reads.{Reads}
-use Rattle.ov_client.specs.Talks.{AsksChain}
-use Rattle.ov_client.specs.declared.fault.ClientFault.{ClientFault}
-use Rattle.ov_client.specs.declared.fault.ClientFault.TheVariants as client
-use Rattle.ov_fields.specs.Spelling.{IsOneOf}
-use Rattle.ov_history.specs.Asking.{file_named}
-use Rattle.ov_history.specs.Catalogue.{Catalogue}
 use Rattle.ov_history.specs.Masters.{Masters}
 use Rattle.ov_history.specs.Plain.{PlainHistory}
-use Rattle.ov_history.specs.Refusals.{first_of_tests}
-use Rattle.ov_history.specs.Sealed.{SealedHistory}
 use Rattle.ov_keyfile.proofs.Parts.{one_pair}
 use Rattle.ov_keyfile.specs.KeyFile.{IsKeyFile}
 use Rattle.ov_keyfile.specs.declared.masters.Masters.{Masters as ReadMasters}
-use Rattle.ov_owner.proofs.Fitting.{ask_fits}
-use Rattle.ov_owner.proofs.Proper.{talks_are_proper}
-use Rattle.ov_owner.specs.Calls.{Runs}
-use Rattle.ov_owner.specs.Clients.{reader_in}
-use Rattle.ov_owner.specs.Errands.{Errand, creating, enrolling, granting, revoking}
-use Rattle.ov_owner.specs.Laws.{IsProper}
-use Rattle.ov_owner.specs.Questions.{AsksOnce, names_in, welcome_in}
-use Rattle.ov_owner.specs.Steps.{IsErrandFor}
-use Rattle.ov_owner.specs.declared.fault.OwnerFault.{OwnerFault}
-use Rattle.ov_owner.specs.declared.fault.OwnerFault.TheVariants as faults
 use Rattle.ov_peer.specs.Asks.{Asked, Failed}
-use Rattle.ov_protocol.specs.Answers.{Answers}
-use Rattle.ov_protocol.specs.Asking.{AnswersAsk}
-use Rattle.ov_protocol.specs.Reading.{AnswersList}
-use Rattle.ov_protocol.specs.Serving.{Service, served}
-use Rattle.ov_script.specs.declared.command.Command.{Command}
-use Rattle.ov_script.specs.declared.command.Command.TheVariants as commands
-use Rattle.ov_tokens.specs.Keys.{check_value_of}
-use Rattle.ov_wire.specs.AnswerForm.{HasAnswerForm}
-use Rattle.ov_wire.specs.AnswersTo.{IsAnswer}
-use Rattle.ov_wire.specs.declared.answer.Answer.{Answer}
-use Rattle.ov_wire.specs.declared.answer.Answer.TheVariants as answers
-use Rattle.ov_wire.specs.declared.answer.Welcome.{Welcome}
-use Rattle.ov_wire.specs.declared.request.Question.TheVariants as questions
-use Rattle.ov_wire.specs.declared.request.Request.TheVariants as requests
-use Rattle.overctl.proofs.AskingAlone.{IsCutOff, IsPlainQuestion, IsTakenOf, asked_alone}
-use Rattle.overctl.proofs.AskingAlone.{once_alone, read_alone}
-use Rattle.overctl.proofs.Fronts.{name_short}
+use Rattle.ov_protocol.specs.Serving.{Service}
 use Rattle.overctl.proofs.Sources.{same_masters}
-use Rattle.overctl.specs.Acts.{Acts, GoesOn, Owns, OwnsBy, Performs, ReadsBy, Says, SaysCheck}
-use Rattle.overctl.specs.Acts.{admitted, admitted_if, list_line, read_outcome, update_line}
+use Rattle.overctl.specs.Acts.{Acts, GoesOn, Owns, OwnsBy, ReadsBy, SaysCheck}
 use Rattle.overctl.specs.Completeness.{AsksByName, HasFilesFor, HasOwnersFiles, HasReadersLine}
 use Rattle.overctl.specs.Completeness.{IsAlone, IsAnswered, IsAnsweredOr, IsComplete, IsStoreOf}
 use Rattle.overctl.specs.Files.{FindsBody, FindsBytes, FindsMasters, FindsReader, plain_masters}
 use Rattle.overctl.specs.Machine.{StoresBytes}
 use Rattle.overctl.specs.Printing.{PutsOutcome}
-use Rattle.overctl.specs.Stops.{Outcome, stop_of_owner}
+use Rattle.overctl.specs.Stops.{Outcome}
 use Rattle.overctl.specs.declared.job.Act.{Act}
 use Rattle.overctl.specs.declared.job.Act.TheVariants as acts
 use Rattle.overctl.specs.declared.stop.Stop.{Stop}
 use Rattle.overctl.specs.declared.stop.Stop.TheVariants as stops
-
--- ---- the questions
-
-hello_plain : IsPlainQuestion requests.Hello
-hello_plain = record {
-  form = record { is_request = tt; fits = omega arith };
-  quiet = λ x. x;
-  fits = λ s a is form. subst (IsAnswer requests.Hello) (sym is) (subst HasAnswerForm is form);
-}
-
-list_refused : (test : Bool) (why : Refusal) → first_of_tests ((NoFile, test) ∷ []) ≡ Some why
-    → IsOneOf why (NoFile ∷ [])
-list_refused true why is = inl (let same : Some NoFile ≡ Some why = is in cc)
-list_refused false why is = absurd (let none : None ≡ Some why = is in cc)
-
-list_fits : (c : Catalogue) (file : List ℕ) (n : ℕ) (a : Answer) → AnswersList c n a
-    → HasAnswerForm a → IsAnswer (requests.List file) a
-list_fits c file n (answers.Listed names) is form = form
-list_fits c file n (answers.Refused why) is form = list_refused _ why is
-list_fits c file n a is form = absurd is
-
-list_plain : (file : List ℕ) → IsName file → IsPlainQuestion (requests.List file)
-list_plain file named = record {
-  form = record { is_request = named; fits = omega (arith, name_short file named) };
-  quiet = λ x. x;
-  fits = λ s a is. list_fits s.catalogue file (file_named s.catalogue file) a is;
-}
-
-key_plain : (user : List ℕ) → IsName user → IsPlainQuestion (requests.Ask (questions.Key user))
-key_plain user named = record {
-  form = record { is_request = named; fits = omega (arith, name_short user named) };
-  quiet = λ x. x;
-  fits = λ s. ask_fits s.catalogue (questions.Key user);
-}
-
--- ---- what calls give
-
--- the call has a result, is refused, or a fault ended it
-abbrev IsCalled : {T : Type 0} → Result T OwnerFault → Type 0
-IsCalled (Ok value) = Unit {0}
-IsCalled (Err fault) = IsAnsweredOr (Err (stop_of_owner fault))
-
-says_so : {T : Type 0} (line : T → List ℕ) (result : Result T OwnerFault) (outcome : Outcome)
-    → IsCalled result → Says line result outcome → IsAnsweredOr outcome
-says_so line (Ok value) outcome called (inl e) = subst IsAnsweredOr (sym e) tt
-says_so line (Ok value) outcome called (inr e) = subst IsAnsweredOr (sym e) tt
-says_so line (Err fault) outcome called e = subst IsAnsweredOr (sym e) called
-
-proper_called : (result : Result ℕ OwnerFault) → IsProper result → IsCalled result
-proper_called (Ok epoch) is = tt
-proper_called (Err (faults.Refused why)) is = tt
-proper_called (Err faults.Link) is = tt
-proper_called (Err (faults.BadReply place)) is = is
-proper_called (Err faults.BadTag) is = is
-proper_called (Err faults.Device) is = tt
-proper_called (Err (faults.Unsettled epochs)) is = is
-proper_called (Err faults.Memory) is = tt
-
-cut_called : {T : Type 0} (result : Result T OwnerFault) → IsCutOff result → IsCalled result
-cut_called result (inl link) = subst IsCalled (sym link) tt
-cut_called result (inr memory) = subst IsCalled (sym memory) tt
-
-names_called : (c : Catalogue) (n : ℕ) (a : Answer) → AnswersList c n a → IsCalled (names_in a)
-names_called c n (answers.Listed names) is = tt
-names_called c n (answers.Refused why) is = tt
-names_called c n a is = absurd is
-
-key_called : (k : Masters) (c : Catalogue) (user : List ℕ) (a : Answer)
-    → AnswersAsk c (questions.Key user) a → IsCalled (reader_in k user a)
-key_called k c user (answers.Known known) is = tt
-key_called k c user (answers.Refused why) is = tt
-key_called k c user a is = absurd is
-
-read_called : (result : Result (List ℕ) ClientFault) → IsAnsweredOrCut result
-    → IsAnsweredOr (read_outcome result)
-read_called (Ok bytes) is = tt
-read_called (Err (client.Refused why)) is = tt
-read_called (Err client.Link) is = tt
-read_called (Err (client.BadReply place)) is = is
-read_called (Err (client.Damaged stored computed)) is = is
-read_called (Err client.Device) is = tt
-read_called (Err (client.Unsettled generations)) is = is
-read_called (Err client.Memory) is = tt
-
-module _ {P : Type 0} (asked : Asked P) (failed : Failed P) (serves : P → Service → Type 0)
-    (alone : IsAlone asked serves) (k : Masters) (h : PlainHistory) (v : Service)
-    (store : IsStoreOf k h v) where
-  -- ---- an owner's calls
-
-  update_called : (command : Command) (e : Errand) (p q : P) (result : Result ℕ OwnerFault)
-      → IsErrandFor k.base command e → Runs asked failed k.surface e p q result → serves p v
-      → IsCalled result
-  update_called command e p q result is runs serving =
-      let (m, leads, ends) = runs.are_asks in
-      let (last, at_it) = asked_alone asked failed serves alone runs.asks runs.unanswered p m v leads
-      serving in
-      proper_called result
-      (talks_are_proper k command e runs.asks runs.unanswered result v last h is runs.talks
-      store.surface store.legal store.history at_it)
-
-  list_called : (file : List ℕ) (p q : P) (result : Result (List (List ℕ)) OwnerFault)
-      → IsName file → AsksOnce asked failed p q (requests.List file) names_in result → serves p v
-      → IsCalled result
-  list_called file p q result named asks serving =
-      elim (once_alone asked failed serves alone (requests.List file) names_in
-      (list_plain file named) p q v result asks serving) [
-        | inl (a, at_v, is, still) ↦ subst IsCalled (sym is)
-            (names_called (served v).catalogue (file_named (served v).catalogue file) a at_v)
-        | inr cut ↦ cut_called result cut
-      ]
-
-  client_called : (user : List ℕ) (p q : P) (result : Result Reader OwnerFault)
-      → IsName user
-      → AsksOnce asked failed p q (requests.Ask (questions.Key user)) (reader_in k user) result
-      → serves p v → IsCalled result
-  client_called user p q result named asks serving =
-      elim (once_alone asked failed serves alone (requests.Ask (questions.Key user))
-      (reader_in k user) (key_plain user named) p q v result asks serving) [
-        | inl (a, at_v, is, still) ↦ subst IsCalled (sym is)
-            (key_called k (served v).catalogue user a at_v)
-        | inr cut ↦ cut_called result cut
-      ]
-
-  performed : (act : Act) (bytes : List ℕ) (p q : P) (outcome : Outcome) → AsksByName act
-      → Performs asked failed k act bytes p q outcome → serves p v → IsAnsweredOr outcome
-  performed (acts.Enrol user) bytes p q outcome named (result, runs, says) serving =
-      says_so update_line result outcome
-      (update_called (commands.Enrol user) (enrolling user) p q result refl runs serving) says
-  performed (acts.Grant user file) bytes p q outcome named (result, runs, says) serving =
-      says_so update_line result outcome
-      (update_called (commands.Grant user file) (granting k.base user file) p q result refl runs
-      serving) says
-  performed (acts.Revoke user file) bytes p q outcome named (result, runs, says) serving =
-      says_so update_line result outcome
-      (update_called (commands.Revoke user file) (revoking user file) p q result refl runs serving)
-      says
-  performed (acts.Create file list) bytes p q outcome named (result, runs, says) serving =
-      says_so update_line result outcome
-      (update_called (commands.Create file list bytes) (creating k.base file list bytes) p q result
-      refl runs serving) says
-  performed (acts.List file) bytes p q outcome named (result, asks, says) serving =
-      says_so (list_line file) result outcome (list_called file p q result named asks serving) says
-  performed (acts.Key user) bytes p q outcome named (result, asks, says) serving =
-      says_so key_line result outcome (client_called user p q result named asks serving) says
-  performed (acts.Read file) bytes p q outcome named does serving = absurd does
-  performed acts.Check bytes p q outcome named does serving = absurd does
-
-  -- ---- the greeting
-
-  -- the store's check value is that of the base master
-  welcomed : (a : Answer) → Answers (served v) requests.Hello a
-      → admitted k.base (welcome_in a) ≡ Ok tt
-  welcomed a is =
-      let same : bytes_eq v.base_check (check_value_of k.base) ≡ true =
-      (bytes_eq-Decides v.base_check (check_value_of k.base)).1 store.check in
-      subst (λ (x : Answer). admitted k.base (welcome_in x) ≡ Ok tt) (sym is)
-      (ap (λ (b : Bool). admitted_if b) same)
-
-  owned : (act : Act) (bytes : List ℕ) (p q : P) (outcome : Outcome) → AsksByName act
-      → Owns asked failed k act bytes p q outcome → serves p v → IsAnsweredOr outcome
-  owned act bytes p q outcome named (greeting, m, asks, goes) serving =
-      by (once_alone asked failed serves alone requests.Hello welcome_in hello_plain p m v greeting
-      asks serving) where
-        Next : Result (Unit {0}) Stop → Type 0
-        Next found = GoesOn found m q outcome (λ _. Performs asked failed k act bytes m q outcome)
-
-        by_cut : (g : Result Welcome OwnerFault) → IsCutOff g → Next (admitted k.base g)
-            → IsAnsweredOr outcome
-        by_cut g (inl link) next =
-            let stops = subst (λ (x : Result Welcome OwnerFault). Next (admitted k.base x)) link next in
-            subst IsAnsweredOr (sym stops.1) tt
-        by_cut g (inr memory) next =
-            let stops = subst (λ (x : Result Welcome OwnerFault). Next (admitted k.base x)) memory next in
-            subst IsAnsweredOr (sym stops.1) tt
-
-        by : IsTakenOf asked failed serves alone requests.Hello welcome_in hello_plain m v greeting
-            → IsAnsweredOr outcome
-        by (inl (a, at_v, is, still)) =
-            performed act bytes m q outcome named
-            (subst Next (ap (admitted k.base) is ∙ welcomed a at_v) goes) still
-        by (inr cut) = by_cut greeting cut goes
-
-  -- ---- a reader's
-
-  read_answered : (r : Reader) (file : List ℕ) (p q : P) (result : Result (List ℕ) ClientFault)
-      → HoldsRootKeys k r → HasRoots h r → Reads asked failed p q r file result → serves p v
-      → IsAnsweredOr (read_outcome result)
-  read_answered r file p q result holds roots
-      (asks, unanswered, (m, leads, ends), (last, goes, closes)) serving =
-      let (histories, along, same) = read_alone asked failed serves alone r file asks
-      (AsksChain [] 0) last p m v goes leads serving in
-      read_called result
-      (reads_are_answered k r file asks unanswered result v v histories h holds roots store.surface
-      (last, goes, closes) along store.legal
-      (subst (λ (g : SealedHistory). AllAre g histories) store.history same))
+use Rattle.overctl.proofs.Commanding.{owned, read_answered}
 
 -- ---- the files
 

@@ -1,5 +1,7 @@
 mod Acting
 mod AskingAlone
+mod Called
+mod Commanding
 mod Completing
 mod Fronts
 mod Lines

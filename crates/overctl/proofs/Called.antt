@@ -1,0 +1,118 @@
+-- What the answers to questions, and what calls give, come to.
+use Rattle.std.proofs.Common.{◌≡◌, ℕ, List, [], ◌∷◌, Bool, true, false}
+use Rattle.std.proofs.Common.{Some, None, Result, Ok, Err, sym, subst, inl, inr}
+use Rattle.std.proofs.Common.{arith}
+use Rattle.ov_base.specs.Names.{IsName}
+use Rattle.ov_base.specs.declared.refusal.Refusal.{Refusal}
+use Rattle.ov_base.specs.declared.refusal.Refusal.TheVariants.{NoFile}
+use Rattle.ov_client.specs.Laws.{IsAnsweredOrCut}
+use Rattle.ov_client.specs.declared.fault.ClientFault.{ClientFault}
+use Rattle.ov_client.specs.declared.fault.ClientFault.TheVariants as client
+use Rattle.ov_fields.specs.Spelling.{IsOneOf}
+use Rattle.ov_history.specs.Asking.{file_named}
+use Rattle.ov_history.specs.Catalogue.{Catalogue}
+use Rattle.ov_history.specs.Masters.{Masters}
+use Rattle.ov_history.specs.Refusals.{first_of_tests}
+use Rattle.ov_owner.proofs.Fitting.{ask_fits}
+use Rattle.ov_owner.specs.Clients.{reader_in}
+use Rattle.ov_owner.specs.Laws.{IsProper}
+use Rattle.ov_owner.specs.Questions.{names_in}
+use Rattle.ov_owner.specs.declared.fault.OwnerFault.{OwnerFault}
+use Rattle.ov_owner.specs.declared.fault.OwnerFault.TheVariants as faults
+use Rattle.ov_protocol.specs.Asking.{AnswersAsk}
+use Rattle.ov_protocol.specs.Reading.{AnswersList}
+use Rattle.ov_wire.specs.AnswerForm.{HasAnswerForm}
+use Rattle.ov_wire.specs.AnswersTo.{IsAnswer}
+use Rattle.ov_wire.specs.declared.answer.Answer.{Answer}
+use Rattle.ov_wire.specs.declared.answer.Answer.TheVariants as answers
+use Rattle.ov_wire.specs.declared.request.Question.TheVariants as questions
+use Rattle.ov_wire.specs.declared.request.Request.TheVariants as requests
+use Rattle.overctl.proofs.AskingAlone.{IsCutOff, IsPlainQuestion}
+use Rattle.overctl.proofs.Fronts.{name_short}
+use Rattle.overctl.specs.Acts.{Says}
+use Rattle.overctl.specs.Acts.{read_outcome}
+use Rattle.overctl.specs.Completeness.{IsAnsweredOr}
+use Rattle.overctl.specs.Stops.{Outcome, stop_of_owner}
+
+-- ---- the questions
+
+pub hello_plain : IsPlainQuestion requests.Hello
+hello_plain = record {
+  form = record { is_request = tt; fits = omega arith };
+  quiet = λ x. x;
+  fits = λ s a is form. subst (IsAnswer requests.Hello) (sym is) (subst HasAnswerForm is form);
+}
+
+list_refused : (test : Bool) (why : Refusal) → first_of_tests ((NoFile, test) ∷ []) ≡ Some why
+    → IsOneOf why (NoFile ∷ [])
+list_refused true why is = inl (let same : Some NoFile ≡ Some why = is in cc)
+list_refused false why is = absurd (let none : None ≡ Some why = is in cc)
+
+list_fits : (c : Catalogue) (file : List ℕ) (n : ℕ) (a : Answer) → AnswersList c n a
+    → HasAnswerForm a → IsAnswer (requests.List file) a
+list_fits c file n (answers.Listed names) is form = form
+list_fits c file n (answers.Refused why) is form = list_refused _ why is
+list_fits c file n a is form = absurd is
+
+pub list_plain : (file : List ℕ) → IsName file → IsPlainQuestion (requests.List file)
+list_plain file named = record {
+  form = record { is_request = named; fits = omega (arith, name_short file named) };
+  quiet = λ x. x;
+  fits = λ s a is. list_fits s.catalogue file (file_named s.catalogue file) a is;
+}
+
+pub key_plain : (user : List ℕ) → IsName user → IsPlainQuestion (requests.Ask (questions.Key user))
+key_plain user named = record {
+  form = record { is_request = named; fits = omega (arith, name_short user named) };
+  quiet = λ x. x;
+  fits = λ s. ask_fits s.catalogue (questions.Key user);
+}
+
+-- ---- what calls give
+
+-- the call has a result, is refused, or a fault ended it
+abbrev pub IsCalled : {T : Type 0} → Result T OwnerFault → Type 0
+IsCalled (Ok value) = Unit {0}
+IsCalled (Err fault) = IsAnsweredOr (Err (stop_of_owner fault))
+
+pub says_so : {T : Type 0} (line : T → List ℕ) (result : Result T OwnerFault) (outcome : Outcome)
+    → IsCalled result → Says line result outcome → IsAnsweredOr outcome
+says_so line (Ok value) outcome called (inl e) = subst IsAnsweredOr (sym e) tt
+says_so line (Ok value) outcome called (inr e) = subst IsAnsweredOr (sym e) tt
+says_so line (Err fault) outcome called e = subst IsAnsweredOr (sym e) called
+
+pub proper_called : (result : Result ℕ OwnerFault) → IsProper result → IsCalled result
+proper_called (Ok epoch) is = tt
+proper_called (Err (faults.Refused why)) is = tt
+proper_called (Err faults.Link) is = tt
+proper_called (Err (faults.BadReply place)) is = is
+proper_called (Err faults.BadTag) is = is
+proper_called (Err faults.Device) is = tt
+proper_called (Err (faults.Unsettled epochs)) is = is
+proper_called (Err faults.Memory) is = tt
+
+pub cut_called : {T : Type 0} (result : Result T OwnerFault) → IsCutOff result → IsCalled result
+cut_called result (inl link) = subst IsCalled (sym link) tt
+cut_called result (inr memory) = subst IsCalled (sym memory) tt
+
+pub names_called : (c : Catalogue) (n : ℕ) (a : Answer) → AnswersList c n a → IsCalled (names_in a)
+names_called c n (answers.Listed names) is = tt
+names_called c n (answers.Refused why) is = tt
+names_called c n a is = absurd is
+
+pub key_called : (k : Masters) (c : Catalogue) (user : List ℕ) (a : Answer)
+    → AnswersAsk c (questions.Key user) a → IsCalled (reader_in k user a)
+key_called k c user (answers.Known known) is = tt
+key_called k c user (answers.Refused why) is = tt
+key_called k c user a is = absurd is
+
+pub read_called : (result : Result (List ℕ) ClientFault) → IsAnsweredOrCut result
+    → IsAnsweredOr (read_outcome result)
+read_called (Ok bytes) is = tt
+read_called (Err (client.Refused why)) is = tt
+read_called (Err client.Link) is = tt
+read_called (Err (client.BadReply place)) is = is
+read_called (Err (client.Damaged stored computed)) is = is
+read_called (Err client.Device) is = tt
+read_called (Err (client.Unsettled generations)) is = is
+read_called (Err client.Memory) is = tt
