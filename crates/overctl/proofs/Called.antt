@@ -1,5 +1,5 @@
 -- What the answers to questions, and what calls give, come to.
-use Rattle.std.proofs.Common.{◌≡◌, ℕ, List, [], ◌∷◌, Bool, true, false}
+use Rattle.std.proofs.Common.{refl, ◌≡◌, ℕ, List, [], ◌∷◌, Bool, true, false}
 use Rattle.std.proofs.Common.{Some, None, Result, Ok, Err, sym, subst, inl, inr}
 use Rattle.std.proofs.Common.{arith}
 use Rattle.ov_base.specs.Names.{IsName}
@@ -70,49 +70,55 @@ key_plain user named = record {
 
 -- ---- what calls give
 
--- the call has a result, is refused, or a fault ended it
-abbrev pub IsCalled : {T : Type 0} → Result T OwnerFault → Type 0
-IsCalled (Ok value) = Unit {0}
-IsCalled (Err fault) = IsAnsweredOr (Err (stop_of_owner fault))
+-- the call has a result, is refused, or a fault ended it: one of the server's disk, where there was
+-- such a one
+abbrev pub IsCalled : Type 0 → {T : Type 0} → Result T OwnerFault → Type 0
+IsCalled disk (Ok value) = Unit {0}
+IsCalled disk (Err fault) = IsAnsweredOr disk (Err (stop_of_owner fault))
 
-pub says_so : {T : Type 0} (line : T → List ℕ) (result : Result T OwnerFault) (outcome : Outcome)
-    → IsCalled result → Says line result outcome → IsAnsweredOr outcome
-says_so line (Ok value) outcome called (inl e) = subst IsAnsweredOr (sym e) tt
-says_so line (Ok value) outcome called (inr e) = subst IsAnsweredOr (sym e) tt
-says_so line (Err fault) outcome called e = subst IsAnsweredOr (sym e) called
+module _ (disk : Type 0) where
+  pub says_so : {T : Type 0} (line : T → List ℕ) (result : Result T OwnerFault)
+      (outcome : Outcome)
+      → IsCalled disk result → Says line result outcome → IsAnsweredOr disk outcome
+  says_so line (Ok value) outcome called (inl e) = subst (IsAnsweredOr disk) (sym e) tt
+  says_so line (Ok value) outcome called (inr e) = subst (IsAnsweredOr disk) (sym e) tt
+  says_so line (Err fault) outcome called e = subst (IsAnsweredOr disk) (sym e) called
 
-pub proper_called : (result : Result ℕ OwnerFault) → IsProper result → IsCalled result
-proper_called (Ok epoch) is = tt
-proper_called (Err (faults.Refused why)) is = tt
-proper_called (Err faults.Link) is = tt
-proper_called (Err (faults.BadReply place)) is = is
-proper_called (Err faults.BadTag) is = is
-proper_called (Err faults.Device) is = tt
-proper_called (Err (faults.Unsettled epochs)) is = is
-proper_called (Err faults.Memory) is = tt
+  pub proper_called : (result : Result ℕ OwnerFault) → IsProper result
+      → (result ≡ Err faults.Device → disk) → IsCalled disk result
+  proper_called (Ok epoch) is failed = tt
+  proper_called (Err (faults.Refused why)) is failed = tt
+  proper_called (Err faults.Link) is failed = tt
+  proper_called (Err (faults.BadReply place)) is failed = is
+  proper_called (Err faults.BadTag) is failed = is
+  proper_called (Err faults.Device) is failed = failed refl
+  proper_called (Err (faults.Unsettled epochs)) is failed = is
+  proper_called (Err faults.Memory) is failed = tt
 
-pub cut_called : {T : Type 0} (result : Result T OwnerFault) → IsCutOff result → IsCalled result
-cut_called result (inl link) = subst IsCalled (sym link) tt
-cut_called result (inr memory) = subst IsCalled (sym memory) tt
+  pub cut_called : {T : Type 0} (result : Result T OwnerFault) → IsCutOff result
+      → IsCalled disk result
+  cut_called result (inl link) = subst (IsCalled disk) (sym link) tt
+  cut_called result (inr memory) = subst (IsCalled disk) (sym memory) tt
 
-pub names_called : (c : Catalogue) (n : ℕ) (a : Answer) → AnswersList c n a → IsCalled (names_in a)
-names_called c n (answers.Listed names) is = tt
-names_called c n (answers.Refused why) is = tt
-names_called c n a is = absurd is
+  pub names_called : (c : Catalogue) (n : ℕ) (a : Answer) → AnswersList c n a
+      → IsCalled disk (names_in a)
+  names_called c n (answers.Listed names) is = tt
+  names_called c n (answers.Refused why) is = tt
+  names_called c n a is = absurd is
 
-pub key_called : (k : Masters) (c : Catalogue) (user : List ℕ) (a : Answer)
-    → AnswersAsk c (questions.Key user) a → IsCalled (reader_in k user a)
-key_called k c user (answers.Known known) is = tt
-key_called k c user (answers.Refused why) is = tt
-key_called k c user a is = absurd is
+  pub key_called : (k : Masters) (c : Catalogue) (user : List ℕ) (a : Answer)
+      → AnswersAsk c (questions.Key user) a → IsCalled disk (reader_in k user a)
+  key_called k c user (answers.Known known) is = tt
+  key_called k c user (answers.Refused why) is = tt
+  key_called k c user a is = absurd is
 
-pub read_called : (result : Result (List ℕ) ClientFault) → IsAnsweredOrCut result
-    → IsAnsweredOr (read_outcome result)
-read_called (Ok bytes) is = tt
-read_called (Err (client.Refused why)) is = tt
-read_called (Err client.Link) is = tt
-read_called (Err (client.BadReply place)) is = is
-read_called (Err (client.Damaged stored computed)) is = is
-read_called (Err client.Device) is = tt
-read_called (Err (client.Unsettled generations)) is = is
-read_called (Err client.Memory) is = tt
+  pub read_called : (result : Result (List ℕ) ClientFault) → IsAnsweredOrCut result
+      → (result ≡ Err client.Device → disk) → IsAnsweredOr disk (read_outcome result)
+  read_called (Ok bytes) is failed = tt
+  read_called (Err (client.Refused why)) is failed = tt
+  read_called (Err client.Link) is failed = tt
+  read_called (Err (client.BadReply place)) is failed = is
+  read_called (Err (client.Damaged stored computed)) is failed = is
+  read_called (Err client.Device) is failed = failed refl
+  read_called (Err (client.Unsettled generations)) is failed = is
+  read_called (Err client.Memory) is failed = tt

@@ -3,6 +3,8 @@ mod AskingAlone
 mod Called
 mod Commanding
 mod Completing
+mod FailingDisks
+mod FailingReads
 mod Fronts
 mod Lines
 mod Listing

@@ -12,7 +12,8 @@ use Rattle.ov_history.specs.Refusals.{IsLegal}
 use Rattle.ov_history.specs.Sealing.{sealed}
 use Rattle.ov_keyfile.specs.KeyFile.{IsKeyFile}
 use Rattle.ov_peer.specs.Asks.{Asked, IsReplyAt}
-use Rattle.ov_protocol.specs.Serving.{Service, later}
+use Rattle.ov_peer.specs.Disks.{IsDiskFault}
+use Rattle.ov_protocol.specs.Serving.{Service, later, served}
 use Rattle.ov_record.specs.Updates.{SealedUpdate}
 use Rattle.overctl.specs.Machine.{StoresBytes}
 use Rattle.overctl.specs.Stops.{Outcome}
@@ -29,6 +30,18 @@ IsAlone {P} asked serves =
     (p q : P) (request reply : List ℕ) (v : Service)
     → asked p request reply q → serves p v
     → (made : List SealedUpdate) × IsReplyAt v request reply made × serves q (later v made)
+
+-- The peer replied that its disk failed, to an ask that needs it at what it served.
+pub record FailsDisk {P : Type 0} (asked : Asked P) (serves : P → Service → Type 0) : Type 0 where
+  pub before : P
+  pub after : P
+  pub request : List ℕ
+  pub reply : List ℕ
+  pub asks : asked before request reply after
+  pub service : Service
+  pub serving : serves before service
+  pub made : List SealedUpdate
+  pub fault : IsDiskFault (served service) request reply made
 
 -- What is served is a legal history as these masters seal it, with the check value of the base
 -- master.
@@ -67,9 +80,11 @@ HasFilesFor act keys body k h = HasOwnersFiles act keys body k
 -- ---- the end
 
 -- What is asked for is done, or the machine refuses it; or a fault ended the act: of the server's
--- disk (4), of a file that is read (5), of standard output (6), of memory (7), or of the link (8).
-abbrev pub IsAnswered : ℕ → Type 0
-IsAnswered status = (status ≡ 0) ⊎ ((status ≡ 3) ⊎ ((4 ≤ status) × (status ≤ 8)))
+-- disk (4), where there was such a one, of a file that is read (5), of standard output (6), of
+-- memory (7), or of the link (8).
+abbrev pub IsAnswered : Type 0 → ℕ → Type 0
+IsAnswered disk status =
+    (status ≡ 0) ⊎ (status ≡ 3) ⊎ ((status ≡ 4) × disk) ⊎ ((5 ≤ status) × (status ≤ 8))
 
 -- So every act ends over a server that nobody else updates, with right files: its keys are those of
 -- the store, each reply is an answer, no file is damaged, and one try is enough. The check value
@@ -77,23 +92,23 @@ IsAnswered status = (status ≡ 0) ⊎ ((status ≡ 3) ⊎ ((4 ≤ status) × (s
 abbrev pub IsComplete : {P : Type 0} → Asked P → (P → Service → Type 0) → Act
     → Option (List ℕ) → Option (List ℕ) → P → ℕ → Type 0
 IsComplete asked serves Check keys body p status =
-    (k : Masters) → HasOwnersFiles Check keys body k → IsAnswered status
+    (k : Masters) → HasOwnersFiles Check keys body k → IsAnswered ⊥ status
 IsComplete asked serves act keys body p status =
     (k : Masters) (h : PlainHistory) (v : Service)
     → IsAlone asked serves → serves p v → IsStoreOf k h v → HasFilesFor act keys body k h
-    → IsAnswered status
+    → IsAnswered (FailsDisk asked serves) status
 
 -- ---- inner: no public contract needs the rest
 
 -- the same of what comes of an act
-abbrev pub IsAnsweredOr : Outcome → Type 0
-IsAnsweredOr (Ok bytes) = Unit {0}
-IsAnsweredOr (Err (stops.Refused why)) = Unit {0}
-IsAnsweredOr (Err stops.Device) = Unit {0}
-IsAnsweredOr (Err stops.Read) = Unit {0}
-IsAnsweredOr (Err stops.Memory) = Unit {0}
-IsAnsweredOr (Err stops.Link) = Unit {0}
-IsAnsweredOr (Err stop) = ⊥
+abbrev pub IsAnsweredOr : Type 0 → Outcome → Type 0
+IsAnsweredOr disk (Ok bytes) = Unit {0}
+IsAnsweredOr disk (Err (stops.Refused why)) = Unit {0}
+IsAnsweredOr disk (Err stops.Device) = disk
+IsAnsweredOr disk (Err stops.Read) = Unit {0}
+IsAnsweredOr disk (Err stops.Memory) = Unit {0}
+IsAnsweredOr disk (Err stops.Link) = Unit {0}
+IsAnsweredOr disk (Err stop) = ⊥
 
 -- what an act asks by is a name, where it asks one question
 abbrev pub AsksByName : Act → Type 0
