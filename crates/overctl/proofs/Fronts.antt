@@ -22,7 +22,7 @@ use Rattle.overctl.specs.Files.{IsBodyOf}
 
 -- ---- how long a user key line is
 
-name_short : (name : List ℕ) → IsName name → length name ≤ 64
+pub name_short : (name : List ℕ) → IsName name → length name ≤ 64
 name_short [] is = omega arith
 name_short (first ∷ rest) is =
     let outer = and_parts (is_letter_or_digit first && nat_lt (length rest) MAX_NAME_BYTES)

@@ -1,4 +1,10 @@
 mod Acting
+mod AskingAlone
+mod Called
+mod Commanding
+mod Completing
+mod FailingDisks
+mod FailingReads
 mod Fronts
 mod Lines
 mod Listing

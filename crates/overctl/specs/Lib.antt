@@ -1,5 +1,6 @@
 pub mod Acts
 pub mod Causes
+pub mod Completeness
 pub mod Endings
 pub mod Files
 pub mod Machine

@@ -9,6 +9,7 @@ ghost use Rattle.ov_protocol.specs.Serving.{Service};
 ghost use Rattle.overctl.specs.Acts.{Acts, ChecksBy, OwnsBy, ReadsBy, check_line};
 ghost use Rattle.overctl.specs.Causes.{EndsFor, HasKeys, IsCreation, NeedsKeys, StopsFor};
 ghost use Rattle.overctl.specs.Causes.{StoresTooMany, TakesFiles, TakesUpTo, most_bytes};
+ghost use Rattle.overctl.specs.Completeness.{AsksByName, IsComplete};
 ghost use Rattle.overctl.specs.Endings.{Ends};
 ghost use Rattle.overctl.specs.Files.{FindsBody, HasListLimits, IsOwners};
 ghost use Rattle.overctl.specs.Machine.{ActsAsMachine, OwnersAsMachine, ReadersAsMachine};
@@ -165,6 +166,18 @@ fn perform<K: Source, B: Source, P: Peer>(
     }
 }
 
+/// Does nothing. Its contract is that what an act asks by is a name.
+fn known_names(act: &Act)
+    ensures { AsksByName act.now }
+{
+    match act {
+        Act::List { file: name } | Act::Key { user: name } => {
+            let _ = name.as_bytes();
+        }
+        _ => {}
+    }
+}
+
 /// Does what the job asks for, and gives the exit status.
 pub fn act<K: Source, B: Source, O: Sink, P: Peer>(
     alloc: Global,
@@ -188,7 +201,10 @@ pub fn act<K: Source, B: Source, O: Sink, P: Peer>(
         → Keeps (O.written out.old) (O.written out.new) }
     ensures files { TakesFiles K.takes K.left B.takes B.left job.now.act keys.old keys.new
         body.old body.new }
+    ensures complete { IsComplete P.asked P.serves job.now.act (K.left keys.old) (B.left body.old)
+        peer.old result }
 {
+    known_names(&job.act);
     let outcome = perform(alloc, &job.act, keys, body, peer);
     finish(alloc, outcome, out)
 }
