@@ -191,7 +191,7 @@ pub fn act<K: Source, B: Source, O: Sink, P: Peer>(
     ensures quiet { (result ≢ 0) → (result ≢ 3) → (result ≢ 6)
         → Keeps (O.written out.old) (O.written out.new) }
     ensures complete { IsComplete P.asked P.serves job.now.act (K.left keys.old) (B.left body.old)
-        peer.old result }
+        peer.old peer.new result }
 {
     known_names(&job.act);
     let outcome = perform(alloc, &job.act, keys, body, peer);
