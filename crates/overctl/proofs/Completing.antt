@@ -131,42 +131,37 @@ module _ {P : Type 0} (asked : Asked P) (failed : Failed P) (serves : P → Serv
       (read_answered asked failed serves alone k h v store has.reader file p q result has.holds
       has.roots reads serving)) goes
 
-  -- every act whose end is told is answered
-  abbrev EndsAnswered : Act → Option (List ℕ) → Option (List ℕ) → Type 0
-  EndsAnswered acts.Check keys body =
-      (k : Masters) → HasOwnersFiles acts.Check keys body k → IsAnsweredOr ⊥ outcome
-  EndsAnswered act keys body =
-      (k : Masters) (h : PlainHistory) (v : Service)
+  act_answered : (act : Act) (keys body : Option (List ℕ)) (k : Masters) (h : PlainHistory)
+      (v : Service) → AsksByName act → Acts asked failed act keys body p q outcome
       → IsAlone asked serves → serves p v → IsStoreOf k h v → HasFilesFor act keys body k h
       → IsAnsweredOr disk outcome
-
-  act_answered : (act : Act) (keys body : Option (List ℕ)) → AsksByName act
-      → Acts asked failed act keys body p q outcome → EndsAnswered act keys body
-  act_answered (acts.Read file) keys body named does =
-      λ k h v alone serving store has.
+  act_answered (acts.Read file) keys body k h v named does alone serving store has =
       reader_answered file keys k h v does alone serving store has
-  act_answered acts.Check keys body named (same, (found, is, says)) =
-      λ k files.
-      check_answered ⊥ files.file k found outcome files.masters
-      (subst (λ (known : Option (List ℕ)). FindsMasters known found) files.told is) says
-  act_answered (acts.Enrol user) keys body named does =
-      λ k h v alone serving store has.
+  act_answered acts.Check keys body k h v named (same, (found, is, says)) alone serving store has =
+      check_answered disk has.file k found outcome has.masters
+      (subst (λ (known : Option (List ℕ)). FindsMasters known found) has.told is) says
+  act_answered (acts.Enrol user) keys body k h v named does alone serving store has =
       owner_answered (acts.Enrol user) keys body k h v named does alone serving store has
-  act_answered (acts.Grant user file) keys body named does =
-      λ k h v alone serving store has.
+  act_answered (acts.Grant user file) keys body k h v named does alone serving store has =
       owner_answered (acts.Grant user file) keys body k h v named does alone serving store has
-  act_answered (acts.Revoke user file) keys body named does =
-      λ k h v alone serving store has.
+  act_answered (acts.Revoke user file) keys body k h v named does alone serving store has =
       owner_answered (acts.Revoke user file) keys body k h v named does alone serving store has
-  act_answered (acts.Create file list) keys body named does =
-      λ k h v alone serving store has.
+  act_answered (acts.Create file list) keys body k h v named does alone serving store has =
       owner_answered (acts.Create file list) keys body k h v named does alone serving store has
-  act_answered (acts.List file) keys body named does =
-      λ k h v alone serving store has.
+  act_answered (acts.List file) keys body k h v named does alone serving store has =
       owner_answered (acts.List file) keys body k h v named does alone serving store has
-  act_answered (acts.Key user) keys body named does =
-      λ k h v alone serving store has.
+  act_answered (acts.Key user) keys body k h v named does alone serving store has =
       owner_answered (acts.Key user) keys body k h v named does alone serving store has
+
+  -- the check value asks no server
+  check_done : (act : Act) (keys body : Option (List ℕ)) (k : Masters) → act ≡ acts.Check
+      → Acts asked failed act keys body p q outcome → HasOwnersFiles act keys body k
+      → IsAnsweredOr ⊥ outcome
+  check_done act keys body k is does has =
+      let (same, (found, there, says)) =
+      subst (λ (a : Act). Acts asked failed a keys body p q outcome) is does in
+      check_answered ⊥ has.file k found outcome has.masters
+      (subst (λ (known : Option (List ℕ)). FindsMasters known found) has.told there) says
 
   -- ---- the statuses
 
@@ -193,35 +188,14 @@ module _ {P : Type 0} (asked : Asked P) (failed : Failed P) (serves : P → Serv
         low disk_fails 8 (omega arith) (omega arith) e
     status_answered disk_fails (Err stop) is puts = absurd is
 
-    complete_by : (act : Act) (keys body : Option (List ℕ)) → PutsOutcome outcome old new status
-        → EndsAnswered act keys body → IsComplete asked serves act keys body p q status
-    complete_by acts.Check keys body puts ends =
-        λ k files. status_answered ⊥ outcome (ends k files) puts
-    complete_by (acts.Enrol user) keys body puts ends =
-        λ k h v alone serving store has.
-        status_answered disk outcome (ends k h v alone serving store has) puts
-    complete_by (acts.Grant user file) keys body puts ends =
-        λ k h v alone serving store has.
-        status_answered disk outcome (ends k h v alone serving store has) puts
-    complete_by (acts.Revoke user file) keys body puts ends =
-        λ k h v alone serving store has.
-        status_answered disk outcome (ends k h v alone serving store has) puts
-    complete_by (acts.Create file list) keys body puts ends =
-        λ k h v alone serving store has.
-        status_answered disk outcome (ends k h v alone serving store has) puts
-    complete_by (acts.List file) keys body puts ends =
-        λ k h v alone serving store has.
-        status_answered disk outcome (ends k h v alone serving store has) puts
-    complete_by (acts.Key user) keys body puts ends =
-        λ k h v alone serving store has.
-        status_answered disk outcome (ends k h v alone serving store has) puts
-    complete_by (acts.Read file) keys body puts ends =
-        λ k h v alone serving store has.
-        status_answered disk outcome (ends k h v alone serving store has) puts
-
     -- every act over such a server is answered
     pub complete : (act : Act) (keys body : Option (List ℕ)) → AsksByName act
         → Acts asked failed act keys body p q outcome → PutsOutcome outcome old new status
         → IsComplete asked serves act keys body p q status
-    complete act keys body named does puts =
-        complete_by act keys body puts (act_answered act keys body named does)
+    complete act keys body named does puts = record {
+      over_server = λ k h v alone serving store has.
+          status_answered disk outcome
+          (act_answered act keys body k h v named does alone serving store has) puts;
+      check = λ k is has.
+          status_answered ⊥ outcome (check_done act keys body k is does has) puts;
+    }

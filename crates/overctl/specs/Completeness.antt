@@ -95,14 +95,12 @@ IsAnswered disk status =
 -- So every act ends over a server that nobody else updates, with right files: its keys are those of
 -- the store, each reply is an answer, no file is damaged, and one try is enough. The check value
 -- needs the key file alone.
-abbrev pub IsComplete : {P : Type 0} → Asked P → (P → Service → Type 0) → Act
-    → Option (List ℕ) → Option (List ℕ) → P → P → ℕ → Type 0
-IsComplete asked serves Check keys body p q status =
-    (k : Masters) → HasOwnersFiles Check keys body k → IsAnswered ⊥ status
-IsComplete asked serves act keys body p q status =
-    (k : Masters) (h : PlainHistory) (v : Service)
-    → IsAlone asked serves → serves p v → IsStoreOf k h v → HasFilesFor act keys body k h
-    → IsAnswered (FailsDisk asked serves p q) status
+pub record IsComplete {P : Type 0} (asked : Asked P) (serves : P → Service → Type 0) (act : Act)
+    (keys body : Option (List ℕ)) (p q : P) (status : ℕ) : Type 0 where
+  pub over_server : (k : Masters) (h : PlainHistory) (v : Service)
+      → IsAlone asked serves → serves p v → IsStoreOf k h v → HasFilesFor act keys body k h
+      → IsAnswered (FailsDisk asked serves p q) status
+  pub check : (k : Masters) → act ≡ Check → HasOwnersFiles act keys body k → IsAnswered ⊥ status
 
 -- ---- inner: no public contract needs the rest
 
