@@ -31,8 +31,8 @@ IsAlone {P} asked serves =
     → asked p request reply q → serves p v
     → (made : List SealedUpdate) × IsReplyAt v request reply made × serves q (later v made)
 
--- Between the one value of the peer and the other it replied to an ask that its disk failed, and the
--- ask needs the disk at what the peer served.
+-- Between the one value of the peer and the other it replied that its disk failed, to an ask that
+-- needs the disk at what it served.
 pub record FailsDisk {P : Type 0} (asked : Asked P) (serves : P → Service → Type 0) (p q : P)
     : Type 0 where
   pub earlier : List Ask
