@@ -73,7 +73,8 @@ read_asks r file (AsksChain tries least) request is =
     let same : requests.Chain r.name file ≡ request = cc is in
     subst (λ (x : Request). updates_asked (Ok x) ≡ []) same refl
 read_asks r file (AsksChunk tries c stored) request is =
-    let same : requests.Chunk c.file c.generation (length stored) MAX_CHUNK_BYTES ≡ request = cc is in
+    let same : requests.Chunk c.file c.generation (length stored) MAX_CHUNK_BYTES ≡ request =
+    cc is in
     subst (λ (x : Request). updates_asked (Ok x) ≡ []) same refl
 read_asks r file (Ends result) request is = absurd (cc is)
 
@@ -137,16 +138,18 @@ module _ {P : Type 0} (asked : Asked P) (failed : Failed P) (serves : P → Serv
   module _ {T : Type 0} (request : Request) (take : Answer → Result T OwnerFault)
       (question : IsPlainQuestion request) where
     -- this is taken of an answer by what is served, and the same is served then; or it was cut off
-    abbrev pub IsTakenOf : P → Service → Result T OwnerFault → Type 0
-    IsTakenOf q v result =
-        ((a : Answer) × Answers (served v) request a × (result ≡ take a) × serves q v)
+    abbrev pub IsTakenOf : P → P → Service → Result T OwnerFault → Type 0
+    IsTakenOf p q v result =
+        ((a : Answer) × (reply : List ℕ)
+        × Answers (served v) request a × (result ≡ take a)
+        × asked p (request_bytes request) reply q × serves q v)
         ⊎ IsCutOff result
 
     replied : (p q : P) (v : Service) (result : Result T OwnerFault) (read : Result Answer ℕ)
         (answered : Answered asked p q request read) (made : List SealedUpdate)
         → result ≡ taken take read → serves q (later v made)
         → IsReplyAt v (request_bytes request) answered.reply made
-        → IsTakenOf q v result
+        → IsTakenOf p q v result
     replied p q v result read answered made is goes_on (inr fault) =
         absurd (question.quiet (needs_disk (served v) request question.form fault.needs))
     replied p q v result read answered made is goes_on (inl replies) =
@@ -162,13 +165,15 @@ module _ {P : Type 0} (asked : Asked P) (failed : Failed P) (serves : P → Serv
         replies.form replies.spelled in
         inl (
           a,
+          answered.reply,
           at_v,
           is ∙ ap (taken take) (sym answered.reads ∙ reads_as),
+          answered.sent,
           subst (serves q) (same_left v made none) goes_on,
         )
 
     pub once_alone : (p q : P) (v : Service) (result : Result T OwnerFault)
-        → AsksOnce asked failed p q request take result → serves p v → IsTakenOf q v result
+        → AsksOnce asked failed p q request take result → serves p v → IsTakenOf p q v result
     once_alone p q v result (inl (read, answered, is)) serving =
         let (made, at_v, goes_on) =
         alone p q (request_bytes request) answered.reply v answered.sent serving in

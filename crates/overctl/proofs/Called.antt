@@ -33,6 +33,7 @@ use Rattle.overctl.specs.Acts.{Says}
 use Rattle.overctl.specs.Acts.{read_outcome}
 use Rattle.overctl.specs.Completeness.{IsAnsweredOr}
 use Rattle.overctl.specs.Stops.{Outcome, stop_of_owner}
+use Rattle.overctl.specs.declared.stop.Stop.TheVariants as stops
 
 -- ---- the questions
 
@@ -69,6 +70,17 @@ key_plain user named = record {
 }
 
 -- ---- what calls give
+
+-- an end that is told of one fault of the disk, told of another
+pub answered_by : (disk other : Type 0) → (disk → other) → (outcome : Outcome)
+    → IsAnsweredOr disk outcome → IsAnsweredOr other outcome
+answered_by disk other f (Ok bytes) is = tt
+answered_by disk other f (Err (stops.Refused why)) is = tt
+answered_by disk other f (Err stops.Device) is = f is
+answered_by disk other f (Err stops.Read) is = tt
+answered_by disk other f (Err stops.Memory) is = tt
+answered_by disk other f (Err stops.Link) is = tt
+answered_by disk other f (Err stop) is = absurd is
 
 -- the call has a result, is refused, or a fault ended it: one of the server's disk, where there was
 -- such a one

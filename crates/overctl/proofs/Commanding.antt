@@ -28,6 +28,7 @@ use Rattle.ov_protocol.specs.Serving.{Service, served}
 use Rattle.ov_script.specs.declared.command.Command.{Command}
 use Rattle.ov_script.specs.declared.command.Command.TheVariants as commands
 use Rattle.ov_tokens.specs.Keys.{check_value_of}
+use Rattle.ov_wire.specs.Requests.{request_bytes}
 use Rattle.ov_wire.specs.declared.answer.Answer.{Answer}
 use Rattle.ov_wire.specs.declared.answer.Welcome.{Welcome}
 use Rattle.ov_wire.specs.declared.request.Question.TheVariants as questions
@@ -37,32 +38,33 @@ use Rattle.overctl.proofs.AskingAlone.{once_alone, read_alone}
 use Rattle.overctl.specs.Acts.{GoesOn, Owns, Performs}
 use Rattle.overctl.specs.Acts.{admitted, admitted_if, list_line, read_outcome, update_line}
 use Rattle.overctl.specs.Completeness.{AsksByName}
-use Rattle.overctl.proofs.FailingDisks.{update_fails}
+use Rattle.overctl.proofs.FailingDisks.{fails_later, update_fails}
 use Rattle.overctl.proofs.FailingReads.{read_fails}
 use Rattle.overctl.specs.Completeness.{FailsDisk, IsAlone, IsAnsweredOr, IsStoreOf}
 use Rattle.overctl.specs.Stops.{Outcome}
 use Rattle.overctl.specs.declared.job.Act.{Act}
 use Rattle.overctl.specs.declared.job.Act.TheVariants as acts
 use Rattle.overctl.specs.declared.stop.Stop.{Stop}
-use Rattle.overctl.proofs.Called.{IsCalled, cut_called, hello_plain, key_called, key_plain}
+use Rattle.overctl.proofs.Called.{IsCalled, answered_by, cut_called, hello_plain, key_called}
+use Rattle.overctl.proofs.Called.{key_plain}
 use Rattle.overctl.proofs.Called.{list_plain, names_called, proper_called, read_called, says_so}
 
 module _ {P : Type 0} (asked : Asked P) (failed : Failed P) (serves : P → Service → Type 0)
     (alone : IsAlone asked serves) (k : Masters) (h : PlainHistory) (v : Service)
     (store : IsStoreOf k h v) where
-  abbrev disk : Type 0
-  disk = FailsDisk asked serves
+  abbrev Disk : P → P → Type 0
+  Disk p q = FailsDisk asked serves p q
 
   -- ---- an owner's calls
 
   update_called : (command : Command) (e : Errand) (p q : P) (result : Result ℕ OwnerFault)
       → IsErrandFor k.base command e → Runs asked failed k.surface e p q result → serves p v
-      → IsCalled disk result
+      → IsCalled (Disk p q) result
   update_called command e p q result is runs serving =
       let (m, leads, ends) = runs.are_asks in
-      let (last, at_it) = asked_alone asked failed serves alone runs.asks runs.unanswered p m v leads
-      serving in
-      proper_called disk result
+      let (last, at_it) =
+      asked_alone asked failed serves alone runs.asks runs.unanswered p m v leads serving in
+      proper_called (Disk p q) result
       (talks_are_proper k command e runs.asks runs.unanswered result v last h is runs.talks
       store.surface store.legal store.history at_it)
       (λ device.
@@ -72,48 +74,51 @@ module _ {P : Type 0} (asked : Asked P) (failed : Failed P) (serves : P → Serv
 
   list_called : (file : List ℕ) (p q : P) (result : Result (List (List ℕ)) OwnerFault)
       → IsName file → AsksOnce asked failed p q (requests.List file) names_in result → serves p v
-      → IsCalled disk result
+      → IsCalled (Disk p q) result
   list_called file p q result named asks serving =
       elim (once_alone asked failed serves alone (requests.List file) names_in
       (list_plain file named) p q v result asks serving) [
-        | inl (a, at_v, is, still) ↦ subst (IsCalled disk) (sym is)
-            (names_called disk (served v).catalogue (file_named (served v).catalogue file) a at_v)
-        | inr cut ↦ cut_called disk result cut
+        | inl (a, reply, at_v, is, sent, still) ↦ subst (IsCalled (Disk p q)) (sym is)
+            (names_called (Disk p q) (served v).catalogue
+            (file_named (served v).catalogue file) a at_v)
+        | inr cut ↦ cut_called (Disk p q) result cut
       ]
 
   client_called : (user : List ℕ) (p q : P) (result : Result Reader OwnerFault)
       → IsName user
       → AsksOnce asked failed p q (requests.Ask (questions.Key user)) (reader_in k user) result
-      → serves p v → IsCalled disk result
+      → serves p v → IsCalled (Disk p q) result
   client_called user p q result named asks serving =
       elim (once_alone asked failed serves alone (requests.Ask (questions.Key user))
       (reader_in k user) (key_plain user named) p q v result asks serving) [
-        | inl (a, at_v, is, still) ↦ subst (IsCalled disk) (sym is)
-            (key_called disk k (served v).catalogue user a at_v)
-        | inr cut ↦ cut_called disk result cut
+        | inl (a, reply, at_v, is, sent, still) ↦ subst (IsCalled (Disk p q)) (sym is)
+            (key_called (Disk p q) k (served v).catalogue user a at_v)
+        | inr cut ↦ cut_called (Disk p q) result cut
       ]
 
   performed : (act : Act) (bytes : List ℕ) (p q : P) (outcome : Outcome) → AsksByName act
-      → Performs asked failed k act bytes p q outcome → serves p v → IsAnsweredOr disk outcome
+      → Performs asked failed k act bytes p q outcome → serves p v → IsAnsweredOr (Disk p q) outcome
   performed (acts.Enrol user) bytes p q outcome named (result, runs, says) serving =
-      says_so disk update_line result outcome
+      says_so (Disk p q) update_line result outcome
       (update_called (commands.Enrol user) (enrolling user) p q result refl runs serving) says
   performed (acts.Grant user file) bytes p q outcome named (result, runs, says) serving =
-      says_so disk update_line result outcome
+      says_so (Disk p q) update_line result outcome
       (update_called (commands.Grant user file) (granting k.base user file) p q result refl runs
       serving) says
   performed (acts.Revoke user file) bytes p q outcome named (result, runs, says) serving =
-      says_so disk update_line result outcome
+      says_so (Disk p q) update_line result outcome
       (update_called (commands.Revoke user file) (revoking user file) p q result refl runs serving)
       says
   performed (acts.Create file list) bytes p q outcome named (result, runs, says) serving =
-      says_so disk update_line result outcome
+      says_so (Disk p q) update_line result outcome
       (update_called (commands.Create file list bytes) (creating k.base file list bytes) p q result
       refl runs serving) says
   performed (acts.List file) bytes p q outcome named (result, asks, says) serving =
-      says_so disk (list_line file) result outcome (list_called file p q result named asks serving) says
+      says_so (Disk p q) (list_line file) result outcome
+      (list_called file p q result named asks serving) says
   performed (acts.Key user) bytes p q outcome named (result, asks, says) serving =
-      says_so disk key_line result outcome (client_called user p q result named asks serving) says
+      says_so (Disk p q) key_line result outcome
+      (client_called user p q result named asks serving) says
   performed (acts.Read file) bytes p q outcome named does serving = absurd does
   performed acts.Check bytes p q outcome named does serving = absurd does
 
@@ -129,7 +134,7 @@ module _ {P : Type 0} (asked : Asked P) (failed : Failed P) (serves : P → Serv
       (ap (λ (b : Bool). admitted_if b) same)
 
   pub owned : (act : Act) (bytes : List ℕ) (p q : P) (outcome : Outcome) → AsksByName act
-      → Owns asked failed k act bytes p q outcome → serves p v → IsAnsweredOr disk outcome
+      → Owns asked failed k act bytes p q outcome → serves p v → IsAnsweredOr (Disk p q) outcome
   owned act bytes p q outcome named (greeting, m, asks, goes) serving =
       by (once_alone asked failed serves alone requests.Hello welcome_in hello_plain p m v greeting
       asks serving) where
@@ -137,31 +142,35 @@ module _ {P : Type 0} (asked : Asked P) (failed : Failed P) (serves : P → Serv
         Next found = GoesOn found m q outcome (λ _. Performs asked failed k act bytes m q outcome)
 
         by_cut : (g : Result Welcome OwnerFault) → IsCutOff g → Next (admitted k.base g)
-            → IsAnsweredOr disk outcome
+            → IsAnsweredOr (Disk p q) outcome
         by_cut g (inl link) next =
-            let stops = subst (λ (x : Result Welcome OwnerFault). Next (admitted k.base x)) link next in
-            subst (IsAnsweredOr disk) (sym stops.1) tt
+            let stops =
+            subst (λ (x : Result Welcome OwnerFault). Next (admitted k.base x)) link next in
+            subst (IsAnsweredOr (Disk p q)) (sym stops.1) tt
         by_cut g (inr memory) next =
-            let stops = subst (λ (x : Result Welcome OwnerFault). Next (admitted k.base x)) memory next in
-            subst (IsAnsweredOr disk) (sym stops.1) tt
+            let stops =
+            subst (λ (x : Result Welcome OwnerFault). Next (admitted k.base x)) memory next in
+            subst (IsAnsweredOr (Disk p q)) (sym stops.1) tt
 
-        by : IsTakenOf asked failed serves alone requests.Hello welcome_in hello_plain m v greeting
-            → IsAnsweredOr disk outcome
-        by (inl (a, at_v, is, still)) =
-            performed act bytes m q outcome named
-            (subst Next (ap (admitted k.base) is ∙ welcomed a at_v) goes) still
+        by : IsTakenOf asked failed serves alone requests.Hello welcome_in hello_plain p m v
+            greeting → IsAnsweredOr (Disk p q) outcome
+        by (inl (a, reply, at_v, is, sent, still)) =
+            answered_by (Disk m q) (Disk p q)
+            (fails_later asked serves p m q (request_bytes requests.Hello) reply sent) outcome
+            (performed act bytes m q outcome named
+            (subst Next (ap (admitted k.base) is ∙ welcomed a at_v) goes) still)
         by (inr cut) = by_cut greeting cut goes
 
   -- ---- a reader's
 
   pub read_answered : (r : Reader) (file : List ℕ) (p q : P) (result : Result (List ℕ) ClientFault)
       → HoldsRootKeys k r → HasRoots h r → Reads asked failed p q r file result → serves p v
-      → IsAnsweredOr disk (read_outcome result)
+      → IsAnsweredOr (Disk p q) (read_outcome result)
   read_answered r file p q result holds roots
       (asks, unanswered, (m, leads, ends), (last, goes, closes)) serving =
       let (histories, along, same) = read_alone asked failed serves alone r file asks
       (AsksChain [] 0) last p m v goes leads serving in
-      read_called disk result
+      read_called (Disk p q) result
       (reads_are_answered k r file asks unanswered result v v histories h holds roots store.surface
       (last, goes, closes) along store.legal
       (subst (λ (g : SealedHistory). AllAre g histories) store.history same))

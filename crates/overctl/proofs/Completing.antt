@@ -16,7 +16,8 @@ use Rattle.ov_protocol.specs.Serving.{Service}
 use Rattle.overctl.proofs.Sources.{same_masters}
 use Rattle.overctl.specs.Acts.{Acts, GoesOn, Owns, OwnsBy, ReadsBy, SaysCheck}
 use Rattle.overctl.specs.Completeness.{AsksByName, HasFilesFor, HasOwnersFiles, HasReadersLine}
-use Rattle.overctl.specs.Completeness.{FailsDisk, IsAlone, IsAnswered, IsAnsweredOr, IsComplete, IsStoreOf}
+use Rattle.overctl.specs.Completeness.{FailsDisk, IsAlone, IsAnswered, IsAnsweredOr, IsComplete}
+use Rattle.overctl.specs.Completeness.{IsStoreOf}
 use Rattle.overctl.specs.Files.{FindsBody, FindsBytes, FindsMasters, FindsReader, plain_masters}
 use Rattle.overctl.specs.Machine.{StoresBytes}
 use Rattle.overctl.specs.Printing.{PutsOutcome}
@@ -30,10 +31,11 @@ use Rattle.overctl.proofs.Commanding.{owned, read_answered}
 -- ---- the files
 
 -- an act that goes on from right masters, or whose file wasn't read
-masters_found : {P : Type 0} (disk : Type 0) (file : List ℕ) (k : Masters) (found : Result ReadMasters Stop)
-    (p q : P) (outcome : Outcome) (Next : ReadMasters → Type 0)
+masters_found : {P : Type 0} (disk : Type 0) (file : List ℕ) (k : Masters)
+    (found : Result ReadMasters Stop) (p q : P) (outcome : Outcome) (Next : ReadMasters → Type 0)
     → IsKeyFile file k.base k.surface → FindsMasters (Some file) found
-    → ((masters : ReadMasters) → k ≡ plain_masters masters → Next masters → IsAnsweredOr disk outcome)
+    → ((masters : ReadMasters) → k ≡ plain_masters masters → Next masters
+    → IsAnsweredOr disk outcome)
     → GoesOn found p q outcome Next → IsAnsweredOr disk outcome
 masters_found disk file k (Ok masters) p q outcome Next key is then goes =
     then masters (same_masters file k masters one_pair key is) goes
@@ -44,8 +46,8 @@ masters_found disk file k (Err stops.Read) p q outcome Next key is then goes =
 masters_found disk file k (Err stop) p q outcome Next key is then goes = absurd is
 
 -- a reader's that goes on from the right reader
-reader_found : {P : Type 0} (disk : Type 0) (line : List ℕ) (r : Reader) (found : Result Reader Stop)
-    (p q : P) (outcome : Outcome) (Next : Reader → Type 0)
+reader_found : {P : Type 0} (disk : Type 0) (line : List ℕ) (r : Reader)
+    (found : Result Reader Stop) (p q : P) (outcome : Outcome) (Next : Reader → Type 0)
     → IsLineOf line r → FindsReader (Some line) found
     → (Next r → IsAnsweredOr disk outcome)
     → GoesOn found p q outcome Next → IsAnsweredOr disk outcome
@@ -63,7 +65,8 @@ bytes_taken : {P : Type 0} (disk : Type 0) (body : List ℕ) (found : Result (Li
     → ((bytes : List ℕ) → Next bytes → IsAnsweredOr disk outcome)
     → GoesOn found p q outcome Next → IsAnsweredOr disk outcome
 bytes_taken disk body (Ok bytes) p q outcome Next few is then goes = then bytes goes
-bytes_taken disk body (Err stops.TooLong) p q outcome Next few is then goes = absurd (omega (arith, few, is))
+bytes_taken disk body (Err stops.TooLong) p q outcome Next few is then goes =
+    absurd (omega (arith, few, is))
 bytes_taken disk body (Err stops.Read) p q outcome Next few is then goes =
     subst (IsAnsweredOr disk) (sym goes.1) tt
 bytes_taken disk body (Err stops.Memory) p q outcome Next few is then goes =
@@ -84,11 +87,14 @@ body_taken disk act body bytes found p q outcome Next stores few is then goes =
 
 -- ---- acts
 
-check_answered : (disk : Type 0) (file : List ℕ) (k : Masters) (found : Result ReadMasters Stop) (outcome : Outcome)
+check_answered : (disk : Type 0) (file : List ℕ) (k : Masters)
+    (found : Result ReadMasters Stop) (outcome : Outcome)
     → IsKeyFile file k.base k.surface → FindsMasters (Some file) found → SaysCheck found outcome
     → IsAnsweredOr disk outcome
-check_answered disk file k (Ok masters) outcome key is (inl e) = subst (IsAnsweredOr disk) (sym e) tt
-check_answered disk file k (Ok masters) outcome key is (inr e) = subst (IsAnsweredOr disk) (sym e) tt
+check_answered disk file k (Ok masters) outcome key is (inl e) =
+    subst (IsAnsweredOr disk) (sym e) tt
+check_answered disk file k (Ok masters) outcome key is (inr e) =
+    subst (IsAnsweredOr disk) (sym e) tt
 check_answered disk file k (Err stops.BadKeys) outcome key is e =
     absurd (is (k.base, k.surface, key))
 check_answered disk file k (Err stops.Read) outcome key is e = subst (IsAnsweredOr disk) (sym e) tt
@@ -97,7 +103,7 @@ check_answered disk file k (Err stop) outcome key is e = absurd is
 module _ {P : Type 0} (asked : Asked P) (failed : Failed P) (serves : P → Service → Type 0)
     (p q : P) (outcome : Outcome) where
   abbrev disk : Type 0
-  disk = FailsDisk asked serves
+  disk = FailsDisk asked serves p q
 
   owner_answered : (act : Act) (keys body : Option (List ℕ)) (k : Masters) (h : PlainHistory)
       (v : Service) → AsksByName act → OwnsBy asked failed act keys body p q outcome
@@ -125,42 +131,37 @@ module _ {P : Type 0} (asked : Asked P) (failed : Failed P) (serves : P → Serv
       (read_answered asked failed serves alone k h v store has.reader file p q result has.holds
       has.roots reads serving)) goes
 
-  -- every act whose end is told is answered
-  abbrev EndsAnswered : Act → Option (List ℕ) → Option (List ℕ) → Type 0
-  EndsAnswered acts.Check keys body =
-      (k : Masters) → HasOwnersFiles acts.Check keys body k → IsAnsweredOr ⊥ outcome
-  EndsAnswered act keys body =
-      (k : Masters) (h : PlainHistory) (v : Service)
+  act_answered : (act : Act) (keys body : Option (List ℕ)) (k : Masters) (h : PlainHistory)
+      (v : Service) → AsksByName act → Acts asked failed act keys body p q outcome
       → IsAlone asked serves → serves p v → IsStoreOf k h v → HasFilesFor act keys body k h
       → IsAnsweredOr disk outcome
-
-  act_answered : (act : Act) (keys body : Option (List ℕ)) → AsksByName act
-      → Acts asked failed act keys body p q outcome → EndsAnswered act keys body
-  act_answered (acts.Read file) keys body named does =
-      λ k h v alone serving store has.
+  act_answered (acts.Read file) keys body k h v named does alone serving store has =
       reader_answered file keys k h v does alone serving store has
-  act_answered acts.Check keys body named (same, (found, is, says)) =
-      λ k files.
-      check_answered ⊥ files.file k found outcome files.masters
-      (subst (λ (known : Option (List ℕ)). FindsMasters known found) files.told is) says
-  act_answered (acts.Enrol user) keys body named does =
-      λ k h v alone serving store has.
+  act_answered acts.Check keys body k h v named (same, (found, is, says)) alone serving store has =
+      check_answered disk has.file k found outcome has.masters
+      (subst (λ (known : Option (List ℕ)). FindsMasters known found) has.told is) says
+  act_answered (acts.Enrol user) keys body k h v named does alone serving store has =
       owner_answered (acts.Enrol user) keys body k h v named does alone serving store has
-  act_answered (acts.Grant user file) keys body named does =
-      λ k h v alone serving store has.
+  act_answered (acts.Grant user file) keys body k h v named does alone serving store has =
       owner_answered (acts.Grant user file) keys body k h v named does alone serving store has
-  act_answered (acts.Revoke user file) keys body named does =
-      λ k h v alone serving store has.
+  act_answered (acts.Revoke user file) keys body k h v named does alone serving store has =
       owner_answered (acts.Revoke user file) keys body k h v named does alone serving store has
-  act_answered (acts.Create file list) keys body named does =
-      λ k h v alone serving store has.
+  act_answered (acts.Create file list) keys body k h v named does alone serving store has =
       owner_answered (acts.Create file list) keys body k h v named does alone serving store has
-  act_answered (acts.List file) keys body named does =
-      λ k h v alone serving store has.
+  act_answered (acts.List file) keys body k h v named does alone serving store has =
       owner_answered (acts.List file) keys body k h v named does alone serving store has
-  act_answered (acts.Key user) keys body named does =
-      λ k h v alone serving store has.
+  act_answered (acts.Key user) keys body k h v named does alone serving store has =
       owner_answered (acts.Key user) keys body k h v named does alone serving store has
+
+  -- the check value asks no server
+  check_done : (act : Act) (keys body : Option (List ℕ)) (k : Masters) → act ≡ acts.Check
+      → Acts asked failed act keys body p q outcome → HasOwnersFiles act keys body k
+      → IsAnsweredOr ⊥ outcome
+  check_done act keys body k is does has =
+      let (same, (found, there, says)) =
+      subst (λ (a : Act). Acts asked failed a keys body p q outcome) is does in
+      check_answered ⊥ has.file k found outcome has.masters
+      (subst (λ (known : Option (List ℕ)). FindsMasters known found) has.told there) says
 
   -- ---- the statuses
 
@@ -171,47 +172,30 @@ module _ {P : Type 0} (asked : Asked P) (failed : Failed P) (serves : P → Serv
     status_answered : (disk_fails : Type 0) (o : Outcome) → IsAnsweredOr disk_fails o
         → PutsOutcome o old new status → IsAnswered disk_fails status
     status_answered disk_fails (Ok bytes) is (inl (e, put)) = inl e
-    status_answered disk_fails (Ok bytes) is (inr (e, put)) = low disk_fails 6 (omega arith) (omega arith) e
+    status_answered disk_fails (Ok bytes) is (inr (e, put)) =
+        low disk_fails 6 (omega arith) (omega arith) e
     status_answered disk_fails (Err (stops.Refused why)) is (inl (inl (e, put))) = inr (inl e)
     status_answered disk_fails (Err (stops.Refused why)) is (inl (inr (e, put))) =
         low disk_fails 6 (omega arith) (omega arith) e
     status_answered disk_fails (Err (stops.Refused why)) is (inr (e, put)) =
         low disk_fails 7 (omega arith) (omega arith) e
     status_answered disk_fails (Err stops.Device) is (e, put) = inr (inr (inl (e, is)))
-    status_answered disk_fails (Err stops.Read) is (e, put) = low disk_fails 5 (omega arith) (omega arith) e
-    status_answered disk_fails (Err stops.Memory) is (e, put) = low disk_fails 7 (omega arith) (omega arith) e
-    status_answered disk_fails (Err stops.Link) is (e, put) = low disk_fails 8 (omega arith) (omega arith) e
+    status_answered disk_fails (Err stops.Read) is (e, put) =
+        low disk_fails 5 (omega arith) (omega arith) e
+    status_answered disk_fails (Err stops.Memory) is (e, put) =
+        low disk_fails 7 (omega arith) (omega arith) e
+    status_answered disk_fails (Err stops.Link) is (e, put) =
+        low disk_fails 8 (omega arith) (omega arith) e
     status_answered disk_fails (Err stop) is puts = absurd is
-
-    complete_by : (act : Act) (keys body : Option (List ℕ)) → PutsOutcome outcome old new status
-        → EndsAnswered act keys body → IsComplete asked serves act keys body p status
-    complete_by acts.Check keys body puts ends =
-        λ k files. status_answered ⊥ outcome (ends k files) puts
-    complete_by (acts.Enrol user) keys body puts ends =
-        λ k h v alone serving store has.
-        status_answered disk outcome (ends k h v alone serving store has) puts
-    complete_by (acts.Grant user file) keys body puts ends =
-        λ k h v alone serving store has.
-        status_answered disk outcome (ends k h v alone serving store has) puts
-    complete_by (acts.Revoke user file) keys body puts ends =
-        λ k h v alone serving store has.
-        status_answered disk outcome (ends k h v alone serving store has) puts
-    complete_by (acts.Create file list) keys body puts ends =
-        λ k h v alone serving store has.
-        status_answered disk outcome (ends k h v alone serving store has) puts
-    complete_by (acts.List file) keys body puts ends =
-        λ k h v alone serving store has.
-        status_answered disk outcome (ends k h v alone serving store has) puts
-    complete_by (acts.Key user) keys body puts ends =
-        λ k h v alone serving store has.
-        status_answered disk outcome (ends k h v alone serving store has) puts
-    complete_by (acts.Read file) keys body puts ends =
-        λ k h v alone serving store has.
-        status_answered disk outcome (ends k h v alone serving store has) puts
 
     -- every act over such a server is answered
     pub complete : (act : Act) (keys body : Option (List ℕ)) → AsksByName act
         → Acts asked failed act keys body p q outcome → PutsOutcome outcome old new status
-        → IsComplete asked serves act keys body p status
-    complete act keys body named does puts =
-        complete_by act keys body puts (act_answered act keys body named does)
+        → IsComplete asked serves act keys body p q status
+    complete act keys body named does puts = record {
+      over_server = λ k h v alone serving store has.
+          status_answered disk outcome
+          (act_answered act keys body k h v named does alone serving store has) puts;
+      check = λ k is has.
+          status_answered ⊥ outcome (check_done act keys body k is does has) puts;
+    }

@@ -10,12 +10,13 @@ use Rattle.ov_owner.specs.Errands.{Errand, known_of, plan_of}
 use Rattle.ov_owner.specs.Errands.{sealed_by}
 use Rattle.ov_owner.specs.Steps.{IsErrandFor}
 use Rattle.ov_owner.specs.Talks.{Asks, Closes, Ends, Goes, IsAfter, IsDue, Moves, Sends, Stage}
-use Rattle.ov_owner.specs.Talks.{after, after_first, after_update, again_if, asked_at, sends_if, start}
+use Rattle.ov_owner.specs.Talks.{after, after_first, after_update, again_if, asked_at, sends_if}
+use Rattle.ov_owner.specs.Talks.{start}
 use Rattle.ov_owner.specs.Talks.{update_request}
 use Rattle.ov_owner.specs.declared.fault.OwnerFault.{OwnerFault}
 use Rattle.ov_owner.specs.declared.fault.OwnerFault.TheVariants as faults
 use Rattle.ov_owner.specs.declared.limits.TheConstants.{MAX_TRIES}
-use Rattle.ov_peer.specs.Asks.{Ask, Asked, Failed, Leads}
+use Rattle.ov_peer.specs.Asks.{Ask, Asked, EndsAt, Failed, Leads}
 use Rattle.ov_protocol.proofs.Reading.{replies_are_read}
 use Rattle.ov_protocol.specs.Answers.{Answers}
 use Rattle.ov_protocol.specs.Replies.{Replies}
@@ -112,6 +113,26 @@ update_other s surface tries epoch u answers.DeviceFault (tagged, now, is) =
 update_other s surface tries epoch u answers.NoMemory is = tt
 update_other s surface tries epoch u a is = tt
 
+-- it is so from earlier on
+pub fails_later : {P : Type 0} (asked : Asked P) (serves : P → Service → Type 0) (p m q : P)
+    (request reply : List ℕ)
+    → asked p request reply m → FailsDisk asked serves m q → FailsDisk asked serves p q
+fails_later asked serves p m q request reply sent f = record {
+  earlier = record { request = request; reply = reply } ∷ f.earlier;
+  before = f.before;
+  leads = (m, sent, f.leads);
+  request = f.request;
+  reply = f.reply;
+  after = f.after;
+  asks = f.asks;
+  more = f.more;
+  goes_on = f.goes_on;
+  service = f.service;
+  serving = f.serving;
+  made = f.made;
+  fault = f.fault;
+}
+
 module _ {P : Type 0} (asked : Asked P) (failed : Failed P) (serves : P → Service → Type 0)
     (alone : IsAlone asked serves) where
   module _ (surface : List ℕ) (command : Command) (e : Errand) (base : List ℕ)
@@ -161,19 +182,24 @@ module _ {P : Type 0} (asked : Asked P) (failed : Failed P) (serves : P → Serv
 
     goes_fails : (asks : List Ask) (stage : Stage) (p q : P) (v : Service) → IsOther stage
         → Goes surface e stage asks (Ends (Err faults.Device)) → Leads asked p asks q → serves p v
-        → FailsDisk asked serves
+        → FailsDisk asked serves p q
     goes_fails [] stage p q v other goes leads serving = absurd (subst IsOther goes other)
     goes_fails (a ∷ asks) stage p q v other (next, moves, goes) (n, one, rest) serving =
         let (made, at_v, goes_on) = alone p n a.request a.reply v one serving in
         elim at_v [
-          | inl replies ↦ goes_fails asks next n q (later v made)
-              (move_other v stage next a made moves replies) goes rest goes_on
+          | inl replies ↦ fails_later asked serves p n q a.request a.reply one
+              (goes_fails asks next n q (later v made)
+              (move_other v stage next a made moves replies) goes rest goes_on)
           | inr fault ↦ record {
+            earlier = [];
             before = p;
-            after = n;
+            leads = refl;
             request = a.request;
             reply = a.reply;
+            after = n;
             asks = one;
+            more = asks;
+            goes_on = rest;
             service = v;
             serving = serving;
             made = made;
@@ -181,20 +207,22 @@ module _ {P : Type 0} (asked : Asked P) (failed : Failed P) (serves : P → Serv
           }
         ]
 
-    ends_there : (final : Stage) (o : Option (List ℕ))
-        → Closes surface e final o (Err faults.Device) → final ≡ Ends (Err faults.Device)
-    ends_there final None (inl e) = e
-    ends_there final None (inr e) = absurd (cc e)
-    ends_there final (Some frame) (due, inl e) = absurd (cc e)
-    ends_there final (Some frame) (due, inr e) = absurd (cc e)
+    ends_there : (final : Stage) (o : Option (List ℕ)) (m q : P)
+        → Closes surface e final o (Err faults.Device) → EndsAt failed m o q
+        → (final ≡ Ends (Err faults.Device)) × (m ≡ q)
+    ends_there final None m q (inl e) ends = (e, ends)
+    ends_there final None m q (inr e) ends = absurd (cc e)
+    ends_there final (Some frame) m q (due, inl e) ends = absurd (cc e)
+    ends_there final (Some frame) m q (due, inr e) ends = absurd (cc e)
 
     -- an update that ends so was replied that the disk failed
     pub update_fails : (p q : P) (v : Service)
         → Runs asked failed surface e p q (Err faults.Device) → serves p v
-        → FailsDisk asked serves
+        → FailsDisk asked serves p q
     update_fails p q v runs serving =
         let (m, leads, ends) = runs.are_asks in
         let (final, goes, closes) = runs.talks in
-        goes_fails runs.asks start p m v tt
-        (subst (λ (s : Stage). Goes surface e start runs.asks s)
-        (ends_there final runs.unanswered closes) goes) leads serving
+        let both = ends_there final runs.unanswered m q closes ends in
+        subst (FailsDisk asked serves p) both.1
+        (goes_fails runs.asks start p m v tt
+        (subst (λ (s : Stage). Goes surface e start runs.asks s) both.0 goes) leads serving)

@@ -2,20 +2,23 @@
 use Rattle.std.proofs.Common.{◌≡◌, ℕ, List, [], ◌∷◌, ◌++◌, length, Bool, true, false}
 use Rattle.std.proofs.Common.{Option, Some, None, Result, Ok, Err, refl, sym, subst, inl, inr}
 use Rattle.ov_surface.specs.Tags.{tag_of_file}
-use Rattle.std.specs.Prelude.{◌⊎◌, ◌+◌, min, nat_lt, ◌==◌, bytes_eq, if◌then◌else◌, slice_get, slice_index_or}
+use Rattle.std.specs.Prelude.{◌⊎◌, ◌+◌, min, nat_lt, ◌==◌, bytes_eq, if◌then◌else◌, slice_get}
+use Rattle.std.specs.Prelude.{slice_index_or}
 use Rattle.ov_base.specs.declared.limits.TheConstants.{MAX_CHUNK_BYTES}
 use Rattle.ov_client.specs.Readers.{Reader, judged, keys_along, uncovered}
 use Rattle.ov_client.specs.Reads.{Reads}
 use Rattle.ov_client.specs.Talks.{AsksChain, AsksChunk, Ends as ReadEnds, Goes as ReadGoes}
-use Rattle.ov_client.specs.Talks.{Closes as ReadCloses, IsAfter as IsReadAfter, Moves as ReadMoves, Stage as ReadStage, after as read_after}
-use Rattle.ov_client.specs.Talks.{again as read_again, after_fetched, asked_at as read_asked_at, goes_on, then_or}
+use Rattle.ov_client.specs.Talks.{Closes as ReadCloses, IsAfter as IsReadAfter}
+use Rattle.ov_client.specs.Talks.{Moves as ReadMoves, Stage as ReadStage, after as read_after}
+use Rattle.ov_client.specs.Talks.{again as read_again, after_fetched, asked_at as read_asked_at}
+use Rattle.ov_client.specs.Talks.{goes_on, then_or}
 use Rattle.ov_client.specs.Telling.{chained_unless, chunk_bytes, sized, wrong_field}
 use Rattle.ov_client.specs.declared.fault.ClientFault.TheVariants as client
 use Rattle.ov_client.specs.declared.telling.Fetched.TheVariants.{Bytes}
 use Rattle.ov_fields.specs.Fronts.{AreAllBytes}
 use Rattle.ov_history.specs.Catalogue.{Filed}
 use Rattle.ov_owner.specs.Talks.{start}
-use Rattle.ov_peer.specs.Asks.{Ask, Asked, Failed, Leads}
+use Rattle.ov_peer.specs.Asks.{Ask, Asked, EndsAt, Failed, Leads}
 use Rattle.ov_protocol.proofs.Reading.{replies_are_read}
 use Rattle.ov_protocol.specs.Answers.{Answers}
 use Rattle.ov_protocol.specs.Reading.{AnswersChunk}
@@ -29,6 +32,7 @@ use Rattle.ov_wire.specs.declared.answer.Answer.TheVariants as answers
 use Rattle.ov_wire.specs.declared.answer.Chained.{Chained}
 use Rattle.ov_wire.specs.declared.request.Request.{Request}
 use Rattle.ov_wire.specs.declared.request.Request.TheVariants as requests
+use Rattle.overctl.proofs.FailingDisks.{fails_later}
 use Rattle.overctl.specs.Completeness.{FailsDisk, IsAlone}
 
 -- a stage that isn't the end by a fault of the disk
@@ -148,19 +152,24 @@ module _ {P : Type 0} (asked : Asked P) (failed : Failed P) (serves : P → Serv
 
   goes_fails : (asks : List Ask) (stage : ReadStage) (p q : P) (v : Service) → IsOther stage
       → ReadGoes r file stage asks (ReadEnds (Err client.Device)) → Leads asked p asks q
-      → serves p v → FailsDisk asked serves
+      → serves p v → FailsDisk asked serves p q
   goes_fails [] stage p q v other goes leads serving = absurd (subst IsOther goes other)
   goes_fails (a ∷ asks) stage p q v other (next, moves, goes) (n, one, rest) serving =
       let (made, at_v, goes_on) = alone p n a.request a.reply v one serving in
       elim at_v [
-        | inl replies ↦ goes_fails asks next n q (later v made)
-            (move_other v stage next a made moves replies) goes rest goes_on
+        | inl replies ↦ fails_later asked serves p n q a.request a.reply one
+            (goes_fails asks next n q (later v made)
+            (move_other v stage next a made moves replies) goes rest goes_on)
         | inr fault ↦ record {
+          earlier = [];
           before = p;
-          after = n;
+          leads = refl;
           request = a.request;
           reply = a.reply;
+          after = n;
           asks = one;
+          more = asks;
+          goes_on = rest;
           service = v;
           serving = serving;
           made = made;
@@ -168,17 +177,20 @@ module _ {P : Type 0} (asked : Asked P) (failed : Failed P) (serves : P → Serv
         }
       ]
 
-  ends_there : (final : ReadStage) (o : Option (List ℕ))
-      → ReadCloses r file final o (Err client.Device) → final ≡ ReadEnds (Err client.Device)
-  ends_there final None (inl e) = e
-  ends_there final None (inr e) = absurd (cc e)
-  ends_there final (Some frame) (due, inl e) = absurd (cc e)
-  ends_there final (Some frame) (due, inr e) = absurd (cc e)
+  ends_there : (final : ReadStage) (o : Option (List ℕ)) (m q : P)
+      → ReadCloses r file final o (Err client.Device) → EndsAt failed m o q
+      → (final ≡ ReadEnds (Err client.Device)) × (m ≡ q)
+  ends_there final None m q (inl e) ends = (e, ends)
+  ends_there final None m q (inr e) ends = absurd (cc e)
+  ends_there final (Some frame) m q (due, inl e) ends = absurd (cc e)
+  ends_there final (Some frame) m q (due, inr e) ends = absurd (cc e)
 
   -- a read that ends so was replied that the disk failed
   pub read_fails : (p q : P) (v : Service) → Reads asked failed p q r file (Err client.Device)
-      → serves p v → FailsDisk asked serves
+      → serves p v → FailsDisk asked serves p q
   read_fails p q v (asks, unanswered, (m, leads, ends), (final, goes, closes)) serving =
-      goes_fails asks (AsksChain [] 0) p m v tt
-      (subst (λ (s : ReadStage). ReadGoes r file (AsksChain [] 0) asks s)
-      (ends_there final unanswered closes) goes) leads serving
+      let both = ends_there final unanswered m q closes ends in
+      subst (FailsDisk asked serves p) both.1
+      (goes_fails asks (AsksChain [] 0) p m v tt
+      (subst (λ (s : ReadStage). ReadGoes r file (AsksChain [] 0) asks s) both.0 goes) leads
+      serving)

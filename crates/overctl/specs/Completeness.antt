@@ -11,7 +11,7 @@ use Rattle.ov_history.specs.Plain.{PlainHistory, history_of}
 use Rattle.ov_history.specs.Refusals.{IsLegal}
 use Rattle.ov_history.specs.Sealing.{sealed}
 use Rattle.ov_keyfile.specs.KeyFile.{IsKeyFile}
-use Rattle.ov_peer.specs.Asks.{Asked, IsReplyAt}
+use Rattle.ov_peer.specs.Asks.{Ask, Asked, IsReplyAt, Leads}
 use Rattle.ov_peer.specs.Disks.{IsDiskFault}
 use Rattle.ov_protocol.specs.Serving.{Service, later, served}
 use Rattle.ov_record.specs.Updates.{SealedUpdate}
@@ -31,13 +31,19 @@ IsAlone {P} asked serves =
     → asked p request reply q → serves p v
     → (made : List SealedUpdate) × IsReplyAt v request reply made × serves q (later v made)
 
--- The peer replied that its disk failed, to an ask that needs it at what it served.
-pub record FailsDisk {P : Type 0} (asked : Asked P) (serves : P → Service → Type 0) : Type 0 where
+-- Between the one value of the peer and the other it replied that its disk failed, to an ask that
+-- needs the disk at what it served.
+pub record FailsDisk {P : Type 0} (asked : Asked P) (serves : P → Service → Type 0) (p q : P)
+    : Type 0 where
+  pub earlier : List Ask
   pub before : P
-  pub after : P
+  pub leads : Leads asked p earlier before
   pub request : List ℕ
   pub reply : List ℕ
+  pub after : P
   pub asks : asked before request reply after
+  pub more : List Ask
+  pub goes_on : Leads asked after more q
   pub service : Service
   pub serving : serves before service
   pub made : List SealedUpdate
@@ -89,14 +95,12 @@ IsAnswered disk status =
 -- So every act ends over a server that nobody else updates, with right files: its keys are those of
 -- the store, each reply is an answer, no file is damaged, and one try is enough. The check value
 -- needs the key file alone.
-abbrev pub IsComplete : {P : Type 0} → Asked P → (P → Service → Type 0) → Act
-    → Option (List ℕ) → Option (List ℕ) → P → ℕ → Type 0
-IsComplete asked serves Check keys body p status =
-    (k : Masters) → HasOwnersFiles Check keys body k → IsAnswered ⊥ status
-IsComplete asked serves act keys body p status =
-    (k : Masters) (h : PlainHistory) (v : Service)
-    → IsAlone asked serves → serves p v → IsStoreOf k h v → HasFilesFor act keys body k h
-    → IsAnswered (FailsDisk asked serves) status
+pub record IsComplete {P : Type 0} (asked : Asked P) (serves : P → Service → Type 0) (act : Act)
+    (keys body : Option (List ℕ)) (p q : P) (status : ℕ) : Type 0 where
+  pub over_server : (k : Masters) (h : PlainHistory) (v : Service)
+      → IsAlone asked serves → serves p v → IsStoreOf k h v → HasFilesFor act keys body k h
+      → IsAnswered (FailsDisk asked serves p q) status
+  pub check : (k : Masters) → act ≡ Check → HasOwnersFiles act keys body k → IsAnswered ⊥ status
 
 -- ---- inner: no public contract needs the rest
 

@@ -202,7 +202,7 @@ pub fn act<K: Source, B: Source, O: Sink, P: Peer>(
     ensures files { TakesFiles K.takes K.left B.takes B.left job.now.act keys.old keys.new
         body.old body.new }
     ensures complete { IsComplete P.asked P.serves job.now.act (K.left keys.old) (B.left body.old)
-        peer.old result }
+        peer.old peer.new result }
 {
     known_names(&job.act);
     let outcome = perform(alloc, &job.act, keys, body, peer);
