@@ -143,8 +143,7 @@ pub fn greet_and_command<P: Peer>(
     bytes: &[u8],
     peer: &mut P,
 ) -> Result<Octets, Stop>
-    requires owners { IsOwners act.now }
-    requires list { HasListLimits act.now }
+    requires act { IsOwners act.now × HasListLimits act.now }
     requires file { length bytes.now ≤ MAX_FILE_BYTES }
     requires base { owner.now.base ≡ base.now.bytes }
     ensures owns { Owns P.asked P.failed owner.now act.now bytes.now peer.old peer.new result }
