@@ -132,7 +132,7 @@ def commands(place):
     folder = new_folder(place)
     process, address = start_real(folder)
     keys, line, file = folder / "keys.hex", folder / "alice.key", folder / "file"
-    shutil.copy(KEYS, keys)
+    shutil.copyfile(KEYS, keys)
     file.write_bytes(os.urandom(MIB))
     command(folder, "enrol", address, keys, "alice")
     command(folder, "key", address, keys, "alice")
@@ -161,6 +161,7 @@ def memory():
 
 
 if __name__ == "__main__":
+    os.umask(0o077)
     OUT = new_folder(FREE)
     for plain in ("plain_session", "plain_echo"):
         source = TOOLS / (plain + ".rs")
