@@ -56,6 +56,9 @@ fn create(rt: &impl Abort, alloc: Global) -> Update<WIDTH>
     }
 }
 
+/// How many updates the small store has.
+const UPDATES: u32 = 6;
+
 /// The updates of a small store: two users, a file for both, a third user, a grant and a
 /// revocation.
 fn update_of(rt: &impl Abort, alloc: Global, number: u32) -> Update<WIDTH>
@@ -99,32 +102,47 @@ fn make<D: Disk + Drop>(
     store.update(alloc, update_of(rt, alloc, number))
 }
 
-fn calls_of(store: &Store<MemDisk>) -> u64 {
-    store.disk.calls()
-}
-
-/// Makes the updates of the small store, and notes how many calls of the disk there were before the
-/// first and when each was acknowledged. Whether all were is answered.
-fn make_all(
-    rt: &impl Abort,
-    alloc: Global,
-    store: &mut Store<MemDisk>,
-    calls: &mut Vec<u64>,
-) -> bool {
-    calls.push(calls_of(store)).expect(rt, "memory");
-    for number in 0..6 {
+/// Makes the first updates of the small store. Whether all were made is answered.
+fn make_first(rt: &impl Abort, alloc: Global, store: &mut Store<MemDisk>, many: u32) -> bool {
+    for number in 0..many {
         if make(rt, alloc, store, number).is_err() {
             return false;
         }
-        calls.push(calls_of(store)).expect(rt, "memory");
     }
     true
 }
 
+/// A store on a new disk, at which this call fails if one is given.
+fn new_store(rt: &impl Abort, alloc: Global, failing: Option<u64>) -> Store<MemDisk> {
+    let mut disk = MemDisk::new(alloc);
+    match failing {
+        Some(call) => disk.fail_at(call).expect(rt, "memory"),
+        None => {}
+    }
+    begun(alloc, disk, Mode::Delta).expect(rt, "a store")
+}
+
+/// How many calls of the disk there were before the first update of the small store, and when each
+/// was acknowledged, up to the first that failed. For each of them a store is closed, which makes
+/// no call.
+fn calls_of_updates(rt: &impl Abort, alloc: Global, failing: Option<u64>) -> Vec<u64> {
+    let mut calls = Vec::new(alloc);
+    for many in 0..=UPDATES {
+        let mut store = new_store(rt, alloc, failing);
+        let all = make_first(rt, alloc, &mut store, many);
+        let disk = store.close();
+        if !all {
+            return calls;
+        }
+        calls.push(disk.calls()).expect(rt, "memory");
+    }
+    calls
+}
+
 /// The disk of the small store after all its updates.
-fn small_store(rt: &impl Abort, alloc: Global, calls: &mut Vec<u64>) -> MemDisk {
-    let mut store = begun(alloc, MemDisk::new(alloc), Mode::Delta).expect(rt, "a store");
-    let all = make_all(rt, alloc, &mut store, calls);
+fn small_store(rt: &impl Abort, alloc: Global) -> MemDisk {
+    let mut store = new_store(rt, alloc, None);
+    let all = make_first(rt, alloc, &mut store, UPDATES);
     assert!(rt; all);
     store.close()
 }
@@ -171,8 +189,8 @@ fn first_book(rt: &impl Abort, alloc: Global) -> Vec<u8> {
 #[test]
 fn books_of_a_new_store_and_two_users(rt: HostRuntime) {
     let alloc = rt.alloc();
-    let mut calls = Vec::new(alloc);
-    let disk = small_store(&rt, alloc, &mut calls);
+    let calls = calls_of_updates(&rt, alloc, None);
+    let disk = small_store(&rt, alloc);
     let [new, alice, bob, ..] = calls.as_slice() else {
         panic!(rt; "seven calls")
     };
@@ -203,8 +221,8 @@ fn is_right(alloc: Global, image: MemDisk, calls: &[u64], call: u64) -> bool {
 #[test]
 fn a_stop_after_each_call(rt: HostRuntime) {
     let alloc = rt.alloc();
-    let mut calls = Vec::new(alloc);
-    let disk = small_store(&rt, alloc, &mut calls);
+    let calls = calls_of_updates(&rt, alloc, None);
+    let disk = small_store(&rt, alloc);
     for tear in [
         Tear::Old,
         Tear::New,
@@ -222,17 +240,16 @@ fn a_stop_after_each_call(rt: HostRuntime) {
     }
 }
 
-/// The disk of a store at which this call failed, and the calls of its updates. The update in which
-/// it failed answers so, and a later one that the store had failed. Of the records those of the
-/// updates that were made are looked at, and not what the failed one may have left behind them.
-fn failed_at(rt: &impl Abort, alloc: Global, call: u64, calls: &mut Vec<u64>) -> MemDisk {
-    let mut disk = MemDisk::new(alloc);
-    disk.fail_at(call).expect(rt, "memory");
-    let mut store = begun(alloc, disk, Mode::Delta).expect(rt, "a store");
-    let all = make_all(rt, alloc, &mut store, calls);
+/// The disk of a store at which this call failed, once so many updates were acknowledged. The
+/// update in which it failed answers so, and a later one that the store had failed. Of the records
+/// those of the updates that were made are looked at, and not what the failed one may have left
+/// behind them.
+fn failed_at(rt: &impl Abort, alloc: Global, call: u64, made: usize) -> MemDisk {
+    let mut store = new_store(rt, alloc, Some(call));
+    let all = make_first(rt, alloc, &mut store, UPDATES);
     assert!(rt; !all);
     assert_eq!(rt; make(rt, alloc, &mut store, 5), Err(StoreFault::Failed));
-    let creation = if calls.len() > 3 { Some(100) } else { None };
+    let creation = if made > 2 { Some(100) } else { None };
     assert_eq!(rt; false_record(rt, alloc, &mut store, 8), creation);
     store.close()
 }
@@ -241,12 +258,11 @@ fn failed_at(rt: &impl Abort, alloc: Global, call: u64, calls: &mut Vec<u64>) ->
 #[test]
 fn a_fault_at_each_call(rt: HostRuntime) {
     let alloc = rt.alloc();
-    let mut calls = Vec::new(alloc);
-    let whole = small_store(&rt, alloc, &mut calls).calls();
-    let first = *calls.first().expect(&rt, "a call");
+    let whole = small_store(&rt, alloc).calls();
+    let first = new_store(&rt, alloc, None).close().calls();
     for call in first..whole {
-        calls.clear();
-        let disk = failed_at(&rt, alloc, call, &mut calls);
+        let calls = calls_of_updates(&rt, alloc, Some(call));
+        let disk = failed_at(&rt, alloc, call, calls.len().saturating_sub(1));
         for tear in [Tear::Old, Tear::New] {
             let image = image(&rt, &disk, disk.calls(), tear);
             assert!(rt;
@@ -284,12 +300,11 @@ fn chunk<D: Disk + Drop>(
 #[test]
 fn what_a_store_answers(rt: HostRuntime) {
     let alloc = rt.alloc();
-    let mut calls = Vec::new(alloc);
     let mut out = Vec::new(alloc);
-    let mut store = begun(alloc, MemDisk::new(alloc), Mode::Delta).expect(&rt, "a store");
+    let mut store = new_store(&rt, alloc, None);
     assert_eq!(rt; store.base_check(), BASE_CHECK);
     assert_eq!(rt; false_record(&rt, alloc, &mut store, 8), None);
-    let all = make_all(&rt, alloc, &mut store, &mut calls);
+    let all = make_first(&rt, alloc, &mut store, UPDATES);
     assert!(rt; all);
     assert_eq!(rt; false_record(&rt, alloc, &mut store, 8), Some(100));
     let (no_file, moved) = (ChunkFault::NoFile, ChunkFault::Moved { generation: 6 });

@@ -115,8 +115,7 @@ fn damaged_at(rt: &impl Abort, fault: Option<BeginFault>) -> Option<u64> {
 #[test]
 fn damage_and_where_it_is(rt: HostRuntime) {
     let alloc = rt.alloc();
-    let mut calls = Vec::new(alloc);
-    let disk = small_store(&rt, alloc, &mut calls);
+    let disk = small_store(&rt, alloc);
     assert_eq!(rt; disk.book().len(), ALL);
     for (place, byte, length, damaged) in ROWS {
         let disk = changed(&rt, alloc, disk.book(), place, byte, length);
@@ -133,8 +132,7 @@ fn damage_and_where_it_is(rt: HostRuntime) {
 #[test]
 fn causes_in_their_order(rt: HostRuntime) {
     let alloc = rt.alloc();
-    let mut calls = Vec::new(alloc);
-    let disk = small_store(&rt, alloc, &mut calls);
+    let disk = small_store(&rt, alloc);
     let other = [0; 32];
     let with = |place, byte| changed(&rt, alloc, disk.book(), place, byte, ALL);
 
