@@ -21,8 +21,6 @@ mod row_keys;
 mod row_rounds;
 mod row_steps;
 mod sbox;
-#[cfg(test)]
-mod tests;
 mod tower;
 mod weights;
 

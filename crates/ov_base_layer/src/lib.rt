@@ -25,8 +25,6 @@ mod grant;
 mod laws;
 mod layer;
 mod seal;
-#[cfg(test)]
-mod tests;
 
 pub use grant::Grant;
 pub use laws::{holders_grow, seals_lead};

@@ -24,8 +24,6 @@ mod keys;
 mod laws;
 mod marks;
 mod search;
-#[cfg(test)]
-mod tests;
 
 pub use keys::{walk, walk_to_access};
 pub use laws::{chains_are_unique, graphs_are_sealed};

@@ -55,8 +55,6 @@ mod keys;
 mod laws;
 mod reading;
 mod telling;
-#[cfg(test)]
-mod tests;
 
 pub use client::Client;
 pub use fault::ClientFault;

@@ -15,8 +15,6 @@ mod apply;
 mod counter;
 mod four;
 mod laws;
-#[cfg(test)]
-mod tests;
 
 pub use apply::apply_at;
 pub use laws::{keeps_length, takes_parts, undoes_itself};

@@ -28,8 +28,6 @@ mod held;
 mod memory;
 mod model;
 mod stop;
-#[cfg(test)]
-mod tests;
 
 pub use area::{Area, DiskFault};
 pub use change::Tear;

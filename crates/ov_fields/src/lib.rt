@@ -20,8 +20,6 @@ mod fault;
 mod name;
 mod reading;
 mod set;
-#[cfg(test)]
-mod tests;
 mod writing;
 
 pub use fault::FieldFault;

@@ -31,8 +31,6 @@ mod list;
 mod roots;
 pub mod rows;
 mod sealing;
-#[cfg(test)]
-mod tests;
 
 pub use adding::plan_and_add;
 pub use cover::{Cover, GraphRefusal};

@@ -24,8 +24,6 @@ mod hosted;
 mod hosting;
 mod laws;
 mod serving;
-#[cfg(test)]
-mod tests;
 
 pub use disk_server::DiskServer;
 pub use hosted::Hosted;

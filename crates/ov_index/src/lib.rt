@@ -16,8 +16,6 @@ mod by_size;
 mod calls;
 mod index;
 mod insertion;
-#[cfg(test)]
-mod tests;
 
 pub use agreement::graphs_answer_alike;
 pub use asking::{Answers, NodeAnswers, ask_all};

@@ -26,8 +26,6 @@ mod filling;
 mod memory;
 mod outside;
 mod stream;
-#[cfg(test)]
-mod tests;
 mod traits;
 
 pub use file::{FileSink, FileSource};

@@ -36,8 +36,6 @@ mod open;
 mod read;
 mod record;
 mod scan;
-#[cfg(test)]
-mod tests;
 
 pub use fault::{CheckFault, JournalFault};
 pub use found::Found;

@@ -18,8 +18,6 @@ mod hmac;
 mod key_block;
 mod mac_key;
 mod pieces;
-#[cfg(test)]
-mod tests;
 
 pub use comparison::same;
 pub use hmac::{mac, mac_of_pieces};

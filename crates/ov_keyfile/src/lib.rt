@@ -14,8 +14,6 @@
 mod laws;
 mod masters;
 mod reading;
-#[cfg(test)]
-mod tests;
 
 pub use laws::one_pair_of_masters;
 pub use masters::Masters;

@@ -44,8 +44,6 @@ mod sealing;
 mod sending;
 mod settling;
 mod task;
-#[cfg(test)]
-mod tests;
 
 pub use fault::OwnerFault;
 pub use laws::{

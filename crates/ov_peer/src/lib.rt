@@ -33,8 +33,6 @@ mod fault;
 mod fixed;
 mod laws;
 mod peer;
-#[cfg(test)]
-mod tests;
 mod traced;
 
 pub use answerer::{Answerer, is_accepted};

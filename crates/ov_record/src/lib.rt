@@ -19,8 +19,6 @@ mod fault;
 mod form;
 mod laws;
 mod reading;
-#[cfg(test)]
-mod tests;
 mod update;
 mod writing;
 

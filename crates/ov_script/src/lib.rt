@@ -53,11 +53,7 @@ mod reply;
 mod script;
 mod single;
 mod stated;
-#[cfg(test)]
-mod tests;
 mod words;
-#[cfg(test)]
-mod workload_tests;
 
 pub use command::Command;
 pub use drawn::{MAX_WORKLOAD, WORKLOAD_USERS};

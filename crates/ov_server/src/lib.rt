@@ -48,8 +48,6 @@ mod local;
 mod paging;
 mod reply;
 mod server;
-#[cfg(test)]
-mod tests;
 mod updating;
 
 pub use laws::asks_are_alone;

@@ -42,8 +42,6 @@ mod peer;
 mod putting;
 mod tcp_door;
 mod tcp_stream;
-#[cfg(test)]
-mod tests;
 
 pub use alone::Alone;
 pub use asker::Asker;

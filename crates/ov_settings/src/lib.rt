@@ -13,8 +13,6 @@ mod keys;
 mod laws;
 mod reading;
 mod settings;
-#[cfg(test)]
-mod tests;
 
 pub use fault::SettingsFault;
 pub use laws::settings_are_one;

@@ -96,8 +96,6 @@ mod rewrites;
 mod room;
 mod site;
 mod state;
-#[cfg(test)]
-mod tests;
 
 pub use asking::Asked;
 pub use brief::Brief;

@@ -39,8 +39,6 @@ mod reopen;
 mod replay;
 mod spell;
 mod store;
-#[cfg(test)]
-mod tests;
 mod update;
 
 pub use begin::BeginRefused;

@@ -20,8 +20,6 @@ mod coats;
 mod laws;
 mod rule;
 mod tag;
-#[cfg(test)]
-mod tests;
 
 pub use coats::{base_encrypt, over_encrypt, reencrypt};
 pub use laws::{both_come_off, coats_come_off, coats_commute, coats_keep_length, coats_take_parts};

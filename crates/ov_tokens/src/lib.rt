@@ -32,8 +32,6 @@ mod message;
 mod numbers;
 mod steps;
 mod surface_master;
-#[cfg(test)]
-mod tests;
 mod token;
 mod tokens;
 

@@ -33,8 +33,6 @@ mod commit;
 mod prepare;
 mod prepared;
 mod rewritten;
-#[cfg(test)]
-mod tests;
 mod vault;
 
 pub use prepared::Prepared;

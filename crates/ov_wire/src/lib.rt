@@ -39,8 +39,6 @@ mod request;
 mod request_reading;
 mod request_writing;
 mod state;
-#[cfg(test)]
-mod tests;
 mod update;
 
 pub use answer::{Answer, Chained, Known, Plan, Welcome};

@@ -1,0 +1,249 @@
+//! Rows of bytes, stops at each call with each tear, and books that are no store.
+ghost use Rattle.std.specs.Prelude.{◌≡◌, ◌≤◌, ◌<◌, ◌+◌, OnOk, length, false};
+ghost use Rattle.ov_disk.specs.Disk.{Told, OnlyBook};
+ghost use Rattle.ov_journal.specs.Book.{contents_of};
+ghost use Rattle.ov_journal.specs.Log.{IsLogOf, Stands};
+ghost use Rattle.ov_journal.specs.Standing.{IsUnborn};
+
+use ov_base::{Mode, Octets};
+use ov_disk::{Disk, FileDisk, MemDisk, Tear};
+use ov_journal::{CheckFault, Found, Header, Journal, JournalFault};
+use std::alloc::{AllocError, Global};
+use std::fs;
+use std::test::Fail;
+
+const HEADER: Header = Header {
+    mode: Mode::Delta,
+    first: 0x01020304,
+    base_check: [0x11; 32],
+    surface_check: [0x22; 32],
+};
+
+// A store with that header and no records.
+fn new_store(alloc: Global) -> Result<Vec<u8>, AllocError> {
+    let mut book = b"\x01OVERENC0\x01\x01\x02\x03\x04"
+        .as_slice()
+        .to_vec(alloc)?;
+    book.extend_from_slice(&[0x11; 32])?;
+    book.extend_from_slice(&[0x22; 32])?;
+    book.push(0)?;
+    Ok(book)
+}
+
+// The bodies of all records, one behind the other.
+fn bodies<D: Disk>(alloc: Global, disk: &mut D, journal: &Journal) -> Result<Vec<u8>, CheckFault>
+    requires { Told (D.reads disk.old) (λ i. IsLogOf journal.now (contents_of i.book).records) }
+{
+    let mut all = Vec::new(alloc);
+    'records: for i in 0..journal.count() {
+        journal.body(disk, i, &mut all)?;
+    }
+    Ok(all)
+}
+
+// What stands on a disk: u for unborn, f for another file, m for no mode, b for a length that can't
+// be, and else the number of records.
+fn standing(alloc: Global, disk: &mut MemDisk) -> u8 {
+    match Journal::begin(alloc, disk) {
+        Ok(Found::Unborn) => b'u',
+        Ok(Found::Born { journal, bad, .. }) => match bad {
+            Some(_) => b'b',
+            None => b'0' + journal.count().min(9) as u8,
+        },
+        Err(JournalFault::NotAStore) => b'f',
+        Err(JournalFault::Damaged { .. }) => b'm',
+        Err(_) => b'!',
+    }
+}
+
+// One more record.
+fn put<D: Disk>(journal: &mut Journal, disk: &mut D, body: &[u8]) -> Result<(), CheckFault>
+    requires whole { journal.old.bad ≡ false }
+    requires count { length journal.old.offsets < 9 }
+    requires body { (1 ≤ length body.now) × (length body.now ≤ 9) }
+    requires stands { Stands journal.old (D.reads disk.old) (D.may_leave disk.old) }
+    ensures whole { OnOk result (journal.new.bad ≡ false) }
+    ensures count { OnOk result (length journal.new.offsets ≡ length journal.old.offsets + 1) }
+    ensures stands { OnOk result (Stands journal.new (D.reads disk.new) (D.may_leave disk.new)) }
+{
+    journal.reserve(9)?;
+    journal.append(disk, body)?;
+    Ok(())
+}
+
+// A birth and two records: seven calls of an empty disk, and twice four.
+fn write<D: Disk>(alloc: Global, disk: &mut D) -> Result<(), CheckFault>
+    requires { Told (D.reads disk.old) (λ i.
+        IsUnborn i.book × OnlyBook i.book (D.may_leave disk.old)) }
+{
+    let mut journal = Journal::birth(alloc, disk, &HEADER)?;
+    put(&mut journal, disk, b"\x01\x05alice")?;
+    put(&mut journal, disk, b"\x01\x03bob")
+}
+
+// The same on an empty disk that fails at one call, and how it ended.
+fn written(alloc: Global, fail: u64) -> Result<(MemDisk, bool), Fail> {
+    let mut disk = MemDisk::new(alloc);
+    disk.fail_at(fail)?;
+    let done = write(alloc, &mut disk).is_ok();
+    Ok((disk, done))
+}
+
+// Whether a stop after so many calls, of which nothing is torn, leaves these bytes from a place on.
+fn leaves(disk: &MemDisk, call: u64, place: usize, want: &[u8]) -> Result<bool, Fail> {
+    if call > disk.calls() {
+        return Ok(false);
+    }
+    let left = disk.image(call, Tear::New)?;
+    let (_, rest) = left.book().split_at(place.min(left.book().len()));
+    Ok(rest == want)
+}
+
+#[test]
+fn a_new_store_and_two_records(rt: HostRuntime) -> Result<(), Fail> {
+    let alloc = rt.alloc();
+    let (disk, done) = written(alloc, 99)?;
+    assert!(rt; done);
+    assert!(rt; leaves(&disk, 7, 0, &new_store(alloc)?)?);
+    let first = b"\x01\0\0\0\x07\x01\x05alice\0".as_slice();
+    assert!(rt; leaves(&disk, 11, 78, first)?);
+    // The second record behind its closed gate, and then the gate.
+    assert!(rt; leaves(&disk, 12, 90, b"\0\0\0\0\x05\x01\x03bob\0")?);
+    assert!(rt; leaves(&disk, 15, 90, b"\x01\0\0\0\x05\x01\x03bob\0")?);
+    Ok(())
+}
+
+// What is left by a stop after each of the 15 calls.
+fn stops(alloc: Global, disk: &MemDisk, tear: Tear) -> Result<Vec<u8>, Fail> {
+    let mut all = Vec::new(alloc);
+    for call in 0..=disk.calls() {
+        all.push(standing(alloc, &mut disk.image(call, tear)?))?;
+    }
+    Ok(all)
+}
+
+#[test]
+fn a_stop_after_each_call(rt: HostRuntime) -> Result<(), Fail> {
+    let alloc = rt.alloc();
+    let (disk, _) = written(alloc, 99)?;
+    for tear in [Tear::Old, Tear::Fill(0), Tear::Fill(255)] {
+        assert_eq!(rt;
+            stops(alloc, &disk, tear)?.as_slice(),
+            b"uuuuuuu000011112".as_slice()
+        );
+    }
+    for tear in [Tear::New, Tear::Fill(1)] {
+        assert_eq!(rt;
+            stops(alloc, &disk, tear)?.as_slice(),
+            b"uuuuuu0000111122".as_slice()
+        );
+    }
+    Ok(())
+}
+
+// What is left where a call failed, if nothing since the last sync is kept, and if all is.
+#[test]
+fn a_fault_at_each_call(rt: HostRuntime) -> Result<(), Fail> {
+    let alloc = rt.alloc();
+    let mut least = Vec::new(alloc);
+    let mut most = Vec::new(alloc);
+    for call in 0..15 {
+        let (disk, done) = written(alloc, call)?;
+        assert!(rt; !done);
+        least.push(standing(alloc, &mut disk.image(disk.calls(), Tear::Old)?))?;
+        most.push(standing(alloc, &mut disk.image(disk.calls(), Tear::New)?))?;
+    }
+    assert_eq!(rt; least.as_slice(), b"uuuuuuu00001111".as_slice());
+    assert_eq!(rt; most.as_slice(), b"uuuuuu000011112".as_slice());
+    Ok(())
+}
+
+// A new store with one byte changed, cut to a length, with more behind it.
+fn book(
+    alloc: Global,
+    length: usize,
+    place: usize,
+    byte: u8,
+    more: &[u8],
+) -> Result<u8, AllocError> {
+    let mut book = new_store(alloc)?;
+    if place < book.len() {
+        book[place] = byte;
+    }
+    book.truncate(length);
+    book.extend_from_slice(more)?;
+    let blobs = Octets::from_vec(Vec::new(alloc));
+    Ok(standing(
+        alloc,
+        &mut MemDisk::of(alloc, Octets::from_vec(book), blobs),
+    ))
+}
+
+#[test]
+fn books(rt: HostRuntime) -> Result<(), Fail> {
+    let alloc = rt.alloc();
+    let mut all = Vec::new(alloc);
+    // By length, with the first gate open and closed; then one byte longer.
+    for (length, gate) in [
+        (0, 1),
+        (1, 1),
+        (2, 1),
+        (78, 1),
+        (79, 1),
+        (0, 0),
+        (78, 0),
+        (79, 0),
+        (79, 2),
+    ] {
+        all.push(book(alloc, length, 0, gate, b"")?)?;
+    }
+    all.push(book(alloc, 79, 0, 0, b"\0")?)?;
+    // Another magic, a mode that can't be, and a gate of 2 before a record.
+    for (place, byte) in [(8, b'1'), (9, 2), (78, 2)] {
+        all.push(book(alloc, 79, place, byte, b"\0\0\0\x01a\0")?)?;
+    }
+    assert_eq!(rt; all.as_slice(), b"uuff0uuuuffm0".as_slice());
+    // Behind an open gate: a field that is cut short, lengths, and a body that ends Book.
+    all.clear();
+    for more in [
+        b"\0\0\0".as_slice(),
+        b"\0\0\0\0\0",
+        b"\0\x11\0\x01\0",
+        b"\0\0\0\x02ab",
+        b"\0\0\0\x02ab\0",
+    ] {
+        all.push(book(alloc, 79, 78, 1, more)?)?;
+    }
+    assert_eq!(rt; all.as_slice(), b"bbbb1".as_slice());
+    Ok(())
+}
+
+#[test]
+fn on_files(rt: HostRuntime) -> Result<(), Fail> {
+    let alloc = rt.alloc();
+    let _ = fs::remove_dir_all(&rt, "ov_journal_test");
+    fs::create_dir(&rt, "ov_journal_test")?;
+    let mut disk = FileDisk::new(rt, "ov_journal_test/book", "ov_journal_test/blobs")?;
+    let mut journal = Journal::birth(alloc, &mut &mut disk, &HEADER)?;
+    journal.append_all(&mut disk, &[Octets::copy(alloc, b"\x01\x05alice")?])?;
+    drop(disk);
+    let mut disk = FileDisk::new(rt, "ov_journal_test/book", "ov_journal_test/blobs")?;
+    match Journal::begin(alloc, &mut disk) {
+        Ok(
+            Found::Born {
+                journal,
+                header,
+                ..
+            },
+        ) => {
+            assert_eq!(rt; header, HEADER);
+            assert_eq!(rt;
+                bodies(alloc, &mut disk, &journal)?.as_slice(),
+                b"\x01\x05alice".as_slice()
+            );
+        }
+        _ => assert!(rt; false),
+    }
+    fs::remove_dir_all(&rt, "ov_journal_test")?;
+    Ok(())
+}

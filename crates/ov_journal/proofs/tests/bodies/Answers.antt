@@ -1,6 +1,0 @@
-use Rattle.std.proofs.Common.{sym, ◌∙◌}
-use Rattle.ov_journal.proofs.Records.{all_first}
-use Rattle.ov_journal.proofs.tests.bodies.Goals as goal
-
-pub body-requires-clause-records : goal.body-requires-clause-records
-body-requires-clause-records g c i is = all_first _ _ (c.requires i (sym c.records.invariant ∙ is))

@@ -1,0 +1,6 @@
+//! Tests of `ov_keyed`. Nothing stands here but tests: the contracts of
+//! what they call are proved in those crates.
+#![tactic(auto)]
+
+#[cfg(test)]
+mod keyed;

@@ -1,0 +1,166 @@
+//! Spellings that another program gives, and the places of wrong bytes.
+
+use ov_base::{Name, UserSet};
+use ov_record::*;
+use ov_tokens::{Edge, Token};
+use std::process::Abort;
+use std::test::Fail;
+
+/// A creation of `f1` for the users 0 and 3, with two tokens.
+const CREATION: &[u8] = b"\x02\x02f1\
+    \x09\0\0\0\0\0\0\0\0\0\0\0\0\0\0\0\0\0\0\0\0\0\0\0\0\0\0\0\0\0\0\0\
+    \0\x02\
+    \x00\x01\x02\x03\x04\x05\x06\x07\x08\x09\x0a\x0b\x0c\x0d\x0e\x0f\
+    \x10\x11\x12\x13\x14\x15\x16\x17\x18\x19\x1a\x1b\x1c\x1d\x1e\x1f\
+    defghijklmnopqrstuvwxyz{|}~\x7f\x80\x81\x82\x83\
+    \xc8\xc9\xca\xcb\xcc\xcd\xce\xcf\xd0\xd1\xd2\xd3\xd4\xd5\xd6\xd7\
+    \xd8\xd9\xda\xdb\xdc\xdd\xde\xdf\xe0\xe1\xe2\xe3\xe4\xe5\xe6\xe7\
+    \0\0\0\x05hello";
+
+/// A grant to user 258 of file 3, with a token.
+const GRANT: &[u8] = b"\x03\0\0\x01\x02\0\0\0\x03\x01\
+    \x00\x01\x02\x03\x04\x05\x06\x07\x08\x09\x0a\x0b\x0c\x0d\x0e\x0f\
+    \x10\x11\x12\x13\x14\x15\x16\x17\x18\x19\x1a\x1b\x1c\x1d\x1e\x1f";
+
+const SPELLINGS: [&[u8]; 5] = [
+    b"\x01\x05alice",
+    CREATION,
+    GRANT,
+    b"\x03\0\0\0\x01\0\0\x3f\xff\0",
+    b"\x04\0\0\0\x07\0\x01\0\x09",
+];
+
+#[test]
+fn spellings_are_read_and_written_again(rt: HostRuntime) -> Result<(), Fail> {
+    let mut out = Vec::new(rt.alloc());
+    for bytes in SPELLINGS {
+        out.clear();
+        match read::<4>(rt.alloc(), bytes) {
+            Ok(update) => write(&update, &mut out)?,
+            Err(_) => {}
+        }
+        assert_eq!(rt; out.as_slice(), bytes);
+    }
+    Ok(())
+}
+
+#[test]
+fn fields_of_a_creation(rt: HostRuntime) {
+    match read::<4>(rt.alloc(), CREATION) {
+        Ok(
+            Update::Create {
+                name,
+                list,
+                tokens,
+                tag,
+                bytes,
+            },
+        ) => {
+            assert_eq!(rt; name.as_bytes(), b"f1".as_slice());
+            assert!(rt; list == UserSet::empty().with(0).with(3));
+            assert_eq!(rt; tokens.as_slice().len(), 2);
+            assert_eq!(rt; tag.as_slice(), &CREATION[102..134]);
+            assert_eq!(rt; bytes.as_slice(), b"hello".as_slice());
+        }
+        _ => assert!(rt; false),
+    }
+}
+
+#[test]
+fn fields_of_a_grant(rt: HostRuntime) {
+    match read::<4>(rt.alloc(), GRANT) {
+        Ok(
+            Update::Grant {
+                user,
+                file,
+                token: Some(token),
+            },
+        ) => {
+            assert_eq!(rt; (user, file), (258, 3));
+            assert_eq!(rt; token.bytes.as_slice(), &GRANT[10..]);
+        }
+        _ => assert!(rt; false),
+    }
+}
+
+/// Bytes that are no spelling, with the place of the first wrong one.
+const WRONG: [(&[u8], u32); 16] = [
+    (b"", 0),
+    (b"\x00", 0),
+    (b"\x05\x05alice", 0),
+    (b"\x09", 0),
+    (b"\x01", 1),
+    (b"\x01\x00", 1),
+    (b"\x01\x41", 1),
+    (b"\x01\x05ali", 5),
+    (b"\x01\x05aLi", 3),
+    (b"\x01\x05-lice", 2),
+    (b"\x01\x05alice\0", 7),
+    (b"\x03\0\0\0\x01\0\0\0", 8),
+    (b"\x03\0\0\0\x01\0\0\0\x01\x02", 9),
+    (b"\x03\0\0\0\x01\0\0\0\x01\x01abc", 13),
+    (b"\x04\0\0\0\x01\0\0\0\x01\0", 9),
+    (
+        b"\x02\x01f\
+        \0\0\0\0\0\0\0\0\0\0\0\0\0\0\0\0\0\0\0\0\0\0\0\0\0\0\0\0\0\0\0\0\x01\x01",
+        35,
+    ),
+];
+
+#[test]
+fn the_first_wrong_byte_is_named(rt: HostRuntime) {
+    for (bytes, place) in WRONG {
+        let at = match read::<4>(rt.alloc(), bytes) {
+            Err(RecordFault::BadRecord { at }) => Some(at),
+            _ => None,
+        };
+        assert_eq!(rt; at, Some(place));
+    }
+}
+
+#[test]
+fn sets_of_another_width(rt: HostRuntime) {
+    let at = |fault| match fault {
+        RecordFault::BadRecord { at } => at,
+        RecordFault::Memory => 0,
+    };
+    assert_eq!(rt; read::<16>(rt.alloc(), CREATION).err().map(at), Some(132));
+    assert_eq!(rt; read::<1>(rt.alloc(), CREATION).err().map(at), Some(46));
+}
+
+#[test]
+fn entries(rt: HostRuntime) -> Result<(), Fail> {
+    let name = Name::read(b"f1").ok_or("a name")?;
+    let token = Token {
+        bytes: *b"0123456789abcdef0123456789abcdef",
+    };
+    let mut out = Vec::new(rt.alloc());
+    user_entry(&name, 7, 4095, &mut out)?;
+    assert_eq!(rt; out.as_slice(), b"\x02f1\0\0\0\x07\0\0\x0f\xff".as_slice());
+    out.clear();
+    node_entry(
+        &UserSet::<1>::empty().with(9),
+        &[Edge { from: 3, token }],
+        &mut out,
+    )?;
+    assert_eq!(rt;
+        out.as_slice(),
+        b"\0\x02\0\0\0\0\0\0\0\x01\0\0\0\x030123456789abcdef0123456789abcdef".as_slice()
+    );
+    out.clear();
+    access_entry(1, 2, &token, &mut out)?;
+    assert_eq!(rt;
+        out.as_slice(),
+        b"\0\0\0\x01\0\0\0\x020123456789abcdef0123456789abcdef".as_slice()
+    );
+    out.clear();
+    file_entry(&name, 1, 5, 3, &token.bytes, Some(2), &mut out)?;
+    file_entry(&name, 1, 5, 3, &token.bytes, None, &mut out)?;
+    assert_eq!(rt;
+        out.as_slice(),
+        b"\x02f1\0\0\0\x01\0\0\0\x05\0\0\0\x030123456789abcdef0123456789abcdef\x01\0\0\0\x02\
+        \x02f1\0\0\0\x01\0\0\0\x05\0\0\0\x030123456789abcdef0123456789abcdef\0"
+            .as_slice()
+    );
+    Ok(())
+}

@@ -1,0 +1,263 @@
+//! Scripts that were read by hand, in pieces of several sizes.
+ghost use Rattle.std.specs.Prelude.{◌<◌};
+
+use ov_base::limits::{MAX_FILE_BYTES, MAX_LINE_BYTES};
+use ov_base::{Name, Names, Octets, Refusal};
+use ov_io::MemSource;
+use ov_script::{Command, Next, Reply, Script, line};
+use std::alloc::Global;
+use std::test::Fail;
+
+const PIECES: [usize; 3] = [1, 7, 4096];
+
+fn script_of(alloc: Global, text: &[u8], piece: usize) -> Result<Script<MemSource>, Fail>
+    requires { 0 < piece }
+{
+    let none = Octets::copy(alloc, b"")?;
+    let source = MemSource::new(Octets::copy(alloc, text)?, piece, none);
+    Ok(Script::new(alloc, source)?)
+}
+
+// Appends the word and a space, where it has a byte.
+fn put_word(word: &[u8], out: &mut Vec<u8>) -> Result<(), Fail> {
+    if !word.is_empty() {
+        out.extend_from_slice(word)?;
+        out.push(b' ')?;
+    }
+    Ok(())
+}
+
+fn put_names(word: &[u8], user: &Name, file: &Name, out: &mut Vec<u8>) -> Result<(), Fail> {
+    put_word(word, out)?;
+    put_word(user.as_bytes(), out)?;
+    put_word(file.as_bytes(), out)
+}
+
+// Appends the words of a `create`, with a slash behind each name of its list.
+fn put_create(file: &Name, list: &[Name], bytes: &[u8], out: &mut Vec<u8>) -> Result<(), Fail> {
+    put_word(b"create", out)?;
+    put_word(file.as_bytes(), out)?;
+    for name in list {
+        out.extend_from_slice(name.as_bytes())?;
+        out.push(b'/')?;
+    }
+    put_word(b"+", out)?;
+    put_word(bytes, out)
+}
+
+// Appends the command's words, each with a space, and a semicolon.
+fn put_command(command: &Command, out: &mut Vec<u8>) -> Result<(), Fail> {
+    match command {
+        Command::Enrol { user } => {
+            put_word(b"enrol", out)?;
+            put_word(user.as_bytes(), out)?;
+        }
+        Command::Create { file, list, bytes } => {
+            put_create(file, list.as_slice(), bytes.as_slice(), out)?
+        }
+        Command::Grant { user, file } => put_names(b"grant", user, file, out)?,
+        Command::Revoke { user, file } => put_names(b"revoke", user, file, out)?,
+        Command::Read { user, file } => put_names(b"read", user, file, out)?,
+        Command::List { file } => {
+            put_word(b"list", out)?;
+            put_word(file.as_bytes(), out)?;
+        }
+        Command::Epoch => put_word(b"epoch", out)?,
+    }
+    out.push(b';')?;
+    Ok(())
+}
+
+// What the script says: its commands, and how it ends.
+fn told(alloc: Global, text: &[u8], piece: usize) -> Result<Vec<u8>, Fail>
+    requires { 0 < piece }
+{
+    let mut script = script_of(alloc, text, piece)?;
+    let mut out = Vec::new(alloc);
+    for _ in 0..20 {
+        match script.next() {
+            Ok(Next::Command(command)) => put_command(&command, &mut out)?,
+            Ok(Next::End) => {
+                out.extend_from_slice(b"end")?;
+                return Ok(out);
+            }
+            Ok(Next::BadLine { line }) => {
+                let ending = format!(in alloc; "bad {line}")?;
+                out.extend_from_slice(ending.as_bytes())?;
+                return Ok(out);
+            }
+            Ok(Next::Long) => return Err(Fail::from("long")),
+            Err(_) => return Err(Fail::from("a fault")),
+        }
+    }
+    Err(Fail::from("no end"))
+}
+
+#[test]
+fn scripts_and_what_they_say(rt: HostRuntime) -> Result<(), Fail> {
+    let rows = [
+        (b"".as_slice(), b"end".as_slice()),
+        (b"enrol alice\nenrol bob\n", b"enrol alice ;enrol bob ;end"),
+        (
+            b"create f1 alice 5\nhello\nread alice f1\n",
+            b"create f1 alice/+ hello ;read alice f1 ;end",
+        ),
+        (
+            b"grant a f\nrevoke a f\nread a f\nlist f\nepoch\n",
+            b"grant a f ;revoke a f ;read a f ;list f ;epoch ;end",
+        ),
+        (b"create f - 0\n\nlist f\n", b"create f + ;list f ;end"),
+        (b"create f b,a,b,c,a 1\nx\n", b"create f b/a/c/+ x ;end"),
+        (b"create f a,a- 1\nx\n", b"create f a/a-/+ x ;end"),
+        (
+            b"create f a 3\n\n\n\n\nenrol Bob\n",
+            b"create f a/+ \n\n\n ;bad 6",
+        ),
+        (b"create f a 3\nabcd\n", b"bad 1"),
+        (b"enrol a\ncreate f a 3\nab", b"enrol a ;bad 2"),
+        (b"create f a 3\nabc", b"bad 1"),
+        (b"create f a 03\nabc\n", b"bad 1"),
+        (b"create f a 1048577", b"bad 1"),
+        (b"create f a, 1\nx\n", b"bad 1"),
+        (b"create f a,,b 1\nx\n", b"bad 1"),
+        (b"create f ,a 1\nx\n", b"bad 1"),
+        (b"create f -,a 1\nx\n", b"bad 1"),
+        (b"create f a,- 1\nx\n", b"bad 1"),
+        (b"create f -- 1\nx\n", b"bad 1"),
+        (b"create f a,B 1\nx\n", b"bad 1"),
+        (b"create f  a 1\nx\n", b"bad 1"),
+        (b"create f a 1 \nx\n", b"bad 1"),
+        (b"create f a +1\nx\n", b"bad 1"),
+        (b"create f a\n", b"bad 1"),
+        (b"read a\n", b"bad 1"),
+        (b"read a f g\n", b"bad 1"),
+        (b"read  a f\n", b"bad 1"),
+        (b"grant a,b f\n", b"bad 1"),
+        (b"list f g\n", b"bad 1"),
+        (b"epoch \n", b"bad 1"),
+        (b"epochs\n", b"bad 1"),
+        (b"enrol a\r\n", b"bad 1"),
+        (b"enrol a", b"bad 1"),
+        (b"\n", b"bad 1"),
+        (b"quit\n", b"bad 1"),
+        (b"reed a f\n", b"bad 1"),
+        (b"erol a\n", b"bad 1"),
+    ];
+    for (text, says) in rows {
+        for piece in PIECES {
+            prove!(piece > 0);
+            assert_eq!(rt; told(rt.alloc(), text, piece)?.as_slice(), says);
+        }
+    }
+    Ok(())
+}
+
+// A `create` of so many bytes, each fifth of which is an LF, and a line that is no item.
+fn with_body(alloc: Global, size: usize) -> Result<Vec<u8>, Fail> {
+    let head = format!(in alloc; "create f a {size}\n")?;
+    let mut text = head.as_bytes().to_vec(alloc)?;
+    for index in 0..size {
+        text.push(if index % 5 == 0 { b'\n' } else { b'x' })?;
+    }
+    text.extend_from_slice(b"\nquit\n")?;
+    Ok(text)
+}
+
+#[test]
+fn bodies_of_many_sizes(rt: HostRuntime) -> Result<(), Fail> {
+    let alloc = rt.alloc();
+    for (size, bad) in [(0, 3), (15, 6), (16, 7), (17, 7), (4096, 823)] {
+        for piece in PIECES {
+            prove!(piece > 0);
+            let mut script = script_of(alloc, &with_body(alloc, size)?, piece)?;
+            match script.next() {
+                Ok(Next::Command(Command::Create { bytes, .. })) => {
+                    assert_eq!(rt; bytes.as_slice().len(), size)
+                }
+                _ => return Err(Fail::from("no create")),
+            }
+            match script.next() {
+                Ok(Next::BadLine { line }) => assert_eq!(rt; line, bad),
+                _ => return Err(Fail::from("no bad line")),
+            }
+        }
+    }
+    Ok(())
+}
+
+#[test]
+fn the_longest_body(rt: HostRuntime) -> Result<(), Fail> {
+    let alloc = rt.alloc();
+    let mut text = b"enrol a\ncreate f a 1048576\n".to_vec(alloc)?;
+    text.extend_from_slice(&vec![in alloc; b'x'; MAX_FILE_BYTES as usize]?)?;
+    text.extend_from_slice(b"\ncreate g a 1048577\n")?;
+    let mut script = script_of(alloc, &text, 65_536)?;
+    assert!(rt; matches!(script.next(), Ok(Next::Command(Command::Enrol { .. }))));
+    assert!(rt; matches!(script.next(), Ok(Next::Command(Command::Create { .. }))));
+    assert!(rt; matches!(script.next(), Ok(Next::BadLine { line: 4 })));
+    Ok(())
+}
+
+// A `create` whose line has so many bytes, its LF included: the name `a` again and again, and `b`.
+fn with_line(alloc: Global, size: usize) -> Result<Vec<u8>, Fail> {
+    let mut text = b"create f ".to_vec(alloc)?;
+    for _ in 0..size.saturating_sub(13) / 2 {
+        text.extend_from_slice(b"a,")?;
+    }
+    text.extend_from_slice(if text.len() + 5 == size {
+        b"bb 0\n"
+    } else {
+        b"b 0\n"
+    })?;
+    text.push(b'\n')?;
+    Ok(text)
+}
+
+#[test]
+fn the_longest_line(rt: HostRuntime) -> Result<(), Fail> {
+    let alloc = rt.alloc();
+    let rows = [
+        (MAX_LINE_BYTES - 1, b"create f a/b/+ ;end".as_slice()),
+        (MAX_LINE_BYTES, b"create f a/bb/+ ;end"),
+        (MAX_LINE_BYTES + 1, b"bad 1"),
+    ];
+    for (size, says) in rows {
+        let text = with_line(alloc, size)?;
+        assert_eq!(rt; text.len(), size + 1);
+        for piece in PIECES {
+            prove!(piece > 0);
+            assert_eq!(rt; told(alloc, &text, piece)?.as_slice(), says);
+        }
+    }
+    Ok(())
+}
+
+#[test]
+fn reply_lines(rt: HostRuntime) -> Result<(), Fail> {
+    let alloc = rt.alloc();
+    let name = |text: &[u8]| Name::read(text);
+    let mut out = Vec::new(alloc);
+    line(&Reply::Accepted(4_294_967_295), &mut out)?;
+    let data = Reply::Bytes {
+        user: name(b"alice").ok_or("a name")?,
+        file: name(b"f1").ok_or("a name")?,
+        bytes: Octets::copy(alloc, b"he\nlo")?,
+    };
+    line(&data, &mut out)?;
+    let lists: [&[&[u8]]; 3] = [&[], &[b"b"], &[b"b", b"a1", b"c"]];
+    for texts in lists {
+        let mut names = Names::new(alloc);
+        for text in texts {
+            names.insert(name(text).ok_or("a name")?)?;
+        }
+        let file = name(b"f1").ok_or("a name")?;
+        line(&Reply::List { file, names }, &mut out)?;
+    }
+    line(&Reply::Epoch(2), &mut out)?;
+    line(&Reply::Refused(Refusal::NoPath), &mut out)?;
+    line(&Reply::End(3), &mut out)?;
+    let lines = b"ok 4294967295\ndata alice f1 5\nhe\nlo\nlist f1 -\nlist f1 b\nlist f1 b,a1,c\n\
+        epoch 2\nrefused 4 NoPath\nend epoch 3\n";
+    assert_eq!(rt; out.as_slice(), lines.as_slice());
+    Ok(())
+}

@@ -1,0 +1,255 @@
+//! Sessions in memory, against bytes that were written by hand, and over a port of this machine.
+ghost use Rattle.std.specs.Prelude.{◌≡◌, ◌<◌, ◌∷◌, [], false, length};
+
+use ov_base::{Memory, Octets};
+use ov_io::{MemSink, MemSource, MemStream, Sink, Source};
+use ov_peer::{Answerer, Peer, PeerFault};
+use ov_session::{
+    Alone, Door, MemDoor, NetPeer, OpenGate, SessionEnd, TcpDoor, TcpLink, serve_each, serve_one,
+};
+use std::alloc::Global;
+use std::io::ErrorKind;
+use std::str;
+use std::sync::Wait;
+use std::test::Fail;
+
+/// Answers each frame with a Bytes of itself. It has no memory for a frame that begins with 0xff.
+#[derive(Drop)]
+struct Parrot {
+    epoch: u32,
+}
+
+impl Answerer for Parrot {
+    ghost reached = { λ a list b. (list ≡ []) × (b.epoch ≡ a.epoch) };
+
+    ghost replies = { λ a list request reply. reply ≡ 0x86 ∷ request };
+
+    ghost epoch_of = { λ a. a.epoch };
+
+    fn answer(&mut self, request: &[u8], reply: &mut Vec<u8>) -> Result<(), Memory> {
+        if request[0] == 0xff || request.len() > 1_000 {
+            return Err(Memory);
+        }
+        reply.clear();
+        reply.push(0x86)?;
+        reply.extend_from_slice(request)?;
+        Ok(())
+    }
+
+    fn epoch(&self) -> u32 {
+        self.epoch
+    }
+}
+
+/// Serves what a door in memory gives: it gave as many streams as were served.
+fn serve_memory<R: Wait>(
+    rt: &R,
+    alloc: Global,
+    door: &mut MemDoor,
+    parrot: &mut Parrot,
+    sessions: u32,
+) -> (u32, bool)
+    requires gave { door.old.gave ≡ [] }
+    requires open { door.old.closed ≡ false }
+    ensures { length door.new.gave ≡ result.0 }
+{
+    serve_each(rt, alloc, door, parrot, sessions)
+}
+
+/// A stream with these bytes to read, which gives pieces, and fails the calls with these numbers.
+fn stream(
+    alloc: Global,
+    bytes: &[u8],
+    piece: usize,
+    read: &[u8],
+    write: &[u8],
+) -> Result<MemStream, Fail>
+    requires { 0 < piece }
+{
+    let bytes = Octets::copy(alloc, bytes)?;
+    Ok(MemStream {
+        source: MemSource::new(bytes, piece, Octets::copy(alloc, read)?),
+        sink: MemSink::new(alloc, Octets::copy(alloc, write)?),
+    })
+}
+
+/// Serves a stream alone.
+fn serve<R: Wait>(rt: &R, alloc: Global, stream: &mut MemStream) -> SessionEnd {
+    let mut parrot = Parrot { epoch: 0 };
+    let mut asker = Alone { value: &mut parrot };
+    serve_one(rt, alloc, 0, stream, &mut asker, &OpenGate)
+}
+
+/// The input of a session, its end, and what is written.
+struct Row {
+    input: &'static [u8],
+    end: SessionEnd,
+    written: &'static [u8],
+}
+
+const ROWS: [Row; 9] = [
+    Row {
+        input: &[],
+        end: SessionEnd::End,
+        written: &[],
+    },
+    Row {
+        input: &[0, 0, 0, 1, 7, 0, 0, 0, 2, 8, 9],
+        end: SessionEnd::End,
+        written: &[0, 0, 0, 2, 0x86, 7, 0, 0, 0, 3, 0x86, 8, 9],
+    },
+    Row {
+        input: &[0, 0, 0, 1, 0xff, 0, 0, 0, 1, 7],
+        end: SessionEnd::End,
+        written: &[0, 0, 0, 1, 0x8e, 0, 0, 0, 2, 0x86, 7],
+    },
+    Row {
+        input: &[0, 0],
+        end: SessionEnd::Bad { at: 2 },
+        written: &[],
+    },
+    Row {
+        input: &[0, 0, 0, 1, 7, 0, 0, 0, 2, 8],
+        end: SessionEnd::Bad { at: 10 },
+        written: &[0, 0, 0, 2, 0x86, 7],
+    },
+    Row {
+        input: &[0, 0, 0, 0, 1],
+        end: SessionEnd::Bad { at: 0 },
+        written: &[],
+    },
+    Row {
+        input: &[0, 0, 0, 1, 7, 0, 0, 0, 0, 0, 0, 0, 1, 7],
+        end: SessionEnd::Bad { at: 5 },
+        written: &[0, 0, 0, 2, 0x86, 7],
+    },
+    Row {
+        input: &[255, 255, 255, 255],
+        end: SessionEnd::Bad { at: 0 },
+        written: &[],
+    },
+    Row {
+        input: &[0, 0x11, 0, 1, 7],
+        end: SessionEnd::Bad { at: 0 },
+        written: &[],
+    },
+];
+
+#[test]
+fn each_row_in_pieces_of_each_size(rt: HostRuntime) -> Result<(), Fail> {
+    let alloc = rt.alloc();
+    for row in &ROWS {
+        for piece in 1..16usize {
+            let mut stream = stream(alloc, row.input, piece, &[], &[])?;
+            assert_eq!(rt; serve(&rt, alloc, &mut stream), row.end);
+            assert_eq!(rt; stream.sink.written(), row.written);
+        }
+    }
+    Ok(())
+}
+
+#[test]
+fn a_fault_at_each_call(rt: HostRuntime) -> Result<(), Fail> {
+    let alloc = rt.alloc();
+    let input: [u8; 11] = [0, 0, 0, 1, 7, 0, 0, 0, 2, 8, 9];
+    let whole: [u8; 13] = [0, 0, 0, 2, 0x86, 7, 0, 0, 0, 3, 0x86, 8, 9];
+    // What stands before each of the four calls that write.
+    let fronts: [usize; 4] = [0, 4, 6, 10];
+    for call in 0..3u8 {
+        let mut stream = stream(alloc, &input, 6, &[call], &[])?;
+        assert_eq!(rt; serve(&rt, alloc, &mut stream), SessionEnd::LinkFault);
+        let written = stream.sink.written();
+        assert_eq!(rt; written, &whole[..written.len().min(13)]);
+    }
+    for call in 0..4u8 {
+        let mut stream = stream(alloc, &input, 64, &[], &[call])?;
+        assert_eq!(rt; serve(&rt, alloc, &mut stream), SessionEnd::LinkFault);
+        assert_eq!(rt; stream.sink.written().len(), fronts[call as usize]);
+    }
+    Ok(())
+}
+
+#[test]
+fn a_door_in_memory(rt: HostRuntime) -> Result<(), Fail> {
+    let alloc = rt.alloc();
+    let mut streams = Vec::new(alloc);
+    streams.push(stream(alloc, &[0, 0, 0, 1, 7], 2, &[], &[])?)?;
+    streams.push(stream(alloc, &[0, 0, 0, 0], 2, &[], &[])?)?;
+    let mut door = MemDoor::new(alloc, streams, Octets::copy(alloc, &[])?);
+    let mut parrot = Parrot { epoch: 0 };
+    assert_eq!(rt;
+        serve_memory(&rt, alloc, &mut door, &mut parrot, 9),
+        (2, false)
+    );
+    let Some(first) = door.back(0) else {
+        return Err(Fail::from("nothing came back"));
+    };
+    assert_eq!(rt; first.ending, SessionEnd::End);
+    assert_eq!(rt;
+        first.stream.sink.written(),
+        [0, 0, 0, 2, 0x86, 7].as_slice()
+    );
+    let Some(second) = door.back(1) else {
+        return Err(Fail::from("nothing came back"));
+    };
+    assert_eq!(rt; second.ending, SessionEnd::Bad { at: 0 });
+    assert!(rt; door.back(2).is_none());
+    let mut door = MemDoor::new(alloc, Vec::new(alloc), Octets::copy(alloc, &[1])?);
+    let mut address = Vec::new(alloc);
+    assert!(rt; door.listen(&mut address).is_ok());
+    assert_eq!(rt;
+        serve_memory(&rt, alloc, &mut door, &mut parrot, 9),
+        (0, true)
+    );
+    Ok(())
+}
+
+#[test]
+fn replies_come_in_pieces(rt: HostRuntime) -> Result<(), Fail> {
+    let alloc = rt.alloc();
+    let bytes: [u8; 15] = [0, 0, 0, 2, 7, 8, 0, 0, 0, 1, 9, 0, 0, 0, 0];
+    let mut peer = NetPeer::new(stream(alloc, &bytes, 3, &[], &[])?)?;
+    let mut reply = Vec::new(alloc);
+    assert_eq!(rt; peer.ask(&[1, 2, 3], &mut reply), Ok(()));
+    assert_eq!(rt; reply.as_slice(), [7, 8].as_slice());
+    assert_eq!(rt; peer.ask(&[4], &mut reply), Ok(()));
+    assert_eq!(rt; reply.as_slice(), [9].as_slice());
+    assert_eq!(rt; peer.ask(&[5], &mut reply), Err(PeerFault::Link));
+    let asked: [u8; 17] = [0, 0, 0, 3, 1, 2, 3, 0, 0, 0, 1, 4, 0, 0, 0, 1, 5];
+    assert_eq!(rt; peer.link().sink.written(), asked.as_slice());
+    let mut peer = NetPeer::new(stream(alloc, &[0, 0, 0, 2, 7], 3, &[], &[])?)?;
+    assert_eq!(rt; peer.ask(&[1], &mut reply), Err(PeerFault::Link));
+    Ok(())
+}
+
+#[test]
+fn over_a_port(rt: HostRuntime) -> Result<(), Fail> {
+    let alloc = rt.alloc();
+    let mut door = TcpDoor::new(rt, "127.0.0.1:0")?;
+    let mut address = Vec::new(alloc);
+    assert!(rt; door.listen(&mut address).is_ok());
+    let mut link = TcpLink::new(rt, str::from_utf8(address.as_slice())?)?;
+    assert!(rt; link.put(b"hello").is_ok());
+    let mut buf = [0u8; 8];
+    let Ok(Some(mut stream)) = door.accept() else {
+        return Err(Fail::from("no stream"));
+    };
+    assert_eq!(rt; stream.take(&mut buf), Ok(5));
+    assert!(rt; stream.put(b"hi").is_ok());
+    assert_eq!(rt; link.take(&mut buf), Ok(2));
+    door.ended(0, stream, SessionEnd::End);
+    assert_eq!(rt; link.take(&mut buf), Ok(0));
+    let mut twice = TcpDoor::new(rt, str::from_utf8(address.as_slice())?)?;
+    assert!(rt; twice.listen(&mut address).is_err());
+    assert_eq!(rt; twice.reason(), Some(ErrorKind::AddrInUse));
+    Ok(())
+}
+
+#[test]
+fn nobody_listens(rt: HostRuntime) -> Result<(), Fail> {
+    let mut peer = NetPeer::new(TcpLink::new(rt, "127.0.0.1:1")?)?;
+    let mut reply = Vec::new(rt.alloc());
+    assert_eq!(rt; peer.ask(&[1], &mut reply), Err(PeerFault::Link));
+    assert_eq!(rt; peer.link().reason(), Some(ErrorKind::ConnectionRefused));
+    Ok(())
+}

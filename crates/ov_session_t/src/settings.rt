@@ -1,0 +1,158 @@
+//! Settings files, and others that are none.
+use ov_base::{Mode, Octets};
+use ov_io::MemSource;
+use ov_settings::{MAX_SESSIONS, Settings, read_settings};
+use std::alloc::{AllocError, Global};
+use std::process::Abort;
+use std::test::Fail;
+
+// The lines of a settings file, each with its key.
+static LINES: [(&str, &str); 7] = [
+    ("address", "address = \"127.0.0.1:7400\"\n"),
+    ("mode", "mode = \"delta\"\n"),
+    (
+        "surface",
+        "surface = \"000102030405060708090a0b0c0d0e0f101112131415161718191A1B1C1D1E1F\"\n",
+    ),
+    (
+        "base_check",
+        "base_check = \"f0f0f0f0f0f0f0f0f0f0f0f0f0f0f0f0f0f0f0f0f0f0f0f0f0f0f0f0f0f0f0f0\"\n",
+    ),
+    ("book", "book = \"/srv/store.book\"\n"),
+    ("blobs", "blobs = \"/srv/store.blobs\"\n"),
+    ("sessions", "sessions = 1000000\n"),
+];
+
+// A line that stands in place of the one with this key, and the status.
+static ROWS: [(&str, &str, u8); 27] = [
+    ("", "", 0),
+    (
+        "sessions",
+        "workers = 4\nsessions = 0x1\n[more]\nkeys = true\n",
+        0,
+    ),
+    ("mode", "'mode' = 'full' # each file\n", 0),
+    ("address", "", 2),
+    ("mode", "", 2),
+    ("surface", "", 2),
+    ("base_check", "", 2),
+    ("book", "", 2),
+    ("blobs", "", 2),
+    ("sessions", "", 2),
+    ("address", "address = 7400\n", 2),
+    ("mode", "mode = \"Full\"\n", 2),
+    ("mode", "mode = true\n", 2),
+    ("surface", "surface = \"00\"\n", 2),
+    (
+        "surface",
+        "surface = \"g00102030405060708090a0b0c0d0e0f101112131415161718191A1B1C1D1E1F\"\n",
+        2,
+    ),
+    (
+        "base_check",
+        "base_check = \"000102030405060708090a0b0c0d0e0f101112131415161718191A1B1C1D1E1F0\"\n",
+        2,
+    ),
+    ("base_check", "base_check = 5\n", 2),
+    ("book", "book = []\n", 2),
+    ("blobs", "[blobs]\n", 2),
+    ("sessions", "sessions = 0\n", 2),
+    ("sessions", "sessions = -1\n", 2),
+    ("sessions", "sessions = 1000001\n", 2),
+    ("sessions", "sessions = 1.0\n", 2),
+    ("sessions", "sessions = \"5\"\n", 2),
+    ("sessions", "sessions = 5\nsessions = 5\n", 2),
+    ("sessions", "sessions = 5 6\n", 2),
+    ("sessions", "settings.sessions = 5\n", 2),
+];
+
+// The table, of which no proof computes anything.
+fn rows() -> &'static [(&'static str, &'static str, u8)] {
+    &ROWS
+}
+
+fn lines() -> &'static [(&'static str, &'static str)] {
+    &LINES
+}
+
+// The text of a settings file with this line in place of the one with its key.
+fn text_with(alloc: Global, key: &str, line: &str) -> Result<Vec<u8>, AllocError> {
+    let mut text = Vec::new(alloc);
+    for (name, usual) in lines() {
+        let line = if *name == key { line } else { usual };
+        text.extend_from_slice(line.as_bytes())?;
+    }
+    Ok(text)
+}
+
+// So many words.
+fn words_of(alloc: Global, count: usize) -> Result<Vec<String>, AllocError> {
+    let mut words = Vec::new(alloc);
+    for _ in 0..count {
+        words.push(String::from_str(alloc, "settings.toml")?)?;
+    }
+    Ok(words)
+}
+
+// What is read of these bytes, in pieces of 1,000, where a call may fail.
+fn read(alloc: Global, words: usize, bytes: &[u8], fails: &[u8]) -> Result<Settings, u8> {
+    let Ok(bytes) = Octets::copy(alloc, bytes) else {
+        return Err(7);
+    };
+    let Ok(fails) = Octets::copy(alloc, fails) else {
+        return Err(7);
+    };
+    let Ok(words) = words_of(alloc, words) else {
+        return Err(7);
+    };
+    let mut source = MemSource::new(bytes, 1000, fails);
+    read_settings(alloc, &words, &mut source)
+}
+
+// The status of reading: 0 where there are settings.
+fn status(alloc: Global, words: usize, bytes: &[u8], fails: &[u8]) -> u8 {
+    match read(alloc, words, bytes, fails) {
+        Ok(_) => 0,
+        Err(code) => code,
+    }
+}
+
+// The values of the lines above.
+fn assert_values(rt: &impl Abort, settings: &Settings) {
+    assert_eq!(rt; settings.address.as_slice(), b"127.0.0.1:7400".as_slice());
+    assert_eq!(rt; settings.mode, Mode::Delta);
+    assert_eq!(rt; settings.surface.bytes[27], 27);
+    assert_eq!(rt; settings.base_check[31], 0xf0);
+    assert_eq!(rt; settings.book.as_slice(), b"/srv/store.book".as_slice());
+    assert_eq!(rt; settings.blobs.as_slice(), b"/srv/store.blobs".as_slice());
+    assert_eq!(rt; settings.sessions, MAX_SESSIONS);
+}
+
+#[test]
+fn each_key_is_wanted_as_it_should_be(rt: HostRuntime) -> Result<(), Fail> {
+    for (key, line, code) in rows() {
+        let text = text_with(rt.alloc(), key, line)?;
+        assert_eq!(rt; status(rt.alloc(), 1, &text, b""), *code, "{line}");
+    }
+    Ok(())
+}
+
+#[test]
+fn values_words_lengths_and_faults(rt: HostRuntime) -> Result<(), Fail> {
+    let mut text = text_with(rt.alloc(), "", "")?;
+    match read(rt.alloc(), 1, &text, b"") {
+        Ok(settings) => assert_values(&rt, &settings),
+        Err(_) => return Err(Fail::from("no settings")),
+    }
+    assert_eq!(rt; status(rt.alloc(), 0, &text, b""), 2);
+    assert_eq!(rt; status(rt.alloc(), 2, &text, b""), 2);
+    assert_eq!(rt; status(rt.alloc(), 1, &text, &[0]), 5);
+    assert_eq!(rt; status(rt.alloc(), 1, b"\xff", b""), 2);
+    text.push(b'#')?;
+    text.resize(65_536, b'#')?;
+    assert_eq!(rt; status(rt.alloc(), 1, &text, b""), 0);
+    assert_eq!(rt; status(rt.alloc(), 1, &text, &[66]), 5);
+    text.push(b'#')?;
+    assert_eq!(rt; status(rt.alloc(), 1, &text, b""), 2);
+    Ok(())
+}

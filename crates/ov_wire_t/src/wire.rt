@@ -1,0 +1,202 @@
+//! Frames that another program made, and the places of wrong bytes.
+
+mod cases;
+mod trace;
+
+ghost use Rattle.std.specs.Prelude.{◌≤◌};
+
+use cases::{ANSWERS, REQUESTS};
+use ov_base::Octets;
+use ov_wire::*;
+use std::alloc::Global;
+use std::process::Abort;
+use std::test::Fail;
+use trace::{LENGTHS, TRACE};
+
+/// A frame, for an answer the request before it, and the place of the first wrong byte where each
+/// byte is changed in its lowest and in its highest bit.
+pub struct Case {
+    pub request: &'static [u8],
+    pub frame: &'static [u8],
+    pub low: &'static [u16],
+    pub high: &'static [u16],
+}
+
+/// No byte is wrong: the frame is another request or answer.
+const GOOD: u32 = 65_535;
+
+/// The place of the first wrong byte. What is read is written again as it was.
+fn place_in_request(rt: &impl Abort, alloc: Global, frame: &[u8]) -> Result<u32, Fail> {
+    match read_request(alloc, frame) {
+        Ok(request) => {
+            let mut out = Vec::new(alloc);
+            write_request(&request, &mut out)?;
+            assert_eq!(rt; out.as_slice(), frame);
+            Ok(GOOD)
+        }
+        Err(WireFault::Bad { at }) => Ok(at),
+        Err(WireFault::Memory) => Ok(0),
+    }
+}
+
+fn place_in_answer(
+    rt: &impl Abort,
+    alloc: Global,
+    request: &Request,
+    frame: &[u8],
+) -> Result<u32, Fail> {
+    match read_answer(alloc, request, frame) {
+        Ok(answer) => {
+            let mut out = Vec::new(alloc);
+            write_answer(&answer, &mut out)?;
+            assert_eq!(rt; out.as_slice(), frame);
+            Ok(GOOD)
+        }
+        Err(WireFault::Bad { at }) => Ok(at),
+        Err(WireFault::Memory) => Ok(0),
+    }
+}
+
+/// A request's frame, or an answer's where the request isn't empty.
+fn place_in(rt: &impl Abort, alloc: Global, request: &[u8], frame: &[u8]) -> Result<u32, Fail> {
+    if request.is_empty() {
+        return place_in_request(rt, alloc, frame);
+    }
+    match read_request(alloc, request) {
+        Ok(request) => place_in_answer(rt, alloc, &request, frame),
+        Err(_) => Ok(0),
+    }
+}
+
+fn expect_case(rt: &impl Abort, alloc: Global, case: &Case) -> Result<(), Fail> {
+    assert_eq!(rt; place_in(rt, alloc, case.request, case.frame)?, GOOD);
+    for len in 0..case.frame.len() {
+        let cut = &case.frame[..len];
+        let place = place_in(rt, alloc, case.request, cut)?;
+        // Bytes that are cut are fewer bytes.
+        let is_bytes = cut.first() == Some(&0x86);
+        assert!(rt; place as usize == len || is_bytes && place == GOOD);
+    }
+    for (places, bit) in [(case.low, 1), (case.high, 0x80)] {
+        for (i, place) in places.iter().enumerate() {
+            let mut frame = case.frame.to_vec(alloc)?;
+            if i < frame.len() {
+                frame[i] ^= bit;
+            }
+            assert_eq!(rt; place_in(rt, alloc, case.request, &frame)?, *place as u32);
+        }
+    }
+    Ok(())
+}
+
+#[test]
+fn each_change_of_a_request_is_met(rt: HostRuntime) -> Result<(), Fail> {
+    for case in &REQUESTS {
+        expect_case(&rt, rt.alloc(), case)?;
+    }
+    Ok(())
+}
+
+#[test]
+fn each_change_of_an_answer_is_met(rt: HostRuntime) -> Result<(), Fail> {
+    for case in &ANSWERS {
+        expect_case(&rt, rt.alloc(), case)?;
+    }
+    Ok(())
+}
+
+/// Requests that are none, with the place of the first wrong byte.
+const WRONG: [(&[u8], u32); 8] = [
+    (b"", 0),
+    (b"\x01\0", 1),
+    (b"\x06\0\0\0\x01\0\0\0\x01\0\0\0\0\0\0\0\0", 13),
+    (b"\x06\0\0\0\x01\0\0\0\x01\0\0\0\0\0\x01\0\x01", 13),
+    (b"\x03\x01f\0\0\0\0\0\x02\x01a\x01a", 11),
+    (b"\x03\x01f\0\0\0\0\0\x02\x01a\x02a-", 65_535),
+    (b"\x03\x01f", 3),
+    (b"\x04\0\0\0\x07\x09", 5),
+];
+
+#[test]
+fn the_first_wrong_byte_is_named(rt: HostRuntime) -> Result<(), Fail> {
+    for (frame, place) in WRONG {
+        assert_eq!(rt; place_in_request(&rt, rt.alloc(), frame)?, place);
+    }
+    Ok(())
+}
+
+#[test]
+fn a_bad_request_is_answered(rt: HostRuntime) -> Result<(), Fail> {
+    let mut out = Vec::new(rt.alloc());
+    write_answer(&Answer::BadRequest { at: 258 }, &mut out)?;
+    assert_eq!(rt; out.as_slice(), b"\x8b\0\0\x01\x02".as_slice());
+    Ok(())
+}
+
+/// The frames of the trace, fed in pieces of this size.
+fn frames_in_pieces(rt: &impl Abort, alloc: Global, size: usize) -> Result<Vec<Octets>, Fail>
+    requires { 1 ≤ size }
+{
+    let mut decoder = Decoder::new(alloc)?;
+    let mut frames = Vec::new(alloc);
+    for piece in TRACE.chunks(size) {
+        assert!(rt; decoder.feed(piece, &mut frames).is_ok());
+    }
+    assert_eq!(rt; decoder.pending(), 0);
+    Ok(frames)
+}
+
+#[test]
+fn pieces_of_any_size_give_the_same_frames(rt: HostRuntime) -> Result<(), Fail> {
+    for size in [1, 2, 653] {
+        let frames = frames_in_pieces(&rt, rt.alloc(), size)?;
+        assert_eq!(rt; frames.len(), LENGTHS.len());
+        let mut rest = TRACE;
+        for (frame, len) in frames.iter().zip(LENGTHS) {
+            let end = len.saturating_add(4);
+            assert!(rt; 4 <= end && end <= rest.len());
+            assert_eq!(rt; frame.as_slice(), &rest[4..end]);
+            rest = &rest[end..];
+        }
+        assert!(rt; rest.is_empty());
+    }
+    Ok(())
+}
+
+#[test]
+fn frames_of_a_trace_are_read_and_written_again(rt: HostRuntime) -> Result<(), Fail> {
+    let mut pieces = Vec::new(rt.alloc());
+    for piece in TRACE.chunks(653) {
+        pieces.push(Octets::copy(rt.alloc(), piece)?)?;
+    }
+    let mut decoder = Decoder::new(rt.alloc())?;
+    let mut frames = Vec::new(rt.alloc());
+    assert_eq!(rt; decoder.feed_all(&pieces, &mut frames), Ok(()));
+    for pair in frames.chunks(2) {
+        assert_eq!(rt; pair.len(), 2);
+        let (request, answer) = (pair[0].as_slice(), pair[1].as_slice());
+        assert_eq!(rt; place_in(&rt, rt.alloc(), b"", request)?, GOOD);
+        assert_eq!(rt; place_in(&rt, rt.alloc(), request, answer)?, GOOD);
+    }
+    Ok(())
+}
+
+#[test]
+fn a_bad_length_field_stays_bad(rt: HostRuntime) -> Result<(), Fail> {
+    for stream in [
+        b"\0\0\0\0\x01".as_slice(),
+        b"\0\x11\0\x01",
+        b"\xff\xff\xff\xff",
+    ] {
+        let mut decoder = Decoder::new(rt.alloc())?;
+        let mut frames = Vec::new(rt.alloc());
+        let bad = Err(FeedFault::BadFrame { at: 6 });
+        assert_eq!(rt; decoder.feed(b"\0\0\0\x02\x01", &mut frames), Ok(()));
+        assert_eq!(rt; (decoder.pending(), frames.len()), (5, 0));
+        assert_eq!(rt; decoder.feed(b"\x02", &mut frames), Ok(()));
+        assert_eq!(rt; decoder.feed(stream, &mut frames), bad);
+        assert_eq!(rt; decoder.feed(b"\0\0\0\x01\x01", &mut frames), bad);
+        assert_eq!(rt; (decoder.pending(), frames.len()), (0, 1));
+    }
+    Ok(())
+}
