@@ -8,9 +8,9 @@
 //!
 //! | module | what it does |
 //! |---|---|
-//! | `begin` | the store, begun and looked at |
+//! | `opening` | the store, begun and looked at |
 //! | `answer` | the loop over the script's commands |
-//! | `finish` | the last line |
+//! | `finishing` | the last line |
 //! | `status` | the exit statuses |
 //! | `words` | the word of a mode |
 //!
@@ -27,13 +27,13 @@
 #![tactic(auto)]
 
 mod answer;
-mod begin;
-mod finish;
+mod finishing;
+mod opening;
 mod status;
 mod words;
 
 pub use answer::{Stop, answer_all, stop_of};
-pub use begin::begin;
-pub use finish::{finish, put_last};
+pub use finishing::{finish, put_last};
+pub use opening::begin;
 pub use status::Status;
 pub use words::mode_of_word;

@@ -13,7 +13,7 @@ use Rattle.ov_answering.specs.Lasting.{Endures, Lasts, OpensAs, Survives}
 use Rattle.ov_answering.proofs.Loans.{lent_image, lent_leaves, lent_opens}
 use Rattle.ov_run.specs.Running.{ForImage, FromEach, IsDecided, PrintsAs, RunsWell}
 use Rattle.ov_run.specs.Words.{IsRun}
-use Rattle.ov_run.proofs.Running.{decided, one_mode, prints_as}
+use Rattle.ov_run.proofs.Promises.{decided, one_mode, prints_as}
 
 -- what holds of the image in the mode that was found
 for_image : (image : Option Image) (words : List (String Global)) (keys : Option (List ℕ)) (mode : Mode) → IsRun mode words → (P Q : Masters → Mode → Image → Type 0)

@@ -1,3 +1,3 @@
 pub mod Lending
-pub mod Running
+pub mod Promises
 pub mod TwoWords

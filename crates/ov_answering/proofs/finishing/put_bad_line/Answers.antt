@@ -1,6 +1,6 @@
 use Rattle.std.proofs.Common.{ℕ, List, ◌∙◌, subst, inl}
 use Rattle.ov_report.specs.Ends.{EndsIn}
-use Rattle.ov_answering.proofs.finish.put_bad_line.Goals as goal
+use Rattle.ov_answering.proofs.finishing.put_bad_line.Goals as goal
 
 pub returns-in-Ok-clause-ends : goal.returns-in-Ok-clause-ends
 returns-in-Ok-clause-ends g c =

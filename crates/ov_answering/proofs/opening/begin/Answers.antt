@@ -3,7 +3,7 @@ use Rattle.ov_images.specs.Images.{Keys, keys, keys_of}
 use Rattle.ov_store.specs.Beginning.{IsNew, LeavesHistory}
 use Rattle.ov_machine.specs.Machine.{plain_masters}
 use Rattle.ov_answering.proofs.Judging.{begin_refused, call_so, leaves_still, looked, new_so, writes_still}
-use Rattle.ov_answering.proofs.begin.begin.Goals as goal
+use Rattle.ov_answering.proofs.opening.begin.Goals as goal
 
 pub returns-in-Ok-clause-new : goal.returns-in-Ok-clause-new
 returns-in-Ok-clause-new g c =

@@ -8,7 +8,7 @@ use Rattle.ov_store.specs.Owners.{Checks, masters as both}
 use Rattle.ov_store.specs.declared.fault.BeginFault.TheVariants.{Disk}
 use Rattle.ov_answering.specs.Judging.{IsCheckFault}
 use Rattle.ov_answering.proofs.Judging.{all_found, disk_found, false_found}
-use Rattle.ov_answering.proofs.begin.checked.Goals as goal
+use Rattle.ov_answering.proofs.opening.checked.Goals as goal
 
 pub returns-in-None-clause-owners : goal.returns-in-None-clause-owners
 returns-in-None-clause-owners g c = λ h serves i read.
