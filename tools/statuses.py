@@ -20,6 +20,10 @@ PROGRAMS = {
 }
 
 
+# By program the crate with the definitions of its statuses, where that is another one.
+LIBRARIES = {"overstore": "ov_answering"}
+
+
 def numbers(pattern, text):
     return sorted({int(number) for number in re.findall(pattern, text, re.M)})
 
@@ -45,7 +49,7 @@ def page(path, heading):
 
 def places_of(program):
     """By place the statuses that it names: the definitions where the program has some, and the rest."""
-    definitions = ROOT / "crates" / program / "specs" / "Status.antt"
+    definitions = ROOT / "crates" / LIBRARIES.get(program, program) / "specs" / "Status.antt"
     if definitions.exists():
         yield "definitions", numbers(r"^status_code \w+ = (\d+)$", definitions.read_text())
     yield "--help", help_of(program)

@@ -1,5 +1,5 @@
 //! What is wrong and what to do, for standard error.
-use crate::status::Status;
+use ov_answering::Status;
 
 /// Where the program was when it ended.
 #[derive(Clone, Copy, Debug, PartialEq, Eq)]

@@ -12,63 +12,28 @@
 //!
 //! | module | what it does |
 //! |---|---|
-//! | `run` | the top call, and its contract |
-//! | `load` | the other one: a stated workload in a script's place |
-//! | `begin` | the store of a run, begun and looked at |
-//! | `answer` | the loop over the script's commands |
-//! | `finish` | the last line |
-//! | `machine` | the access-matrix machine over frames: an owner, and the server over a store |
-//! | `changing` | updates, by the owner |
-//! | `questions` | epochs and lists, by the owner; reads, by the reader that it makes |
-//! | `replying` | the reply to a command, by what was answered |
-//! | `kept_loans` | calls over a traced server, by which the trace stays lent |
-//! | `load_words` | the words that ask for a load |
-//! | `loading`, `tally` | the loop over its commands, and what is kept of their replies |
-//! | `summary` | its seven lines |
-//! | `fault`, `status` | why a command isn't answered; the exit statuses |
-//! | `watched` | the key file and standard output, as `main` hands them on |
 //! | `progress` | the count of replies |
 //! | `texts`, `advice` | what `--help` prints; what standard error is told |
 #![tactic(auto)]
 
 mod advice;
-mod answer;
-mod begin;
-mod changing;
-mod fault;
-mod finish;
-mod kept_loans;
-mod load;
-mod load_words;
-mod loading;
-mod machine;
 mod progress;
-mod questions;
-mod replying;
-mod run;
-mod status;
-mod summary;
-mod tally;
-#[cfg(test)]
-mod tests;
 mod texts;
-mod watched;
 
 use advice::{Stage, advice_on};
-use load::load;
+use ov_answering::Status;
 use ov_base::Memory;
 use ov_disk::FileDisk;
 use ov_io::{FileSink, FileSource, StdSink, StdSource};
+use ov_load::load;
 use ov_report::put_memory;
+use ov_run::{Tried, Watched, run};
 use progress::Counted;
-use run::run;
-use status::Status;
 use std::env;
 use std::fs::File;
 use std::io::{self, ErrorKind, IsTerminal, Write};
 use std::process::ExitCode;
 use texts::{HELP, VERSION};
-use watched::{Tried, Watched};
 
 // The file of the two masters, in the folder where the program runs.
 const KEY_FILE: &str = "keys.hex";

@@ -1,0 +1,340 @@
+-- A store that is begun and whose updates are looked at, and what a run makes of the image.
+use Rattle.std.proofs.Common.{◌≡◌, ◌⊎◌, inl, inr, ℕ, ◌≤◌, List, [], ◌∷◌, ◌++◌, refl, sym, ◌∙◌, ap}
+use Rattle.std.proofs.Common.{subst, arith}
+use Rattle.std.proofs.Common.{Option, Some, None, Result, Ok, Err, IfOk, IfErr, IsErrOf}
+use Rattle.std.specs.Io.KnownBytes.{Appends}
+use Rattle.ov_base.specs.declared.mode.Mode.{Mode}
+use Rattle.ov_disk.specs.Disk.{Image, Told}
+use Rattle.ov_disk.specs.Moments.{IsUntouched, LeavesOnly}
+use Rattle.ov_disk.proofs.Runs.{then_on}
+use Rattle.ov_disk.specs.declared.area.Area.{Area}
+use Rattle.ov_disk.specs.declared.area.Area.TheVariants.{Book}
+use Rattle.ov_journal.specs.Standing.{IsUnborn}
+use Rattle.ov_journal.specs.declared.fault.CheckFault.{CheckFault}
+use Rattle.ov_journal.specs.declared.fault.CheckFault.TheVariants.{Disk as NoDisk}
+use Rattle.ov_journal.specs.declared.fault.CheckFault.TheVariants.{Memory as NoMemory}
+use Rattle.ov_record.specs.Updates.{SealedUpdate}
+use Rattle.ov_images.specs.Images.{IsImageOf, Keys, Opens, StandsIn, keys_of}
+use Rattle.ov_history.specs.Briefs.{brief, outer}
+use Rattle.ov_history.specs.History.{History, Update, empty, start_of, with_update}
+use Rattle.ov_history.specs.KeptLaws.{AllAreOwners}
+use Rattle.ov_history.specs.Layers.{layers_of}
+use Rattle.ov_history.specs.Masters.{Masters}
+use Rattle.ov_history.specs.Plain.{PlainHistory, PlainUpdate, empty_plain, measured}
+use Rattle.ov_history.specs.Sealed.{IsSealed, SealedHistory, outer_all, outer_of}
+use Rattle.ov_history.specs.Sealing.{sealed, sealed_from}
+use Rattle.ov_history.proofs.Pushing.{with_updates, with_updates-all}
+use Rattle.ov_history.proofs.Sealing.{measured-sealed, owners_histories}
+use Rattle.ov_store.specs.Beginning.{FindsHistory, IsBeginFault, IsDiskCall, IsNew, LeavesHistory}
+use Rattle.ov_store.specs.Beginning.{WritesNoBorn, disk_left}
+use Rattle.ov_store.specs.Opened.{Opened, Serves, StaysTold}
+use Rattle.ov_store.specs.Owners.{HasFalseUpdate, IsOwners, masters, with_first}
+use Rattle.ov_store.specs.declared.begin.BeginRefused.{BeginRefused}
+use Rattle.ov_store.specs.declared.fault.BeginFault.{BeginFault}
+use Rattle.ov_store.specs.declared.fault.BeginFault.TheVariants.{Disk, NotAStore, Damaged}
+use Rattle.ov_store.specs.declared.fault.BeginFault.TheVariants.{BaseDiffers, SurfaceDiffers}
+use Rattle.ov_store.specs.declared.fault.BeginFault.TheVariants.{ModeDiffers, Memory}
+use Rattle.ov_report.specs.Ends.{EndsIn, EndsOr}
+use Rattle.ov_report.specs.Faults.{HasValues, disk_line, fault_line, fault_status, memory_line}
+use Rattle.ov_report.proofs.Opening.{faulted_so}
+use Rattle.ov_machine.proofs.Updating.{now_so}
+use Rattle.ov_answering.specs.Ending.{JudgesImage}
+use Rattle.ov_answering.specs.Judging.{FindsPlain, HasFalseRecord, IsCheckFault, IsChecked, IsRefusal, Refuses, fault_for}
+use Rattle.ov_answering.specs.Printing.{IsRefused, read_line}
+use Rattle.ov_answering.proofs.Beginning.{ends_in_fault}
+
+-- ---- updates that are as their owner seals them
+
+-- behind a front of updates that are all so, the next one is so too
+next_is_owners : (k : Masters) (h : History) (front : List SealedUpdate) (next : SealedUpdate)
+    (rest : List SealedUpdate)
+    → AllAreOwners k h (front ++ next ∷ rest)
+    → IsOwners k (layers_of (with_updates h (outer_all front))) next
+next_is_owners k h [] next rest all = all.0
+next_is_owners k h (u ∷ front) next rest all =
+    next_is_owners k (with_update h (outer (brief u))) front next rest all.1
+
+never_false : (k : Masters) (g : SealedHistory) (place : ℕ)
+    → AllAreOwners k (start_of (outer_of g)) g.updates → HasFalseUpdate k g place → ⊥
+never_false k g place all f =
+    let next = next_is_owners k (start_of (outer_of g)) f.front f.next f.rest
+    (subst (AllAreOwners k (start_of (outer_of g))) f.split all) in
+    f.wrong
+    (subst (λ (h : History). IsOwners k (layers_of h) f.next)
+    (with_updates-all (outer_of (with_first g f.front))) next)
+
+seals_all : (k : Masters) (h : History) (updates : List PlainUpdate)
+    → AllAreOwners k h (sealed_from k h updates)
+seals_all k h [] = tt
+seals_all k h (u ∷ updates) = (
+  (u, refl),
+  subst
+      (λ (v : Update). AllAreOwners k (with_update h v)
+      (sealed_from k (with_update h (measured u)) updates))
+      (sym (measured-sealed k (layers_of h) u)) (seals_all k (with_update h (measured u)) updates),
+)
+
+-- no update of a history that its owner sealed is another's
+sealed_never_false : (k : Masters) (p : PlainHistory) (place : ℕ)
+    → HasFalseUpdate k (sealed k p) place → ⊥
+sealed_never_false k p place =
+    never_false k (sealed k p) place (seals_all k (empty p.mode p.first) p.updates)
+
+-- an image opens that stands for a history whose updates are all so
+opens_so : (k : Masters) (mode : Mode) (i : Image) (g : SealedHistory) → g.mode ≡ mode
+    → IsImageOf (keys_of k) g i → IsSealed g
+    → AllAreOwners k (start_of (outer_of g)) g.updates → Opens k mode i
+opens_so k mode i g is image fits all =
+    let (p, legal, same) = owners_histories k g fits all in (
+      p,
+      legal,
+      ap (λ (x : SealedHistory). x.mode) same ∙ is,
+      subst (λ (x : SealedHistory). IsImageOf (keys_of k) x i) (sym same) image,
+    )
+
+opens_unborn : (k : Masters) (mode : Mode) (i : Image) → IsUnborn i.book → Opens k mode i
+opens_unborn k mode i unborn = (empty_plain mode 0, tt, refl, inl (unborn, refl))
+
+no_updates : (front : List SealedUpdate) (next : SealedUpdate) (rest : List SealedUpdate)
+    → [] ≡ front ++ next ∷ rest → ⊥
+no_updates [] next rest e = absurd (cc e)
+no_updates (u ∷ front) next rest e = absurd (cc e)
+
+-- ---- what was found of them
+
+pub all_found : (P : Option ℕ → Type 0) (r : Result (Option ℕ) CheckFault) → fault_for r ≡ None
+    → IfOk r P → P None
+all_found P (Ok None) e found = found
+all_found P (Ok (Some place)) e found = absurd (cc e)
+all_found P (Err NoDisk) e found = absurd (cc e)
+all_found P (Err NoMemory) e found = absurd (cc e)
+
+pub false_found : (P : Option ℕ → Type 0) (Q : BeginFault → Type 0)
+    (r : Result (Option ℕ) CheckFault) (fault : BeginFault) → fault_for r ≡ Some fault
+    → IfOk r P → Q Disk → Q Memory → ((place : ℕ) → P (Some place) → Q (Damaged Book place))
+    → Q fault
+false_found P Q (Ok None) fault e found disk memory damaged = absurd (cc e)
+false_found P Q (Ok (Some place)) fault e found disk memory damaged =
+    let same : Damaged Book place ≡ fault = cc e in
+    subst Q same (damaged place found)
+false_found P Q (Err NoDisk) fault e found disk memory damaged =
+    let same : Disk ≡ fault = cc e in
+    subst Q same disk
+false_found P Q (Err NoMemory) fault e found disk memory damaged =
+    let same : Memory ≡ fault = cc e in
+    subst Q same memory
+
+pub disk_found : (r : Result (Option ℕ) CheckFault) (fault : BeginFault) → fault_for r ≡ Some fault
+    → fault ≡ Disk → IsErrOf r NoDisk
+disk_found (Ok None) fault e is = absurd (cc e)
+disk_found (Ok (Some place)) fault e is =
+    let other : Damaged Book place ≡ fault = cc e in
+    let no : Damaged Book place ≡ Disk = other ∙ is in
+    absurd (cc no)
+disk_found (Err NoDisk) fault e is = refl
+disk_found (Err NoMemory) fault e is =
+    let other : Memory ≡ fault = cc e in
+    let no : Memory ≡ Disk = other ∙ is in
+    absurd (cc no)
+
+-- ---- a store that is begun
+
+module _ {D : Type 0} where
+  pub new_so : (ks : Keys) (mode : Mode) (s : Opened D) (r : Result (Opened D) (BeginRefused D))
+      → IfOk r (λ t. t ≡ record s { disk = t.disk }) → IsNew ks mode s → IfOk r (IsNew ks mode)
+  new_so ks mode s (Ok t) same fresh = (
+    ap (λ (x : Opened D). x.keys) same ∙ fresh.0,
+    ap (λ (x : Opened D). x.failed) same ∙ fresh.1,
+    ap (λ (x : Opened D). x.catalogue.mode) same ∙ fresh.2,
+  )
+  new_so ks mode s (Err refused) same fresh = tt
+
+  -- two calls on a disk, of which the second may have failed
+  pub call_so : (borrow faults : D → ℕ) (d0 d1 d2 : D) (A B : Type 0)
+      → IsDiskCall borrow faults d0 d1 A → IsDiskCall borrow faults d1 d2 B
+      → IsDiskCall borrow faults d0 d2 B
+  call_so borrow faults d0 d1 d2 A B first next = (
+    next.0 ∙ first.0,
+    omega (arith, first.1, next.1),
+    λ failed. omega (arith, first.1, next.2 failed),
+  )
+
+module _ {D : Type 0} (reads : D → Option Image) (may_leave : D → Image → Type 0)
+    (moment : D → ℕ) (left_since : D → ℕ → Image → Type 0) where
+  -- a look at the disk that was begun on writes nothing
+  module _ (first mid last : D)
+      (counts_now : (t : ℕ) (c : Image) → t ≤ moment mid → may_leave mid c → left_since mid t c)
+      (quiet : IsUntouched moment left_since may_leave reads mid last) where
+    still : (P : Image → Type 0) → LeavesOnly moment left_since first mid P
+        → LeavesOnly moment left_since first last P
+    still P so_far =
+        then_on moment left_since may_leave first mid last P (may_leave mid) so_far quiet.any_moment
+        (now_so reads may_leave moment left_since first mid P counts_now so_far)
+
+    pub leaves_still : (ks other : Keys) (mode : Mode) → ks ≡ other
+        → LeavesHistory reads may_leave moment left_since ks mode first mid
+        → LeavesHistory reads may_leave moment left_since other mode first last
+    leaves_still ks other mode same leaves =
+        subst (λ (x : Keys). LeavesHistory reads may_leave moment left_since x mode first last) same
+        (λ i read only g is image. still (IsImageOf ks g) (leaves i read only g is image))
+
+    pub writes_still : WritesNoBorn reads may_leave moment left_since first mid
+        → WritesNoBorn reads may_leave moment left_since first last
+    writes_still writes = λ i read born. still (may_leave first) (writes i read born)
+
+  -- what is found of the image of a store that was begun, by what is found of its updates
+  module _ (k : Masters) (mode : Mode) (first : D) (s : Opened D)
+      (found : Told (reads first) (λ i. FindsHistory reads may_leave (keys_of k) mode i s)
+      × StaysTold (reads first) (reads s.disk)) where
+    abbrev Owners : Result (Opened D) (BeginRefused D) → Type 0
+    Owners r =
+        (g : SealedHistory) → Serves reads may_leave g s
+        → Told (reads s.disk) (λ _. IsChecked reads may_leave k g r)
+
+    seen : (r : Result (Opened D) (BeginRefused D)) → Owners r → (i : Image) → reads first ≡ Some i
+        → (g : SealedHistory) → g.mode ≡ mode
+        → IsImageOf (keys_of k) g i → IsChecked reads may_leave k g r
+    seen r owners i read g is image =
+        let told = found.1 i read in
+        owners g ((found.0 i read).each g is image) told.0 told.1
+
+    opens_found : (t : Opened D) → Owners (Ok t) → (i : Image) → reads first ≡ Some i
+        → FindsPlain reads may_leave k mode i t
+    opens_found t owners i read =
+        let (g, is, image) = (found.0 i read).some in record {
+          some = opens_so k mode i g is image ((found.0 i read).each g is image).catalogue.0
+              (seen (Ok t) owners i read g is image).0;
+          each = λ p same stands. (seen (Ok t) owners i read (sealed k p) same stands).1;
+        }
+
+    plain_found : (r : Result (Opened D) (BeginRefused D)) → Owners r
+        → reads (disk_left r) ≡ reads s.disk
+        → IfOk r (λ t. Told (reads first) (λ i. FindsPlain reads may_leave k mode i t)
+        × StaysTold (reads first) (reads t.disk))
+    plain_found (Ok t) owners same = (
+      λ i read. opens_found t owners i read,
+      λ i read. let told = found.1 i read in (told.0, same ∙ told.1),
+    )
+    plain_found (Err refused) owners same = tt
+
+    false_record : (i : Image) (g : SealedHistory) (place : ℕ) → g.mode ≡ mode
+        → IsImageOf (keys_of k) g i → HasFalseUpdate k g place
+        → HasFalseRecord k mode i place
+    false_record i g place is (inl (unborn, blank_is)) f =
+        let empty_is = ap (λ (x : SealedHistory). x.updates) blank_is in
+        absurd (no_updates f.front f.next f.rest (sym empty_is ∙ f.split))
+    false_record i g place is (inr keeps) f =
+        record { history = g; mode_is = is; keeps = keeps; first_false = f }
+
+    by_fault : (i : Image) (fault : BeginFault) → StandsIn (keys_of k) mode i
+        → ((g : SealedHistory) → g.mode ≡ mode → IsImageOf (keys_of k) g i → IsCheckFault k g fault)
+        → Refuses k mode i fault
+    by_fault i Disk (g, is, image) of_each = record { why = inl tt; opens = λ opens. inl refl }
+    by_fault i Memory (g, is, image) of_each = record { why = inl tt; opens = λ opens. inr refl }
+    by_fault i NotAStore (g, is, image) of_each = absurd (of_each g is image)
+    by_fault i (BaseDiffers stored given) (g, is, image) of_each = absurd (of_each g is image)
+    by_fault i (SurfaceDiffers stored given) (g, is, image) of_each = absurd (of_each g is image)
+    by_fault i (ModeDiffers stored given) (g, is, image) of_each = absurd (of_each g is image)
+    by_fault i (Damaged area place) (g, is, image) of_each =
+        let wrong = of_each g is image in
+        let at_gate = ap (λ (a : Area). Damaged a place) wrong.0 in record {
+          why = inr (place, at_gate, false_record i g place is image wrong.1);
+          opens = λ o. absurd (sealed_never_false k o.0 place (of_each (sealed k o.0) o.2 o.3).1);
+        }
+
+    false_refused : (r : Result (Opened D) (BeginRefused D)) → Owners r
+        → IfErr r (λ refused. Told (reads first) (λ i. Refuses k mode i refused.fault))
+    false_refused (Ok t) owners = tt
+    false_refused (Err refused) owners = λ i read.
+        by_fault i refused.fault (found.0 i read).some (seen (Err refused) owners i read)
+
+  -- so it is under the keys with which it was begun
+  pub looked : (k : Masters) (ks : Keys) (mode : Mode) (first : D) (s : Opened D)
+      → ks ≡ keys_of k → s.keys ≡ ks
+      → Told (reads first) (λ i. FindsHistory reads may_leave ks mode i s)
+      × StaysTold (reads first) (reads s.disk)
+      → (r : Result (Opened D) (BeginRefused D))
+      → ((g : SealedHistory) → Serves reads may_leave g s → Told (reads s.disk)
+      (λ _. IsChecked reads may_leave (masters k.base s.keys.surface) g r))
+      → reads (disk_left r) ≡ reads s.disk
+      → IfOk r (λ t. Told (reads first) (λ i. FindsPlain reads may_leave k mode i t)
+      × StaysTold (reads first) (reads t.disk))
+      × IfErr r (λ refused. Told (reads first) (λ i. Refuses k mode i refused.fault))
+  looked k ks mode first s same fresh found r owners quiet =
+      let under = subst
+      (λ (x : Keys). Told (reads first) (λ i. FindsHistory reads may_leave x mode i s)
+      × StaysTold (reads first) (reads s.disk)) same found in
+      let own = subst
+      (λ (x : Keys). (g : SealedHistory) → Serves reads may_leave g s → Told (reads s.disk)
+      (λ _. IsChecked reads may_leave (masters k.base x.surface) g r)) (fresh ∙ same) owners in
+      (plain_found k mode first s under r own quiet, false_refused k mode first s under r own)
+
+-- no store was begun
+pub begin_refused : (k : Masters) (ks : Keys) (mode : Mode) (i : Image) (fault : BeginFault)
+    → ks ≡ keys_of k → HasValues fault → IsBeginFault ks mode i fault → Refuses k mode i fault
+begin_refused k ks mode i fault same values why =
+    let at = subst (λ (x : Keys). IsBeginFault x mode i fault) same why in record {
+      why = inl at;
+      opens = λ o. faulted_so (keys_of k) mode (sealed k o.0) i o.2 fault values o.3 at;
+    }
+
+-- ---- the image
+
+refused_low : (status n : ℕ) → IsRefused status → status ≡ n → n ≤ 7 → ⊥
+refused_low status n (inl eight) e low = omega arith
+refused_low status n (inr nine) e low = omega arith
+
+in_low : (line : List ℕ) (code : ℕ) (old new : Option (List ℕ)) (status : ℕ) → code ≤ 7
+    → EndsIn line code old new status → IsRefused status → ⊥
+in_low line code old new status low (inl q) is = refused_low status code is q.0 low
+in_low line code old new status low (inr q) is = refused_low status 6 is q.0 (omega arith)
+
+module _ (k : Masters) (mode : Mode) (i : Image) (status : ℕ) (old new : Option (List ℕ))
+    (script_unread nothing_written : Type 0) where
+  -- it opened
+  pub judged_open : Opens k mode i → (IsRefused status → ⊥)
+      → JudgesImage k mode i status old new script_unread nothing_written
+  judged_open opens other = record {
+    refused = λ is. absurd (other is);
+    opened = λ _. other;
+    ends = λ none. absurd (none opens);
+    unread = λ none. absurd (none opens);
+    unwritten = λ none. absurd (none opens);
+  }
+
+  said : (fault : BeginFault) → IsRefusal k mode i fault
+      → EndsOr (fault_line fault) (fault_status fault) old new status → IsRefused status
+      → (fault : BeginFault) × IsRefusal k mode i fault × (status ≡ fault_status fault)
+      × Appends old new (fault_line fault)
+  said fault why (inl (inl q)) is = (fault, why, q.0, q.1)
+  said fault why (inl (inr q)) is = absurd (refused_low status 6 is q.0 (omega arith))
+  said fault why (inr e) is = absurd (in_low memory_line 7 old new status (omega arith) e is)
+
+  never : EndsIn disk_line 4 old new status ⊎ EndsIn memory_line 7 old new status
+      → IsRefused status → ⊥
+  never (inl e) is = in_low disk_line 4 old new status (omega arith) e is
+  never (inr e) is = in_low memory_line 7 old new status (omega arith) e is
+
+  -- it didn't
+  pub judged_refused : (fault : BeginFault) → Refuses k mode i fault
+      → EndsOr (fault_line fault) (fault_status fault) old new status
+      → script_unread → ((IsUnborn i.book → ⊥) → nothing_written)
+      → JudgesImage k mode i status old new script_unread nothing_written
+  judged_refused fault refuses ends unread written = record {
+    refused = said fault refuses.why ends;
+    opened = λ opens. never (ends_in_fault fault old new status (refuses.opens opens) ends);
+    ends = λ none. inl (fault, refuses.why, ends);
+    unread = λ none. unread;
+    unwritten = λ none. written (λ unborn. none (opens_unborn k mode i unborn));
+  }
+
+  -- it wasn't read
+  pub judged_unread : EndsIn read_line 5 old new status → script_unread → nothing_written
+      → JudgesImage k mode i status old new script_unread nothing_written
+  judged_unread ends unread written = record {
+    refused = λ is. absurd (in_low read_line 5 old new status (omega arith) ends is);
+    opened = λ _. in_low read_line 5 old new status (omega arith) ends;
+    ends = λ none. inr ends;
+    unread = λ none. unread;
+    unwritten = λ none. written;
+  }

@@ -1,0 +1,12 @@
+pub mod Answered
+pub mod Answering
+pub mod Beginning
+pub mod Concluding
+pub mod Judging
+pub mod KeyFiles
+pub mod Lists
+pub mod Loans
+pub mod Pacing
+pub mod Statuses
+pub mod Surviving
+pub mod Tracing

@@ -1,0 +1,111 @@
+-- What a stop leaves of a script that is answered, and what lasts of it.
+use Rattle.std.specs.Prelude.{◌≡◌, ◌↔◌, ◌⊎◌, ℕ, ◌<◌, true, List, [], ◌∷◌, ◌++◌, length}
+use Rattle.std.specs.Prelude.{slice_get, Option, Some}
+use Rattle.std.specs.Io.KnownBytes.{Appends}
+use Rattle.ov_base.specs.declared.mode.Mode.{Mode}
+use Rattle.ov_disk.specs.Disk.{Image, Only}
+use Rattle.ov_disk.specs.Moments.{LeavesOnly}
+use Rattle.ov_script.specs.declared.command.Command.{Command}
+use Rattle.ov_script.specs.Lines.{reply_line}
+use Rattle.ov_script.specs.Reading.{AtEnd, BeginsScript, IsScript}
+use Rattle.ov_tokens.specs.declared.label.Label.{Label}
+use Rattle.ov_history.specs.Catalogue.{Catalogue, Filed}
+use Rattle.ov_history.specs.Closure.{HoldsFile, Holds as HoldsLabel}
+use Rattle.ov_history.specs.History.{matrix_of}
+use Rattle.ov_history.specs.Keys.{AreTrueTokens, DerivesKey, IsKeyOf}
+use Rattle.ov_history.specs.Lists.{is_listed}
+use Rattle.ov_history.specs.Masters.{Masters}
+use Rattle.ov_history.specs.Plain.{PlainHistory, history_of}
+use Rattle.ov_history.specs.Refusals.{IsLegal}
+use Rattle.ov_history.specs.Sealed.{catalogue_of}
+use Rattle.ov_history.specs.Sealing.{sealed}
+use Rattle.ov_model.specs.Lines.{lines}
+use Rattle.ov_model.specs.Step.{after_all, reply_to}
+use Rattle.ov_machine.specs.Disks.{KeepsPlain, StandsForPlain}
+
+-- ---- images
+
+-- it stands for the history after some first commands of the script
+abbrev pub KeepsFirst : Masters → PlainHistory → List ℕ → Image → Type 0
+KeepsFirst k p text c =
+    (commands : List Command) × BeginsScript text commands
+    × StandsForPlain k (after_all p commands) c
+
+-- it stands for the history after just these commands, or after these and the next one
+abbrev pub KeepsNext : Masters → PlainHistory → List ℕ → List Command → Image → Type 0
+KeepsNext k p text commands c =
+    StandsForPlain k (after_all p commands) c
+    ⊎ ((next : Command) × BeginsScript text (commands ++ next ∷ [])
+    × StandsForPlain k (after_all p (commands ++ next ∷ [])) c)
+
+-- ---- lines
+
+-- The reply lines of these commands were put whole, and that of no further one.
+abbrev pub HasAnswered : PlainHistory → List ℕ → List Command → Option (List ℕ)
+    → Option (List ℕ) → Type 0
+HasAnswered p text commands old new =
+    (rest : List ℕ) × Appends old new (lines p commands ++ rest)
+    × ((next : Command) (tail : List ℕ) → BeginsScript text (commands ++ next ∷ [])
+    → rest ≡ reply_line (reply_to (after_all p commands) next) ++ tail → ⊥)
+
+-- ---- tokens
+
+-- what is published after this history, as it is sealed under the two masters
+abbrev pub published : Masters → PlainHistory → Catalogue
+published k p = catalogue_of k.surface (sealed k p)
+
+-- The tokens that are published after this history lead to the keys of their labels under the two
+-- masters. Over them a user derives exactly the keys of the labels in the user's closure. And this
+-- closure has all the labels that protect a file exactly where the matrix lists the user.
+pub record PublishesMatrix (k : Masters) (p : PlainHistory) : Type 0 where
+  pub tokens : AreTrueTokens k (published k p)
+  pub derived : (user : ℕ) (label : Label) (key : List ℕ)
+      → DerivesKey k (published k p) user label key
+      ↔ IsKeyOf k (HoldsLabel (published k p) user) label key
+  pub matrix : (user file : ℕ) (f : Filed) → user < length (matrix_of (history_of p)).users
+      → slice_get (published k p).files file ≡ Some f
+      → HoldsFile (published k p) user f
+      ↔ (is_listed (matrix_of (history_of p)) user file ≡ true)
+
+-- ---- disks
+
+module _ {D : Type 0} (reads : D → Option Image) (may_leave : D → Image → Type 0) where
+  -- The disk opens for the masters and the mode: it tells its bytes, nothing is pending, and the
+  -- image stands for this legal history of the mode, as it is sealed under the masters.
+  pub record OpensAs (k : Masters) (mode : Mode) (p : PlainHistory) (disk : D) : Type 0 where
+    pub image : Image
+    pub told : reads disk ≡ Some image
+    pub settled : Only image (may_leave disk)
+    pub legal : IsLegal (history_of p)
+    pub mode_is : p.mode ≡ mode
+    pub stands : StandsForPlain k p image
+
+  -- What lasts of a whole script that was answered from a disk which stood for the history: the
+  -- disk as it reads, and each image that a stop may leave of it, keeps the history after all its
+  -- commands, so a store was begun there; and what is published after it is the matrix.
+  pub record Lasts (k : Masters) (p : PlainHistory) (text : List ℕ) (disk : D) : Type 0 where
+    pub commands : List Command
+    pub whole : IsScript text commands AtEnd
+    pub image : Image
+    pub told : reads disk ≡ Some image
+    pub reads_it : KeepsPlain k (after_all p commands) image
+    pub leaves_it : (c : Image) → may_leave disk c → KeepsPlain k (after_all p commands) c
+    pub tokens : PublishesMatrix k (after_all p commands)
+
+  module _ (moment : D → ℕ) (left_since : D → ℕ → Image → Type 0) where
+    -- What a stop leaves of a script that is answered from a disk which stood for the history. At
+    -- any moment since the start each image stands for the history after some first commands; and
+    -- at the exit each has all updates whose reply line was put whole, and at most one more.
+    pub record Survives (k : Masters) (p : PlainHistory) (text : List ℕ) (first last : D)
+        (old new : Option (List ℕ)) : Type 0 where
+      pub any_moment : LeavesOnly moment left_since first last (KeepsFirst k p text)
+      pub at_exit : (commands : List Command) × BeginsScript text commands
+          × HasAnswered p text commands old new
+          × ((c : Image) → may_leave last c → KeepsNext k p text commands c)
+
+    -- What the disk keeps of a script that ends with this status, from a disk which stood for the
+    -- history: whatever the status, what a stop leaves; and with 0 what lasts of all of it.
+    pub record Endures (k : Masters) (p : PlainHistory) (text : List ℕ) (status : ℕ)
+        (first last : D) (old new : Option (List ℕ)) : Type 0 where
+      pub survives : Survives k p text first last old new
+      pub lasts : status ≡ 0 → Lasts k p text last

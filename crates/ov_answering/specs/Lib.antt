@@ -1,0 +1,10 @@
+pub mod Answered
+pub mod Answering
+pub mod Ending
+pub mod Faults
+pub mod Judging
+pub mod Lasting
+pub mod Pacing
+pub mod Printing
+pub mod Status
+pub mod Tracing

@@ -1,0 +1,6 @@
+pub mod Asking
+pub mod Counting
+pub mod LendingLoads
+pub mod LoadEnds
+pub mod LoadTracing
+pub mod WorkloadSteps

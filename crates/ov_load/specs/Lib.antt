@@ -1,0 +1,5 @@
+pub mod LoadEnding
+pub mod LoadWords
+pub mod Loading
+pub mod Summary
+pub mod Tallying

@@ -1,0 +1,336 @@
+-- What a change by the owner is at a history for which the machine stands: the machine's step.
+use Rattle.std.proofs.Common.{◌≡◌, ◌∙◌, inl, inr, ℕ, ◌+◌, ◌≤◌, [], ◌∷◌, length, length-append, false, refl, sym, ap, subst, arith, true≢false, Option, None, Result, Ok, Err}
+use Rattle.std.specs.Prelude.{◌⊎◌}
+use Rattle.ov_base.specs.declared.refusal.Refusal.{Refusal}
+use Rattle.ov_disk.specs.Disk.{Image}
+use Rattle.ov_disk.proofs.Runs.{weaker}
+use Rattle.ov_images.specs.Images.{Keeps, keys_of}
+use Rattle.ov_record.specs.Updates.{SealedUpdate}
+use Rattle.ov_script.specs.declared.command.Command.{Command}
+use Rattle.ov_script.specs.declared.reply.Reply.{Reply}
+use Rattle.ov_script.specs.declared.reply.Reply.TheVariants.{Accepted, Refused}
+use Rattle.ov_history.specs.History.{epoch_of}
+use Rattle.ov_history.specs.Laws.{ShowsHistory}
+use Rattle.ov_history.specs.Layers.{layers_of}
+use Rattle.ov_history.specs.Masters.{Masters}
+use Rattle.ov_history.specs.Plain.{PlainHistory, PlainUpdate, history_of, measured, measured_all, with_plain}
+use Rattle.ov_history.specs.Refusals.{IsLegal, refusal_of}
+use Rattle.ov_history.specs.Sealed.{SealedHistory, catalogue_of, stored_of}
+use Rattle.ov_history.specs.Sealing.{sealed, sealed_update}
+use Rattle.ov_history.proofs.Keeping.{kept_shows, kept_stands_for}
+use Rattle.ov_history.proofs.PlainLaws.{measured_all-append}
+use Rattle.ov_history.proofs.Sealing.{sealing_goes_on}
+use Rattle.ov_model.specs.Step.{after, reply_to, step, update_step}
+use Rattle.ov_model.proofs.Legality.{legal-after}
+use Rattle.ov_tokens.specs.Keys.{check_value_of}
+use Rattle.ov_wire.specs.declared.answer.Answer.{Answer}
+use Rattle.ov_wire.specs.Requests.{request_bytes}
+use Rattle.ov_wire.specs.RequestReading.{request_of}
+use Rattle.ov_protocol.specs.Answers.{Answers}
+use Rattle.ov_protocol.specs.Replies.{updates_asked}
+use Rattle.ov_protocol.specs.Serving.{IsService, Service, Serving, followed, later, served as shown}
+use Rattle.ov_protocol.specs.Updating.{spelled_by}
+use Rattle.ov_protocol.proofs.GoingOn.{servers_go_on, services_are_served}
+use Rattle.ov_protocol.proofs.Reading.{request_back}
+use Rattle.ov_store.specs.Opened.{Opened, Serves}
+use Rattle.ov_server.specs.Answering.{KeepsWith, serving_of}
+use Rattle.ov_owner.specs.Errands.{Errand}
+use Rattle.ov_owner.specs.Steps.{IsErrandFor}
+use Rattle.ov_owner.specs.Talks.{IsAskFault, update_request}
+use Rattle.ov_owner.specs.declared.fault.OwnerFault.{OwnerFault}
+use Rattle.ov_owner.specs.declared.fault.OwnerFault.TheVariants as faults
+use Rattle.ov_owner.proofs.Doing.{Does, does}
+use Rattle.ov_owner.proofs.Stepping.{read_back}
+use Rattle.ov_owner.proofs.Telling.{under}
+use Rattle.ov_machine.specs.Disks.{HasMade, Holds, KeepsPlain, KeepsStep}
+use Rattle.ov_machine.specs.Machine.{Kept, KeptOn, LeavesStep, StandsFor, StepsAt, opened_of}
+use Rattle.ov_machine.specs.Replying.{change_reply}
+use Rattle.ov_machine.specs.declared.fault.StepFault.{StepFault}
+use Rattle.ov_machine.specs.declared.fault.StepFault.TheVariants.{Disk, Memory, Tag, Trace}
+use Rattle.ov_machine.proofs.Changed.{Changes, IsFailed, IsMade, IsSentTo, cut, refused, sent}
+use Rattle.ov_machine.proofs.Errands.{IsHonest}
+use Rattle.ov_machine.proofs.Making.{ComesTo}
+use Rattle.ov_machine.proofs.Updating.{now_so, stays, stays_left}
+
+-- what is kept shows the history
+pub shows : (old : Kept) (p : PlainHistory) → StandsFor old p → ShowsHistory (history_of p) old.catalogue
+shows old p stands = kept_shows old.masters p old.catalogue stands.0
+
+-- the machine with these masters over an open store
+abbrev pub machine_of : {D : Type 0} → Masters → Opened D → KeptOn D
+machine_of k s = record {
+  kept = record { masters = k; catalogue = s.catalogue; stored = s.stored };
+  disk = s.disk;
+  failed = s.failed;
+}
+
+-- a machine is known by its masters and its store
+pub same_machine : {D : Type 0} (old new : KeptOn D) → new.kept.masters ≡ old.kept.masters
+    → opened_of new ≡ opened_of old → new ≡ old
+same_machine old new masters same = λ i. machine_of (masters i) (same i)
+
+-- the history as it is served
+abbrev pub service_at : Masters → PlainHistory → Service
+service_at k p = under k.surface (check_value_of k.base) (sealed k p)
+
+-- a machine that stands for the history serves it
+pub serves_at : {D : Type 0} (m : KeptOn D) (p : PlainHistory) → StandsFor m.kept p
+    → IsService (serving_of (opened_of m)) (service_at m.kept.masters p)
+serves_at m p stands = record {
+  stands = kept_stands_for m.kept.masters p m.kept.catalogue stands.0;
+  keeps = stands.1;
+  surface = refl;
+  base_check = refl;
+}
+
+-- and who serves its sealed form stands for it
+pub stands_at : {D : Type 0} (m : KeptOn D) (p : PlainHistory) (v : Service)
+    → IsLegal (history_of p) → v.surface ≡ m.kept.masters.surface → v.history ≡ sealed m.kept.masters p
+    → IsService (serving_of (opened_of m)) v → StandsFor m.kept p
+stands_at m p v legal surface is serves = (
+  (legal, serves.stands.1 ∙ (λ i. catalogue_of (surface i) (is i))),
+  serves.keeps ∙ (λ i. stored_of (surface i) (is i)),
+)
+
+module _ {D : Type 0} (reads : D → Option Image) (may_leave : D → Image → Type 0)
+    (moment : D → ℕ) (left_since : D → ℕ → Image → Type 0) (borrow faults_of : D → ℕ)
+    (only_now : (d : D) (c : Image) → left_since d (moment d) c → may_leave d c)
+    (counts_now : (d : D) (t : ℕ) (c : Image) → t ≤ moment d → may_leave d c → left_since d t c)
+    (old new : KeptOn D) (p : PlainHistory) (stands : StandsFor old.kept p)
+    (masters : new.kept.masters ≡ old.kept.masters) (sound : old.failed ≡ false)
+    (command : Command) (e : Errand) (ours : IsErrandFor old.kept.masters.base command e)
+    (is_honest : IsHonest e) where
+  abbrev k : Masters
+  k = old.kept.masters
+
+  abbrev s : Opened D
+  s = opened_of old
+
+  abbrev t : Opened D
+  t = opened_of new
+
+  abbrev legal : IsLegal (history_of p)
+  legal = stands.0.0
+
+  d : Does k command e
+  d = does k command e ours
+
+  abbrev plain : PlainUpdate
+  plain = d.plain p
+
+  -- what the store answers is answered at the history
+  at_history : (a : Answer) → Answers (serving_of s) e.first a
+      → Answers (shown (service_at k p)) e.first a
+  at_history a is =
+      subst (λ (x : Serving). Answers x e.first a)
+      (services_are_served (serving_of s) (service_at k p) (serves_at old p stands)) is
+
+  -- ---- refusals
+
+  refused_so : (a : Answer) (why : Refusal) → Answers (serving_of s) e.first a
+      → e.sealed a ≡ Err (faults.Refused why)
+      → step p command ≡ (Refused why, p)
+  refused_so a why answered is =
+      d.as_update p
+      ∙ ap (update_step p plain)
+      (d.makes.refused (check_value_of k.base) p a why legal (at_history a answered) is).1
+
+  -- ---- an update
+
+  -- the store stands for the history, on a disk that holds it
+  stands_there : Holds reads may_leave k p old.disk → Serves reads may_leave (sealed k p) s
+  stands_there holds = record {
+    catalogue = kept_stands_for k p old.kept.catalogue stands.0;
+    bytes = stands.1;
+    disk = λ _ i read c left. holds.each c left;
+    after_fault = λ failed. absurd (true≢false (sym failed ∙ sound));
+  }
+
+  module _ (result : Result ℕ OwnerFault) (x : IsSentTo reads may_leave moment left_since borrow faults_of k.surface e is_honest s t result) where
+    told_so : (x.epoch ≡ (catalogue_of k.surface (sealed k p)).epoch)
+        × (x.update ≡ sealed_update k (layers_of (history_of p)) plain)
+        × (refusal_of (history_of p) (measured plain) ≡ None)
+    told_so =
+        d.makes.told (check_value_of k.base) p x.told x.epoch x.update legal
+        (at_history x.told x.answers) x.sealed
+
+    step_is : step p command ≡ (Accepted (epoch_of (history_of p) + 1), with_plain p plain)
+    step_is = d.as_update p ∙ ap (update_step p plain) told_so.2
+
+    sealed_is : followed (sealed k p) (x.update ∷ []) ≡ sealed k (after p command)
+    sealed_is =
+        ap (λ (u : SealedUpdate). followed (sealed k p) (u ∷ [])) told_so.1
+        ∙ sym (sealing_goes_on k p plain)
+        ∙ ap (λ (r : Reply × PlainHistory). sealed k r.1) (sym step_is)
+
+    -- what the request asks for is the update
+    asks_it : updates_asked (request_of (request_bytes (update_request k.surface x.epoch x.update))) ≡ x.update ∷ []
+    asks_it =
+        ap updates_asked (request_back (update_request k.surface x.epoch x.update) x.form.1)
+        ∙ ap spelled_by (read_back x.update x.form.0)
+
+    either : (c : Image)
+        → KeepsWith (keys_of k) (sealed k p) (updates_asked (request_of (request_bytes (update_request k.surface x.epoch x.update)))) c
+        → KeepsStep k p command c
+    either c (inl keeps) = inl keeps
+    either c (inr keeps) =
+        inr (subst (λ (g : SealedHistory). Keeps (keys_of k) g c)
+        (ap (followed (sealed k p)) asks_it ∙ sealed_is) keeps)
+
+    leaves_so : Holds reads may_leave k p old.disk
+        → LeavesStep reads may_leave moment left_since k p command old.disk new.disk
+    leaves_so holds =
+        let moments = weaker moment left_since may_leave old.disk new.disk
+        (KeepsWith (keys_of k) (sealed k p) (updates_asked (request_of (request_bytes (update_request k.surface x.epoch x.update)))))
+        (KeepsStep k p command)
+        (x.asks.any_moment (sealed k p) (stands_there holds) sound holds.told.0 holds.told.1)
+        either in record {
+          moments = moments;
+          now = now_so reads may_leave moment left_since old.disk new.disk (KeepsStep k p command)
+              (counts_now new.disk) moments;
+        }
+
+    -- what is served then is the history after the command
+    module _ (made : IsMade reads may_leave moment left_since borrow faults_of k.surface e is_honest s t x.epoch x.update x.reply result) where
+      after_it : (later (service_at k p) made.answered.frame.made).history ≡ sealed k (after p command)
+      after_it = ap (followed (sealed k p)) made.makes ∙ sealed_is
+
+      stands_so : StandsFor new.kept (after p command)
+      stands_so =
+          stands_at new (after p command) (later (service_at k p) made.answered.frame.made)
+          (legal-after p command legal).0
+          (ap (λ (x : Masters). x.surface) (sym masters))
+          (after_it ∙ ap (λ (x : Masters). sealed x (after p command)) (sym masters))
+          (servers_go_on (serving_of s) (serving_of t) (service_at k p) _ x.reply
+          made.answered.frame (serves_at old p stands))
+
+      holds_so : Holds reads may_leave k p old.disk
+          → Holds reads may_leave k (after p command) new.disk
+      holds_so holds =
+          let image = made.answered.told holds.told.0 holds.told.1 in
+          let more = made.answered.lasts (sealed k p) (stands_there holds) in
+          let still : t.failed ≡ false = made.answered.failed ∙ sound in record {
+            told = image;
+            each = λ c left.
+                subst (λ (g : SealedHistory). Keeps (keys_of k) g c) after_it
+                (subst (λ (x : Masters). Keeps (keys_of x) (followed (sealed k p) made.answered.frame.made) c)
+                masters (more.disk still image.0 image.1 c left));
+          }
+
+      reply_is : Accepted (x.epoch + 1) ≡ reply_to p command
+      reply_is =
+          ap (λ n. Accepted (n + 1)) (told_so.0 ∙ (shows (record { masters = k; catalogue = catalogue_of k.surface (sealed k p); stored = old.kept.stored }) p ((legal, refl), stands.1)).epoch)
+          ∙ ap (λ (r : Reply × PlainHistory). r.0) (sym step_is)
+
+      made_so : (result ≡ Ok (x.epoch + 1)) ⊎ IsAskFault result
+          → StepsAt reads may_leave moment left_since k p command old new (change_reply result)
+      made_so (inl is) =
+          subst (λ (r : Result ℕ OwnerFault). StepsAt reads may_leave moment left_since k p command old new (change_reply r)) (sym is)
+          (reply_is, record { stands = stands_so; leaves = leaves_so; holds = holds_so })
+      made_so (inr (inl is)) =
+          subst (λ (r : Result ℕ OwnerFault). StepsAt reads may_leave moment left_since k p command old new (change_reply r)) (sym is) leaves_so
+      made_so (inr (inr is)) =
+          subst (λ (r : Result ℕ OwnerFault). StepsAt reads may_leave moment left_since k p command old new (change_reply r)) (sym is) leaves_so
+
+    failed_so : (result ≡ Err faults.Device) ⊎ IsAskFault result
+        → StepsAt reads may_leave moment left_since k p command old new (change_reply result)
+    failed_so (inl is) =
+        subst (λ (r : Result ℕ OwnerFault). StepsAt reads may_leave moment left_since k p command old new (change_reply r)) (sym is) leaves_so
+    failed_so (inr (inl is)) =
+        subst (λ (r : Result ℕ OwnerFault). StepsAt reads may_leave moment left_since k p command old new (change_reply r)) (sym is) leaves_so
+    failed_so (inr (inr is)) =
+        subst (λ (r : Result ℕ OwnerFault). StepsAt reads may_leave moment left_since k p command old new (change_reply r)) (sym is) leaves_so
+
+  -- ---- any of them
+
+  -- nothing changed
+  stays_so : (r : Result Reply StepFault) → t ≡ s
+      → StepsAt reads may_leave moment left_since k p command old old r
+      → StepsAt reads may_leave moment left_since k p command old new r
+  stays_so r same is =
+      subst (λ m. StepsAt reads may_leave moment left_since k p command old m r)
+      (sym (same_machine old new masters same)) is
+
+  cut_so : (result : Result ℕ OwnerFault) → IsAskFault result
+      → StepsAt reads may_leave moment left_since k p command old old (change_reply result)
+  cut_so result (inl is) =
+      subst (λ (r : Result ℕ OwnerFault). StepsAt reads may_leave moment left_since k p command old old (change_reply r)) (sym is)
+      (stays_left reads may_leave moment left_since old (only_now old.disk) k p command)
+  cut_so result (inr is) =
+      subst (λ (r : Result ℕ OwnerFault). StepsAt reads may_leave moment left_since k p command old old (change_reply r)) (sym is)
+      (stays_left reads may_leave moment left_since old (only_now old.disk) k p command)
+
+  pub changes_step : (result : Result ℕ OwnerFault)
+      → Changes reads may_leave moment left_since borrow faults_of k.surface e is_honest s t result
+      → StepsAt reads may_leave moment left_since k p command old new (change_reply result)
+  changes_step result (refused a why same answered is so) =
+      let at_step = refused_so a why answered is in
+      stays_so (change_reply result) same
+      (subst (λ (r : Result ℕ OwnerFault). StepsAt reads may_leave moment left_since k p command old old (change_reply r)) (sym so)
+      (stays reads may_leave moment left_since old (only_now old.disk) k p command (Refused why) stands
+      (ap (λ (r : Reply × PlainHistory). r.0) (sym at_step)) (ap (λ (r : Reply × PlainHistory). r.1) at_step)))
+  changes_step result (cut same why) = stays_so (change_reply result) same (cut_so result why)
+  changes_step result (sent x) = by x.comes where
+    by : IsMade reads may_leave moment left_since borrow faults_of k.surface e is_honest s t x.epoch x.update x.reply result
+        ⊎ IsFailed reads may_leave moment left_since borrow faults_of k.surface e is_honest s t x.epoch x.update x.reply result
+        → StepsAt reads may_leave moment left_since k p command old new (change_reply result)
+    by (inl made) = made_so result x made made.ends
+    by (inr failed) = failed_so result x failed.ends
+
+  -- ---- where the whole transcript was put
+
+  -- where the command leaves the history the disk has it made
+  same_made : (r : Result Reply StepFault) → StepsAt reads may_leave moment left_since k p command old new r
+      → after p command ≡ p → HasMade reads may_leave k p command old.disk new.disk
+  same_made r steps same = λ holds c left. by r steps holds c left where
+    either_way : (c : Image) → KeepsStep k p command c → KeepsPlain k (after p command) c
+    either_way c (inl keeps) = subst (λ q. KeepsPlain k q c) (sym same) keeps
+    either_way c (inr keeps) = keeps
+
+    by : (x : Result Reply StepFault) → StepsAt reads may_leave moment left_since k p command old new x
+        → Holds reads may_leave k p old.disk → (c : Image) → may_leave new.disk c → KeepsPlain k (after p command) c
+    by (Ok reply) goes holds c left = (goes.1.holds holds).each c left
+    by (Err Disk) leaves holds c left = either_way c ((leaves holds).now c left)
+    by (Err Trace) leaves holds c left = either_way c ((leaves holds).now c left)
+    by (Err Memory) leaves holds c left = either_way c ((leaves holds).now c left)
+    by (Err (Tag bad)) never holds c left = absurd never
+
+  -- a store that shows what it showed doesn't serve the history with the update
+  still_unmade : (last : Service) (u : PlainUpdate) → IsService (serving_of t) last
+      → after p command ≡ with_plain p u → last.history ≡ sealed k (after p command)
+      → serving_of t ≡ serving_of s → ⊥
+  still_unmade last u serves is then same =
+      let there : StandsFor new.kept (after p command) =
+      stands_at new (after p command) last (legal-after p command legal).0 (sym serves.surface)
+      (then ∙ ap (λ (x : Masters). sealed x (after p command)) (sym masters)) serves in
+      let now = (shows new.kept (after p command) there).epoch in
+      let before = (shows old.kept p stands).epoch in
+      let still : new.kept.catalogue.epoch ≡ old.kept.catalogue.epoch =
+      ap (λ (x : Serving). x.catalogue.epoch) same in
+      let more : epoch_of (history_of (after p command)) ≡ epoch_of (history_of (with_plain p u)) =
+      ap (λ (q : PlainHistory). epoch_of (history_of q)) is in
+      let one = ap length (measured_all-append p.updates (u ∷ [])) in
+      let two = length-append (measured_all p.updates) (measured_all (u ∷ [])) in
+      omega (arith, now, before, still, more, one, two)
+
+  -- the whole transcript was put, and so the command is made
+  pub has_made : (result : Result ℕ OwnerFault)
+      → Changes reads may_leave moment left_since borrow faults_of k.surface e is_honest s t result
+      → (last : Service) → IsService (serving_of t) last → ComesTo k p command last
+      → HasMade reads may_leave k p command old.disk new.disk
+  has_made result changes last serves (inl same) =
+      same_made (change_reply result) (changes_step result changes) same
+  has_made result changes last serves (inr (u, is, then)) = by changes where
+    unmade : serving_of t ≡ serving_of s → ⊥
+    unmade same = still_unmade last u serves is then same
+
+    by : Changes reads may_leave moment left_since borrow faults_of k.surface e is_honest s t result
+        → HasMade reads may_leave k p command old.disk new.disk
+    by (refused a why same answered told so) = absurd (unmade (ap serving_of same))
+    by (cut same why) = absurd (unmade (ap serving_of same))
+    by (sent x) = by_reply x.comes where
+      by_reply : IsMade reads may_leave moment left_since borrow faults_of k.surface e is_honest s t x.epoch x.update x.reply result
+          ⊎ IsFailed reads may_leave moment left_since borrow faults_of k.surface e is_honest s t x.epoch x.update x.reply result
+          → HasMade reads may_leave k p command old.disk new.disk
+      by_reply (inl made) = λ holds c left. (holds_so result x made holds).each c left
+      by_reply (inr failed) = absurd (unmade failed.faulted.same)

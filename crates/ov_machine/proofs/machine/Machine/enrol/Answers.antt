@@ -1,0 +1,31 @@
+use Rattle.std.proofs.Common.{rules, refl}
+use Rattle.ov_script.specs.declared.command.Command.TheVariants.{Enrol}
+use Rattle.ov_owner.specs.Errands.{enrolling}
+use Rattle.ov_machine.proofs.Lent.{change_all, change_fault, change_keys}
+use Rattle.ov_machine.proofs.machine.Machine.enrol.Goals as goal
+
+pub change_reply-requires : goal.change_reply-requires
+change_reply-requires g c =
+    change_fault g.D.Disk.reads g.D.Disk.may_leave g.D.Disk.moment g.D.Disk.left_since g.D.Disk.borrow g.D.Disk.faults
+    g.met.D.Disk.only_now g.met.D.Disk.counts_now g.T.Sink.written g.T.Sink.faults
+    c.self.inside.owner (Enrol c.args.user.now) (enrolling c.args.user.now) refl c.new-peer.result
+    c.enrol-made.new.peer c.enrol-made.result c.enrol-made.ensures.runs c.self.inside.peer
+    c.enrol-made.new.peer.peer.now c.self.invariant (search rules)
+
+pub invariant_of-self : goal.invariant_of-self
+invariant_of-self g c =
+    change_keys g.D.Disk.reads g.D.Disk.may_leave g.D.Disk.moment g.D.Disk.left_since g.D.Disk.borrow g.D.Disk.faults
+    g.met.D.Disk.only_now g.met.D.Disk.counts_now g.T.Sink.written g.T.Sink.faults
+    c.self.inside.owner (Enrol c.args.user.now) (enrolling c.args.user.now) refl c.new-peer.result
+    c.enrol-made.new.peer c.enrol-made.result c.enrol-made.ensures.runs c.self.inside.peer
+    c.enrol-made.new.peer.peer.now c.self.invariant (search rules) refl
+
+pub returns : goal.returns
+returns g c =
+    change_all g.D.Disk.reads g.D.Disk.may_leave g.D.Disk.moment g.D.Disk.left_since g.D.Disk.borrow g.D.Disk.faults
+    g.met.D.Disk.only_now g.met.D.Disk.counts_now g.T.Sink.written g.T.Sink.faults
+    c.self.inside.owner (Enrol c.args.user.now) (enrolling c.args.user.now) refl c.new-peer.result
+    c.enrol-made.new.peer c.enrol-made.result c.enrol-made.ensures.runs c.self.inside.peer
+    c.enrol-made.new.peer.peer.now c.self.invariant (search rules)
+    c.args.self.now c.self.view_is c.requires.healthy c.args.trace.now _ c.change_reply.result refl
+    (search rules) (search rules) c.enrol-made.ensures.cause c.change_reply.ensures

@@ -1,0 +1,51 @@
+-- What a disk keeps of a history.
+use Rattle.std.specs.Prelude.{◌≡◌, ◌⊎◌, ℕ, ◌≤◌}
+use Rattle.std.specs.Prelude.{Option, Some}
+use Rattle.ov_base.specs.Causes.{Rose}
+use Rattle.ov_disk.specs.Disk.{Image, Told}
+use Rattle.ov_images.specs.Images.{IsImageOf, Keeps, keys_of}
+use Rattle.ov_script.specs.declared.command.Command.{Command}
+use Rattle.ov_history.specs.Masters.{Masters}
+use Rattle.ov_history.specs.Plain.{PlainHistory}
+use Rattle.ov_history.specs.Sealing.{sealed}
+use Rattle.ov_model.specs.Step.{after}
+
+-- ---- images
+
+-- the image keeps the history as it is sealed under the two masters
+abbrev pub KeepsPlain : Masters → PlainHistory → Image → Type 0
+KeepsPlain k p c = Keeps (keys_of k) (sealed k p) c
+
+-- it stands for the history as it is sealed under them
+abbrev pub StandsForPlain : Masters → PlainHistory → Image → Type 0
+StandsForPlain k p c = IsImageOf (keys_of k) (sealed k p) c
+
+-- the image keeps the history from before a command, or that after it
+abbrev pub KeepsStep : Masters → PlainHistory → Command → Image → Type 0
+KeepsStep k p command c = KeepsPlain k p c ⊎ KeepsPlain k (after p command) c
+
+-- ---- disks
+
+-- a disk doesn't tell its bytes
+abbrev pub TellsNothing : Option Image → Type 0
+TellsNothing reads = Told reads (λ _. ⊥)
+
+-- Calls on a disk keep its loan. The count of its faults doesn't fall, and it rose where they
+-- failed for a fault of the disk.
+pub record IsDiskCall {D : Type 0} (borrow faults : D → ℕ) (failed : Type 0) (old new : D)
+    : Type 0 where
+  pub same : borrow new ≡ borrow old
+  pub later : faults old ≤ faults new
+  pub disk : failed → Rose (faults old) (faults new)
+
+module _ {D : Type 0} (reads : D → Option Image) (may_leave : D → Image → Type 0) where
+  -- the disk tells its bytes, and each image that a crash may leave of it keeps the history
+  pub record Holds (k : Masters) (p : PlainHistory) (disk : D) : Type 0 where
+    pub told : (i : Image) × (reads disk ≡ Some i)
+    pub each : (c : Image) → may_leave disk c → KeepsPlain k p c
+
+  -- where the disk held the history, each image that a crash may leave of it now keeps the history
+  -- after the command
+  abbrev pub HasMade : Masters → PlainHistory → Command → D → D → Type 0
+  HasMade k p command old new =
+      Holds k p old → (c : Image) → may_leave new c → KeepsPlain k (after p command) c

@@ -1,0 +1,199 @@
+//! Calls of owners and readers over a traced peer. They are those of its parts, and say besides
+//! that the sink stays lent as it was: so what is put is put to the caller's own.
+ghost use Rattle.std.specs.Prelude.{◌≡◌, ◌+◌};
+ghost use Rattle.ov_wire.specs.Requests.{HasRequestForm};
+ghost use Rattle.ov_wire.specs.declared.request.Question.TheVariants.{Key as AsksKey};
+ghost use Rattle.ov_wire.specs.declared.request.Request.TheVariants.{Ask, Hello};
+ghost use Rattle.ov_wire.specs.declared.request.Request.TheVariants.{List as ListNames};
+ghost use Rattle.ov_client.specs.Causes.{HasClientCause};
+ghost use Rattle.ov_client.specs.Reads.{Reads};
+ghost use Rattle.ov_owner.specs.Calls.{Runs};
+ghost use Rattle.ov_owner.specs.Causes.{HasOwnerCause};
+ghost use Rattle.ov_owner.specs.Clients.{reader_in};
+ghost use Rattle.ov_owner.specs.Errands.{IsCreation, creating, enrolling, granting, revoking};
+ghost use Rattle.ov_owner.specs.Questions.{AsksOnce, names_in, welcome_in};
+ghost use Rattle.ov_machine.specs.Seats.{HasFoundCause, ReadsBy, traced_asked, traced_failed};
+
+use crate::replying::Found;
+use ov_base::{Name, Names, Octets};
+use ov_client::{Client, ClientFault};
+use ov_io::Sink;
+use ov_owner::{Owner, OwnerFault};
+use ov_peer::{Peer, Traced};
+use ov_wire::Welcome;
+use std::alloc::Global;
+
+/// Enrols a user.
+pub fn enrol<P: Peer + Drop, T: Sink + Drop>(
+    owner: &Owner,
+    alloc: Global,
+    peer: &mut Traced<P, T>,
+    user: &Name,
+) -> Result<u32, OwnerFault>
+    ensures runs { Runs (traced_asked P.asked T.written T.borrow)
+        (traced_failed P.asked P.failed T.written T.borrow)
+        owner.now.surface (enrolling user.now) peer.old peer.new result }
+    ensures lent { T.borrow peer.new.sink ≡ T.borrow peer.old.sink }
+    ensures same { P.borrow peer.new.peer ≡ P.borrow peer.old.peer }
+    ensures cause { HasOwnerCause (P.faults peer.old.peer + T.faults peer.old.sink)
+        (P.faults peer.new.peer + T.faults peer.new.sink) result }
+{
+    owner.enrol(alloc, peer, user)
+}
+
+/// Creates a file of these bytes for the users of the list.
+pub fn create<P: Peer + Drop, T: Sink + Drop>(
+    owner: &Owner,
+    alloc: Global,
+    peer: &mut Traced<P, T>,
+    file: &Name,
+    list: &Names,
+    bytes: &[u8],
+) -> Result<u32, OwnerFault>
+    requires { IsCreation list.now bytes.now }
+    ensures runs { Runs (traced_asked P.asked T.written T.borrow)
+        (traced_failed P.asked P.failed T.written T.borrow)
+        owner.now.surface (creating owner.now.base file.now list.now bytes.now)
+        peer.old peer.new result }
+    ensures lent { T.borrow peer.new.sink ≡ T.borrow peer.old.sink }
+    ensures same { P.borrow peer.new.peer ≡ P.borrow peer.old.peer }
+    ensures cause { HasOwnerCause (P.faults peer.old.peer + T.faults peer.old.sink)
+        (P.faults peer.new.peer + T.faults peer.new.sink) result }
+{
+    owner.create(alloc, peer, file, list, bytes)
+}
+
+/// Puts a user onto the list of a file.
+pub fn grant<P: Peer + Drop, T: Sink + Drop>(
+    owner: &Owner,
+    alloc: Global,
+    peer: &mut Traced<P, T>,
+    user: &Name,
+    file: &Name,
+) -> Result<u32, OwnerFault>
+    ensures runs { Runs (traced_asked P.asked T.written T.borrow)
+        (traced_failed P.asked P.failed T.written T.borrow)
+        owner.now.surface (granting owner.now.base user.now file.now) peer.old peer.new result }
+    ensures lent { T.borrow peer.new.sink ≡ T.borrow peer.old.sink }
+    ensures same { P.borrow peer.new.peer ≡ P.borrow peer.old.peer }
+    ensures cause { HasOwnerCause (P.faults peer.old.peer + T.faults peer.old.sink)
+        (P.faults peer.new.peer + T.faults peer.new.sink) result }
+{
+    owner.grant(alloc, peer, user, file)
+}
+
+/// Takes a user off the list of a file.
+pub fn revoke<P: Peer + Drop, T: Sink + Drop>(
+    owner: &Owner,
+    alloc: Global,
+    peer: &mut Traced<P, T>,
+    user: &Name,
+    file: &Name,
+) -> Result<u32, OwnerFault>
+    ensures runs { Runs (traced_asked P.asked T.written T.borrow)
+        (traced_failed P.asked P.failed T.written T.borrow)
+        owner.now.surface (revoking user.now file.now) peer.old peer.new result }
+    ensures lent { T.borrow peer.new.sink ≡ T.borrow peer.old.sink }
+    ensures same { P.borrow peer.new.peer ≡ P.borrow peer.old.peer }
+    ensures cause { HasOwnerCause (P.faults peer.old.peer + T.faults peer.old.sink)
+        (P.faults peer.new.peer + T.faults peer.new.sink) result }
+{
+    owner.revoke(alloc, peer, user, file)
+}
+
+/// Asks for the epoch.
+pub fn hello<P: Peer + Drop, T: Sink + Drop>(
+    owner: &Owner,
+    alloc: Global,
+    peer: &mut Traced<P, T>,
+) -> Result<Welcome, OwnerFault>
+    ensures asks { AsksOnce (traced_asked P.asked T.written T.borrow)
+        (traced_failed P.asked P.failed T.written T.borrow)
+        peer.old peer.new Hello welcome_in result }
+    ensures form { HasRequestForm Hello }
+    ensures lent { T.borrow peer.new.sink ≡ T.borrow peer.old.sink }
+    ensures same { P.borrow peer.new.peer ≡ P.borrow peer.old.peer }
+    ensures cause { HasOwnerCause (P.faults peer.old.peer + T.faults peer.old.sink)
+        (P.faults peer.new.peer + T.faults peer.new.sink) result }
+{
+    owner.hello(alloc, peer)
+}
+
+/// Asks for the names in a file's list.
+pub fn list<P: Peer + Drop, T: Sink + Drop>(
+    owner: &Owner,
+    alloc: Global,
+    peer: &mut Traced<P, T>,
+    file: &Name,
+) -> Result<Names, OwnerFault>
+    ensures asks { AsksOnce (traced_asked P.asked T.written T.borrow)
+        (traced_failed P.asked P.failed T.written T.borrow)
+        peer.old peer.new (ListNames file.now) names_in result }
+    ensures form { HasRequestForm (ListNames file.now) }
+    ensures lent { T.borrow peer.new.sink ≡ T.borrow peer.old.sink }
+    ensures same { P.borrow peer.new.peer ≡ P.borrow peer.old.peer }
+    ensures cause { HasOwnerCause (P.faults peer.old.peer + T.faults peer.old.sink)
+        (P.faults peer.new.peer + T.faults peer.new.sink) result }
+{
+    owner.list(alloc, peer, file)
+}
+
+/// Makes the reader of a user.
+fn client<P: Peer + Drop, T: Sink + Drop>(
+    owner: &Owner,
+    alloc: Global,
+    peer: &mut Traced<P, T>,
+    user: &Name,
+) -> Result<Client, OwnerFault>
+    ensures asks { AsksOnce (traced_asked P.asked T.written T.borrow)
+        (traced_failed P.asked P.failed T.written T.borrow)
+        peer.old peer.new (Ask (AsksKey user.now)) (reader_in owner.now user.now) result }
+    ensures form { HasRequestForm (Ask (AsksKey user.now)) }
+    ensures lent { T.borrow peer.new.sink ≡ T.borrow peer.old.sink }
+    ensures same { P.borrow peer.new.peer ≡ P.borrow peer.old.peer }
+    ensures cause { HasOwnerCause (P.faults peer.old.peer + T.faults peer.old.sink)
+        (P.faults peer.new.peer + T.faults peer.new.sink) result }
+{
+    owner.client(alloc, peer, user)
+}
+
+/// Reads a file with the keys of a reader.
+fn fetch<P: Peer + Drop, T: Sink + Drop>(
+    client: Client,
+    alloc: Global,
+    peer: &mut Traced<P, T>,
+    file: &Name,
+) -> Result<Octets, ClientFault>
+    ensures talk { Reads (traced_asked P.asked T.written T.borrow)
+        (traced_failed P.asked P.failed T.written T.borrow)
+        peer.old peer.new client file.now result }
+    ensures lent { T.borrow peer.new.sink ≡ T.borrow peer.old.sink }
+    ensures same { P.borrow peer.new.peer ≡ P.borrow peer.old.peer }
+    ensures cause { HasClientCause (P.faults peer.old.peer + T.faults peer.old.sink)
+        (P.faults peer.new.peer + T.faults peer.new.sink) result }
+{
+    client.fetch(alloc, peer, file)
+}
+
+/// Makes the reader of a user, and reads a file with its keys.
+pub fn read<P: Peer + Drop, T: Sink + Drop>(
+    owner: &Owner,
+    alloc: Global,
+    peer: &mut Traced<P, T>,
+    user: &Name,
+    file: &Name,
+) -> Found
+    ensures reads { ReadsBy (traced_asked P.asked T.written T.borrow)
+        (traced_failed P.asked P.failed T.written T.borrow)
+        owner.now peer.old peer.new user.now file.now result }
+    ensures form { HasRequestForm (Ask (AsksKey user.now)) }
+    ensures lent { T.borrow peer.new.sink ≡ T.borrow peer.old.sink }
+    ensures same { P.borrow peer.new.peer ≡ P.borrow peer.old.peer }
+    ensures cause { HasFoundCause (P.faults peer.old.peer + T.faults peer.old.sink)
+        (P.faults peer.new.peer + T.faults peer.new.sink) result }
+{
+    match client(owner, alloc, peer, user) {
+        Ok(client) => Found::Read(fetch(client, alloc, peer, file)),
+        Err(fault) => Found::Unread(fault),
+    }
+}

@@ -1,0 +1,110 @@
+//! The access-matrix machine over frames, for who has both masters.
+ghost use Rattle.std.specs.Prelude.{◌≡◌, false};
+ghost use Rattle.ov_images.specs.Images.{keys_of};
+ghost use Rattle.ov_script.specs.declared.command.Command.{Command};
+ghost use Rattle.ov_machine.specs.Machine.{IsCommand, opened_of, plain_masters};
+ghost use Rattle.ov_machine.specs.Steps.{IsWholeStep};
+
+use crate::fault::StepFault;
+use ov_disk::Disk;
+use ov_io::Sink;
+use ov_keyfile::Masters;
+use ov_owner::Owner;
+use ov_script::{Command, Reply};
+use ov_server::{LocalPeer, Server};
+use ov_state::Catalogue;
+use ov_store::Store;
+use std::alloc::Global;
+use std::marker::Model;
+
+/// The owner, and the server that it asks, over the store that is kept under its masters. The
+/// readers are made by the owner, each for one read.
+#[derive(Drop)]
+pub struct Machine<D: Disk> {
+    pub(crate) owner: Owner,
+    pub(crate) peer: LocalPeer<D>,
+}
+
+impl<D: Disk> Model for Machine<D> {
+    ghost use Rattle.std.specs.Prelude.{◌≡◌};
+    ghost use Rattle.ov_images.specs.Images.{keys_of};
+    ghost use Rattle.ov_machine.specs.Machine.{KeptOn};
+
+    ghost Value = { KeptOn D };
+
+    ghost view = { λ m. record {
+      kept = record {
+        masters = m.owner;
+        catalogue = m.peer.catalogue;
+        stored = m.peer.stored;
+      };
+      disk = m.peer.disk;
+      failed = m.peer.failed;
+    } };
+
+    ghost invariant = { λ m. m.peer.keys ≡ keys_of m.owner };
+}
+
+impl<D: Disk> Machine<D> {
+    /// The machine over a store that was opened under these masters, and whose disk hasn't failed
+    /// in an update.
+    pub fn of(masters: Masters, store: Store<D>) -> Machine<D>
+        requires keys { store.keys ≡ keys_of (plain_masters masters) }
+        requires sound { store.failed ≡ false }
+        ensures masters { result.kept.masters ≡ plain_masters masters }
+        ensures store { opened_of result ≡ store }
+    {
+        Machine {
+            owner: Owner::new(masters.base, masters.surface),
+            peer: LocalPeer::new(Server::new(store, masters.surface)),
+        }
+    }
+
+    /// The catalogue.
+    pub fn catalogue(&self) -> &Catalogue
+        ensures { result.now.catalogue ≡ self.now.kept.catalogue }
+    {
+        self.peer.server().store().state()
+    }
+
+    /// The epoch.
+    pub fn epoch(&self) -> u32
+        ensures { result ≡ self.now.kept.catalogue.epoch }
+    {
+        self.catalogue().epoch()
+    }
+
+    /// Gives the disk back.
+    pub fn into_disk(self) -> D
+        ensures { result ≡ self.disk }
+    {
+        let Machine { owner: _, peer } = self;
+        peer.into_server().into_store().close()
+    }
+
+    /// One step, at whatever history the machine stands for. Each frame that is asked and replied
+    /// for it is put to `trace`.
+    pub fn step<T: Sink>(
+        &mut self,
+        alloc: Global,
+        command: Command,
+        trace: &mut T,
+    ) -> Result<Reply, StepFault>
+        requires command { IsCommand command }
+        requires healthy { self.old.failed ≡ false }
+        ensures { IsWholeStep D.reads D.may_leave D.moment D.left_since D.borrow D.faults
+            T.written T.faults command self.old self.new trace.old trace.new result }
+    {
+        match command {
+            Command::Enrol { user } => self.enrol(alloc, &user, trace),
+            Command::Create { file, list, bytes } => {
+                self.create(alloc, &file, &list, bytes.as_slice(), trace)
+            }
+            Command::Grant { user, file } => self.grant(alloc, &user, &file, trace),
+            Command::Revoke { user, file } => self.revoke(alloc, &user, &file, trace),
+            Command::Read { user, file } => self.read(alloc, user, file, trace),
+            Command::List { file } => self.list(alloc, file, trace),
+            Command::Epoch => self.hello(alloc, trace),
+        }
+    }
+}

@@ -1,0 +1,214 @@
+//! The top call.
+ghost use Rattle.std.specs.Prelude.{◌≡◌, ◌≢◌, ◌⊎◌, ◌≤◌, false, IfNone, IfSome};
+ghost use Rattle.ov_base.specs.Causes.{Rose};
+ghost use Rattle.ov_base.specs.declared.mode.Mode.{Mode};
+ghost use Rattle.ov_disk.specs.Disk.{Told};
+ghost use Rattle.ov_history.specs.Masters.{Masters as PlainMasters};
+ghost use Rattle.ov_history.specs.Plain.{PlainHistory};
+ghost use Rattle.ov_machine.specs.Disks.{Holds, TellsNothing};
+ghost use Rattle.ov_machine.specs.Machine.{AreMasters, StandsFor, plain_masters};
+ghost use Rattle.ov_answering.specs.Answered.{AnswersText};
+ghost use Rattle.ov_answering.specs.Answering.{SaysTag};
+ghost use Rattle.ov_answering.specs.Ending.{EndsFor, FailsForFaults, JudgesImage, JudgesKeys};
+ghost use Rattle.ov_answering.specs.Ending.{LeavesAsAtStart, RefusesWords};
+ghost use Rattle.ov_answering.specs.Lasting.{Endures, OpensAs};
+ghost use Rattle.ov_answering.specs.Pacing.{IsPaced};
+ghost use Rattle.ov_answering.specs.Printing.{IsKeysStatus, IsScriptStatus, IsStoreStatus};
+ghost use Rattle.ov_answering.specs.Tracing.{TracesAs};
+ghost use Rattle.ov_run.specs.Counts.{OneRose};
+ghost use Rattle.ov_run.specs.Running.{ForImage, FromEach, IsDecided, PrintsAs, RunsWell};
+ghost use Rattle.ov_run.specs.Words.{AreOther, IsRun};
+
+use ov_answering::{Status, answer_all, begin, finish, mode_of_word, put_last};
+use ov_base::{Memory, Mode};
+use ov_disk::Disk;
+use ov_io::{Sink, Source};
+use ov_keyfile::{Masters, read_masters};
+use ov_machine::Machine;
+use ov_report::{put_fault, put_memory};
+use ov_script::{Buffer, Script};
+use std::alloc::Global;
+
+// The mode in which these words ask for a run.
+fn mode_of(words: &[String]) -> Option<Mode>
+    ensures found { IfSome result (λ mode. IsRun mode words.now) }
+    ensures none { IfNone result (AreOther words.now) }
+{
+    match words {
+        [run, mode] if run.as_str() == "run" => mode_of_word(mode.as_str()),
+        _ => None,
+    }
+}
+
+// Answers the script with a machine that has answered nothing yet.
+fn answer_script<I: Source, O: Sink, T: Sink, D: Disk>(
+    alloc: Global,
+    machine: &mut Machine<D>,
+    input: &mut I,
+    out: &mut O,
+    trace: &mut T,
+) -> u8
+    requires healthy { machine.old.failed ≡ false }
+    ensures text { let k = machine.old.kept.masters in
+        (p : PlainHistory) → StandsFor machine.old.kept p → IfSome (I.left input.old) (λ text.
+        AnswersText D.reads D.may_leave D.moment D.left_since I.takes I.left k p text result
+        machine.old.disk machine.new.disk input.old input.new
+        (O.written out.old) (O.written out.new) (T.written trace.old) (T.written trace.new)
+        (Holds D.reads D.may_leave k p machine.old.disk)) }
+    ensures causes { EndsFor D.borrow D.faults machine.old.disk machine.new.disk result
+        (Rose (I.faults input.old) (I.faults input.new))
+        (Rose (O.faults out.old) (O.faults out.new)
+        ⊎ Rose (T.faults trace.old) (T.faults trace.new))
+        (SaysTag (O.written out.old) (O.written out.new)
+        × ((p : PlainHistory) → StandsFor machine.old.kept p → ⊥)) }
+    ensures status { IsScriptStatus result }
+{
+    // The buffer is there before the input is lent, so that without one the input is as it was.
+    let buffer = match Buffer::new(alloc) {
+        Ok(buffer) => buffer,
+        Err(Memory) => return put_memory(out),
+    };
+    let mut script = Script::over(buffer, input);
+    let stop = answer_all(alloc, &mut script, machine, out, trace);
+    // The loan ends here, and what is known of the source goes back to `input`.
+    let _ = script.into_source();
+    finish(alloc, stop, machine.epoch(), out)
+}
+
+// Opens the disk under these masters and answers the script. The disk is given back.
+fn answer_over<I: Source, O: Sink, T: Sink, D: Disk + Drop>(
+    alloc: Global,
+    mode: Mode,
+    masters: Masters,
+    disk: D,
+    input: &mut I,
+    out: &mut O,
+    trace: &mut T,
+) -> (u8, D)
+    ensures text { let k = plain_masters masters in
+        (p : PlainHistory) → OpensAs D.reads D.may_leave k mode p disk
+        → IfSome (I.left input.old) (λ text.
+        AnswersText D.reads D.may_leave D.moment D.left_since I.takes I.left k p text result.0
+        disk result.1 input.old input.new (O.written out.old) (O.written out.new)
+        (T.written trace.old) (T.written trace.new) (Unit {0})) }
+    ensures image { let k = plain_masters masters in
+        Told (D.reads disk) (λ i. JudgesImage k mode i result.0
+        (O.written out.old) (O.written out.new)
+        ((input.new ≡ input.old) × (trace.new ≡ trace.old))
+        (LeavesAsAtStart D.reads D.may_leave D.moment D.left_since disk result.1)) }
+    ensures causes { EndsFor D.borrow D.faults disk result.1 result.0
+        (Rose (I.faults input.old) (I.faults input.new))
+        (Rose (O.faults out.old) (O.faults out.new)
+        ⊎ Rose (T.faults trace.old) (T.faults trace.new))
+        (SaysTag (O.written out.old) (O.written out.new) × TellsNothing (D.reads disk)) }
+    ensures status { IsStoreStatus result.0 }
+{
+    match begin(alloc, disk, masters, mode) {
+        Ok(store) => {
+            let mut machine = Machine::of(masters, store);
+            let code = answer_script(alloc, &mut machine, input, out, trace);
+            (code, machine.into_disk())
+        }
+        Err(refused) => (put_fault(alloc, out, refused.fault), refused.disk),
+    }
+}
+
+// Reads the key file, opens the disk and answers the script, once the words are known.
+fn answer_with_keys<K: Source, I: Source, O: Sink, T: Sink, D: Disk + Drop>(
+    alloc: Global,
+    mode: Mode,
+    keys: &mut K,
+    disk: D,
+    input: &mut I,
+    out: &mut O,
+    trace: &mut T,
+) -> (u8, D)
+    ensures text { IfSome (K.left keys.old) (λ file. IfSome (I.left input.old) (λ text.
+        (k : PlainMasters) (p : PlainHistory) → AreMasters file k
+        → OpensAs D.reads D.may_leave k mode p disk
+        → AnswersText D.reads D.may_leave D.moment D.left_since I.takes I.left k p text result.0
+        disk result.1 input.old input.new (O.written out.old) (O.written out.new)
+        (T.written trace.old) (T.written trace.new) (Unit {0}))) }
+    ensures image { IfSome (K.left keys.old) (λ file. (k : PlainMasters) → AreMasters file k
+        → Told (D.reads disk) (λ i. JudgesImage k mode i result.0
+        (O.written out.old) (O.written out.new)
+        ((input.new ≡ input.old) × (trace.new ≡ trace.old))
+        (LeavesAsAtStart D.reads D.may_leave D.moment D.left_since disk result.1))) }
+    ensures keys { JudgesKeys (Unit {0}) (K.left keys.old) result.0
+        (O.written out.old) (O.written out.new)
+        ((input.new ≡ input.old) × (trace.new ≡ trace.old) × (result.1 ≡ disk)) }
+    ensures causes { EndsFor D.borrow D.faults disk result.1 result.0
+        (Rose (K.faults keys.old) (K.faults keys.new)
+        ⊎ Rose (I.faults input.old) (I.faults input.new))
+        (Rose (O.faults out.old) (O.faults out.new)
+        ⊎ Rose (T.faults trace.old) (T.faults trace.new))
+        (SaysTag (O.written out.old) (O.written out.new) × TellsNothing (D.reads disk)) }
+    ensures status { IsKeysStatus result.0 }
+{
+    match read_masters(keys) {
+        Ok(Some(masters)) => answer_over(alloc, mode, masters, disk, input, out, trace),
+        Ok(None) => (put_last(out, b"error keys\n", Status::BadKeys), disk),
+        Err(_) => (put_last(out, b"error read\n", Status::ReadFault), disk),
+    }
+}
+
+/// Answers the script of `input` on `out` under the masters of the key file, over the store on
+/// `disk`, and gives the exit status. Where no store was begun there it begins one. Owner, readers
+/// and server are parties of their own, and each frame between them is put to `trace`.
+///
+/// * `opened`: with a disk that opens, the access-matrix machine's lines are printed, from the
+///   history for which the disk stands; the script alone decides the status; a reply is put before
+///   more of the script is taken than its command needs; put to `trace` is each command's
+///   transcript in turn, then that of the end, and nothing else; and whatever the status, a stop
+///   leaves what was acknowledged, and at most one update more: at the end of the script the disk
+///   has it all, and the published tokens are the matrix.
+/// * `image`: a disk that doesn't open for these masters and this mode is refused, the script isn't
+///   read, and nothing is sent or written.
+/// * `keys`: without a key file the script and the disk are left as they are, and nothing is sent.
+/// * `words`: other words are refused, and all files are left as they are.
+/// * `causes`: a fault is answered only where its count of faults rose, and a wrong tag only with
+///   its line, and never where the disk tells its bytes.
+///
+/// The clauses on what is printed, on the script, the key file and the disk hold where the sources,
+/// the sink and the disk tell their bytes; those on the counts of faults hold always. Each update
+/// is on the disk before its reply line is put, and each line is put by itself.
+pub fn run<K: Source, I: Source, O: Sink, T: Sink, D: Disk>(
+    alloc: Global,
+    words: &[String],
+    keys: &mut K,
+    input: &mut I,
+    out: &mut O,
+    trace: &mut T,
+    disk: &mut D,
+) -> u8
+    ensures opened { FromEach D.reads D.may_leave disk.old
+        words.now (K.left keys.old) (I.left input.old) (λ k p text. RunsWell
+        (PrintsAs p text result (O.written out.old) (O.written out.new))
+        (IsDecided text result (Rose (K.faults keys.old) (K.faults keys.new))
+        (Rose (I.faults input.old) (I.faults input.new))
+        (OneRose (O.faults out.old) (O.faults out.new) (T.faults trace.old) (T.faults trace.new))
+        (Rose (D.faults disk.old) (D.faults disk.new)))
+        (IsPaced I.takes I.left p input.old input.new (O.written out.old) (O.written out.new))
+        (TracesAs k p text result (O.written out.old) (O.written out.new) (T.written trace.old)
+        (T.written trace.new)) (Endures D.reads D.may_leave D.moment D.left_since k p text result
+        disk.old disk.new (O.written out.old) (O.written out.new))) }
+    ensures image { ForImage (D.reads disk.old) words.now (K.left keys.old) (λ k mode i.
+        JudgesImage k mode i result (O.written out.old) (O.written out.new)
+        ((input.new ≡ input.old) × (trace.new ≡ trace.old))
+        (LeavesAsAtStart D.reads D.may_leave D.moment D.left_since disk.old disk.new)) }
+    ensures keys { JudgesKeys ((mode : Mode) × IsRun mode words.now) (K.left keys.old) result
+        (O.written out.old) (O.written out.new)
+        ((input.new ≡ input.old) × (trace.new ≡ trace.old) × (disk.new ≡ disk.old)) }
+    ensures words { RefusesWords (AreOther words.now) result (O.written out.old) (O.written out.new)
+        ((keys.new ≡ keys.old) × (input.new ≡ input.old) × (trace.new ≡ trace.old)
+        × (disk.new ≡ disk.old)) }
+    ensures causes { FailsForFaults result (Rose (D.faults disk.old) (D.faults disk.new))
+        (OneRose (K.faults keys.old) (K.faults keys.new) (I.faults input.old) (I.faults input.new))
+        (OneRose (O.faults out.old) (O.faults out.new) (T.faults trace.old) (T.faults trace.new))
+        (SaysTag (O.written out.old) (O.written out.new) × TellsNothing (D.reads disk.old)) }
+{
+    match mode_of(words) {
+        Some(mode) => answer_with_keys(alloc, mode, keys, disk, input, out, trace).0,
+        None => put_last(out, b"error usage\n", Status::Usage),
+    }
+}

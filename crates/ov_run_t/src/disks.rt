@@ -1,0 +1,257 @@
+//! Runs over one disk after the other, and disks that don't open.
+use crate::running::{
+    NOTHING, ONE_USER, Pieces, Row, Wants, assert_ended, assert_row, key_bytes, ran, words,
+};
+use crate::scripts::siblings;
+use ov_base::Octets;
+use ov_disk::MemDisk;
+use std::alloc::{AllocError, Global};
+use std::process::Abort;
+use std::test::Fail;
+
+/// The disk that a run over this script leaves.
+pub fn left_by(rt: &impl Abort, alloc: Global, words: &[String], row: &Row<'_>) -> MemDisk {
+    let mut disk = MemDisk::new(alloc);
+    assert_row(rt, alloc, words, 4096, row, &mut disk);
+    disk
+}
+
+// A script over what the script with siblings leaves.
+static SECOND: Row<'static> = Row {
+    script: b"epoch\nread c f1\nread c f3\nlist f1\nenrol a\nenrol d\nrevoke c f1\nread c f1\n",
+    status: 0,
+    lines: b"epoch 9\ndata c f1 2\nx1\nrefused 4 NoPath\nlist f1 a,b,c\nrefused 1 Taken\nok 10\nok 11\nrefused 4 NoPath\nend epoch 11\n",
+};
+
+fn second() -> &'static Row<'static> {
+    &SECOND
+}
+
+// Runs both, and then a third script, over one disk.
+fn assert_goes_on(rt: &impl Abort, alloc: Global, words: &[String]) {
+    let mut disk = left_by(rt, alloc, words, siblings());
+    assert_row(rt, alloc, words, 4096, second(), &mut disk);
+    let third = Row {
+        script: b"",
+        status: 0,
+        lines: b"end epoch 11\n",
+    };
+    assert_row(rt, alloc, words, 4096, &third, &mut disk);
+    drop(disk);
+}
+
+#[test]
+fn a_second_run_goes_on_in_full(rt: HostRuntime) -> Result<(), Fail> {
+    let words = words(rt.alloc(), &["run", "full"])?;
+    assert_goes_on(&rt, rt.alloc(), &words);
+    Ok(())
+}
+
+#[test]
+fn a_second_run_goes_on_in_delta(rt: HostRuntime) -> Result<(), Fail> {
+    let words = words(rt.alloc(), &["run", "delta"])?;
+    assert_goes_on(&rt, rt.alloc(), &words);
+    Ok(())
+}
+
+// The Book that a run over this script leaves.
+fn book_of(
+    rt: &impl Abort,
+    alloc: Global,
+    mode: &str,
+    row: &Row<'_>,
+) -> Result<Vec<u8>, AllocError> {
+    let words = words(alloc, &["run", mode])?;
+    let disk = left_by(rt, alloc, &words, row);
+    let book = disk.book().to_vec(alloc);
+    drop(disk);
+    book
+}
+
+// Asserts how long Book is after a run over this script, and how it ends.
+fn assert_book(
+    rt: &impl Abort,
+    alloc: Global,
+    row: &Row<'_>,
+    length: usize,
+    end: &[u8],
+) -> Result<(), AllocError> {
+    let book = book_of(rt, alloc, "full", row)?;
+    assert_eq!(rt; book.len(), length);
+    assert!(rt; book.ends_with(end));
+    Ok(())
+}
+
+static BOOKS: [Row<'static>; 3] = [
+    NOTHING,
+    ONE_USER,
+    Row {
+        script: b"enrol alice\nenrol bob\n",
+        status: 0,
+        lines: b"ok 1\nok 2\nend epoch 2\n",
+    },
+];
+
+#[test]
+fn books_of_a_run(rt: HostRuntime) -> Result<(), Fail> {
+    let [none, one, two] = &BOOKS;
+    assert_book(&rt, rt.alloc(), none, 79, b"\0")?;
+    assert_book(&rt, rt.alloc(), one, 91, b"\x01\0\0\0\x07\x01\x05alice\0")?;
+    assert_book(&rt, rt.alloc(), two, 101, b"\x01\0\0\0\x05\x01\x03bob\0")?;
+    Ok(())
+}
+
+/// These bytes with one of them changed.
+pub fn changed(alloc: Global, bytes: &[u8], place: usize, byte: u8) -> Result<Vec<u8>, AllocError> {
+    let mut bytes = bytes.to_vec(alloc)?;
+    if place < bytes.len() {
+        bytes[place] = byte;
+    }
+    Ok(bytes)
+}
+
+// Asserts that a run in this mode over this Book is refused so, and leaves it.
+fn assert_shut(
+    rt: &impl Abort,
+    alloc: Global,
+    mode: &str,
+    book: &[u8],
+    status: u8,
+    line: &[u8],
+) -> Result<(), Fail> {
+    let words = words(alloc, &["run", mode])?;
+    let copy = Octets::copy(alloc, book)?;
+    let mut disk = MemDisk::of(alloc, copy, Octets::new(alloc));
+    let row = Row {
+        script: b"enrol bob\n",
+        status,
+        lines: line,
+    };
+    assert_row(rt, alloc, &words, 4096, &row, &mut disk);
+    assert!(rt; disk.book() == book);
+    drop(disk);
+    Ok(())
+}
+
+// Asserts that where this byte of the Book of one user is another, a run is refused so.
+fn assert_damaged(
+    rt: &impl Abort,
+    alloc: Global,
+    place: usize,
+    byte: u8,
+    line: &[u8],
+) -> Result<(), Fail> {
+    let book = book_of(rt, alloc, "delta", &ONE_USER)?;
+    let damaged = changed(alloc, &book, place, byte)?;
+    assert_shut(rt, alloc, "delta", &damaged, 8, line)
+}
+
+#[test]
+fn disks_that_do_not_open(rt: HostRuntime) -> Result<(), Fail> {
+    let alloc = rt.alloc();
+    assert_damaged(&rt, alloc, 84, 0, b"error damaged book 84\n")?;
+    assert_damaged(&rt, alloc, 9, 7, b"error damaged book 9\n")?;
+    assert_shut(&rt, alloc, "delta", &[b'x'; 200], 8, b"error notastore\n")
+}
+
+// The Book of one user and one file of one byte under these keys, in `full`: what a program in
+// Python gives that was written from the formats alone. In `delta` byte 9 is 1.
+const ONE_FILE: &[u8] = b"\x01OVERENC0\0\0\0\0\0\
+    \x2a\x4f\x6d\x54\xa4\x5f\x46\xe7\xa8\x18\xa4\xf5\x94\x51\xe9\xfb\
+    \xb0\x95\x9a\xdd\x66\x60\xc9\x0f\xc1\xb8\xbf\x8d\x4b\x73\xc7\x45\
+    \xe2\xe6\x63\x1a\x00\x5a\x1d\xa7\x4d\x3f\x29\x1c\x8c\xd9\xe6\x0c\
+    \x7a\xbf\x3a\x2a\xb3\x3a\x71\x99\xbf\xf0\x6c\x71\x43\x32\x63\xd4\
+    \x01\0\0\0\x03\x01\x01a\
+    \x01\0\0\0J\x02\x01f\
+    \x01\0\0\0\0\0\0\0\0\0\0\0\0\0\0\0\0\0\0\0\0\0\0\0\0\0\0\0\0\0\0\0\0\0\
+    \xa8\x63\x5f\xae\xc7\x82\xbb\x11\xcb\xd1\x66\x67\xd9\xa3\x28\xa5\
+    \xbf\x77\xf6\x38\xe6\x49\x97\xf3\x42\x6e\x66\xa1\x9e\x85\x5d\xe7\
+    \0\0\0\x01\x7f\0";
+
+/// That Book, in a mode of this byte.
+pub fn one_file(alloc: Global, mode: u8) -> Result<Vec<u8>, AllocError> {
+    changed(alloc, ONE_FILE, 9, mode)
+}
+
+static CREATION: Row<'static> = Row {
+    script: b"enrol a\ncreate f a 1\nx\n",
+    status: 0,
+    lines: b"ok 1\nok 2\nend epoch 2\n",
+};
+
+fn creation() -> &'static Row<'static> {
+    &CREATION
+}
+
+#[test]
+fn books_of_a_file(rt: HostRuntime) -> Result<(), Fail> {
+    let alloc = rt.alloc();
+    let full = book_of(&rt, alloc, "full", creation())?;
+    let delta = book_of(&rt, alloc, "delta", creation())?;
+    assert_eq!(rt; full, one_file(alloc, 0)?);
+    assert_eq!(rt; delta, one_file(alloc, 1)?);
+    Ok(())
+}
+
+// Asserts that where this byte of that Book is another, the record of the creation, whose gate
+// stands at 86, isn't taken for the owner's.
+fn assert_false(rt: &impl Abort, alloc: Global, place: usize, byte: u8) -> Result<(), Fail> {
+    let book = one_file(alloc, 1)?;
+    let damaged = changed(alloc, &book, place, byte)?;
+    assert_shut(rt, alloc, "delta", &damaged, 8, b"error damaged book 86\n")
+}
+
+// One bit of the tag's first byte, of its last, and of the file's only byte.
+#[test]
+fn a_record_that_is_not_the_owners(rt: HostRuntime) -> Result<(), Fail> {
+    assert_false(&rt, rt.alloc(), 128, 0xa9)?;
+    assert_false(&rt, rt.alloc(), 159, 0x67)?;
+    assert_false(&rt, rt.alloc(), 164, 0x7e)
+}
+
+#[test]
+fn another_mode(rt: HostRuntime) -> Result<(), Fail> {
+    let book = book_of(&rt, rt.alloc(), "delta", &NOTHING)?;
+    assert_shut(
+        &rt,
+        rt.alloc(),
+        "full",
+        &book,
+        9,
+        b"error mode delta full\n",
+    )
+}
+
+// Asserts that a store isn't opened with a key file in which the digit at this place is 7.
+fn assert_other_key(rt: &impl Abort, alloc: Global, place: usize, line: &[u8]) -> Result<(), Fail> {
+    let words = words(alloc, &["run", "full"])?;
+    let keys = changed(alloc, key_bytes(), place, b'7')?;
+    let mut out = Wants::of(line);
+    let mut disk = left_by(rt, alloc, &words, &NOTHING);
+    let source = Pieces::of(&keys, 50);
+    let code = ran(
+        alloc,
+        &words,
+        source,
+        Pieces::of(b"", 8),
+        &mut out,
+        &mut disk,
+    );
+    drop(disk);
+    assert_ended(rt, code, &out, 9);
+    Ok(())
+}
+
+// The check values of both masters, and of those that begin with the byte 0x70, from Python's
+// `hmac`.
+const OTHER_BASE: &[u8] =
+    b"error key base 2a4f6d54a45f46e7a818a4f59451e9fbb0959add6660c90fc1b8bf8d4b73c745 a6babc60c7a72e8c1a4229517d3db7262af01f4c2b21d574f4ef01f8a3a18ebe\n";
+
+const OTHER_SURFACE: &[u8] =
+    b"error key surface e2e6631a005a1da74d3f291c8cd9e60c7abf3a2ab33a7199bff06c71433263d4 955ced38a79fa94c20448b34a4a9be5303a687b7eef8503dae44523b7cae214a\n";
+
+#[test]
+fn other_keys(rt: HostRuntime) -> Result<(), Fail> {
+    assert_other_key(&rt, rt.alloc(), 0, OTHER_BASE)?;
+    assert_other_key(&rt, rt.alloc(), 65, OTHER_SURFACE)
+}

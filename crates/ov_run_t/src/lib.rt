@@ -1,0 +1,22 @@
+//! Tests of `ov_run`: scripts, words and key files of all kinds, disks that others left, and faults at
+//! each call. Nothing stands here but tests: the contracts of what they call are proved there.
+#![tactic(auto)]
+
+#[cfg(test)]
+mod disks;
+#[cfg(test)]
+mod faults;
+#[cfg(test)]
+mod frames;
+#[cfg(test)]
+mod full;
+#[cfg(test)]
+mod running;
+#[cfg(test)]
+mod scripts;
+#[cfg(test)]
+mod stops;
+#[cfg(test)]
+mod tags;
+#[cfg(test)]
+mod watched;
