@@ -1,4 +1,3 @@
-mod Acting
 mod AskingAlone
 mod Called
 mod Commanding
@@ -8,6 +7,7 @@ mod FailingReads
 mod Fronts
 mod Lines
 mod Listing
+mod OwnersTold
 mod Reading
 mod Reasons
 mod Replies

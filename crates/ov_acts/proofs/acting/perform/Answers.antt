@@ -1,6 +1,6 @@
 use Rattle.std.proofs.Common.{ap, arith, subst, sym}
 use Rattle.std.proofs.lemmas.Grind.{common_steps}
-use Rattle.ov_acts.proofs.Acting.{told_by_owner}
+use Rattle.ov_acts.proofs.OwnersTold.{told_by_owner}
 use Rattle.ov_acts.proofs.Taking.{keys_only}
 use Rattle.ov_acts.specs.Causes.{most_keys}
 use Rattle.ov_acts.specs.Machine.{ActsAsMachine}
