@@ -16,7 +16,8 @@ import threading
 import time
 
 PROGRAM = str(pathlib.Path(sys.argv[1]).resolve())
-CRATE = pathlib.Path(__file__).resolve().parent.parent / "crates" / "overctl" / "src"
+ROOT = pathlib.Path(__file__).resolve().parent.parent
+TESTS = ROOT / "crates" / "ov_acts_t" / "src" / "acts"
 SECONDS = 60
 
 
@@ -26,19 +27,19 @@ def bytes_of(text):
     return bytes(ord(word[2]) if word.startswith("b'") else int(word, 0) for word in spelled)
 
 
-# The replies of the crate's own tests, by name.
+# The replies of the tests of ov_acts, by name.
 REPLIES = {
     name: bytes_of(text)
     for name, text in re.findall(
-        r"^pub const (\w+): &\[u8\] = &\[(.*?)\];", (CRATE / "tests" / "replies.rt").read_text(), re.M | re.S
+        r"^pub const (\w+): &\[u8\] = &\[(.*?)\];", (TESTS / "replies.rt").read_text(), re.M | re.S
     )
 }
-ROWS = (CRATE / "tests" / "rows.rt").read_text()
+ROWS = (TESTS / "rows.rt").read_text()
 KEYS, KEY_LINE = (
     re.search(r'^const %s: &\[u8\] =\s+b"(.*?)";' % name, ROWS, re.M | re.S)[1].replace("\\n", "\n")
     for name in ("KEYS", "KEY_LINE")
 )
-VERSION = re.match(r"overstore \((.*?)\)", (CRATE.parents[2] / "dist" / "debian" / "changelog").read_text())[1]
+VERSION = re.match(r"overstore \((.*?)\)", (ROOT / "dist" / "debian" / "changelog").read_text())[1]
 CHECK = re.search(r'b"([0-9a-f]{64})\\n"', ROWS)[1]
 
 

@@ -20,17 +20,19 @@ PROGRAMS = {
 }
 
 
-# By program the crate with the definitions of its statuses, where that is another one.
-LIBRARIES = {"overstore": "ov_answering"}
-
-
 def numbers(pattern, text):
     return sorted({int(number) for number in re.findall(pattern, text, re.M)})
 
 
+def crates_of(program):
+    """The folders of the program and of what it names in crates.txt."""
+    line = re.search(rf"^{program}:(.*)$", (ROOT / "crates.txt").read_text(), re.M)
+    return [ROOT / "crates" / name for name in (program, *line[1].split())]
+
+
 def help_of(program):
-    """Those of the text that --help prints, which stands in one file of the program."""
-    for path in sorted((ROOT / "crates" / program / "src").glob("*.rt")):
+    """Those of the text that --help prints, which stands in one file of the program or of a library."""
+    for path in (path for crate in crates_of(program) for path in sorted((crate / "src").glob("*.rt"))):
         _, found, behind = path.read_text().partition("Exit status:")
         if found:
             return numbers(r'(?:^|[\s,"])(\d{1,2}) +(?=[`A-Za-z])', re.split(r'"(?:;|\n\s*\))', behind)[0])
@@ -48,9 +50,10 @@ def page(path, heading):
 
 
 def places_of(program):
-    """By place the statuses that it names: the definitions where the program has some, and the rest."""
-    definitions = ROOT / "crates" / LIBRARIES.get(program, program) / "specs" / "Status.antt"
-    if definitions.exists():
+    """By place the statuses that it names: the definitions where there are some, and the rest."""
+    for definitions in (crate / "specs" / "Status.antt" for crate in crates_of(program)):
+        if not definitions.exists():
+            continue
         yield "definitions", numbers(r"^status_code \w+ = (\d+)$", definitions.read_text())
     yield "--help", help_of(program)
     pages, sections = PROGRAMS[program]

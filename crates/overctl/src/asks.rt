@@ -1,6 +1,6 @@
 //! What an act asks for, as far as texts tell acts apart.
 
-use crate::job::Act;
+use ov_acts::Act;
 use ov_base::Name;
 
 /// What an act asks for.

@@ -1,8 +1,8 @@
 //! What is said on standard error of how a job ended: what went wrong, and what to do.
 
 use crate::asks::Asks;
-use crate::status::Status;
 use crate::texts::{OUT_OF_MEMORY, UNWRITTEN, WRITABLE};
+use ov_acts::Status;
 use std::fmt;
 use std::fmt::{Display, Formatter, Write};
 use std::io::ErrorKind;

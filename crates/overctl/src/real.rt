@@ -1,12 +1,10 @@
 //! The real files and the real stream.
-ghost use Rattle.overctl.specs.Files.{HasListLimits};
+ghost use Rattle.ov_acts.specs.Files.{HasListLimits};
 
-use crate::act::act;
 use crate::asks::{asks_of, file_of, stores};
 use crate::ending::{Ending, Hint};
-use crate::job::{Act, Job};
-use crate::status::Status;
 use crate::usage::say;
+use ov_acts::{Act, Job, Status, act};
 use ov_base::{Memory, Octets};
 use ov_io::{FileSource, StdSink};
 use ov_peer::FixedPeer;

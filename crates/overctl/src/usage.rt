@@ -1,11 +1,9 @@
 //! What is said on standard error, and of words that are no line of a command or ask for help.
 
-use crate::line::judge;
-use crate::status::Status;
-use crate::texts::{FREE_SOME, OUT_OF_MEMORY, UNWRITTEN, WRITABLE, WrongWords, line_of, usage_of};
-use crate::words::names_of;
+use crate::texts::{FREE_SOME, OUT_OF_MEMORY, UNWRITTEN, WRITABLE, WrongWords, usage_of};
 use clap::Error;
 use clap::error::ErrorKind;
+use ov_acts::{Status, judge, line_of, names_of};
 use ov_base::Name;
 use std::alloc::Global;
 use std::fmt::Display;

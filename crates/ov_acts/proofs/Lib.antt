@@ -1,0 +1,15 @@
+mod AskingAlone
+mod Called
+mod Commanding
+mod Completing
+mod FailingDisks
+mod FailingReads
+mod Fronts
+mod Lines
+mod Listing
+mod OwnersTold
+mod Reading
+mod Reasons
+mod Replies
+mod Sources
+mod Taking

@@ -1,0 +1,158 @@
+//! The commands of an owner.
+ghost use Rattle.std.specs.Prelude.{◌≡◌, ◌≤◌, IfOk, length};
+ghost use Rattle.ov_base.specs.Causes.{Rose};
+ghost use Rattle.ov_base.specs.declared.limits.TheConstants.{MAX_FILE_BYTES};
+ghost use Rattle.ov_client.specs.KeyLines.{key_line};
+ghost use Rattle.ov_protocol.specs.Serving.{Service};
+ghost use Rattle.ov_script.specs.Lines.{reply_line};
+ghost use Rattle.ov_acts.specs.Acts.{Owns, Performs, Says, admitted, list_line, update_line};
+ghost use Rattle.ov_acts.specs.Causes.{StopsFor};
+ghost use Rattle.ov_acts.specs.Files.{HasListLimits, IsOwners};
+ghost use Rattle.ov_acts.specs.Machine.{CommandsAsMachine, OwnsAsMachine};
+
+use crate::job::Act;
+use crate::stop::{Stop, stop_of_owner};
+use ov_base::{Key, Memory, Name, Names, Octets};
+use ov_client::Client;
+use ov_owner::{Owner, OwnerFault};
+use ov_peer::Peer;
+use ov_script::{Reply, line};
+use ov_tokens::{Master, check_value};
+use ov_wire::Welcome;
+use std::alloc::Global;
+
+/// The line of a reply.
+fn line_of_reply(alloc: Global, reply: &Reply) -> Result<Octets, Memory>
+    ensures { IfOk result (λ bytes. bytes ≡ reply_line reply.now) }
+{
+    let mut bytes = Vec::new(alloc);
+    line(reply, &mut bytes)?;
+    Ok(Octets::from_vec(bytes))
+}
+
+/// The line on an update.
+fn line_on_update(alloc: Global, updated: Result<u32, OwnerFault>) -> Result<Octets, Stop>
+    ensures { Says update_line updated result }
+{
+    match updated {
+        Ok(epoch) => match line_of_reply(alloc, &Reply::Accepted(epoch)) {
+            Ok(line) => Ok(line),
+            Err(Memory) => Err(Stop::Memory),
+        },
+        Err(fault) => Err(stop_of_owner(fault)),
+    }
+}
+
+/// The line on a file's list.
+fn line_on_list(
+    alloc: Global,
+    file: &Name,
+    listed: Result<Names, OwnerFault>,
+) -> Result<Octets, Stop>
+    ensures { Says (list_line file.now) listed result }
+{
+    match listed {
+        Ok(names) => {
+            let reply = Reply::List {
+                file: file.copy(),
+                names,
+            };
+            match line_of_reply(alloc, &reply) {
+                Ok(line) => Ok(line),
+                Err(Memory) => Err(Stop::Memory),
+            }
+        }
+        Err(fault) => Err(stop_of_owner(fault)),
+    }
+}
+
+/// The line of a user's keys.
+fn line_of_client(alloc: Global, client: &Client) -> Result<Octets, Memory>
+    ensures { IfOk result (λ line. line ≡ key_line client.now) }
+{
+    let mut bytes = Vec::new(alloc);
+    client.line(&mut bytes)?;
+    Ok(Octets::from_vec(bytes))
+}
+
+/// The line of the keys of a user whose reader was made.
+fn line_on_client(alloc: Global, made: Result<Client, OwnerFault>) -> Result<Octets, Stop>
+    ensures { Says key_line made result }
+{
+    match made {
+        Ok(client) => match line_of_client(alloc, &client) {
+            Ok(line) => Ok(line),
+            Err(Memory) => Err(Stop::Memory),
+        },
+        Err(fault) => Err(stop_of_owner(fault)),
+    }
+}
+
+/// Whether the store that welcomes is one of this base master.
+fn admitted(base: &Key, greeting: Result<Welcome, OwnerFault>) -> Result<(), Stop>
+    ensures { result ≡ admitted base.now.bytes greeting }
+{
+    match greeting {
+        Ok(welcome) => {
+            if welcome.base_check == check_value(&Master::new(base)) {
+                Ok(())
+            } else {
+                Err(Stop::OtherKeys)
+            }
+        }
+        Err(fault) => Err(stop_of_owner(fault)),
+    }
+}
+
+/// Does what an owner can, and gives the line on it.
+pub fn command<P: Peer>(
+    alloc: Global,
+    owner: &Owner,
+    act: &Act,
+    bytes: &[u8],
+    peer: &mut P,
+) -> Result<Octets, Stop>
+    requires owners { IsOwners act.now }
+    requires list { HasListLimits act.now }
+    requires file { length bytes.now ≤ MAX_FILE_BYTES }
+    ensures performs { Performs P.asked P.failed owner.now act.now bytes.now
+        peer.old peer.new result }
+    ensures told { (v : Service) → P.serves peer.old v → v.surface ≡ owner.now.surface
+        → CommandsAsMachine owner.now act.now bytes.now v (P.serves peer.new) result }
+    ensures cause { StopsFor ⊥ (Rose (P.faults peer.old) (P.faults peer.new)) ⊥ ⊥ result }
+{
+    match act {
+        Act::Enrol { user } => line_on_update(alloc, owner.enrol(alloc, peer, user)),
+        Act::Grant { user, file } => line_on_update(alloc, owner.grant(alloc, peer, user, file)),
+        Act::Revoke { user, file } => line_on_update(alloc, owner.revoke(alloc, peer, user, file)),
+        Act::Create { file, list } => {
+            line_on_update(alloc, owner.create(alloc, peer, file, list, bytes))
+        }
+        Act::List { file } => line_on_list(alloc, file, owner.list(alloc, peer, file)),
+        Act::Key { user } => line_on_client(alloc, owner.client(alloc, peer, user)),
+        Act::Read { file: _ } | Act::Check => unreachable!(),
+    }
+}
+
+/// Asks the server for the check value of its store, and goes on where that is the base master's.
+pub fn greet_and_command<P: Peer>(
+    alloc: Global,
+    owner: &Owner,
+    base: &Key,
+    act: &Act,
+    bytes: &[u8],
+    peer: &mut P,
+) -> Result<Octets, Stop>
+    requires act { IsOwners act.now × HasListLimits act.now }
+    requires file { length bytes.now ≤ MAX_FILE_BYTES }
+    requires base { owner.now.base ≡ base.now.bytes }
+    ensures owns { Owns P.asked P.failed owner.now act.now bytes.now peer.old peer.new result }
+    ensures told { (v : Service) → P.serves peer.old v → v.surface ≡ owner.now.surface
+        → OwnsAsMachine owner.now act.now bytes.now v (P.serves peer.new) result }
+    ensures cause { StopsFor ⊥ (Rose (P.faults peer.old) (P.faults peer.new)) ⊥ ⊥ result }
+{
+    match admitted(base, owner.hello(alloc, peer)) {
+        Ok(()) => command(alloc, owner, act, bytes, peer),
+        Err(stop) => Err(stop),
+    }
+}

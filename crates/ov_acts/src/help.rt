@@ -1,0 +1,121 @@
+//! The texts of help: each command with its words.
+
+/// A command: its name, the words behind it, and what its help says.
+pub struct Line {
+    pub name: &'static str,
+    pub words: &'static [&'static str],
+    pub usage: &'static str,
+    pub about: &'static str,
+    pub after: &'static str,
+}
+
+// An example of a command, and the exit statuses.
+macro_rules! after {
+    ($name:literal, $example:literal) => {
+        concat!(
+            "Example: overctl ",
+            $name,
+            " ",
+            $example,
+            "\nExit status:  0 done         5 read failed    9 other masters  13 others faster\n",
+            "              2 wrong words  6 write failed  10 no key file    14 file too long\n",
+            "              3 refused      7 out of memory 11 wrong reply\n",
+            "              4 disk failed  8 no server     12 file damaged"
+        )
+    };
+}
+
+// A command of this name and these words, with the words of an example.
+macro_rules! command {
+    ($name:literal, [$($word:literal),*], $about:literal, $example:literal) => {
+        Line {
+            name: $name,
+            words: &[$($word),*],
+            usage: concat!("overctl ", $name $(, " ", $word)*),
+            about: $about,
+            after: after!($name, $example),
+        }
+    };
+}
+
+/// The commands.
+pub static LINES: [Line; 8] = [
+    command!(
+        "enrol",
+        ["ADDRESS", "KEYS", "USER"],
+        "Add a user: `ok EPOCH`",
+        "127.0.0.1:7400 keys.hex alice"
+    ),
+    command!(
+        "create",
+        ["ADDRESS", "KEYS", "FILE", "LIST", "PATH"],
+        "Store bytes as a file for the users of a list: `ok EPOCH`",
+        "127.0.0.1:7400 keys.hex report alice,bob report.txt"
+    ),
+    command!(
+        "grant",
+        ["ADDRESS", "KEYS", "USER", "FILE"],
+        "Put a user onto a file's list: `ok EPOCH`",
+        "127.0.0.1:7400 keys.hex carol report"
+    ),
+    command!(
+        "revoke",
+        ["ADDRESS", "KEYS", "USER", "FILE"],
+        "Take a user off a file's list: `ok EPOCH`",
+        "127.0.0.1:7400 keys.hex bob report"
+    ),
+    command!(
+        "list",
+        ["ADDRESS", "KEYS", "FILE"],
+        "Print a file's list: `list FILE NAMES`",
+        "127.0.0.1:7400 keys.hex report"
+    ),
+    command!(
+        "key",
+        ["ADDRESS", "KEYS", "USER"],
+        "Print the key line with which a user reads",
+        "127.0.0.1:7400 keys.hex alice > alice.key"
+    ),
+    command!(
+        "read",
+        ["ADDRESS", "USERKEY", "FILE"],
+        "Print a file's bytes, by a user's key line",
+        "127.0.0.1:7400 alice.key report > report.txt"
+    ),
+    command!(
+        "check",
+        ["KEYS"],
+        "Print the base master's check value, for a server's settings",
+        "keys.hex"
+    ),
+];
+
+/// What the program is.
+pub const ABOUT: &str = "Owner and reader of an over-encrypted store on a server";
+
+/// The words of the whole program.
+pub const USAGE: &str = "overctl COMMAND ADDRESS KEYS WORDS";
+
+/// What stands below the help of the whole program.
+pub const AFTER: &str = after!("enrol", "127.0.0.1:7400 keys.hex alice");
+
+/// The version.
+pub const VERSION: &str = "0.4.0";
+
+/// What a word of a line is.
+pub fn about_word(word: &str) -> &'static str {
+    match word {
+        "ADDRESS" => "where the server listens, as 127.0.0.1:7400",
+        "KEYS" => "the file of both masters: two lines of 64 hexadecimal digits",
+        "USERKEY" => "the file of a user's key line, as `overctl key` prints it",
+        "LIST" => "users with commas between them, or - for nobody",
+        "PATH" => "the file whose bytes are stored",
+        "USER" => "the user's name",
+        _ => "the file's name in the store",
+    }
+}
+
+/// The command of this name.
+pub fn line_of(name: &str) -> Option<&'static Line> {
+    LINES.as_slice().iter().find(|line| line.name == name)
+}

@@ -1,6 +1,0 @@
-use Rattle.overctl.proofs.Taking.{created_takes}
-use Rattle.overctl.proofs.act.body_of.Goals as goal
-
-pub returns-in-Create-clause-takes : goal.returns-in-Create-clause-takes
-returns-in-Create-clause-takes g c =
-    created_takes _ _ c.args.act.now _ _ c.in-Create.is c.bytes_of.ensures.takes
