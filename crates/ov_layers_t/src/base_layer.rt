@@ -18,8 +18,8 @@ use vectors::{ACCESSES, COVERS};
 fn master_from(start: u8) -> Master {
     let mut bytes = [0u8; 32];
     let mut next = start;
-    for i in 0..32usize {
-        bytes[i] = next;
+    for byte in &mut bytes {
+        *byte = next;
         next = next.wrapping_add(1);
     }
     Master::new(&Key { bytes })
