@@ -11,7 +11,7 @@ Run it from the top of the repository, and then lay the files out:
 
     pip install cryptography
     python3 tools/cipher_vectors.py
-    (cd crates/ov_aes && rt fmt); (cd crates/ov_ctr && rt fmt)
+    (cd crates/ov_aes_t && rt fmt); (cd crates/ov_ctr_t && rt fmt)
 """
 import hashlib
 from cryptography.hazmat.primitives.ciphers import Cipher, algorithms, modes
@@ -71,8 +71,8 @@ def number(data):
     return "0x" + data.hex()
 
 
-def key_fields(key):
-    return f"key_high: {number(key[:16])}, key_low: {number(key[16:])}"
+def key_field(key):
+    return 'key: *b"' + "".join(f"\\x{byte:02x}" for byte in key) + '"'
 
 
 def block(key, text):
@@ -103,7 +103,7 @@ def block_lines():
     inputs += [(bytes(32), bytes(16)), (bytes([255] * 32), bytes([255] * 16))]
     inputs += [(digest("key", i), digest("block", i)[:16]) for i in range(17)]
     for key, plain in inputs:
-        yield (f"    Vector {{ {key_fields(key)}, input: {number(plain)}, "
+        yield (f"    Vector {{ {key_field(key)}, input: {number(plain)}, "
                f"output: {number(block(key, plain))} }},\n")
 
 
@@ -112,7 +112,7 @@ def pad_lines():
         key = digest("pad", i)
         after = bytes(a ^ b for a, b in zip(text(length), pad(key, tag, file, start, length)))
         listed = ", ".join(f"0x{byte:02x}" for byte in after)
-        yield (f"    Vector {{ {key_fields(key)}, tag: {tag}, file: {file}, start: {start}, "
+        yield (f"    Vector {{ {key_field(key)}, tag: {tag}, file: {file}, start: {start}, "
                f"after: &[{listed}] }},\n")
 
 
@@ -132,11 +132,10 @@ def sum_lines():
 
 
 write(
-    "crates/ov_aes/src/tests/vectors.rt",
+    "crates/ov_aes_t/src/aes/vectors.rt",
     "Blocks under AES-256, as OpenSSL encrypts them.",
     """pub struct Vector {
-    pub key_high: u128,
-    pub key_low: u128,
+    pub key: [u8; 32],
     pub input: u128,
     pub output: u128,
 }
@@ -145,11 +144,10 @@ write(
     list(block_lines()),
 )
 write(
-    "crates/ov_ctr/src/tests/vectors.rt",
+    "crates/ov_ctr_t/src/ctr/vectors.rt",
     "Texts whose byte `i` is `31 i + 7` modulo 256, after the pad that OpenSSL computes.",
     """pub struct Vector {
-    pub key_high: u128,
-    pub key_low: u128,
+    pub key: [u8; 32],
     pub tag: u8,
     pub file: u32,
     pub start: u64,
@@ -160,7 +158,7 @@ write(
     list(pad_lines()),
 )
 write(
-    "crates/ov_ctr/src/tests/sums.rt",
+    "crates/ov_ctr_t/src/ctr/sums.rt",
     "FNV-1a sums of longer texts, whose byte `i` is `31 i + 7` modulo 256, after OpenSSL's pad.",
     """pub struct Vector {
     pub start: u64,

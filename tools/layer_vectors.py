@@ -7,7 +7,7 @@ then lay the files out:
 
     pip install cryptography
     python3 tools/layer_vectors.py
-    (cd crates/ov_base_layer && rt fmt); (cd crates/ov_surface && rt fmt)
+    (cd crates/ov_layers_t && rt fmt)
 
 The base master of a row has the bytes `start + i` modulo 256. Keys of files are SHA-256 digests of
 their own names. Byte i of a plaintext is `31 i + 7` modulo 256.
@@ -98,9 +98,13 @@ def access_rows():
                f"token: Token {{ bytes: {bytes_} }} }},")
 
 
+def text(length):
+    return bytes((31 * i + 7) % 256 for i in range(length))
+
+
 def part_rows():
     for file, start, length in PARTS:
-        plain = bytes((31 * i + 7) % 256 for i in range(length))
+        plain = text(length)
         base = coat(key("access"), b"B", file, start, plain)
         yield (f"Part {{ file: {file:#x}, start: {start}, base: {literal(base)}, "
                f"old: {literal(coat(key('old'), b'S', file, start, base))}, "
@@ -135,9 +139,14 @@ pub static ACCESSES: [Access; {len(ACCESSES)}] = [{"".join(access_rows())}];
 
 SURFACE = f"""//! Coats and tags, written by `tools/layer_vectors.py`.
 
-pub static ACCESS: [u8; 32] = {array(key("access"))};
-pub static OLD: [u8; 32] = {array(key("old"))};
-pub static NEW: [u8; 32] = {array(key("new"))};
+use ov_base::Key;
+
+pub static ACCESS: Key = Key {{ bytes: {array(key("access"))} }};
+pub static OLD: Key = Key {{ bytes: {array(key("old"))} }};
+pub static NEW: Key = Key {{ bytes: {array(key("new"))} }};
+
+/// The bytes of the longest part.
+pub const PLAINTEXT: [u8; 40] = {array(text(40))};
 
 /// A part of a file: its base text, that under the old and under the new surface key, and the tag of
 /// a file of these bytes.
@@ -155,9 +164,10 @@ pub static PARTS: [Part; {len(PARTS)}] = [{"".join(part_rows())}];
 
 
 def main():
-    for crate, text in [("ov_base_layer", BASE), ("ov_surface", SURFACE)]:
-        with open(f"crates/{crate}/src/tests/vectors.rt", "w", encoding="utf-8") as file:
-            file.write(text)
+    for module, rows in [("base_layer", BASE), ("surface", SURFACE)]:
+        path = f"crates/ov_layers_t/src/{module}/vectors.rt"
+        with open(path, "w", encoding="utf-8") as file:
+            file.write(rows)
 
 
 if __name__ == "__main__":

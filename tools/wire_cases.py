@@ -5,7 +5,7 @@ One frame of each kind, with each of its bytes changed in its lowest and in its 
 of the first wrong byte is computed by the reader below, which shares nothing with the crates, or 65535 where the bytes
 are another request or answer. Run it at the top of the repository:
 
-    python3 tools/wire_cases.py > crates/ov_wire/src/tests/cases.rt; (cd crates/ov_wire && rt fmt)
+    python3 tools/wire_cases.py > crates/ov_wire_t/src/wire/cases.rt; (cd crates/ov_wire_t && rt fmt)
 """
 
 GOOD = 65535

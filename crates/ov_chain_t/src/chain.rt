@@ -7,11 +7,11 @@ mod vectors;
 use ov_base::{Key, UserSet};
 use ov_chain::*;
 use ov_graph::{Graph, ListGraph, has_roots, plan_and_add};
-use ov_tokens::{Base, Chain, Layer, Master, Surface};
+use ov_tokens::{Base, Chain, Layer, Master, Step, Surface};
 use std::alloc::Global;
 use std::process::Abort;
 use std::test::Fail;
-use vectors::{BEFORE, NODES, NOWHERE, SETS, USERS};
+use vectors::{BEFORE, NOWHERE, SETS, USERS};
 
 const MASTER: Key = Key { bytes: [7; 32] };
 
@@ -39,28 +39,57 @@ fn chain_between<L: Layer, G: Graph<L, W>, const W: usize>(
     Ok(shortest::<L, G, W>(alloc, graph, root, node)?)
 }
 
-/// Makes sure that the chain from the root to the node goes over these nodes, and leads to the node's key.
+/// Makes sure that each step leads to the node behind it, from the last step on: the row has for
+/// each node the one before it, and the first step begins at the root.
+fn expect_steps<L: Layer>(rt: &impl Abort, steps: &[Step], root: u32, node: u32, row: &[u32]) {
+    let mut here = node;
+    for step in steps.iter().rev() {
+        assert_eq!(rt; step.to, L::label(here));
+        here = row.get(here as usize).copied().unwrap_or(NOWHERE);
+    }
+    assert_eq!(rt; here, root);
+}
+
+/// Makes sure that the chain from the root to the node is the row's, and leads to the node's key.
 fn expect_chain<L: Layer, G: Graph<L, W>, const W: usize>(
     rt: &impl Abort,
     alloc: Global,
     graph: &G,
     root: u32,
     node: u32,
-    way: &[u32],
+    row: &[u32],
 ) -> Result<(), Fail> {
     let chain = chain_between::<L, G, W>(rt, alloc, graph, root, node)?.ok_or("a chain")?;
     assert_eq!(rt; chain.root, root);
-    let steps = chain.steps.as_slice();
-    assert_eq!(rt; steps.len(), way.len());
-    for n in 0..way.len() {
-        assert_eq!(rt; steps[n].to, L::label(way[n]));
-    }
+    expect_steps::<L>(rt, chain.steps.as_slice(), root, node, row);
     let key = walk(&L::key_of(&Master::new(&MASTER), root), &chain);
     assert_eq!(rt; key.bytes, L::key_of(&Master::new(&MASTER), node).bytes);
     Ok(())
 }
 
+/// The set of those users whose bits are set.
+fn set_of_bits<const W: usize>(bits: u32) -> UserSet<W>
+    requires { (1 ≤ W) × (W ≤ MAX_SET_WORDS) }
+{
+    let mut set = UserSet::empty();
+    for user in 0..USERS as u32 {
+        if bits >> user & 1 == 1 {
+            set = set.with(user);
+        }
+    }
+    set
+}
+
 /// Users a to d, nodes 0 to 3; then {a, b}, {b, c} and all four.
+const FEW: [u32; 7] = [1, 2, 4, 8, 0b11, 0b110, 0b1111];
+
+/// A root, and the node before each: of b over {a, b}, of c over {b, c}, and of d.
+const FEW_BEFORE: [(u32, [u32; 7]); 3] = [
+    (1, [NOWHERE, NOWHERE, NOWHERE, NOWHERE, 1, NOWHERE, 4]),
+    (2, [NOWHERE, NOWHERE, NOWHERE, NOWHERE, NOWHERE, 2, 5]),
+    (3, [NOWHERE, NOWHERE, NOWHERE, NOWHERE, NOWHERE, NOWHERE, 3]),
+];
+
 fn four_users<L: Layer, G: Graph<L, W>, const W: usize>(
     rt: &impl Abort,
     alloc: Global,
@@ -68,18 +97,12 @@ fn four_users<L: Layer, G: Graph<L, W>, const W: usize>(
     requires { (1 ≤ W) × (W ≤ MAX_SET_WORDS) }
 {
     let mut graph = G::new(alloc)?;
-    for user in 0..4 {
-        put::<L, G, W>(rt, alloc, &mut graph, &UserSet::empty().with(user))?;
+    for bits in FEW {
+        put::<L, G, W>(rt, alloc, &mut graph, &set_of_bits(bits))?;
     }
-    let ab = UserSet::empty().with(0).with(1);
-    let bc = UserSet::empty().with(1).with(2);
-    let all = ab.union(&bc).with(3);
-    for set in [&ab, &bc, &all] {
-        put::<L, G, W>(rt, alloc, &mut graph, set)?;
+    for (root, row) in &FEW_BEFORE {
+        expect_chain::<L, G, W>(rt, alloc, &graph, *root, 6, row)?;
     }
-    expect_chain::<L, G, W>(rt, alloc, &graph, 3, 6, &[6])?;
-    expect_chain::<L, G, W>(rt, alloc, &graph, 1, 6, &[4, 6])?;
-    expect_chain::<L, G, W>(rt, alloc, &graph, 2, 6, &[5, 6])?;
     expect_chain::<L, G, W>(rt, alloc, &graph, 3, 3, &[])?;
     let apart = chain_between::<L, G, W>(rt, alloc, &graph, 0, 5)?;
     assert!(rt; apart.is_none());
@@ -93,58 +116,23 @@ fn four_users_in_each_layer(rt: HostRuntime) -> Result<(), Fail> {
     Ok(())
 }
 
-/// The set of those users whose bits are set.
-fn set_of_bits(bits: u32) -> UserSet<1> {
-    let mut set = UserSet::empty();
-    for user in 0..USERS as u32 {
-        if bits >> user & 1 == 1 {
-            set = set.with(user);
-        }
-    }
-    set
-}
-
-/// The nodes on the way from the root to the node, by the table's row of the root.
-fn way_to(
-    rt: &impl Abort,
-    alloc: Global,
-    before: &[u32],
-    root: u32,
-    node: u32,
-) -> Result<Vec<u32>, Fail> {
-    let mut way = Vec::new(alloc);
-    let mut here = node;
-    for _ in 0..NODES {
-        if here == root {
-            break;
-        }
-        way.push(here)?;
-        let near = before.get(here as usize).copied().unwrap_or(NOWHERE);
-        assert!(rt; near != NOWHERE, "a way to the root");
-        here = near;
-    }
-    way.reverse();
-    Ok(way)
-}
-
 /// Makes sure that the chains from a root are those of the table's row.
 fn expect_row(
     rt: &impl Abort,
     alloc: Global,
     graph: &ListGraph<Base, 1>,
     root: u32,
-    before: &[u32],
+    row: &[u32],
 ) -> Result<(), Fail> {
-    assert_eq!(rt; before.len(), NODES);
-    for node in 0..NODES {
-        let number = node as u32;
-        if before[node] != NOWHERE || number == root {
-            let way = way_to(rt, alloc, before, root, number)?;
-            expect_chain(rt, alloc, graph, root, number, &way)?;
+    let mut node = 0u32;
+    for before in row {
+        if *before != NOWHERE || node == root {
+            expect_chain(rt, alloc, graph, root, node, row)?;
         } else {
-            let none = chain_between(rt, alloc, graph, root, number)?;
+            let none = chain_between(rt, alloc, graph, root, node)?;
             assert!(rt; none.is_none());
         }
+        node = node.saturating_add(1);
     }
     Ok(())
 }
@@ -155,8 +143,10 @@ fn chains_of_every_node(rt: HostRuntime) -> Result<(), Fail> {
     for bits in &SETS {
         put(&rt, rt.alloc(), &mut graph, &set_of_bits(*bits))?;
     }
-    for user in 0..USERS {
-        expect_row(&rt, rt.alloc(), &graph, user as u32, &BEFORE[user])?;
+    let mut root = 0u32;
+    for row in &BEFORE {
+        expect_row(&rt, rt.alloc(), &graph, root, row)?;
+        root = root.saturating_add(1);
     }
     Ok(())
 }

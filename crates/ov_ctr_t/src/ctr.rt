@@ -9,26 +9,18 @@ use ov_ctr::apply_at;
 use sums::SUMS;
 use vectors::PADS;
 
-const LONGEST: usize = 48;
-
-const LONGEST_SUMMED: usize = 4100;
-
-fn key_from(high: u128, low: u128) -> [u8; 32] {
-    let mut key = [0u8; 32];
-    let high = high.to_be_bytes();
-    let low = low.to_be_bytes();
-    for i in 0..16usize {
-        key[i] = high[i];
-        key[16 + i] = low[i];
+/// The text whose byte `i` is `31 i + 7` modulo 256.
+fn fill(text: &mut [u8]) {
+    let mut next = 7u8;
+    for byte in text {
+        *byte = next;
+        next = next.wrapping_add(31);
     }
-    key
 }
 
 fn text() -> [u8; 48] {
     let mut text = [0u8; 48];
-    for i in 0..LONGEST {
-        text[i] = ((31 * i + 7) % 256) as u8;
-    }
+    fill(&mut text);
     text
 }
 
@@ -37,15 +29,9 @@ fn pads_of_another_implementation(rt: HostRuntime) {
     for vector in &PADS {
         let mut bytes = text();
         let count = vector.after.len();
-        assert!(rt; count <= LONGEST && vector.start <= 4294967296 - count as u64);
+        assert!(rt; count <= 48 && vector.start <= 4294967296 - count as u64);
         let part = &mut bytes[..count];
-        apply_at(
-            &key_from(vector.key_high, vector.key_low),
-            vector.tag,
-            vector.file,
-            vector.start,
-            part,
-        );
+        apply_at(&vector.key, vector.tag, vector.file, vector.start, part);
         assert_eq!(rt;
             &bytes[..count],
             vector.after,
@@ -68,11 +54,9 @@ fn sum_of(bytes: &[u8]) -> u64 {
 #[test]
 fn sums_of_another_implementation(rt: HostRuntime) {
     let mut text = [0u8; 4100];
-    for i in 0..LONGEST_SUMMED {
-        text[i] = ((31 * i + 7) % 256) as u8;
-    }
+    fill(&mut text);
     for vector in &SUMS {
-        assert!(rt; vector.length <= LONGEST_SUMMED && vector.start <= 1048576);
+        assert!(rt; vector.length <= 4100 && vector.start <= 1048576);
         let mut bytes = text;
         let part = &mut bytes[..vector.length];
         apply_at(&[9; 32], 1, 2, vector.start, part);

@@ -18,8 +18,8 @@ use vectors::{ACCESSES, COVERS};
 fn master_from(start: u8) -> Master {
     let mut bytes = [0u8; 32];
     let mut next = start;
-    for i in 0..32usize {
-        bytes[i] = next;
+    for byte in &mut bytes {
+        *byte = next;
         next = next.wrapping_add(1);
     }
     Master::new(&Key { bytes })
@@ -75,6 +75,47 @@ fn give<G: Graph<Base, W>, const W: usize>(
     Ok(())
 }
 
+/// The users a and b.
+fn pair<const W: usize>() -> UserSet<W>
+    requires { (1 ≤ W) × (W ≤ MAX_SET_WORDS) }
+{
+    UserSet::empty().with(0).with(1)
+}
+
+/// Who holds the nodes before c is given access to the node 3.
+fn expect_before<G: Graph<Base, W>, const W: usize>(rt: &impl Abort, layer: &BaseLayer<G, W>)
+    requires { (1 ≤ W) × (W ≤ MAX_SET_WORDS) }
+{
+    assert_eq!(rt; layer.graph().count(), 4);
+    assert!(rt; layer.holders(3) == pair());
+    assert!(rt; layer.plan_grant(2, 3));
+    assert!(rt; !layer.plan_grant(1, 3));
+}
+
+/// Who holds the nodes after it.
+fn expect_after<G: Graph<Base, W>, const W: usize>(rt: &impl Abort, layer: &BaseLayer<G, W>)
+    requires { (1 ≤ W) × (W ≤ MAX_SET_WORDS) }
+{
+    assert_eq!(rt; layer.graph().count(), 4);
+    assert!(rt; layer.holders(3) == UserSet::empty().with(0).with(1).with(2));
+    assert!(rt; layer.holders(1) == UserSet::empty().with(1));
+    assert!(rt; !layer.plan_grant(2, 3));
+    assert!(rt; layer.plan_grant(2, 1));
+}
+
+/// Makes sure that a list of a and b has the node 3 already.
+fn expect_old<G: Graph<Base, W>, const W: usize>(
+    rt: &impl Abort,
+    alloc: Global,
+    layer: &BaseLayer<G, W>,
+) -> Result<(), Fail>
+    requires { (1 ≤ W) × (W ≤ MAX_SET_WORDS) }
+{
+    let again = layer.plan_create(alloc, &pair())?;
+    assert_eq!(rt; (again.node, again.fresh), (3, false));
+    Ok(())
+}
+
 /// Users a, b and c at nodes 0 to 2, {a, b} at node 3, and access to it for c.
 fn three_users<G: Graph<Base, W>, const W: usize>(
     rt: &impl Abort,
@@ -84,29 +125,20 @@ fn three_users<G: Graph<Base, W>, const W: usize>(
     requires { (1 ≤ W) × (W ≤ MAX_SET_WORDS) }
 {
     let master = master_from(0);
-    let pair = UserSet::empty().with(0).with(1);
     for user in 0..3 {
         put(rt, alloc, &mut layer, &master, &UserSet::empty().with(user))?;
     }
-    put(rt, alloc, &mut layer, &master, &pair)?;
-    assert_eq!(rt; layer.graph().count(), 4);
-    assert!(rt; layer.holders(3) == pair);
-    assert!(rt; layer.plan_grant(2, 3) && !layer.plan_grant(1, 3));
-    let token = seal_access(&master, 2, 3);
+    put(rt, alloc, &mut layer, &master, &pair())?;
+    expect_before(rt, &layer);
     let grant = Grant {
         user: 2,
         node: 3,
-        token,
+        token: seal_access(&master, 2, 3),
     };
     give(rt, &mut layer, grant)?;
-    assert!(rt; layer.graph().count() == 4);
-    assert!(rt; layer.holders(3) == pair.with(2));
-    assert!(rt; layer.holders(1) == UserSet::empty().with(1));
-    assert!(rt; !layer.plan_grant(2, 3) && layer.plan_grant(2, 1));
+    expect_after(rt, &layer);
     assert_eq!(rt; layer.accesses(), [grant].as_slice());
-    let again = layer.plan_create(alloc, &pair)?;
-    assert_eq!(rt; (again.node, again.fresh), (3, false));
-    Ok(())
+    expect_old(rt, alloc, &layer)
 }
 
 #[test]

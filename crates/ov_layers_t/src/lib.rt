@@ -1,5 +1,6 @@
-//! Tests of `ov_base_layer` and `ov_surface`. Nothing stands here but tests: the contracts of
-//! what they call are proved in those crates.
+//! Tests of `ov_base_layer` and `ov_surface`: tokens, coats and tags under chosen keys, and what a
+//! layer of three users answers. The expected bytes come from Python's `hmac` and `hashlib`, and
+//! from OpenSSL's AES-256 in counter mode.
 #![tactic(auto)]
 
 #[cfg(test)]

@@ -7,42 +7,45 @@ mod vectors;
 use ov_base::{Key, Mode, UserSet};
 use ov_surface::*;
 use std::process::Abort;
-use vectors::{ACCESS, NEW, OLD, PARTS, Part};
+use vectors::{ACCESS, NEW, OLD, PARTS, PLAINTEXT, Part};
 
-const LONGEST: usize = 40;
-
-fn plaintext() -> [u8; 40] {
-    let mut text = [0u8; 40];
-    for i in 0..LONGEST {
-        text[i] = ((31 * i + 7) % 256) as u8;
-    }
-    text
+/// Makes sure that the first coats are those of the part, and that its tag is.
+fn expect_first(rt: &impl Abort, part: &Part) {
+    let count = part.base.len();
+    assert!(rt; count <= 40 && part.start <= 4294967296 - count as u64);
+    let mut text = PLAINTEXT;
+    let bytes = &mut text[..count];
+    assert_eq!(rt; file_tag(&ACCESS, part.file, bytes), part.tag);
+    base_encrypt(&ACCESS, part.file, part.start, bytes);
+    assert_eq!(rt; &bytes[..], part.base);
+    over_encrypt(&OLD, part.file, part.start, bytes);
+    assert_eq!(rt; &bytes[..], part.old);
 }
 
-fn expect_part(rt: &impl Abort, part: &Part) {
-    let keys = [ACCESS, OLD, NEW].map(|bytes| Key { bytes });
-    let [access, old, new] = &keys;
-    let count = part.base.len();
-    assert!(rt; count <= LONGEST && part.start <= 4294967296 - count as u64);
-    let mut text = plaintext();
+/// Makes sure that a change of keys makes `after` of the part's bytes `before`.
+fn expect_change(
+    rt: &impl Abort,
+    part: &Part,
+    keys: (Option<&Key>, Option<&Key>),
+    before: &[u8],
+    after: &[u8],
+) {
+    let count = before.len();
+    assert!(rt; count <= 40 && part.start <= 4294967296 - count as u64);
+    let mut text = [0u8; 40];
     let bytes = &mut text[..count];
-    assert_eq!(rt; file_tag(access, part.file, bytes), part.tag);
-    base_encrypt(access, part.file, part.start, bytes);
-    assert_eq!(rt; &bytes[..], part.base);
-    over_encrypt(old, part.file, part.start, bytes);
-    assert_eq!(rt; &bytes[..], part.old);
-    reencrypt(Some(old), Some(new), part.file, part.start, bytes);
-    assert_eq!(rt; &bytes[..], part.new);
-    reencrypt(Some(new), None, part.file, part.start, bytes);
-    assert_eq!(rt; &bytes[..], part.base);
-    reencrypt(None, Some(old), part.file, part.start, bytes);
-    assert_eq!(rt; &bytes[..], part.old);
+    bytes.copy_from_slice(before);
+    reencrypt(keys.0, keys.1, part.file, part.start, bytes);
+    assert_eq!(rt; &bytes[..], after);
 }
 
 #[test]
 fn coats_of_another_program(rt: HostRuntime) {
     for part in &PARTS {
-        expect_part(&rt, part);
+        expect_first(&rt, part);
+        expect_change(&rt, part, (Some(&OLD), Some(&NEW)), part.old, part.new);
+        expect_change(&rt, part, (Some(&NEW), None), part.new, part.base);
+        expect_change(&rt, part, (None, Some(&OLD)), part.base, part.old);
     }
 }
 

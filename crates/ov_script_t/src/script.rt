@@ -6,6 +6,7 @@ use ov_base::{Name, Names, Octets, Refusal};
 use ov_io::MemSource;
 use ov_script::{Command, Next, Reply, Script, line};
 use std::alloc::Global;
+use std::process::Abort;
 use std::test::Fail;
 
 const PIECES: [usize; 3] = [1, 7, 4096];
@@ -93,61 +94,69 @@ fn told(alloc: Global, text: &[u8], piece: usize) -> Result<Vec<u8>, Fail>
     Err(Fail::from("no end"))
 }
 
+/// Makes sure that a script says this, in pieces of each size.
+fn expect_told(rt: &impl Abort, alloc: Global, text: &[u8], says: &[u8]) -> Result<(), Fail> {
+    for piece in PIECES {
+        prove!(piece > 0);
+        assert_eq!(rt; told(alloc, text, piece)?.as_slice(), says);
+    }
+    Ok(())
+}
+
+/// A script, and what it says.
+const ROWS: [(&[u8], &[u8]); 37] = [
+    (b"", b"end"),
+    (b"enrol alice\nenrol bob\n", b"enrol alice ;enrol bob ;end"),
+    (
+        b"create f1 alice 5\nhello\nread alice f1\n",
+        b"create f1 alice/+ hello ;read alice f1 ;end",
+    ),
+    (
+        b"grant a f\nrevoke a f\nread a f\nlist f\nepoch\n",
+        b"grant a f ;revoke a f ;read a f ;list f ;epoch ;end",
+    ),
+    (b"create f - 0\n\nlist f\n", b"create f + ;list f ;end"),
+    (b"create f b,a,b,c,a 1\nx\n", b"create f b/a/c/+ x ;end"),
+    (b"create f a,a- 1\nx\n", b"create f a/a-/+ x ;end"),
+    (
+        b"create f a 3\n\n\n\n\nenrol Bob\n",
+        b"create f a/+ \n\n\n ;bad 6",
+    ),
+    (b"create f a 3\nabcd\n", b"bad 1"),
+    (b"enrol a\ncreate f a 3\nab", b"enrol a ;bad 2"),
+    (b"create f a 3\nabc", b"bad 1"),
+    (b"create f a 03\nabc\n", b"bad 1"),
+    (b"create f a 1048577", b"bad 1"),
+    (b"create f a, 1\nx\n", b"bad 1"),
+    (b"create f a,,b 1\nx\n", b"bad 1"),
+    (b"create f ,a 1\nx\n", b"bad 1"),
+    (b"create f -,a 1\nx\n", b"bad 1"),
+    (b"create f a,- 1\nx\n", b"bad 1"),
+    (b"create f -- 1\nx\n", b"bad 1"),
+    (b"create f a,B 1\nx\n", b"bad 1"),
+    (b"create f  a 1\nx\n", b"bad 1"),
+    (b"create f a 1 \nx\n", b"bad 1"),
+    (b"create f a +1\nx\n", b"bad 1"),
+    (b"create f a\n", b"bad 1"),
+    (b"read a\n", b"bad 1"),
+    (b"read a f g\n", b"bad 1"),
+    (b"read  a f\n", b"bad 1"),
+    (b"grant a,b f\n", b"bad 1"),
+    (b"list f g\n", b"bad 1"),
+    (b"epoch \n", b"bad 1"),
+    (b"epochs\n", b"bad 1"),
+    (b"enrol a\r\n", b"bad 1"),
+    (b"enrol a", b"bad 1"),
+    (b"\n", b"bad 1"),
+    (b"quit\n", b"bad 1"),
+    (b"reed a f\n", b"bad 1"),
+    (b"erol a\n", b"bad 1"),
+];
+
 #[test]
 fn scripts_and_what_they_say(rt: HostRuntime) -> Result<(), Fail> {
-    let rows = [
-        (b"".as_slice(), b"end".as_slice()),
-        (b"enrol alice\nenrol bob\n", b"enrol alice ;enrol bob ;end"),
-        (
-            b"create f1 alice 5\nhello\nread alice f1\n",
-            b"create f1 alice/+ hello ;read alice f1 ;end",
-        ),
-        (
-            b"grant a f\nrevoke a f\nread a f\nlist f\nepoch\n",
-            b"grant a f ;revoke a f ;read a f ;list f ;epoch ;end",
-        ),
-        (b"create f - 0\n\nlist f\n", b"create f + ;list f ;end"),
-        (b"create f b,a,b,c,a 1\nx\n", b"create f b/a/c/+ x ;end"),
-        (b"create f a,a- 1\nx\n", b"create f a/a-/+ x ;end"),
-        (
-            b"create f a 3\n\n\n\n\nenrol Bob\n",
-            b"create f a/+ \n\n\n ;bad 6",
-        ),
-        (b"create f a 3\nabcd\n", b"bad 1"),
-        (b"enrol a\ncreate f a 3\nab", b"enrol a ;bad 2"),
-        (b"create f a 3\nabc", b"bad 1"),
-        (b"create f a 03\nabc\n", b"bad 1"),
-        (b"create f a 1048577", b"bad 1"),
-        (b"create f a, 1\nx\n", b"bad 1"),
-        (b"create f a,,b 1\nx\n", b"bad 1"),
-        (b"create f ,a 1\nx\n", b"bad 1"),
-        (b"create f -,a 1\nx\n", b"bad 1"),
-        (b"create f a,- 1\nx\n", b"bad 1"),
-        (b"create f -- 1\nx\n", b"bad 1"),
-        (b"create f a,B 1\nx\n", b"bad 1"),
-        (b"create f  a 1\nx\n", b"bad 1"),
-        (b"create f a 1 \nx\n", b"bad 1"),
-        (b"create f a +1\nx\n", b"bad 1"),
-        (b"create f a\n", b"bad 1"),
-        (b"read a\n", b"bad 1"),
-        (b"read a f g\n", b"bad 1"),
-        (b"read  a f\n", b"bad 1"),
-        (b"grant a,b f\n", b"bad 1"),
-        (b"list f g\n", b"bad 1"),
-        (b"epoch \n", b"bad 1"),
-        (b"epochs\n", b"bad 1"),
-        (b"enrol a\r\n", b"bad 1"),
-        (b"enrol a", b"bad 1"),
-        (b"\n", b"bad 1"),
-        (b"quit\n", b"bad 1"),
-        (b"reed a f\n", b"bad 1"),
-        (b"erol a\n", b"bad 1"),
-    ];
-    for (text, says) in rows {
-        for piece in PIECES {
-            prove!(piece > 0);
-            assert_eq!(rt; told(rt.alloc(), text, piece)?.as_slice(), says);
-        }
+    for (text, says) in &ROWS {
+        expect_told(&rt, rt.alloc(), text, says)?;
     }
     Ok(())
 }
@@ -163,23 +172,33 @@ fn with_body(alloc: Global, size: usize) -> Result<Vec<u8>, Fail> {
     Ok(text)
 }
 
+/// Makes sure that a script has a `create` of so many bytes, and then a bad line with this number.
+fn expect_body(
+    rt: &impl Abort,
+    mut script: Script<MemSource>,
+    size: usize,
+    bad: u64,
+) -> Result<(), Fail> {
+    match script.next() {
+        Ok(Next::Command(Command::Create { bytes, .. })) => {
+            assert_eq!(rt; bytes.as_slice().len(), size)
+        }
+        _ => return Err(Fail::from("no create")),
+    }
+    match script.next() {
+        Ok(Next::BadLine { line }) => assert_eq!(rt; line, bad),
+        _ => return Err(Fail::from("no bad line")),
+    }
+    Ok(())
+}
+
 #[test]
 fn bodies_of_many_sizes(rt: HostRuntime) -> Result<(), Fail> {
-    let alloc = rt.alloc();
     for (size, bad) in [(0, 3), (15, 6), (16, 7), (17, 7), (4096, 823)] {
+        let text = with_body(rt.alloc(), size)?;
         for piece in PIECES {
             prove!(piece > 0);
-            let mut script = script_of(alloc, &with_body(alloc, size)?, piece)?;
-            match script.next() {
-                Ok(Next::Command(Command::Create { bytes, .. })) => {
-                    assert_eq!(rt; bytes.as_slice().len(), size)
-                }
-                _ => return Err(Fail::from("no create")),
-            }
-            match script.next() {
-                Ok(Next::BadLine { line }) => assert_eq!(rt; line, bad),
-                _ => return Err(Fail::from("no bad line")),
-            }
+            expect_body(&rt, script_of(rt.alloc(), &text, piece)?, size, bad)?;
         }
     }
     Ok(())
@@ -216,48 +235,55 @@ fn with_line(alloc: Global, size: usize) -> Result<Vec<u8>, Fail> {
 #[test]
 fn the_longest_line(rt: HostRuntime) -> Result<(), Fail> {
     let alloc = rt.alloc();
-    let rows = [
-        (MAX_LINE_BYTES - 1, b"create f a/b/+ ;end".as_slice()),
+    let rows: [(usize, &[u8]); 3] = [
+        (MAX_LINE_BYTES - 1, b"create f a/b/+ ;end"),
         (MAX_LINE_BYTES, b"create f a/bb/+ ;end"),
         (MAX_LINE_BYTES + 1, b"bad 1"),
     ];
     for (size, says) in rows {
         let text = with_line(alloc, size)?;
         assert_eq!(rt; text.len(), size + 1);
-        for piece in PIECES {
-            prove!(piece > 0);
-            assert_eq!(rt; told(alloc, &text, piece)?.as_slice(), says);
-        }
+        expect_told(&rt, alloc, &text, says)?;
     }
     Ok(())
 }
 
+/// A name.
+fn name(text: &[u8]) -> Result<Name, Fail> {
+    Ok(Name::read(text).ok_or("a name")?)
+}
+
+/// The line of the list of file `f1` with these names.
+fn put_list(texts: &[&[u8]], out: &mut Vec<u8>) -> Result<(), Fail> {
+    let mut names = Names::new(*out.allocator());
+    for text in texts {
+        names.insert(name(text)?)?;
+    }
+    let file = name(b"f1")?;
+    line(&Reply::List { file, names }, out)?;
+    Ok(())
+}
+
+const LINES: &[u8] =
+    b"ok 4294967295\ndata alice f1 5\nhe\nlo\nlist f1 -\nlist f1 b\nlist f1 b,a1,c\n\
+    epoch 2\nrefused 4 NoPath\nend epoch 3\n";
+
 #[test]
 fn reply_lines(rt: HostRuntime) -> Result<(), Fail> {
-    let alloc = rt.alloc();
-    let name = |text: &[u8]| Name::read(text);
-    let mut out = Vec::new(alloc);
+    let mut out = Vec::new(rt.alloc());
     line(&Reply::Accepted(4_294_967_295), &mut out)?;
     let data = Reply::Bytes {
-        user: name(b"alice").ok_or("a name")?,
-        file: name(b"f1").ok_or("a name")?,
-        bytes: Octets::copy(alloc, b"he\nlo")?,
+        user: name(b"alice")?,
+        file: name(b"f1")?,
+        bytes: Octets::copy(rt.alloc(), b"he\nlo")?,
     };
     line(&data, &mut out)?;
-    let lists: [&[&[u8]]; 3] = [&[], &[b"b"], &[b"b", b"a1", b"c"]];
-    for texts in lists {
-        let mut names = Names::new(alloc);
-        for text in texts {
-            names.insert(name(text).ok_or("a name")?)?;
-        }
-        let file = name(b"f1").ok_or("a name")?;
-        line(&Reply::List { file, names }, &mut out)?;
-    }
+    put_list(&[], &mut out)?;
+    put_list(&[b"b"], &mut out)?;
+    put_list(&[b"b", b"a1", b"c"], &mut out)?;
     line(&Reply::Epoch(2), &mut out)?;
     line(&Reply::Refused(Refusal::NoPath), &mut out)?;
     line(&Reply::End(3), &mut out)?;
-    let lines = b"ok 4294967295\ndata alice f1 5\nhe\nlo\nlist f1 -\nlist f1 b\nlist f1 b,a1,c\n\
-        epoch 2\nrefused 4 NoPath\nend epoch 3\n";
-    assert_eq!(rt; out.as_slice(), lines.as_slice());
+    assert_eq!(rt; out.as_slice(), LINES);
     Ok(())
 }

@@ -53,8 +53,8 @@ fn told(command: &Command, alloc: Global) -> Result<Vec<u8>, Fail> {
 
 #[test]
 fn a_workload_one_after_another(rt: HostRuntime) -> Result<(), Fail> {
-    let rows = [
-        (0, b"enrol u0 ".as_slice()),
+    let rows: [(u32, &[u8]); 9] = [
+        (0, b"enrol u0 "),
         (7, b"enrol u7 "),
         (8, b"create f0 u0 u2 u5 u6 1764 0..227"),
         (9, b"list f0 "),
@@ -81,8 +81,8 @@ fn a_workload_one_after_another(rt: HostRuntime) -> Result<(), Fail> {
 
 #[test]
 fn commands_of_workloads_by_their_places(rt: HostRuntime) -> Result<(), Fail> {
-    let rows = [
-        (u64::MAX, 3, 8, b"list f0 ".as_slice()),
+    let rows: [(u64, u32, u32, &[u8]); 4] = [
+        (u64::MAX, 3, 8, b"list f0 "),
         (u64::MAX, 3, 10, b"grant u1 f0 "),
         (7, 20_000, 46, b"create f11 u0 u1 u6 3015 38..236"),
         (7, 20_000, 20_007, b"grant u2 f2656 "),

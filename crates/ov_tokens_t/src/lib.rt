@@ -1,5 +1,5 @@
-//! Tests of `ov_tokens`. Nothing stands here but tests: the contracts of
-//! what they call are proved in those crates.
+//! Tests of `ov_tokens`: keys, tokens and check values under chosen masters, spellings of labels, and
+//! lists. The expected values come from Python's `hmac` and `hashlib`.
 #![tactic(auto)]
 
 #[cfg(test)]

@@ -12,8 +12,8 @@ use vectors::{ROWS, Row};
 fn counted_key(start: u8, step: u8) -> Key {
     let mut bytes = [0u8; 32];
     let mut next = start;
-    for i in 0..32usize {
-        bytes[i] = next;
+    for byte in &mut bytes {
+        *byte = next;
         next = next.wrapping_add(step);
     }
     Key { bytes }

@@ -68,25 +68,41 @@ fn place_in(rt: &impl Abort, alloc: Global, request: &[u8], frame: &[u8]) -> Res
     }
 }
 
-fn expect_case(rt: &impl Abort, alloc: Global, case: &Case) -> Result<(), Fail> {
-    assert_eq!(rt; place_in(rt, alloc, case.request, case.frame)?, GOOD);
+/// Makes sure that the first wrong byte of a frame that is cut anywhere is the one that is missing.
+fn expect_cuts(rt: &impl Abort, alloc: Global, case: &Case) -> Result<(), Fail> {
     for len in 0..case.frame.len() {
-        let cut = &case.frame[..len];
+        let cut = case.frame.get(..len).ok_or("a cut frame")?;
         let place = place_in(rt, alloc, case.request, cut)?;
         // Bytes that are cut are fewer bytes.
         let is_bytes = cut.first() == Some(&0x86);
         assert!(rt; place as usize == len || is_bytes && place == GOOD);
     }
-    for (places, bit) in [(case.low, 1), (case.high, 0x80)] {
-        for (i, place) in places.iter().enumerate() {
-            let mut frame = case.frame.to_vec(alloc)?;
-            if i < frame.len() {
-                frame[i] ^= bit;
-            }
-            assert_eq!(rt; place_in(rt, alloc, case.request, &frame)?, *place as u32);
+    Ok(())
+}
+
+/// Makes sure of the place of the first wrong byte where one byte is changed in this bit.
+fn expect_changes(
+    rt: &impl Abort,
+    alloc: Global,
+    case: &Case,
+    places: &[u16],
+    bit: u8,
+) -> Result<(), Fail> {
+    for (i, place) in places.iter().enumerate() {
+        let mut frame = case.frame.to_vec(alloc)?;
+        if let Some(byte) = frame.get_mut(i) {
+            *byte ^= bit;
         }
+        assert_eq!(rt; place_in(rt, alloc, case.request, &frame)?, *place as u32);
     }
     Ok(())
+}
+
+fn expect_case(rt: &impl Abort, alloc: Global, case: &Case) -> Result<(), Fail> {
+    assert_eq!(rt; place_in(rt, alloc, case.request, case.frame)?, GOOD);
+    expect_cuts(rt, alloc, case)?;
+    expect_changes(rt, alloc, case, case.low, 1)?;
+    expect_changes(rt, alloc, case, case.high, 0x80)
 }
 
 #[test]
@@ -146,19 +162,25 @@ fn frames_in_pieces(rt: &impl Abort, alloc: Global, size: usize) -> Result<Vec<O
     Ok(frames)
 }
 
+/// Makes sure that the frames are those of the trace: each has its length, and with their length
+/// fields they are its bytes.
+fn expect_trace(rt: &impl Abort, alloc: Global, frames: &[Octets]) -> Result<(), Fail> {
+    assert_eq!(rt; frames.len(), LENGTHS.len());
+    let mut bytes = Vec::new(alloc);
+    for (frame, len) in frames.iter().zip(LENGTHS) {
+        assert_eq!(rt; frame.as_slice().len(), len as usize);
+        bytes.extend_from_slice(&len.to_be_bytes())?;
+        bytes.extend_from_slice(frame.as_slice())?;
+    }
+    assert_eq!(rt; bytes.as_slice(), TRACE);
+    Ok(())
+}
+
 #[test]
 fn pieces_of_any_size_give_the_same_frames(rt: HostRuntime) -> Result<(), Fail> {
     for size in [1, 2, 653] {
         let frames = frames_in_pieces(&rt, rt.alloc(), size)?;
-        assert_eq!(rt; frames.len(), LENGTHS.len());
-        let mut rest = TRACE;
-        for (frame, len) in frames.iter().zip(LENGTHS) {
-            let end = len.saturating_add(4);
-            assert!(rt; 4 <= end && end <= rest.len());
-            assert_eq!(rt; frame.as_slice(), &rest[4..end]);
-            rest = &rest[end..];
-        }
-        assert!(rt; rest.is_empty());
+        expect_trace(&rt, rt.alloc(), &frames)?;
     }
     Ok(())
 }
@@ -181,22 +203,23 @@ fn frames_of_a_trace_are_read_and_written_again(rt: HostRuntime) -> Result<(), F
     Ok(())
 }
 
+/// Makes sure that a decoder gives the frame before this stream, and then stays bad.
+fn expect_bad(rt: &impl Abort, alloc: Global, stream: &[u8]) -> Result<(), Fail> {
+    let mut decoder = Decoder::new(alloc)?;
+    let mut frames = Vec::new(alloc);
+    let bad = Err(FeedFault::BadFrame { at: 6 });
+    assert_eq!(rt; decoder.feed(b"\0\0\0\x02\x01", &mut frames), Ok(()));
+    assert_eq!(rt; (decoder.pending(), frames.len()), (5, 0));
+    assert_eq!(rt; decoder.feed(b"\x02", &mut frames), Ok(()));
+    assert_eq!(rt; decoder.feed(stream, &mut frames), bad);
+    assert_eq!(rt; decoder.feed(b"\0\0\0\x01\x01", &mut frames), bad);
+    assert_eq!(rt; (decoder.pending(), frames.len()), (0, 1));
+    Ok(())
+}
+
 #[test]
 fn a_bad_length_field_stays_bad(rt: HostRuntime) -> Result<(), Fail> {
-    for stream in [
-        b"\0\0\0\0\x01".as_slice(),
-        b"\0\x11\0\x01",
-        b"\xff\xff\xff\xff",
-    ] {
-        let mut decoder = Decoder::new(rt.alloc())?;
-        let mut frames = Vec::new(rt.alloc());
-        let bad = Err(FeedFault::BadFrame { at: 6 });
-        assert_eq!(rt; decoder.feed(b"\0\0\0\x02\x01", &mut frames), Ok(()));
-        assert_eq!(rt; (decoder.pending(), frames.len()), (5, 0));
-        assert_eq!(rt; decoder.feed(b"\x02", &mut frames), Ok(()));
-        assert_eq!(rt; decoder.feed(stream, &mut frames), bad);
-        assert_eq!(rt; decoder.feed(b"\0\0\0\x01\x01", &mut frames), bad);
-        assert_eq!(rt; (decoder.pending(), frames.len()), (0, 1));
-    }
-    Ok(())
+    expect_bad(&rt, rt.alloc(), b"\0\0\0\0\x01")?;
+    expect_bad(&rt, rt.alloc(), b"\0\x11\0\x01")?;
+    expect_bad(&rt, rt.alloc(), b"\xff\xff\xff\xff")
 }
