@@ -1,0 +1,65 @@
+-- Rows of layers: their definitions at histories of a few updates, and at single nodes.
+use Rattle.std.specs.Prelude.{◌≡◌, ℕ, List, [], ◌∷◌, Some, None}
+use Rattle.ov_base.specs.declared.mode.Mode.TheVariants.{Delta}
+use Rattle.ov_tokens.specs.declared.label.Kind.TheVariants.{Derive, Surface as SurfaceLabels}
+use Rattle.ov_tokens.specs.Keys.{access_key_of, node_key}
+use Rattle.ov_surface.specs.Coats.{stored_under}
+use Rattle.ov_history.specs.History.{Update, Enrolled, Created, Granted}
+use Rattle.ov_history.specs.Layers.{Layers, Place, holders, layers_of}
+use Rattle.ov_history.specs.Masters.{access_key}
+use Rattle.ov_history.specs.Rewrites.{restored, surface_key}
+
+-- the layers after these updates, in Delta
+abbrev pub in_delta : List Update → Layers
+in_delta updates = layers_of (record { mode = Delta; first = 0; updates = updates })
+
+-- three users, and two files for the first two of them, which have one base node, of number 3
+abbrev pub two_files : List Update → List Update
+two_files updates =
+    Enrolled (97 ∷ []) ∷ Enrolled (98 ∷ []) ∷ Enrolled (99 ∷ []) ∷ Created (102 ∷ 49 ∷ []) 3 0
+    ∷ Created (102 ∷ 50 ∷ []) 3 0 ∷ updates
+
+-- a place without a surface, and one with
+abbrev pub bare : ℕ → ℕ → Place
+bare node generation = record { node = node; surface = None; generation = generation }
+
+abbrev pub under : ℕ → ℕ → ℕ → Place
+under surface node generation =
+    record { node = node; surface = Some surface; generation = generation }
+
+-- The third user was granted the first file, so all three hold its node. By the node's set alone
+-- the first two would.
+abbrev pub AccessesCount : Type 0
+AccessesCount = holders (in_delta (two_files (Granted 2 0 ∷ []))) 3 ≡ 7
+
+-- The second file keeps its list of two by a surface, since the third user holds its node now. By
+-- the node's set alone it would stay bare.
+abbrev pub HoldersDecide : Type 0
+HoldersDecide =
+    (in_delta (two_files (Granted 2 0 ∷ []))).files ≡ bare 3 4 ∷ under 3 3 6 ∷ []
+
+-- A file for the first user and the third comes after one for all three: it has node 4, of its own
+-- list. On the first node whose users have all of that list it would have node 3.
+abbrev pub ListsHaveNodes : Type 0
+ListsHaveNodes =
+    (in_delta (Enrolled (97 ∷ []) ∷ Enrolled (98 ∷ []) ∷ Enrolled (99 ∷ [])
+    ∷ Created (102 ∷ 49 ∷ []) 7 0 ∷ Created (102 ∷ 50 ∷ []) 5 0 ∷ [])).files
+    ≡ bare 3 4 ∷ bare 4 5 ∷ []
+
+-- the key of surface node 3 is that of its number, and not that of node 0
+abbrev pub NodesHaveKeys : Type 0
+NodesHaveKeys =
+    (master : List ℕ) → surface_key master (Some 3) ≡ Some (node_key SurfaceLabels master 3)
+
+-- A file that loses surface 3 is padded once more under its key, which takes the coat off. The
+-- bytes as they are would keep the coat.
+abbrev pub CoatsAreTakenOff : Type 0
+CoatsAreTakenOff =
+    (master bytes : List ℕ)
+    → restored master (Some 3) None 5 bytes
+    ≡ stored_under (Some (node_key SurfaceLabels master 3)) 5 bytes
+
+-- the access key of node 2 comes of its derivation key, and isn't that key itself
+abbrev pub CoatsAreUnderAccessKeys : Type 0
+CoatsAreUnderAccessKeys =
+    (master : List ℕ) → access_key master 2 ≡ access_key_of (node_key Derive master 2)

@@ -1,0 +1,34 @@
+//! Rows of layers, and of the keys and the coats that stand on them.
+ghost use Rattle.ov_history_t.specs.Layers.{AccessesCount, CoatsAreTakenOff, CoatsAreUnderAccessKeys};
+ghost use Rattle.ov_history_t.specs.Layers.{HoldersDecide, ListsHaveNodes, NodesHaveKeys};
+
+/// Who was granted access to a base node holds it.
+pub fn holders_have_accesses()
+    ensures { AccessesCount }
+{}
+
+/// A file that is created for some of the users of a base node has a node of its own.
+pub fn a_new_file_has_a_node_of_its_own_list()
+    ensures { ListsHaveNodes }
+{}
+
+/// In Delta a file has a surface where its list isn't the holders of its base node, whatever the
+/// set of that node.
+pub fn a_surface_for_the_holders_is_wanted()
+    ensures { HoldersDecide }
+{}
+
+/// Two surface nodes have keys of their own numbers.
+pub fn surfaces_have_their_own_keys()
+    ensures { NodesHaveKeys }
+{}
+
+/// A file whose surface goes is left in the coat of no surface.
+pub fn an_old_coat_is_taken_off()
+    ensures { CoatsAreTakenOff }
+{}
+
+/// The key of a base node's coat is derived from the node's derivation key.
+pub fn a_base_coat_is_under_the_access_key()
+    ensures { CoatsAreUnderAccessKeys }
+{}

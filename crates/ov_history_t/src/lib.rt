@@ -1,0 +1,20 @@
+//! Rows of `ov_history` and `ov_model`: their definitions at small values.
+//!
+//! Those crates have no code, so no wrong code shows what a definition is for. Each function here
+//! has an empty body, and its contract is a row: what a definition gives at a history of a few
+//! updates, or under one node. Where the definition is turned the row isn't proved any more. The
+//! statements are in `specs/`, and each says what the turned definition would give.
+#![tactic(auto)]
+
+mod layers;
+mod machine;
+
+pub use layers::{
+    a_base_coat_is_under_the_access_key, a_new_file_has_a_node_of_its_own_list,
+    a_surface_for_the_holders_is_wanted, an_old_coat_is_taken_off, holders_have_accesses,
+    surfaces_have_their_own_keys,
+};
+pub use machine::{
+    a_line_is_of_the_history_before, a_refused_update_changes_nothing, only_the_listed_read,
+    the_next_epoch_is_answered,
+};

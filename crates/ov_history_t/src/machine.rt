@@ -1,0 +1,23 @@
+//! Rows of the access-matrix machine.
+ghost use Rattle.ov_history_t.specs.Machine.{AnswersNextEpoch, KeepsNoRefused, LetsTheListedRead};
+ghost use Rattle.ov_history_t.specs.Machine.{RepliesBefore};
+
+/// A reply line is of the history before its command.
+pub fn a_line_is_of_the_history_before()
+    ensures { RepliesBefore }
+{}
+
+/// A refused update leaves the history as it is.
+pub fn a_refused_update_changes_nothing()
+    ensures { KeepsNoRefused }
+{}
+
+/// A user who isn't in a file's list is refused to read it.
+pub fn only_the_listed_read()
+    ensures { LetsTheListedRead }
+{}
+
+/// An update is answered with the epoch that it makes.
+pub fn the_next_epoch_is_answered()
+    ensures { AnswersNextEpoch }
+{}

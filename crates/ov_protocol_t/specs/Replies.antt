@@ -1,0 +1,65 @@
+-- Rows of replies: single answers, and what a reply says of its server.
+use Rattle.std.specs.Prelude.{◌≡◌, ℕ, List, [], Some}
+use Rattle.ov_record.specs.Updates.{SealedUpdate}
+use Rattle.ov_history.specs.Catalogue.{Catalogue, Filed, no_filed}
+use Rattle.ov_base.specs.declared.refusal.Refusal.{Refusal}
+use Rattle.ov_wire.specs.declared.answer.Answer.{Answer}
+use Rattle.ov_wire.specs.declared.answer.Answer.TheVariants as answers
+use Rattle.ov_wire.specs.declared.request.Request.TheVariants as requests
+use Rattle.ov_wire.specs.AnswerBytes.{answer_bytes}
+use Rattle.ov_wire.specs.AnswerForm.{HasAnswerForm}
+use Rattle.ov_protocol.specs.Answers.{made_by}
+use Rattle.ov_protocol.specs.Reading.{AnswersChunk}
+use Rattle.ov_protocol.specs.Replies.{AnswersFrame, Replies}
+use Rattle.ov_protocol.specs.Serving.{Serving, serving_after}
+use Rattle.ov_protocol.specs.Updating.{AnswersUpdate, owner_tag, updates_in}
+
+-- a file of generation 3
+abbrev pub third : Filed
+third = record no_filed { generation = 3 }
+
+-- Bytes aren't the answer where generation 4 is asked for. Without a look at the generation they
+-- would be.
+abbrev pub ChunksHaveGenerations : Type 0
+ChunksHaveGenerations =
+    (stored bytes : List ℕ) (start count : ℕ)
+    → AnswersChunk (Some third) stored 4 start count (answers.Bytes bytes) → ⊥
+
+-- A refused update is none that was made; an accepted one is. If each were made, so would be the
+-- refused one.
+pub record RefusedMakesNothing : Type 0 where
+  pub refused : (epoch : ℕ) (spelling tag : List ℕ) (why : Refusal)
+      → made_by (requests.Update epoch spelling tag) (answers.Refused why) ≡ []
+  pub accepted : (epoch now : ℕ) (spelling tag : List ℕ)
+      → made_by (requests.Update epoch spelling tag) (answers.Accepted now) ≡ updates_in spelling
+
+-- A reply spells an answer that can be sent. It might else be longer than a frame.
+abbrev pub RepliesHaveForm : Type 0
+RepliesHaveForm =
+    (s : Serving) (request reply : List ℕ) (made : List SealedUpdate)
+    → Replies s request reply made
+    → (answer : Answer) × HasAnswerForm answer × (reply ≡ answer_bytes answer)
+
+-- The server goes on by the updates that it made with its reply. If it forgot them, it would show
+-- what it showed before.
+abbrev pub ShowsAccepted : Type 0
+ShowsAccepted =
+    (old new : Serving) (request reply : List ℕ)
+    → AnswersFrame old new request reply
+    → (made : List SealedUpdate) × Replies old request reply made
+    × (new ≡ serving_after old made)
+
+-- An update that was made for another epoch than the catalogue's isn't accepted. Without a look at
+-- the epoch it would be.
+abbrev pub UpdatesHaveEpochs : Type 0
+UpdatesHaveEpochs =
+    (surface spelling tag : List ℕ) (c : Catalogue) (epoch now : ℕ)
+    → AnswersUpdate surface c epoch spelling tag (answers.Accepted now) → epoch ≡ c.epoch
+
+-- Stale is the answer only to an update with the owner's tag. If the epoch were looked at first,
+-- anyone would be told it.
+abbrev pub StaleHasTag : Type 0
+StaleHasTag =
+    (surface spelling tag : List ℕ) (c : Catalogue) (epoch now : ℕ)
+    → AnswersUpdate surface c epoch spelling tag (answers.Stale now)
+    → tag ≡ owner_tag surface epoch spelling

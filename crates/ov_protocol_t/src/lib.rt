@@ -1,0 +1,20 @@
+//! Rows of `ov_protocol` and `ov_images`: their definitions at small values, and what one step of
+//! them says.
+//!
+//! Those crates have no code, so no wrong code shows what a definition is for. Each function here
+//! has an empty body, and its contract is a row. Where the definition is turned the row isn't proved
+//! any more. The statements are in `specs/`, and each says what the turned definition would give.
+#![tactic(auto)]
+
+mod images;
+mod replies;
+
+pub use images::{
+    a_book_keeps_its_last_update, a_header_has_the_check_of_the_surface_master,
+    a_header_has_the_first_epoch, an_unfit_record_is_not_the_next_one,
+};
+pub use replies::{
+    a_chunk_is_of_the_generation_asked, a_refused_update_is_not_made, a_reply_has_a_form,
+    an_accepted_update_is_shown, the_tag_is_looked_at_before_the_epoch,
+    updates_are_made_at_their_epoch_alone,
+};

@@ -1,0 +1,34 @@
+//! Rows of what a server answers, and of what it shows then.
+ghost use Rattle.ov_protocol_t.specs.Replies.{ChunksHaveGenerations, RefusedMakesNothing};
+ghost use Rattle.ov_protocol_t.specs.Replies.{RepliesHaveForm, ShowsAccepted, StaleHasTag};
+ghost use Rattle.ov_protocol_t.specs.Replies.{UpdatesHaveEpochs};
+
+/// A chunk of another generation than the one that was asked for isn't answered with bytes.
+pub fn a_chunk_is_of_the_generation_asked()
+    ensures { ChunksHaveGenerations }
+{}
+
+/// An update that is refused isn't made, and one that is accepted is.
+pub fn a_refused_update_is_not_made()
+    ensures { RefusedMakesNothing }
+{}
+
+/// A reply is an answer within the limits of a store.
+pub fn a_reply_has_a_form()
+    ensures { RepliesHaveForm }
+{}
+
+/// A server that replied shows what it shows after the updates that it made.
+pub fn an_accepted_update_is_shown()
+    ensures { ShowsAccepted }
+{}
+
+/// An update is accepted at the epoch of the catalogue alone.
+pub fn updates_are_made_at_their_epoch_alone()
+    ensures { UpdatesHaveEpochs }
+{}
+
+/// That an update comes at another epoch is said to its owner alone.
+pub fn the_tag_is_looked_at_before_the_epoch()
+    ensures { StaleHasTag }
+{}

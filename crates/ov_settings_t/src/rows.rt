@@ -1,0 +1,12 @@
+//! Rows of settings files and of sessions.
+ghost use Rattle.ov_settings_t.specs.Rows.{LongestIsSettingsFile, NoMemoryIsAnswered};
+
+/// A settings file may have as many bytes as the longest.
+pub fn the_longest_settings_file_is_one()
+    ensures { LongestIsSettingsFile }
+{}
+
+/// Where memory was refused, the frame that is sent says so; a reply is sent as it is.
+pub fn no_memory_is_answered_as_such()
+    ensures { NoMemoryIsAnswered }
+{}

@@ -1,0 +1,40 @@
+-- Rows of transcripts and of servers.
+use Rattle.std.specs.Prelude.{◌≡◌, ℕ, List, [], ◌∷◌, length}
+use Rattle.ov_base.specs.declared.refusal.Refusal.TheVariants.{NoFile}
+use Rattle.ov_script.specs.declared.command.Command.TheVariants as commands
+use Rattle.ov_history.specs.History.{History}
+use Rattle.ov_history.specs.Masters.{Masters}
+use Rattle.ov_wire.specs.declared.answer.Answer.TheVariants as answers
+use Rattle.ov_wire.specs.declared.request.Request.TheVariants as requests
+use Rattle.ov_wire.specs.AnswerBytes.{answer_bytes}
+use Rattle.ov_transcript.specs.Transcripts.{chunk_count, left_unless, requests_at, says_refused}
+use Rattle.ov_store.specs.Opened.{Opened}
+use Rattle.ov_server.specs.Answering.{serving_of}
+
+-- A request that is left isn't sent where the reply says refused, and is where it doesn't. If a
+-- refusal ended nothing, it would be sent in both cases.
+pub record RefusalsEnd : Type 0 where
+  pub refused : left_unless (says_refused (answer_bytes (answers.Refused NoFile)))
+      (requests.Hello ∷ []) ≡ []
+  pub accepted : left_unless (says_refused (answer_bytes (answers.Accepted 1)))
+      (requests.Hello ∷ []) ≡ requests.Hello ∷ []
+
+-- A revocation is two requests at any history. With the file's chunks between them it would be
+-- more, as soon as the file has bytes.
+abbrev pub RevocationsAreTwoRequests : Type 0
+RevocationsAreTwoRequests =
+    (k : Masters) (h : History) (user file : List ℕ)
+    → length (requests_at k h (commands.Revoke user file)) ≡ 2
+
+-- A chunk has 65,536 bytes at most. If the last chunk had to be whole, a file of one byte would be
+-- asked for in none, and one of 65,537 in one.
+pub record ChunksReachTheEnd : Type 0 where
+  pub empty : chunk_count 0 ≡ 0
+  pub shortest : chunk_count 1 ≡ 1
+  pub whole : chunk_count 65536 ≡ 1
+  pub longer : chunk_count 65537 ≡ 2
+
+-- The check value that a server shows is the one with which its store was opened, whatever its disk
+-- is, here a number. It must not be the surface master, which lies beside it.
+abbrev pub AnswersByCheckValue : Type 0
+AnswersByCheckValue = (s : Opened ℕ) → (serving_of s).base_check ≡ s.keys.base_check

@@ -1,0 +1,23 @@
+//! Rows of transcripts and of servers.
+ghost use Rattle.ov_transcript_t.specs.Rows.{AnswersByCheckValue, ChunksReachTheEnd};
+ghost use Rattle.ov_transcript_t.specs.Rows.{RefusalsEnd, RevocationsAreTwoRequests};
+
+/// After a refusal nothing more is asked for the command.
+pub fn a_refusal_ends_a_command()
+    ensures { RefusalsEnd }
+{}
+
+/// For a revocation two things are asked: the numbers that it needs, and the update.
+pub fn a_revocation_asks_for_its_update_alone()
+    ensures { RevocationsAreTwoRequests }
+{}
+
+/// A file is asked for in as many chunks as its bytes need, the last of which may be a short one.
+pub fn each_byte_of_a_file_is_in_a_chunk()
+    ensures { ChunksReachTheEnd }
+{}
+
+/// A server answers by the check value of the base master, and keeps the surface master to itself.
+pub fn a_server_answers_by_its_check_value()
+    ensures { AnswersByCheckValue }
+{}
