@@ -61,7 +61,14 @@ fn tell_change(rt: &HostRuntime, book: &[u8], change: (usize, u8, usize)) -> Res
     let mut disk = MemDisk::of(alloc, changed(alloc, book, change)?, Octets::new(alloc));
     print!(rt; "a book of {length} bytes with byte {place} = {byte}: ")?;
     let mut out = StdSink::new(rt.stdout());
-    let code = ran(alloc, "full", Given::once(b""), &mut out, &mut Untold::new(), &mut disk)?;
+    let code = ran(
+        alloc,
+        "full",
+        Given::once(b""),
+        &mut out,
+        &mut Untold::new(),
+        &mut disk,
+    )?;
     drop(disk);
     println!(rt; "  status {code}")?;
     Ok(())
@@ -73,7 +80,14 @@ pub fn tell(rt: &HostRuntime) -> Result<(), Fail> {
     let mut disk = MemDisk::new(alloc);
     let mut told = Told::new();
     let input = Given::once(b"enrol alice\n");
-    let code = ran(alloc, "full", input, &mut told, &mut Untold::new(), &mut disk)?;
+    let code = ran(
+        alloc,
+        "full",
+        input,
+        &mut told,
+        &mut Untold::new(),
+        &mut disk,
+    )?;
     told.tell(rt, "a book of one user", code)?;
     for change in changes() {
         tell_change(rt, disk.book(), *change)?;

@@ -10,7 +10,14 @@ fn tell_in(rt: &HostRuntime, mode: &str) -> Result<(), Fail> {
     let mut disk = MemDisk::new(alloc);
     let mut trace = Kept::new(alloc);
     let input = Given::once(b"");
-    let code = ran(alloc, mode, input, &mut Untold::new(), &mut trace, &mut disk)?;
+    let code = ran(
+        alloc,
+        mode,
+        input,
+        &mut Untold::new(),
+        &mut trace,
+        &mut disk,
+    )?;
     drop(disk);
     let frames = hex::encode(alloc, trace.bytes)?;
     println!(rt; "an empty script, {mode}: status {code}, frames {frames}")?;

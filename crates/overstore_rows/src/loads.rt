@@ -27,7 +27,14 @@ pub fn tell(rt: &HostRuntime) -> Result<(), Fail> {
     tell_load(rt, &mut disk)?;
     let mut out = StdSink::new(rt.stdout());
     let input = Given::once(b"");
-    let code = ran(alloc, "delta", input, &mut out, &mut Untold::new(), &mut disk)?;
+    let code = ran(
+        alloc,
+        "delta",
+        input,
+        &mut out,
+        &mut Untold::new(),
+        &mut disk,
+    )?;
     drop(disk);
     println!(rt; "  status {code}")?;
     Ok(())

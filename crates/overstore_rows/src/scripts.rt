@@ -57,7 +57,13 @@ pub fn full_of_bytes(alloc: Global) -> Result<Vec<u8>, AllocError> {
     text.extend_from_slice(b"enrol a\n")?;
     for number in 0..64u8 {
         let body = vec![in alloc; number; MIB]?;
-        push(alloc, &mut text, "create f", u32::from(number), " a 1048576\n")?;
+        push(
+            alloc,
+            &mut text,
+            "create f",
+            u32::from(number),
+            " a 1048576\n",
+        )?;
         text.extend_from_slice(&body)?;
         text.push(b'\n')?;
     }

@@ -37,9 +37,16 @@ fn tell_stop(
     let mut left = disk.image(call, tear)?;
     let mut told = Told::new();
     let input = Given::once(script);
-    let code = ran(alloc, "delta", input, &mut told, &mut Untold::new(), &mut left)?;
+    let code = ran(
+        alloc,
+        "delta",
+        input,
+        &mut told,
+        &mut Untold::new(),
+        &mut left,
+    )?;
     drop(left);
-    let name = format!(in alloc; "a grant stopped after {made} calls, {tear_name}")?;
+    let name = format!(in alloc; "a grant stopped after {made} of {CALLS} calls, {tear_name}")?;
     told.tell(rt, name.as_str(), code)
 }
 
@@ -50,7 +57,14 @@ pub fn tell(rt: &HostRuntime) -> Result<(), Fail> {
     let mut told = Told::new();
     let script = coating(alloc)?;
     let input = Given::once(&script);
-    let code = ran(alloc, "delta", input, &mut told, &mut Untold::new(), &mut disk)?;
+    let code = ran(
+        alloc,
+        "delta",
+        input,
+        &mut told,
+        &mut Untold::new(),
+        &mut disk,
+    )?;
     told.tell(rt, "a grant that coats 300 files", code)?;
     let script = questions(alloc)?;
     for left_out in 0..=CALLS {
