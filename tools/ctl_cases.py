@@ -11,12 +11,12 @@ import socket
 import struct
 import subprocess
 import sys
-import tempfile
 import threading
 import time
 
+from common import ROOT, framed, new_folder
+
 PROGRAM = str(pathlib.Path(sys.argv[1]).resolve())
-ROOT = pathlib.Path(__file__).resolve().parent.parent
 TESTS = ROOT / "crates" / "ov_acts_t" / "src" / "acts"
 SECONDS = 60
 
@@ -51,10 +51,6 @@ class Broken:
 
     def __init__(self, raw, resets=False):
         self.raw, self.resets = raw, resets
-
-
-def framed(frame):
-    return struct.pack(">I", len(frame)) + frame
 
 
 def taken(stream, count):
@@ -136,9 +132,9 @@ def is_in_form(lines):
         assert not line.endswith("."), line
 
 
-def new_folder():
+def client_folder():
     """A folder with a key file, a user key line, files to be stored, and what is neither."""
-    folder = pathlib.Path(tempfile.mkdtemp(dir=BASE))
+    folder = new_folder()
     for name, text in {
         "keys": KEYS,
         "key": KEY_LINE,
@@ -159,7 +155,7 @@ def case(words, replies, status, out, error=None, hint=None, asked=None, **strea
     server = Server([REPLIES[reply] if isinstance(reply, str) else reply for reply in replies])
     at = lambda text: text.replace("@", server.address)
     try:
-        found = run(new_folder(), [at(word) for word in words.split()], **streams)
+        found = run(client_folder(), [at(word) for word in words.split()], **streams)
     finally:
         server.end()
     lines = [] if error is None else two_lines(at(error), at(hint))
@@ -237,7 +233,7 @@ def output_that_is_not_written():
         with open("/dev/full", "wb") as full:
             case(words, replies, 6, None, NO_OUTPUT, hint, stdout=full)
     with open("/dev/full", "wb") as full:
-        found = run(new_folder(), ["--help"], stdout=full)
+        found = run(client_folder(), ["--help"], stdout=full)
         assert found == (6, None, two_lines(NO_OUTPUT, writable)), found
 
 
@@ -250,13 +246,13 @@ def memory_that_is_refused():
     for size in range(1 << 20, 16 << 20, 1 << 20):
         limit = lambda: resource.setrlimit(resource.RLIMIT_AS, (size, size))
         try:
-            starts = run(new_folder(), ["--version"], preexec_fn=limit)[0] == 0
+            starts = run(client_folder(), ["--version"], preexec_fn=limit)[0] == 0
         except OSError:
             starts = False
         if starts:
             server = Server([REPLIES[name] for name in ("WELCOME", "PLAN", "ACCEPTED")])
             try:
-                found = run(new_folder(), [server.address if word == "@" else word for word in words], preexec_fn=limit)
+                found = run(client_folder(), [server.address if word == "@" else word for word in words], preexec_fn=limit)
             finally:
                 server.end()
             lines = two_lines(no_memory.replace("@", server.address), IN_DOUBT)
@@ -353,7 +349,7 @@ def files_that_are_too_long():
 
 
 def words_that_are_no_line():
-    folder = new_folder()
+    folder = client_folder()
     usage = "use `overctl %s`"
     lines = {
         "enrol": "ADDRESS KEYS USER",
@@ -396,7 +392,7 @@ def words_that_are_no_line():
 
 
 def help_and_version():
-    folder = new_folder()
+    folder = client_folder()
     for words in ([], ["enrol"], ["create"], ["grant"], ["revoke"], ["list"], ["key"], ["read"], ["check"]):
         for flag in ("--help", "-h"):
             status, out, told = run(folder, [*words, flag])
@@ -412,7 +408,7 @@ def help_and_version():
 
 def keys_that_others_read():
     """A file of keys is read whatever its mode, with a warning where others may."""
-    folder = new_folder()
+    folder = client_folder()
     for mode in (0o600, 0o400, 0o700, 0o640, 0o604, 0o644):
         (folder / "keys").chmod(mode)
         warned = ["overctl: warning: keys can be read by others"] if mode & 0o044 else []
@@ -425,7 +421,7 @@ def keys_that_others_read():
 
 def keys_in_a_pipe():
     """A file of keys may be a pipe, which is opened once."""
-    folder = new_folder()
+    folder = client_folder()
     os.mkfifo(folder / "pipe", 0o600)
     for words, status in ((["check", "pipe"], 0), (["create", "here:1", "pipe", "f", "-", "nobody"], 5)):
         writer = threading.Thread(target=(folder / "pipe").write_text, args=(KEYS,))
@@ -438,7 +434,7 @@ def keys_in_a_pipe():
 
 def closed_streams():
     """No file comes to stand where a standard stream was closed."""
-    folder = new_folder()
+    folder = client_folder()
     for closed, status in (("<&-", 0), (">&-", 6), ("2>&-", 0)):
         done = subprocess.run('"%s" check keys %s' % (PROGRAM, closed), cwd=folder, shell=True, capture_output=True)
         assert done.returncode == status, (closed, done)
@@ -465,8 +461,7 @@ CASES = [
     closed_streams,
 ]
 
-with tempfile.TemporaryDirectory() as BASE:
-    for one in CASES:
-        one()
-        print(one.__name__, flush=True)
+for one in CASES:
+    one()
+    print(one.__name__, flush=True)
 print("all cases passed")

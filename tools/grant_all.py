@@ -1,21 +1,18 @@
+#!/usr/bin/env python3
 """Makes the script that puts a user on the lists of all files, from the replies to `list` commands.
 
-Run: python3 tools/grant_all.py USER < REPLIES > SCRIPT
+Run: python3 tools/grant_all.py USER [BOOK] < REPLIES > SCRIPT
 
 REPLIES are what `overstore run` printed for a script of `list` lines, one for each file. For each list
-that doesn't name the user the script has a `grant` and, behind it, a `list` that shows it.
+that doesn't name the user the script has a `grant` and, behind it, a `list` that shows it. A user who isn't
+enrolled in BOOK, or else in the store.book of this folder, is refused. `make -C dist install` installs it
+as overstore-grant-all, with a man page.
 """
-import sys
+from all_files import NOTHING_TO_DO, end, expect_enrolled_at_hand, lists, put, words
 
-user = sys.argv[1]
-lines = sys.stdin.read().splitlines()
-if not lines or not lines[-1].startswith("end epoch "):
-    sys.exit("the replies don't end in `end epoch`: was the script answered to its end?")
-script = []
-for line in lines[:-1]:
-    words = line.split()
-    if len(words) != 3 or words[0] != "list":
-        sys.exit(f"no list: {line}")
-    if user not in words[2].split(","):
-        script.append(f"grant {user} {words[1]}\nlist {words[1]}\n")
-sys.stdout.write("".join(script))
+user, *book = words(1, 2, "USER [BOOK] < REPLIES > SCRIPT")
+expect_enrolled_at_hand(user, book)
+files = [file for file, listed in lists() if user not in listed]
+if not files:
+    end(NOTHING_TO_DO, f"nothing to grant: every list names {user}")
+put("grant", user, files)

@@ -14,10 +14,11 @@ their own names. Byte i of a plaintext is `31 i + 7` modulo 256.
 """
 
 import hashlib
-import hmac
 import struct
 
 from cryptography.hazmat.primitives.ciphers import Cipher, algorithms, modes
+
+from common import keyed, literal
 
 # the first byte of the base master, the node, and the starts of the edges into it
 COVERS = [(0, 3, [0, 1]), (200, 4095, [4094, 7, 70])]
@@ -28,10 +29,6 @@ ACCESSES = [(0, 2, 3), (200, 70, 4095)]
 # file, start and length of the bytes: whole, from within a block, over a block's border, none, and
 # at the last place
 PARTS = [(0, 0, 40), (1, 5, 7), (0x01020304, 15, 18), (7, 16, 0), (0xFFFFFFFF, 4294967295, 1)]
-
-
-def keyed(key, message):
-    return hmac.new(key, message, hashlib.sha256).digest()
 
 
 def xor(a, b):
@@ -73,10 +70,6 @@ def coat(secret, tag, file, start, text):
 def tag(secret, file, text):
     tag_key = keyed(secret, b"T" + struct.pack(">I", file))
     return keyed(tag_key, struct.pack(">Q", len(text)) + text)
-
-
-def literal(value):
-    return 'b"' + "".join(f"\\x{byte:02x}" for byte in value) + '"'
 
 
 def array(value):

@@ -7,8 +7,6 @@ Run, after `rt run` has built the programs, at the top of the repository:
 
     python3 tools/network_cases.py crates/overstored/out/overstored [crates/overctl/out/overctl]
 """
-import hashlib
-import hmac
 import os
 import pathlib
 import random
@@ -18,12 +16,12 @@ import socket
 import struct
 import subprocess
 import sys
-import tempfile
 import time
+
+from common import KEYS, framed, keyed, new_folder
 
 SERVER = str(pathlib.Path(sys.argv[1]).resolve())
 CLIENT = str(pathlib.Path(sys.argv[2]).resolve()) if len(sys.argv) > 2 else None
-KEYS = pathlib.Path(__file__).resolve().parent.parent / "examples" / "keys.hex"
 BASE_MASTER, SURFACE = (bytes.fromhex(line) for line in KEYS.read_text().split())
 SECONDS = 60
 
@@ -34,19 +32,11 @@ HELLO = b"\x01"
 WELCOME_SIZE = 42
 
 
-def keyed(key, message):
-    return hmac.new(key, message, hashlib.sha256).digest()
-
-
 BASE_CHECK = keyed(BASE_MASTER, b"C\0\0\0\0")
 UPDATE_KEY = keyed(SURFACE, b"U\0\0\0\0")
 
 
 # ---- servers
-
-
-def new_folder():
-    return pathlib.Path(tempfile.mkdtemp(dir=BASE))
 
 
 def settings(sessions, /, **other):
@@ -115,10 +105,6 @@ def is_told(told, words):
 
 
 # ---- frames
-
-
-def framed(frame):
-    return struct.pack(">I", len(frame)) + frame
 
 
 def take(stream, count):
@@ -423,10 +409,8 @@ CASES = [
 ]
 
 if __name__ == "__main__":
-    with tempfile.TemporaryDirectory() as base:
-        BASE = base
-        for case in CASES + ([a_file_over_the_network] if CLIENT else []):
-            began = time.monotonic()
-            case()
-            print("%-28s %5.1f s" % (case.__name__, time.monotonic() - began), flush=True)
+    for case in CASES + ([a_file_over_the_network] if CLIENT else []):
+        began = time.monotonic()
+        case()
+        print("%-28s %5.1f s" % (case.__name__, time.monotonic() - began), flush=True)
     print("all cases passed")

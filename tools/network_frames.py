@@ -3,7 +3,8 @@ before since nobody else asks. Nobody reads the files, so tags, tokens and bytes
 """
 import struct
 
-from network_cases import UPDATE_KEY, framed, keyed
+from common import framed, keyed
+from network_cases import UPDATE_KEY
 
 MIB, CHUNK = 1 << 20, 1 << 16
 

@@ -14,22 +14,19 @@ import shutil
 import socket
 import subprocess
 import sys
-import tempfile
 import time
 
+from common import KEYS, framed, new_folder
 # It takes the two programs from the same words.
-from network_cases import CLIENT, HELLO, KEYS, SERVER, ask, framed, settings
+from network_cases import CLIENT, HELLO, SERVER, ask, settings
 from network_frames import ASK, LIST, MIB, Owner, begun, creations, reads, turns, u32
 
 TOOLS = pathlib.Path(__file__).resolve().parent
 DISK, FREE = pathlib.Path(sys.argv[3] if len(sys.argv) > 3 else ".").resolve(), "/dev/shm"
 RUNS, ASKS, UPDATES, FILES = 3, 20_000, 2_000, 32
+PREFIX = "network_times_"
 # All kinds of replies but refusals and faults.
 GOOD = {0x81, 0x82, 0x83, 0x84, 0x85, 0x86, 0x8F}
-
-
-def new_folder(place):
-    return pathlib.Path(tempfile.mkdtemp(prefix="network_times_", dir=place))
 
 
 def start(folder, *words):
@@ -77,7 +74,7 @@ def processor_at_end(process):
 
 def run(place):
     """Seconds and processor seconds of one session with the server, and of one with each echo."""
-    folder = new_folder(place)
+    folder = new_folder(place, PREFIX)
     process, address = start_real(folder, 2)
     session(address, "begin")
     before = processor(process)
@@ -129,7 +126,7 @@ def command(folder, *words):
 
 def commands(place):
     """The least times of commands over files of 1 MiB."""
-    folder = new_folder(place)
+    folder = new_folder(place, PREFIX)
     process, address = start_real(folder)
     keys, line, file = folder / "keys.hex", folder / "alice.key", folder / "file"
     shutil.copyfile(KEYS, keys)
@@ -147,7 +144,7 @@ def commands(place):
 
 def memory():
     """The server's memory in a session behind 10 others and behind 10,000, of which each third broke off in a frame."""
-    folder = new_folder(FREE)
+    folder = new_folder(FREE, PREFIX)
     process, address = start_real(folder)
     for number in range(10_001):
         with socket.create_connection(address.rsplit(":", 1)) as stream:
@@ -162,7 +159,7 @@ def memory():
 
 if __name__ == "__main__":
     os.umask(0o077)
-    OUT = new_folder(FREE)
+    OUT = new_folder(FREE, PREFIX)
     for plain in ("plain_session", "plain_echo"):
         source = TOOLS / (plain + ".rs")
         subprocess.run(["rustc", "--edition", "2021", "-O", source, "-o", OUT / plain], check=True)

@@ -14,16 +14,17 @@ import shutil
 import signal
 import subprocess
 import sys
-import tempfile
 import time
 
+from common import KEYS, new_folder
+
 PROGRAM = str(pathlib.Path(sys.argv[1]).resolve())
-KEYS = pathlib.Path(__file__).resolve().parent.parent / "examples" / "keys.hex"
 KILLS = 300
 
 
-def new_folder(keys=True):
-    folder = pathlib.Path(tempfile.mkdtemp(dir=BASE))
+def store_folder(keys=True):
+    """A folder with a key file, where it is to have one."""
+    folder = new_folder()
     if keys:
         shutil.copy(KEYS, folder / "keys.hex")
     return folder
@@ -67,7 +68,7 @@ def files_of(folder):
 
 
 def good_and_bad_scripts():
-    folder = new_folder()
+    folder = store_folder()
     expect(run(folder), 0, b"end epoch 0\n")
     assert (folder / "store.book").stat().st_size == 79
     expect(run(folder, b"enrol alice\n"), 0, b"ok 1\nend epoch 1\n")
@@ -94,7 +95,7 @@ def words_that_are_not_known():
         (["--quit", "run", "full"], "unknown words"),
         (["load", "full", "01", "5"], "a count of 1 to 20000"),
     ]
-    folder = new_folder()
+    folder = store_folder()
     for words, part in rows + [(words, "`--quiet` stands before `run`") for words in quiet]:
         status, lines, said = told(folder, *words)
         assert (status, lines) == (2, b"error usage\n") and part in said, (words, status, lines, said)
@@ -102,7 +103,7 @@ def words_that_are_not_known():
 
 
 def lines_that_are_bad():
-    status, lines, said = told(new_folder(), "run", "full", script=b"enrol a\nenroll b\n")
+    status, lines, said = told(store_folder(), "run", "full", script=b"enrol a\nenroll b\n")
     assert (status, lines) == (3, b"ok 1\nerror line 2\n"), (status, lines)
     assert "`enrol USER`" in said and "overstore-script(5)" in said and "what was answered before lasts" in said, said
 
@@ -110,7 +111,7 @@ def lines_that_are_bad():
 def a_key_file_that_is_not_there():
     """Standard error says so, and has a command that makes one."""
     for words in (["run", "full"], ["load", "full", "7", "20"]):
-        folder = new_folder(keys=False)
+        folder = store_folder(keys=False)
         status, lines, said = told(folder, *words, script=b"epoch\n")
         assert (status, lines) == (5, b"error read\n") and "no keys.hex" in said, (status, lines, said)
         assert "nothing was answered" in said and list(files_of(folder)) == [], said
@@ -120,13 +121,13 @@ def a_key_file_that_is_not_there():
 
 def loads():
     for words in (["full", "01", "5"], ["full", "18446744073709551616", "5"], ["full", "1", "0"], ["full", "1", "20001"]):
-        folder = new_folder()
+        folder = store_folder()
         expect(load(folder, *words), 2, b"error usage\n")
         assert not (folder / "store.book").exists()
-    folder = new_folder()
+    folder = store_folder()
     status, lines = load(folder, "delta", "7", "2000")
     assert status == 0
-    expect(load(new_folder(), "delta", "7", "2000"), 0, lines)
+    expect(load(store_folder(), "delta", "7", "2000"), 0, lines)
     values = dict(line.split(" ", 1) for line in lines.decode().splitlines())
     assert list(values) == ["load", "ok", "refused", "bytes", "lists", "epoch", "sha256"]
     assert sum(int(values[word]) for word in ("ok", "refused", "bytes", "lists")) == 2_008
@@ -134,7 +135,7 @@ def loads():
 
 
 def a_script_that_is_too_long():
-    folder = new_folder()
+    folder = store_folder()
     line = b"enrol %s\n" % (b"a" * 57)
     program = subprocess.Popen(
         [PROGRAM, "run", "full"], cwd=folder, stdin=subprocess.PIPE, stdout=subprocess.PIPE, stderr=subprocess.DEVNULL
@@ -160,10 +161,10 @@ def a_script_that_is_too_long():
 def disks_that_fail():
     """Folders in the place of files, a limit on the size of files, and no right to write."""
     for name in ("store.book", "store.blobs"):
-        folder = new_folder()
+        folder = store_folder()
         (folder / name).mkdir()
         expect(run(folder, b"enrol a\n"), 4, b"error disk\n")
-    folder = new_folder()
+    folder = store_folder()
     (folder / "trace.bin").symlink_to("/dev/null")  # or the limit would stop the frames first
     limit = lambda: (
         signal.signal(signal.SIGXFSZ, signal.SIG_IGN),
@@ -174,13 +175,13 @@ def disks_that_fail():
 
 
 def reads_that_fail():
-    folder = new_folder(keys=False)
+    folder = store_folder(keys=False)
     expect(run(folder, b"enrol a\n"), 5, b"error read\n")
     (folder / "keys.hex").mkdir()
     status, lines, said = told(folder, "run", "delta", script=b"enrol a\n")
     assert (status, lines) == (5, b"error read\n") and "keys.hex can't be read" in said, (status, lines, said)
     assert sorted(path.name for path in folder.iterdir()) == ["keys.hex"]
-    folder = new_folder()
+    folder = store_folder()
     place = os.open(folder, os.O_RDONLY)
     done = subprocess.run([PROGRAM, "run", "delta"], cwd=folder, stdin=place, capture_output=True)
     expect((done.returncode, done.stdout), 5, b"error read\n")
@@ -189,13 +190,13 @@ def reads_that_fail():
 
 
 def writes_that_fail():
-    folder = new_folder()
+    folder = store_folder()
     with open("/dev/full", "wb") as full:
         expect(run(folder, b"enrol a\nenrol b\n", stdout=full), 6, None)
     status, lines = run(folder)
     assert status == 0 and lines == b"end epoch 1\n", lines
     # Frames that can't be put: the first one isn't, and nothing is asked.
-    folder = new_folder()
+    folder = store_folder()
     (folder / "trace.bin").symlink_to("/dev/full")
     expect(run(folder, b"enrol a\n"), 6, b"")
     (folder / "trace.bin").unlink()
@@ -206,7 +207,7 @@ def writes_that_fail():
 
 
 def a_reader_that_is_gone():
-    folder = new_folder()
+    folder = store_folder()
     behind, before = os.pipe()
     os.close(behind)
     done = subprocess.run([PROGRAM, "run", "full"], cwd=folder, input=b"enrol a\n", stdout=before, stderr=subprocess.PIPE)
@@ -220,7 +221,7 @@ def replies_that_are_counted():
     script = b"".join(b"enrol a\n" for _ in range(2500))
     for words, shown in (["run", "full"], b"2000 replies"), (["--quiet", "run", "full"], b""):
         master, terminal = pty.openpty()
-        done = subprocess.run([PROGRAM, *words], cwd=new_folder(), input=script, stdout=subprocess.PIPE, stderr=terminal)
+        done = subprocess.run([PROGRAM, *words], cwd=store_folder(), input=script, stdout=subprocess.PIPE, stderr=terminal)
         os.set_blocking(master, False)
         try:
             said = os.read(master, 65536)
@@ -234,7 +235,7 @@ def replies_that_are_counted():
 
 def memory_that_is_refused():
     """Under a limit of addresses the largest file ends in 7, and the store is as it was."""
-    folder = new_folder()
+    folder = store_folder()
     limit = lambda: resource.setrlimit(resource.RLIMIT_AS, (8 << 20, 8 << 20))
     script = b"enrol a\n" + b"".join(b"create f%d a 1048576\n%s\n" % (n, b"x" * 1_048_576) for n in range(8))
     status, lines = run(folder, script, preexec_fn=limit)
@@ -245,7 +246,7 @@ def memory_that_is_refused():
 
 
 def stores_that_do_not_open():
-    good = new_folder()
+    good = store_folder()
     run(good, b"enrol alice\n")
     book = bytearray((good / "store.book").read_bytes())
     book[84] = 0
@@ -254,14 +255,14 @@ def stores_that_do_not_open():
         (bytes(book), "delta", b"error damaged book 84\n", 8),
         ((good / "store.book").read_bytes(), "full", b"error mode delta full\n", 9),
     ]:
-        folder = new_folder()
+        folder = store_folder()
         (folder / "store.book").write_bytes(content)
         (folder / "store.blobs").write_bytes(b"")
         before = files_of(folder)
         expect(run(folder, b"enrol bob\n", mode), status, lines)
         assert files_of(folder) == before
     for line in (0, 1):
-        folder = new_folder()
+        folder = store_folder()
         run(folder)
         digits = (folder / "keys.hex").read_bytes().split(b"\n")
         digits[line] = digits[line][::-1]
@@ -274,7 +275,7 @@ def stores_that_do_not_open():
 
 def records_that_are_not_the_owners():
     """A tag, a token and a file's byte that somebody else wrote: the record's place is named."""
-    good = new_folder()
+    good = store_folder()
     expect(run(good, b"enrol a\nenrol b\ncreate f a 1\nx\ngrant b f\n"), 0, b"ok 1\nok 2\nok 3\nok 4\nend epoch 4\n")
     book = (good / "store.book").read_bytes()
     creation, grant = 94, 173
@@ -290,7 +291,7 @@ def records_that_are_not_the_owners():
 
 def key_files_that_are_none():
     for content in (b"", b"0" * 64, b"0" * 64 + b"\n" + b"0" * 64 + b"\n", b"x" * 200):
-        folder = new_folder()
+        folder = store_folder()
         (folder / "keys.hex").write_bytes(content)
         expect(run(folder, b"enrol a\n"), 10, b"error keys\n")
         assert sorted(path.name for path in folder.iterdir()) == ["keys.hex"]
@@ -302,7 +303,7 @@ def key_files_that_are_none():
 def closed_streams():
     """No file of the folder comes to stand where a standard stream was closed."""
     for stream, status, lines in [(0, 5, b"error read\n"), (1, 6, b""), (2, 0, b"ok 1\nend epoch 1\n")]:
-        folder = new_folder()
+        folder = store_folder()
         keys = (folder / "keys.hex").read_bytes()
         (folder / "script").write_bytes(b"enrol alice\n")
         redirect = {0: "<&- >lines", 1: "<script >&-", 2: "<script >lines 2>&-"}[stream]
@@ -316,7 +317,7 @@ def closed_streams():
 
 
 def two_at_once():
-    folder = new_folder()
+    folder = store_folder()
     first = subprocess.Popen([PROGRAM, "run", "delta"], cwd=folder, stdin=subprocess.PIPE, stdout=subprocess.PIPE)
     first.stdin.write(b"enrol a\n")
     first.stdin.flush()
@@ -337,7 +338,7 @@ def two_at_once():
 def a_grant_that_is_stopped():
     """301 bare files of one node, and a grant that coats 300 of them: whatever a stop leaves of its
     record opens with all of it or with nothing."""
-    folder = new_folder()
+    folder = store_folder()
     script = b"enrol a\nenrol b\nenrol c\n" + b"".join(b"create f%d a,b 1\nx\n" % n for n in range(301))
     assert run(folder, script)[0] == 0
     before = (folder / "store.book").read_bytes()
@@ -365,7 +366,7 @@ def killed_at_random():
     """A store that is killed again and again keeps each update whose line was seen, and at most one
     more."""
     chance = random.Random(7)
-    folder = new_folder()
+    folder = store_folder()
     expect(run(folder, b"enrol a\nenrol b\ncreate f a 3\nxyz\n"), 0, b"ok 1\nok 2\nok 3\nend epoch 3\n")
     epoch, listed = 3, False
     for _ in range(KILLS):
@@ -413,7 +414,6 @@ cases = [
     a_grant_that_is_stopped,
     killed_at_random,
 ]
-with tempfile.TemporaryDirectory() as BASE:
-    for case in cases:
-        case()
-        print(case.__name__, flush=True)
+for case in cases:
+    case()
+    print(case.__name__, flush=True)

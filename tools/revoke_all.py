@@ -1,21 +1,18 @@
+#!/usr/bin/env python3
 """Makes the script that takes a user off all files, from the replies to `list` commands.
 
-Run: python3 tools/revoke_all.py USER < REPLIES > SCRIPT
+Run: python3 tools/revoke_all.py USER [BOOK] < REPLIES > SCRIPT
 
 REPLIES are what `overstore run` printed for a script of `list` lines, one for each file. For each list
-that names the user the script has a `revoke` and, behind it, a `list` that shows it gone.
+that names the user the script has a `revoke` and, behind it, a `list` that shows it gone. A user who isn't
+enrolled in BOOK, or else in the store.book of this folder, is refused, and so is one whom no list names.
+`make -C dist install` installs it as overstore-revoke-all, with a man page.
 """
-import sys
+from all_files import NOTHING_TO_DO, end, expect_enrolled_at_hand, lists, put, words
 
-user = sys.argv[1]
-lines = sys.stdin.read().splitlines()
-if not lines or not lines[-1].startswith("end epoch "):
-    sys.exit("the replies don't end in `end epoch`: was the script answered to its end?")
-script = []
-for line in lines[:-1]:
-    words = line.split()
-    if len(words) != 3 or words[0] != "list":
-        sys.exit(f"no list: {line}")
-    if user in words[2].split(","):
-        script.append(f"revoke {user} {words[1]}\nlist {words[1]}\n")
-sys.stdout.write("".join(script))
+user, *book = words(1, 2, "USER [BOOK] < REPLIES > SCRIPT")
+enrolled = expect_enrolled_at_hand(user, book)
+files = [file for file, listed in lists() if user in listed]
+if not files:
+    end(NOTHING_TO_DO, f"nothing to revoke: no list names {user}" + ("" if enrolled else ", if that is how the name is spelt"))
+put("revoke", user, files)

@@ -10,7 +10,7 @@ A program is known by its name, which ends in overstore, overstored or overctl.
 A block of a page is run where a comment stands above it:
 
     <!-- run -->             in a new folder that has tools/, examples/ and dist/
-    <!-- run: program -->    so, with the example key file and `overstore`
+    <!-- run: program -->    so, with the example key file, `overstore` and `overstore-revoke-all`, -list-, -grant-
     <!-- run: network -->    so, with the example key file, `overstored` and `overctl`
     <!-- run: .., on -->     in the folder of the block before it
     <!-- run: kit -->        in this repository
@@ -29,9 +29,9 @@ import re
 import shutil
 import subprocess
 import sys
-import tempfile
 
-ROOT = pathlib.Path(__file__).resolve().parent.parent
+from common import KEYS, ROOT, new_folder
+
 PAGES = [
     ROOT / "README.md",
     *sorted((ROOT / "docs").glob("*.md")),
@@ -48,7 +48,7 @@ PROGRAMS = ("overstored", "overstore", "overctl")
 
 def lay_keys(folder):
     """Lays the key file of the examples into a folder, for its owner alone."""
-    shutil.copy(ROOT / "examples" / "keys.hex", folder)
+    shutil.copy(KEYS, folder)
     (pathlib.Path(folder) / "keys.hex").chmod(0o600)
 
 
@@ -125,8 +125,9 @@ def unmarked_of(page):
             yield line
 
 
-def new_folder():
-    folder = pathlib.Path(tempfile.mkdtemp(dir=BASE))
+def page_folder():
+    """A folder that has the folders of the repository that pages name."""
+    folder = new_folder()
     for name in ("tools", "examples", "dist"):
         (folder / name).symlink_to(ROOT / name)
     return folder
@@ -137,7 +138,7 @@ def shell(command, folder, place, status):
     terminal."""
     last = folder / ".last"
     whole = f"cd '{place}'\n(exit {status})\n{command}\nstatus=$?\necho $status $PWD > '{last}'\n"
-    environment = dict(os.environ, PATH=f"{BASE}/bin:{os.environ['PATH']}")
+    environment = dict(os.environ, PATH=f"{BIN}:{os.environ['PATH']}")
     done = subprocess.run(
         ["bash", "-c", whole],
         env=environment,
@@ -166,7 +167,7 @@ def run_page(page, have):
             left += 1
             continue
         if "on" not in words or folder is None:
-            folder = place = new_folder()
+            folder = place = page_folder()
             if words & {"program", "network"}:
                 lay_keys(folder)
         if "kit" in words:
@@ -202,10 +203,10 @@ def run_examples(have):
             left += 1
             continue
         for mode in ("full", "delta"):
-            folder = new_folder()
+            folder = page_folder()
             lay_keys(folder)
             done = subprocess.run(
-                [f"{BASE}/bin/overstore", "run", mode],
+                [BIN / "overstore", "run", mode],
                 cwd=folder,
                 input=script_of(replies.stem),
                 stdout=subprocess.PIPE,
@@ -219,18 +220,18 @@ def run_examples(have):
 
 words = sys.argv[1:]
 have = {"kit"} if "kit" in words else set()
-with tempfile.TemporaryDirectory() as BASE:
-    programs = pathlib.Path(BASE) / "bin"
-    programs.mkdir()
-    for path in (pathlib.Path(word).resolve() for word in words if word != "kit"):
-        name = next((name for name in PROGRAMS if path.name.endswith(name)), None)
-        if name is None:
-            sys.exit(f"{path} is none of {', '.join(PROGRAMS)}")
-        (programs / name).symlink_to(path)
-        have |= {"program"} if name == "overstore" else set()
-    if all((programs / name).exists() for name in ("overstored", "overctl")):
-        have.add("network")
-    results = [run_page(page, have) for page in PAGES if page.exists()] + [run_examples(have)]
+BIN = new_folder()
+for name in ("list", "revoke", "grant"):
+    (BIN / f"overstore-{name}-all").symlink_to(ROOT / "tools" / f"{name}_all.py")
+for path in (pathlib.Path(word).resolve() for word in words if word != "kit"):
+    name = next((name for name in PROGRAMS if path.name.endswith(name)), None)
+    if name is None:
+        sys.exit(f"{path} is none of {', '.join(PROGRAMS)}")
+    (BIN / name).symlink_to(path)
+    have |= {"program"} if name == "overstore" else set()
+if all((BIN / name).exists() for name in ("overstored", "overctl")):
+    have.add("network")
+results = [run_page(page, have) for page in PAGES if page.exists()] + [run_examples(have)]
 ran, left, wrong = (sum(column) for column in zip(*results))
 print(f"{ran} blocks and scripts ran, {left} left out, {wrong} are wrong")
 sys.exit(1 if wrong else 0)

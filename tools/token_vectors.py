@@ -11,8 +11,9 @@ Byte i of a row's base master is `start + i`, and of its surface master `start +
 """
 
 import hashlib
-import hmac
 import struct
+
+from common import keyed, literal
 
 ROWS = [
     (0, 0), (1, 1), (7, 2), (32, 3), (64, 127), (99, 128), (128, 255), (129, 256), (160, 4095),
@@ -20,29 +21,25 @@ ROWS = [
 ]
 
 
-def keyed(key: bytes, tag: bytes, number: int) -> bytes:
-    return hmac.new(key, tag + struct.pack(">I", number), hashlib.sha256).digest()
+def numbered(key: bytes, tag: bytes, number: int) -> bytes:
+    return keyed(key, tag + struct.pack(">I", number))
 
 
 def values(start: int, number: int) -> dict[str, bytes]:
     base = bytes((start + i) % 256 for i in range(32))
     surface = bytes((start + 3 * i) % 256 for i in range(32))
-    base_key = keyed(base, b"B", number)
+    base_key = numbered(base, b"B", number)
     access_key = hashlib.sha256(base_key).digest()
-    pad = keyed(base_key, b"A", number)
+    pad = numbered(base_key, b"A", number)
     return {
         "base_key": base_key,
-        "surface_key": keyed(surface, b"S", number),
+        "surface_key": numbered(surface, b"S", number),
         "access_key": access_key,
         "token": bytes(x ^ y for x, y in zip(access_key, pad)),
-        "tag_key": keyed(access_key, b"T", number),
-        "update_key": keyed(surface, b"U", 0),
-        "check_value": keyed(base, b"C", 0),
+        "tag_key": numbered(access_key, b"T", number),
+        "update_key": numbered(surface, b"U", 0),
+        "check_value": numbered(base, b"C", 0),
     }
-
-
-def literal(value: bytes) -> str:
-    return '*b"' + "".join(f"\\x{byte:02x}" for byte in value) + '"'
 
 
 def main() -> None:
@@ -63,7 +60,7 @@ def main() -> None:
         print(f"        start: {start},")
         print(f"        number: {number},")
         for name, value in values(start, number).items():
-            print(f"        {name}: {literal(value)},")
+            print(f"        {name}: *{literal(value)},")
         print("    },")
     print("];")
 

@@ -7,6 +7,7 @@ are another request or answer. Run it at the top of the repository:
 
     python3 tools/wire_cases.py > crates/ov_wire_t/src/wire/cases.rt; (cd crates/ov_wire_t && rt fmt)
 """
+from common import literal
 
 GOOD = 65535
 NAME_FIRST = b"abcdefghijklmnopqrstuvwxyz0123456789"
@@ -212,10 +213,6 @@ ANSWERS = [
     (b"\7\4" + u32(0), b"\x87\1" + u32(1) + u32(4) + TOKEN),
     (b"\7\5" + u32(0), b"\x87\1" + F1 + u32(1) + u32(5) + u32(6) + TAG + b"\1" + u32(2)), (b"\7\6" + u32(0), b"\x87\0"),
 ]
-
-
-def literal(data):
-    return 'b"' + "".join("\\x%02x" % b for b in data) + '"'
 
 
 def changed(data, at, bit):

@@ -1,0 +1,93 @@
+"""What list_all.py, revoke_all.py and grant_all.py have in common: the names in a store.book, the replies
+to a script of `list` lines, and how the scripts end.
+"""
+import pathlib
+import re
+import sys
+
+# How they end where they write no script.
+BAD_INPUT, BAD_WORDS, NOT_ENROLLED, NOTHING_TO_DO = 1, 2, 3, 4
+
+NAME = re.compile(r"[a-z0-9][a-z0-9._-]{0,63}")
+MAGIC, FIRST_RECORD = b"\x01OVERENC0", 78
+ENROLMENT, CREATION = 1, 2
+
+
+def end(status, line):
+    """Says on standard error why there is no script."""
+    sys.stderr.write(f"{pathlib.Path(sys.argv[0]).name}: {line}\n")
+    sys.exit(status)
+
+
+def words(least, most, form):
+    """The words of the call, of which the first names a user. `form` is how they have to be."""
+    given = sys.argv[1:]
+    usage = f"usage: {pathlib.Path(sys.argv[0]).name} {form}"
+    if given == ["--help"]:
+        print(usage)
+        sys.exit(0)
+    if not least <= len(given) <= most:
+        sys.stderr.write(usage + "\n")
+        sys.exit(BAD_WORDS)
+    if given and not NAME.fullmatch(given[0]):
+        end(BAD_WORDS, f"{given[0]} is no name: 1 to 64 of a-z, 0-9, `.`, `_` and `-`, a letter or a digit first")
+    return given
+
+
+def records(book, origin):
+    """The updates of a store.book, as docs/FORMATS.md has them. `overstore run` says more of a bad one."""
+    if book[: len(MAGIC)] != MAGIC or len(book) <= FIRST_RECORD:
+        end(BAD_INPUT, f"{origin} is no store.book: its header isn't whole")
+    at = FIRST_RECORD
+    while book[at : at + 1] == b"\x01":
+        length = int.from_bytes(book[at + 1 : at + 5], "big")
+        body = book[at + 5 : at + 5 + length]
+        if len(body) < max(length, 2):
+            end(BAD_INPUT, f"{origin}: the record at byte {at} isn't whole")
+        yield body
+        at += 5 + length
+
+
+def names(book, origin):
+    """The users and the files of a store.book, in the order in which they came."""
+    found = {ENROLMENT: [], CREATION: []}
+    for body in records(book, origin):
+        if body[0] in found:
+            found[body[0]].append(body[2 : 2 + body[1]].decode(errors="replace"))
+    return found[ENROLMENT], found[CREATION]
+
+
+def expect_enrolled(user, users, origin):
+    if user not in users:
+        end(NOT_ENROLLED, f"{user} isn't enrolled in {origin}")
+
+
+def expect_enrolled_at_hand(user, given):
+    """The user is enrolled in the store.book of this path, or else in that of this folder. Whether there was
+    one is the result."""
+    path = pathlib.Path(given[0] if given else "store.book")
+    if not given and not path.exists():
+        return False
+    try:
+        book = path.read_bytes()
+    except OSError as fault:
+        end(BAD_INPUT, f"cannot read {path}: {fault.strerror}")
+    expect_enrolled(user, names(book, path)[0], path)
+    return True
+
+
+def lists():
+    """Each file of the replies on standard input with the names on its list."""
+    lines = sys.stdin.buffer.read().decode(errors="replace").splitlines()
+    if not lines or not lines[-1].startswith("end epoch "):
+        end(BAD_INPUT, "the replies don't end in `end epoch`: was the script answered to its end?")
+    for line in lines[:-1]:
+        parts = line.split()
+        if len(parts) != 3 or parts[0] != "list":
+            end(BAD_INPUT, f"no list: {line}")
+        yield parts[1], parts[2].split(",")
+
+
+def put(command, user, files):
+    """The script of a command for each file and, behind it, a `list` that shows it done."""
+    sys.stdout.write("".join(f"{command} {user} {file}\nlist {file}\n" for file in files))

@@ -1,0 +1,84 @@
+"""Runs list_all.py, revoke_all.py and grant_all.py over books and replies that are made here: the scripts
+that they write, and each status but 0 with its line on standard error.
+
+Run: python3 tools/all_files_cases.py [FOLDER]
+
+FOLDER is where they are installed, as /usr/bin; without it those of this folder are run.
+"""
+import pathlib
+import subprocess
+import sys
+import tempfile
+
+if len(sys.argv) > 1:
+    CALLS = {name: [f"{sys.argv[1]}/overstore-{name}-all"] for name in ("list", "revoke", "grant")}
+else:
+    TOOLS = pathlib.Path(__file__).resolve().parent
+    CALLS = {name: [sys.executable, TOOLS / f"{name}_all.py"] for name in ("list", "revoke", "grant")}
+
+HEADER = b"\x01OVERENC0" + bytes(1 + 4 + 32 + 32)
+REPLIES = b"list plan alice,bob\nlist budget alice\nlist old -\nend epoch 6\n"
+
+
+def record(kind, name, rest=b""):
+    body = bytes([kind, len(name)]) + name + rest
+    return b"\x01" + len(body).to_bytes(4, "big") + body
+
+
+BOOK = (
+    HEADER
+    + b"".join(record(1, name) for name in (b"alice", b"bob", b"carol"))
+    + b"".join(record(2, name, bytes(70)) for name in (b"plan", b"budget", b"old"))
+    + b"\x01\0\0\0\x09\x03" + bytes(8)
+    + b"\0"
+)  # fmt: skip
+
+# The name and the words of a call, its input, whether store.book is in the folder, its status, what it puts, and
+# a part of what it says.
+CASES = [
+    ("list", "", BOOK, False, 0, "list plan\nlist budget\nlist old\n", ""),
+    ("list", "bob", BOOK, False, 0, "list plan\nlist budget\nlist old\n", ""),
+    ("list", "", HEADER + b"\0", False, 0, "", ""),
+    ("list", "bobb", BOOK, False, 3, "", "bobb isn't enrolled in this store.book"),
+    ("list", "", b"", False, 1, "", "its header isn't whole"),
+    ("list", "", b"x" * 200, False, 1, "", "its header isn't whole"),
+    ("list", "", BOOK[:130], False, 1, "", "the record at byte 112 isn't whole"),
+    ("list", "a b", BOOK, False, 2, "", "usage: "),
+    ("list", "Bob", BOOK, False, 2, "", "Bob is no name"),
+    ("revoke", "bob", REPLIES, False, 0, "revoke bob plan\nlist plan\n", ""),
+    ("revoke", "bob", REPLIES, True, 0, "revoke bob plan\nlist plan\n", ""),
+    ("revoke", "alice", REPLIES, True, 0, "revoke alice plan\nlist plan\nrevoke alice budget\nlist budget\n", ""),
+    ("revoke", "bobb", REPLIES, False, 4, "", "no list names bobb, if that is how the name is spelt"),
+    ("revoke", "bobb", REPLIES, True, 3, "", "bobb isn't enrolled in store.book"),
+    ("revoke", "carol", REPLIES, True, 4, "", "no list names carol\n"),
+    ("revoke", "carol store.book", REPLIES, True, 4, "", "no list names carol\n"),
+    ("revoke", "carol no.book", REPLIES, True, 1, "", "cannot read no.book"),
+    ("revoke", "", REPLIES, True, 2, "", "usage: "),
+    ("revoke", "bob store.book more", REPLIES, True, 2, "", "usage: "),
+    ("revoke", "bob", b"list plan alice,bob\n", True, 1, "", "don't end in `end epoch`"),
+    ("revoke", "bob", b"list plan bob\nrefused 3 NoFile\nend epoch 6\n", True, 1, "", "no list: refused 3 NoFile"),
+    ("revoke", "bob", b"", True, 1, "", "don't end in `end epoch`"),
+    ("grant", "bob", REPLIES, True, 0, "grant bob budget\nlist budget\ngrant bob old\nlist old\n", ""),
+    ("grant", "dora", b"list old -\nend epoch 6\n", False, 0, "grant dora old\nlist old\n", ""),
+    ("grant", "dora", b"list old -\nend epoch 6\n", True, 3, "", "dora isn't enrolled in store.book"),
+    ("grant", "alice", b"list plan alice,bob\nend epoch 6\n", True, 4, "", "every list names alice"),
+    ("grant", "", REPLIES, True, 2, "", "usage: "),
+]
+
+
+def run(name, words, given, has_book):
+    with tempfile.TemporaryDirectory() as folder:
+        if has_book:
+            (pathlib.Path(folder) / "store.book").write_bytes(BOOK)
+        done = subprocess.run([*CALLS[name], *words.split()], cwd=folder, input=given, capture_output=True)
+        return done.returncode, done.stdout.decode(), done.stderr.decode()
+
+
+for name, words, given, has_book, status, put, said in CASES:
+    found = run(name, words, given, has_book)
+    assert found[:2] == (status, put), (name, words, found)
+    assert found[2].count("\n") == (status != 0) and said in found[2], (name, words, found)
+for name in CALLS:
+    status, put, said = run(name, "--help", b"", False)
+    assert (status, said) == (0, "") and put.startswith("usage: "), (name, status, put, said)
+print(f"{len(CASES)} calls, all as they should be")
