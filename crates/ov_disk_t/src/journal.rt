@@ -10,6 +10,7 @@ use ov_disk::{Disk, FileDisk, MemDisk, Tear};
 use ov_journal::{CheckFault, Found, Header, Journal, JournalFault};
 use std::alloc::{AllocError, Global};
 use std::fs;
+use std::process::Abort;
 use std::test::Fail;
 
 const HEADER: Header = Header {
@@ -94,9 +95,7 @@ fn leaves(disk: &MemDisk, call: u64, place: usize, want: &[u8]) -> Result<bool, 
     if call > disk.calls() {
         return Ok(false);
     }
-    let left = disk.image(call, Tear::New)?;
-    let (_, rest) = left.book().split_at(place.min(left.book().len()));
-    Ok(rest == want)
+    Ok(disk.image(call, Tear::New)?.book().get(place..) == Some(want))
 }
 
 #[test]
@@ -141,17 +140,21 @@ fn a_stop_after_each_call(rt: HostRuntime) -> Result<(), Fail> {
     Ok(())
 }
 
-// What is left where a call failed, if nothing since the last sync is kept, and if all is.
+// What stands on a disk where one call failed, if nothing since the last sync is kept, or all is.
+fn left_by_fault(rt: &impl Abort, alloc: Global, call: u64, tear: Tear) -> Result<u8, Fail> {
+    let (disk, done) = written(alloc, call)?;
+    assert!(rt; !done);
+    Ok(standing(alloc, &mut disk.image(disk.calls(), tear)?))
+}
+
 #[test]
 fn a_fault_at_each_call(rt: HostRuntime) -> Result<(), Fail> {
     let alloc = rt.alloc();
     let mut least = Vec::new(alloc);
     let mut most = Vec::new(alloc);
     for call in 0..15 {
-        let (disk, done) = written(alloc, call)?;
-        assert!(rt; !done);
-        least.push(standing(alloc, &mut disk.image(disk.calls(), Tear::Old)?))?;
-        most.push(standing(alloc, &mut disk.image(disk.calls(), Tear::New)?))?;
+        least.push(left_by_fault(&rt, alloc, call, Tear::Old)?)?;
+        most.push(left_by_fault(&rt, alloc, call, Tear::New)?)?;
     }
     assert_eq!(rt; least.as_slice(), b"uuuuuuu00001111".as_slice());
     assert_eq!(rt; most.as_slice(), b"uuuuuu000011112".as_slice());
@@ -167,8 +170,8 @@ fn book(
     more: &[u8],
 ) -> Result<u8, AllocError> {
     let mut book = new_store(alloc)?;
-    if place < book.len() {
-        book[place] = byte;
+    if let Some(changed) = book.get_mut(place) {
+        *changed = byte;
     }
     book.truncate(length);
     book.extend_from_slice(more)?;
@@ -179,42 +182,36 @@ fn book(
     ))
 }
 
+// The length, the place and the value of the byte, what is behind it, and what stands there.
+const BOOKS: [(usize, usize, u8, &[u8], u8); 18] = [
+    // By length, with the first gate open and closed; then one byte longer.
+    (0, 0, 1, b"", b'u'),
+    (1, 0, 1, b"", b'u'),
+    (2, 0, 1, b"", b'f'),
+    (78, 0, 1, b"", b'f'),
+    (79, 0, 1, b"", b'0'),
+    (0, 0, 0, b"", b'u'),
+    (78, 0, 0, b"", b'u'),
+    (79, 0, 0, b"", b'u'),
+    (79, 0, 2, b"", b'u'),
+    (79, 0, 0, b"\0", b'f'),
+    // Another magic, a mode that can't be, and a gate of 2 before a record.
+    (79, 8, b'1', b"\0\0\0\x01a\0", b'f'),
+    (79, 9, 2, b"\0\0\0\x01a\0", b'm'),
+    (79, 78, 2, b"\0\0\0\x01a\0", b'0'),
+    // Behind an open gate: a field that is cut short, lengths, and a body that ends Book.
+    (79, 78, 1, b"\0\0\0", b'b'),
+    (79, 78, 1, b"\0\0\0\0\0", b'b'),
+    (79, 78, 1, b"\0\x11\0\x01\0", b'b'),
+    (79, 78, 1, b"\0\0\0\x02ab", b'b'),
+    (79, 78, 1, b"\0\0\0\x02ab\0", b'1'),
+];
+
 #[test]
 fn books(rt: HostRuntime) -> Result<(), Fail> {
-    let alloc = rt.alloc();
-    let mut all = Vec::new(alloc);
-    // By length, with the first gate open and closed; then one byte longer.
-    for (length, gate) in [
-        (0, 1),
-        (1, 1),
-        (2, 1),
-        (78, 1),
-        (79, 1),
-        (0, 0),
-        (78, 0),
-        (79, 0),
-        (79, 2),
-    ] {
-        all.push(book(alloc, length, 0, gate, b"")?)?;
+    for (length, place, byte, more, stands) in &BOOKS {
+        assert_eq!(rt; book(rt.alloc(), *length, *place, *byte, more)?, *stands);
     }
-    all.push(book(alloc, 79, 0, 0, b"\0")?)?;
-    // Another magic, a mode that can't be, and a gate of 2 before a record.
-    for (place, byte) in [(8, b'1'), (9, 2), (78, 2)] {
-        all.push(book(alloc, 79, place, byte, b"\0\0\0\x01a\0")?)?;
-    }
-    assert_eq!(rt; all.as_slice(), b"uuff0uuuuffm0".as_slice());
-    // Behind an open gate: a field that is cut short, lengths, and a body that ends Book.
-    all.clear();
-    for more in [
-        b"\0\0\0".as_slice(),
-        b"\0\0\0\0\0",
-        b"\0\x11\0\x01\0",
-        b"\0\0\0\x02ab",
-        b"\0\0\0\x02ab\0",
-    ] {
-        all.push(book(alloc, 79, 78, 1, more)?)?;
-    }
-    assert_eq!(rt; all.as_slice(), b"bbbb1".as_slice());
     Ok(())
 }
 

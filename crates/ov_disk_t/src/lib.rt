@@ -1,5 +1,5 @@
-//! Tests of `ov_disk` and `ov_journal`. Nothing stands here but tests: the contracts of
-//! what they call are proved in those crates.
+//! Tests of `ov_disk` and `ov_journal`: what tears, faults and stops leave on a disk in memory, and
+//! the same calls on files. What a book must hold is spelled by hand.
 #![tactic(auto)]
 
 #[cfg(test)]

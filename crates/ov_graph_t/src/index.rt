@@ -1,62 +1,17 @@
-//! Graphs of a few sets, kept in both ways.
+//! Lists and indexes, which answer alike.
 ghost use Rattle.std.specs.Prelude.{◌<◌, ◌≤◌};
 ghost use Rattle.ov_base.specs.declared.limits.TheConstants.{MAX_SET_WORDS};
 
-use ov_base::limits::{MAX_LAYER_NODES, MAX_SET_WORDS};
-use ov_base::{Key, UserSet};
-use ov_graph::{Graph, GraphRefusal, ListGraph, has_roots, plan_and_add};
+use crate::few::four_users;
+use crate::sets::{expect_edges, expect_full, fill, put, set_of_bits};
+use ov_base::UserSet;
+use ov_base::limits::MAX_SET_WORDS;
+use ov_graph::{Graph, ListGraph};
 use ov_index::*;
-use ov_tokens::{Base, Layer, Master, Surface, Token, Tokens};
+use ov_tokens::{Base, Layer, Surface, Token, Tokens};
 use std::alloc::Global;
 use std::process::Abort;
 use std::test::Fail;
-
-const MASTER: Key = Key { bytes: [7; 32] };
-
-/// Adds a set, where it is new.
-fn put<L: Layer, G: Graph<L, W>, const W: usize>(
-    rt: &impl Abort,
-    alloc: Global,
-    graph: &mut G,
-    set: &UserSet<W>,
-) -> Result<u32, Fail> {
-    assert!(rt; has_roots::<L, G, W>(graph, set));
-    Ok(plan_and_add::<L, G, W>(alloc, graph, &Master::new(&MASTER), set)?)
-}
-
-/// The users a to d, each alone, then {a, b} and {b, c}, and the cover of all four, as it is
-/// planned and as it is kept.
-fn four_users<L: Layer, G: Graph<L, W>, const W: usize>(
-    rt: &impl Abort,
-    alloc: Global,
-) -> Result<(), Fail>
-    requires { (1 ≤ W) × (W ≤ MAX_SET_WORDS) }
-{
-    let mut graph = G::new(alloc)?;
-    for user in 0..4 {
-        put::<L, G, W>(rt, alloc, &mut graph, &UserSet::empty().with(user))?;
-    }
-    let ab = UserSet::empty().with(0).with(1);
-    let bc = UserSet::empty().with(1).with(2);
-    let all = ab.union(&bc).with(3);
-    assert_eq!(rt; graph.count(), 4);
-    let pairs = [ab.copy(), bc.copy()];
-    let cover = graph.plan(alloc, &pairs, &all)?;
-    assert_eq!(rt; (cover.node, cover.fresh), (6, true));
-    assert_eq!(rt; cover.from.as_slice(), [4, 5, 3].as_slice());
-    for set in [&ab, &bc, &all] {
-        put::<L, G, W>(rt, alloc, &mut graph, set)?;
-    }
-    assert_eq!(rt; graph.count(), 7);
-    let edges = graph.in_tokens(6);
-    assert_eq!(rt; edges.len(), 3);
-    assert_eq!(rt; [edges[0].from, edges[1].from, edges[2].from], [4, 5, 3]);
-    for node in 0..7 {
-        assert_eq!(rt; graph.find(&graph.set_of(node)), Some(node));
-    }
-    assert!(rt; graph.find(&ab.with(3)).is_none());
-    Ok(())
-}
 
 #[test]
 fn four_users_in_both_graphs(rt: HostRuntime) -> Result<(), Fail> {
@@ -67,20 +22,7 @@ fn four_users_in_both_graphs(rt: HostRuntime) -> Result<(), Fail> {
     Ok(())
 }
 
-/// The set of those of the first twelve users whose bits are set.
-fn set_of_bits<const W: usize>(bits: u32) -> UserSet<W>
-    requires { (1 ≤ W) × (W ≤ MAX_SET_WORDS) }
-{
-    let mut set = UserSet::empty();
-    for user in 0..12 {
-        if bits >> user & 1 == 1 {
-            set = set.with(user);
-        }
-    }
-    set
-}
-
-/// All sets of twelve users: those of one user first, and then by their bits.
+/// All sets of twelve users, and the edges into the last of them.
 fn twelve_users<L: Layer, G: Graph<L, W>, const W: usize>(
     rt: &impl Abort,
     alloc: Global,
@@ -88,26 +30,10 @@ fn twelve_users<L: Layer, G: Graph<L, W>, const W: usize>(
     requires { (1 ≤ W) × (W ≤ MAX_SET_WORDS) }
 {
     let mut graph = G::new(alloc)?;
-    for user in 0..12 {
-        put::<L, G, W>(rt, alloc, &mut graph, &UserSet::empty().with(user))?;
-    }
-    for bits in 0..MAX_LAYER_NODES {
-        put::<L, G, W>(rt, alloc, &mut graph, &set_of_bits(bits))?;
-    }
-    let count = graph.count();
-    assert_eq!(rt; count, MAX_LAYER_NODES);
-    let last = graph.in_tokens(4095);
-    assert_eq!(rt; last.len(), 2);
-    assert_eq!(rt; [last[0].from, last[1].from], [2048, 3071]);
-    let another = UserSet::empty().with(12);
-    assert!(rt; graph.find(&another).is_none());
-    let old = graph.plan(alloc, &[], &set_of_bits(0xfff))?;
-    assert_eq!(rt; (old.node, old.fresh), (4095, false));
-    match graph.plan(alloc, &[], &another) {
-        Err(refusal) => assert_eq!(rt; refusal, GraphRefusal::NodesFull),
-        Ok(_) => assert!(rt; false),
-    }
-    Ok(())
+    fill::<L, G, W>(rt, alloc, &mut graph)?;
+    expect_edges::<L, G, W>(rt, &graph, 4095, &[2048, 3071]);
+    assert!(rt; graph.find(&UserSet::empty().with(12)).is_none());
+    expect_full::<L, G, W>(rt, alloc, &graph)
 }
 
 #[test]
@@ -154,15 +80,8 @@ fn small_team<L: Layer, G: Graph<L, W>, const W: usize>(
         put::<L, G, W>(rt, alloc, &mut graph, &list)?;
     }
     assert_eq!(rt; graph.count(), 45);
-    let granted = graph.in_tokens(24);
-    assert_eq!(rt; granted.len(), 2);
-    assert_eq!(rt; [granted[0].from, granted[1].from], [12, 3]);
-    let revoked = graph.in_tokens(36);
-    assert_eq!(rt; revoked.len(), 3);
-    assert_eq!(rt;
-        [revoked[0].from, revoked[1].from, revoked[2].from],
-        [0, 3, 5]
-    );
+    expect_edges::<L, G, W>(rt, &graph, 24, &[12, 3]);
+    expect_edges::<L, G, W>(rt, &graph, 36, &[0, 3, 5]);
     Ok(())
 }
 

@@ -1,8 +1,13 @@
-//! Tests of `ov_graph` and `ov_index`. Nothing stands here but tests: the contracts of
-//! what they call are proved in those crates.
+//! Tests of `ov_graph` and `ov_index`: the nodes and covers of a few sets, of all sets of twelve
+//! users and of a small team's day, as the rule of covers gives them; and that the two kinds of
+//! graph answer alike.
 #![tactic(auto)]
 
+#[cfg(test)]
+mod few;
 #[cfg(test)]
 mod graph;
 #[cfg(test)]
 mod index;
+#[cfg(test)]
+mod sets;
