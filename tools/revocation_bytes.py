@@ -9,7 +9,7 @@ Update with its tag, and Accepted. A session's Hello and Welcome, 47 bytes, aren
 headers of packets on either side. PROGRAM makes such a store and revokes, and store.book has to grow by
 14 bytes a file: the update behind a gate and its length.
 
-With `age` each file is fetched, encrypted anew to the seven who stay, and sent back. A file of n bytes
+With `age` each file is fetched, encrypted again to the seven who stay, and sent back. A file of n bytes
 for r recipients with X25519 keys has
 
     22 + 98 r + 48 + 16 + n + 16 max(1, ceil(n / 65536))
