@@ -21,15 +21,11 @@ const HEADER: Header = Header {
 };
 
 // A store with that header and no records.
-fn new_store(alloc: Global) -> Result<Vec<u8>, AllocError> {
-    let mut book = b"\x01OVERENC0\x01\x01\x02\x03\x04"
-        .as_slice()
-        .to_vec(alloc)?;
-    book.extend_from_slice(&[0x11; 32])?;
-    book.extend_from_slice(&[0x22; 32])?;
-    book.push(0)?;
-    Ok(book)
-}
+const NEW_STORE: [u8; 79] = *b"\x01OVERENC0\x01\x01\x02\x03\x04\
+    \x11\x11\x11\x11\x11\x11\x11\x11\x11\x11\x11\x11\x11\x11\x11\x11\
+    \x11\x11\x11\x11\x11\x11\x11\x11\x11\x11\x11\x11\x11\x11\x11\x11\
+    \x22\x22\x22\x22\x22\x22\x22\x22\x22\x22\x22\x22\x22\x22\x22\x22\
+    \x22\x22\x22\x22\x22\x22\x22\x22\x22\x22\x22\x22\x22\x22\x22\x22\0";
 
 // The bodies of all records, one behind the other.
 fn bodies<D: Disk>(alloc: Global, disk: &mut D, journal: &Journal) -> Result<Vec<u8>, CheckFault>
@@ -103,7 +99,7 @@ fn a_new_store_and_two_records(rt: HostRuntime) -> Result<(), Fail> {
     let alloc = rt.alloc();
     let (disk, done) = written(alloc, 99)?;
     assert!(rt; done);
-    assert!(rt; leaves(&disk, 7, 0, &new_store(alloc)?)?);
+    assert!(rt; leaves(&disk, 7, 0, &NEW_STORE)?);
     let first = b"\x01\0\0\0\x07\x01\x05alice\0".as_slice();
     assert!(rt; leaves(&disk, 11, 78, first)?);
     // The second record behind its closed gate, and then the gate.
@@ -169,7 +165,7 @@ fn book(
     byte: u8,
     more: &[u8],
 ) -> Result<u8, AllocError> {
-    let mut book = new_store(alloc)?;
+    let mut book = NEW_STORE.to_vec(alloc)?;
     if let Some(changed) = book.get_mut(place) {
         *changed = byte;
     }

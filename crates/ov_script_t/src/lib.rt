@@ -1,5 +1,5 @@
-//! Tests of `ov_script`: scripts with what they say, told by hand from the grammar, and the commands of
-//! stated workloads, told beforehand by another ChaCha20.
+//! Tests of `ov_script`: scripts with what they say, told by hand from the grammar, and the
+//! commands of stated workloads, told beforehand by another ChaCha20.
 #![tactic(auto)]
 
 #[cfg(test)]

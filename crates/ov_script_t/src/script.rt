@@ -192,29 +192,40 @@ fn expect_body(
     Ok(())
 }
 
-#[test]
-fn bodies_of_many_sizes(rt: HostRuntime) -> Result<(), Fail> {
-    for (size, bad) in [(0, 3), (15, 6), (16, 7), (17, 7), (4096, 823)] {
-        let text = with_body(rt.alloc(), size)?;
-        for piece in PIECES {
-            prove!(piece > 0);
-            expect_body(&rt, script_of(rt.alloc(), &text, piece)?, size, bad)?;
-        }
+/// Makes sure of such a script, in pieces of each size.
+fn expect_bodies(rt: &impl Abort, alloc: Global, size: usize, bad: u64) -> Result<(), Fail> {
+    let text = with_body(alloc, size)?;
+    for piece in PIECES {
+        prove!(piece > 0);
+        expect_body(rt, script_of(alloc, &text, piece)?, size, bad)?;
     }
     Ok(())
 }
 
 #[test]
-fn the_longest_body(rt: HostRuntime) -> Result<(), Fail> {
-    let alloc = rt.alloc();
+fn bodies_of_many_sizes(rt: HostRuntime) -> Result<(), Fail> {
+    for (size, bad) in [(0, 3), (15, 6), (16, 7), (17, 7), (4096, 823)] {
+        expect_bodies(&rt, rt.alloc(), size, bad)?;
+    }
+    Ok(())
+}
+
+// The longest body, and a line that asks for a longer one.
+fn with_longest(alloc: Global) -> Result<Vec<u8>, Fail> {
     let mut text = b"enrol a\ncreate f a 1048576\n".to_vec(alloc)?;
     text.extend_from_slice(&vec![in alloc; b'x'; MAX_FILE_BYTES as usize]?)?;
     text.extend_from_slice(b"\ncreate g a 1048577\n")?;
-    let mut script = script_of(alloc, &text, 65_536)?;
-    assert!(rt; matches!(script.next(), Ok(Next::Command(Command::Enrol { .. }))));
-    assert!(rt; matches!(script.next(), Ok(Next::Command(Command::Create { .. }))));
-    assert!(rt; matches!(script.next(), Ok(Next::BadLine { line: 4 })));
-    Ok(())
+    Ok(text)
+}
+
+#[test]
+fn the_longest_body(rt: HostRuntime) -> Result<(), Fail> {
+    let mut script = script_of(rt.alloc(), &with_longest(rt.alloc())?, 65_536)?;
+    match script.next() {
+        Ok(Next::Command(Command::Enrol { .. })) => {}
+        _ => return Err(Fail::from("no enrol")),
+    }
+    expect_body(&rt, script, MAX_FILE_BYTES as usize, 4)
 }
 
 // A `create` whose line has so many bytes, its LF included: the name `a` again and again, and `b`.
@@ -264,6 +275,17 @@ fn put_list(texts: &[&[u8]], out: &mut Vec<u8>) -> Result<(), Fail> {
     Ok(())
 }
 
+/// The line of what alice reads of file `f1`.
+fn put_data(bytes: &[u8], out: &mut Vec<u8>) -> Result<(), Fail> {
+    let data = Reply::Bytes {
+        user: name(b"alice")?,
+        file: name(b"f1")?,
+        bytes: Octets::copy(*out.allocator(), bytes)?,
+    };
+    line(&data, out)?;
+    Ok(())
+}
+
 const LINES: &[u8] =
     b"ok 4294967295\ndata alice f1 5\nhe\nlo\nlist f1 -\nlist f1 b\nlist f1 b,a1,c\n\
     epoch 2\nrefused 4 NoPath\nend epoch 3\n";
@@ -272,12 +294,7 @@ const LINES: &[u8] =
 fn reply_lines(rt: HostRuntime) -> Result<(), Fail> {
     let mut out = Vec::new(rt.alloc());
     line(&Reply::Accepted(4_294_967_295), &mut out)?;
-    let data = Reply::Bytes {
-        user: name(b"alice")?,
-        file: name(b"f1")?,
-        bytes: Octets::copy(rt.alloc(), b"he\nlo")?,
-    };
-    line(&data, &mut out)?;
+    put_data(b"he\nlo", &mut out)?;
     put_list(&[], &mut out)?;
     put_list(&[b"b"], &mut out)?;
     put_list(&[b"b", b"a1", b"c"], &mut out)?;
