@@ -1,5 +1,5 @@
 #!/usr/bin/env python3
-"""Prints the rows of crates/ov_store/src/tests/damage.rt: where a book that was changed is damaged.
+"""Prints the rows of crates/ov_store_t/src/store/damage.rt: where a book that was changed is damaged.
 
 It reads books by docs/FORMATS.md, and shares nothing with the crates. The book is that of a small
 store: two users, a file for both, a third user, a grant and a revocation, with tokens and a tag of

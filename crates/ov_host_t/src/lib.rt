@@ -1,5 +1,5 @@
-//! Tests of `ov_host`. Nothing stands here but tests: the contracts of
-//! what they call are proved in those crates.
+//! Tests of `ov_host`: each exit status of a server, and the lines that it writes, over a disk, a
+//! door and a sink in memory. A table has a row for each case.
 #![tactic(auto)]
 
 #[cfg(test)]

@@ -1,5 +1,5 @@
-//! Tests of `ov_peer` and `ov_owner`. Nothing stands here but tests: the contracts of
-//! what they call are proved in those crates.
+//! Tests of `ov_peer` and `ov_owner`: asks over peers that give fixed replies or fail, and the frames
+//! that an owner sends, which are those of another program.
 #![tactic(auto)]
 
 #[cfg(test)]

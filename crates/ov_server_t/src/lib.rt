@@ -1,5 +1,5 @@
-//! Tests of `ov_server`. Nothing stands here but tests: the contracts of
-//! what they call are proved in those crates.
+//! Tests of `ov_server`: the replies of a server to each request of another program, which are that
+//! program's own, and those of a server whose disk has failed.
 #![tactic(auto)]
 
 #[cfg(test)]
