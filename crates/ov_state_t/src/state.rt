@@ -142,6 +142,31 @@ fn a_history_in_both_modes(rt: HostRuntime) {
     }
 }
 
+/// What a grant and the updates before it rewrite in mode Delta: the grant wants two sets that have
+/// no surface node, and its nodes come in the order of the files that want them.
+const TWO_NEW_NODES: [(Step, &[Rewritten]); 7] = [
+    (Step::Enrol(b"a"), &[]),
+    (Step::Enrol(b"b"), &[]),
+    (Step::Enrol(b"c"), &[]),
+    (Step::Create(b"f0", &[0, 1], 2), &[(0, None, None)]),
+    (Step::Create(b"f1", &[0, 1], 0), &[(1, None, None)]),
+    (Step::Revoke(1, 0), &[(0, None, Some(0))]),
+    (
+        Step::Grant(2, 0, true),
+        &[(0, Some(0), Some(3)), (1, None, Some(4))],
+    ),
+];
+
+/// Node 3 is that of a and c, which the first file wants, and node 4 that of a and b.
+#[test]
+fn new_surface_nodes_in_the_order_of_files(rt: HostRuntime) {
+    let mut catalogue: Catalogue = State::new(rt.alloc(), Mode::Delta, 0).expect(&rt, "memory");
+    for (step, expected) in &TWO_NEW_NODES {
+        make(&rt, rt.alloc(), &mut catalogue, *step, expected);
+    }
+    assert_eq!(rt; catalogue.surface().count(), 5);
+}
+
 /// Makes sure that a reader gets these chains.
 fn expect_reading(rt: &impl Abort, alloc: Global, catalogue: &Catalogue, row: &Reading) {
     let (user, file) = (name(rt, row.user), name(rt, row.file));
