@@ -1,6 +1,7 @@
 """Counts what has to be read to know what a contract says: the definitions of specs/ that its clauses
-name, those that these name, and so on, through all crates. Types of the code and the kit's own
-definitions aren't counted.
+name, those that these name, and so on, through all crates, and the clauses of the repository's traits
+that bound a type of the contract, with what these name. Types of the code and the kit's own definitions
+aren't counted.
 
     python3 tools/definition_lines.py CRATE FUNCTION [TYPE]   # definitions, lines, and lines by crate
     python3 tools/definition_lines.py page                    # is docs/PROVED.md right? Names each row that isn't
@@ -50,6 +51,20 @@ def all_specs():
 
 
 SPECS = dict(all_specs())
+TRAIT = re.compile(r"^pub trait (\w+)[^{]*\{\n.*?^\}", re.M | re.S)
+
+
+def all_traits():
+    """By its name each trait of the repository: its crate, its lines without comments, and the imports of its file."""
+    for path in ROOT.glob("crates/*/src/**/*.rt"):
+        text = path.read_text()
+        for found in TRAIT.finditer(text):
+            lines = [line for line in found.group(0).split("\n") if line.strip() and "//" not in line]
+            crate = path.relative_to(ROOT / "crates").parts[0]
+            yield found.group(1), (crate, lines, imports_of(text))
+
+
+TRAITS = dict(all_traits())
 
 
 def contract_at(text, start):
@@ -70,12 +85,37 @@ def file_with(crate, function, owner):
     sys.exit(f"{crate} has no function {owner or ''} {function}")
 
 
+BOUND = re.compile(r"[:+]\s*(\w+)")
+
+
+def bounds_at(text, start):
+    """The names that bound a type of the function that begins there, at itself and at its impl."""
+    head = [line for line in text[:start].split("\n") if line.startswith(("impl", "pub trait"))]
+    signature = text[start:].partition("(")[0]
+    return BOUND.findall(signature + "".join(head[-1:]))
+
+
+def traits_of(bounds):
+    """The traits of these names, and those that these stand on."""
+    waiting, found = list(bounds), set()
+    while waiting:
+        name = waiting.pop()
+        if name in TRAITS and name not in found:
+            found.add(name)
+            waiting += BOUND.findall(TRAITS[name][1][0])
+    return found
+
+
 def reading_of(crate, function, owner=None):
-    """The lines of all definitions that have to be read, by crate, and how many definitions they are."""
+    """The lines of all definitions and traits that have to be read, by crate, and how many they are."""
     text, start = file_with(crate, function, owner)
-    imports = imports_of(text)
-    waiting = [imports[word] for word in WORD.findall(contract_at(text, start)) if word in imports]
+    contract, imports = contract_at(text, start), imports_of(text)
+    waiting = [imports[word] for word in WORD.findall(contract) if word in imports]
     seen, lines, count = set(), collections.Counter(), 0
+    for there, clauses, names in (TRAITS[name] for name in traits_of(bounds_at(text, start))):
+        count += 1
+        lines[there] += len(clauses)
+        waiting += [names[word] for word in WORD.findall("\n".join(clauses)) if word in names]
     while waiting:
         module, name = waiting.pop()
         if (module, name) in seen:
