@@ -9,7 +9,7 @@ A program is known by its name, which ends in overstore, overstored or overctl.
 
 A block of a page is run where a comment stands above it:
 
-    <!-- run -->             in a new folder that has tools/, examples/ and dist/
+    <!-- run -->             in a new folder that has tools/, examples/, dist/ and docs/
     <!-- run: program -->    so, with the example key file, `overstore` and `overstore-revoke-all`, -list-, -grant-
     <!-- run: network -->    so, with the example key file, `overstored` and `overctl`
     <!-- run: .., on -->     in the folder of the block before it
@@ -128,7 +128,7 @@ def unmarked_of(page):
 def page_folder():
     """A folder that has the folders of the repository that pages name."""
     folder = new_folder()
-    for name in ("tools", "examples", "dist"):
+    for name in ("tools", "examples", "dist", "docs"):
         (folder / name).symlink_to(ROOT / name)
     return folder
 
