@@ -175,6 +175,10 @@ KEY = "key @ keys c"
 # ---- statuses
 
 IN_DOUBT = "it may be done: look with `overctl list` before you repeat it"
+FILE_IN_DOUBT = (
+    "it may be done: look with `overctl list`; if it isn't, "
+    "create it, with the same bytes, before any other file for its list"
+)
 NEW_USER = "it may be done: repeat it, and `refused 1 Taken` says that it was"
 AS_IT_WAS = "the store is as it was: try again"
 NO_OUTPUT = "cannot write standard output"
@@ -189,7 +193,7 @@ def commands():
     case(GRANT, ["WELCOME", "KNOWN", "ACCEPTED"], 0, b"ok 8\n", asked=3)
     case("revoke @ keys a f1", ["WELCOME", "KNOWN", "ACCEPTED"], 0, b"ok 8\n", asked=3)
     case(CREATE, ["WELCOME", "PLAN", "ACCEPTED"], 0, b"ok 8\n", asked=3)
-    case("create @ keys f1 - longest", ["WELCOME"], 8, b"", CUT_OFF, OTHER_PROGRAM + IN_DOUBT, asked=2)
+    case("create @ keys f1 - longest", ["WELCOME"], 8, b"", CUT_OFF, OTHER_PROGRAM + FILE_IN_DOUBT, asked=2)
     case(LIST, ["WELCOME", "LISTED"], 0, b"list f1 a,b\n", asked=2)
     case(LIST, ["WELCOME", "LISTED_NONE"], 0, b"list f1 -\n", asked=2)
     case(KEY, ["WELCOME", "KNOWN_C"], 0, KEY_LINE.encode(), asked=2)
@@ -255,7 +259,7 @@ def memory_that_is_refused():
                 found = run(client_folder(), [server.address if word == "@" else word for word in words], preexec_fn=limit)
             finally:
                 server.end()
-            lines = two_lines(no_memory.replace("@", server.address), IN_DOUBT)
+            lines = two_lines(no_memory.replace("@", server.address), FILE_IN_DOUBT)
             assert found in [(7, b"", lines), (0, b"ok 8\n", [])], (size, found)
 
 
@@ -295,7 +299,8 @@ def keys_of_others():
     error = "the store at @ has other masters than keys"
     hint = "take the key file of its settings: `base_check` is its `overctl check`, `surface` its second line"
     case(ENROL, ["WELCOME_OTHER"], 9, b"", error, hint, asked=1)
-    case(CREATE, ["WELCOME_OTHER"], 9, b"", error, hint, asked=1)
+    first = hint + "; then create this file, before any other for its list"
+    case(CREATE, ["WELCOME_OTHER"], 9, b"", error, first, asked=1)
     case(ENROL, ["WELCOME", "KNOWN", "BAD_TAG"], 9, b"", error, hint, asked=3)
     digits = "it has two different lines of 64 hexadecimal digits"
     case("enrol @ key a", [], 10, b"", "key is no key file", digits, asked=0)

@@ -8,7 +8,9 @@ use ov_base::Name;
 pub enum Asks {
     /// A new user.
     User,
-    /// A new file, or another list of a file.
+    /// A new file, whose bytes are sent.
+    File,
+    /// Another list of a file.
     List,
     /// What the store has, with both masters.
     Answer,
@@ -22,9 +24,8 @@ pub enum Asks {
 pub fn asks_of(act: &Act) -> Asks {
     match act {
         Act::Enrol { user: _ } => Asks::User,
-        Act::Grant { user: _, file: _ }
-        | Act::Revoke { user: _, file: _ }
-        | Act::Create { file: _, list: _ } => Asks::List,
+        Act::Create { file: _, list: _ } => Asks::File,
+        Act::Grant { user: _, file: _ } | Act::Revoke { user: _, file: _ } => Asks::List,
         Act::List { file: _ } | Act::Key { user: _ } => Asks::Answer,
         Act::Read { file: _ } => Asks::Bytes,
         Act::Check => Asks::Nothing,

@@ -79,10 +79,21 @@ const KEYS_OF_SETTINGS: &str = concat!(
 #[derive(Clone, Copy)]
 pub struct Hint<'a>(pub &'a Ending<'a>);
 
+// What to do where a file was sent and what came of it isn't known. Where it wasn't made its number
+// and its pad go to the next file for its list, so that has to be the same file.
+const FILE_IN_DOUBT: &str = concat!(
+    "it may be done: look with `overctl list`; if it isn't, ",
+    "create it, with the same bytes, before any other file for its list"
+);
+
+// What to do where a file may have been sent and wasn't made.
+const FILE_FIRST: &str = "; then create this file, before any other for its list";
+
 // What to do where a command was sent and what came of it isn't known.
 fn doubt_of(asks: Asks) -> &'static str {
     match asks {
         Asks::User => "it may be done: repeat it, and `refused 1 Taken` says that it was",
+        Asks::File => FILE_IN_DOUBT,
         Asks::List => "it may be done: look with `overctl list` before you repeat it",
         Asks::Answer | Asks::Bytes => "the store is as it was: try again",
         Asks::Nothing => "try again",
@@ -115,7 +126,9 @@ fn say_hint_of_link<W: Write>(end: &Ending<'_>, f: &mut Formatter<W>) -> fmt::Re
 fn say_hint_of_reply<W: Write>(end: &Ending<'_>, f: &mut Formatter<W>) -> fmt::Result {
     f.write_str("see that overstored listens there, with the `--version` of overctl")?;
     match end.asks {
-        Asks::User | Asks::List => write!(f, "; if it does, {}", doubt_of(end.asks)),
+        Asks::User | Asks::File | Asks::List => {
+            write!(f, "; if it does, {}", doubt_of(end.asks))
+        }
         Asks::Bytes => write!(f, ", and that {} is of its store", end.keys),
         Asks::Answer | Asks::Nothing => Ok(()),
     }
@@ -125,7 +138,9 @@ fn say_hint_of_reply<W: Write>(end: &Ending<'_>, f: &mut Formatter<W>) -> fmt::R
 fn say_hint_of_disk<W: Write>(asks: Asks, f: &mut Formatter<W>) -> fmt::Result {
     let doubt = doubt_of(asks);
     match asks {
-        Asks::User | Asks::List => write!(f, "have the server started again; {doubt}"),
+        Asks::User | Asks::File | Asks::List => {
+            write!(f, "have the server started again; {doubt}")
+        }
         Asks::Answer | Asks::Bytes | Asks::Nothing => f.write_str(doubt),
     }
 }
@@ -133,7 +148,7 @@ fn say_hint_of_disk<W: Write>(asks: Asks, f: &mut Formatter<W>) -> fmt::Result {
 // What to do where standard output isn't written.
 fn hint_of_output(asks: Asks) -> &'static str {
     match asks {
-        Asks::User | Asks::List => doubt_of(asks),
+        Asks::User | Asks::File | Asks::List => doubt_of(asks),
         Asks::Answer | Asks::Bytes | Asks::Nothing => WRITABLE,
     }
 }
@@ -152,6 +167,9 @@ impl Display for Hint<'_> {
             Status::WriteFault => f.write_str(hint_of_output(end.asks)),
             Status::OutOfMemory => f.write_str(doubt_of(end.asks)),
             Status::LinkFault => say_hint_of_link(end, f),
+            Status::OtherKeys if end.asks == Asks::File => {
+                write!(f, "{KEYS_OF_SETTINGS}{FILE_FIRST}")
+            }
             Status::OtherKeys => f.write_str(KEYS_OF_SETTINGS),
             Status::BadKeys if end.asks == Asks::Bytes => {
                 f.write_str("the owner prints one with `overctl key`")
@@ -162,6 +180,9 @@ impl Display for Hint<'_> {
                 f.write_str(
                     "read again; if it stays so, ask the owner for a key line of this store",
                 )
+            }
+            Status::Unsettled if end.asks == Asks::File => {
+                f.write_str("try again, before you create any other file for its list")
             }
             Status::Unsettled => f.write_str("try again"),
             Status::TooLong => f.write_str("store it as several files"),
