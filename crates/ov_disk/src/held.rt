@@ -3,7 +3,7 @@ use crate::Area;
 use os::RangeLock;
 use std::fs::{OpenFile, OpenOptions};
 use std::os::fd::AsRawFd;
-use std::os::unix::fs::FileExt;
+use std::os::unix::fs::{FileExt, OpenOptionsExt};
 use std::path::Path;
 use std::rt::Files;
 use std::{fs, io};
@@ -78,6 +78,10 @@ fn folder_of(path: &str) -> &str {
     }
 }
 
+// What a file that is made here may be used for, and by whom: read and written by its owner alone,
+// since a book has every name and every list in it.
+const PRIVATE: u32 = 0o600;
+
 // Opens a regular file, or makes it, and locks it.
 fn open_held<R: Files>(rt: &R, path: &str) -> io::Result<Held<R::File>>
 where
@@ -87,6 +91,7 @@ where
         .read(true)
         .write(true)
         .create(true)
+        .mode(PRIVATE)
         .open(rt, path)?;
     if !file.metadata()?.is_file() {
         return Err(io::ErrorKind::Unsupported.into());

@@ -9,7 +9,8 @@ ghost use Rattle.ov_io.specs.Putting.{Puts};
 use crate::outside::{read_some, write_all};
 use crate::{Fault, Sink, Source};
 use ov_base::Memory;
-use std::fs;
+use std::fs::{self, OpenOptions};
+use std::os::unix::fs::OpenOptionsExt;
 use std::rt::Files;
 
 /// The file at a path, which is opened at the first call and from then on tells of its bytes what
@@ -80,7 +81,8 @@ impl<R: Files + Alloc + Drop> Source for FileSource<R> {
 
 /// The file at a path, which is made anew at the first call and from then on tells of its bytes what
 /// the files of the runtime tell. What stood there before is gone then, and not earlier. A file that
-/// can't be made is a fault of that call; the next one tries again.
+/// is new may be read and written by its owner alone. A file that can't be made is a fault of that
+/// call; the next one tries again.
 #[derive(Drop)]
 pub struct FileSink<R: Files + Alloc + Drop> {
     rt: R,
@@ -110,7 +112,13 @@ impl<R: Files + Alloc + Drop> FileSink<R> {
         ensures same { self.new.faults ≡ self.old.faults }
     {
         if self.file.is_none() {
-            self.file = fs::create(&self.rt, self.path.as_str()).ok();
+            self.file = OpenOptions::new()
+                .write(true)
+                .create(true)
+                .truncate(true)
+                .mode(0o600)
+                .open(&self.rt, self.path.as_str())
+                .ok();
         }
         match &mut self.file {
             Some(file) => write_all(file, bytes),
