@@ -3,49 +3,50 @@ use Rattle.std.proofs.Common.{◌≡◌, ◌≢◌, ℕ, List, [], ◌++◌, ref
 use Rattle.std.specs.Io.KnownBytes.{Consumes}
 use Rattle.std.proofs.KnownBytes.{Consumes-nil, Consumes-trans}
 use Rattle.ov_io.specs.Calls.{TakesPieces, no_piece, one_more, TakesWhile, each_gave, last_gave_none}
+use Rattle.ov_io.specs.Tells.{SourceTells}
 
-module _ {S : Type 0} (takes : S → S → Type 0) (left : S → Option (List ℕ)) where
+module _ {S : Type 0} (tells : SourceTells S) where
   -- nothing was taken behind them
-  pub pieces_same : (P : List ℕ → Type 0) (old mid new : S) (seen : List ℕ) → new ≡ mid → TakesPieces takes left P old mid seen → TakesPieces takes left P old new seen
-  pieces_same P old mid new seen e t = subst (λ s. TakesPieces takes left P old s seen) (sym e) t
+  pub pieces_same : (P : List ℕ → Type 0) (old mid new : S) (seen : List ℕ) → new ≡ mid → TakesPieces tells P old mid seen → TakesPieces tells P old new seen
+  pieces_same P old mid new seen e t = subst (λ s. TakesPieces tells P old s seen) (sym e) t
 
   -- the first pieces, of all that is left unsettled
-  pub first_piece : (P : List ℕ → Type 0) (old new : S) (piece : List ℕ) → P [] → takes old new → Consumes (left old) (left new) piece → piece ≢ [] → TakesPieces takes left P old new piece
+  pub first_piece : (P : List ℕ → Type 0) (old new : S) (piece : List ℕ) → P [] → tells.takes old new → Consumes (tells.left old) (tells.left new) piece → piece ≢ [] → TakesPieces tells P old new piece
   first_piece P old new piece u t c some = one_more old new [] piece (no_piece old refl) u t c some
 
   -- what is left unsettled may be said otherwise
-  pub pieces_as : (P Q : List ℕ → Type 0) (old new : S) (seen : List ℕ) → ((seen : List ℕ) → P seen → Q seen) → TakesPieces takes left P old new seen → TakesPieces takes left Q old new seen
+  pub pieces_as : (P Q : List ℕ → Type 0) (old new : S) (seen : List ℕ) → ((seen : List ℕ) → P seen → Q seen) → TakesPieces tells P old new seen → TakesPieces tells Q old new seen
   pieces_as P Q old _ _ wider (no_piece new e) = no_piece new e
   pieces_as P Q old _ _ wider (one_more mid new seen piece before u t c some) =
       one_more mid new seen piece (pieces_as P Q old mid seen wider before) (wider seen u) t c some
 
   -- the source lost them
-  pub pieces_consumed : (P : List ℕ → Type 0) (old new : S) (seen : List ℕ) → TakesPieces takes left P old new seen → Consumes (left old) (left new) seen
-  pieces_consumed P old _ _ (no_piece new e) = subst (λ s. Consumes (left old) (left s) []) (sym e) (Consumes-nil (left old))
+  pub pieces_consumed : (P : List ℕ → Type 0) (old new : S) (seen : List ℕ) → TakesPieces tells P old new seen → Consumes (tells.left old) (tells.left new) seen
+  pieces_consumed P old _ _ (no_piece new e) = subst (λ s. Consumes (tells.left old) (tells.left s) []) (sym e) (Consumes-nil (tells.left old))
   pieces_consumed P old _ _ (one_more mid new seen piece before u t c some) =
-      Consumes-trans (left old) (left mid) (left new) seen piece (pieces_consumed P old mid seen before) c
+      Consumes-trans (tells.left old) (tells.left mid) (tells.left new) seen piece (pieces_consumed P old mid seen before) c
 
   -- pieces behind others
   pub pieces_behind : (P Q : List ℕ → Type 0) (old mid new : S) (first seen : List ℕ) → ((seen : List ℕ) → Q seen → P (first ++ seen))
-      → TakesPieces takes left P old mid first → TakesPieces takes left Q mid new seen → TakesPieces takes left P old new (first ++ seen)
+      → TakesPieces tells P old mid first → TakesPieces tells Q mid new seen → TakesPieces tells P old new (first ++ seen)
   pieces_behind P Q old mid _ first _ wider before (no_piece new e) =
-      subst (TakesPieces takes left P old new) (sym (append-nil first)) (pieces_same P old mid new first e before)
+      subst (TakesPieces tells P old new) (sym (append-nil first)) (pieces_same P old mid new first e before)
   pieces_behind P Q old mid _ first _ wider before (one_more at new seen piece more u t c some) =
-      subst (TakesPieces takes left P old new) (append_assoc first seen piece)
+      subst (TakesPieces tells P old new) (append_assoc first seen piece)
       (one_more at new (first ++ seen) piece (pieces_behind P Q old mid at first seen wider before more) (wider seen u) t c some)
 
   -- what the call was for may be said otherwise, and so may its failure
-  pub while_as : (P : List ℕ → Type 0) (E D F G : Type 0) (old new : S) → (E → D) → (G → F) → TakesWhile takes left P E F old new → TakesWhile takes left P D G old new
+  pub while_as : (P : List ℕ → Type 0) (E D F G : Type 0) (old new : S) → (E → D) → (G → F) → TakesWhile tells P E F old new → TakesWhile tells P D G old new
   while_as P E D F G old new e f (each_gave seen t ok) = each_gave seen t (λ g. ok (f g))
   while_as P E D F G old new e f (last_gave_none mid seen t u last c end) = last_gave_none mid seen t u last c (e end)
 
   -- nothing was taken behind them
-  pub while_same : (P : List ℕ → Type 0) (E F : Type 0) (old mid new : S) → new ≡ mid → TakesWhile takes left P E F old mid → TakesWhile takes left P E F old new
-  while_same P E F old mid new e t = subst (λ s. TakesWhile takes left P E F old s) (sym e) t
+  pub while_same : (P : List ℕ → Type 0) (E F : Type 0) (old mid new : S) → new ≡ mid → TakesWhile tells P E F old mid → TakesWhile tells P E F old new
+  while_same P E F old mid new e t = subst (λ s. TakesWhile tells P E F old s) (sym e) t
 
   -- takes behind pieces
   pub while_behind : (P Q : List ℕ → Type 0) (E F : Type 0) (old mid new : S) (first : List ℕ) → ((seen : List ℕ) → Q seen → P (first ++ seen))
-      → TakesPieces takes left P old mid first → TakesWhile takes left Q E F mid new → TakesWhile takes left P E F old new
+      → TakesPieces tells P old mid first → TakesWhile tells Q E F mid new → TakesWhile tells P E F old new
   while_behind P Q E F old mid new first wider before (each_gave seen t ok) =
       each_gave (first ++ seen) (pieces_behind P Q old mid new first seen wider before t) ok
   while_behind P Q E F old mid new first wider before (last_gave_none at seen t u last c end) =
@@ -53,18 +54,28 @@ module _ {S : Type 0} (takes : S → S → Type 0) (left : S → Option (List �
 
 -- ---- behind a loan
 
+-- a source behind a loan tells what the source tells, and a take of it is one of the source
+pub record IsLent {L S : Type 0} (now : L → S) (lent : SourceTells L) (tells : SourceTells S) : Type 0 where
+  pub left : (l : L) → lent.left l ≡ tells.left (now l)
+  pub takes : (a b : L) → lent.takes a b → tells.takes (now a) (now b)
+
+-- what it loses, the source loses
+pub consumed_lent : {L S : Type 0} (now : L → S) (lent : SourceTells L) (tells : SourceTells S) → IsLent now lent tells → (a b : L) (bytes : List ℕ)
+    → Consumes (lent.left a) (lent.left b) bytes → Consumes (tells.left (now a)) (tells.left (now b)) bytes
+consumed_lent {L} {S} now lent tells is a b bytes c = rw (← is.left a, ← is.left b) c
+
 -- pieces that are taken of a source behind a loan are taken of the source
-pub pieces_lent : {L S : Type 0} (now : L → S) (lent : L → L → Type 0) (takes : S → S → Type 0) (left : S → Option (List ℕ)) (P : List ℕ → Type 0)
-    → ((a b : L) → lent a b → takes (now a) (now b)) → (first last : L) (seen : List ℕ)
-    → TakesPieces lent (λ l. left (now l)) P first last seen → TakesPieces takes left P (now first) (now last) seen
-pieces_lent {L} {S} now lent takes left P each first _ _ (no_piece last e) = no_piece (now last) (ap now e)
-pieces_lent {L} {S} now lent takes left P each first _ _ (one_more mid last seen piece before u t c some) =
-    one_more (now mid) (now last) seen piece (pieces_lent now lent takes left P each first mid seen before) u (each mid last t) c some
+pub pieces_lent : {L S : Type 0} (now : L → S) (lent : SourceTells L) (tells : SourceTells S) (P : List ℕ → Type 0)
+    → IsLent now lent tells → (first last : L) (seen : List ℕ)
+    → TakesPieces lent P first last seen → TakesPieces tells P (now first) (now last) seen
+pieces_lent {L} {S} now lent tells P is first _ _ (no_piece last e) = no_piece (now last) (ap now e)
+pieces_lent {L} {S} now lent tells P is first _ _ (one_more mid last seen piece before u t c some) =
+    one_more (now mid) (now last) seen piece (pieces_lent now lent tells P is first mid seen before) u (is.takes mid last t) (consumed_lent now lent tells is mid last piece c) some
 
 -- and so it is with takes
-pub while_lent : {L S : Type 0} (now : L → S) (lent : L → L → Type 0) (takes : S → S → Type 0) (left : S → Option (List ℕ)) (P : List ℕ → Type 0) (E F : Type 0)
-    → ((a b : L) → lent a b → takes (now a) (now b)) → (first last : L)
-    → TakesWhile lent (λ l. left (now l)) P E F first last → TakesWhile takes left P E F (now first) (now last)
-while_lent {L} {S} now lent takes left P E F each first last (each_gave seen t ok) = each_gave seen (pieces_lent now lent takes left P each first last seen t) ok
-while_lent {L} {S} now lent takes left P E F each first last (last_gave_none mid seen t u step c end) =
-    last_gave_none (now mid) seen (pieces_lent now lent takes left P each first mid seen t) u (each mid last step) c end
+pub while_lent : {L S : Type 0} (now : L → S) (lent : SourceTells L) (tells : SourceTells S) (P : List ℕ → Type 0) (E F : Type 0)
+    → IsLent now lent tells → (first last : L)
+    → TakesWhile lent P E F first last → TakesWhile tells P E F (now first) (now last)
+while_lent {L} {S} now lent tells P E F is first last (each_gave seen t ok) = each_gave seen (pieces_lent now lent tells P is first last seen t) ok
+while_lent {L} {S} now lent tells P E F is first last (last_gave_none mid seen t u step c end) =
+    last_gave_none (now mid) seen (pieces_lent now lent tells P is first mid seen t) u (is.takes mid last step) (consumed_lent now lent tells is mid last [] c) end

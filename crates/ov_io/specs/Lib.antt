@@ -3,3 +3,4 @@ pub mod Files
 pub mod Memory
 pub mod Putting
 pub mod Streams
+pub mod Tells

@@ -56,13 +56,12 @@ impl<R: Files + Alloc + Drop> FileSource<R> {
 }
 
 impl<R: Files + Alloc + Drop> Source for FileSource<R> {
-    ghost left = { λ s. left_of R.File.remaining s.file };
-
-    ghost faults = { λ s. s.faults };
-
-    ghost borrow = { λ _. 0 };
-
-    ghost takes = { λ _ _. ⊤ };
+    ghost tells = { record {
+      left = λ s. left_of R.File.remaining s.file;
+      faults = λ s. s.faults;
+      borrow = λ _. 0;
+      takes = λ _ _. ⊤;
+    } };
 
     fn take(&mut self, buf: &mut [u8]) -> Result<usize, Fault>
         ensures bound { ReadsAtMost result buf.new }
@@ -128,13 +127,12 @@ impl<R: Files + Alloc + Drop> FileSink<R> {
 }
 
 impl<R: Files + Alloc + Drop> Sink for FileSink<R> {
-    ghost written = { λ s. written_of R.File.contents s.file };
-
-    ghost faults = { λ s. s.faults };
-
-    ghost borrow = { λ _. 0 };
-
-    ghost puts = { λ _ _. ⊤ };
+    ghost tells = { record {
+      written = λ s. written_of R.File.contents s.file;
+      faults = λ s. s.faults;
+      borrow = λ _. 0;
+      puts = λ _ _. ⊤;
+    } };
 
     fn put(&mut self, bytes: &[u8]) -> Result<(), Fault>
         ensures bytes { Puts (written_of R.File.contents self.old.file)

@@ -11,12 +11,12 @@ use crate::{Fault, Source};
 pub fn fill<K: Source>(source: &mut K, buffer: &mut [u8]) -> Result<usize, Fault>
     ensures long { length buffer.new ≡ length buffer.old }
     ensures taken { IfOk result (λ n. (n ≤ length buffer.old)
-        × Consumes (K.left source.old) (K.left source.new) (take n buffer.new)) }
-    ensures all { IfOk result (λ n. (n ≡ length buffer.old) ⊎ IsAtEnd (K.left source.new)) }
-    ensures needed { TakesWhile K.takes K.left (λ seen. length seen < length buffer.old)
-        ⊤ (IsErr result) source.old source.new }
-    ensures same { K.borrow source.new ≡ K.borrow source.old }
-    ensures cause { HasCause (K.faults source.old) (K.faults source.new) result }
+        × Consumes (K.tells.left source.old) (K.tells.left source.new) (take n buffer.new)) }
+    ensures all { IfOk result (λ n. (n ≡ length buffer.old) ⊎ IsAtEnd (K.tells.left source.new)) }
+    ensures needed { TakesWhile K.tells (λ seen. length seen < length buffer.old) ⊤ (IsErr result)
+        source.old source.new }
+    ensures same { K.tells.borrow source.new ≡ K.tells.borrow source.old }
+    ensures cause { HasCause (K.tells.faults source.old) (K.tells.faults source.new) result }
 {
     let mut end = 0;
     'pieces: while end < buffer.len() {

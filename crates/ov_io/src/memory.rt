@@ -79,13 +79,12 @@ impl MemSource {
 }
 
 impl Source for MemSource {
-    ghost left = { λ s. Some s.left };
-
-    ghost faults = { λ s. s.faults };
-
-    ghost borrow = { λ _. 0 };
-
-    ghost takes = { IsTake };
+    ghost tells = { record {
+      left = λ s. Some s.left;
+      faults = λ s. s.faults;
+      borrow = λ _. 0;
+      takes = IsTake;
+    } };
 
     fn take(&mut self, buf: &mut [u8]) -> Result<usize, Fault>
         ensures bound { ReadsAtMost result buf.new }
@@ -151,13 +150,12 @@ impl MemSink {
 }
 
 impl Sink for MemSink {
-    ghost written = { λ s. Some s.written };
-
-    ghost faults = { λ s. s.faults };
-
-    ghost borrow = { λ _. 0 };
-
-    ghost puts = { IsPut };
+    ghost tells = { record {
+      written = λ s. Some s.written;
+      faults = λ s. s.faults;
+      borrow = λ _. 0;
+      puts = IsPut;
+    } };
 
     fn put(&mut self, bytes: &[u8]) -> Result<(), Fault>
         ensures bytes { Puts (Some self.old.written) (Some self.new.written) result bytes.now }

@@ -37,13 +37,12 @@ impl<R: Read> StdSource<R> {
 }
 
 impl<R: Read> Source for StdSource<R> {
-    ghost left = { λ s. R.remaining s.reader };
-
-    ghost faults = { λ s. s.faults };
-
-    ghost borrow = { λ _. 0 };
-
-    ghost takes = { λ _ _. ⊤ };
+    ghost tells = { record {
+      left = λ s. R.remaining s.reader;
+      faults = λ s. s.faults;
+      borrow = λ _. 0;
+      takes = λ _ _. ⊤;
+    } };
 
     fn take(&mut self, buf: &mut [u8]) -> Result<usize, Fault>
         ensures bound { ReadsAtMost result buf.new }
@@ -106,13 +105,12 @@ pub fn write_all<W: Write>(writer: &mut W, bytes: &[u8]) -> Result<(), Fault>
 }
 
 impl<W: Write> Sink for StdSink<W> {
-    ghost written = { λ s. W.contents s.writer };
-
-    ghost faults = { λ s. s.faults };
-
-    ghost borrow = { λ _. 0 };
-
-    ghost puts = { λ _ _. ⊤ };
+    ghost tells = { record {
+      written = λ s. W.contents s.writer;
+      faults = λ s. s.faults;
+      borrow = λ _. 0;
+      puts = λ _ _. ⊤;
+    } };
 
     fn put(&mut self, bytes: &[u8]) -> Result<(), Fault>
         ensures bytes { Puts (W.contents self.old.writer) (W.contents self.new.writer)

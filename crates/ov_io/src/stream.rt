@@ -18,13 +18,12 @@ pub struct MemStream {
 }
 
 impl Source for MemStream {
-    ghost left = { λ s. Some s.source.left };
-
-    ghost faults = { λ s. s.source.faults };
-
-    ghost borrow = { λ _. 0 };
-
-    ghost takes = { λ a b. IsTake a.source b.source × (b.sink ≡ a.sink) };
+    ghost tells = { record {
+      left = λ s. Some s.source.left;
+      faults = λ s. s.source.faults;
+      borrow = λ _. 0;
+      takes = λ a b. IsTake a.source b.source × (b.sink ≡ a.sink);
+    } };
 
     fn take(&mut self, buf: &mut [u8]) -> Result<usize, Fault>
         ensures bound { ReadsAtMost result buf.new }
@@ -40,13 +39,12 @@ impl Source for MemStream {
 }
 
 impl Sink for MemStream {
-    ghost written = { λ s. Some s.sink.written };
-
-    ghost faults = { λ s. s.sink.faults };
-
-    ghost borrow = { λ _. 0 };
-
-    ghost puts = { λ a b. IsPut a.sink b.sink × (b.source ≡ a.source) };
+    ghost tells = { record {
+      written = λ s. Some s.sink.written;
+      faults = λ s. s.sink.faults;
+      borrow = λ _. 0;
+      puts = λ a b. IsPut a.sink b.sink × (b.source ≡ a.source);
+    } };
 
     fn put(&mut self, bytes: &[u8]) -> Result<(), Fault>
         ensures bytes { Puts (Some self.old.sink.written) (Some self.new.sink.written)
@@ -101,13 +99,12 @@ impl<S: Read + Write + Drop> StdStream<S> {
 }
 
 impl<S: Read + Write + Drop> Source for StdStream<S> {
-    ghost left = { λ _. None };
-
-    ghost faults = { λ s. s.read_faults };
-
-    ghost borrow = { λ _. 0 };
-
-    ghost takes = { λ a b. b.write_faults ≡ a.write_faults };
+    ghost tells = { record {
+      left = λ _. None;
+      faults = λ s. s.read_faults;
+      borrow = λ _. 0;
+      takes = λ a b. b.write_faults ≡ a.write_faults;
+    } };
 
     fn take(&mut self, buf: &mut [u8]) -> Result<usize, Fault> {
         let taken = read_some(&mut self.inner, buf);
@@ -119,13 +116,12 @@ impl<S: Read + Write + Drop> Source for StdStream<S> {
 }
 
 impl<S: Read + Write + Drop> Sink for StdStream<S> {
-    ghost written = { λ _. None };
-
-    ghost faults = { λ s. s.write_faults };
-
-    ghost borrow = { λ _. 0 };
-
-    ghost puts = { λ a b. b.read_faults ≡ a.read_faults };
+    ghost tells = { record {
+      written = λ _. None;
+      faults = λ s. s.write_faults;
+      borrow = λ _. 0;
+      puts = λ a b. b.read_faults ≡ a.read_faults;
+    } };
 
     fn put(&mut self, bytes: &[u8]) -> Result<(), Fault> {
         let written = write_all(&mut self.inner, bytes);

@@ -21,7 +21,7 @@ pieces-preserved g c =
     record {
       within = search rules;
       long = search rules;
-      pieces = pieces_more g.K.Source.takes g.K.Source.left _ _ _ _ _ _ _ inv.pieces (omega (arith, inv.long, c.pieces-test.true)) c.in_ok-count.ensures.step c.in_ok-count.ensures.bytes.0 c.in_ok-count.ensures.bound.0 c.if-count-eq0.false;
+      pieces = pieces_more g.K.Source.tells _ _ _ _ _ _ _ inv.pieces (omega (arith, inv.long, c.pieces-test.true)) c.in_ok-count.ensures.step c.in_ok-count.ensures.bytes.0 c.in_ok-count.ensures.bound.0 c.if-count-eq0.false;
       taken = piece_more _ _ _ _ _ _ _ _ c.split_at_mut-room.ensures.front_len c.split_at_mut-room.ensures.front inv.taken c.in_ok-count.ensures.bytes.0;
       same = search rules;
       later = search rules;

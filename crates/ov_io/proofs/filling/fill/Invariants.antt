@@ -8,10 +8,10 @@ invariant-pieces g l = record {
   within : l.end ≤ length l.buffer;
   long : length l.buffer ≡ length l.fn.buffer;
   pieces : (seen : List ℕ) × (length seen ≡ l.end)
-      × TakesPieces g.K.Source.takes g.K.Source.left (λ seen. length seen < length l.fn.buffer) l.fn.source l.source seen;
-  taken : Consumes (g.K.Source.left l.fn.source) (g.K.Source.left l.source) (take l.end l.buffer);
-  same : g.K.Source.borrow l.source ≡ g.K.Source.borrow l.fn.source;
-  later : g.K.Source.faults l.fn.source ≤ g.K.Source.faults l.source;
+      × TakesPieces g.K.Source.tells (λ seen. length seen < length l.fn.buffer) l.fn.source l.source seen;
+  taken : Consumes (g.K.Source.tells.left l.fn.source) (g.K.Source.tells.left l.source) (take l.end l.buffer);
+  same : g.K.Source.tells.borrow l.source ≡ g.K.Source.tells.borrow l.fn.source;
+  later : g.K.Source.tells.faults l.fn.source ≤ g.K.Source.tells.faults l.source;
 }
 
 abbrev pub decreases-pieces : goal.decreases-pieces
