@@ -11,6 +11,7 @@ use Rattle.ov_protocol.specs.Serving.{Service, followed, later, served}
 use Rattle.ov_protocol.specs.Answers.{welcome_of}
 use Rattle.ov_protocol.proofs.Leaving.{later-nil}
 use Rattle.ov_peer.specs.Exchanges.{IsAnswerAt, Tells}
+use Rattle.ov_peer.specs.Tells.{PeerTells}
 use Rattle.ov_peer.specs.declared.fault.ExchangeFault.{ExchangeFault}
 
 welcome_at : (v : Service) (w : Welcome) (made : List SealedUpdate)
@@ -20,27 +21,27 @@ welcome_at v w made (inl (is, makes)) =
     let same : w ≡ welcome_of (served v) = cc in (ap (λ (x : Welcome). x.epoch) same, makes)
 welcome_at v w made (inr (is, makes, needs)) = absurd (cc)
 
-pub epoch_told : {P : Type 0} (serves : P → Service → Type 0) (q : P) (v : Service)
+pub epoch_told : {P : Type 0} (peer : PeerTells P) (q : P) (v : Service)
     (answer : Answer) (w : Welcome)
-    → Tells v Hello answer (serves q) → answer ≡ answers.Welcome w
-    → (others : List SealedUpdate) × serves q (later v others)
+    → Tells v Hello answer (peer.serves q) → answer ≡ answers.Welcome w
+    → (others : List SealedUpdate) × peer.serves q (later v others)
     × (w.epoch ≡ (catalogue_of v.surface (followed v.history others)).epoch)
-epoch_told serves q v answer w (others, made, at_it, then) is =
+epoch_told peer q v answer w (others, made, at_it, then) is =
     let here = welcome_at (later v others) w made
     (subst (λ (a : Answer). IsAnswerAt (later v others) Hello a made) is at_it) in
     let none : later (later v others) made ≡ later v others =
     ap (λ (us : List SealedUpdate). later (later v others) us) here.1
     ∙ later-nil (later v others) in
-    (others, subst (serves q) none then, here.0)
+    (others, subst (peer.serves q) none then, here.0)
 
 -- the same of what is made of the answer
-pub told_by : {P : Type 0} (serves : P → Service → Type 0) (q : P) (v : Service) (answer : Answer)
+pub told_by : {P : Type 0} (peer : PeerTells P) (q : P) (v : Service) (answer : Answer)
     (result : Result ℕ ExchangeFault)
-    → Tells v Hello answer (serves q)
+    → Tells v Hello answer (peer.serves q)
     → IfOk result (λ epoch. (w : Welcome) × (answer ≡ answers.Welcome w) × (epoch ≡ w.epoch))
-    → IfOk result (λ epoch. (others : List SealedUpdate) × serves q (later v others)
+    → IfOk result (λ epoch. (others : List SealedUpdate) × peer.serves q (later v others)
     × (epoch ≡ (catalogue_of v.surface (followed v.history others)).epoch))
-told_by serves q v answer (Ok epoch) tells (w, is, same) =
-    let (others, then, here) = epoch_told serves q v answer w tells is in
+told_by peer q v answer (Ok epoch) tells (w, is, same) =
+    let (others, then, here) = epoch_told peer q v answer w tells is in
     (others, then, same ∙ here)
-told_by serves q v answer (Err fault) tells none = tt
+told_by peer q v answer (Err fault) tells none = tt

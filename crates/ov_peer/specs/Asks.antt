@@ -1,14 +1,13 @@
 -- Lists of asks, and what they say of a peer that tells which history it serves.
-use Rattle.std.specs.Prelude.{◌≡◌, ◌⊎◌, ℕ, List, [], ◌∷◌, Option, Some, None}
+use Rattle.std.specs.Prelude.{◌≡◌, ℕ, List, [], ◌∷◌, Option, Some, None}
 use Rattle.ov_record.specs.Updates.{SealedUpdate}
 use Rattle.ov_history.specs.Plain.{PlainHistory, history_of}
 use Rattle.ov_history.specs.Refusals.{IsLegal}
 use Rattle.ov_history.specs.Masters.{Masters}
 use Rattle.ov_history.specs.Sealed.{SealedHistory}
 use Rattle.ov_history.specs.Sealing.{sealed}
-use Rattle.ov_protocol.specs.Serving.{Service, followed, later, served}
-use Rattle.ov_protocol.specs.Replies.{MayMake, Replies}
-use Rattle.ov_peer.specs.Disks.{IsDiskFault}
+use Rattle.ov_protocol.specs.Serving.{Service, followed, later}
+use Rattle.ov_peer.specs.Tells.{IsReplyAt, PeerTells}
 
 -- ---- asks of any peer
 
@@ -27,41 +26,21 @@ abbrev pub Failed : Type 0 → Type 1
 Failed P = P → List ℕ → P → Type 0
 
 -- the asks lead from one peer to another
-abbrev pub Leads : {P : Type 0} → Asked P → P → List Ask → P → Type 0
-Leads asked p [] q = p ≡ q
-Leads {P} asked p (a ∷ asks) q = (m : P) × asked p a.request a.reply m × Leads asked m asks q
+abbrev pub Leads : {P : Type 0} → PeerTells P → P → List Ask → P → Type 0
+Leads peer p [] q = p ≡ q
+Leads {P} peer p (a ∷ asks) q = (m : P) × peer.asked p a.request a.reply m × Leads peer m asks q
 
 -- a call ended after an ask that was answered, or at this request, which failed
-abbrev pub EndsAt : {P : Type 0} → Failed P → P → Option (List ℕ) → P → Type 0
-EndsAt failed p None q = p ≡ q
-EndsAt failed p (Some request) q = failed p request q
+abbrev pub EndsAt : {P : Type 0} → PeerTells P → P → Option (List ℕ) → P → Type 0
+EndsAt peer p None q = p ≡ q
+EndsAt peer p (Some request) q = peer.failed p request q
 
 -- these are the asks of a call that found the one peer and left the other
-abbrev pub AreAsks : {P : Type 0} → Asked P → Failed P → P → List Ask → Option (List ℕ) → P → Type 0
-AreAsks {P} asked failed p asks unanswered q =
-    (m : P) × Leads asked p asks m × EndsAt failed m unanswered q
+abbrev pub AreAsks : {P : Type 0} → PeerTells P → P → List Ask → Option (List ℕ) → P → Type 0
+AreAsks {P} peer p asks unanswered q =
+    (m : P) × Leads peer p asks m × EndsAt peer m unanswered q
 
 -- ---- asks of a peer that tells its history
-
--- the reply is the one at this history, with the updates that are made by it, or the server's disk
--- failed where it is needed
-abbrev pub IsReplyAt : Service → List ℕ → List ℕ → List SealedUpdate → Type 0
-IsReplyAt v request reply made =
-    Replies (served v) request reply made ⊎ IsDiskFault (served v) request reply made
-
--- Asked this, who serves that history replies so: the reply is the one at a history that goes on
--- from it by what others did, and what is served then goes on by what this request made.
-abbrev pub Told : Service → List ℕ → List ℕ → (Service → Type 0) → Type 0
-Told v request reply Then =
-    (others : List SealedUpdate) × (made : List SealedUpdate)
-    × IsReplyAt (later v others) request reply made × Then (later (later v others) made)
-
--- After an ask that failed what is served goes on by what others did, and perhaps by what this
--- request would have made.
-abbrev pub LeavesTold : Service → List ℕ → (Service → Type 0) → Type 0
-LeavesTold v request Then =
-    (others : List SealedUpdate) × (made : List SealedUpdate)
-    × MayMake request made × Then (later (later v others) made)
 
 -- each ask was answered at one of these histories, each of which goes on from the one before, and
 -- the last service goes on from all of them

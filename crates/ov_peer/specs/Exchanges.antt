@@ -10,33 +10,33 @@ use Rattle.ov_wire.specs.Requests.{request_bytes}
 use Rattle.ov_protocol.specs.Serving.{Service, later, served}
 use Rattle.ov_protocol.specs.Answers.{Answers, made_by}
 use Rattle.ov_protocol.specs.Replies.{MayMake}
-use Rattle.ov_peer.specs.Asks.{Asked, Failed}
 use Rattle.ov_peer.specs.Disks.{NeedsDisk}
+use Rattle.ov_peer.specs.Tells.{PeerTells}
 use Rattle.ov_peer.specs.declared.fault.ExchangeFault.{ExchangeFault}
 use Rattle.ov_peer.specs.declared.fault.ExchangeFault.TheVariants.{BadReply, Link, Memory}
 
 -- the peer was asked this request, and its reply reads so
-pub record Answered {P : Type 0} (asked : Asked P) (p q : P) (request : Request)
+pub record Answered {P : Type 0} (peer : PeerTells P) (p q : P) (request : Request)
     (read : Result Answer ℕ) : Type 0 where
   pub reply : List ℕ
-  pub sent : asked p (request_bytes request) reply q
+  pub sent : peer.asked p (request_bytes request) reply q
   pub bytes : AreAllBytes reply
   pub reads : answer_of request reply ≡ read
 
 -- memory ran out before the ask, in it, or after it was answered
-abbrev pub Forgets : {P : Type 0} → Asked P → Failed P → P → P → Request → Type 0
-Forgets asked failed p q request =
+abbrev pub Forgets : {P : Type 0} → PeerTells P → P → P → Request → Type 0
+Forgets peer p q request =
     (q ≡ p)
-    ⊎ (failed p (request_bytes request) q
-    ⊎ ((reply : List ℕ) × asked p (request_bytes request) reply q))
+    ⊎ (peer.failed p (request_bytes request) q
+    ⊎ ((reply : List ℕ) × peer.asked p (request_bytes request) reply q))
 
 -- the peer was asked this request and the answer was read, or why not
-abbrev pub Exchanges : {P : Type 0} → Asked P → Failed P → P → P → Request
+abbrev pub Exchanges : {P : Type 0} → PeerTells P → P → P → Request
     → Result Answer ExchangeFault → Type 0
-Exchanges asked failed p q request (Ok answer) = Answered asked p q request (Ok answer)
-Exchanges asked failed p q request (Err (BadReply place)) = Answered asked p q request (Err place)
-Exchanges asked failed p q request (Err Link) = failed p (request_bytes request) q
-Exchanges asked failed p q request (Err Memory) = Forgets asked failed p q request
+Exchanges peer p q request (Ok answer) = Answered peer p q request (Ok answer)
+Exchanges peer p q request (Err (BadReply place)) = Answered peer p q request (Err place)
+Exchanges peer p q request (Err Link) = peer.failed p (request_bytes request) q
+Exchanges peer p q request (Err Memory) = Forgets peer p q request
 
 -- the answer is the one at this history, with the updates that are made by it, or the server's disk
 -- failed where the request needs it

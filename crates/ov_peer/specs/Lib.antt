@@ -6,4 +6,6 @@ pub mod Fixed
 pub mod Laws
 pub mod Leaving
 pub mod Spellings
+pub mod Tells
+pub mod Traced
 pub mod Tracing

@@ -2,21 +2,15 @@
 ghost use Rattle.std.specs.Prelude.{◌≡◌, ◌+◌, ℕ, List, [], length, true, OnErr, OnOk};
 ghost use Rattle.ov_wire.specs.Frames.{IsFrame};
 ghost use Rattle.ov_peer.specs.Spellings.{IsUpdate, says_accepted, with_accepted};
+ghost use Rattle.ov_peer.specs.Tells.{AnswererTells};
 
 use ov_base::Memory;
 
 /// A value that answers one request at a time. What it answers follows from the value that it began
 /// as and the spellings of the updates that it accepted since, in order.
 pub trait Answerer {
-    /// From the first value the accepted updates with these spellings lead to the second, as far as
-    /// it matters to answers.
-    ghost reached: { Self → List (List ℕ) → Self → Type 0 };
-
-    /// After this start and these accepted updates a request gets this reply.
-    ghost replies: { Self → List (List ℕ) → List ℕ → List ℕ → Type 0 };
-
-    /// The epoch at which a value stands.
-    ghost epoch_of: { Self → ℕ };
+    /// What leads from a start to a value, what is replied after it, and the epoch.
+    ghost tells: { AnswererTells Self };
 
     /// Answers a frame; the answer replaces what `reply` had. Both are without their length fields.
     fn answer(&mut self, request: &[u8], reply: &mut Vec<u8>) -> Result<(), Memory>
@@ -25,19 +19,19 @@ pub trait Answerer {
         // Only an Update is accepted, so the list below is longer by just its spelling.
         ensures accepted { OnOk result (says_accepted reply.new.items ≡ true
             → IsUpdate request.now) }
-        ensures replies { (start : Self) (list : List (List ℕ)) → reached start list self.old
-            → OnOk result (replies start list request.now reply.new.items) }
-        ensures reached { (start : Self) (list : List (List ℕ)) → reached start list self.old
+        ensures replies { (start : Self) (list : List (List ℕ)) → tells.reached start list self.old
+            → OnOk result (tells.replies start list request.now reply.new.items) }
+        ensures reached { (start : Self) (list : List (List ℕ)) → tells.reached start list self.old
             → OnOk result
-            (reached start (with_accepted list request.now reply.new.items) self.new) }
-        ensures kept { (start : Self) (list : List (List ℕ)) → reached start list self.old
-            → OnErr result (reached start list self.new) };
+            (tells.reached start (with_accepted list request.now reply.new.items) self.new) }
+        ensures kept { (start : Self) (list : List (List ℕ)) → tells.reached start list self.old
+            → OnErr result (tells.reached start list self.new) };
 
     /// The epoch: that of the start, and one for each update since. A value is reached from itself.
     fn epoch(&self) -> u32
-        ensures begins { reached self.now [] self.now }
-        ensures counts { (start : Self) (list : List (List ℕ)) → reached start list self.now
-            → result ≡ epoch_of start + length list };
+        ensures begins { tells.reached self.now [] self.now }
+        ensures counts { (start : Self) (list : List (List ℕ)) → tells.reached start list self.now
+            → result ≡ tells.epoch_of start + length list };
 }
 
 /// Whether a reply is an Accepted.

@@ -22,10 +22,10 @@ pub fn exchange<P: Peer>(
     request: &Request,
 ) -> Result<Answer, ExchangeFault>
     requires { HasRequestLimits request.now }
-    ensures exchanges { Exchanges P.asked P.failed peer.old peer.new request.now result }
+    ensures exchanges { Exchanges P.tells peer.old peer.new request.now result }
     ensures form { HasRequestForm request.now }
-    ensures same { P.borrow peer.new ≡ P.borrow peer.old }
-    ensures cause { HasExchangeCause (P.faults peer.old) (P.faults peer.new) result }
+    ensures same { P.tells.borrow peer.new ≡ P.tells.borrow peer.old }
+    ensures cause { HasExchangeCause (P.tells.faults peer.old) (P.tells.faults peer.new) result }
 {
     requests_fit_frames();
     let mut frame = Vec::new(alloc);

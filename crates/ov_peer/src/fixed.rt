@@ -95,19 +95,15 @@ impl FixedPeer {
 }
 
 impl Peer for FixedPeer {
-    ghost asked = { λ p request reply q. GivesReply p reply q };
-
-    ghost failed = { λ p request q. FailsAsk p q };
-
-    ghost serves = { λ p v. ⊥ };
-
-    ghost faults = { λ p. p.faults };
-
-    ghost borrow = { λ _. 0 };
-
-    ghost told = { λ p q request reply v a s. absurd s };
-
-    ghost left = { λ p q request v f s. absurd s };
+    ghost tells = { record {
+      asked = λ p request reply q. GivesReply p reply q;
+      failed = λ p request q. FailsAsk p q;
+      serves = λ p v. ⊥;
+      faults = λ p. p.faults;
+      borrow = λ _. 0;
+      told = λ p q request reply v a s. absurd s;
+      left = λ p q request v f s. absurd s;
+    } };
 
     fn ask(&mut self, request: &[u8], reply: &mut Vec<u8>) -> Result<(), PeerFault>
         requires { IsFrame request.now }

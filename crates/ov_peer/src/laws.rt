@@ -6,6 +6,6 @@ use crate::Peer;
 /// What is read of a told peer's reply is a server's answer at a history that goes on from what it
 /// served, and a list of asks was answered along such histories.
 pub fn asks_are_told<P: Peer>()
-    ensures exchanges { ExchangesAreTold P.asked P.serves }
-    ensures along { AsksAreAlong P.asked P.serves }
+    ensures exchanges { ExchangesAreTold P.tells }
+    ensures along { AsksAreAlong P.tells }
 {}

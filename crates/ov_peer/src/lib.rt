@@ -5,8 +5,9 @@
 //! from where it began and from the updates that it accepted since. Frames are passed without their
 //! length fields.
 //!
-//! What a peer was asked and answered is a relation of the peer before and after, so a call that asks
-//! several times speaks of the list of its asks (`Leads` in `specs/Asks`). A peer may besides *tell*
+//! What a peer was asked and answered is a relation of the peer before and after (`PeerTells` in
+//! `specs/Tells`), so a call that asks several times speaks of the list of its asks (`Leads` in
+//! `specs/Asks`). A peer may besides *tell*
 //! which history it serves. Then each reply is a server's answer at a history that goes on from the
 //! one before by what others did, and the history goes on by what the request made (`Told`); a failed
 //! ask leaves one that goes on so, with the request's own update or without it (`LeavesTold`). A peer
@@ -24,7 +25,8 @@
 //! | `Disks` | which requests need the server's disk, and how a fault of it is told |
 //! | `Exchanges` | one request, and the answer that is read |
 //! | `Spellings` | which updates a list of asks made, by their spellings |
-//! | `Tracing`, `Fixed` | what a traced peer puts; what a fixed peer replies |
+//! | `Tells` | what the outside tells: a peer, a peer behind a `&mut`, and what answers frames |
+//! | `Traced`, `Tracing`, `Fixed` | what a traced peer tells and puts; what a fixed peer replies |
 #![tactic(auto)]
 
 mod answerer;

@@ -1,11 +1,9 @@
 //! A peer whose frames are put to a sink.
-ghost use Rattle.std.specs.Prelude.{◌≡◌, ◌≤◌, ◌+◌, length, OnErr, OnOk};
+ghost use Rattle.std.specs.Prelude.{◌≡◌, ◌≤◌, length};
 ghost use Rattle.ov_base.specs.Causes.{HasCause};
 ghost use Rattle.ov_io.specs.Putting.{Puts};
 ghost use Rattle.ov_wire.specs.Frames.{IsFrame, framed};
-ghost use Rattle.ov_peer.specs.Causes.{HasLinkCause};
-ghost use Rattle.ov_peer.specs.Leaving.{fault_leaves};
-ghost use Rattle.ov_peer.specs.Tracing.{TracesAsk, TracesFault};
+ghost use Rattle.ov_peer.specs.Traced.{traced_tells};
 
 use crate::{Peer, PeerFault};
 use ov_io::{Fault, Sink};
@@ -42,9 +40,9 @@ const SHORT: usize = 508;
 /// A short frame behind its length field, put at once.
 fn put_short<T: Sink>(sink: &mut T, frame: &[u8]) -> Result<(), Fault>
     requires { length frame.now ≤ SHORT }
-    ensures bytes { Puts (T.written sink.old) (T.written sink.new) result (framed frame.now) }
-    ensures same { T.borrow sink.new ≡ T.borrow sink.old }
-    ensures cause { HasCause (T.faults sink.old) (T.faults sink.new) result }
+    ensures bytes { Puts (T.tells.written sink.old) (T.tells.written sink.new) result (framed frame.now) }
+    ensures same { T.tells.borrow sink.new ≡ T.tells.borrow sink.old }
+    ensures cause { HasCause (T.tells.faults sink.old) (T.tells.faults sink.new) result }
 {
     let mut whole = [0; 512];
     let end = 4 + frame.len();
@@ -60,9 +58,9 @@ fn put_short<T: Sink>(sink: &mut T, frame: &[u8]) -> Result<(), Fault>
 /// bytes aren't copied.
 fn put_frame<T: Sink>(sink: &mut T, frame: &[u8]) -> Result<(), Fault>
     requires { IsFrame frame.now }
-    ensures bytes { Puts (T.written sink.old) (T.written sink.new) result (framed frame.now) }
-    ensures same { T.borrow sink.new ≡ T.borrow sink.old }
-    ensures cause { HasCause (T.faults sink.old) (T.faults sink.new) result }
+    ensures bytes { Puts (T.tells.written sink.old) (T.tells.written sink.new) result (framed frame.now) }
+    ensures same { T.tells.borrow sink.new ≡ T.tells.borrow sink.old }
+    ensures cause { HasCause (T.tells.faults sink.old) (T.tells.faults sink.new) result }
 {
     if frame.len() <= SHORT {
         return put_short(sink, frame);
@@ -74,26 +72,7 @@ fn put_frame<T: Sink>(sink: &mut T, frame: &[u8]) -> Result<(), Fault>
 }
 
 impl<P: Peer + Drop, T: Sink + Drop> Peer for Traced<P, T> {
-    // The sink stays lent as it was.
-    ghost asked = { λ p request reply q.
-        TracesAsk P.asked p.peer q.peer (T.written p.sink) (T.written q.sink) request reply
-        × (T.borrow q.sink ≡ T.borrow p.sink) };
-
-    ghost failed = { λ p request q.
-        TracesFault P.asked P.failed p.peer q.peer (T.written p.sink) (T.written q.sink) request
-        × (T.borrow q.sink ≡ T.borrow p.sink) };
-
-    ghost serves = { λ p v. P.serves p.peer v };
-
-    ghost faults = { λ p. P.faults p.peer + T.faults p.sink };
-
-    ghost borrow = { λ p. P.borrow p.peer };
-
-    ghost told = { λ p q request reply v a s. P.told p.peer q.peer request reply v a.0.peer s };
-
-    ghost left = { λ p q request v f s.
-        fault_leaves P.asked P.failed P.serves P.told P.left
-        p.peer q.peer (T.written p.sink) (T.written q.sink) request v f.0 s };
+    ghost tells = { traced_tells P.tells T.tells };
 
     fn ask(&mut self, request: &[u8], reply: &mut Vec<u8>) -> Result<(), PeerFault> {
         match put_frame(&mut self.sink, request) {

@@ -3,6 +3,6 @@ use Rattle.ov_peer.proofs.laws.asks_are_told.Goals as goal
 
 pub returns : goal.returns
 returns g c = record {
-  exchanges = exchanges_told g.P.Peer.asked g.P.Peer.serves g.met.P.Peer.told;
-  along = asks_along g.P.Peer.asked g.P.Peer.serves g.met.P.Peer.told;
+  exchanges = exchanges_told g.P.Peer.tells;
+  along = asks_along g.P.Peer.tells;
 }
