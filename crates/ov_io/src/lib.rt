@@ -1,12 +1,14 @@
 //! Where bytes come from and where they go: [`Source`], [`Sink`], and [`Stream`], which is both.
 //!
-//! Both traits tell, where they can, what a source has left and what a sink was given, and both
-//! count their faults. The count never falls, and a call answers [`Fault`] only where it rose. So a
-//! caller's contract can say "this answer comes only where a read failed" of any source at all, and
-//! what was read or written of each source or sink that tells it. The words for it, `Rose` and
-//! `HasCause`, are those of `ov_base`.
+//! What a source tells, and what a sink tells, is one record (`SourceTells` and `SinkTells` in
+//! `specs/Tells`), and each definition over a source or a sink takes that record. Both tell, where
+//! they can, what a source has left and what a sink was given, and both count their faults. The
+//! count never falls, and a call answers [`Fault`] only where it rose. So a caller's contract can
+//! say "this answer comes only where a read failed" of any source at all, and what was read or
+//! written of each source or sink that tells it. The words for it, `Rose` and `HasCause`, are those
+//! of `ov_base`.
 //!
-//! Each trait has one relation between the value before its call and after it, `takes` and `puts`.
+//! Each record has one relation between the value before a call and after it, `takes` and `puts`.
 //! Code over any source can show the relation of one call alone, so contracts count takes by it
 //! (`TakesPieces` and `TakesWhile` in `specs/Calls`: each take was needed, and none follows one
 //! that gave nothing); and by it a stream says that a take changes nothing written, and a put

@@ -1,6 +1,5 @@
-use Rattle.std.proofs.Common.{rules, arith, refl, ap, is_err, [], ◌≡◌, ◌≤◌, ◌<◌, length, take}
+use Rattle.std.proofs.Common.{rules, arith, refl, []}
 use Rattle.std.proofs.KnownBytes.{Consumes-nil, Consumes-kept}
-use Rattle.std.proofs.lemmas.Result.{err_from_is_err_and}
 use Rattle.ov_io.specs.Calls.{no_piece, each_gave, last_gave_none}
 use Rattle.ov_io.proofs.Buffers.{none_taken, piece_more, pieces_more}
 use Rattle.ov_io.proofs.filling.fill.Goals as goal
