@@ -1,80 +1,74 @@
 -- How a run of disk calls goes on, for the proofs of callers: one step for each call, and one run after
 -- another.
-use Rattle.std.proofs.Common.{◌≡◌, inl, inr, ⊎_elim, ℕ, Option, Some, None, Result, Ok, Err, OnOk, refl, sym, ◌∙◌, arith}
+use Rattle.std.proofs.Common.{◌≡◌, inl, inr, ⊎_elim, Option, Some, None, Result, Ok, Err, OnOk, refl, sym, ◌∙◌, arith}
 use Rattle.std.specs.Option.{option_map}
 use Rattle.ov_disk.specs.Disk.{Image, Narrows}
 use Rattle.ov_disk.specs.Moments.{Elapses, LeavesOnly, IsUntouched}
+use Rattle.ov_disk.specs.Tells.{DiskTells}
 
 -- what read a mapped image read the image itself before
 pub mapped_some : (f : Image → Image) (o : Option Image) (k : Image) → option_map f o ≡ Some k → (i : Image) × (o ≡ Some i) × (k ≡ f i)
 mapped_some f (Some i) k is = let same : f i ≡ k = cc is in (i, refl, sym same)
 mapped_some f None k is = absurd (cc is)
 
--- what holds before the first call of a run: since this moment there is no other, and what the run needs
-pub record Begun {D : Type 0} (moment : D → ℕ) (left_since : D → ℕ → Image → Type 0)
-    (may_leave : D → Image → Type 0) (old : D) (Held : Type 0) : Type 0 where
-  pub only_now : (c : Image) → left_since old (moment old) c → may_leave old c
-  pub held : Held
-
-module _ {D : Type 0} (moment : D → ℕ) (left_since : D → ℕ → Image → Type 0) (may_leave : D → Image → Type 0) where
+module _ {D : Type 0} (tells : DiskTells D) where
   -- before the first call
-  pub started : (old : D) (P : Image → Type 0) → ((c : Image) → left_since old (moment old) c → may_leave old c) → ((c : Image) → may_leave old c → P c)
-      → LeavesOnly moment left_since old old P
-  started old P only_now here = record { later = omega arith; each = λ c left. here c (only_now c left); before = λ t c le left. inl left }
+  pub started : (old : D) (P : Image → Type 0) → ((c : Image) → tells.may_leave old c → P c)
+      → LeavesOnly tells old old P
+  started old P here = record { later = omega arith; each = λ c left. here c (tells.only_now old c left); before = λ t c le left. inl left }
 
   -- one call more, after which a crash leaves what has P
-  pub goes_on : (old mid new : D) (P : Image → Type 0) → LeavesOnly moment left_since old mid P → Elapses moment left_since may_leave mid new
-      → ((c : Image) → may_leave new c → P c) → LeavesOnly moment left_since old new P
+  pub goes_on : (old mid new : D) (P : Image → Type 0) → LeavesOnly tells old mid P → Elapses tells mid new
+      → ((c : Image) → tells.may_leave new c → P c) → LeavesOnly tells old new P
   goes_on old mid new P so_far time here = record {
     later = omega (arith, so_far.later, time.later);
-    each = λ c left. ⊎_elim (so_far.each c) (here c) (time.nothing_else (moment old) c so_far.later left);
+    each = λ c left. ⊎_elim (so_far.each c) (here c) (time.nothing_else (tells.moment old) c so_far.later left);
     before = λ t c le left. ⊎_elim (so_far.before t c le) (λ now. inr (here c now)) (time.nothing_else t c (omega (arith, le, so_far.later)) left);
   }
 
   -- one run after another
-  pub then_on : (d0 d1 d2 : D) (P Q : Image → Type 0) → LeavesOnly moment left_since d0 d1 P → LeavesOnly moment left_since d1 d2 Q → ((c : Image) → Q c → P c)
-      → LeavesOnly moment left_since d0 d2 P
+  pub then_on : (d0 d1 d2 : D) (P Q : Image → Type 0) → LeavesOnly tells d0 d1 P → LeavesOnly tells d1 d2 Q → ((c : Image) → Q c → P c)
+      → LeavesOnly tells d0 d2 P
   then_on d0 d1 d2 P Q so_far next has = record {
     later = omega (arith, so_far.later, next.later);
-    each = λ c left. ⊎_elim (so_far.each c) (has c) (next.before (moment d0) c so_far.later left);
+    each = λ c left. ⊎_elim (so_far.each c) (has c) (next.before (tells.moment d0) c so_far.later left);
     before = λ t c le left. ⊎_elim (so_far.before t c le) (λ q. inr (has c q)) (next.before t c (omega (arith, le, so_far.later)) left);
   }
 
   -- what has P has Q
-  pub weaker : (old new : D) (P Q : Image → Type 0) → LeavesOnly moment left_since old new P → ((c : Image) → P c → Q c) → LeavesOnly moment left_since old new Q
+  pub weaker : (old new : D) (P Q : Image → Type 0) → LeavesOnly tells old new P → ((c : Image) → P c → Q c) → LeavesOnly tells old new Q
   weaker old new P Q so_far has = record {
     later = so_far.later;
     each = λ c left. has c (so_far.each c left);
     before = λ t c le left. ⊎_elim inl (λ p. inr (has c p)) (so_far.before t c le left);
   }
 
-  module _ (reads : D → Option Image) where
-    -- no call yet
-    pub untouched : (old : D) → ((c : Image) → left_since old (moment old) c → may_leave old c) → IsUntouched moment left_since may_leave reads old old
-    untouched old only_now = record { reads_same = refl; no_more = λ c left. left; any_moment = started old (may_leave old) only_now (λ c left. left) }
+  -- no call yet
+  pub untouched : (old : D) → IsUntouched tells old old
+  untouched old = record { reads_same = refl; no_more = λ c left. left; any_moment = started old (tells.may_leave old) (λ c left. left) }
 
-    -- one call more that writes nothing
-    pub looks_on : (old mid new : D) → IsUntouched moment left_since may_leave reads old mid → reads new ≡ reads mid → Narrows (may_leave mid) (may_leave new)
-        → Elapses moment left_since may_leave mid new → IsUntouched moment left_since may_leave reads old new
-    looks_on old mid new so_far same crash time = record {
-      reads_same = same ∙ so_far.reads_same;
-      no_more = λ c left. so_far.no_more c (crash c left);
-      any_moment = goes_on old mid new (may_leave old) so_far.any_moment time (λ c left. so_far.no_more c (crash c left));
-    }
+  -- one call more that writes nothing
+  pub looks_on : (old mid new : D) → IsUntouched tells old mid → tells.reads new ≡ tells.reads mid → Narrows (tells.may_leave mid) (tells.may_leave new)
+      → Elapses tells mid new → IsUntouched tells old new
+  looks_on old mid new so_far same crash time = record {
+    reads_same = same ∙ so_far.reads_same;
+    no_more = λ c left. so_far.no_more c (crash c left);
+    any_moment = goes_on old mid new (tells.may_leave old) so_far.any_moment time (λ c left. so_far.no_more c (crash c left));
+  }
 
-    -- the same after a call that may have failed to tell what it reads, as a sync that failed
-    pub looked_moments : (old mid new : D) → IsUntouched moment left_since may_leave reads old mid → Narrows (may_leave mid) (may_leave new)
-        → Elapses moment left_since may_leave mid new → LeavesOnly moment left_since old new (may_leave old)
-    looked_moments old mid new so_far crash time = goes_on old mid new (may_leave old) so_far.any_moment time (λ c left. so_far.no_more c (crash c left))
+  -- the same after a call that may have failed to tell what it reads, as a sync that failed
+  pub looked_moments : (old mid new : D) → IsUntouched tells old mid → Narrows (tells.may_leave mid) (tells.may_leave new)
+      → Elapses tells mid new → LeavesOnly tells old new (tells.may_leave old)
+  looked_moments old mid new so_far crash time = goes_on old mid new (tells.may_leave old) so_far.any_moment time (λ c left. so_far.no_more c (crash c left))
 
-    -- one such run after another
-    pub looks_then : (d0 d1 d2 : D) → IsUntouched moment left_since may_leave reads d0 d1 → IsUntouched moment left_since may_leave reads d1 d2
-        → IsUntouched moment left_since may_leave reads d0 d2
-    looks_then d0 d1 d2 so_far next = record {
-      reads_same = next.reads_same ∙ so_far.reads_same;
-      no_more = λ c left. so_far.no_more c (next.no_more c left);
-      any_moment = then_on d0 d1 d2 (may_leave d0) (may_leave d1) so_far.any_moment next.any_moment so_far.no_more;
-    }
+  -- one such run after another
+  pub looks_then : (d0 d1 d2 : D) → IsUntouched tells d0 d1 → IsUntouched tells d1 d2
+      → IsUntouched tells d0 d2
+  looks_then d0 d1 d2 so_far next = record {
+    reads_same = next.reads_same ∙ so_far.reads_same;
+    no_more = λ c left. so_far.no_more c (next.no_more c left);
+    any_moment = then_on d0 d1 d2 (tells.may_leave d0) (tells.may_leave d1) so_far.any_moment next.any_moment so_far.no_more;
+  }
 
 -- what follows at Ok from two things that hold at Ok
 pub on_both : {T E : Type 0} (r : Result T E) (P Q S : Type 0) → OnOk r P → OnOk r Q → (P → Q → S) → OnOk r S

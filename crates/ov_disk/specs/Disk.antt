@@ -62,3 +62,7 @@ Told reads P = (i : Image) → reads ≡ Some i → P i
 -- a disk that told nothing still tells nothing
 abbrev pub StaysUntold : Option Image → Option Image → Type 0
 StaysUntold old new = old ≡ None → new ≡ None
+
+-- a disk that told its bytes still tells them
+abbrev pub StaysTold : Option Image → Option Image → Type 0
+StaysTold old new = Told old (λ _. (k : Image) × (new ≡ Some k))

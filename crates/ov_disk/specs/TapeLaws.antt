@@ -8,6 +8,7 @@ use Rattle.ov_disk.specs.declared.area.Area.TheVariants.{Book, Blobs}
 use Rattle.ov_disk.specs.declared.change.Change.{Change}
 use Rattle.ov_disk.specs.declared.change.Change.TheVariants.{Write, Sync}
 use Rattle.ov_disk.specs.Disk.{Image, bytes_of, overwritten, written, Torn, TornIn}
+use Rattle.ov_disk.specs.Tells.{DiskTells}
 use Rattle.ov_disk.specs.Tape.{Tape, replayed, LeftBy, Leaves, reads_of, may_leave_of, moment_of, left_since_of}
 
 -- how long an area is after a write
@@ -73,3 +74,17 @@ now_counts t m c le left =
 pub only_last : (t : Tape) (c : Image) → left_since_of t (moment_of t) c → may_leave_of t c
 only_last t c left =
     subst (λ (l : List Change). Leaves t.first l c) (take_all left.0 t.changes left.1) left.3
+
+-- what a disk in memory tells
+abbrev pub tape_tells : DiskTells Tape
+tape_tells = record {
+  reads = reads_of;
+  may_leave = may_leave_of;
+  moment = moment_of;
+  left_since = left_since_of;
+  faults = λ t. t.faults;
+  borrow = λ _. 0;
+  counts_now = now_counts;
+  only_now = only_last;
+  reads_one = reads_is_one;
+}

@@ -1,10 +1,10 @@
 //! A disk in memory, which keeps its calls: so it can fail, and be torn, at any of them.
 ghost use Rattle.std.specs.Prelude.{◌≡◌, ◌≤◌, ◌+◌, ◌↔◌, ◌++◌, ◌∷◌, [], Some, IsTrue, IsErr, IfOk, OnOk, OnErr, MatchResult, Contains, length, take, drop, option_map};
 ghost use Rattle.ov_base.specs.Causes.{HasCause};
-ghost use Rattle.ov_disk.specs.Disk.{Image, image, bytes_of, written, TornIn, Follows, Narrows, Told, Only};
+ghost use Rattle.ov_disk.specs.Disk.{Image, image, bytes_of, written, TornIn, Follows, Narrows, Told, StaysTold, Only};
 ghost use Rattle.ov_disk.specs.declared.change.Change.TheVariants.{Write, Sync};
-ghost use Rattle.ov_disk.specs.Tape.{fresh, answered, failed, changed, risen, before, torn, reads_of, may_leave_of, moment_of, left_since_of, Leaves};
-ghost use Rattle.ov_disk.specs.TapeLaws.{reads_is_one, now_counts, only_last};
+ghost use Rattle.ov_disk.specs.Tape.{fresh, answered, failed, changed, risen, before, torn, reads_of, may_leave_of, left_since_of, Leaves};
+ghost use Rattle.ov_disk.specs.TapeLaws.{tape_tells};
 
 use crate::areas::Areas;
 use crate::change::Change;
@@ -189,23 +189,7 @@ impl MemDisk {
 }
 
 impl Disk for MemDisk {
-    ghost reads = { reads_of };
-
-    ghost may_leave = { may_leave_of };
-
-    ghost moment = { moment_of };
-
-    ghost left_since = { left_since_of };
-
-    ghost faults = { λ m. m.faults };
-
-    ghost borrow = { λ _. 0 };
-
-    ghost counts_now = { now_counts };
-
-    ghost only_now = { only_last };
-
-    ghost reads_one = { reads_is_one };
+    ghost tells = { tape_tells };
 
     // What else the trait asks follows from the exact clauses.
     fn len(&mut self, area: Area) -> Result<u64, DiskFault>
@@ -240,6 +224,7 @@ impl Disk for MemDisk {
         requires { Told (reads_of self.old) (λ i. at ≤ length (bytes_of area i)) }
         ensures written { OnOk result
             (reads_of self.new ≡ option_map (written area at bytes.now) (reads_of self.old)) }
+        ensures told { StaysTold (reads_of self.old) (reads_of self.new) }
         ensures crash { Follows (TornIn area at (length bytes.now))
             (may_leave_of self.old) (may_leave_of self.new) }
         ensures cause { HasCause self.old.faults self.new.faults result }
