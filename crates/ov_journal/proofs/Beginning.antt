@@ -1,11 +1,12 @@
 -- A birth, call by call.
-use Rattle.std.proofs.Common.{◌≡◌, ◌≢◌, ◌⊎◌, inl, inr, ℕ, ◌+◌, ◌≤◌, List, [], ◌∷◌, ◌++◌, length, take, drop, get_or, Option, Some, false, refl, sym, ◌∙◌, ap, subst, arith, length-append, length-drop, take-append-drop}
+use Rattle.std.proofs.Common.{◌≡◌, ◌≢◌, ◌⊎◌, inl, inr, ℕ, ◌+◌, ◌≤◌, List, [], ◌∷◌, ◌++◌, length, take, drop, get_or, Some, false, refl, sym, ◌∙◌, ap, subst, arith, length-append, length-drop, take-append-drop}
 use Rattle.std.proofs.lemmas.List.{drop_more, drop_all, drop_at, take_at, append-nil}
 use Rattle.std.proofs.lemmas.Bool.{cases_eq}
 use Rattle.ov_disk.specs.Disk.{Image, overwritten, written, Torn, TornIn, Follows, Narrows, Only, OnlyBook}
 use Rattle.ov_disk.specs.Moments.{Elapses, LeavesOnly}
+use Rattle.ov_disk.specs.Tells.{DiskTells}
 use Rattle.ov_disk.specs.declared.area.Area.TheVariants.{Book}
-use Rattle.ov_disk.proofs.Runs.{Begun, started, goes_on}
+use Rattle.ov_disk.proofs.Runs.{started, goes_on}
 use Rattle.ov_journal.specs.declared.header.Header.{Header}
 use Rattle.ov_journal.specs.Birth.{IsCleared, IsHeaderFrame}
 use Rattle.ov_journal.specs.Book.{header_bytes, spelled, records_after, contents_of, born}
@@ -59,44 +60,44 @@ pub record Heads (outcomes : Image → Type 0) (i : Image) (h : Header) (frame :
   pub cleared : IsCleared i.book × OnlyBook i.book outcomes
   pub is_frame : IsHeaderFrame h frame
 
-module _ {D : Type 0} {moment : D → ℕ} {left_since : D → ℕ → Image → Type 0} {may_leave : D → Image → Type 0}
-    {d0 : D} {i : Image} {h : Header} {frame : List ℕ} (b : Begun moment left_since may_leave d0 (Heads (may_leave d0) i h frame)) where
+module _ {D : Type 0} (tells : DiskTells D) (d0 : D) {i : Image} {h : Header} {frame : List ℕ} (b : Heads (tells.may_leave d0) i h frame) where
   abbrev P : Image → Type 0
   P = IsUnbornOrEmpty h
 
-  head_crash : (new : Image → Type 0) → Follows (TornIn Book 1 (length frame)) (may_leave d0) new → (c : Image) → new c → P c
+  head_crash : (new : Image → Type 0) → Follows (TornIn Book 1 (length frame)) (tells.may_leave d0) new → (c : Image) → new c → P c
   head_crash new follows c left =
       let from = follows c left in
-      let torn : Torn 1 (length frame) i.book c.book = subst (λ (l : List ℕ). Torn 1 (length frame) l c.book) (b.held.cleared.1 from.0 from.1) from.2.0 in
-      inl (torn_head i.book b.held.cleared.0 h frame b.held.is_frame.long b.held.is_frame.bytes c.book (subst (λ (n : ℕ). Torn 1 n i.book c.book) b.held.is_frame.long torn))
+      let torn : Torn 1 (length frame) i.book c.book = subst (λ (l : List ℕ). Torn 1 (length frame) l c.book) (b.cleared.1 from.0 from.1) from.2.0 in
+      inl (torn_head i.book b.cleared.0 h frame b.is_frame.long b.is_frame.bytes c.book (subst (λ (n : ℕ). Torn 1 n i.book c.book) b.is_frame.long torn))
 
   gate_crash : (old new : Image → Type 0) → Only (written Book 1 frame i) old → Follows (TornIn Book 0 1) old new → (c : Image) → new c → P c
   gate_crash old new only follows c left =
       let from = follows c left in
-      torn_gate i.book b.held.cleared.0 h frame b.held.is_frame.long b.held.is_frame.bytes c.book (subst (λ (l : List ℕ). Torn 0 1 l c.book) (ap (λ (j : Image). j.book) (only from.0 from.1)) from.2.0)
+      torn_gate i.book b.cleared.0 h frame b.is_frame.long b.is_frame.bytes c.book (subst (λ (l : List ℕ). Torn 0 1 l c.book) (ap (λ (j : Image). j.book) (only from.0 from.1)) from.2.0)
 
-  at_start : LeavesOnly moment left_since d0 d0 P
-  at_start = started moment left_since may_leave d0 P b.only_now (λ c now. inl (subst IsUnborn (sym (b.held.cleared.1 c now)) (now_unborn i.book b.held.cleared.0 h frame b.held.is_frame.long b.held.is_frame.bytes)))
+  at_start : LeavesOnly tells d0 d0 P
+  at_start = started tells d0 P (λ c now. inl (subst IsUnborn (sym (b.cleared.1 c now)) (now_unborn i.book b.cleared.0 h frame b.is_frame.long b.is_frame.bytes)))
 
-  module _ (d1 : D) (time1 : Elapses moment left_since may_leave d0 d1) (crash1 : Follows (TornIn Book 1 (length frame)) (may_leave d0) (may_leave d1)) where
-    pub first : LeavesOnly moment left_since d0 d1 P
-    first = goes_on moment left_since may_leave d0 d0 d1 P at_start time1 (head_crash (may_leave d1) crash1)
+  module _ (d1 : D) (time1 : Elapses tells d0 d1) (crash1 : Follows (TornIn Book 1 (length frame)) (tells.may_leave d0) (tells.may_leave d1)) where
+    pub first : LeavesOnly tells d0 d1 P
+    first = goes_on tells d0 d0 d1 P at_start time1 (head_crash (tells.may_leave d1) crash1)
 
-    module _ (d2 : D) (time2 : Elapses moment left_since may_leave d1 d2) (crash2 : Narrows (may_leave d1) (may_leave d2)) where
-      pub second : LeavesOnly moment left_since d0 d2 P
-      second = goes_on moment left_since may_leave d0 d1 d2 P first time2 (λ c left. head_crash (may_leave d1) crash1 c (crash2 c left))
+    module _ (d2 : D) (time2 : Elapses tells d1 d2) (crash2 : Narrows (tells.may_leave d1) (tells.may_leave d2)) where
+      pub second : LeavesOnly tells d0 d2 P
+      second = goes_on tells d0 d1 d2 P first time2 (λ c left. head_crash (tells.may_leave d1) crash1 c (crash2 c left))
 
-      module _ (durable : Only (written Book 1 frame i) (may_leave d2)) (d3 : D) (time3 : Elapses moment left_since may_leave d2 d3) (crash3 : Follows (TornIn Book 0 1) (may_leave d2) (may_leave d3)) where
-        pub third : LeavesOnly moment left_since d0 d3 P
-        third = goes_on moment left_since may_leave d0 d2 d3 P second time3 (gate_crash (may_leave d2) (may_leave d3) durable crash3)
+      module _ (durable : Only (written Book 1 frame i) (tells.may_leave d2)) (d3 : D) (time3 : Elapses tells d2 d3) (crash3 : Follows (TornIn Book 0 1) (tells.may_leave d2) (tells.may_leave d3)) where
+        pub third : LeavesOnly tells d0 d3 P
+        third = goes_on tells d0 d2 d3 P second time3 (gate_crash (tells.may_leave d2) (tells.may_leave d3) durable crash3)
 
-        pub fourth : (d4 : D) → Elapses moment left_since may_leave d3 d4 → Narrows (may_leave d3) (may_leave d4) → LeavesOnly moment left_since d0 d4 P
-        fourth d4 time4 crash4 = goes_on moment left_since may_leave d0 d3 d4 P third time4 (λ c left. gate_crash (may_leave d2) (may_leave d3) durable crash3 c (crash4 c left))
+        pub fourth : (d4 : D) → Elapses tells d3 d4 → Narrows (tells.may_leave d3) (tells.may_leave d4) → LeavesOnly tells d0 d4 P
+        fourth d4 time4 crash4 = goes_on tells d0 d3 d4 P third time4 (λ c left. gate_crash (tells.may_leave d2) (tells.may_leave d3) durable crash3 c (crash4 c left))
 
 -- after the last call
-pub is_born : (reads : Option Image) (may_leave : Image → Type 0) (i : Image) (r : IsCleared i.book) (h : Header) (frame : List ℕ) → IsHeaderFrame h frame
-    → reads ≡ Some (written Book 0 (1 ∷ []) (written Book 1 frame i)) → Only (written Book 0 (1 ∷ []) (written Book 1 frame i)) may_leave → IsKept reads may_leave (born h []) i.blobs
-is_born reads may_leave i r h frame is_frame is only = record {
+pub is_born : {D : Type 0} (tells : DiskTells D) (disk : D) (i : Image) (r : IsCleared i.book) (h : Header) (frame : List ℕ) → IsHeaderFrame h frame
+    → tells.reads disk ≡ Some (written Book 0 (1 ∷ []) (written Book 1 frame i)) → Only (written Book 0 (1 ∷ []) (written Book 1 frame i)) (tells.may_leave disk)
+    → IsKept tells disk (born h []) i.blobs
+is_born tells disk i r h frame is_frame is only = record {
   now = written Book 0 (1 ∷ []) (written Book 1 frame i);
   is_read = is;
   book = ap contents_of (is_open i.book r h frame is_frame.long is_frame.bytes) ∙ reads_empty i.book r h frame is_frame.long is_frame.bytes;

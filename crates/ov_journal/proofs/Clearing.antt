@@ -3,8 +3,9 @@ use Rattle.std.proofs.Common.{inl, inr, ℕ, ◌≤◌, ◌<◌, List, [], ◌�
 use Rattle.std.proofs.lemmas.List.{drop_all}
 use Rattle.ov_disk.specs.Disk.{Image, overwritten, TornIn, Follows, Narrows, OnlyBook}
 use Rattle.ov_disk.specs.Moments.{Elapses, LeavesOnly}
+use Rattle.ov_disk.specs.Tells.{DiskTells}
 use Rattle.ov_disk.specs.declared.area.Area.TheVariants.{Book}
-use Rattle.ov_disk.proofs.Runs.{Begun, started, goes_on}
+use Rattle.ov_disk.proofs.Runs.{started, goes_on}
 use Rattle.ov_journal.specs.declared.header.Header.{Header}
 use Rattle.ov_journal.specs.Birth.{IsCleared}
 use Rattle.ov_journal.specs.Log.{IsUnbornOrEmpty}
@@ -22,32 +23,30 @@ was_clear (g ∷ rest) long (inr un) = record { gate = g; rest = rest; parts = r
 pub record Clears (outcomes : Image → Type 0) (i : Image) : Type 0 where
   pub unborn : IsUnborn i.book × OnlyBook i.book outcomes
 
-module _ {D : Type 0} {moment : D → ℕ} {left_since : D → ℕ → Image → Type 0} {may_leave : D → Image → Type 0}
-    {d0 : D} {i : Image} (b : Begun moment left_since may_leave d0 (Clears (may_leave d0) i))
-    (d1 : D) (time1 : Elapses moment left_since may_leave d0 d1) (crash1 : Narrows (may_leave d0) (may_leave d1)) where
+module _ {D : Type 0} (tells : DiskTells D) (d0 : D) {i : Image} (b : Clears (tells.may_leave d0) i)
+    (d1 : D) (time1 : Elapses tells d0 d1) (crash1 : Narrows (tells.may_leave d0) (tells.may_leave d1)) where
   abbrev P : Image → Type 0
   P c = IsUnborn c.book
 
-  here : (c : Image) → may_leave d0 c → P c
-  here c left = subst IsUnborn (sym (b.held.unborn.1 c left)) b.held.unborn.0
+  here : (c : Image) → tells.may_leave d0 c → P c
+  here c left = subst IsUnborn (sym (b.unborn.1 c left)) b.unborn.0
 
-  pub looked : LeavesOnly moment left_since d0 d1 P
-  looked = goes_on moment left_since may_leave d0 d0 d1 P (started moment left_since may_leave d0 P b.only_now here) time1 (λ c left. here c (crash1 c left))
+  pub looked : LeavesOnly tells d0 d1 P
+  looked = goes_on tells d0 d0 d1 P (started tells d0 P here) time1 (λ c left. here c (crash1 c left))
 
-  module _ (short : length i.book ≤ 1) (d2 : D) (time2 : Elapses moment left_since may_leave d1 d2) (crash2 : Follows (TornIn Book 0 1) (may_leave d1) (may_leave d2)) where
-    gone : (c : Image) → may_leave d2 c → P c
+  module _ (short : length i.book ≤ 1) (d2 : D) (time2 : Elapses tells d1 d2) (crash2 : Follows (TornIn Book 0 1) (tells.may_leave d1) (tells.may_leave d2)) where
+    gone : (c : Image) → tells.may_leave d2 c → P c
     gone c left =
         let from = crash2 c left in
-        let was = ap length (b.held.unborn.1 from.0 (crash1 from.0 from.1)) in
+        let was = ap length (b.unborn.1 from.0 (crash1 from.0 from.1)) in
         inl (omega (arith, from.2.0.no_longer, was, short))
 
-    pub wrote : LeavesOnly moment left_since d0 d2 P
-    wrote = goes_on moment left_since may_leave d0 d1 d2 P looked time2 gone
+    pub wrote : LeavesOnly tells d0 d2 P
+    wrote = goes_on tells d0 d1 d2 P looked time2 gone
 
-    pub synced : (d3 : D) → Elapses moment left_since may_leave d2 d3 → Narrows (may_leave d2) (may_leave d3) → LeavesOnly moment left_since d0 d3 P
-    synced d3 time3 crash3 = goes_on moment left_since may_leave d0 d2 d3 P wrote time3 (λ c left. gone c (crash3 c left))
+    pub synced : (d3 : D) → Elapses tells d2 d3 → Narrows (tells.may_leave d2) (tells.may_leave d3) → LeavesOnly tells d0 d3 P
+    synced d3 time3 crash3 = goes_on tells d0 d2 d3 P wrote time3 (λ c left. gone c (crash3 c left))
 
 -- before the first call, where a Book is unborn
-pub not_begun : {D : Type 0} (moment : D → ℕ) (left_since : D → ℕ → Image → Type 0) (may_leave : D → Image → Type 0) (d0 : D) → ((c : Image) → left_since d0 (moment d0) c → may_leave d0 c)
-    → (i : Image) (h : Header) → IsUnborn i.book × OnlyBook i.book (may_leave d0) → LeavesOnly moment left_since d0 d0 (IsUnbornOrEmpty h)
-not_begun moment left_since may_leave d0 only_now i h un = started moment left_since may_leave d0 (IsUnbornOrEmpty h) only_now (λ c left. inl (subst IsUnborn (sym (un.1 c left)) un.0))
+pub not_begun : {D : Type 0} (tells : DiskTells D) (d0 : D) → (i : Image) (h : Header) → IsUnborn i.book × OnlyBook i.book (tells.may_leave d0) → LeavesOnly tells d0 d0 (IsUnbornOrEmpty h)
+not_begun tells d0 i h un = started tells d0 (IsUnbornOrEmpty h) (λ c left. inl (subst IsUnborn (sym (un.1 c left)) un.0))

@@ -1,8 +1,9 @@
 -- A journal and the records that it stands for.
-use Rattle.std.proofs.Common.{◌≡◌, inl, inr, ℕ, ◌+◌, ◌≤◌, List, [], ◌∷◌, ◌++◌, length, false, Option, Some, refl, sym, ◌∙◌, ap, subst, arith, length-append}
+use Rattle.std.proofs.Common.{◌≡◌, inl, inr, ℕ, ◌+◌, ◌≤◌, List, [], ◌∷◌, ◌++◌, length, false, Some, refl, sym, ◌∙◌, ap, subst, arith, length-append}
 use Rattle.std.proofs.lemmas.Bool.Decides.{leb_tells}
 use Rattle.std.proofs.lemmas.List.{get_or_push, get_or_append_left}
 use Rattle.ov_disk.specs.Disk.{Image, OnlyBook}
+use Rattle.ov_disk.specs.Tells.{DiskTells}
 use Rattle.ov_journal.specs.Book.{Records, Contents, contents_of, with_body}
 use Rattle.ov_journal.specs.Frames.{EndsAt}
 use Rattle.ov_journal.specs.Log.{Log, gates_from, end_from, latest_gate, AreInReach, IsLogOf, appended, IsKept}
@@ -26,9 +27,10 @@ log_appended log r body is = record {
   bad = is.bad;
 }
 
-pub stands_appended : (reads : Option Image) (may_leave : Image → Type 0) (log later : Log) (i k : Image) (body : List ℕ) → IsLogOf log (contents_of i.book).records
-    → IsKept reads may_leave (with_body body (contents_of i.book)) i.blobs → later ≡ appended (length body) log → reads ≡ Some k → IsLogOf later (contents_of k.book).records × OnlyBook k.book may_leave
-stands_appended reads may_leave log later i k body is kept same read =
+pub stands_appended : {D : Type 0} (tells : DiskTells D) (disk : D) (log later : Log) (i k : Image) (body : List ℕ) → IsLogOf log (contents_of i.book).records
+    → IsKept tells disk (with_body body (contents_of i.book)) i.blobs → later ≡ appended (length body) log → tells.reads disk ≡ Some k
+    → IsLogOf later (contents_of k.book).records × OnlyBook k.book (tells.may_leave disk)
+stands_appended tells disk log later i k body is kept same read =
     let one : kept.now ≡ k = cc (kept.is_read, read) in
     let records : (contents_of k.book).records ≡ record { bodies = (contents_of i.book).records.bodies ++ body ∷ []; bad = (contents_of i.book).records.bad } =
     ap (λ (j : Image). (contents_of j.book).records) (sym one) ∙ ap (λ (c : Contents). c.records) kept.book in (

@@ -3,6 +3,7 @@ use Rattle.std.proofs.Common.{◌≡◌, inl, inr, ℕ, zero, suc, ◌+◌, ◌<
 use Rattle.std.proofs.lemmas.List.{take_more, append-nil}
 use Rattle.ov_disk.specs.Disk.{Image, OnlyBook}
 use Rattle.ov_disk.specs.Moments.{LeavesOnly}
+use Rattle.ov_disk.specs.Tells.{DiskTells}
 use Rattle.ov_disk.proofs.Runs.{started, then_on}
 use Rattle.ov_journal.specs.Book.{Contents, contents_of, with_body, with_bodies}
 use Rattle.ov_journal.specs.Finding.{UnlessDisk}
@@ -36,12 +37,12 @@ front_of : (may_leave : Image → Type 0) (i k : Image) (bodies : List (List ℕ
 front_of may_leave i k bodies n body lt item is c (inl same) = (n, omega (arith, lt), same.0 ∙ is)
 front_of may_leave i k bodies n body lt item is c (inr more) = (n + 1, omega (arith, lt), more.0 ∙ one_more bodies n body (contents_of i.book) (contents_of k.book) lt item is)
 
-module _ {D : Type 0} (moment : D → ℕ) (left_since : D → ℕ → Image → Type 0) (may_leave : D → Image → Type 0) where
-  pub no_front : (d0 : D) → ((c : Image) → left_since d0 (moment d0) c → may_leave d0 c) → (i : Image) (bodies : List (List ℕ)) → OnlyBook i.book (may_leave d0) → LeavesOnly moment left_since d0 d0 (HasFront i bodies)
-  no_front d0 only_now i bodies settled = started moment left_since may_leave d0 (HasFront i bodies) only_now (λ c left. (0, omega arith, ap contents_of (settled c left) ∙ sym (with_none (contents_of i.book))))
+module _ {D : Type 0} (tells : DiskTells D) where
+  pub no_front : (d0 : D) → (i : Image) (bodies : List (List ℕ)) → OnlyBook i.book (tells.may_leave d0) → LeavesOnly tells d0 d0 (HasFront i bodies)
+  no_front d0 i bodies settled = started tells d0 (HasFront i bodies) (λ c left. (0, omega arith, ap contents_of (settled c left) ∙ sym (with_none (contents_of i.book))))
 
   pub longer_front : (d0 d1 d2 : D) (m : Image → Type 0) (i k : Image) (bodies : List (List ℕ)) (n : ℕ) (body : List ℕ) → n < length bodies → get_or bodies n [] ≡ body
-      → contents_of k.book ≡ with_bodies (take n bodies) (contents_of i.book) → LeavesOnly moment left_since d0 d1 (HasFront i bodies) → LeavesOnly moment left_since d1 d2 (IsBeforeOrAfter m k body)
-      → LeavesOnly moment left_since d0 d2 (HasFront i bodies)
+      → contents_of k.book ≡ with_bodies (take n bodies) (contents_of i.book) → LeavesOnly tells d0 d1 (HasFront i bodies) → LeavesOnly tells d1 d2 (IsBeforeOrAfter m k body)
+      → LeavesOnly tells d0 d2 (HasFront i bodies)
   longer_front d0 d1 d2 m i k bodies n body lt item is so_far next =
-      then_on moment left_since may_leave d0 d1 d2 (HasFront i bodies) (IsBeforeOrAfter m k body) so_far next (front_of m i k bodies n body lt item is)
+      then_on tells d0 d1 d2 (HasFront i bodies) (IsBeforeOrAfter m k body) so_far next (front_of m i k bodies n body lt item is)

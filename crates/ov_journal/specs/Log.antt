@@ -1,7 +1,8 @@
 -- A journal as a value, and what it stands for.
-use Rattle.std.specs.Prelude.{◌≡◌, ◌⊎◌, ℕ, ◌+◌, ◌-◌, ◌≤◌, ◌<◌, List, [], ◌∷◌, ◌++◌, length, take, drop, slice_index, ◌*◌, Bool, Option, Some}
+use Rattle.std.specs.Prelude.{◌≡◌, ◌⊎◌, ℕ, ◌+◌, ◌-◌, ◌≤◌, ◌<◌, List, [], ◌∷◌, ◌++◌, length, take, drop, slice_index, ◌*◌, Bool, Some}
 use Rattle.ov_base.specs.declared.limits.TheConstants.{MAX_RECORD_BYTES}
 use Rattle.ov_disk.specs.Disk.{Image, Only, OnlyBook, Told}
+use Rattle.ov_disk.specs.Tells.{DiskTells}
 use Rattle.ov_journal.specs.Book.{Records, Contents, length_in, contents_of, with_body, with_bodies, born}
 use Rattle.ov_journal.specs.Standing.{IsUnborn}
 use Rattle.ov_journal.specs.declared.header.Header.{Header}
@@ -52,9 +53,9 @@ pub record IsLogOfFirst (log : Log) (records : Records) : Type 0 where
 
 -- Where the disk tells its bytes, Book has just this journal's records, and nothing is pending
 -- there.
-abbrev pub Stands : Log → Option Image → (Image → Type 0) → Type 0
-Stands log reads may_leave =
-    Told reads (λ i. IsLogOf log (contents_of i.book).records × OnlyBook i.book may_leave)
+abbrev pub Stands : {D : Type 0} → DiskTells D → Log → D → Type 0
+Stands tells log disk = Told (tells.reads disk) (λ i.
+    IsLogOf log (contents_of i.book).records × OnlyBook i.book (tells.may_leave disk))
 
 -- the records are the same; the room may be other
 pub record HasSameRecords (old new : Log) : Type 0 where
@@ -80,17 +81,18 @@ IsBeforeOrAfter may_leave i body c =
     ⊎ ((contents_of c.book ≡ with_body body (contents_of i.book)) × (c.blobs ≡ i.blobs))
 
 -- the disk has these contents of Book, and these Blobs, and nothing is pending
-pub record IsKept (reads : Option Image) (may_leave : Image → Type 0) (contents : Contents)
+pub record IsKept {D : Type 0} (tells : DiskTells D) (disk : D) (contents : Contents)
     (blobs : List ℕ) : Type 0 where
   pub now : Image
-  pub is_read : reads ≡ Some now
+  pub is_read : tells.reads disk ≡ Some now
   pub book : contents_of now.book ≡ contents
   pub blobs_same : now.blobs ≡ blobs
-  pub only : Only now may_leave
+  pub only : Only now (tells.may_leave disk)
 
 -- the disk has these contents of Book
-abbrev pub HasContents : Option Image → Contents → Type 0
-HasContents reads contents = (k : Image) × (reads ≡ Some k) × (contents_of k.book ≡ contents)
+abbrev pub HasContents : {D : Type 0} → DiskTells D → D → Contents → Type 0
+HasContents tells disk contents =
+    (k : Image) × (tells.reads disk ≡ Some k) × (contents_of k.book ≡ contents)
 
 -- Book with some front of these bodies more
 abbrev pub HasFront : Image → List (List ℕ) → Image → Type 0
