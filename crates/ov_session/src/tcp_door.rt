@@ -7,7 +7,7 @@ use ov_base::Memory;
 use ov_io::{Fault, StdStream};
 use std::io;
 use std::io::ErrorKind;
-use std::net::{Net, OpenListener, OpenStream, TcpListener};
+use std::net::{Net, OpenListener, OpenStream, SocketAddr, TcpListener};
 
 /// How many connections that broke before they were accepted are passed over in one call.
 const MOST_BROKEN: u32 = 100;
@@ -19,6 +19,7 @@ pub struct TcpDoor<R: Net + AllocGlobal + Drop> {
     rt: R,
     address: String,
     listener: Option<R::Listener>,
+    client: Option<SocketAddr>,
     given: u64,
     faults: u64,
     reason: Option<ErrorKind>,
@@ -38,6 +39,7 @@ impl<R: Net + AllocGlobal + Drop> TcpDoor<R> {
             rt,
             address,
             listener: None,
+            client: None,
             given: 0,
             faults: 0,
             reason: None,
@@ -47,6 +49,11 @@ impl<R: Net + AllocGlobal + Drop> TcpDoor<R> {
     /// Why the last call that failed did, where the system said so.
     pub fn reason(&self) -> Option<ErrorKind> {
         self.reason
+    }
+
+    /// The address of whoever made the last connection that was given.
+    pub fn client(&self) -> Option<SocketAddr> {
+        self.client
     }
 
     // Listens, and appends the address at which it does.
@@ -64,16 +71,16 @@ impl<R: Net + AllocGlobal + Drop> TcpDoor<R> {
         Ok(())
     }
 
-    // The next connection. Each small frame is sent at once.
-    fn next(&self) -> io::Result<R::Stream> {
+    // The next connection, and whose it is. Each small frame is sent at once.
+    fn next(&self) -> io::Result<(R::Stream, SocketAddr)> {
         let Some(listener) = &self.listener else {
             return Err(io::Error::from(ErrorKind::NotConnected));
         };
         for _ in 0..MOST_BROKEN {
             match listener.accept() {
-                Ok((stream, _)) => {
+                Ok((stream, client)) => {
                     stream.set_nodelay(true)?;
-                    return Ok(stream);
+                    return Ok((stream, client));
                 }
                 Err(error) => {
                     if !is_broken(error.kind()) {
@@ -118,8 +125,9 @@ impl<R: Net + AllocGlobal + Drop> Door for TcpDoor<R> {
             return Err(self.fail(ErrorKind::Other));
         }
         match self.next() {
-            Ok(stream) => {
+            Ok((stream, client)) => {
                 self.given += 1;
+                self.client = Some(client);
                 Ok(Some(StdStream::new(stream)))
             }
             Err(error) => Err(self.fail(error.kind())),
