@@ -2,6 +2,7 @@
 use Rattle.std.proofs.Common.{◌≡◌, ℕ, ◌+◌, ◌-◌, ◌≤◌, List, sym, ap, subst, Option, Some, None, Ok, Err}
 use Rattle.std.specs.Prelude.{IfSome}
 use Rattle.std.specs.Io.KnownBytes.{Consumes}
+use Rattle.ov_io.specs.Tells.{SourceTells}
 use Rattle.ov_script.specs.declared.ended.Ended.{Ended}
 use Rattle.ov_script.specs.declared.ended.Ended.TheVariants.{End, Bad, Long, Fault}
 use Rattle.ov_script.specs.declared.item.Item.{Item}
@@ -16,22 +17,22 @@ use Rattle.ov_script.specs.Taking.{EndsReading, TakesWhatItNeeds}
 use Rattle.ov_script.proofs.Using.{text_used}
 
 -- an item
-pub says_item : {S : Type 0} (left : S → Option (List ℕ)) (line room : ℕ) (old new : Fed S) (item : Item) → Tells left room old new (Ok item)
-    → IfSome (text_of left old) (λ text. Says line room text (Next-Command item.command) (line + item.lines) (room - item.size) (text_of left new))
-says_item left line room old new item (bytes, is, count, within, lfs, uses) = told (text_of left old) (text_used left old new bytes uses) where
-  told : (x : Option (List ℕ)) → Consumes x (text_of left new) bytes → IfSome x (λ text. Says line room text (Next-Command item.command) (line + item.lines) (room - item.size) (text_of left new))
+pub says_item : {S : Type 0} (tells : SourceTells S) (line room : ℕ) (old new : Fed S) (item : Item) → Tells tells room old new (Ok item)
+    → IfSome (text_of tells old) (λ text. Says line room text (Next-Command item.command) (line + item.lines) (room - item.size) (text_of tells new))
+says_item tells line room old new item (bytes, is, count, within, lfs, uses) = told (text_of tells old) (text_used tells old new bytes uses) where
+  told : (x : Option (List ℕ)) → Consumes x (text_of tells new) bytes → IfSome x (λ text. Says line room text (Next-Command item.command) (line + item.lines) (room - item.size) (text_of tells new))
   told None c = tt
   told (Some text) c = (bytes, is, c, subst (λ n. n ≤ room) (sym count) within, ap (λ n. line + n) (sym lfs), ap (λ n. room - n) (sym count))
 
 -- what is said of the fields is said of the place
-pub said_at : {S : Type 0} (left : S → Option (List ℕ)) (inside place : Place S) (next : Next) (line' room' : ℕ) (rest : Option (List ℕ)) → inside ≡ place
-    → IfSome (text_left left inside) (λ text. Says inside.line inside.room text next line' room' rest)
-    → IfSome (text_left left place) (λ text. Says place.line place.room text next line' room' rest)
-said_at left inside place next line' room' rest e p = subst (λ (q : Place _). IfSome (text_left left q) (λ text. Says q.line q.room text next line' room' rest)) e p
+pub said_at : {S : Type 0} (tells : SourceTells S) (inside place : Place S) (next : Next) (line' room' : ℕ) (rest : Option (List ℕ)) → inside ≡ place
+    → IfSome (text_left tells inside) (λ text. Says inside.line inside.room text next line' room' rest)
+    → IfSome (text_left tells place) (λ text. Says place.line place.room text next line' room' rest)
+said_at tells inside place next line' room' rest e p = subst (λ (q : Place _). IfSome (text_left tells q) (λ text. Says q.line q.room text next line' room' rest)) e p
 
-pub needed_at : {S : Type 0} (takes : S → S → Type 0) (left : S → Option (List ℕ)) (ended failed : Type 0) (inside place : Place S) (new : S) → inside ≡ place
-    → TakesWhatItNeeds takes left inside.room inside.pending ended failed inside.source new → TakesWhatItNeeds takes left place.room place.pending ended failed place.source new
-needed_at takes left ended failed inside place new e p = subst (λ (q : Place _). TakesWhatItNeeds takes left q.room q.pending ended failed q.source new) e p
+pub needed_at : {S : Type 0} (tells : SourceTells S) (ended failed : Type 0) (inside place : Place S) (new : S) → inside ≡ place
+    → TakesWhatItNeeds tells inside.room inside.pending ended failed inside.source new → TakesWhatItNeeds tells place.room place.pending ended failed place.source new
+needed_at tells ended failed inside place new e p = subst (λ (q : Place _). TakesWhatItNeeds tells q.room q.pending ended failed q.source new) e p
 
 -- a fault is answered only where the reading ended with it
 pub fault_answered : (line : ℕ) (ended : Ended) (fault : ScriptFault) → answer_of line ended ≡ Err fault → ended ≡ Fault fault

@@ -3,6 +3,7 @@ use Rattle.std.proofs.Common.{◌≡◌, ℕ, ◌+◌, ◌≤◌, List, [], ◌�
 use Rattle.std.proofs.Math.Seq.{take-append_seam}
 use Rattle.std.specs.Io.KnownBytes.{prepend_known, Consumes, Keeps}
 use Rattle.std.proofs.KnownBytes.{Consumes-trans, Consumes-nil, Consumes-kept}
+use Rattle.ov_io.specs.Tells.{SourceTells}
 use Rattle.ov_script.specs.Feed.{Fed, Takes, text_of}
 use Rattle.ov_script.specs.LineFeeds.{NoLf}
 use Rattle.ov_script.specs.NoItem.{IsWhyNone}
@@ -11,17 +12,17 @@ use Rattle.ov_script.specs.declared.ended.Ended.{Ended}
 use Rattle.ov_script.specs.declared.ended.Ended.TheVariants.{End, Bad, Long, Fault}
 
 -- one take after another
-pub Takes-trans : {S : Type 0} (left : S → Option (List ℕ)) (a b c : Fed S) (xs ys : List ℕ) → Takes left a b xs → Takes left b c ys → Takes left a c (xs ++ ys)
-Takes-trans left a b c xs ys p q = record {
+pub Takes-trans : {S : Type 0} (tells : SourceTells S) (a b c : Fed S) (xs ys : List ℕ) → Takes tells a b xs → Takes tells b c ys → Takes tells a c (xs ++ ys)
+Takes-trans tells a b c xs ys p q = record {
   pending = q.pending ∙ ap (λ l. l ++ ys) p.pending ∙ append_assoc a.pending xs ys;
-  source = Consumes-trans (left a.source) (left b.source) (left c.source) xs ys p.source q.source;
+  source = Consumes-trans (tells.left a.source) (tells.left b.source) (tells.left c.source) xs ys p.source q.source;
 }
 
 -- a take that gives nothing
-pub Takes-none : {S : Type 0} (left : S → Option (List ℕ)) (a b : Fed S) → b.pending ≡ a.pending → Keeps (left a.source) (left b.source) → Takes left a b []
-Takes-none left a b same kept = record {
+pub Takes-none : {S : Type 0} (tells : SourceTells S) (a b : Fed S) → b.pending ≡ a.pending → Keeps (tells.left a.source) (tells.left b.source) → Takes tells a b []
+Takes-none tells a b same kept = record {
   pending = same ∙ sym (append-nil a.pending);
-  source = Consumes-kept (left a.source) (left a.source) (left b.source) [] (Consumes-nil (left a.source)) kept;
+  source = Consumes-kept (tells.left a.source) (tells.left a.source) (tells.left b.source) [] (Consumes-nil (tells.left a.source)) kept;
 }
 
 -- what had no LF is a front of what is pending after a take
@@ -41,8 +42,8 @@ kept_at (Some xs) None old new more e p = absurd p
 kept_at (Some xs) (Some ys) old new more e p = ap (λ l. l ++ ys) e ∙ append_assoc old more ys ∙ ap (λ l. old ++ l) (sym p)
 
 -- what is taken is still to be read
-pub text_kept : {S : Type 0} (left : S → Option (List ℕ)) (a b : Fed S) (more : List ℕ) → Takes left a b more → Keeps (text_of left a) (text_of left b)
-text_kept left a b more t = kept_at (left a.source) (left b.source) a.pending b.pending more t.pending t.source
+pub text_kept : {S : Type 0} (tells : SourceTells S) (a b : Fed S) (more : List ℕ) → Takes tells a b more → Keeps (text_of tells a) (text_of tells b)
+text_kept tells a b more t = kept_at (tells.left a.source) (tells.left b.source) a.pending b.pending more t.pending t.source
 
 why_at : (room : ℕ) (x y : Option (List ℕ)) (ended : Ended) → Keeps x y → IsWhyNone room y ended → IsWhyNone room x ended
 why_at room None y End k w = tt
@@ -57,9 +58,9 @@ why_at room (Some xs) (Some ys) Bad k w = subst (IsBad room) k w
 why_at room (Some xs) (Some ys) Long k w = subst (IsTooLong room) k w
 
 -- why there is no item in what is pending is why there is none in the text
-pub why_kept : {S : Type 0} (left : S → Option (List ℕ)) (room : ℕ) (a b : Fed S) (more : List ℕ) (ended : Ended) → Takes left a b more
-    → IsWhyNone room (text_of left b) ended → IsWhyNone room (text_of left a) ended
-why_kept left room a b more ended taken why = why_at room (text_of left a) (text_of left b) ended (text_kept left a b more taken) why
+pub why_kept : {S : Type 0} (tells : SourceTells S) (room : ℕ) (a b : Fed S) (more : List ℕ) (ended : Ended) → Takes tells a b more
+    → IsWhyNone room (text_of tells b) ended → IsWhyNone room (text_of tells a) ended
+why_kept tells room a b more ended taken why = why_at room (text_of tells a) (text_of tells b) ended (text_kept tells a b more taken) why
 
 -- nothing was taken
 pub none_taken : (old new more : List ℕ) → new ≡ old ++ more → length more ≡ 0 → new ≡ old

@@ -3,6 +3,7 @@ use Rattle.std.proofs.Common.{◌≡◌, ℕ, List, [], ◌++◌, sym, ◌∙◌
 use Rattle.std.specs.Prelude.{IfSome}
 use Rattle.std.specs.Io.KnownBytes.{prepend_known, Consumes, IsAtEnd}
 use Rattle.std.proofs.KnownBytes.{Consumes-trans}
+use Rattle.ov_io.specs.Tells.{SourceTells}
 use Rattle.ov_script.specs.Feed.{Fed, Uses, text_of}
 
 -- the same bytes behind a longer front
@@ -10,10 +11,10 @@ behind_front : (a b c d : List ℕ) → (a ++ b) ++ c ≡ a ++ (b ++ c)
 behind_front a b c d = append_assoc a b c
 
 -- one use after another
-pub uses_trans : {S : Type 0} (left : S → Option (List ℕ)) (a b c : Fed S) (xs ys : List ℕ) → Uses left a b xs → Uses left b c ys → Uses left a c (xs ++ ys)
-uses_trans left a b c xs ys p q = record {
+pub uses_trans : {S : Type 0} (tells : SourceTells S) (a b c : Fed S) (xs ys : List ℕ) → Uses tells a b xs → Uses tells b c ys → Uses tells a c (xs ++ ys)
+uses_trans tells a b c xs ys p q = record {
   more = p.more ++ q.more;
-  source = Consumes-trans (left a.source) (left b.source) (left c.source) p.more q.more p.source q.source;
+  source = Consumes-trans (tells.left a.source) (tells.left b.source) (tells.left c.source) p.more q.more p.source q.source;
   pending = sym (append_assoc a.pending p.more q.more) ∙ ap (λ l. l ++ q.more) p.pending ∙ append_assoc xs b.pending q.more ∙ ap (λ l. xs ++ l) q.pending ∙ sym (append_assoc xs ys c.pending);
 }
 
@@ -23,8 +24,8 @@ joined_at p q u m (Some xs) None c e = absurd c
 joined_at p q u m (Some xs) (Some ys) c e = ap (λ l. p ++ l) c ∙ sym (append_assoc p m ys) ∙ ap (λ l. l ++ ys) e ∙ append_assoc u q ys
 
 -- the text begins with what is used of it
-pub text_used : {S : Type 0} (left : S → Option (List ℕ)) (a b : Fed S) (used : List ℕ) → Uses left a b used → Consumes (text_of left a) (text_of left b) used
-text_used left a b used u = joined_at a.pending b.pending used u.more (left a.source) (left b.source) u.source u.pending
+pub text_used : {S : Type 0} (tells : SourceTells S) (a b : Fed S) (used : List ℕ) → Uses tells a b used → Consumes (text_of tells a) (text_of tells b) used
+text_used tells a b used u = joined_at a.pending b.pending used u.more (tells.left a.source) (tells.left b.source) u.source u.pending
 
 -- a fact of what is left behind the bytes is one of the text
 pub fact_behind : (P Q : List ℕ → Type 0) (x y : Option (List ℕ)) (used : List ℕ) → ((rest : List ℕ) → Q rest → P (used ++ rest)) → Consumes x y used → IfSome y Q → IfSome x P
@@ -33,8 +34,8 @@ fact_behind P Q (Some xs) None used f c q = absurd c
 fact_behind P Q (Some xs) (Some ys) used f c q = subst P (sym c) (f ys q)
 
 -- the text has ended
-pub nothing_left : {S : Type 0} (left : S → Option (List ℕ)) (feed : Fed S) → feed.pending ≡ [] → IsAtEnd (left feed.source) → IfSome (text_of left feed) (λ text. text ≡ [])
-nothing_left left feed none end = at_end (left feed.source) end where
+pub nothing_left : {S : Type 0} (tells : SourceTells S) (feed : Fed S) → feed.pending ≡ [] → IsAtEnd (tells.left feed.source) → IfSome (text_of tells feed) (λ text. text ≡ [])
+nothing_left tells feed none end = at_end (tells.left feed.source) end where
   at_end : (x : Option (List ℕ)) → IsAtEnd x → IfSome (prepend_known feed.pending x) (λ text. text ≡ [])
   at_end None e = tt
   at_end (Some xs) e = ap (λ l. l ++ xs) none ∙ e

@@ -1,5 +1,5 @@
 -- What stands behind the line of an item makes the item whole, or not.
-use Rattle.std.proofs.Common.{◌≡◌, ◌≢◌, ℕ, suc, ◌+◌, ◌-◌, ◌<◌, ◌≤◌, List, [], ◌∷◌, ◌++◌, length, take, drop, refl, sym, ◌∙◌, ap, subst, append_assoc, length-append, arith, Option, Result, Ok, Err, IfOk, min}
+use Rattle.std.proofs.Common.{◌≡◌, ◌≢◌, ℕ, suc, ◌+◌, ◌-◌, ◌<◌, ◌≤◌, List, [], ◌∷◌, ◌++◌, length, take, drop, refl, sym, ◌∙◌, ap, subst, append_assoc, length-append, arith, Result, Ok, Err, IfOk, min}
 use Rattle.std.specs.Io.KnownBytes.{Consumes}
 use Rattle.std.proofs.Math.Seq.{drop-append_seam, take-append-add}
 use Rattle.std.proofs.lemmas.List.{length-take-le}
@@ -21,6 +21,7 @@ use Rattle.ov_script.proofs.ByteTexts.{lf_count-append, lf_count-line, lf_count-
 use Rattle.ov_script.proofs.Fronts.{bad_front}
 use Rattle.ov_script.proofs.Grammar.{item_from}
 use Rattle.ov_io.proofs.Pieces.{pieces_same, while_behind}
+use Rattle.ov_io.specs.Tells.{SourceTells}
 use Rattle.ov_script.proofs.Using.{text_used, fact_behind, uses_trans}
 
 -- ---- texts behind the line of a body
@@ -77,22 +78,22 @@ drop_line bytes line rest size count e =
     let n : length (line ++ 10 ∷ []) ≡ size = length-append line (10 ∷ []) ∙ count in
     ap (drop size) (e ∙ sym (append_assoc line (10 ∷ []) rest)) ∙ ap (λ n. drop n ((line ++ 10 ∷ []) ++ rest)) (sym n) ∙ drop-append_seam (line ++ 10 ∷ []) rest
 
-module _ {S : Type 0} (left : S → Option (List ℕ)) (room : ℕ) (a b m : Fed S) (more : List ℕ) (line : Line) (taken : Takes left a b more)
-    (found : Finds room b.pending (left b.source) (Ok line)) (used : m ≡ record { source = b.source; pending = drop line.size b.pending }) where
+module _ {S : Type 0} (tells : SourceTells S) (room : ℕ) (a b m : Fed S) (more : List ℕ) (line : Line) (taken : Takes tells a b more)
+    (found : Finds room b.pending (tells.left b.source) (Ok line)) (used : m ≡ record { source = b.source; pending = drop line.size b.pending }) where
   pub line_used : m.source ≡ b.source
   line_used = ap (λ (f : Fed S). f.source) used
 
-  uses_line : Uses left a m (found.0 ++ 10 ∷ [])
+  uses_line : Uses tells a m (found.0 ++ 10 ∷ [])
   uses_line =
       let rest : m.pending ≡ found.1 = ap (λ (f : Fed S). f.pending) used ∙ drop_line b.pending found.0 found.1 line.size found.4 found.6 in
       record {
         more = more;
-        source = subst (λ s. Consumes (left a.source) (left s) more) (sym line_used) taken.source;
+        source = subst (λ s. Consumes (tells.left a.source) (tells.left s) more) (sym line_used) taken.source;
         pending = sym taken.pending ∙ found.6 ∙ sym (append_assoc found.0 (10 ∷ []) found.1) ∙ ap (λ r. (found.0 ++ 10 ∷ []) ++ r) (sym rest);
       }
 
   -- a whole item
-  pub tells_line : (item : Item) → line.said ≡ Whole item.command → item.size ≡ line.size → item.lines ≡ 1 → Tells left room a m (Ok item)
+  pub tells_line : (item : Item) → line.said ≡ Whole item.command → item.size ≡ line.size → item.lines ≡ 1 → Tells tells room a m (Ok item)
   tells_line item is size_is lines_is =
       let says = subst (SaysLine found.0) is found.3 in
       let count : length (found.0 ++ 10 ∷ []) ≡ line.size = length-append found.0 (10 ∷ []) ∙ found.4 in
@@ -107,20 +108,20 @@ module _ {S : Type 0} (left : S → Option (List ℕ)) (room : ℕ) (a b m : Fed
     fits = subst (λ n. n ≤ room) (sym found.4) found.5
 
     -- why there is no body is why there is no item
-    no_item : (ended : Ended) → IsWhyNoBody (room - line.size) body (text_of left m) ended → IsWhyNone room (text_of left a) ended
+    no_item : (ended : Ended) → IsWhyNoBody (room - line.size) body (text_of tells m) ended → IsWhyNone room (text_of tells a) ended
     no_item End p = absurd p
-    no_item Bad p = fact_behind (IsBad room) (IsBadBody (room - line.size) body) (text_of left a) (text_of left m) (found.0 ++ 10 ∷ [])
+    no_item Bad p = fact_behind (IsBad room) (IsBadBody (room - line.size) body) (text_of tells a) (text_of tells m) (found.0 ++ 10 ∷ [])
         (λ text bad. subst (IsBad room) (sym (append_assoc found.0 (10 ∷ []) text))
         (bad_body found.0 file names body room says_body fits text (subst (λ n. IsBadBody (room - n) body text) (sym found.4) bad)))
-        (text_used left a m (found.0 ++ 10 ∷ []) uses_line) p
-    no_item Long p = fact_behind (IsTooLong room) (λ text. (room - line.size < length text) × (room - line.size ≤ body)) (text_of left a) (text_of left m) (found.0 ++ 10 ∷ [])
+        (text_used tells a m (found.0 ++ 10 ∷ []) uses_line) p
+    no_item Long p = fact_behind (IsTooLong room) (λ text. (room - line.size < length text) × (room - line.size ≤ body)) (text_of tells a) (text_of tells m) (found.0 ++ 10 ∷ [])
         (λ text long. subst (IsTooLong room) (sym (append_assoc found.0 (10 ∷ []) text))
         (long_body found.0 file names body room says_body fits text
         (subst (λ n. room - n < length text) (sym found.4) long.0) (subst (λ n. room - n ≤ body) (sym found.4) long.1)))
-        (text_used left a m (found.0 ++ 10 ∷ []) uses_line) p
+        (text_used tells a m (found.0 ++ 10 ∷ []) uses_line) p
     no_item (Fault fault) p = tt
 
-    pub tells_created : (result : Result Item Ended) → Creates left room (file, names) line.size body m c result → Tells left room a c result
+    pub tells_created : (result : Result Item Ended) → Creates tells room (file, names) line.size body m c result → Tells tells room a c result
     tells_created (Ok item) (bytes, e, n, total, within, lfs, uses) =
         let size_is : length found.0 + 1 ≡ line.size = found.4 in
         let tail : length (bytes ++ 10 ∷ []) ≡ length bytes + 1 = length-append bytes (10 ∷ []) in
@@ -133,23 +134,23 @@ module _ {S : Type 0} (left : S → Option (List ℕ)) (room : ℕ) (a b m : Fed
           omega arith,
           within,
           omega arith,
-          subst (Uses left a c) (append_assoc found.0 (10 ∷ []) (bytes ++ 10 ∷ [])) (uses_trans left a m c (found.0 ++ 10 ∷ []) (bytes ++ 10 ∷ []) uses_line uses),
+          subst (Uses tells a c) (append_assoc found.0 (10 ∷ []) (bytes ++ 10 ∷ [])) (uses_trans tells a m c (found.0 ++ 10 ∷ []) (bytes ++ 10 ∷ []) uses_line uses),
         )
     tells_created (Err ended) p = no_item ended p
 
-    pub sized_created : (result : Result Item Ended) → Creates left room (file, names) line.size body m c result → IfOk result (λ item. (0 < item.size) × (item.lines ≤ item.size))
+    pub sized_created : (result : Result Item Ended) → Creates tells room (file, names) line.size body m c result → IfOk result (λ item. (0 < item.size) × (item.lines ≤ item.size))
     sized_created (Ok item) (bytes, e, n, total, within, lfs, uses) =
         let size_is : length found.0 + 1 ≡ line.size = found.4 in
         let few : lf_count bytes ≤ length bytes = lf_count-within bytes in
         (omega arith, omega arith)
     sized_created (Err ended) p = tt
 
-    pub needed_created : (takes : S → S → Type 0) (E F : Type 0) → NeedsPieces takes left room a b more
-        → TakesBelow takes left (min (room - line.size) body + 1) m.pending E F m.source c.source → TakesWhatItNeeds takes left room a.pending E F a.source c.source
+    pub needed_created : (E F : Type 0) → NeedsPieces tells room a b more
+        → TakesBelow tells (min (room - line.size) body + 1) m.pending E F m.source c.source → TakesWhatItNeeds tells room a.pending E F a.source c.source
     unfolding uses_line
-    needed_created takes E F before after' =
-        while_behind takes left (λ seen. IsUnsettled room (a.pending ++ seen)) (λ seen. length (m.pending ++ seen) < min (room - line.size) body + 1) E F
-        a.source m.source c.source more wider (pieces_same takes left (λ seen. IsUnsettled room (a.pending ++ seen)) a.source b.source m.source more line_used before) after' where
+    needed_created E F before after' =
+        while_behind tells (λ seen. IsUnsettled room (a.pending ++ seen)) (λ seen. length (m.pending ++ seen) < min (room - line.size) body + 1) E F
+        a.source m.source c.source more wider (pieces_same tells (λ seen. IsUnsettled room (a.pending ++ seen)) a.source b.source m.source more line_used before) after' where
           wider : (seen : List ℕ) → length (m.pending ++ seen) < min (room - line.size) body + 1 → IsUnsettled room (a.pending ++ (more ++ seen))
           wider seen small =
               let u = uses_line in

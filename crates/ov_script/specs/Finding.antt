@@ -4,6 +4,7 @@ use Rattle.std.specs.Io.KnownBytes.{prepend_known}
 use Rattle.std.specs.declared.alloc.Global.{Global}
 use Rattle.ov_base.specs.declared.limits.TheConstants.{MAX_LINE_BYTES}
 use Rattle.ov_io.specs.Calls.{TakesPieces, TakesWhile}
+use Rattle.ov_io.specs.Tells.{SourceTells}
 use Rattle.ov_script.specs.Feed.{Fed, Uses, text_of}
 use Rattle.ov_script.specs.ItemLines.{SaysLine}
 use Rattle.ov_script.specs.Items.{IsItem}
@@ -63,63 +64,58 @@ IsWhyNoBody room size text Long = IfSome text (λ t. (room < length t) × (room 
 IsWhyNoBody room size text (Fault fault) = ⊤
 
 -- These bytes were taken in pieces, while it was unsettled what item stands there.
-abbrev pub NeedsPieces : {S : Type 0} → (S → S → Type 0) → (S → Option (List ℕ)) → ℕ → Fed S → Fed S
-    → List ℕ → Type 0
-NeedsPieces takes left room old new more =
-    TakesPieces takes left (λ seen. IsUnsettled room (old.pending ++ seen))
+abbrev pub NeedsPieces : {S : Type 0} → SourceTells S → ℕ → Fed S → Fed S → List ℕ → Type 0
+NeedsPieces tells room old new more =
+    TakesPieces tells (λ seen. IsUnsettled room (old.pending ++ seen))
     old.source new.source more
 
 -- A body of so many bytes and its LF were used, which may be read; or there is none.
-abbrev pub Gathers : {S : Type 0} → (S → Option (List ℕ)) → ℕ → ℕ → Fed S → Fed S
+abbrev pub Gathers : {S : Type 0} → SourceTells S → ℕ → ℕ → Fed S → Fed S
     → Result (Vec ℕ Global) Ended → Type 0
-Gathers left room size old new (Ok bytes) =
-    (vec_len bytes ≡ size) × (size < room) × Uses left old new (bytes.items ++ 10 ∷ [])
-Gathers left room size old new (Err ended) = IsWhyNoBody room size (text_of left old) ended
+Gathers tells room size old new (Ok bytes) =
+    (vec_len bytes ≡ size) × (size < room) × Uses tells old new (bytes.items ++ 10 ∷ [])
+Gathers tells room size old new (Err ended) = IsWhyNoBody room size (text_of tells old) ended
 
 -- Bytes are taken only while fewer than so many stand there, and a take that gives none is the
 -- last.
-abbrev pub TakesBelow : {S : Type 0} → (S → S → Type 0) → (S → Option (List ℕ)) → ℕ → List ℕ
-    → Type 0 → Type 0 → S → S → Type 0
-TakesBelow takes left count pending ended failed old new =
-    TakesWhile takes left (λ seen. length (pending ++ seen) < count) ended failed old new
+abbrev pub TakesBelow : {S : Type 0} → SourceTells S → ℕ → List ℕ → Type 0 → Type 0 → S → S → Type 0
+TakesBelow tells count pending ended failed old new =
+    TakesWhile tells (λ seen. length (pending ++ seen) < count) ended failed old new
 
 -- These bytes were used, and those of them that weren't pending were taken in pieces, while fewer
 -- than so many stood there.
-abbrev pub UsesBelow : {S : Type 0} → (S → S → Type 0) → (S → Option (List ℕ)) → ℕ → Fed S → Fed S
-    → List ℕ → Type 0
-UsesBelow takes left count old new used =
-    (uses : Uses left old new used)
-    × TakesPieces takes left (λ seen. length (old.pending ++ seen) < count)
+abbrev pub UsesBelow : {S : Type 0} → SourceTells S → ℕ → Fed S → Fed S → List ℕ → Type 0
+UsesBelow tells count old new used =
+    (uses : Uses tells old new used)
+    × TakesPieces tells (λ seen. length (old.pending ++ seen) < count)
     old.source new.source uses.more
 
 -- An LF was used, or the text begins with another byte, or it ends.
-abbrev pub TakesLf : {S : Type 0} → (S → Option (List ℕ)) → Fed S → Fed S → Behind → Type 0
-TakesLf left old new Lf = Uses left old new (10 ∷ [])
-TakesLf left old new Other =
-    IfSome (text_of left old) (λ text. (b : ℕ) × (rest : List ℕ) × (b ≢ 10) × (text ≡ b ∷ rest))
-TakesLf left old new Nothing = IfSome (text_of left old) (λ text. text ≡ [])
+abbrev pub TakesLf : {S : Type 0} → SourceTells S → Fed S → Fed S → Behind → Type 0
+TakesLf tells old new Lf = Uses tells old new (10 ∷ [])
+TakesLf tells old new Other =
+    IfSome (text_of tells old) (λ text. (b : ℕ) × (rest : List ℕ) × (b ≢ 10) × (text ≡ b ∷ rest))
+TakesLf tells old new Nothing = IfSome (text_of tells old) (λ text. text ≡ [])
 
 -- What stands behind the line of a `create`, of so many bytes, makes an item, or there is none.
-abbrev pub Creates : {S : Type 0} → (S → Option (List ℕ)) → ℕ → List ℕ × List (List ℕ) → ℕ → ℕ
-    → Fed S → Fed S → Result Item Ended → Type 0
-Creates left room names line size old new (Ok item) =
+abbrev pub Creates : {S : Type 0} → SourceTells S → ℕ → List ℕ × List (List ℕ) → ℕ → ℕ → Fed S
+    → Fed S → Result Item Ended → Type 0
+Creates tells room names line size old new (Ok item) =
     (body : List ℕ) × (item.command ≡ Create names.0 names.1 body) × (length body ≡ size)
     × (item.size ≡ line + size + 1) × (item.size ≤ room) × (item.lines ≡ lf_count body + 2)
-    × Uses left old new (body ++ 10 ∷ [])
-Creates left room names line size old new (Err ended) =
-    IsWhyNoBody (room - line) size (text_of left old) ended
+    × Uses tells old new (body ++ 10 ∷ [])
+Creates tells room names line size old new (Err ended) =
+    IsWhyNoBody (room - line) size (text_of tells old) ended
 
 -- An item that says this command, with so many bytes and so many LF, was used; or there is none.
-abbrev pub Tells : {S : Type 0} → (S → Option (List ℕ)) → ℕ → Fed S → Fed S → Result Item Ended
-    → Type 0
-Tells left room old new (Ok item) =
+abbrev pub Tells : {S : Type 0} → SourceTells S → ℕ → Fed S → Fed S → Result Item Ended → Type 0
+Tells tells room old new (Ok item) =
     (bytes : List ℕ) × IsItem bytes item.command × (length bytes ≡ item.size) × (item.size ≤ room)
-    × (lf_count bytes ≡ item.lines) × Uses left old new bytes
-Tells left room old new (Err ended) = IsWhyNone room (text_of left old) ended
+    × (lf_count bytes ≡ item.lines) × Uses tells old new bytes
+Tells tells room old new (Err ended) = IsWhyNone room (text_of tells old) ended
 
 -- The command of the item that stands there, as `next` says it; or why there is none.
-abbrev pub Gives : {S : Type 0} → (S → Option (List ℕ)) → Place S → Result Command Ended
-    → Place S → Type 0
-Gives left old (Ok command) new =
-    ((bytes : List ℕ) × IsItem bytes command) × SaysOf left old (Command-Next command) new
-Gives left old (Err ended) new = IsWhyNone old.room (text_left left old) ended
+abbrev pub Gives : {S : Type 0} → SourceTells S → Place S → Result Command Ended → Place S → Type 0
+Gives tells old (Ok command) new =
+    ((bytes : List ℕ) × IsItem bytes command) × SaysOf tells old (Command-Next command) new
+Gives tells old (Err ended) new = IsWhyNone old.room (text_left tells old) ended

@@ -2,6 +2,7 @@
 use Rattle.std.specs.Prelude.{◌≡◌, ℕ, List, [], Option, None, Some, Result, Ok, Err, MatchOption}
 use Rattle.std.specs.Io.KnownBytes.{prepend_known}
 use Rattle.ov_base.specs.declared.limits.TheConstants.{MAX_SCRIPT_BYTES}
+use Rattle.ov_io.specs.Tells.{SourceTells}
 use Rattle.ov_script.specs.declared.ended.Ended.{Ended}
 use Rattle.ov_script.specs.declared.ended.Ended.TheVariants.{End as Ended-End, Bad, Long as Ended-Long, Fault}
 use Rattle.ov_script.specs.declared.next.Next.{Next}
@@ -29,8 +30,8 @@ start source = record {
 }
 
 -- What is still to be read, where the source tells it.
-abbrev pub text_left : {S : Type 0} → (S → Option (List ℕ)) → Place S → Option (List ℕ)
-text_left left place = prepend_known place.pending (left place.source)
+abbrev pub text_left : {S : Type 0} → SourceTells S → Place S → Option (List ℕ)
+text_left tells place = prepend_known place.pending (tells.left place.source)
 
 -- What each call answers once the reading has ended so, with the next item's line at this one.
 abbrev pub answer_of : ℕ → Ended → Result Next ScriptFault

@@ -1,6 +1,7 @@
 -- What one call of `next` says of the text.
 use Rattle.std.specs.Prelude.{◌≡◌, ℕ, ◌+◌, ◌-◌, ◌≤◌, List, [], length, Option, Some, IfSome, ⊤}
 use Rattle.std.specs.Io.KnownBytes.{Consumes}
+use Rattle.ov_io.specs.Tells.{SourceTells}
 use Rattle.ov_script.specs.Items.{IsItem}
 use Rattle.ov_script.specs.LineFeeds.{lf_count}
 use Rattle.ov_script.specs.Place.{Place, text_left}
@@ -33,7 +34,7 @@ IsOfItem (BadLine n) = ⊤
 IsOfItem Long = ⊤
 
 -- What `next` says of what was still to be read, where the source tells it.
-abbrev pub SaysOf : {S : Type 0} → (S → Option (List ℕ)) → Place S → Next → Place S → Type 0
-SaysOf left old next new =
-    IfSome (text_left left old)
-    (λ text. Says old.line old.room text next new.line new.room (text_left left new))
+abbrev pub SaysOf : {S : Type 0} → SourceTells S → Place S → Next → Place S → Type 0
+SaysOf tells old next new =
+    IfSome (text_left tells old)
+    (λ text. Says old.line old.room text next new.line new.room (text_left tells new))

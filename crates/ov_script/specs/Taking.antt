@@ -1,6 +1,7 @@
 -- What a call of `next` may take from the source.
-use Rattle.std.specs.Prelude.{◌≡◌, ◌≤◌, ℕ, List, ◌++◌, length, Option, Result, Err, IfOk, None}
+use Rattle.std.specs.Prelude.{◌≡◌, ◌≤◌, ℕ, List, ◌++◌, length, Result, Err, IfOk, None}
 use Rattle.ov_io.specs.Calls.{TakesWhile}
+use Rattle.ov_io.specs.Tells.{SourceTells}
 use Rattle.ov_script.specs.Items.{BeginsWithItem, CanBegin}
 use Rattle.ov_script.specs.Place.{Place}
 use Rattle.ov_script.specs.Saying.{IfCommand}
@@ -18,10 +19,10 @@ pub record IsUnsettled (room : ℕ) (text : List ℕ) : Type 0 where
 -- Bytes are taken only while the pending bytes and those taken leave it unsettled what item stands
 -- there, and a take that gives none is the last. At a fault of the source nothing is lost, and it
 -- is unsettled still.
-abbrev pub TakesWhatItNeeds : {S : Type 0} → (S → S → Type 0) → (S → Option (List ℕ)) → ℕ → List ℕ
-    → Type 0 → Type 0 → S → S → Type 0
-TakesWhatItNeeds takes left room pending ended failed old new =
-    TakesWhile takes left (λ seen. IsUnsettled room (pending ++ seen)) ended failed old new
+abbrev pub TakesWhatItNeeds : {S : Type 0} → SourceTells S → ℕ → List ℕ → Type 0 → Type 0 → S → S
+    → Type 0
+TakesWhatItNeeds tells room pending ended failed old new =
+    TakesWhile tells (λ seen. IsUnsettled room (pending ++ seen)) ended failed old new
 
 -- The reading ends with this answer, which is no command, or had ended with it.
 abbrev pub EndsReading : Result Next ScriptFault → Type 0

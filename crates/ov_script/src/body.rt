@@ -64,12 +64,12 @@ fn gather<S: Source + Drop>(
 ) -> Result<Option<Vec<u8>>, ScriptFault>
     ensures bytes { IfOk result (λ found. IfSome found (λ bytes.
         (vec_len bytes ≡ count)
-        × UsesBelow S.takes S.left count feed.old feed.new bytes.items)) }
+        × UsesBelow S.tells count feed.old feed.new bytes.items)) }
     ensures none { IfOk result (λ found. IfNone found
-        (IfSome (text_of S.left feed.old) (λ text. length text < count))) }
-    ensures needed { TakesBelow S.takes S.left count feed.old.pending
+        (IfSome (text_of S.tells feed.old) (λ text. length text < count))) }
+    ensures needed { TakesBelow S.tells count feed.old.pending
         ⊤ (IsErrOf result ScriptFault.Read) feed.old.source feed.new.source }
-    ensures call { IsCallOf S.borrow S.faults (IsErrOf result ScriptFault.Read)
+    ensures call { IsCallOf S.tells (IsErrOf result ScriptFault.Read)
         feed.old.source feed.new.source }
 {
     let mut bytes = Vec::new(feed.alloc());
@@ -86,11 +86,11 @@ fn gather<S: Source + Drop>(
 
 // Uses an LF, if one stands there.
 fn take_lf<S: Source + Drop>(feed: &mut Feed<S>) -> Result<Behind, ScriptFault>
-    ensures found { IfOk result (TakesLf S.left feed.old feed.new) }
-    ensures needed { TakesBelow S.takes S.left 1 feed.old.pending
+    ensures found { IfOk result (TakesLf S.tells feed.old feed.new) }
+    ensures needed { TakesBelow S.tells 1 feed.old.pending
         (result ≢ Ok Behind.Lf) (IsErrOf result ScriptFault.Read)
         feed.old.source feed.new.source }
-    ensures call { IsCallOf S.borrow S.faults (IsErrOf result ScriptFault.Read)
+    ensures call { IsCallOf S.tells (IsErrOf result ScriptFault.Read)
         feed.old.source feed.new.source }
 {
     if feed.pending().is_empty() {
@@ -119,10 +119,10 @@ pub fn body_of<S: Source + Drop>(
     room: usize,
     size: usize,
 ) -> Result<Vec<u8>, Ended>
-    ensures found { Gathers S.left room size feed.old feed.new result }
-    ensures needed { TakesBelow S.takes S.left (min room size + 1) feed.old.pending
+    ensures found { Gathers S.tells room size feed.old feed.new result }
+    ensures needed { TakesBelow S.tells (min room size + 1) feed.old.pending
         (IsErr result) (IsReadFault result) feed.old.source feed.new.source }
-    ensures call { IsCallOf S.borrow S.faults (IsReadFault result) feed.old.source feed.new.source }
+    ensures call { IsCallOf S.tells (IsReadFault result) feed.old.source feed.new.source }
 {
     let Some(bytes) = gather(feed, count_of(room, size))? else {
         return Err(Ended::Bad);

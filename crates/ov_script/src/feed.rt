@@ -76,12 +76,13 @@ fn take_behind<S: Source>(source: &mut S, buffer: &mut Vec<u8>, end: usize) -> R
     ensures kept { (vec_len buffer.new ≡ vec_len buffer.old)
         × (take end buffer.new.items ≡ take end buffer.old.items) }
     ensures taken { MatchResult result
-        (λ n. Consumes (S.left source.old) (S.left source.new) (take n (drop end buffer.new.items))
-        × (n ≡ 0 → IsAtEnd (S.left source.new)) × (end + n ≤ vec_len buffer.old))
-        (λ _. Keeps (S.left source.old) (S.left source.new)) }
-    ensures step { S.takes source.old source.new }
-    ensures same { S.borrow source.new ≡ S.borrow source.old }
-    ensures cause { HasCause (S.faults source.old) (S.faults source.new) result }
+        (λ n. Consumes (S.tells.left source.old) (S.tells.left source.new)
+        (take n (drop end buffer.new.items))
+        × (n ≡ 0 → IsAtEnd (S.tells.left source.new)) × (end + n ≤ vec_len buffer.old))
+        (λ _. Keeps (S.tells.left source.old) (S.tells.left source.new)) }
+    ensures step { S.tells.takes source.old source.new }
+    ensures same { S.tells.borrow source.new ≡ S.tells.borrow source.old }
+    ensures cause { HasCause (S.tells.faults source.old) (S.tells.faults source.new) result }
 {
     let (_, room) = buffer.split_at_mut(end);
     source.take(room)
@@ -120,13 +121,14 @@ impl<S: Source + Drop> Feed<S> {
         ensures taken { MatchResult result
             (λ n. (more : List ℕ) × (self.new.pending ≡ self.old.pending ++ more)
             × (length more ≡ n)
-            × Consumes (S.left self.old.source) (S.left self.new.source) more
-            × (n ≡ 0 → IsAtEnd (S.left self.new.source)))
+            × Consumes (S.tells.left self.old.source) (S.tells.left self.new.source) more
+            × (n ≡ 0 → IsAtEnd (S.tells.left self.new.source)))
             (λ _. (self.new.pending ≡ self.old.pending)
-            × Keeps (S.left self.old.source) (S.left self.new.source)) }
-        ensures step { S.takes self.old.source self.new.source }
-        ensures same { S.borrow self.new.source ≡ S.borrow self.old.source }
-        ensures cause { HasCause (S.faults self.old.source) (S.faults self.new.source) result }
+            × Keeps (S.tells.left self.old.source) (S.tells.left self.new.source)) }
+        ensures step { S.tells.takes self.old.source self.new.source }
+        ensures same { S.tells.borrow self.new.source ≡ S.tells.borrow self.old.source }
+        ensures cause { HasCause (S.tells.faults self.old.source) (S.tells.faults self.new.source)
+            result }
     {
         self.end = move_to_front(&mut self.buffer, self.start, self.end);
         self.start = 0;

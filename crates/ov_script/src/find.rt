@@ -148,12 +148,12 @@ fn at_end(count: usize) -> Ended
 /// Takes bytes until it is known what stands at the front of the text, of which `room` bytes may be
 /// read.
 pub fn find<S: Source + Drop>(feed: &mut Feed<S>, room: usize) -> Result<Line, Ended>
-    ensures found { Finds room feed.new.pending (S.left feed.new.source) result }
-    ensures taken { (more : List ℕ) × Takes S.left feed.old feed.new more
-        × IfOk result (λ _. NeedsPieces S.takes S.left room feed.old feed.new more) }
-    ensures needed { TakesWhatItNeeds S.takes S.left room feed.old.pending
+    ensures found { Finds room feed.new.pending (S.tells.left feed.new.source) result }
+    ensures taken { (more : List ℕ) × Takes S.tells feed.old feed.new more
+        × IfOk result (λ _. NeedsPieces S.tells room feed.old feed.new more) }
+    ensures needed { TakesWhatItNeeds S.tells room feed.old.pending
         (IsErr result) (IsReadFault result) feed.old.source feed.new.source }
-    ensures call { IsCallOf S.borrow S.faults (IsReadFault result) feed.old.source feed.new.source }
+    ensures call { IsCallOf S.tells (IsReadFault result) feed.old.source feed.new.source }
 {
     let alloc = feed.alloc();
     let mut seen = 0;

@@ -49,10 +49,10 @@ fn create<S: Source + Drop>(
     size: usize,
 ) -> Result<Item, Ended>
     requires { line ≤ room }
-    ensures found { Creates S.left room names line size feed.old feed.new result }
-    ensures needed { TakesBelow S.takes S.left (min (room - line) size + 1) feed.old.pending
+    ensures found { Creates S.tells room names line size feed.old feed.new result }
+    ensures needed { TakesBelow S.tells (min (room - line) size + 1) feed.old.pending
         (IsErr result) (IsReadFault result) feed.old.source feed.new.source }
-    ensures call { IsCallOf S.borrow S.faults (IsReadFault result) feed.old.source feed.new.source }
+    ensures call { IsCallOf S.tells (IsReadFault result) feed.old.source feed.new.source }
 {
     let bytes = body_of(feed, room - line, size)?;
     let lines = lf_count(&bytes) + 2;
@@ -70,11 +70,11 @@ fn create<S: Source + Drop>(
 
 /// Uses the item that stands at the front of the text, of which `room` bytes may be read.
 pub fn item_of<S: Source + Drop>(feed: &mut Feed<S>, room: usize) -> Result<Item, Ended>
-    ensures found { Tells S.left room feed.old feed.new result }
+    ensures found { Tells S.tells room feed.old feed.new result }
     ensures size { IfOk result (λ item. (0 < item.size) × (item.lines ≤ item.size)) }
-    ensures needed { TakesWhatItNeeds S.takes S.left room feed.old.pending
+    ensures needed { TakesWhatItNeeds S.tells room feed.old.pending
         (IsErr result) (IsReadFault result) feed.old.source feed.new.source }
-    ensures call { IsCallOf S.borrow S.faults (IsReadFault result) feed.old.source feed.new.source }
+    ensures call { IsCallOf S.tells (IsReadFault result) feed.old.source feed.new.source }
 {
     let Line { said, size } = find(feed, room)?;
     feed.advance(size);

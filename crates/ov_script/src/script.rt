@@ -81,13 +81,13 @@ impl<S: Source + Drop> Script<S> {
     /// nothing read.
     pub fn next(&mut self) -> Result<Next, ScriptFault>
         ensures says { self.old.ended ≡ None
-            → IfOk result (λ next. SaysOf S.left self.old next self.new) }
+            → IfOk result (λ next. SaysOf S.tells self.old next self.new) }
         ensures item { IfOk result IsOfItem }
-        ensures needed { TakesWhatItNeeds S.takes S.left self.old.room self.old.pending
+        ensures needed { TakesWhatItNeeds S.tells self.old.room self.old.pending
             (EndsReading result) (IsFreshFault self.old result) self.old.source self.new.source }
         ensures ended { GoesOn self.old result self.new }
         ensures progress { IfOk result (λ next. IfCommand next (self.new.room < self.old.room)) }
-        ensures call { IsCallOf S.borrow S.faults (IsFreshFault self.old result)
+        ensures call { IsCallOf S.tells (IsFreshFault self.old result)
             self.old.source self.new.source }
     {
         if let Some(ended) = self.ended {
@@ -105,14 +105,13 @@ impl<S: Source + Drop> Script<S> {
     // The command of the next item, where the reading has not ended.
     fn item(&mut self) -> Result<Command, Ended>
         requires { self.old.ended ≡ None }
-        ensures says { Gives S.left self.old result self.new }
-        ensures needed { TakesWhatItNeeds S.takes S.left self.old.room self.old.pending
+        ensures says { Gives S.tells self.old result self.new }
+        ensures needed { TakesWhatItNeeds S.tells self.old.room self.old.pending
             (IsErr result) (IsReadFault result) self.old.source self.new.source }
         ensures moved { MatchResult result
             (λ _. self.new.room < self.old.room) (λ _. self.new.line ≡ self.old.line) }
         ensures ended { self.new.ended ≡ None }
-        ensures call { IsCallOf S.borrow S.faults (IsReadFault result)
-            self.old.source self.new.source }
+        ensures call { IsCallOf S.tells (IsReadFault result) self.old.source self.new.source }
     {
         let item = item_of(&mut self.feed, self.room)?;
         self.line += item.lines as u64;

@@ -6,8 +6,8 @@ use Rattle.ov_script.proofs.body.gather.Given as goal
 abbrev pub invariant-pieces : goal.invariant-pieces
 invariant-pieces g l = record {
   within : vec_len l.bytes ≤ l.fn.count;
-  used : UsesBelow g.S.Source.takes g.S.Source.left l.fn.count l.fn.feed l.feed l.bytes.items;
-  call : IsCallOf g.S.Source.borrow g.S.Source.faults ⊥ l.fn.feed.source l.feed.source;
+  used : UsesBelow g.S.Source.tells l.fn.count l.fn.feed l.feed l.bytes.items;
+  call : IsCallOf g.S.Source.tells ⊥ l.fn.feed.source l.feed.source;
 }
 
 abbrev pub decreases-pieces : goal.decreases-pieces

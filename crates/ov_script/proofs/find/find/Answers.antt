@@ -33,7 +33,7 @@ returns-in_err-line-clause-needed g c =
 pub returns-in-Whole-clause-found : goal.returns-in-Whole-clause-found
 returns-in-Whole-clause-found g c =
     let told = rw c.in-Whole.is at c.in_ok-line.ensures.settled in
-    rw (← c.pending-bytes.ensures) (told (g.S.Source.left c.pieces.feed.source))
+    rw (← c.pending-bytes.ensures) (told (g.S.Source.tells.left c.pieces.feed.source))
 
 pub returns-in-Whole-clause-needed : goal.returns-in-Whole-clause-needed
 returns-in-Whole-clause-needed g c = each_gave _ c.pieces.invariant.taken.2 (λ e. absurd (cc))
@@ -44,7 +44,7 @@ returns-in_err-fill-in-Open-clause-needed g c =
     let unsettled = rw c.pending-bytes.ensures at opened.1.unsettled in
     let inv = c.pieces.invariant in
     let p = err_from_is_err_and c.from_residual-in_err-fill-in-Open.result c.from_residual-in_err-fill-in-Open.ensures.1 in
-    needs_none g.S.Source.takes g.S.Source.left c.args.room _ _ c.args.feed.now c.pieces.feed c.fill.new.self _ inv.taken.1 inv.taken.2 unsettled c.in_err-fill-in-Open.ensures.step
+    needs_none g.S.Source.tells c.args.room _ _ c.args.feed.now c.pieces.feed c.fill.new.self _ inv.taken.1 inv.taken.2 unsettled c.in_err-fill-in-Open.ensures.step
     (Consumes-kept _ _ _ _ (Consumes-nil _) c.in_err-fill-in-Open.ensures.taken.1) (ap is_err p.1)
 
 pub returns-then-branch-eq0-clause-found : goal.returns-then-branch-eq0-clause-found
@@ -68,7 +68,7 @@ returns-then-branch-eq0-clause-needed g c =
     let more = c.in_ok-fill-in-Open.ensures.taken in
     let zero : c.in_ok-fill-in-Open.field-0 ≡ 0 = c.if-branch-eq0.true in
     let inv = c.pieces.invariant in
-    needs_none g.S.Source.takes g.S.Source.left c.args.room _ _ c.args.feed.now c.pieces.feed c.fill.new.self _ inv.taken.1 inv.taken.2 unsettled c.in_ok-fill-in-Open.ensures.step
+    needs_none g.S.Source.tells c.args.room _ _ c.args.feed.now c.pieces.feed c.fill.new.self _ inv.taken.1 inv.taken.2 unsettled c.in_ok-fill-in-Open.ensures.step
     (none_given _ _ more.0 more.3 (nil_from_length more.0 (more.2 ∙ zero))) refl
 
 pub pieces-preserved : goal.pieces-preserved
@@ -78,7 +78,7 @@ pieces-preserved g c =
     let unsettled = rw c.pending-bytes.ensures at opened.1.unsettled in
     let no_lf = rw c.pending-bytes.ensures at opened.1.no_lf in
     let more = c.in_ok-fill-in-Open.ensures.taken in
-    let takes : Takes g.S.Source.left c.pieces.feed c.fill.new.self more.0 = record { pending = more.1; source = more.3 } in
+    let takes : Takes g.S.Source.tells c.pieces.feed c.fill.new.self more.0 = record { pending = more.1; source = more.3 } in
     let behind = seen_behind _ _ _ more.1 no_lf in
     record {
       within = rw c.pending-bytes.ensures behind.0;
@@ -87,7 +87,7 @@ pieces-preserved g c =
       taken = (
         _,
         Takes-trans _ _ _ _ _ _ inv.taken.1 takes,
-        needs_more g.S.Source.takes g.S.Source.left c.args.room c.args.feed.now c.pieces.feed c.fill.new.self _ more.0 inv.taken.1 inv.taken.2 unsettled c.in_ok-fill-in-Open.ensures.step more.3
+        needs_more g.S.Source.tells c.args.room c.args.feed.now c.pieces.feed c.fill.new.self _ more.0 inv.taken.1 inv.taken.2 unsettled c.in_ok-fill-in-Open.ensures.step more.3
             (λ none. c.if-branch-eq0.false (sym more.2 ∙ ap length none)),
       );
       call = record {

@@ -13,9 +13,9 @@ invariant-pieces g l = record {
   within : l.seen ≤ length l.feed.pending;
   no_lf : NoLf (take l.seen l.feed.pending);
   front : l.front ≡ run Start (take l.seen l.feed.pending);
-  taken : (more : List ℕ) × Takes g.S.Source.left l.fn.feed l.feed more
-      × NeedsPieces g.S.Source.takes g.S.Source.left l.fn.room l.fn.feed l.feed more;
-  call : IsCallOf g.S.Source.borrow g.S.Source.faults ⊥ l.fn.feed.source l.feed.source;
+  taken : (more : List ℕ) × Takes g.S.Source.tells l.fn.feed l.feed more
+      × NeedsPieces g.S.Source.tells l.fn.room l.fn.feed l.feed more;
+  call : IsCallOf g.S.Source.tells ⊥ l.fn.feed.source l.feed.source;
 }
 
 abbrev pub decreases-pieces : goal.decreases-pieces

@@ -9,29 +9,29 @@ use Rattle.ov_script.proofs.item.item_of.Goals as goal
 pub returns-in_err-said-clause-found : goal.returns-in_err-said-clause-found
 returns-in_err-said-clause-found g c =
     let p = err_from_is_err_and c.from_residual.result c.from_residual.ensures.1 in
-    let kept = why_kept g.S.Source.left c.args.room c.args.feed.now c.find.new.feed _ _ c.find.ensures.taken.1 c.in_err-said.ensures.found in
+    let kept = why_kept g.S.Source.tells c.args.room c.args.feed.now c.find.new.feed _ _ c.find.ensures.taken.1 c.in_err-said.ensures.found in
     rw (p.1, p.2) kept
 
 pub returns-in_err-said-clause-needed : goal.returns-in_err-said-clause-needed
 returns-in_err-said-clause-needed g c =
     let p = err_from_is_err_and c.from_residual.result c.from_residual.ensures.1 in
-    while_as g.S.Source.takes g.S.Source.left _ _ _ _ _ _ _ (λ e. ap is_err p.1) (λ e. let is = p.1 in let that = p.2 in cc) c.in_err-said.ensures.needed
+    while_as g.S.Source.tells _ _ _ _ _ _ _ (λ e. ap is_err p.1) (λ e. let is = p.1 in let that = p.2 in cc) c.in_err-said.ensures.needed
 
 pub returns-in-Whole-clause-found : goal.returns-in-Whole-clause-found
-returns-in-Whole-clause-found g c = tells_line g.S.Source.left c.args.room c.args.feed.now c.find.new.feed c.advance.new.self _ c.in_ok-said.field-0 c.find.ensures.taken.1 c.in_ok-said.ensures.found c.advance.ensures (record { command = c.in-Whole.command; size = c.in_ok-said.field-0.size; lines = 1 }) c.in-Whole.is refl refl
+returns-in-Whole-clause-found g c = tells_line g.S.Source.tells c.args.room c.args.feed.now c.find.new.feed c.advance.new.self _ c.in_ok-said.field-0 c.find.ensures.taken.1 c.in_ok-said.ensures.found c.advance.ensures (record { command = c.in-Whole.command; size = c.in_ok-said.field-0.size; lines = 1 }) c.in-Whole.is refl refl
 
 pub returns-in-Whole-clause-needed : goal.returns-in-Whole-clause-needed
 returns-in-Whole-clause-needed g c =
     let pieces = c.in_ok-said.ensures.taken.2 in
     each_gave _
-    (pieces_same g.S.Source.takes g.S.Source.left _ _ _ _ _ (line_used g.S.Source.left c.args.room c.args.feed.now c.find.new.feed c.advance.new.self _ c.in_ok-said.field-0 c.find.ensures.taken.1 c.in_ok-said.ensures.found c.advance.ensures) pieces)
+    (pieces_same g.S.Source.tells _ _ _ _ _ (line_used g.S.Source.tells c.args.room c.args.feed.now c.find.new.feed c.advance.new.self _ c.in_ok-said.field-0 c.find.ensures.taken.1 c.in_ok-said.ensures.found c.advance.ensures) pieces)
     (λ e. absurd (cc))
 
 pub returns-in-WithBody-clause-found : goal.returns-in-WithBody-clause-found
-returns-in-WithBody-clause-found g c = tells_created g.S.Source.left c.args.room c.args.feed.now c.find.new.feed c.advance.new.self _ c.in_ok-said.field-0 c.find.ensures.taken.1 c.in_ok-said.ensures.found c.advance.ensures c.in-WithBody.file c.in-WithBody.list c.in-WithBody.body c.in-WithBody.is c.create.new.feed c.create.result c.create.ensures.found
+returns-in-WithBody-clause-found g c = tells_created g.S.Source.tells c.args.room c.args.feed.now c.find.new.feed c.advance.new.self _ c.in_ok-said.field-0 c.find.ensures.taken.1 c.in_ok-said.ensures.found c.advance.ensures c.in-WithBody.file c.in-WithBody.list c.in-WithBody.body c.in-WithBody.is c.create.new.feed c.create.result c.create.ensures.found
 
 pub returns-in-WithBody-clause-size : goal.returns-in-WithBody-clause-size
-returns-in-WithBody-clause-size g c = sized_created g.S.Source.left c.args.room c.args.feed.now c.find.new.feed c.advance.new.self _ c.in_ok-said.field-0 c.find.ensures.taken.1 c.in_ok-said.ensures.found c.advance.ensures c.in-WithBody.file c.in-WithBody.list c.in-WithBody.body c.in-WithBody.is c.create.new.feed c.create.result c.create.ensures.found
+returns-in-WithBody-clause-size g c = sized_created g.S.Source.tells c.args.room c.args.feed.now c.find.new.feed c.advance.new.self _ c.in_ok-said.field-0 c.find.ensures.taken.1 c.in_ok-said.ensures.found c.advance.ensures c.in-WithBody.file c.in-WithBody.list c.in-WithBody.body c.in-WithBody.is c.create.new.feed c.create.result c.create.ensures.found
 
 pub returns-in-WithBody-clause-needed : goal.returns-in-WithBody-clause-needed
-returns-in-WithBody-clause-needed g c = needed_created g.S.Source.left c.args.room c.args.feed.now c.find.new.feed c.advance.new.self _ c.in_ok-said.field-0 c.in_ok-said.ensures.taken.1 c.in_ok-said.ensures.found c.advance.ensures c.in-WithBody.file c.in-WithBody.list c.in-WithBody.body c.in-WithBody.is c.create.new.feed g.S.Source.takes _ _ c.in_ok-said.ensures.taken.2 c.create.ensures.needed
+returns-in-WithBody-clause-needed g c = needed_created g.S.Source.tells c.args.room c.args.feed.now c.find.new.feed c.advance.new.self _ c.in_ok-said.field-0 c.in_ok-said.ensures.taken.1 c.in_ok-said.ensures.found c.advance.ensures c.in-WithBody.file c.in-WithBody.list c.in-WithBody.body c.in-WithBody.is c.create.new.feed _ _ c.in_ok-said.ensures.taken.2 c.create.ensures.needed

@@ -11,10 +11,10 @@ returns-in-Some-clause-needed g c = each_gave _ (no_piece _ refl) (search rules)
 
 pub returns-in-Ok-clause-needed : goal.returns-in-Ok-clause-needed
 returns-in-Ok-clause-needed g c =
-    while_as g.S.Source.takes g.S.Source.left _ _ _ _ _ _ _ (λ e. absurd (cc)) (λ e. let clash = e.1 in absurd (cc)) c.in-Ok.ensures.needed
+    while_as g.S.Source.tells _ _ _ _ _ _ _ (λ e. absurd (cc)) (λ e. let clash = e.1 in absurd (cc)) c.in-Ok.ensures.needed
 
 pub returns-in-Err-clause-needed : goal.returns-in-Err-clause-needed
 returns-in-Err-clause-needed g c =
-    while_same g.S.Source.takes g.S.Source.left _ _ _ _ _ _ (ap (λ (q : Place _). q.source) c.self-2.view_is)
-    (while_as g.S.Source.takes g.S.Source.left _ _ _ _ _ _ _ (λ e. subst EndsReading (sym c.answer-in-Err.ensures) (ends_reading _ _))
+    while_same g.S.Source.tells _ _ _ _ _ _ (ap (λ (q : Place _). q.source) c.self-2.view_is)
+    (while_as g.S.Source.tells _ _ _ _ _ _ _ (λ e. subst EndsReading (sym c.answer-in-Err.ensures) (ends_reading _ _))
     (λ e. let same = fault_answered _ _ _ (sym c.answer-in-Err.ensures ∙ e.1) in cc) c.in-Err.ensures.needed)
