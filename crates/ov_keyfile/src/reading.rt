@@ -101,13 +101,14 @@ fn masters_of(file: &[u8]) -> Option<Masters>
 /// the source gave nothing.
 pub fn read_masters<K: Source>(source: &mut K) -> Result<Option<Masters>, Fault>
     ensures read { IfOk result (λ masters.
-        IfSome (K.left source.old) (λ file. IsReadAs file masters)) }
+        IfSome (K.tells.left source.old) (λ file. IsReadAs file masters)) }
     ensures taken { IfOk result (λ _. (bytes : List ℕ)
-        × Consumes (K.left source.old) (K.left source.new) bytes × (length bytes ≤ 131)) }
-    ensures needed { TakesWhile K.takes K.left (λ seen. length seen < 131)
+        × Consumes (K.tells.left source.old) (K.tells.left source.new) bytes
+        × (length bytes ≤ 131)) }
+    ensures needed { TakesWhile K.tells (λ seen. length seen < 131)
         ⊤ (IsErr result) source.old source.new }
-    ensures same { K.borrow source.new ≡ K.borrow source.old }
-    ensures cause { HasCause (K.faults source.old) (K.faults source.new) result }
+    ensures same { K.tells.borrow source.new ≡ K.tells.borrow source.old }
+    ensures cause { HasCause (K.tells.faults source.old) (K.tells.faults source.new) result }
 {
     let mut buffer = [0; ENOUGH];
     let count = fill(source, &mut buffer)?;

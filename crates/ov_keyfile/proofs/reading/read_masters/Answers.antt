@@ -13,4 +13,4 @@ returns-clause-taken g c =
 
 pub returns-in_err-count-clause-needed : goal.returns-in_err-count-clause-needed
 returns-in_err-count-clause-needed g c =
-    while_as g.K.Source.takes g.K.Source.left _ _ _ _ _ _ _ (λ e. e) (λ e. refl) c.in_err-count.ensures.needed
+    while_as g.K.Source.tells _ _ _ _ _ _ _ (λ e. e) (λ e. refl) c.in_err-count.ensures.needed
