@@ -4,6 +4,7 @@ use Rattle.std.specs.Prelude.{⊤}
 use Rattle.std.proofs.lemmas.List.{length-take-le}
 use Rattle.std.specs.Io.KnownBytes.{Consumes, IsAtEnd}
 use Rattle.ov_io.specs.Calls.{TakesWhile, each_gave, no_piece}
+use Rattle.ov_io.specs.Tells.{SourceTells}
 use Rattle.ov_io.proofs.Pieces.{while_as}
 use Rattle.ov_settings.specs.Settings.{FindsOr, IsReadAs, IsSettingsFile, TakesEnough, fault_code}
 use Rattle.ov_settings.specs.declared.settings.Settings.{Settings}
@@ -34,16 +35,16 @@ code_of_read Book e = absurd (omega arith)
 code_of_read Blobs e = absurd (omega arith)
 code_of_read Sessions e = absurd (omega arith)
 
-module _ {S : Type 0} (takes : S → S → Type 0) (left : S → Option (List ℕ)) where
+module _ {S : Type 0} (tells : SourceTells S) where
   -- the size of the buffer is known, and the failure may be said otherwise
   pub enough_as : (size : ℕ) (F G : Type 0) (old new : S) → size ≡ ENOUGH → (G → F)
-      → TakesWhile takes left (λ seen. length seen < size) ⊤ F old new → TakesEnough takes left G old new
+      → TakesWhile tells (λ seen. length seen < size) ⊤ F old new → TakesEnough tells G old new
   enough_as size F G old new e f t =
-      while_as takes left (λ seen. length seen < ENOUGH) ⊤ ⊤ F G old new (λ e. e) f
-      (subst (λ (n : ℕ). TakesWhile takes left (λ seen. length seen < n) ⊤ F old new) e t)
+      while_as tells (λ seen. length seen < ENOUGH) ⊤ ⊤ F G old new (λ e. e) f
+      (subst (λ (n : ℕ). TakesWhile tells (λ seen. length seen < n) ⊤ F old new) e t)
 
   -- nothing was taken
-  pub nothing_taken : (G : Type 0) (old : S) → (G → ⊥) → TakesEnough takes left G old old
+  pub nothing_taken : (G : Type 0) (old : S) → (G → ⊥) → TakesEnough tells G old old
   nothing_taken G old never = each_gave [] (no_piece old refl) never
 
 -- ---- what is read

@@ -18,6 +18,7 @@ use Rattle.ov_settings.specs.declared.fault.SettingsFault.TheVariants.{Sessions}
 use Rattle.ov_settings.specs.declared.settings.TheConstants.{MAX_SESSIONS}
 use Rattle.ov_settings.specs.declared.reading.TheConstants.{ENOUGH, LONGEST}
 use Rattle.ov_io.specs.Calls.{TakesWhile}
+use Rattle.ov_io.specs.Tells.{SourceTells}
 
 -- ---- the keys of a document
 
@@ -116,10 +117,9 @@ IsReadAs code_of left (Err fault) = code_of fault ≡ 2 → IfSome left IsNoSett
 
 -- A call takes from a source until the longest settings file was exceeded or nothing was given, and
 -- may have failed then.
-abbrev pub TakesEnough : {S : Type 0} → (S → S → Type 0) → (S → Option (List ℕ)) → Type 0 → S → S
-    → Type 0
-TakesEnough takes left failed old new =
-    TakesWhile takes left (λ seen. length seen < ENOUGH) ⊤ failed old new
+abbrev pub TakesEnough : {S : Type 0} → SourceTells S → Type 0 → S → S → Type 0
+TakesEnough tells failed old new =
+    TakesWhile tells (λ seen. length seen < ENOUGH) ⊤ failed old new
 
 -- one of the statuses with which there are no settings
 abbrev pub IsSettingsStatus : ℕ → Type 0

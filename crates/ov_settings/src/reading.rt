@@ -60,11 +60,9 @@ fn read_into<K: Source>(
     buffer: &mut [u8],
 ) -> Result<Settings, SettingsFault>
     requires { length buffer.old ≡ ENOUGH }
-    ensures read { IsReadAs fault_code (K.left source.old) result }
-    ensures needed { TakesEnough K.takes K.left (result ≡ Err SettingsFault.Read)
-        source.old source.new }
-    ensures call { IsCallOf K.borrow K.faults (result ≡ Err SettingsFault.Read)
-        source.old source.new }
+    ensures read { IsReadAs fault_code (K.tells.left source.old) result }
+    ensures needed { TakesEnough K.tells (result ≡ Err SettingsFault.Read) source.old source.new }
+    ensures call { IsCallOf K.tells (result ≡ Err SettingsFault.Read) source.old source.new }
 {
     let count = fill(source, buffer)?;
     let (bytes, _) = buffer.split_at(count);
@@ -73,11 +71,9 @@ fn read_into<K: Source>(
 
 // The settings of the file that the source has left.
 fn read_all<K: Source>(alloc: Global, source: &mut K) -> Result<Settings, SettingsFault>
-    ensures read { IsReadAs fault_code (K.left source.old) result }
-    ensures needed { TakesEnough K.takes K.left (result ≡ Err SettingsFault.Read)
-        source.old source.new }
-    ensures call { IsCallOf K.borrow K.faults (result ≡ Err SettingsFault.Read)
-        source.old source.new }
+    ensures read { IsReadAs fault_code (K.tells.left source.old) result }
+    ensures needed { TakesEnough K.tells (result ≡ Err SettingsFault.Read) source.old source.new }
+    ensures call { IsCallOf K.tells (result ≡ Err SettingsFault.Read) source.old source.new }
 {
     match buffer(alloc) {
         Ok(mut buffer) => read_into(alloc, source, &mut buffer),
@@ -94,10 +90,10 @@ pub fn read_settings<K: Source>(
     source: &mut K,
 ) -> Result<Settings, u8>
     ensures words { (IsOneWord words.now → ⊥) → (result ≡ Err 2) × (source.new ≡ source.old) }
-    ensures read { IsOneWord words.now → IsReadAs (λ code. code) (K.left source.old) result }
+    ensures read { IsOneWord words.now → IsReadAs (λ code. code) (K.tells.left source.old) result }
     ensures status { IfErr result IsSettingsStatus }
-    ensures needed { TakesEnough K.takes K.left (result ≡ Err 5) source.old source.new }
-    ensures call { IsCallOf K.borrow K.faults (result ≡ Err 5) source.old source.new }
+    ensures needed { TakesEnough K.tells (result ≡ Err 5) source.old source.new }
+    ensures call { IsCallOf K.tells (result ≡ Err 5) source.old source.new }
 {
     match words {
         [_] => match read_all(alloc, source) {

@@ -4,7 +4,7 @@ use Rattle.ov_settings.proofs.reading.read_into.Goals as goal
 
 pub returns-in_err-count-clause-needed : goal.returns-in_err-count-clause-needed
 returns-in_err-count-clause-needed g c =
-    enough_as g.K.Source.takes g.K.Source.left _ _ _ _ _ c.requires (λ e. refl) c.in_err-count.ensures.needed
+    enough_as g.K.Source.tells _ _ _ _ _ c.requires (λ e. refl) c.in_err-count.ensures.needed
 
 pub returns-clause-read : goal.returns-clause-read
 returns-clause-read g c =
@@ -12,4 +12,4 @@ returns-clause-read g c =
 
 pub returns-clause-needed : goal.returns-clause-needed
 returns-clause-needed g c =
-    enough_as g.K.Source.takes g.K.Source.left _ _ _ _ _ c.requires (λ e. absurd (finds_no_read _ _ c.settings_in.ensures e)) c.in_ok-count.ensures.needed
+    enough_as g.K.Source.tells _ _ _ _ _ c.requires (λ e. absurd (finds_no_read _ _ c.settings_in.ensures e)) c.in_ok-count.ensures.needed
