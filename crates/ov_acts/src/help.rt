@@ -109,7 +109,7 @@ pub fn about_word(word: &str) -> &'static str {
         "KEYS" => "the file of both masters: two lines of 64 hexadecimal digits",
         "USERKEY" => "the file of a user's key line, as `overctl key` prints it",
         "LIST" => "users with commas between them, or - for nobody",
-        "PATH" => "the file whose bytes are stored",
+        "PATH" => "the file whose bytes are stored, or - for standard input",
         "USER" => "the user's name",
         _ => "the file's name in the store",
     }
