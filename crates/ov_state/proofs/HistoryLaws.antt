@@ -14,7 +14,7 @@ use Rattle.ov_history.specs.Sound.{IsSound}
 use Rattle.ov_history.proofs.SoundHistories.{shown_is_sound}
 use Rattle.ov_state.specs.Changes.{applied}
 use Rattle.ov_state.specs.Plans.{Prepares}
-use Rattle.ov_state.specs.Standing.{GoesOn, ClosuresAreMatrix, IsAnsweredAsItsHistory}
+use Rattle.ov_state.specs.Standing.{GoesOn, ClosuresAreMatrix, ClosuresFollow, IsAnsweredAsItsHistory}
 use Rattle.ov_state.specs.declared.change.Change.{Change}
 use Rattle.ov_state.specs.declared.fault.PrepareFault.{PrepareFault}
 use Rattle.ov_state.specs.declared.fault.PrepareFault.TheVariants.{Refused, BadPlan, Memory}
@@ -24,13 +24,17 @@ goes_on {W} limit old c new is master g u stands change =
     subst (λ (s : Catalogue). StandsFor master s (with_sealed g u)) (sym (is ∙ change.made))
     (histories_go_on master old g u stands change.taken.0 change.taken.1)
 
-pub closures_are_matrix : (s : Catalogue) → ClosuresAreMatrix s
+pub closures_are_matrix : ClosuresAreMatrix
 closures_are_matrix s master g user file f (sealed, is) there at_file =
     let sound : IsSound s = subst IsSound (sym is) (shown_is_sound master g sealed) in
     let held = held_where_listed s user file f sound there at_file in
     let listed = listed-shown master g user file f sealed (ap (λ (t : Catalogue). slice_get t.files file) (sym is) ∙ at_file)
     ∙ ap (λ (t : Catalogue). has (list_at (outline t) (place_of_file f)) user) (sym is) in
     (λ h. listed ∙ held.0 h, λ h. held.1 (sym listed ∙ h))
+
+pub closures_follow : {W : ℕ} (limit : ℕ) (old : Catalogue) (c : Change W) (new : Catalogue) → new ≡ applied old c → ClosuresFollow limit old c new
+closures_follow {W} limit old c new is master g u user file f stands change =
+    closures_are_matrix new master (with_sealed g u) user file f (goes_on limit old c new is master g u stands change)
 
 -- what is answered is what each history says for which the catalogue stands
 pub answered_by : {W : ℕ} (limit : ℕ) (by_master : List ℕ) (s : Catalogue) (b : Brief) (r : Result (Change W) PrepareFault)

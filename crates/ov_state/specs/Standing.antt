@@ -23,13 +23,24 @@ GoesOn limit old change new =
     → StandsFor master old g → IsChange limit master old (brief u) change
     → StandsFor master new (with_sealed g u)
 
--- whatever history the catalogue stands for, a user's closure has all labels that protect a file
--- exactly where the matrix lists the user
-abbrev pub ClosuresAreMatrix : Catalogue → Type 0
-ClosuresAreMatrix c =
-    (master : List ℕ) (g : SealedHistory) (user file : ℕ) (f : Filed)
+-- Whatever history a catalogue stands for, a user's closure has all labels that protect a file
+-- exactly where the matrix lists the user. It is a law of all catalogues.
+abbrev pub ClosuresAreMatrix : Type 0
+ClosuresAreMatrix =
+    (c : Catalogue) (master : List ℕ) (g : SealedHistory) (user file : ℕ) (f : Filed)
     → StandsFor master c g → user < length c.users → slice_get c.files file ≡ Some f
     → HoldsFile c user f ↔ (is_listed (matrix_of (outer_of g)) user file ≡ true)
+
+-- for every sealed history for which the old catalogue stood and every update whose change this is,
+-- a user's closure over the new one has all labels that protect a file exactly where the matrix of
+-- the history with that update lists the user
+abbrev pub ClosuresFollow : {W : ℕ} → ℕ → Catalogue → Change W → Catalogue → Type 0
+ClosuresFollow limit old change new =
+    (master : List ℕ) (g : SealedHistory) (u : SealedUpdate) (user file : ℕ) (f : Filed)
+    → StandsFor master old g → IsChange limit master old (brief u) change
+    → user < length new.users → slice_get new.files file ≡ Some f
+    → HoldsFile new user f
+    ↔ (is_listed (matrix_of (outer_of (with_sealed g u))) user file ≡ true)
 
 -- What is answered to an update is what this history says of it: it refuses the update so, or it
 -- doesn't and the update has the parts that the layers of the history want, or hasn't.

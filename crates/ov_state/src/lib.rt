@@ -37,8 +37,10 @@
 //!   history says of the update. An update that has a change is within the limits of its spelling.
 //! * `commit` asks that the change suits the catalogue (`Suits`) and that there is room for it
 //!   (`HasRoomFor`); both hold behind a `prepare` that gave it. Afterwards the epoch is one more,
-//!   the catalogue stands for the history with the update, and whatever history it stands for,
-//!   each user's closure over the published tokens is the matrix.
+//!   the catalogue stands for the history with the update, and each user's closure over the
+//!   published tokens is the matrix of that history.
+//! * [`closures_are_the_matrix`] does nothing; its contract is what holds of every catalogue that
+//!   stands for a history.
 //! * [`State::known`] does nothing; its contract is what holds of every state (`IsWell`): its
 //!   catalogue is sound, each file has its wanted surface, and no limit is passed.
 //! * The queries give the epoch, the mode, sizes, numbers and names, files, and the list of a file,
@@ -78,6 +80,7 @@ mod brief;
 mod chained;
 mod chains;
 mod change;
+mod closures;
 mod commit;
 mod covering;
 mod fault;
@@ -102,6 +105,7 @@ pub use brief::Brief;
 pub use chained::Chained;
 pub use chains::access_key_by;
 pub use change::{Change, Rewrite};
+pub use closures::closures_are_the_matrix;
 pub use covering::Planned;
 pub use fault::{ChainFault, PrepareFault};
 pub use files::FileEntry;

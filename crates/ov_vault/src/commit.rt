@@ -1,7 +1,7 @@
 //! Updates that are made in both halves.
 ghost use Rattle.std.specs.Prelude.{◌≡◌, ◌*◌};
 ghost use Rattle.ov_state.specs.Changes.{applied};
-ghost use Rattle.ov_state.specs.Standing.{ClosuresAreMatrix};
+ghost use Rattle.ov_state.specs.Standing.{ClosuresFollow};
 ghost use Rattle.ov_vault.specs.Prepared.{stored_with, MayBeMade};
 ghost use Rattle.ov_vault.specs.Standing.{GoesOn};
 
@@ -19,7 +19,8 @@ impl<B: Graph<Base, W>, S: Graph<Surface, W>, const W: usize> Vault<B, S, W> {
         ensures catalogue { self.new.catalogue ≡ applied self.old.catalogue prepared.entry.change }
         ensures stored { self.new.stored ≡ stored_with self.old.stored prepared.entry }
         ensures stands { GoesOn (64 * W) self.old prepared.entry self.new }
-        ensures closure { ClosuresAreMatrix self.new.catalogue }
+        ensures closure { let made = prepared.entry.change in
+            ClosuresFollow (64 * W) self.old.catalogue made self.new.catalogue }
     {
         let Prepared {
             change,

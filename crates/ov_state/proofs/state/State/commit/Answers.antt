@@ -4,7 +4,7 @@ use Rattle.ov_history.specs.Catalogue.{Filed, Catalogue}
 use Rattle.ov_state.specs.Contents.{Held, nodes_of, catalogue_by}
 use Rattle.ov_state.specs.Changes.{applied, Fits, GrowsWithin, IsNewNodeIf, AreOfFiles, edges_in, files_grown, node_added_if, listed_if}
 use Rattle.ov_state.proofs.Committing.{grown_few, made_is_applied, made_is_whole}
-use Rattle.ov_state.proofs.HistoryLaws.{goes_on, closures_are_matrix}
+use Rattle.ov_state.proofs.HistoryLaws.{goes_on, closures_follow}
 use Rattle.ov_state.proofs.state.State.commit.Given.{Over}
 use Rattle.ov_state.proofs.state.State.commit.Goals.{Joined-self}
 use Rattle.ov_state.proofs.state.State.commit.Goals as goal
@@ -61,5 +61,5 @@ returns g c =
       applied = is;
       epoch = ap (λ (s : Catalogue). s.epoch) is;
       stands = goes_on (64 * g.row.W) c.args.self.now.catalogue c.args.change _ is;
-      closure = closures_are_matrix _;
+      closure = closures_follow (64 * g.row.W) c.args.self.now.catalogue c.args.change _ is;
     }
