@@ -1,5 +1,6 @@
 use Rattle.std.proofs.Common.{ℕ, ◌*◌, ◌-◌, ◌∙◌, subst, sym, ap, vec_capacity, vec_len}
 use Rattle.ov_history.specs.Rewrites.{with_text}
+use Rattle.ov_state.specs.Standing.{ClosuresFollow}
 use Rattle.ov_vault.specs.Rewritten.{HasRoomForNew}
 use Rattle.ov_vault.specs.Vaults.{Store}
 use Rattle.ov_vault.specs.Standing.{GoesOn}
@@ -23,3 +24,8 @@ returns-clause-stands g c =
     subst (λ (s : Store). GoesOn {W = g.row.W} (64 * g.row.W) s c.args.prepared new) c.self.view_is
     (goes_on {W = g.row.W} (64 * g.row.W) _ new c.args.prepared c.commit.ensures.stands
     (c.put_new.ensures ∙ ap (λ b. with_text b c.args.prepared.new) c.put_all.ensures.put))
+
+pub returns-clause-closure : goal.returns-clause-closure
+returns-clause-closure g c =
+    subst (λ (s : Store). ClosuresFollow {W = g.row.W} (64 * g.row.W) s.catalogue
+    c.args.prepared.change c.commit.new.self.catalogue) c.self.view_is c.commit.ensures.closure
