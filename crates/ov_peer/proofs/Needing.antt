@@ -1,6 +1,5 @@
 -- Which requests need the disk.
-use Rattle.std.proofs.Common.{◌≡◌, ◌∙◌, ℕ, List, Result, Ok, inl, inr, subst, sym}
-use Rattle.ov_record.specs.Updates.{SealedUpdate}
+use Rattle.std.proofs.Common.{◌≡◌, ℕ, Result, Ok, inl, inr, subst}
 use Rattle.ov_wire.specs.declared.request.Request.{Request}
 use Rattle.ov_wire.specs.declared.request.Request.TheVariants as requests
 use Rattle.ov_wire.specs.Requests.{HasRequestForm, request_bytes}
