@@ -8,11 +8,12 @@ use Rattle.std.proofs.Math.Seq.{take-suc}
 use Rattle.std.proofs.lemmas.List.{map-append, take-append-drop}
 use Rattle.ov_wire.specs.Frames.{IsCut, IsFrame, framed}
 use Rattle.ov_session.specs.Ends.{Answered}
-use Rattle.ov_session.specs.Exchanges.{Asks, Exchange, Leads, answer_for, answers, requests}
+use Rattle.ov_session.specs.Exchanges.{Exchange, Leads, answer_for, answers, requests}
 use Rattle.ov_session.specs.Links.{Link}
 use Rattle.ov_session.specs.declared.one.Stop.{Stop}
 use Rattle.ov_session.specs.declared.one.Stop.TheVariants as stops
 use Rattle.ov_session.specs.Steps.{AnswersFrame, AnswersFrames, AnswersIt, AnswersThem, BreaksOff, StopsSpent, StopsWriting}
+use Rattle.ov_session.specs.Tells.{AskerTells}
 
 -- ---- frames in a row
 
@@ -58,21 +59,21 @@ front_at frames i frame item lt same is =
 
 -- ---- exchanges in a row
 
-module _ {A : Type 0} (asks : Asks A) where
-  pub leads_both : (a b c : A) (es fs : List Exchange) → Leads asks a es b → Leads asks b fs c
-      → Leads asks a (es ++ fs) c
-  leads_both a b c [] fs same more = subst (λ (x : A). Leads asks x fs c) (sym same) more
+module _ {A : Type 0} (tells : AskerTells A) where
+  pub leads_both : (a b c : A) (es fs : List Exchange) → Leads tells a es b → Leads tells b fs c
+      → Leads tells a (es ++ fs) c
+  leads_both a b c [] fs same more = subst (λ (x : A). Leads tells x fs c) (sym same) more
   leads_both a b c (e ∷ es) fs (m, first, leads) more =
       (m, first, leads_both m b c es fs leads more)
 
   pub leads_on : (a b c : A) (es : List Exchange) (request : List ℕ) (reply : Option (List ℕ))
-      → Leads asks a es b → asks b request reply c
-      → Leads asks a (es ++ record { request = request; reply = reply } ∷ []) c
+      → Leads tells a es b → tells.asks b request reply c
+      → Leads tells a (es ++ record { request = request; reply = reply } ∷ []) c
   leads_on a b c es request reply leads one =
       leads_both a b c es (record { request = request; reply = reply } ∷ []) leads (c, one, refl)
 
   -- nothing was asked yet
-  pub none_answered : (a : A) (l : Link) → AnswersThem asks a a l l []
+  pub none_answered : (a : A) (l : Link) → AnswersThem tells a a l l []
   none_answered a l = record {
     exchanges = [];
     same = refl;
@@ -95,18 +96,18 @@ answered_both old mid new es fs one two = record {
       two.written;
 }
 
-module _ {A : Type 0} (asks : Asks A) (a b c : A) (old mid new : Link) (before : List (List ℕ))
-    (them : AnswersThem asks a b old mid before) (frame : List ℕ) where
+module _ {A : Type 0} (tells : AskerTells A) (a b c : A) (old mid new : Link) (before : List (List ℕ))
+    (them : AnswersThem tells a b old mid before) (frame : List ℕ) where
   -- one more was answered
-  pub one_more : AnswersIt asks b c mid new frame
-      → AnswersThem asks a c old new (before ++ frame ∷ [])
+  pub one_more : AnswersIt tells b c mid new frame
+      → AnswersThem tells a c old new (before ++ frame ∷ [])
   one_more it =
       let e : Exchange = record { request = frame; reply = it.reply } in
       record {
         exchanges = them.exchanges ++ e ∷ [];
         same = ap (λ (l : List (List ℕ)). l ++ frame ∷ []) them.same
             ∙ sym (map-append (λ (x : Exchange). x.request) them.exchanges (e ∷ []));
-        asked = leads_on asks a b c them.exchanges frame it.reply them.asked it.asked;
+        asked = leads_on tells a b c them.exchanges frame it.reply them.asked it.asked;
         answered = answered_both old mid new them.exchanges (e ∷ []) them.answered (record {
           bytes = framed (answer_for it.reply);
           cut = cut_one (answer_for it.reply) it.fits;
@@ -116,8 +117,8 @@ module _ {A : Type 0} (asks : Asks A) (a b c : A) (old mid new : Link) (before :
 
   -- the answer to one more wasn't written whole
   pub broken_off : (frames unasked : List (List ℕ)) → frames ≡ before ++ (frame ∷ unasked)
-      → old.write_faults ≤ mid.write_faults → BreaksOff asks b c mid new frame
-      → StopsWriting asks a c old new frames
+      → old.write_faults ≤ mid.write_faults → BreaksOff tells b c mid new frame
+      → StopsWriting tells a c old new frames
   broken_off frames unasked parts le off =
       let e : Exchange = record { request = frame; reply = off.reply } in
       record {
@@ -128,7 +129,7 @@ module _ {A : Type 0} (asks : Asks A) (a b c : A) (old mid new : Link) (before :
             ∙ sym (append_assoc (requests them.exchanges) (frame ∷ []) unasked)
             ∙ ap (λ (l : List (List ℕ)). l ++ unasked)
             (sym (map-append (λ (x : Exchange). x.request) them.exchanges (e ∷ [])));
-        asked = leads_on asks a b c them.exchanges frame off.reply them.asked off.asked;
+        asked = leads_on tells a b c them.exchanges frame off.reply them.asked off.asked;
         bytes = them.answered.bytes;
         cut = them.answered.cut;
         front = off.front;
@@ -138,24 +139,24 @@ module _ {A : Type 0} (asks : Asks A) (a b c : A) (old mid new : Link) (before :
       }
 
   -- the asker was spent before one more
-  pub spent_before : (spent : A → Type 0) (frames unasked : List (List ℕ))
-      → frames ≡ before ++ (frame ∷ unasked) → c ≡ b → spent b → new ≡ mid
-      → StopsSpent asks spent a c old new frames
-  spent_before spent frames unasked parts same is still = record {
+  pub spent_before : (frames unasked : List (List ℕ))
+      → frames ≡ before ++ (frame ∷ unasked) → c ≡ b → tells.spent b → new ≡ mid
+      → StopsSpent tells a c old new frames
+  spent_before frames unasked parts same is still = record {
     exchanges = them.exchanges;
     request = frame;
     unasked = unasked;
     same = parts ∙ ap (λ (l : List (List ℕ)). l ++ (frame ∷ unasked)) them.same;
-    asked = subst (λ (x : A). Leads asks a them.exchanges x) (sym same) them.asked;
+    asked = subst (λ (x : A). Leads tells a them.exchanges x) (sym same) them.asked;
     answered = subst (λ (l : Link). Answered old l them.exchanges) (sym still) them.answered;
-    no_more = subst spent (sym same) is;
+    no_more = subst tells.spent (sym same) is;
   }
 
   -- one more stopped it
-  pub stopped : (spent : A → Type 0) (frames unasked : List (List ℕ))
+  pub stopped : (frames unasked : List (List ℕ))
       → frames ≡ before ++ (frame ∷ unasked) → old.write_faults ≤ mid.write_faults → (stop : Stop)
-      → AnswersFrame asks spent b c mid new frame (Err stop)
-      → AnswersFrames asks spent a c old new frames (Err stop)
-  stopped spent frames unasked parts le stops.Link off = broken_off frames unasked parts le off
-  stopped spent frames unasked parts le stops.Spent (same, is, still) =
-      spent_before spent frames unasked parts same is still
+      → AnswersFrame tells b c mid new frame (Err stop)
+      → AnswersFrames tells a c old new frames (Err stop)
+  stopped frames unasked parts le stops.Link off = broken_off frames unasked parts le off
+  stopped frames unasked parts le stops.Spent (same, is, still) =
+      spent_before frames unasked parts same is still

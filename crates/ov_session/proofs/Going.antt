@@ -15,10 +15,11 @@ use Rattle.ov_session.specs.declared.end.SessionEnd.TheVariants as ends
 use Rattle.ov_session.specs.declared.one.Stop.{Stop}
 use Rattle.ov_session.specs.declared.one.Stop.TheVariants as stops
 use Rattle.ov_session.specs.Ends.{Answered, AnswersAll, EndsSpent, EndsWanting, EndsWriting, Serves}
-use Rattle.ov_session.specs.Exchanges.{Asks, Exchange, Leads, answer_for, answers, requests}
+use Rattle.ov_session.specs.Exchanges.{Exchange, Leads, answer_for, answers, requests}
 use Rattle.ov_session.specs.Links.{IsLater, Link}
 use Rattle.ov_session.specs.Reading.{Reads}
 use Rattle.ov_session.specs.Steps.{AnswersFrames, AnswersThem, Going, GoesOn, IsEndOf, IsWriting, StopsSpent, StopsWriting, end_of, fresh, go_on}
+use Rattle.ov_session.specs.Tells.{AskerTells}
 use Rattle.ov_session.proofs.Answering.{answered_both, cut_both, leads_both}
 
 -- ---- what a decoder does with a piece
@@ -61,14 +62,14 @@ cut_behind bytes more frames rest cut = record {
 
 -- ---- a session that has answered all that it read
 
-module _ {A : Type 0} (asks : Asks A) (spent : A → Type 0) (a b : A) (old mid : Link)
-    (d : Decoding) (count : ℕ) (so_far : Going asks a b old mid d count) where
+module _ {A : Type 0} (tells : AskerTells A) (a b : A) (old mid : Link)
+    (d : Decoding) (count : ℕ) (so_far : Going tells a b old mid d count) where
   cut_so_far : IsCut so_far.taken (requests so_far.exchanges) d.rest
   cut_so_far =
       subst (λ (l : List (List ℕ)). IsCut so_far.taken l d.rest) (sym so_far.fed.appended) so_far.fed.cut
 
   -- nothing more was taken
-  all_at : (new : Link) → Reads mid new [] → AnswersAll asks a b old new so_far.taken d.rest
+  all_at : (new : Link) → Reads mid new [] → AnswersAll tells a b old new so_far.taken d.rest
   all_at new reads = record {
     exchanges = so_far.exchanges;
     asked = record {
@@ -88,10 +89,10 @@ module _ {A : Type 0} (asks : Asks A) (spent : A → Type 0) (a b : A) (old mid 
 
   -- the input ended
   pub ends_at_end : (new : Link) → Reads mid new [] → IsAtEnd new.left → (ending : SessionEnd)
-      → IsEndOf d.rest count ending → Serves asks spent a b old new ending
+      → IsEndOf d.rest count ending → Serves tells a b old new ending
   ends_at_end new reads at_end ends.End none = record {
     taken = so_far.taken;
-    all = subst (AnswersAll asks a b old new so_far.taken) none (all_at new reads);
+    all = subst (AnswersAll tells a b old new so_far.taken) none (all_at new reads);
     at_end = at_end;
   }
   ends_at_end new reads at_end (ends.Bad place) (some, stands) = inr (record {
@@ -109,7 +110,7 @@ module _ {A : Type 0} (asks : Asks A) (spent : A → Type 0) (a b : A) (old mid 
 
   -- it couldn't be read
   pub ends_reading : (new : Link) → Reads mid new [] → Rose mid.read_faults new.read_faults
-      → Serves asks spent a b old new ends.LinkFault
+      → Serves tells a b old new ends.LinkFault
   ends_reading new reads rose = inl (record {
     taken = so_far.taken;
     rest = d.rest;
@@ -176,7 +177,7 @@ module _ {A : Type 0} (asks : Asks A) (spent : A → Type 0) (a b : A) (old mid 
     )
 
     -- all of them were answered
-    module _ (them : AnswersThem asks b c took new frames) where
+    module _ (them : AnswersThem tells b c took new frames) where
       abbrev exchanges : List Exchange
       exchanges = so_far.exchanges ++ them.exchanges
 
@@ -185,15 +186,15 @@ module _ {A : Type 0} (asks : Asks A) (spent : A → Type 0) (a b : A) (old mid 
           ap (λ (l : List (List ℕ)). requests so_far.exchanges ++ l) them.same
           ∙ sym (requests_both so_far.exchanges them.exchanges)
 
-      asked_all : Leads asks a exchanges c
-      asked_all = leads_both asks a b c so_far.exchanges them.exchanges so_far.asked them.asked
+      asked_all : Leads tells a exchanges c
+      asked_all = leads_both tells a b c so_far.exchanges them.exchanges so_far.asked them.asked
 
       answered_all : Answered old new exchanges
       answered_all =
           answered_both old took new so_far.exchanges them.exchanges answered_before them.answered
 
       abbrev all_with : (rest : List ℕ) → IsCut bytes (requests so_far.exchanges ++ frames) rest
-          → AnswersAll asks a c old new bytes rest
+          → AnswersAll tells a c old new bytes rest
       all_with rest cut = record {
         exchanges = exchanges;
         asked = record {
@@ -207,7 +208,7 @@ module _ {A : Type 0} (asks : Asks A) (spent : A → Type 0) (a b : A) (old mid 
 
       pub goes_on : (count' : ℕ) → count' ≡ min (count + length piece) 18446744073709551615
           → (fed : Result (Unit {0}) FeedFault) → Feeds d d' piece [] frames fed
-          → GoesOn asks spent a c old new d' count' (go_on fed)
+          → GoesOn tells a c old new d' count' (go_on fed)
       goes_on count' counts (Ok done) t = record {
         exchanges = exchanges;
         taken = bytes;
@@ -237,7 +238,7 @@ module _ {A : Type 0} (asks : Asks A) (spent : A → Type 0) (a b : A) (old mid 
 
     -- the last one that was asked wasn't answered whole
     ends_writing : (fed : Result (Unit {0}) FeedFault) → Feeds d d' piece [] frames fed
-        → StopsWriting asks b c took new frames → EndsWriting asks a c old new
+        → StopsWriting tells b c took new frames → EndsWriting tells a c old new
     ends_writing fed f s =
         let (rest, cut) = cut_of fed f in
         let before = so_far.exchanges ++ s.before in
@@ -256,8 +257,8 @@ module _ {A : Type 0} (asks : Asks A) (spent : A → Type 0) (a b : A) (old mid 
           unasked = s.unasked;
           rest = rest;
           asked = record {
-            asked = subst (λ (l : List Exchange). Leads asks a l c) one_list
-                (leads_both asks a b c so_far.exchanges asked so_far.asked s.asked);
+            asked = subst (λ (l : List Exchange). Leads tells a l c) one_list
+                (leads_both tells a b c so_far.exchanges asked so_far.asked s.asked);
             read = consumed;
             cut = subst (λ (l : List (List ℕ)). IsCut bytes l rest) all cut;
           };
@@ -277,7 +278,7 @@ module _ {A : Type 0} (asks : Asks A) (spent : A → Type 0) (a b : A) (old mid 
         }
 
     ends_spent : (fed : Result (Unit {0}) FeedFault) → Feeds d d' piece [] frames fed
-        → StopsSpent asks spent b c took new frames → EndsSpent asks spent a c old new
+        → StopsSpent tells b c took new frames → EndsSpent tells a c old new
     ends_spent fed f s =
         let (rest, cut) = cut_of fed f in
         let asked = so_far.exchanges ++ s.exchanges in
@@ -293,7 +294,7 @@ module _ {A : Type 0} (asks : Asks A) (spent : A → Type 0) (a b : A) (old mid 
           unasked = s.unasked;
           rest = rest;
           asked = record {
-            asked = leads_both asks a b c so_far.exchanges s.exchanges so_far.asked s.asked;
+            asked = leads_both tells a b c so_far.exchanges s.exchanges so_far.asked s.asked;
             read = consumed;
             cut = subst (λ (l : List (List ℕ)). IsCut bytes l rest) all cut;
           };
@@ -303,15 +304,15 @@ module _ {A : Type 0} (asks : Asks A) (spent : A → Type 0) (a b : A) (old mid 
 
     -- they weren't all answered
     pub stops_so : (fed : Result (Unit {0}) FeedFault) → Feeds d d' piece [] frames fed → (stop : Stop)
-        → AnswersFrames asks spent b c took new frames (Err stop)
-        → Serves asks spent a c old new (end_of stop)
+        → AnswersFrames tells b c took new frames (Err stop)
+        → Serves tells a c old new (end_of stop)
     stops_so fed f stops.Link s = inr (ends_writing fed f s)
     stops_so fed f stops.Spent s = ends_spent fed f s
 
 -- ---- where it begins
 
-pub begins : {A : Type 0} (asks : Asks A) (a : A) (l : Link) → Going asks a a l l fresh 0
-begins asks a l = record {
+pub begins : {A : Type 0} (tells : AskerTells A) (a : A) (l : Link) → Going tells a a l l fresh 0
+begins tells a l = record {
   exchanges = [];
   taken = [];
   asked = refl;
@@ -335,8 +336,8 @@ begins asks a l = record {
 }
 
 -- no memory to begin with
-pub wants_at_once : {A : Type 0} (asks : Asks A) (a : A) (l : Link) → EndsWanting asks a a l l
-wants_at_once asks a l = record {
+pub wants_at_once : {A : Type 0} (tells : AskerTells A) (a : A) (l : Link) → EndsWanting tells a a l l
+wants_at_once tells a l = record {
   taken = [];
   rest = [];
   all = record {

@@ -4,27 +4,27 @@ use Rattle.std.specs.Prelude.{Option}
 use Rattle.ov_session.specs.declared.end.SessionEnd.{SessionEnd}
 use Rattle.ov_session.specs.declared.end.SessionEnd.TheVariants as ends
 use Rattle.ov_session.specs.Ends.{AnswersAll, Asked, Serves}
-use Rattle.ov_session.specs.Exchanges.{Asks, Exchange, Leads}
+use Rattle.ov_session.specs.Exchanges.{Exchange, Leads}
 use Rattle.ov_session.specs.Links.{Link}
+use Rattle.ov_session.specs.Tells.{AskerTells}
 
-module _ {A B : Type 0} (asks : Asks A) (asks' : Asks B) (f : A → B)
-    (each : (a b : A) (request : List ℕ) (reply : Option (List ℕ)) → asks a request reply b
-    → asks' (f a) request reply (f b)) (spent : A → Type 0) (spent' : B → Type 0)
-    (is : (a : A) → spent a → spent' (f a)) where
-  leads_so : (a b : A) (es : List Exchange) → Leads asks a es b → Leads asks' (f a) es (f b)
+module _ {A B : Type 0} (tells : AskerTells A) (other : AskerTells B) (f : A → B)
+    (each : (a b : A) (request : List ℕ) (reply : Option (List ℕ)) → tells.asks a request reply b
+    → other.asks (f a) request reply (f b)) (is : (a : A) → tells.spent a → other.spent (f a)) where
+  leads_so : (a b : A) (es : List Exchange) → Leads tells a es b → Leads other (f a) es (f b)
   leads_so a b [] same = ap f same
   leads_so a b (e ∷ es) (m, first, more) =
       (f m, each a m e.request e.reply first, leads_so m b es more)
 
   module _ (a b : A) (old new : Link) where
     asked_so : (es : List Exchange) (taken : List ℕ) (unasked : List (List ℕ)) (rest : List ℕ)
-        → Asked asks a b old new es taken unasked rest
-        → Asked asks' (f a) (f b) old new es taken unasked rest
+        → Asked tells a b old new es taken unasked rest
+        → Asked other (f a) (f b) old new es taken unasked rest
     asked_so es taken unasked rest s =
         record { asked = leads_so a b es s.asked; read = s.read; cut = s.cut }
 
-    abbrev all_so : (taken rest : List ℕ) → AnswersAll asks a b old new taken rest
-        → AnswersAll asks' (f a) (f b) old new taken rest
+    abbrev all_so : (taken rest : List ℕ) → AnswersAll tells a b old new taken rest
+        → AnswersAll other (f a) (f b) old new taken rest
     all_so taken rest s = record {
       exchanges = s.exchanges;
       asked = asked_so s.exchanges taken [] rest s.asked;
@@ -32,8 +32,8 @@ module _ {A B : Type 0} (asks : Asks A) (asks' : Asks B) (f : A → B)
     }
 
     -- what one asker does another does for which it stands
-    pub serves_so : (ending : SessionEnd) → Serves asks spent a b old new ending
-        → Serves asks' spent' (f a) (f b) old new ending
+    pub serves_so : (ending : SessionEnd) → Serves tells a b old new ending
+        → Serves other (f a) (f b) old new ending
     serves_so ends.End s =
         record { taken = s.taken; all = all_so s.taken [] s.all; at_end = s.at_end }
     serves_so (ends.Bad place) (inl s) = inl (record {

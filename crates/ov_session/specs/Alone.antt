@@ -1,7 +1,8 @@
 -- What one answer of an answerer does.
 use Rattle.std.specs.Prelude.{ℕ, List, Option, Some, None}
 use Rattle.ov_peer.specs.Spellings.{with_accepted}
-use Rattle.ov_session.specs.Exchanges.{Asks}
+use Rattle.ov_peer.specs.Tells.{AnswererTells}
+use Rattle.ov_session.specs.Tells.{AskerTells, Asks}
 
 -- the spellings so far, with that of the request where it was accepted
 abbrev pub spellings_after : List (List ℕ) → List ℕ → Option (List ℕ) → List (List ℕ)
@@ -9,16 +10,19 @@ spellings_after list request (Some reply) = with_accepted list request reply
 spellings_after list request None = list
 
 -- a reply that was given is one after this start and these updates
-abbrev pub IsReplyAfter : {V : Type 0} → (V → List (List ℕ) → List ℕ → List ℕ → Type 0)
-    → V → List (List ℕ) → List ℕ → Option (List ℕ) → Type 0
-IsReplyAfter replies start list request (Some reply) = replies start list request reply
-IsReplyAfter replies start list request None = Unit {0}
+abbrev pub IsReplyAfter : {V : Type 0} → AnswererTells V → V → List (List ℕ) → List ℕ
+    → Option (List ℕ) → Type 0
+IsReplyAfter tells start list request (Some reply) = tells.replies start list request reply
+IsReplyAfter tells start list request None = Unit {0}
 
 -- From whatever start and by whatever updates the value was reached, the reply is one after these,
 -- and the value after it is reached by them and by this request where it was accepted.
-abbrev pub AnswersOne : {V : Type 0} → (V → List (List ℕ) → V → Type 0)
-    → (V → List (List ℕ) → List ℕ → List ℕ → Type 0) → Asks V
-AnswersOne {V} reached replies v request reply w =
-    (start : V) (list : List (List ℕ)) → reached start list v
-    → IsReplyAfter replies start list request reply
-    × reached start (spellings_after list request reply) w
+abbrev pub AnswersOne : {V : Type 0} → AnswererTells V → Asks V
+AnswersOne {V} tells v request reply w =
+    (start : V) (list : List (List ℕ)) → tells.reached start list v
+    → IsReplyAfter tells start list request reply
+    × tells.reached start (spellings_after list request reply) w
+
+-- an answerer that one session asks by itself: it is asked as often as that wants
+abbrev pub alone : {V : Type 0} → AnswererTells V → AskerTells V
+alone tells = record { asks = AnswersOne tells; spent = λ _. ⊥; borrow = λ _. 0 }

@@ -2,21 +2,17 @@
 use Rattle.std.specs.Prelude.{◌≡◌, ℕ, List, [], ◌∷◌, map, Option, Some, None}
 use Rattle.ov_wire.specs.declared.answer.Answer.TheVariants.{NoMemory}
 use Rattle.ov_wire.specs.AnswerBytes.{answer_bytes}
+use Rattle.ov_session.specs.Tells.{AskerTells}
 
 -- a request and its reply, or none where memory was refused, as frames without their length fields
 pub record Exchange : Type 0 where
   pub request : List ℕ
   pub reply : Option (List ℕ)
 
--- what an asker tells of an ask: the asker before it, the request, its reply or none, and the asker
--- after it
-abbrev pub Asks : Type 0 → Type 1
-Asks A = A → List ℕ → Option (List ℕ) → A → Type 0
-
 -- the exchanges lead from one asker to another, one ask each
-abbrev pub Leads : {A : Type 0} → Asks A → A → List Exchange → A → Type 0
-Leads asks a [] b = a ≡ b
-Leads {A} asks a (e ∷ more) b = (m : A) × asks a e.request e.reply m × Leads asks m more b
+abbrev pub Leads : {A : Type 0} → AskerTells A → A → List Exchange → A → Type 0
+Leads tells a [] b = a ≡ b
+Leads {A} tells a (e ∷ more) b = (m : A) × tells.asks a e.request e.reply m × Leads tells m more b
 
 -- the frame that is sent for a reply: itself, or that there was no memory
 abbrev pub answer_for : Option (List ℕ) → List ℕ

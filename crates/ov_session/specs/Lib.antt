@@ -10,4 +10,5 @@ pub mod Reading
 pub mod Replies
 pub mod Serving
 pub mod Steps
+pub mod Tells
 pub mod Turns

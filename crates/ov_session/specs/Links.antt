@@ -1,6 +1,7 @@
 -- What a stream tells.
 use Rattle.std.specs.Prelude.{ℕ, ◌≡◌, ◌≤◌, ◌⊎◌, List, Option}
 use Rattle.ov_base.specs.Causes.{Rose}
+use Rattle.ov_io.specs.Tells.{SourceTells, SinkTells}
 
 -- the bytes that it has left and those that were written, where it tells them, and how often each
 -- half has failed
@@ -10,15 +11,14 @@ pub record Link : Type 0 where
   pub read_faults : ℕ
   pub write_faults : ℕ
 
--- what this stream tells, by its meanings
-abbrev pub link : {L : Type 0} → (L → Option (List ℕ)) → (L → Option (List ℕ)) → (L → ℕ) → (L → ℕ)
-    → L → Link
-link left written read_faults write_faults stream =
+-- what this stream tells, by its halves
+abbrev pub link : {L : Type 0} → SourceTells L → SinkTells L → L → Link
+link source sink stream =
     record {
-      left = left stream;
-      written = written stream;
-      read_faults = read_faults stream;
-      write_faults = write_faults stream;
+      left = source.left stream;
+      written = sink.written stream;
+      read_faults = source.faults stream;
+      write_faults = sink.faults stream;
     }
 
 -- a count of the stream rose
@@ -32,6 +32,7 @@ pub record IsLater (old new : Link) : Type 0 where
   pub writes : old.write_faults ≤ new.write_faults
 
 -- the stream is the same loan, if it is one
-pub record IsSameLoan {L : Type 0} (source sink : L → ℕ) (old new : L) : Type 0 where
-  pub reads : source new ≡ source old
-  pub writes : sink new ≡ sink old
+pub record IsSameLoan {L : Type 0} (source : SourceTells L) (sink : SinkTells L) (old new : L)
+    : Type 0 where
+  pub reads : source.borrow new ≡ source.borrow old
+  pub writes : sink.borrow new ≡ sink.borrow old

@@ -2,8 +2,10 @@
 use Rattle.std.specs.Prelude.{◌≡◌, ◌<◌, ◌≤◌, ◌+◌, ◌⊎◌, ℕ, List, [], ◌∷◌, ◌++◌, length, map}
 use Rattle.std.specs.Prelude.{Bool, false, true, Option, Some, None}
 use Rattle.ov_base.specs.Causes.{Rose}
+use Rattle.ov_io.specs.Tells.{SourceTells, SinkTells}
+use Rattle.ov_peer.specs.Tells.{AnswererTells}
 use Rattle.ov_session.specs.declared.end.SessionEnd.{SessionEnd}
-use Rattle.ov_session.specs.Alone.{AnswersOne}
+use Rattle.ov_session.specs.Alone.{alone}
 use Rattle.ov_session.specs.Doors.{Doorway, Given}
 use Rattle.ov_session.specs.Ends.{Serves}
 use Rattle.ov_session.specs.Links.{link}
@@ -19,13 +21,10 @@ abbrev pub OneSession : Type 0 → Type 0 → Type 1
 OneSession V S = V → V → S → S → SessionEnd → Type 0
 
 -- a session by an answerer alone, which may ask as often as it wants
-abbrev pub serves_alone : {V S : Type 0} → (V → List (List ℕ) → V → Type 0)
-    → (V → List (List ℕ) → List ℕ → List ℕ → Type 0)
-    → (S → Option (List ℕ)) → (S → Option (List ℕ)) → (S → ℕ) → (S → ℕ) → OneSession V S
-serves_alone reached replies left written read_faults write_faults v w given stream ending =
-    Serves (AnswersOne reached replies) (λ x. ⊥) v w
-    (link left written read_faults write_faults given)
-    (link left written read_faults write_faults stream) ending
+abbrev pub serves_alone : {V S : Type 0} → AnswererTells V → SourceTells S → SinkTells S
+    → OneSession V S
+serves_alone answerer source sink v w given stream ending =
+    Serves (alone answerer) v w (link source sink given) (link source sink stream) ending
 
 -- the sessions lead from one value to another
 abbrev pub Follows : {V S : Type 0} → OneSession V S → V → List (Session S) → V → Type 0

@@ -14,12 +14,11 @@ pub struct Alone<'a, V: Answerer> {
 }
 
 impl<'a, V: Answerer> Asker for Alone<'a, V> {
-    ghost asks = { λ a request reply b.
-        AnswersOne V.reached V.replies a.value.now request reply b.value.now };
-
-    ghost spent = { λ _. ⊥ };
-
-    ghost borrow = { λ a. a.value.ghost_name };
+    ghost tells = { record {
+      asks = λ a request reply b. AnswersOne V.tells a.value.now request reply b.value.now;
+      spent = λ _. ⊥;
+      borrow = λ a. a.value.ghost_name;
+    } };
 
     fn ask<R: Wait>(
         &mut self,

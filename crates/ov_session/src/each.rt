@@ -28,8 +28,8 @@ fn serve_alone<R: Wait, L: Stream, V: Answerer>(
     stream: &mut L,
     value: &mut V,
 ) -> SessionEnd
-    ensures { serves_alone V.reached V.replies L.Source.left L.Sink.written L.Source.faults
-        L.Sink.faults value.old value.new stream.old stream.new result }
+    ensures { serves_alone V.tells L.Source.tells L.Sink.tells value.old value.new
+        stream.old stream.new result }
 {
     let mut asker = Alone { value };
     serve_one(rt, alloc, session, stream, &mut asker, &OpenGate)
@@ -44,9 +44,8 @@ fn serve_next<R: Wait, D: Door, V: Answerer>(
     number: u32,
 ) -> Next
     requires { IsAt (D.shows door.old) number }
-    ensures { ServesNext (serves_alone V.reached V.replies D.Stream.Source.left
-        D.Stream.Sink.written D.Stream.Source.faults D.Stream.Sink.faults) value.old value.new
-        (D.shows door.old) (D.shows door.new) result }
+    ensures { ServesNext (serves_alone V.tells D.Stream.Source.tells D.Stream.Sink.tells)
+        value.old value.new (D.shows door.old) (D.shows door.new) result }
 {
     match door.accept() {
         Ok(Some(given)) => {
@@ -70,9 +69,8 @@ pub fn serve_each<R: Wait, D: Door, V: Answerer>(
     sessions: u32,
 ) -> (u32, bool)
     requires { IsUnused (D.shows door.old) }
-    ensures { ServesEach (serves_alone V.reached V.replies D.Stream.Source.left
-        D.Stream.Sink.written D.Stream.Source.faults D.Stream.Sink.faults) value.old value.new
-        (D.shows door.old) (D.shows door.new) sessions result.0 result.1 }
+    ensures { ServesEach (serves_alone V.tells D.Stream.Source.tells D.Stream.Sink.tells)
+        value.old value.new (D.shows door.old) (D.shows door.new) sessions result.0 result.1 }
 {
     for number in 0..sessions {
         match serve_next(rt, alloc, door, value, number) {

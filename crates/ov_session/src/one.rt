@@ -82,16 +82,15 @@ fn answer_one<R: Wait, L: Stream, A: Asker>(
     reply: &mut Vec<u8>,
 ) -> Result<(), Stop>
     requires { IsFrame frame.now }
-    ensures answers { AnswersFrame A.asks A.spent asker.old asker.new
-        (link L.Source.left L.Sink.written L.Source.faults L.Sink.faults stream.old)
-        (link L.Source.left L.Sink.written L.Source.faults L.Sink.faults stream.new)
+    ensures answers { AnswersFrame A.tells asker.old asker.new
+        (link L.Source.tells L.Sink.tells stream.old) (link L.Source.tells L.Sink.tells stream.new)
         frame.now result }
     ensures half { IsWriting
-        (link L.Source.left L.Sink.written L.Source.faults L.Sink.faults stream.old)
-        (link L.Source.left L.Sink.written L.Source.faults L.Sink.faults stream.new) }
-    ensures later { L.Sink.faults stream.old ≤ L.Sink.faults stream.new }
-    ensures same { IsSameLoan L.Source.borrow L.Sink.borrow stream.old stream.new }
-    ensures asker { A.borrow asker.new ≡ A.borrow asker.old }
+        (link L.Source.tells L.Sink.tells stream.old)
+        (link L.Source.tells L.Sink.tells stream.new) }
+    ensures later { L.Sink.tells.faults stream.old ≤ L.Sink.tells.faults stream.new }
+    ensures same { IsSameLoan L.Source.tells L.Sink.tells stream.old stream.new }
+    ensures asker { A.tells.borrow asker.new ≡ A.tells.borrow asker.old }
 {
     let put = match asker.ask(rt, frame, reply) {
         Ok(()) => put_frame(stream, reply),
@@ -114,16 +113,15 @@ fn answer_each<R: Wait, L: Stream, A: Asker, G: Gate>(
     asked: &mut u32,
 ) -> Result<(), Stop>
     requires { AllByRecursion IsFrame frames.now }
-    ensures answers { AnswersFrames A.asks A.spent asker.old asker.new
-        (link L.Source.left L.Sink.written L.Source.faults L.Sink.faults stream.old)
-        (link L.Source.left L.Sink.written L.Source.faults L.Sink.faults stream.new)
+    ensures answers { AnswersFrames A.tells asker.old asker.new
+        (link L.Source.tells L.Sink.tells stream.old) (link L.Source.tells L.Sink.tells stream.new)
         frames.now result }
     ensures half { IsWriting
-        (link L.Source.left L.Sink.written L.Source.faults L.Sink.faults stream.old)
-        (link L.Source.left L.Sink.written L.Source.faults L.Sink.faults stream.new) }
-    ensures later { L.Sink.faults stream.old ≤ L.Sink.faults stream.new }
-    ensures same { IsSameLoan L.Source.borrow L.Sink.borrow stream.old stream.new }
-    ensures asker { A.borrow asker.new ≡ A.borrow asker.old }
+        (link L.Source.tells L.Sink.tells stream.old)
+        (link L.Source.tells L.Sink.tells stream.new) }
+    ensures later { L.Sink.tells.faults stream.old ≤ L.Sink.tells.faults stream.new }
+    ensures same { IsSameLoan L.Source.tells L.Sink.tells stream.old stream.new }
+    ensures asker { A.tells.borrow asker.new ≡ A.tells.borrow asker.old }
 {
     for frame in frames {
         desk.gate.pause(desk.session, *asked);
@@ -164,17 +162,17 @@ fn read_on<R: Wait, L: Stream, A: Asker, G: Gate>(
     asker: &mut A,
     reading: &mut Reading,
 ) -> Result<(), SessionEnd>
-    ensures goes { (a : A) (old : Link) → Going A.asks a asker.old old
-        (link L.Source.left L.Sink.written L.Source.faults L.Sink.faults stream.old)
+    ensures goes { (a : A) (old : Link) → Going A.tells a asker.old old
+        (link L.Source.tells L.Sink.tells stream.old)
         reading.old.decoder reading.old.taken
-        → GoesOn A.asks A.spent a asker.new old
-        (link L.Source.left L.Sink.written L.Source.faults L.Sink.faults stream.new)
+        → GoesOn A.tells a asker.new old
+        (link L.Source.tells L.Sink.tells stream.new)
         reading.new.decoder reading.new.taken result }
     ensures later { IsLater
-        (link L.Source.left L.Sink.written L.Source.faults L.Sink.faults stream.old)
-        (link L.Source.left L.Sink.written L.Source.faults L.Sink.faults stream.new) }
-    ensures same { IsSameLoan L.Source.borrow L.Sink.borrow stream.old stream.new }
-    ensures asker { A.borrow asker.new ≡ A.borrow asker.old }
+        (link L.Source.tells L.Sink.tells stream.old)
+        (link L.Source.tells L.Sink.tells stream.new) }
+    ensures same { IsSameLoan L.Source.tells L.Sink.tells stream.old stream.new }
+    ensures asker { A.tells.borrow asker.new ≡ A.tells.borrow asker.old }
 {
     let mut room = [0; PIECE];
     let count = match stream.take(&mut room) {
@@ -204,14 +202,14 @@ pub fn serve_one<R: Wait, L: Stream, A: Asker, G: Gate>(
     asker: &mut A,
     gate: &G,
 ) -> SessionEnd
-    ensures serves { Serves A.asks A.spent asker.old asker.new
-        (link L.Source.left L.Sink.written L.Source.faults L.Sink.faults stream.old)
-        (link L.Source.left L.Sink.written L.Source.faults L.Sink.faults stream.new) result }
+    ensures serves { Serves A.tells asker.old asker.new
+        (link L.Source.tells L.Sink.tells stream.old)
+        (link L.Source.tells L.Sink.tells stream.new) result }
     ensures later { IsLater
-        (link L.Source.left L.Sink.written L.Source.faults L.Sink.faults stream.old)
-        (link L.Source.left L.Sink.written L.Source.faults L.Sink.faults stream.new) }
-    ensures same { IsSameLoan L.Source.borrow L.Sink.borrow stream.old stream.new }
-    ensures asker { A.borrow asker.new ≡ A.borrow asker.old }
+        (link L.Source.tells L.Sink.tells stream.old)
+        (link L.Source.tells L.Sink.tells stream.new) }
+    ensures same { IsSameLoan L.Source.tells L.Sink.tells stream.old stream.new }
+    ensures asker { A.tells.borrow asker.new ≡ A.tells.borrow asker.old }
 {
     let mut reading = match Reading::new(alloc) {
         Ok(reading) => reading,

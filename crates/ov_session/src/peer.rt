@@ -54,11 +54,10 @@ impl<L: Stream + Drop> NetPeer<L> {
 /// Takes bytes until all of `buf` is filled or the input ends, and answers how many.
 fn fill<L: Stream>(stream: &mut L, buf: &mut [u8]) -> Result<usize, Fault>
     ensures fills { FillsUp
-        (link L.Source.left L.Sink.written L.Source.faults L.Sink.faults stream.old)
-        (link L.Source.left L.Sink.written L.Source.faults L.Sink.faults stream.new)
+        (link L.Source.tells L.Sink.tells stream.old) (link L.Source.tells L.Sink.tells stream.new)
         buf.new result }
     ensures len { length buf.new ≡ length buf.old }
-    ensures same { IsSameLoan L.Source.borrow L.Sink.borrow stream.old stream.new }
+    ensures same { IsSameLoan L.Source.tells L.Sink.tells stream.old stream.new }
 {
     let mut at = 0;
     while at < buf.len() {
@@ -86,10 +85,9 @@ fn number_in(field: [u8; 4]) -> usize
 /// it is outside its limits.
 fn take_length<L: Stream>(stream: &mut L) -> Result<usize, Fault>
     ensures takes { TakesLength
-        (link L.Source.left L.Sink.written L.Source.faults L.Sink.faults stream.old)
-        (link L.Source.left L.Sink.written L.Source.faults L.Sink.faults stream.new)
+        (link L.Source.tells L.Sink.tells stream.old) (link L.Source.tells L.Sink.tells stream.new)
         result }
-    ensures same { IsSameLoan L.Source.borrow L.Sink.borrow stream.old stream.new }
+    ensures same { IsSameLoan L.Source.tells L.Sink.tells stream.old stream.new }
 {
     let mut head = [0; 4];
     let count = match fill(stream, &mut head) {
@@ -113,10 +111,9 @@ fn take_length<L: Stream>(stream: &mut L) -> Result<usize, Fault>
 fn take_body<L: Stream>(stream: &mut L, wanted: usize, reply: &mut Vec<u8>) -> Result<(), PeerFault>
     requires { IsFrameLength wanted }
     ensures takes { TakesBody
-        (link L.Source.left L.Sink.written L.Source.faults L.Sink.faults stream.old)
-        (link L.Source.left L.Sink.written L.Source.faults L.Sink.faults stream.new)
+        (link L.Source.tells L.Sink.tells stream.old) (link L.Source.tells L.Sink.tells stream.new)
         wanted reply.new.items result }
-    ensures same { IsSameLoan L.Source.borrow L.Sink.borrow stream.old stream.new }
+    ensures same { IsSameLoan L.Source.tells L.Sink.tells stream.old stream.new }
 {
     reply.clear();
     match reply.resize(wanted, 0) {
@@ -137,10 +134,9 @@ fn take_body<L: Stream>(stream: &mut L, wanted: usize, reply: &mut Vec<u8>) -> R
 /// Reads the next frame into `reply`, which loses what it had.
 fn take_frame<L: Stream>(stream: &mut L, reply: &mut Vec<u8>) -> Result<(), PeerFault>
     ensures takes { TakesFrame
-        (link L.Source.left L.Sink.written L.Source.faults L.Sink.faults stream.old)
-        (link L.Source.left L.Sink.written L.Source.faults L.Sink.faults stream.new)
+        (link L.Source.tells L.Sink.tells stream.old) (link L.Source.tells L.Sink.tells stream.new)
         reply.new.items result }
-    ensures same { IsSameLoan L.Source.borrow L.Sink.borrow stream.old stream.new }
+    ensures same { IsSameLoan L.Source.tells L.Sink.tells stream.old stream.new }
 {
     match take_length(stream) {
         Ok(wanted) => take_body(stream, wanted, reply),
@@ -152,10 +148,9 @@ fn take_frame<L: Stream>(stream: &mut L, reply: &mut Vec<u8>) -> Result<(), Peer
 fn exchange<L: Stream>(stream: &mut L, request: &[u8], reply: &mut Vec<u8>) -> Result<(), PeerFault>
     requires { IsFrame request.now }
     ensures exchanges { ExchangesOrFails
-        (link L.Source.left L.Sink.written L.Source.faults L.Sink.faults stream.old)
-        (link L.Source.left L.Sink.written L.Source.faults L.Sink.faults stream.new)
+        (link L.Source.tells L.Sink.tells stream.old) (link L.Source.tells L.Sink.tells stream.new)
         request.now reply.new.items result }
-    ensures same { IsSameLoan L.Source.borrow L.Sink.borrow stream.old stream.new }
+    ensures same { IsSameLoan L.Source.tells L.Sink.tells stream.old stream.new }
 {
     match put_frame(stream, request) {
         Ok(()) => take_frame(stream, reply),
@@ -164,40 +159,34 @@ fn exchange<L: Stream>(stream: &mut L, request: &[u8], reply: &mut Vec<u8>) -> R
 }
 
 impl<L: Stream + Drop> Peer for NetPeer<L> {
-    ghost asked = { λ p request reply q.
-        Exchanges (link L.Source.left L.Sink.written L.Source.faults L.Sink.faults p.link)
-        (link L.Source.left L.Sink.written L.Source.faults L.Sink.faults q.link) request reply };
-
-    ghost failed = { λ p request q.
-        Breaks (link L.Source.left L.Sink.written L.Source.faults L.Sink.faults p.link)
-        (link L.Source.left L.Sink.written L.Source.faults L.Sink.faults q.link) request };
-
-    ghost serves = { λ p v. ⊥ };
-
-    ghost faults = { λ p. p.faults };
-
-    ghost borrow = { λ p. L.Source.borrow p.link };
-
-    ghost told = { λ p q request reply v a s. absurd s };
-
-    ghost left = { λ p q request v f s. absurd s };
+    ghost tells = { record {
+      asked = λ p request reply q. Exchanges (link L.Source.tells L.Sink.tells p.link)
+          (link L.Source.tells L.Sink.tells q.link) request reply;
+      failed = λ p request q. Breaks (link L.Source.tells L.Sink.tells p.link)
+          (link L.Source.tells L.Sink.tells q.link) request;
+      serves = λ p v. ⊥;
+      faults = λ p. p.faults;
+      borrow = λ p. L.Source.tells.borrow p.link;
+      told = λ p q request reply v a s. absurd s;
+      left = λ p q request v f s. absurd s;
+    } };
 
     fn ask(&mut self, request: &[u8], reply: &mut Vec<u8>) -> Result<(), PeerFault>
         requires { IsFrame request.now }
         ensures asked { OnOk result (Exchanges
-            (link L.Source.left L.Sink.written L.Source.faults L.Sink.faults self.old.link)
-            (link L.Source.left L.Sink.written L.Source.faults L.Sink.faults self.new.link)
+            (link L.Source.tells L.Sink.tells self.old.link)
+            (link L.Source.tells L.Sink.tells self.new.link)
             request.now reply.new.items) }
         ensures failed { OnErr result (Breaks
-            (link L.Source.left L.Sink.written L.Source.faults L.Sink.faults self.old.link)
-            (link L.Source.left L.Sink.written L.Source.faults L.Sink.faults self.new.link)
+            (link L.Source.tells L.Sink.tells self.old.link)
+            (link L.Source.tells L.Sink.tells self.new.link)
             request.now) }
         ensures frame { OnOk result (IsFrame reply.new.items) }
-        ensures same { L.Source.borrow self.new.link ≡ L.Source.borrow self.old.link }
+        ensures same { L.Source.tells.borrow self.new.link ≡ L.Source.tells.borrow self.old.link }
         ensures cause { HasLinkCause self.old.faults self.new.faults result }
         ensures counts { CountsFault self.old.faults self.new.faults
-            (link L.Source.left L.Sink.written L.Source.faults L.Sink.faults self.old.link)
-            (link L.Source.left L.Sink.written L.Source.faults L.Sink.faults self.new.link) }
+            (link L.Source.tells L.Sink.tells self.old.link)
+            (link L.Source.tells L.Sink.tells self.new.link) }
     {
         if self.stale {
             return Err(PeerFault::Memory);

@@ -10,10 +10,9 @@ use ov_io::{Fault, Stream};
 pub fn put_frame<L: Stream>(stream: &mut L, frame: &[u8]) -> Result<(), Fault>
     requires { IsFrame frame.now }
     ensures puts { PutsFrame
-        (link L.Source.left L.Sink.written L.Source.faults L.Sink.faults stream.old)
-        (link L.Source.left L.Sink.written L.Source.faults L.Sink.faults stream.new)
+        (link L.Source.tells L.Sink.tells stream.old) (link L.Source.tells L.Sink.tells stream.new)
         frame.now result }
-    ensures same { IsSameLoan L.Source.borrow L.Sink.borrow stream.old stream.new }
+    ensures same { IsSameLoan L.Source.tells L.Sink.tells stream.old stream.new }
 {
     match stream.put(&(frame.len() as u32).to_be_bytes()) {
         Ok(()) => stream.put(frame),

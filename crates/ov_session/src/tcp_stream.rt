@@ -77,13 +77,12 @@ impl<R: Net + AllocGlobal + Drop> TcpLink<R> {
 }
 
 impl<R: Net + AllocGlobal + Drop> Source for TcpLink<R> {
-    ghost left = { λ _. None };
-
-    ghost faults = { λ s. s.read_faults };
-
-    ghost borrow = { λ _. 0 };
-
-    ghost takes = { λ a b. b.write_faults ≡ a.write_faults };
+    ghost tells = { record {
+      left = λ _. None;
+      faults = λ s. s.read_faults;
+      borrow = λ _. 0;
+      takes = λ a b. b.write_faults ≡ a.write_faults;
+    } };
 
     fn take(&mut self, buf: &mut [u8]) -> Result<usize, Fault> {
         match self.read(buf) {
@@ -98,13 +97,12 @@ impl<R: Net + AllocGlobal + Drop> Source for TcpLink<R> {
 }
 
 impl<R: Net + AllocGlobal + Drop> Sink for TcpLink<R> {
-    ghost written = { λ _. None };
-
-    ghost faults = { λ s. s.write_faults };
-
-    ghost borrow = { λ _. 0 };
-
-    ghost puts = { λ a b. b.read_faults ≡ a.read_faults };
+    ghost tells = { record {
+      written = λ _. None;
+      faults = λ s. s.write_faults;
+      borrow = λ _. 0;
+      puts = λ a b. b.read_faults ≡ a.read_faults;
+    } };
 
     fn put(&mut self, bytes: &[u8]) -> Result<(), Fault> {
         match self.write(bytes) {

@@ -5,7 +5,6 @@ use Rattle.ov_session.proofs.each.serve_each.Given as goal
 abbrev pub invariant-loop-number : goal.invariant-loop-number
 invariant-loop-number g l = record {
   so_far : ServesSome
-      (serves_alone g.V.Answerer.reached g.V.Answerer.replies g.D.Stream.Source.left
-      g.D.Stream.Sink.written g.D.Stream.Source.faults g.D.Stream.Sink.faults)
+      (serves_alone g.V.Answerer.tells g.D.Stream.Source.tells g.D.Stream.Sink.tells)
       l.fn.value l.value (g.D.Door.shows l.fn.door) (g.D.Door.shows l.door) l.number;
 }

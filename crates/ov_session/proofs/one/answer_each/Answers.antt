@@ -6,28 +6,28 @@ use Rattle.ov_session.proofs.one.answer_each.Goals as goal
 
 pub returns-in-Err-clause-answers : goal.returns-in-Err-clause-answers
 returns-in-Err-clause-answers g c =
-    let tells = link g.L.Source.left g.L.Sink.written g.L.Source.faults g.L.Sink.faults in
+    let tells = link g.L.Source.tells g.L.Sink.tells in
     let frames = c.args.frames.now in
     let i = c.loop-frame.frame-index in
-    stopped g.A.Asker.asks c.args.asker.now c.loop-frame.asker c.answer_one.new.asker
+    stopped g.A.Asker.tells c.args.asker.now c.loop-frame.asker c.answer_one.new.asker
     (tells c.args.stream.now) (tells c.loop-frame.stream) (tells c.answer_one.new.stream) (take i frames)
-    c.loop-frame.invariant.so_far c.as_slice.result.now g.A.Asker.spent frames (drop (suc i) frames)
+    c.loop-frame.invariant.so_far c.as_slice.result.now frames (drop (suc i) frames)
     (parts_at frames i c.as_slice.result.now c.frame-item.result c.loop-frame-test.true c.as_slice.ensures
     c.frame-item.is) c.loop-frame.invariant.later c.in-Err.stop c.in-Err.ensures.answers
 
 pub loop-frame-preserved : goal.loop-frame-preserved
 loop-frame-preserved g c =
-    let tells = link g.L.Source.left g.L.Sink.written g.L.Source.faults g.L.Sink.faults in
+    let tells = link g.L.Source.tells g.L.Sink.tells in
     let frames = c.args.frames.now in
     let i = c.loop-frame.frame-index in
     let before = c.loop-frame.invariant in
     let now = c.in-Ok.ensures in
     record {
-      so_far = subst (AnswersThem g.A.Asker.asks c.args.asker.now c.answer_one.new.asker
+      so_far = subst (AnswersThem g.A.Asker.tells c.args.asker.now c.answer_one.new.asker
           (tells c.args.stream.now) (tells c.answer_one.new.stream))
           (front_at frames i c.as_slice.result.now c.frame-item.result c.loop-frame-test.true
           c.as_slice.ensures c.frame-item.is)
-          (one_more g.A.Asker.asks c.args.asker.now c.loop-frame.asker c.answer_one.new.asker
+          (one_more g.A.Asker.tells c.args.asker.now c.loop-frame.asker c.answer_one.new.asker
           (tells c.args.stream.now) (tells c.loop-frame.stream) (tells c.answer_one.new.stream)
           (take i frames) before.so_far c.as_slice.result.now now.answers);
       half = record { left = now.half.left ∙ before.half.left; reads = now.half.reads ∙ before.half.reads };

@@ -6,12 +6,12 @@ use Rattle.ov_session.proofs.one.serve_one.Goals as goal
 
 pub returns-in-Err-clause-serves : goal.returns-in-Err-clause-serves
 returns-in-Err-clause-serves g c =
-    let tells = link g.L.Source.left g.L.Sink.written g.L.Source.faults g.L.Sink.faults in
-    wants_at_once g.A.Asker.asks c.args.asker.now (tells c.args.stream.now)
+    let tells = link g.L.Source.tells g.L.Sink.tells in
+    wants_at_once g.A.Asker.tells c.args.asker.now (tells c.args.stream.now)
 
 pub returns-in-Err-read_on-clause-serves : goal.returns-in-Err-read_on-clause-serves
 returns-in-Err-read_on-clause-serves g c =
-    let tells = link g.L.Source.left g.L.Sink.written g.L.Source.faults g.L.Sink.faults in
+    let tells = link g.L.Source.tells g.L.Sink.tells in
     c.in-Err-read_on.ensures.goes c.args.asker.now (tells c.args.stream.now) c.pieces.invariant.going
 
 pub returns-in-Err-read_on-clause-later : goal.returns-in-Err-read_on-clause-later
@@ -31,14 +31,14 @@ returns-in-Err-read_on-clause-asker g c = c.in-Err-read_on.ensures.asker ∙ c.p
 
 pub pieces-init : goal.pieces-init
 pieces-init g c =
-    let tells = link g.L.Source.left g.L.Sink.written g.L.Source.faults g.L.Sink.faults in
+    let tells = link g.L.Source.tells g.L.Sink.tells in
     let a = c.args.asker.now in
     let here = tells c.args.stream.now in
     let made = c.in-Ok.ensures in
     record {
-      going = subst (λ d. Going g.A.Asker.asks a a here here d c.in-Ok.reading.taken) (sym made.0)
-          (subst (λ n. Going g.A.Asker.asks a a here here fresh n) (sym made.1)
-          (begins g.A.Asker.asks a here));
+      going = subst (λ d. Going g.A.Asker.tells a a here here d c.in-Ok.reading.taken) (sym made.0)
+          (subst (λ n. Going g.A.Asker.tells a a here here fresh n) (sym made.1)
+          (begins g.A.Asker.tells a here));
       same = record { reads = refl; writes = refl };
       asker = refl;
     }

@@ -6,7 +6,7 @@ use Rattle.ov_session.proofs.peer.fill.Goals as goal
 
 pub loop-at-preserved : goal.loop-at-preserved
 loop-at-preserved g c =
-    let tells = link g.L.Source.left g.L.Sink.written g.L.Source.faults g.L.Sink.faults in
+    let tells = link g.L.Source.tells g.L.Sink.tells in
     let leaves = g.met.L.Stream.take_leaves c.loop-at.stream c.take.new.self c.in-Ok.ensures.step in
     let before = c.loop-at.invariant in
     let at = c.loop-at.at in

@@ -8,10 +8,10 @@ invariant-loop-at g l = record {
   len : length l.buf ≡ length l.initial.buf;
   within : l.at ≤ length l.buf;
   reads : Reads
-      (link g.L.Source.left g.L.Sink.written g.L.Source.faults g.L.Sink.faults l.initial.stream)
-      (link g.L.Source.left g.L.Sink.written g.L.Source.faults g.L.Sink.faults l.stream)
+      (link g.L.Source.tells g.L.Sink.tells l.initial.stream)
+      (link g.L.Source.tells g.L.Sink.tells l.stream)
       (take l.at l.buf);
-  same : IsSameLoan g.L.Source.borrow g.L.Sink.borrow l.initial.stream l.stream;
+  same : IsSameLoan g.L.Source.tells g.L.Sink.tells l.initial.stream l.stream;
 }
 
 abbrev pub decreases-loop-at : goal.decreases-loop-at

@@ -7,7 +7,7 @@ use Rattle.ov_session.proofs.peer.take_length.Goals as goal
 
 pub returns-then-wanted-clause-takes : goal.returns-then-wanted-clause-takes
 returns-then-wanted-clause-takes g c =
-    let tells = link g.L.Source.left g.L.Sink.written g.L.Source.faults g.L.Sink.faults in
+    let tells = link g.L.Source.tells g.L.Sink.tells in
     let whole : length c.fill.new.buf ≤ c.in-Ok.count = omega (arith, c.in-Ok.ensures.len, c.if-count-lt4.false) in
     record {
       taken = c.fill.new.buf;
@@ -19,7 +19,7 @@ returns-then-wanted-clause-takes g c =
 
 pub returns-clause-takes : goal.returns-clause-takes
 returns-clause-takes g c =
-    let tells = link g.L.Source.left g.L.Sink.written g.L.Source.faults g.L.Sink.faults in
+    let tells = link g.L.Source.tells g.L.Sink.tells in
     let whole : length c.fill.new.buf ≤ c.in-Ok.count = omega (arith, c.in-Ok.ensures.len, c.if-count-lt4.false) in (
       (omega (arith, c.if-wanted-eq0.false), c.if-wanted.false),
       subst (Reads (tells c.args.stream.now) (tells c.fill.new.stream)) (sym c.number_in-wanted.ensures.number)
