@@ -6,7 +6,7 @@ use Rattle.std.specs.Prelude.{◌==◌, if◌then◌else◌}
 use Rattle.std.proofs.lemmas.Bool.Decides.{nat_tests}
 use Rattle.ov_base.proofs.Tests.{lt_is_false, lt_is_true}
 use Rattle.ov_wire.specs.declared.answer.Chained.{Chained}
-use Rattle.ov_peer.specs.Asks.{Asked, Failed}
+use Rattle.ov_peer.specs.Tells.{PeerTells}
 use Rattle.ov_client.specs.Readers.{FileKeys, Reader, judged, keys_along, uncovered}
 use Rattle.ov_client.specs.Reads.{GoesOn, Reaches, ReadsFrom}
 use Rattle.ov_client.specs.Talks.{AsksChain, AsksChunk, Ends, Stage, after_fetched, again, goes_on}
@@ -40,13 +40,13 @@ module _ (r : Reader) (tries : List ℕ) (c : Chained) (stored : List ℕ) where
       ap (λ (b : Bool). if b then AsksChunk tries c stored else whole)
       (lt_is_false (length stored) c.length high)
 
-module _ {P : Type 0} (asked : Asked P) (failed : Failed P) (r : Reader) (file : List ℕ) where
+module _ {P : Type 0} (peer : PeerTells P) (r : Reader) (file : List ℕ) where
   -- What came so far of a file: these bytes, without their coats, to which the asks led.
   pub record Gathers (p q : P) (tries : List ℕ) (c : Chained) (keys : FileKeys) (plain : List ℕ)
       : Type 0 where
     pub stored : List ℕ
     pub is_plain : plain ≡ uncovered keys c.file 0 stored
-    pub reaches : Reaches asked p q r file (goes_on r tries c []) (goes_on r tries c stored)
+    pub reaches : Reaches peer p q r file (goes_on r tries c []) (goes_on r tries c stored)
 
   module _ (p m q : P) (tries : List ℕ) (c : Chained) (keys : FileKeys) (plain : List ℕ)
       (so_far : Gathers p m tries c keys plain) where
@@ -55,21 +55,21 @@ module _ {P : Type 0} (asked : Asked P) (failed : Failed P) (r : Reader) (file :
 
     -- a chunk was asked
     pub fetched_on : (result : Result Fetched ClientFault) → length plain < c.length
-        → GoesOn asked failed m q r file (AsksChunk tries c so_far.stored)
+        → GoesOn peer m q r file (AsksChunk tries c so_far.stored)
         (after_fetched r tries c so_far.stored) result
-        → GoesOn asked failed p q r file (goes_on r tries c [])
+        → GoesOn peer p q r file (goes_on r tries c [])
         (after_fetched r tries c so_far.stored)
         result
     fetched_on result low on =
-        behind asked failed r file p m q (goes_on r tries c []) (AsksChunk tries c so_far.stored)
+        behind peer r file p m q (goes_on r tries c []) (AsksChunk tries c so_far.stored)
         (after_fetched r tries c so_far.stored) result
-        (subst (λ (s : Stage). Reaches asked p m r file (goes_on r tries c []) s)
+        (subst (λ (s : Stage). Reaches peer p m r file (goes_on r tries c []) s)
         (asks_more r tries c so_far.stored (omega (arith, size_is))) so_far.reaches)
         on
 
     -- its bytes came
     pub gathers_more : (chunk next : List ℕ)
-        → Reaches asked p q r file (goes_on r tries c [])
+        → Reaches peer p q r file (goes_on r tries c [])
         (goes_on r tries c (so_far.stored ++ chunk))
         → next ≡ plain ++ uncovered keys c.file (length plain) chunk
         → Gathers p q tries c keys next
@@ -84,22 +84,22 @@ module _ {P : Type 0} (asked : Asked P) (failed : Failed P) (r : Reader) (file :
 
     -- memory ran out for them
     pub no_room : (chunk : List ℕ)
-        → Reaches asked p q r file (goes_on r tries c [])
+        → Reaches peer p q r file (goes_on r tries c [])
         (goes_on r tries c (so_far.stored ++ chunk))
-        → ReadsFrom asked failed p q r file (goes_on r tries c []) (Err client.Memory)
+        → ReadsFrom peer p q r file (goes_on r tries c []) (Err client.Memory)
     no_room chunk reaches =
-        then_reads asked failed r file p q q (goes_on r tries c [])
+        then_reads peer r file p q q (goes_on r tries c [])
         (goes_on r tries c (so_far.stored ++ chunk)) (Err client.Memory) reaches
-        (forgot asked failed r file q (goes_on r tries c (so_far.stored ++ chunk)))
+        (forgot peer r file q (goes_on r tries c (so_far.stored ++ chunk)))
 
     -- all came
     pub gathers_all : keys ≡ keys_along r c → c.length ≤ length plain
-        → Reaches asked p m r file (goes_on r tries c []) (after_gathered r tries c (Bytes plain))
+        → Reaches peer p m r file (goes_on r tries c []) (after_gathered r tries c (Bytes plain))
     gathers_all same high =
         let bytes : uncovered (keys_along r c) c.file 0 so_far.stored ≡ plain =
         ap (λ (k : FileKeys). uncovered k c.file 0 so_far.stored) (sym same)
         ∙ sym so_far.is_plain in
-        subst (λ (s : Stage). Reaches asked p m r file (goes_on r tries c []) s)
+        subst (λ (s : Stage). Reaches peer p m r file (goes_on r tries c []) s)
         (asks_no_more r tries c so_far.stored (omega (arith, size_is))
         ∙ ap (λ (b : List ℕ). Ends (judged (keys_along r c) c b)) bytes)
         so_far.reaches
@@ -131,17 +131,17 @@ no_more_tries tries least full =
     ap (λ (b : Bool). if b then Ends (Err (client.Unsettled tries)) else AsksChain tries least)
     (eq-eqb (length tries) TRIES full)
 
-module _ {P : Type 0} (asked : Asked P) (failed : Failed P) (r : Reader) (file : List ℕ) where
+module _ {P : Type 0} (peer : PeerTells P) (r : Reader) (file : List ℕ) where
   -- one more try
   pub tried_on : (p m q : P) (tries : List ℕ) (least : ℕ) (result : Result Tried ClientFault)
       → length tries < TRIES
-      → Reaches asked p m r file (AsksChain [] 0) (again tries least)
-      → GoesOn asked failed m q r file (AsksChain tries least) (after_tried tries) result
-      → GoesOn asked failed p q r file (AsksChain [] 0) (after_tried tries) result
+      → Reaches peer p m r file (AsksChain [] 0) (again tries least)
+      → GoesOn peer m q r file (AsksChain tries least) (after_tried tries) result
+      → GoesOn peer p q r file (AsksChain [] 0) (after_tried tries) result
   tried_on p m q tries least result low reaches on =
-      behind asked failed r file p m q (AsksChain [] 0) (AsksChain tries least) (after_tried tries)
+      behind peer r file p m q (AsksChain [] 0) (AsksChain tries least) (after_tried tries)
       result
-      (subst (λ (s : Stage). Reaches asked p m r file (AsksChain [] 0) s)
+      (subst (λ (s : Stage). Reaches peer p m r file (AsksChain [] 0) s)
       (try_again tries least low) reaches)
       on
 

@@ -26,7 +26,8 @@ use Rattle.ov_protocol.specs.Reading.{AnswersChain, AnswersChunk}
 use Rattle.ov_protocol.specs.Serving.{Service, followed, later, served}
 use Rattle.ov_protocol.proofs.Leaving.{later-nil}
 use Rattle.ov_protocol.proofs.Reading.{replies_are_read}
-use Rattle.ov_peer.specs.Asks.{Along, AreRight, Ask, IsReplyAt}
+use Rattle.ov_peer.specs.Asks.{Along, AreRight, Ask}
+use Rattle.ov_peer.specs.Tells.{IsReplyAt}
 use Rattle.ov_client.specs.Laws.{HoldsRootKeys, IsAsMachine, ReadsAreTheMachines, is_chain}
 use Rattle.ov_client.specs.Laws.{last_chain, now_if}
 use Rattle.ov_client.specs.Readers.{Reader}

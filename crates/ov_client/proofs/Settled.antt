@@ -25,7 +25,8 @@ use Rattle.ov_protocol.specs.Reading.{AnswersChain, AnswersChunk}
 use Rattle.ov_protocol.specs.Replies.{AnswersRead, Replies}
 use Rattle.ov_protocol.specs.Serving.{Service, later, served}
 use Rattle.ov_protocol.proofs.Reading.{request_back}
-use Rattle.ov_peer.specs.Asks.{Along, Ask, IsReplyAt}
+use Rattle.ov_peer.specs.Asks.{Along, Ask}
+use Rattle.ov_peer.specs.Tells.{IsReplyAt}
 use Rattle.ov_peer.proofs.Needing.{needs_disk}
 use Rattle.ov_client.specs.Laws.{AllAre, HasRoots, HoldsRootKeys, IsAnsweredOrCut}
 use Rattle.ov_client.specs.Laws.{ReadsAreAnswered}

@@ -5,10 +5,11 @@ use Rattle.std.specs.Prelude.{◌⊎◌}
 use Rattle.ov_wire.specs.declared.request.Request.{Request}
 use Rattle.ov_wire.specs.declared.answer.Answer.{Answer}
 use Rattle.ov_wire.specs.Requests.{HasRequestForm, request_bytes}
-use Rattle.ov_peer.specs.Asks.{Ask, Asked, Failed, Leads}
+use Rattle.ov_peer.specs.Asks.{Ask, Leads}
 use Rattle.ov_peer.specs.Exchanges.{Answered, Exchanges}
 use Rattle.ov_peer.specs.declared.fault.ExchangeFault.{ExchangeFault}
 use Rattle.ov_peer.specs.declared.fault.ExchangeFault.TheVariants as exchange
+use Rattle.ov_peer.specs.Tells.{PeerTells}
 use Rattle.ov_client.specs.Causes.{client_fault}
 use Rattle.ov_client.specs.Readers.{Reader}
 use Rattle.ov_client.specs.Reads.{GoesOn, Reaches, ReadsFrom}
@@ -17,12 +18,12 @@ use Rattle.ov_client.specs.Talks.{then_or}
 use Rattle.ov_client.specs.declared.fault.ClientFault.{ClientFault}
 use Rattle.ov_client.specs.declared.fault.ClientFault.TheVariants as client
 
-module _ {P : Type 0} (asked : Asked P) (failed : Failed P) (r : Reader) (file : List ℕ) where
+module _ {P : Type 0} (peer : PeerTells P) (r : Reader) (file : List ℕ) where
   -- ---- asks behind one another
 
-  leads_both : (p m q : P) (asks more : List Ask) → Leads asked p asks m → Leads asked m more q
-      → Leads asked p (asks ++ more) q
-  leads_both p m q [] more same leads = subst (λ (n : P). Leads asked n more q) (sym same) leads
+  leads_both : (p m q : P) (asks more : List Ask) → Leads peer p asks m → Leads peer m more q
+      → Leads peer p (asks ++ more) q
+  leads_both p m q [] more same leads = subst (λ (n : P). Leads peer n more q) (sym same) leads
   leads_both p m q (a ∷ asks) more (n, one, leads) then =
       (n, one, leads_both n m q asks more leads then)
 
@@ -34,11 +35,11 @@ module _ {P : Type 0} (asked : Asked P) (failed : Failed P) (r : Reader) (file :
       (next, one, goes_both next mid last asks more goes then)
 
   -- nothing was asked
-  pub stays : (p : P) (stage : Stage) → Reaches asked p p r file stage stage
+  pub stays : (p : P) (stage : Stage) → Reaches peer p p r file stage stage
   stays p stage = ([], refl, refl)
 
-  pub then_reaches : (p m q : P) (stage mid last : Stage) → Reaches asked p m r file stage mid
-      → Reaches asked m q r file mid last → Reaches asked p q r file stage last
+  pub then_reaches : (p m q : P) (stage mid last : Stage) → Reaches peer p m r file stage mid
+      → Reaches peer m q r file mid last → Reaches peer p q r file stage last
   then_reaches p m q stage mid last (asks, leads, goes) (more, leads_on, goes_further) = (
     asks ++ more,
     leads_both p m q asks more leads leads_on,
@@ -47,8 +48,8 @@ module _ {P : Type 0} (asked : Asked P) (failed : Failed P) (r : Reader) (file :
   )
 
   pub then_reads : (p m q : P) (stage mid : Stage) (result : Result (List ℕ) ClientFault)
-      → Reaches asked p m r file stage mid → ReadsFrom asked failed m q r file mid result
-      → ReadsFrom asked failed p q r file stage result
+      → Reaches peer p m r file stage mid → ReadsFrom peer m q r file mid result
+      → ReadsFrom peer p q r file stage result
   then_reads p m q stage mid result (asks, leads, goes)
       (more, unanswered, (n, leads_on, ends), (last, goes_further, closes)) = (
         asks ++ more,
@@ -59,19 +60,19 @@ module _ {P : Type 0} (asked : Asked P) (failed : Failed P) (r : Reader) (file :
 
   -- a stage at which the read is done
   pub ended : (p q : P) (stage : Stage) (result : Result (List ℕ) ClientFault)
-      → Reaches asked p q r file stage (Ends result)
-      → ReadsFrom asked failed p q r file stage result
+      → Reaches peer p q r file stage (Ends result)
+      → ReadsFrom peer p q r file stage result
   ended p q stage result (asks, leads, goes) =
       (asks, None, (q, leads, refl), (Ends result, goes, inl refl))
 
   -- memory runs out between two asks
-  pub forgot : (p : P) (stage : Stage) → ReadsFrom asked failed p p r file stage (Err client.Memory)
+  pub forgot : (p : P) (stage : Stage) → ReadsFrom peer p p r file stage (Err client.Memory)
   forgot p stage = ([], None, (p, refl, refl), (stage, refl, inr refl))
 
   -- and after a read that is done
   pub forgot_bytes : (p q : P) (stage : Stage) (bytes : List ℕ)
-      → ReadsFrom asked failed p q r file stage (Ok bytes)
-      → ReadsFrom asked failed p q r file stage (Err client.Memory)
+      → ReadsFrom peer p q r file stage (Ok bytes)
+      → ReadsFrom peer p q r file stage (Err client.Memory)
   forgot_bytes p q stage bytes (asks, None, leads, (last, goes, closes)) =
       (asks, None, leads, (last, goes, inr refl))
   forgot_bytes p q stage bytes (asks, Some frame, leads, (last, goes, (is, inl link))) = absurd (cc)
@@ -86,8 +87,8 @@ module _ {P : Type 0} (asked : Asked P) (failed : Failed P) (r : Reader) (file :
     asked_so = record { request = request; is_asked = at_stage; form = form; spelled = refl }
 
     -- its reply was read
-    pub answered : (p q : P) (read : Result Answer ℕ) → Answered asked p q request read
-        → Reaches asked p q r file stage (after r stage read)
+    pub answered : (p q : P) (read : Result Answer ℕ) → Answered peer p q request read
+        → Reaches peer p q r file stage (after r stage read)
     answered p q read a = (
       record { request = request_bytes request; reply = a.reply } ∷ [],
       (q, a.sent, refl),
@@ -102,8 +103,8 @@ module _ {P : Type 0} (asked : Asked P) (failed : Failed P) (r : Reader) (file :
       ),
     )
 
-    lost : (p q : P) (reply : List ℕ) → asked p (request_bytes request) reply q
-        → ReadsFrom asked failed p q r file stage (Err client.Memory)
+    lost : (p q : P) (reply : List ℕ) → peer.asked p (request_bytes request) reply q
+        → ReadsFrom peer p q r file stage (Err client.Memory)
     lost p q reply a = (
       record { request = request_bytes request; reply = reply } ∷ [],
       None,
@@ -115,24 +116,24 @@ module _ {P : Type 0} (asked : Asked P) (failed : Failed P) (r : Reader) (file :
       ),
     )
 
-    fails : (p q : P) (result : Result (List ℕ) ClientFault) → failed p (request_bytes request) q
-        → (result ≡ Err client.Link) ⊎ (result ≡ Err client.Memory)
-        → ReadsFrom asked failed p q r file stage result
+    fails : (p q : P) (result : Result (List ℕ) ClientFault)
+        → peer.failed p (request_bytes request) q → (result ≡ Err client.Link) ⊎ (result ≡ Err client.Memory)
+        → ReadsFrom peer p q r file stage result
     fails p q result f why =
         ([], Some (request_bytes request), (p, refl, f), (stage, refl, (asked_so, why)))
 
     -- it has no answer
     pub unanswered : (p q : P) (fault : ExchangeFault)
         → ((place : ℕ) → after r stage (Err place) ≡ Ends (Err (client.BadReply place)))
-        → Exchanges asked failed p q request (Err fault)
-        → ReadsFrom asked failed p q r file stage (Err (client_fault fault))
+        → Exchanges peer p q request (Err fault)
+        → ReadsFrom peer p q r file stage (Err (client_fault fault))
     unanswered p q exchange.Link bad x = fails p q (Err client.Link) x (inl refl)
     unanswered p q (exchange.BadReply place) bad x =
         ended p q stage (Err (client.BadReply place))
-        (subst (λ (s : Stage). Reaches asked p q r file stage s) (bad place)
+        (subst (λ (s : Stage). Reaches peer p q r file stage s) (bad place)
         (answered p q (Err place) x))
     unanswered p q exchange.Memory bad (inl same) =
-        subst (λ (n : P). ReadsFrom asked failed p n r file stage (Err client.Memory)) (sym same)
+        subst (λ (n : P). ReadsFrom peer p n r file stage (Err client.Memory)) (sym same)
         (forgot p stage)
     unanswered p q exchange.Memory bad (inr (inl f)) = fails p q (Err client.Memory) f (inr refl)
     unanswered p q exchange.Memory bad (inr (inr (reply, a))) = lost p q reply a
@@ -142,16 +143,16 @@ module _ {P : Type 0} (asked : Asked P) (failed : Failed P) (r : Reader) (file :
   -- it came to the stage after what was told
   pub told : {T : Type 0} (p q : P) (stage : Stage) (next : T → Stage)
       (result : Result T ClientFault)
-      → Reaches asked p q r file stage (then_or next result)
-      → GoesOn asked failed p q r file stage next result
+      → Reaches peer p q r file stage (then_or next result)
+      → GoesOn peer p q r file stage next result
   told p q stage next (Ok t) reaches = reaches
   told p q stage next (Err fault) reaches = ended p q stage (Err fault) reaches
 
   -- it began at a stage to which asks led
   pub behind : {T : Type 0} (p m q : P) (stage mid : Stage) (next : T → Stage)
       (result : Result T ClientFault)
-      → Reaches asked p m r file stage mid → GoesOn asked failed m q r file mid next result
-      → GoesOn asked failed p q r file stage next result
+      → Reaches peer p m r file stage mid → GoesOn peer m q r file mid next result
+      → GoesOn peer p q r file stage next result
   behind p m q stage mid next (Ok t) reaches on = then_reaches p m q stage mid (next t) reaches on
   behind p m q stage mid next (Err fault) reaches on = then_reads p m q stage mid (Err fault)
       reaches on

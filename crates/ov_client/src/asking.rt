@@ -25,11 +25,11 @@ impl Client {
         file: &Name,
         least: u32,
     ) -> Result<Chained, ClientFault>
-        ensures talk { (tries : List ℕ) → GoesOn P.asked P.failed peer.old peer.new
+        ensures talk { (tries : List ℕ) → GoesOn P.tells peer.old peer.new
             self.now file.now (AsksChain tries least) (λ c. goes_on self.now tries c []) result }
         ensures form { IfOk result IsChained }
-        ensures same { P.borrow peer.new ≡ P.borrow peer.old }
-        ensures cause { HasClientCause (P.faults peer.old) (P.faults peer.new) result }
+        ensures same { P.tells.borrow peer.new ≡ P.tells.borrow peer.old }
+        ensures cause { HasClientCause (P.tells.faults peer.old) (P.tells.faults peer.new) result }
     {
         let request = Request::Chain {
             user: self.name.copy(),
@@ -52,11 +52,11 @@ pub fn ask_chunk<P: Peer>(
 ) -> Result<Fetched, ClientFault>
     requires { start < chained.now.length }
     ensures talk { (r : Reader) (file tries stored : List ℕ) → start ≡ length stored
-        → GoesOn P.asked P.failed peer.old peer.new r file (AsksChunk tries chained.now stored)
+        → GoesOn P.tells peer.old peer.new r file (AsksChunk tries chained.now stored)
         (after_fetched r tries chained.now stored) result }
     ensures size { IfOk result (HasSize (chunk_bytes chained.now.length start)) }
-    ensures same { P.borrow peer.new ≡ P.borrow peer.old }
-    ensures cause { HasClientCause (P.faults peer.old) (P.faults peer.new) result }
+    ensures same { P.tells.borrow peer.new ≡ P.tells.borrow peer.old }
+    ensures cause { HasClientCause (P.tells.faults peer.old) (P.tells.faults peer.new) result }
 {
     let request = Request::Chunk {
         file: chained.file,

@@ -39,11 +39,11 @@ fn gather<P: Peer>(
 ) -> Result<Fetched, ClientFault>
     requires { chained.now.length ≤ MAX_FILE_BYTES }
     ensures talk { (r : Reader) (file tries : List ℕ) → keys.now ≡ keys_along r chained.now
-        → GoesOn P.asked P.failed peer.old peer.new r file (goes_on r tries chained.now [])
+        → GoesOn P.tells peer.old peer.new r file (goes_on r tries chained.now [])
         (after_gathered r tries chained.now) result }
     ensures size { IfOk result (HasAtMost MAX_FILE_BYTES) }
-    ensures same { P.borrow peer.new ≡ P.borrow peer.old }
-    ensures cause { HasClientCause (P.faults peer.old) (P.faults peer.new) result }
+    ensures same { P.tells.borrow peer.new ≡ P.tells.borrow peer.old }
+    ensures cause { HasClientCause (P.tells.faults peer.old) (P.tells.faults peer.new) result }
 {
     let mut plain = match Vec::with_capacity(alloc, chained.length as usize) {
         Ok(plain) => plain,
@@ -71,10 +71,10 @@ impl Client {
         chained: &Chained,
     ) -> Result<Tried, ClientFault>
         requires { IsChained chained.now }
-        ensures talk { (file tries : List ℕ) → GoesOn P.asked P.failed peer.old peer.new
+        ensures talk { (file tries : List ℕ) → GoesOn P.tells peer.old peer.new
             self.now file (goes_on self.now tries chained.now []) (after_tried tries) result }
-        ensures same { P.borrow peer.new ≡ P.borrow peer.old }
-        ensures cause { HasClientCause (P.faults peer.old) (P.faults peer.new) result }
+        ensures same { P.tells.borrow peer.new ≡ P.tells.borrow peer.old }
+        ensures cause { HasClientCause (P.tells.faults peer.old) (P.tells.faults peer.new) result }
     {
         let keys = Keys::along(self, chained);
         match gather(alloc, peer, chained, &keys) {
@@ -98,10 +98,10 @@ impl Client {
         file: &Name,
         least: u32,
     ) -> Result<Tried, ClientFault>
-        ensures talk { (tries : List ℕ) → GoesOn P.asked P.failed peer.old peer.new
+        ensures talk { (tries : List ℕ) → GoesOn P.tells peer.old peer.new
             self.now file.now (AsksChain tries least) (after_tried tries) result }
-        ensures same { P.borrow peer.new ≡ P.borrow peer.old }
-        ensures cause { HasClientCause (P.faults peer.old) (P.faults peer.new) result }
+        ensures same { P.tells.borrow peer.new ≡ P.tells.borrow peer.old }
+        ensures cause { HasClientCause (P.tells.faults peer.old) (P.tells.faults peer.new) result }
     {
         match self.ask_chain(alloc, peer, file, least) {
             Ok(chained) => self.read_along(alloc, peer, &chained),
@@ -121,9 +121,9 @@ impl Client {
         peer: &mut P,
         file: &Name,
     ) -> Result<Octets, ClientFault>
-        ensures talk { Reads P.asked P.failed peer.old peer.new self.now file.now result }
-        ensures same { P.borrow peer.new ≡ P.borrow peer.old }
-        ensures cause { HasClientCause (P.faults peer.old) (P.faults peer.new) result }
+        ensures talk { Reads P.tells peer.old peer.new self.now file.now result }
+        ensures same { P.tells.borrow peer.new ≡ P.tells.borrow peer.old }
+        ensures cause { HasClientCause (P.tells.faults peer.old) (P.tells.faults peer.new) result }
     {
         let mut generations = [0; TRIES];
         let mut least = 0;
@@ -149,10 +149,10 @@ impl Client {
         file: &Name,
         into: &mut Vec<u8>,
     ) -> Result<(), ClientFault>
-        ensures talk { ReadsInto P.asked P.failed peer.old peer.new self.now file.now
+        ensures talk { ReadsInto P.tells peer.old peer.new self.now file.now
             into.old.items into.new.items result }
-        ensures same { P.borrow peer.new ≡ P.borrow peer.old }
-        ensures cause { HasClientCause (P.faults peer.old) (P.faults peer.new) result }
+        ensures same { P.tells.borrow peer.new ≡ P.tells.borrow peer.old }
+        ensures cause { HasClientCause (P.tells.faults peer.old) (P.tells.faults peer.new) result }
     {
         match self.fetch(alloc, peer, file) {
             Ok(bytes) => match into.extend_from_slice(bytes.as_slice()) {

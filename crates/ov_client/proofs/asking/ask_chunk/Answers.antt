@@ -19,14 +19,14 @@ returns-in-Ok-clause-talk g c = λ r file tries stored size.
     c.in-Ok.answer =
     c.fetched_in.ensures.told ∙ ap (λ n. fetched_in n c.in-Ok.answer) c.min-count.ensures
     ∙ ap (λ n. fetched_in (chunk_bytes d.length n) c.in-Ok.answer) size in
-    told g.P.Peer.asked g.P.Peer.failed r file c.args.peer.now c.exchange.new.peer
+    told g.P.Peer.tells r file c.args.peer.now c.exchange.new.peer
     (AsksChunk tries d stored) (after_fetched r tries d stored) c.fetched_in.result
     (subst
-    (λ (x : Result Fetched ClientFault). Reaches g.P.Peer.asked c.args.peer.now c.exchange.new.peer
+    (λ (x : Result Fetched ClientFault). Reaches g.P.Peer.tells c.args.peer.now c.exchange.new.peer
     r file
     (AsksChunk tries d stored) (then_or (after_fetched r tries d stored) x))
     (sym is)
-    (answered g.P.Peer.asked g.P.Peer.failed r file (AsksChunk tries d stored)
+    (answered g.P.Peer.tells r file (AsksChunk tries d stored)
     (requests.Chunk d.file d.generation c.args.start MAX_CHUNK_BYTES) same c.in-Ok.ensures.form
     c.args.peer.now c.exchange.new.peer (Ok c.in-Ok.answer) c.in-Ok.ensures.exchanges))
 
@@ -37,10 +37,10 @@ returns-clause-talk g c = λ r file tries stored size.
     ≡ Some (requests.Chunk d.file d.generation c.args.start MAX_CHUNK_BYTES) =
     ap (λ n. Some (requests.Chunk d.file d.generation n MAX_CHUNK_BYTES)) (sym size) in
     subst
-    (λ (f : ClientFault). ReadsFrom g.P.Peer.asked g.P.Peer.failed c.args.peer.now
+    (λ (f : ClientFault). ReadsFrom g.P.Peer.tells c.args.peer.now
     c.exchange.new.peer r file
     (AsksChunk tries d stored) (Err f))
     (sym c.fault_of.ensures)
-    (unanswered g.P.Peer.asked g.P.Peer.failed r file (AsksChunk tries d stored)
+    (unanswered g.P.Peer.tells r file (AsksChunk tries d stored)
     (requests.Chunk d.file d.generation c.args.start MAX_CHUNK_BYTES) same c.in-Err.ensures.form
     c.args.peer.now c.exchange.new.peer c.in-Err.fault (λ place. refl) c.in-Err.ensures.exchanges)

@@ -13,16 +13,16 @@ use Rattle.ov_client.proofs.reading.gather.Goals as goal
 
 pub returns-in-Err-clause-talk : goal.returns-in-Err-clause-talk
 returns-in-Err-clause-talk g c = λ r file tries same.
-    forgot g.P.Peer.asked g.P.Peer.failed r file c.args.peer.now
+    forgot g.P.Peer.tells r file c.args.peer.now
     (goes_on r tries c.args.chained.now [])
 
 pub loop-alloc-init : goal.loop-alloc-init
 loop-alloc-init g c = record {
   gathers = λ r file tries.
-      subst (Gathers g.P.Peer.asked g.P.Peer.failed r file c.args.peer.now c.args.peer.now tries
+      subst (Gathers g.P.Peer.tells r file c.args.peer.now c.args.peer.now tries
       c.args.chained.now c.args.keys.now)
       (sym c.in-Ok.ensures.items)
-      (gathers_none g.P.Peer.asked g.P.Peer.failed r file c.args.peer.now tries c.args.chained.now
+      (gathers_none g.P.Peer.tells r file c.args.peer.now tries c.args.chained.now
       c.args.keys.now);
   few = let none = ap length c.in-Ok.ensures.items in omega arith;
   same = refl;
@@ -60,17 +60,17 @@ loop-alloc-preserved g c =
           (omega (
             arith,
             c.len-in-loop-alloc.ensures,
-            size_is g.P.Peer.asked g.P.Peer.failed r file
+            size_is g.P.Peer.tells r file
                 c.args.peer.now c.loop-alloc.peer c.ask_chunk.new.peer tries d c.args.keys.now plain
                 so_far,
           )) in
-          gathers_more g.P.Peer.asked g.P.Peer.failed r file c.args.peer.now c.loop-alloc.peer
+          gathers_more g.P.Peer.tells r file c.args.peer.now c.loop-alloc.peer
           c.ask_chunk.new.peer tries d c.args.keys.now
           plain so_far chunk c.append.new.plain.items
-          (fetched_on g.P.Peer.asked g.P.Peer.failed r file c.args.peer.now c.loop-alloc.peer
+          (fetched_on g.P.Peer.tells r file c.args.peer.now c.loop-alloc.peer
           c.ask_chunk.new.peer tries d c.args.keys.now
           plain so_far (Ok (Bytes chunk)) low
-          (subst (λ (f : Fetched). GoesOn g.P.Peer.asked g.P.Peer.failed c.loop-alloc.peer
+          (subst (λ (f : Fetched). GoesOn g.P.Peer.tells c.loop-alloc.peer
           c.ask_chunk.new.peer r file
           (AsksChunk tries d so_far.stored) (after_fetched r tries d so_far.stored) (Ok f))
           c.in-Ok-Bytes.field-0-is on))
@@ -91,17 +91,17 @@ returns-in-Err-append-clause-talk g c = λ r file tries same.
     (omega (
       arith,
       c.len-in-loop-alloc.ensures,
-      size_is g.P.Peer.asked g.P.Peer.failed r file
+      size_is g.P.Peer.tells r file
           c.args.peer.now c.loop-alloc.peer c.ask_chunk.new.peer tries d c.args.keys.now plain
           so_far,
     )) in
-    no_room g.P.Peer.asked g.P.Peer.failed r file c.args.peer.now c.loop-alloc.peer
+    no_room g.P.Peer.tells r file c.args.peer.now c.loop-alloc.peer
     c.ask_chunk.new.peer tries d c.args.keys.now
     plain so_far chunk
-    (fetched_on g.P.Peer.asked g.P.Peer.failed r file c.args.peer.now c.loop-alloc.peer
+    (fetched_on g.P.Peer.tells r file c.args.peer.now c.loop-alloc.peer
     c.ask_chunk.new.peer tries d c.args.keys.now
     plain so_far (Ok (Bytes chunk)) low
-    (subst (λ (f : Fetched). GoesOn g.P.Peer.asked g.P.Peer.failed c.loop-alloc.peer
+    (subst (λ (f : Fetched). GoesOn g.P.Peer.tells c.loop-alloc.peer
     c.ask_chunk.new.peer r file
     (AsksChunk tries d so_far.stored) (after_fetched r tries d so_far.stored) (Ok f))
     c.in-Ok-Bytes.field-0-is on))
@@ -116,14 +116,14 @@ returns-in-Ok-Moved-clause-talk g c = λ r file tries same.
     (omega (
       arith,
       c.len-in-loop-alloc.ensures,
-      size_is g.P.Peer.asked g.P.Peer.failed r file
+      size_is g.P.Peer.tells r file
           c.args.peer.now c.loop-alloc.peer c.ask_chunk.new.peer tries d c.args.keys.now plain
           so_far,
     )) in
-    fetched_on g.P.Peer.asked g.P.Peer.failed r file c.args.peer.now c.loop-alloc.peer
+    fetched_on g.P.Peer.tells r file c.args.peer.now c.loop-alloc.peer
     c.ask_chunk.new.peer tries d c.args.keys.now
     plain so_far (Ok (Moved c.in-Ok-Moved.now)) low
-    (subst (λ (f : Fetched). GoesOn g.P.Peer.asked g.P.Peer.failed c.loop-alloc.peer
+    (subst (λ (f : Fetched). GoesOn g.P.Peer.tells c.loop-alloc.peer
     c.ask_chunk.new.peer r file
     (AsksChunk tries d so_far.stored) (after_fetched r tries d so_far.stored) (Ok f))
     c.in-Ok-Moved.field-0-is on)
@@ -138,11 +138,11 @@ returns-in-Err-ask_chunk-clause-talk g c = λ r file tries same.
     (omega (
       arith,
       c.len-in-loop-alloc.ensures,
-      size_is g.P.Peer.asked g.P.Peer.failed r file
+      size_is g.P.Peer.tells r file
           c.args.peer.now c.loop-alloc.peer c.ask_chunk.new.peer tries d c.args.keys.now plain
           so_far,
     )) in
-    fetched_on g.P.Peer.asked g.P.Peer.failed r file c.args.peer.now c.loop-alloc.peer
+    fetched_on g.P.Peer.tells r file c.args.peer.now c.loop-alloc.peer
     c.ask_chunk.new.peer tries d c.args.keys.now
     plain so_far (Err c.in-Err-ask_chunk.fault) low on
 
@@ -151,9 +151,9 @@ returns-clause-talk g c = λ r file tries same.
     let d = c.args.chained.now in
     let plain = c.loop-alloc.plain.items in
     let so_far = c.loop-alloc.invariant.gathers r file tries in
-    subst (λ (bytes : List ℕ). Reaches g.P.Peer.asked c.args.peer.now c.loop-alloc.peer r file
+    subst (λ (bytes : List ℕ). Reaches g.P.Peer.tells c.args.peer.now c.loop-alloc.peer r file
     (goes_on r tries d [])
     (after_gathered r tries d (Bytes bytes))) (sym c.from_vec.ensures)
-    (gathers_all g.P.Peer.asked g.P.Peer.failed r file c.args.peer.now c.loop-alloc.peer
+    (gathers_all g.P.Peer.tells r file c.args.peer.now c.loop-alloc.peer
     c.loop-alloc.peer tries d c.args.keys.now
     plain so_far same (omega (arith, c.len.ensures, c.loop-alloc-test.false)))

@@ -34,14 +34,14 @@ returns-in-Ok-clause-talk g c = λ tries.
     let same : Some (requests.Chain r.name c.args.file.now) ≡ Some
     (requests.Chain c.copy.result c.copy-2.result) =
     λ i. Some (requests.Chain (sym name i) (sym c.copy-2.ensures i)) in
-    told g.P.Peer.asked g.P.Peer.failed r c.args.file.now c.args.peer.now c.exchange.new.peer
+    told g.P.Peer.tells r c.args.file.now c.args.peer.now c.exchange.new.peer
     (AsksChain tries c.args.least) (λ (d : Chained). goes_on r tries d []) c.chained_in.result
     (subst
-    (λ (x : Result Chained ClientFault). Reaches g.P.Peer.asked c.args.peer.now c.exchange.new.peer
+    (λ (x : Result Chained ClientFault). Reaches g.P.Peer.tells c.args.peer.now c.exchange.new.peer
     r c.args.file.now
     (AsksChain tries c.args.least) (then_or (λ (d : Chained). goes_on r tries d []) x))
     (sym c.chained_in.ensures)
-    (answered g.P.Peer.asked g.P.Peer.failed r c.args.file.now (AsksChain tries c.args.least)
+    (answered g.P.Peer.tells r c.args.file.now (AsksChain tries c.args.least)
     (requests.Chain c.copy.result c.copy-2.result) same c.in-Ok.ensures.form
     c.args.peer.now c.exchange.new.peer (Ok c.in-Ok.answer) c.in-Ok.ensures.exchanges))
 
@@ -54,10 +54,10 @@ returns-clause-talk g c = λ tries.
     (requests.Chain c.copy.result c.copy-2.result) =
     λ i. Some (requests.Chain (sym name i) (sym c.copy-2.ensures i)) in
     subst
-    (λ (f : ClientFault). ReadsFrom g.P.Peer.asked g.P.Peer.failed c.args.peer.now
+    (λ (f : ClientFault). ReadsFrom g.P.Peer.tells c.args.peer.now
     c.exchange.new.peer r c.args.file.now
     (AsksChain tries c.args.least) (Err f))
     (sym c.fault_of.ensures)
-    (unanswered g.P.Peer.asked g.P.Peer.failed r c.args.file.now (AsksChain tries c.args.least)
+    (unanswered g.P.Peer.tells r c.args.file.now (AsksChain tries c.args.least)
     (requests.Chain c.copy.result c.copy-2.result) same c.in-Err.ensures.form
     c.args.peer.now c.exchange.new.peer c.in-Err.fault (λ place. refl) c.in-Err.ensures.exchanges)

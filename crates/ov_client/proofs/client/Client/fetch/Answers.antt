@@ -23,12 +23,12 @@ returns-in-Ok-Read-clause-talk g c =
       length-take-le c.loop-n.n
           c.loop-n.generations,
     ) in
-    ended g.P.Peer.asked g.P.Peer.failed r file c.args.peer.now c.try_once.new.peer (AsksChain [] 0)
+    ended g.P.Peer.tells r file c.args.peer.now c.try_once.new.peer (AsksChain [] 0)
     (Ok c.in-Ok-Read.bytes)
-    (tried_on g.P.Peer.asked g.P.Peer.failed r file c.args.peer.now c.loop-n.peer
+    (tried_on g.P.Peer.tells r file c.args.peer.now c.loop-n.peer
     c.try_once.new.peer before c.loop-n.least
     (Ok (tries.Read c.in-Ok-Read.bytes)) low c.loop-n.invariant.reaches
-    (subst (λ (t : Tried). GoesOn g.P.Peer.asked g.P.Peer.failed c.loop-n.peer c.try_once.new.peer r
+    (subst (λ (t : Tried). GoesOn g.P.Peer.tells c.loop-n.peer c.try_once.new.peer r
     file
     (AsksChain before c.loop-n.least) (after_tried before) (Ok t)) c.in-Ok-Read.field-0-is
     (c.in-Ok-Read.ensures.talk before)))
@@ -46,7 +46,7 @@ returns-in-Err-clause-talk g c =
       length-take-le c.loop-n.n
           c.loop-n.generations,
     ) in
-    tried_on g.P.Peer.asked g.P.Peer.failed r file c.args.peer.now c.loop-n.peer c.try_once.new.peer
+    tried_on g.P.Peer.tells r file c.args.peer.now c.loop-n.peer c.try_once.new.peer
     before c.loop-n.least
     (Err c.in-Err.fault) low c.loop-n.invariant.reaches (c.in-Err.ensures.talk before)
 
@@ -61,14 +61,14 @@ loop-n-preserved g c =
     (arith, c.loop-n-test.true, c.loop-n.invariant.many) in
     let low : length before < TRIES =
     omega (arith, c.loop-n-test.true, c.loop-n.invariant.many, length-take-le c.loop-n.n all) in
-    let on = tried_on g.P.Peer.asked g.P.Peer.failed r file c.args.peer.now c.loop-n.peer
+    let on = tried_on g.P.Peer.tells r file c.args.peer.now c.loop-n.peer
     c.try_once.new.peer before c.loop-n.least
     (Ok (tries.Moved generation c.in-Ok-Moved.now)) low c.loop-n.invariant.reaches
-    (subst (λ (t : Tried). GoesOn g.P.Peer.asked g.P.Peer.failed c.loop-n.peer c.try_once.new.peer r
+    (subst (λ (t : Tried). GoesOn g.P.Peer.tells c.loop-n.peer c.try_once.new.peer r
     file
     (AsksChain before c.loop-n.least) (after_tried before) (Ok t)) c.in-Ok-Moved.field-0-is
     (c.in-Ok-Moved.ensures.talk before)) in record {
-      reaches = subst (λ (told : List ℕ). Reaches g.P.Peer.asked c.args.peer.now c.try_once.new.peer
+      reaches = subst (λ (told : List ℕ). Reaches g.P.Peer.tells c.args.peer.now c.try_once.new.peer
           r file (AsksChain [] 0)
           (again told c.in-Ok-Moved.now)) (sym (take_more_set all c.loop-n.n generation there)) on;
       many = length-set all c.loop-n.n generation ∙ c.loop-n.invariant.many;

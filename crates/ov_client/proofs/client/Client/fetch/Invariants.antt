@@ -5,9 +5,9 @@ use Rattle.ov_client.proofs.client.Client.fetch.Given as goal
 
 abbrev pub invariant-loop-n : goal.invariant-loop-n
 invariant-loop-n g l = record {
-  reaches : Reaches g.P.Peer.asked l.fn.peer l.peer l.self l.file (AsksChain [] 0)
+  reaches : Reaches g.P.Peer.tells l.fn.peer l.peer l.self l.file (AsksChain [] 0)
       (again (take l.n l.generations) l.least);
   many : length l.generations ≡ 9;
-  same : g.P.Peer.borrow l.peer ≡ g.P.Peer.borrow l.fn.peer;
-  later : g.P.Peer.faults l.fn.peer ≤ g.P.Peer.faults l.peer;
+  same : g.P.Peer.tells.borrow l.peer ≡ g.P.Peer.tells.borrow l.fn.peer;
+  later : g.P.Peer.tells.faults l.fn.peer ≤ g.P.Peer.tells.faults l.peer;
 }

@@ -13,13 +13,13 @@ returns-in-Ok-clause-talk g c = λ file tries.
     let r = c.args.self.now in
     let d = c.args.chained.now in
     let plain = c.in-Ok-Bytes.plain in
-    let on = subst (λ (f : Fetched). GoesOn g.P.Peer.asked g.P.Peer.failed c.args.peer.now
+    let on = subst (λ (f : Fetched). GoesOn g.P.Peer.tells c.args.peer.now
     c.gather.new.peer r file
     (goes_on r tries d []) (after_gathered r tries d) (Ok f)) c.in-Ok-Bytes.field-0-is
     (c.in-Ok-Bytes.ensures.talk r file tries c.along-keys.ensures) in
     let judge : judged (keys_along r d) d plain ≡ Ok c.in-Ok.bytes =
     ap (λ (k : FileKeys). judged k d plain) (sym c.along-keys.ensures) ∙ sym c.in-Ok.ensures in
-    subst (λ (x : Result (List ℕ) ClientFault). Reaches g.P.Peer.asked c.args.peer.now
+    subst (λ (x : Result (List ℕ) ClientFault). Reaches g.P.Peer.tells c.args.peer.now
     c.gather.new.peer r file
     (goes_on r tries d []) (Ends x)) judge on
 
@@ -28,17 +28,17 @@ returns-in-Err-judge-clause-talk g c = λ file tries.
     let r = c.args.self.now in
     let d = c.args.chained.now in
     let plain = c.in-Ok-Bytes.plain in
-    let on = subst (λ (f : Fetched). GoesOn g.P.Peer.asked g.P.Peer.failed c.args.peer.now
+    let on = subst (λ (f : Fetched). GoesOn g.P.Peer.tells c.args.peer.now
     c.gather.new.peer r file
     (goes_on r tries d []) (after_gathered r tries d) (Ok f)) c.in-Ok-Bytes.field-0-is
     (c.in-Ok-Bytes.ensures.talk r file tries c.along-keys.ensures) in
     let judge : judged (keys_along r d) d plain ≡ Err c.in-Err-judge.fault =
     ap (λ (k : FileKeys). judged k d plain) (sym c.along-keys.ensures)
     ∙ sym c.in-Err-judge.ensures in
-    ended g.P.Peer.asked g.P.Peer.failed r file c.args.peer.now c.gather.new.peer
+    ended g.P.Peer.tells r file c.args.peer.now c.gather.new.peer
     (goes_on r tries d [])
     (Err c.in-Err-judge.fault)
-    (subst (λ (x : Result (List ℕ) ClientFault). Reaches g.P.Peer.asked c.args.peer.now
+    (subst (λ (x : Result (List ℕ) ClientFault). Reaches g.P.Peer.tells c.args.peer.now
     c.gather.new.peer r file
     (goes_on r tries d []) (Ends x)) judge on)
 
@@ -46,7 +46,7 @@ pub returns-in-Ok-Moved-clause-talk : goal.returns-in-Ok-Moved-clause-talk
 returns-in-Ok-Moved-clause-talk g c = λ file tries.
     let r = c.args.self.now in
     let d = c.args.chained.now in
-    subst (λ (f : Fetched). GoesOn g.P.Peer.asked g.P.Peer.failed c.args.peer.now c.gather.new.peer
+    subst (λ (f : Fetched). GoesOn g.P.Peer.tells c.args.peer.now c.gather.new.peer
     r file
     (goes_on r tries d []) (after_gathered r tries d) (Ok f)) c.in-Ok-Moved.field-0-is
     (c.in-Ok-Moved.ensures.talk r file tries c.along-keys.ensures)

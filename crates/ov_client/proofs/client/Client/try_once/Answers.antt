@@ -7,7 +7,7 @@ use Rattle.ov_client.proofs.client.Client.try_once.Goals as goal
 pub returns-in-Ok-clause-talk : goal.returns-in-Ok-clause-talk
 returns-in-Ok-clause-talk g c = λ tries.
     let r = c.args.self.now in
-    behind g.P.Peer.asked g.P.Peer.failed r c.args.file.now c.args.peer.now c.ask_chain.new.peer
+    behind g.P.Peer.tells r c.args.file.now c.args.peer.now c.ask_chain.new.peer
     c.read_along.new.peer
     (AsksChain tries c.args.least) (goes_on r tries c.in-Ok.chained []) (after_tried tries)
     c.read_along.result
