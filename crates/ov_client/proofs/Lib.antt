@@ -14,3 +14,4 @@ pub mod Settled
 pub mod Spaces
 pub mod Staying
 pub mod Talking
+pub mod Told

@@ -7,3 +7,4 @@ pub mod Tries
 pub mod Causes
 pub mod KeyLines
 pub mod Laws
+pub mod Told

@@ -26,10 +26,10 @@
 //! [`Client::from_line`] reads it exactly where it is one. A line has one reader
 //! ([`lines_are_read_once`]), and that of a written one is whose line was written.
 //!
-//! Which peer it is doesn't matter. Of one that tells its history, laws say what the result is
-//! worth: bytes and refusals are the machine's ([`reads_are_the_machines`]), and where nobody
-//! changes the history meanwhile a read ends so unless it is cut off ([`reads_are_answered`]). The
-//! nine generations rise ([`moved_generations_rise`]).
+//! Which peer it is doesn't matter. Of one that tells its history, each call says what the result
+//! is worth (`told`): bytes and refusals are the machine's, by the law [`reads_are_the_machines`].
+//! Where nobody changes the history meanwhile a read ends so unless it is cut off
+//! ([`reads_are_answered`]). The nine generations rise ([`moved_generations_rise`]).
 //!
 //! | file in `specs/` | says |
 //! |---|---|
@@ -42,6 +42,7 @@
 //! | `Rising` | the generations of a read that is unsettled |
 //! | `KeyLines` | the line of a reader's keys, as it is written and as it may be read |
 //! | `Laws` | the laws |
+//! | `Told` | what a read gives over a peer that tells its history |
 //!
 //! Nothing is claimed of secrecy, nor of a peer that tells nothing beyond what its replies say: who
 //! holds the file's access key can make bytes that have its tag.

@@ -2,10 +2,12 @@
 ghost use Rattle.std.specs.Prelude.{◌≡◌, ◌≤◌, ℕ, List, [], length, IfOk};
 ghost use Rattle.ov_base.specs.declared.limits.TheConstants.{MAX_FILE_BYTES};
 ghost use Rattle.ov_wire.specs.AnswersTo.{IsChained};
+ghost use Rattle.ov_protocol.specs.Serving.{Service};
 ghost use Rattle.ov_client.specs.Causes.{HasClientCause};
 ghost use Rattle.ov_client.specs.Readers.{Reader, keys_along};
 ghost use Rattle.ov_client.specs.Reads.{GoesOn, Reads, ReadsInto};
 ghost use Rattle.ov_client.specs.Talks.{AsksChain, goes_on};
+ghost use Rattle.ov_client.specs.Told.{IsReadersReply, IsReadersReplyInto};
 ghost use Rattle.ov_client.specs.Tries.{HasAtMost, after_gathered, after_tried};
 
 use crate::asking::ask_chunk;
@@ -122,6 +124,8 @@ impl Client {
         file: &Name,
     ) -> Result<Octets, ClientFault>
         ensures talk { Reads P.tells peer.old peer.new self.now file.now result }
+        ensures told { (v : Service) → P.tells.serves peer.old v
+            → IsReadersReply self.now file.now v (P.tells.serves peer.new) result }
         ensures same { P.tells.borrow peer.new ≡ P.tells.borrow peer.old }
         ensures cause { HasClientCause (P.tells.faults peer.old) (P.tells.faults peer.new) result }
     {
@@ -150,6 +154,9 @@ impl Client {
         into: &mut Vec<u8>,
     ) -> Result<(), ClientFault>
         ensures talk { ReadsInto P.tells peer.old peer.new self.now file.now
+            into.old.items into.new.items result }
+        ensures told { (v : Service) → P.tells.serves peer.old v
+            → IsReadersReplyInto self.now file.now v (P.tells.serves peer.new)
             into.old.items into.new.items result }
         ensures same { P.tells.borrow peer.new ≡ P.tells.borrow peer.old }
         ensures cause { HasClientCause (P.tells.faults peer.old) (P.tells.faults peer.new) result }

@@ -8,6 +8,7 @@ use Rattle.ov_client.specs.declared.reading.Tried.{Tried}
 use Rattle.ov_client.specs.declared.reading.Tried.TheVariants as tries
 use Rattle.ov_client.proofs.Gathering.{tried_on}
 use Rattle.ov_client.proofs.Talking.{ended}
+use Rattle.ov_client.proofs.Told.{read_told}
 use Rattle.ov_client.proofs.client.Client.fetch.Goals as goal
 
 pub returns-in-Ok-Read-clause-talk : goal.returns-in-Ok-Read-clause-talk
@@ -49,6 +50,16 @@ returns-in-Err-clause-talk g c =
     tried_on g.P.Peer.tells r file c.args.peer.now c.loop-n.peer c.try_once.new.peer
     before c.loop-n.least
     (Err c.in-Err.fault) low c.loop-n.invariant.reaches (c.in-Err.ensures.talk before)
+
+pub returns-in-Ok-Read-clause-told : goal.returns-in-Ok-Read-clause-told
+returns-in-Ok-Read-clause-told g c = λ v is.
+    read_told g.P.Peer.tells c.args.peer.now c.try_once.new.peer c.args.self.now c.args.file.now
+    (Ok c.in-Ok-Read.bytes) v (returns-in-Ok-Read-clause-talk g c) is
+
+pub returns-in-Err-clause-told : goal.returns-in-Err-clause-told
+returns-in-Err-clause-told g c = λ v is.
+    read_told g.P.Peer.tells c.args.peer.now c.try_once.new.peer c.args.self.now c.args.file.now
+    (Err c.in-Err.fault) v (returns-in-Err-clause-talk g c) is
 
 pub loop-n-preserved : goal.loop-n-preserved
 loop-n-preserved g c =
