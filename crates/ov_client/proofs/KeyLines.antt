@@ -1,5 +1,5 @@
 -- Lines of keys: their words, and that they are read once.
-use Rattle.std.proofs.Common.{◌≡◌, ◌∙◌, ℕ, ◌+◌, ◌^◌, ◌<◌, List, [], ◌∷◌, ◌++◌, length, Ok, Err}
+use Rattle.std.proofs.Common.{◌≡◌, ◌∙◌, ℕ, ◌^◌, ◌<◌, List, [], ◌∷◌, ◌++◌, length, Ok, Err}
 use Rattle.std.proofs.Common.{refl, sym, ap, subst, inl, arith, append_assoc, length-append}
 use Rattle.std.proofs.Common.{take, drop, take-append-drop}
 use Rattle.std.specs.Prelude.{IfNone, Option, Some, None, Result}

@@ -1,6 +1,6 @@
 -- The generations of tries in which a file moved rise.
 use Rattle.std.proofs.Common.{◌≡◌, ℕ, ◌+◌, ◌<◌, ◌≤◌, List, [], ◌∷◌, ◌++◌, length, length-append}
-use Rattle.std.proofs.Common.{Option, Some, None, Result, Ok, Err, refl, sym, ap, subst, inl, inr}
+use Rattle.std.proofs.Common.{Option, Some, None, Result, Ok, Err, refl, sym, subst, inl, inr}
 use Rattle.std.proofs.Common.{arith, lit<}
 use Rattle.std.specs.Prelude.{nat_lt, ◌==◌, Bool, true, false, ◌⊎◌, if◌then◌else◌, min, bytes_eq}
 use Rattle.std.proofs.lemmas.Bool.Decides.{nat_tests}
@@ -18,10 +18,9 @@ use Rattle.ov_peer.specs.Asks.{Ask}
 use Rattle.ov_client.specs.Readers.{Reader, judged, keys_along, uncovered}
 use Rattle.ov_client.specs.Rising.{MovedGenerationsRise, Rises}
 use Rattle.ov_client.specs.Talks.{AsksChain, AsksChunk, Closes, Ends, Goes, IsAfter, Moves, Stage}
-use Rattle.ov_client.specs.Talks.{after, after_fetched, again, asked_at, goes_on, then_or}
+use Rattle.ov_client.specs.Talks.{after, after_fetched, asked_at, goes_on, then_or}
 use Rattle.ov_client.specs.Telling.{chained_unless, chunk_bytes, generation_place, wrong_field}
 use Rattle.ov_client.specs.Telling.{base_root_place, wrong_surface}
-use Rattle.ov_client.specs.declared.fault.ClientFault.{ClientFault}
 use Rattle.ov_client.specs.declared.fault.ClientFault.TheVariants as client
 use Rattle.ov_client.specs.declared.reading.TheConstants.{TRIES}
 use Rattle.ov_client.specs.declared.telling.Fetched.TheVariants.{Bytes}

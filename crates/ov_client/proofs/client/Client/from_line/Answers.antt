@@ -1,7 +1,5 @@
-use Rattle.std.proofs.Common.{◌≡◌, ◌∙◌, List, ℕ, ap, false, refl, subst, sym, true}
-use Rattle.ov_base.specs.Names.{IsName}
+use Rattle.std.proofs.Common.{◌≡◌, ◌∙◌, List, ℕ, false, refl, subst, sym, true}
 use Rattle.ov_client.specs.KeyLines.{IsLineOf}
-use Rattle.ov_client.specs.Readers.{Reader}
 use Rattle.ov_client.proofs.KeyLines.{NoLine, at_base, at_end, at_name, at_surface, behind_base, found_so, if_none, parts_of}
 use Rattle.ov_client.proofs.Spaces.{unsplit}
 use Rattle.ov_client.proofs.client.Client.from_line.Goals as goal
