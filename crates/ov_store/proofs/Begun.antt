@@ -3,6 +3,7 @@ use Rattle.std.proofs.Common.{◌≡◌, inr, ⊎_elim, ℕ, suc, ◌<◌, ◌^�
 use Rattle.ov_base.specs.declared.mode.Mode.{Mode}
 use Rattle.ov_disk.specs.Disk.{Image, Only, Told}
 use Rattle.ov_disk.specs.Moments.{IsUntouched}
+use Rattle.ov_disk.specs.Tells.{DiskTells}
 use Rattle.ov_record.specs.Updates.{SealedUpdate}
 use Rattle.ov_history.specs.Sealed.{SealedHistory, outer_all}
 use Rattle.ov_history.proofs.Showing.{history_is_shown}
@@ -36,14 +37,13 @@ pub record IsFound (k : Keys) (mode : Mode) (h : Header) (log : Log) (s : Store)
   pub whole : log.bad ≡ false
   pub low : h.first < 2 ^ 32
 
-module _ {D : Type 0} (reads : D → Option Image) (may_leave : D → Image → Type 0)
-    (moment : D → ℕ) (left_since : D → ℕ → Image → Type 0) (d0 d1 : D)
-    (quiet : IsUntouched moment left_since may_leave reads d0 d1)
-    (settled : Told (reads d0) (λ i. Only i (may_leave d0)))
+module _ {D : Type 0} (tells : DiskTells D) (d0 d1 : D)
+    (quiet : IsUntouched tells d0 d1)
+    (settled : Told (tells.reads d0) (λ i. Only i (tells.may_leave d0)))
     (k : Keys) (mode : Mode) (h : Header) (log : Log) (bad : Option ℕ) (s : Store)
     (bodies : List (List ℕ)) (found : IsFound k mode h log s bodies)
-    (store : Told (reads d0) (λ i. IsStore log h bad i.book))
-    (all : Told (reads d0) (λ i. bodies ≡ (contents_of i.book).records.bodies)) where
+    (store : Told (tells.reads d0) (λ i. IsStore log h bad i.book))
+    (all : Told (tells.reads d0) (λ i. bodies ≡ (contents_of i.book).records.bodies)) where
   same_header : header_of k found.replay.history ≡ h
   same_header = λ j. record {
     mode = found.replay.mode_is j;
@@ -52,7 +52,7 @@ module _ {D : Type 0} (reads : D → Option Image) (may_leave : D → Image → 
     surface_check = sym found.keys.surface j;
   }
 
-  keeps_found : (i : Image) → reads d0 ≡ Some i → Keeps k found.replay.history i
+  keeps_found : (i : Image) → tells.reads d0 ≡ Some i → Keeps k found.replay.history i
   keeps_found i at =
       let is = store i at in
       let head = is.head ∙ ap spelled (sym same_header) in
@@ -68,7 +68,7 @@ module _ {D : Type 0} (reads : D → Option Image) (may_leave : D → Image → 
         };
       }
 
-  pub serves_found : Serves reads may_leave found.replay.history
+  pub serves_found : Serves tells found.replay.history
       (open_with d1 k s.catalogue s.stored)
   serves_found = record {
     catalogue = found.replay.stands.0;
@@ -80,8 +80,8 @@ module _ {D : Type 0} (reads : D → Option Image) (may_leave : D → Image → 
     after_fault = λ bad. absurd (cc bad);
   }
 
-  pub finds : Told (reads d0) (λ i.
-      FindsHistory reads may_leave k mode i (open_with d1 k s.catalogue s.stored))
+  pub finds : Told (tells.reads d0) (λ i.
+      FindsHistory tells k mode i (open_with d1 k s.catalogue s.stored))
   finds i at =
       let g = found.replay.history in
       let keeps = keeps_found i at in
@@ -90,11 +90,11 @@ module _ {D : Type 0} (reads : D → Option Image) (may_leave : D → Image → 
         each = λ x is_mode image.
             ⊎_elim (λ un. absurd ((is_born k g i keeps).1 un.0))
             (λ other. subst (λ (y : SealedHistory).
-            Serves reads may_leave y (open_with d1 k s.catalogue s.stored))
+            Serves tells y (open_with d1 k s.catalogue s.stored))
             (keeps_once k g x i keeps other) serves_found) image;
       }
 
-  pub safe_found : IsSafe reads may_leave log (open_with d1 k s.catalogue s.stored)
+  pub safe_found : IsSafe tells log (open_with d1 k s.catalogue s.stored)
   safe_found =
       let g = found.replay.history in
       let shown = history_is_shown k.surface s.catalogue g found.replay.stands.0 in
@@ -128,7 +128,7 @@ module _ {D : Type 0} (reads : D → Option Image) (may_leave : D → Image → 
       (history_is_shown k.surface s.catalogue found.replay.history found.replay.stands.0).mode
       ∙ found.replay.mode_is ∙ found.keys.mode_is
 
-  pub opened_found : IsOpened reads may_leave log mode (reads d0)
+  pub opened_found : IsOpened tells log mode (tells.reads d0)
       (open_with d1 k s.catalogue s.stored)
   opened_found = record {
     safe = safe_found;

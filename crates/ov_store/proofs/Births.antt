@@ -1,8 +1,9 @@
 -- A birth of a store.
-use Rattle.std.proofs.Common.{◌≡◌, inl, inr, ⊎_elim, ℕ, ◌<◌, ◌^◌, List, [], length, false, Option, Some, refl, sym, ◌∙◌, ap, subst, arith}
+use Rattle.std.proofs.Common.{◌≡◌, inl, inr, ⊎_elim, ℕ, ◌<◌, ◌^◌, List, [], length, false, Some, refl, sym, ◌∙◌, ap, subst, arith}
 use Rattle.ov_base.specs.declared.mode.Mode.{Mode}
 use Rattle.ov_disk.specs.Disk.{Image, Told, OnlyBook}
 use Rattle.ov_disk.specs.Moments.{LeavesOnly}
+use Rattle.ov_disk.specs.Tells.{DiskTells}
 use Rattle.ov_disk.proofs.Runs.{started, weaker}
 use Rattle.ov_history.specs.Catalogue.{Catalogue, empty_catalogue}
 use Rattle.ov_history.specs.Sealed.{blank}
@@ -19,34 +20,33 @@ pub keeps_none : (k : Keys) (mode : Mode) (first : ℕ) (x : Image) → first < 
     → contents_of x.book ≡ born (header_of k (blank mode first)) [] → Keeps k (blank mode first) x
 keeps_none k mode first x low is = record { sealed = tt; first = low; form = tt; book = is }
 
-module _ {D : Type 0} (reads : D → Option Image) (may_leave : D → Image → Type 0)
-    (moment : D → ℕ) (left_since : D → ℕ → Image → Type 0)
+module _ {D : Type 0} (tells : DiskTells D)
     (k : Keys) (mode : Mode) (first : ℕ) (low : first < 2 ^ 32) where
   -- a crash leaves no store, or a new one
   pub leaves_none : (d0 d1 : D) → first ≡ 0
-      → LeavesOnly moment left_since d0 d1 (IsUnbornOrEmpty (header_of k (blank mode first)))
-      → LeavesOnly moment left_since d0 d1 (IsImageOf k (blank mode 0))
+      → LeavesOnly tells d0 d1 (IsUnbornOrEmpty (header_of k (blank mode first)))
+      → LeavesOnly tells d0 d1 (IsImageOf k (blank mode 0))
   leaves_none d0 d1 none leaves =
-      weaker moment left_since may_leave d0 d1 (IsUnbornOrEmpty (header_of k (blank mode first)))
+      weaker tells d0 d1 (IsUnbornOrEmpty (header_of k (blank mode first)))
       (IsImageOf k (blank mode 0)) leaves
       (λ x. ⊎_elim (λ un. inl (un, refl))
       (λ is. inr (subst (λ (n : ℕ). Keeps k (blank mode n) x) none
       (keeps_none k mode first x low is))))
 
   -- before the first call of the disk
-  pub none_left : (d : D) → ((x : Image) → left_since d (moment d) x → may_leave d x) → (i : Image)
-      → IsUnborn i.book × OnlyBook i.book (may_leave d)
-      → LeavesOnly moment left_since d d (IsImageOf k (blank mode 0))
-  none_left d only_now i un =
-      started moment left_since may_leave d (IsImageOf k (blank mode 0)) only_now
+  pub none_left : (d : D) (i : Image)
+      → IsUnborn i.book × OnlyBook i.book (tells.may_leave d)
+      → LeavesOnly tells d d (IsImageOf k (blank mode 0))
+  none_left d i un =
+      started tells d (IsImageOf k (blank mode 0))
       (λ x left. inl (subst IsUnborn (sym (un.1 x left)) un.0, refl))
 
   module _ (d0 d1 : D) (c : Catalogue) (stored : List (List ℕ))
       (is : c ≡ empty_catalogue mode first) (bytes : stored ≡ [])
-      (told : Told (reads d1) (λ _. (i : Image) × (reads d0 ≡ Some i)))
-      (kept : Told (reads d0) (λ i.
-      IsKept (reads d1) (may_leave d1) (born (header_of k (blank mode first)) []) i.blobs)) where
-    pub serves_none : Serves reads may_leave (blank mode first) (open_with d1 k c stored)
+      (told : Told (tells.reads d1) (λ _. (i : Image) × (tells.reads d0 ≡ Some i)))
+      (kept : Told (tells.reads d0) (λ i.
+      IsKept tells d1 (born (header_of k (blank mode first)) []) i.blobs)) where
+    pub serves_none : Serves tells (blank mode first) (open_with d1 k c stored)
     serves_none = record {
       catalogue = (tt, is);
       bytes = bytes;
@@ -59,8 +59,8 @@ module _ {D : Type 0} (reads : D → Option Image) (may_leave : D → Image → 
     }
 
     pub safe_none : (log : Log) → log.bad ≡ false → length log.offsets ≡ 0
-        → Stands log (reads d1) (may_leave d1)
-        → IsSafe reads may_leave log (open_with d1 k c stored)
+        → Stands tells log d1
+        → IsSafe tells log (open_with d1 k c stored)
     safe_none log whole count stands = record {
       whole = whole;
       count = omega (arith, count);
@@ -70,8 +70,8 @@ module _ {D : Type 0} (reads : D → Option Image) (may_leave : D → Image → 
     }
 
     pub born_none : (log : Log) → log.bad ≡ false → length log.offsets ≡ 0
-        → Stands log (reads d1) (may_leave d1)
-        → IsBornStore reads may_leave log mode first (reads d0) (open_with d1 k c stored)
+        → Stands tells log d1
+        → IsBornStore tells log mode first (tells.reads d0) (open_with d1 k c stored)
     born_none log whole count stands = record {
       safe = safe_none log whole count stands;
       serves = serves_none;

@@ -1,5 +1,5 @@
 -- What the record of an update makes of the histories for which a store stands.
-use Rattle.std.proofs.Common.{◌≡◌, inl, inr, ⊎_elim, ℕ, ◌+◌, ◌≤◌, List, [], ◌∷◌, length, Bool, true, false, Option, Some, None, refl, sym, ◌∙◌, ap, subst, arith, length-append}
+use Rattle.std.proofs.Common.{◌≡◌, inl, inr, ⊎_elim, ℕ, ◌+◌, List, [], ◌∷◌, length, Bool, true, false, Option, Some, None, refl, sym, ◌∙◌, ap, subst, arith, length-append}
 use Rattle.std.proofs.lemmas.List.{append-nil}
 use Rattle.ov_record.specs.Updates.{SealedUpdate}
 use Rattle.ov_history.specs.Briefs.{Brief, BriefEnrol, BriefCreate, BriefGrant, BriefRevoke, brief, text_of}
@@ -10,6 +10,7 @@ use Rattle.ov_history.proofs.GoingOn.{histories_go_on, stored-push}
 use Rattle.ov_state.specs.Plans.{IsTaken}
 use Rattle.ov_disk.specs.Disk.{Image, StaysUntold, Told}
 use Rattle.ov_disk.specs.Moments.{LeavesOnly}
+use Rattle.ov_disk.specs.Tells.{DiskTells}
 use Rattle.ov_disk.proofs.Runs.{started, weaker}
 use Rattle.ov_journal.specs.Book.{Contents, contents_of, with_body}
 use Rattle.ov_journal.specs.Lasting.{AddsAtMost}
@@ -70,52 +71,50 @@ abbrev pub store_of : {D : Type 0} → D → Keys → Catalogue → List (List �
 store_of disk k c stored failed =
     record { disk = disk; keys = k; catalogue = c; stored = stored; failed = failed }
 
-module _ {D : Type 0} (reads : D → Option Image) (may_leave : D → Image → Type 0)
-    (moment : D → ℕ) (left_since : D → ℕ → Image → Type 0)
-    (reads_one : (disk : D) (i : Image) → reads disk ≡ Some i → may_leave disk i) where
+module _ {D : Type 0} (tells : DiskTells D) where
   module _ (k : Keys) (d0 d1 : D) (c : Catalogue) (stored : List (List ℕ)) (f : Bool)
       (u : SealedUpdate) (body : List ℕ) (taken : IsTaken c (brief u))
       (is : IsBodyOf u body) where
     module _ (g : SealedHistory)
-        (serves : Serves reads may_leave g (store_of d0 k c stored f)) where
+        (serves : Serves tells g (store_of d0 k c stored f)) where
       -- the catalogue of the history with the update
       goes_on : StandsFor k.surface (catalogue_after k.surface c (brief u)) (with_sealed g u)
       goes_on = histories_go_on k.surface c g u serves.catalogue taken.0 taken.1
 
       -- the image that is read keeps the history, and one with the body more keeps it with the
       -- update
-      read_keeps : f ≡ false → (i : Image) → reads d0 ≡ Some i → Keeps k g i
-      read_keeps sound i read = serves.disk sound i read i (reads_one d0 i read)
+      read_keeps : f ≡ false → (i : Image) → tells.reads d0 ≡ Some i → Keeps k g i
+      read_keeps sound i read = serves.disk sound i read i (tells.reads_one d0 i read)
 
-      more_keeps : f ≡ false → (i x : Image) → reads d0 ≡ Some i
+      more_keeps : f ≡ false → (i x : Image) → tells.reads d0 ≡ Some i
           → contents_of x.book ≡ with_body body (contents_of i.book) → Keeps k (with_sealed g u) x
       more_keeps sound i x read more =
           keeps_more k g u i x (read_keeps sound i read) goes_on.0 is.form
           (more ∙ ap (λ (b : List ℕ). with_body b (contents_of i.book)) is.bytes)
 
-      either_keeps : f ≡ false → (i x : Image) → reads d0 ≡ Some i
-          → IsBeforeOrAfter (may_leave d0) i body x → KeepsEither k g u x
+      either_keeps : f ≡ false → (i x : Image) → tells.reads d0 ≡ Some i
+          → IsBeforeOrAfter (tells.may_leave d0) i body x → KeepsEither k g u x
       either_keeps sound i x read =
           ⊎_elim (λ old. inl (keeps_same k g i x (read_keeps sound i read) old.0))
           (λ more. inr (more_keeps sound i x read more.0))
 
     pub leaves_either : (later : Opened D) → later.disk ≡ d1
-        → Told (reads d0) (λ i. LeavesOnly moment left_since d0 d1
-        (IsBeforeOrAfter (may_leave d0) i body))
-        → LeavesEither reads may_leave moment left_since u (store_of d0 k c stored f) later
+        → Told (tells.reads d0) (λ i. LeavesOnly tells d0 d1
+        (IsBeforeOrAfter (tells.may_leave d0) i body))
+        → LeavesEither tells u (store_of d0 k c stored f) later
     leaves_either later same leaves g serves sound i read =
-        subst (λ (d : D). LeavesOnly moment left_since d0 d (KeepsEither k g u)) (sym same)
-        (weaker moment left_since may_leave d0 d1 (IsBeforeOrAfter (may_leave d0) i body)
+        subst (λ (d : D). LeavesOnly tells d0 d (KeepsEither k g u)) (sym same)
+        (weaker tells d0 d1 (IsBeforeOrAfter (tells.may_leave d0) i body)
         (KeepsEither k g u) (leaves i read) (λ x. either_keeps g serves sound i x read))
 
-    module _ (told : Told (reads d1) (λ _. (i : Image) × (reads d0 ≡ Some i))) (sound : f ≡ false)
-        (kept : Told (reads d0) (λ i.
-        IsKept (reads d1) (may_leave d1) (with_body body (contents_of i.book)) i.blobs))
+    module _ (told : Told (tells.reads d1) (λ _. (i : Image) × (tells.reads d0 ≡ Some i))) (sound : f ≡ false)
+        (kept : Told (tells.reads d0) (λ i.
+        IsKept tells d1 (with_body body (contents_of i.book)) i.blobs))
         (now : Catalogue) (bytes : List (List ℕ))
         (made : now ≡ catalogue_after k.surface c (brief u))
         (rewritten : bytes
         ≡ stored_after k.surface (rewrites_of c (brief u)) (text_of u) stored) where
-      pub serves_more : ServesMore reads may_leave u
+      pub serves_more : ServesMore tells u
           (store_of d0 k c stored f) (store_of d1 k now bytes f)
       serves_more g serves = record {
         catalogue = subst (λ (x : Catalogue). StandsFor k.surface x (with_sealed g u)) (sym made)
@@ -129,10 +128,10 @@ module _ {D : Type 0} (reads : D → Option Image) (may_leave : D → Image → 
         after_fault = λ bad. absurd (cc (sound, bad));
       }
 
-      pub safe_more : (log more : Log) → IsSafe reads may_leave log (store_of d0 k c stored f)
+      pub safe_more : (log more : Log) → IsSafe tells log (store_of d0 k c stored f)
           → more.bad ≡ false → length more.offsets ≡ length log.offsets + 1
-          → Stands more (reads d1) (may_leave d1)
-          → IsSafe reads may_leave more (store_of d1 k now bytes f)
+          → Stands tells more d1
+          → IsSafe tells more (store_of d1 k now bytes f)
       safe_more log more safe whole count stands = record {
         whole = whole;
         count = omega (
@@ -153,19 +152,18 @@ module _ {D : Type 0} (reads : D → Option Image) (may_leave : D → Image → 
       }
 
     -- after a call of the disk that failed
-    pub safe_failed : (log other : Log) → IsSafe reads may_leave log (store_of d0 k c stored f)
+    pub safe_failed : (log other : Log) → IsSafe tells log (store_of d0 k c stored f)
         → f ≡ false → other.bad ≡ false → HasSameRecords log other
-        → AddsAtMost reads may_leave moment left_since body d0 d1
-        → ((t : ℕ) (x : Image) → t ≤ moment d1 → may_leave d1 x → left_since d1 t x)
+        → AddsAtMost tells body d0 d1
         → (now : Catalogue) (bytes : List (List ℕ)) → now ≡ c → bytes ≡ stored
-        → IsSafe reads may_leave other (store_of d1 k now bytes true)
-    safe_failed log other safe sound whole same adds counts_now now bytes is_now is_bytes =
+        → IsSafe tells other (store_of d1 k now bytes true)
+    safe_failed log other safe sound whole same adds now bytes is_now is_bytes =
         let g = safe.some_history.0 in
         let serves = safe.some_history.1 in
-        let either : (i x : Image) → reads d0 ≡ Some i → may_leave d1 x
-        → IsBeforeOrAfter (may_leave d0) i body x =
+        let either : (i x : Image) → tells.reads d0 ≡ Some i → tells.may_leave d1 x
+        → IsBeforeOrAfter (tells.may_leave d0) i body x =
         λ i x read left. (adds.leaves i read).each x
-        (counts_now (moment d0) x (adds.leaves i read).later left) in
+        (tells.counts_now d1 (tells.moment d0) x (adds.leaves i read).later left) in
         record {
           whole = whole;
           count = omega (
@@ -176,10 +174,10 @@ module _ {D : Type 0} (reads : D → Option Image) (may_leave : D → Image → 
           );
           stands = λ ok. absurd (cc ok);
           first = λ i read.
-              let before = told_before (reads d0) (reads d1) adds.untold i read in
-              first_after log other before.0 i body (may_leave d0)
+              let before = told_before (tells.reads d0) (tells.reads d1) adds.untold i read in
+              first_after log other before.0 i body (tells.may_leave d0)
               (safe.stands sound before.0 before.1).0 same
-              (either before.0 i before.1 (reads_one d1 i read));
+              (either before.0 i before.1 (tells.reads_one d1 i read));
           some_history = (
             g,
             record {
@@ -188,7 +186,7 @@ module _ {D : Type 0} (reads : D → Option Image) (may_leave : D → Image → 
               bytes = is_bytes ∙ serves.bytes;
               disk = λ ok. absurd (cc ok);
               after_fault = λ bad i read.
-                  let before = told_before (reads d0) (reads d1) adds.untold i read in (
+                  let before = told_before (tells.reads d0) (tells.reads d1) adds.untold i read in (
                     u,
                     λ x left. either_keeps g serves sound before.0 x before.1
                         (either before.0 x before.1 left),
@@ -200,11 +198,10 @@ module _ {D : Type 0} (reads : D → Option Image) (may_leave : D → Image → 
 
   -- before the first call of the disk
   pub not_begun : (u : SealedUpdate) (s later : Opened D) → later.disk ≡ s.disk
-      → ((x : Image) → left_since s.disk (moment s.disk) x → may_leave s.disk x)
-      → LeavesEither reads may_leave moment left_since u s later
-  not_begun u s later same only_now g serves sound i read =
-      subst (λ (d : D). LeavesOnly moment left_since s.disk d (KeepsEither s.keys g u)) (sym same)
-      (started moment left_since may_leave s.disk (KeepsEither s.keys g u) only_now
+      → LeavesEither tells u s later
+  not_begun u s later same g serves sound i read =
+      subst (λ (d : D). LeavesOnly tells s.disk d (KeepsEither s.keys g u)) (sym same)
+      (started tells s.disk (KeepsEither s.keys g u)
       (λ x left. inl (serves.disk sound i read x left)))
 
 -- the body of a record that was spelled

@@ -1,10 +1,11 @@
 -- Calls that read the disk of a store and write nothing.
-use Rattle.std.proofs.Common.{◌≡◌, ⊎_elim, ℕ, ◌+◌, ◌-◌, ◌<◌, ◌^◌, List, [], ◌∷◌, ◌++◌, length, Bool, true, false, Option, Some, Result, Ok, Err, refl, sym, ◌∙◌, ap, arith}
+use Rattle.std.proofs.Common.{◌≡◌, ⊎_elim, ℕ, ◌+◌, ◌-◌, ◌<◌, ◌^◌, List, [], ◌∷◌, ◌++◌, length, Bool, true, false, Option, Result, Ok, Err, refl, sym, ◌∙◌, ap, arith}
 use Rattle.std.proofs.lemmas.List.{append-nil}
 use Rattle.std.specs.Prelude.{IfOk}
 use Rattle.ov_base.specs.declared.mode.Mode.{Mode}
 use Rattle.ov_disk.specs.Disk.{Image, Told}
 use Rattle.ov_disk.specs.Moments.{IsUntouched}
+use Rattle.ov_disk.specs.Tells.{DiskTells}
 use Rattle.ov_record.specs.Updates.{SealedUpdate}
 use Rattle.ov_record.specs.Spelling.{spelling}
 use Rattle.ov_history.specs.Catalogue.{Catalogue}
@@ -70,12 +71,11 @@ epoch_shown master c g stands =
     (history_is_shown master c g stands).epoch
     ∙ ap (λ (m : ℕ). g.first + m) (length-outer g.updates)
 
-module _ {D : Type 0} (reads : D → Option Image) (may_leave : D → Image → Type 0)
-    (moment : D → ℕ) (left_since : D → ℕ → Image → Type 0) where
+module _ {D : Type 0} (tells : DiskTells D) where
   module _ (k : Keys) (c : Catalogue) (stored : List (List ℕ)) (f : Bool) (d0 d1 : D)
-      (quiet : IsUntouched moment left_since may_leave reads d0 d1) where
-    pub serves_looked : (g : SealedHistory) → Serves reads may_leave g (store_of d0 k c stored f)
-        → Serves reads may_leave g (store_of d1 k c stored f)
+      (quiet : IsUntouched tells d0 d1) where
+    pub serves_looked : (g : SealedHistory) → Serves tells g (store_of d0 k c stored f)
+        → Serves tells g (store_of d1 k c stored f)
     serves_looked g serves = record {
       catalogue = serves.catalogue;
       bytes = serves.bytes;
@@ -86,8 +86,8 @@ module _ {D : Type 0} (reads : D → Option Image) (may_leave : D → Image → 
           (either.0, λ x left. either.1 x (quiet.no_more x left));
     }
 
-    pub safe_looked : (log : Log) → IsSafe reads may_leave log (store_of d0 k c stored f)
-        → IsSafe reads may_leave log (store_of d1 k c stored f)
+    pub safe_looked : (log : Log) → IsSafe tells log (store_of d0 k c stored f)
+        → IsSafe tells log (store_of d1 k c stored f)
     safe_looked log safe = record {
       whole = safe.whole;
       count = safe.count;
@@ -103,30 +103,28 @@ module _ {D : Type 0} (reads : D → Option Image) (may_leave : D → Image → 
     }
 
   -- the history of each such store, or it with one update more, is that of what the disk reads
-  serves_read : (reads_one : (disk : D) (i : Image) → reads disk ≡ Some i → may_leave disk i)
-      → (g : SealedHistory) (s : Opened D) (b : Bool) → s.failed ≡ b → Serves reads may_leave g s
-      → Told (reads s.disk) (IsRead s.keys g)
-  serves_read reads_one g s false sound serves i read =
-      read_same s.keys g i (serves.disk sound i read i (reads_one s.disk i read))
-  serves_read reads_one g s true bad serves i read =
+  serves_read : (g : SealedHistory) (s : Opened D) (b : Bool) → s.failed ≡ b → Serves tells g s
+      → Told (tells.reads s.disk) (IsRead s.keys g)
+  serves_read g s false sound serves i read =
+      read_same s.keys g i (serves.disk sound i read i (tells.reads_one s.disk i read))
+  serves_read g s true bad serves i read =
       let either = serves.after_fault bad i read in
       ⊎_elim (read_same s.keys g i) (read_more s.keys g either.0 i serves.catalogue.0)
-      (either.1 i (reads_one s.disk i read))
+      (either.1 i (tells.reads_one s.disk i read))
 
   -- what was found of the image is so of each history for which the store stands
-  pub checks_served : (reads_one : (disk : D) (i : Image) → reads disk ≡ Some i → may_leave disk i)
-      → (owner : Masters) (s : Opened D) (log : Log) (found : Option ℕ)
-      → IsSafe reads may_leave log s
-      → Told (reads s.disk) (λ i. (g : SealedHistory)
+  pub checks_served : (owner : Masters) (s : Opened D) (log : Log) (found : Option ℕ)
+      → IsSafe tells log s
+      → Told (tells.reads s.disk) (λ i. (g : SealedHistory)
       → IsHistoryOf log s.catalogue.mode (s.catalogue.epoch - length log.offsets) g i
       → Checks owner g found)
-      → (g : SealedHistory) → Serves reads may_leave g s
-      → Told (reads s.disk) (λ _. Checks owner g found)
-  checks_served reads_one owner s log found safe checked g serves i read =
-      let mine = serves_read reads_one g s s.failed refl serves i read in
+      → (g : SealedHistory) → Serves tells g s
+      → Told (tells.reads s.disk) (λ _. Checks owner g found)
+  checks_served owner s log found safe checked g serves i read =
+      let mine = serves_read g s s.failed refl serves i read in
       let other = safe.some_history.0 in
       let known = safe.some_history.1 in
-      let theirs = serves_read reads_one other s s.failed refl known i read in
+      let theirs = serves_read other s s.failed refl known i read in
       let shown = history_is_shown s.keys.surface s.catalogue g serves.catalogue in
       let same : g.first ≡ other.first = same_first s.keys g other i mine theirs in
       let as_many : length other.updates ≡ length log.offsets = safe.some_history.2 in
@@ -138,16 +136,14 @@ module _ {D : Type 0} (reads : D → Option Image) (may_leave : D → Image → 
       omega (arith, epoch, again, same, as_many) in
       checked i read g (mine.begins, sym shown.mode, omega (arith, many, epoch), many)
 
-  pub checks_all : {E : Type 0}
-      → (reads_one : (disk : D) (i : Image) → reads disk ≡ Some i → may_leave disk i)
-      → (owner : Masters) (s : Opened D) (log : Log) (mode : Mode) (first : ℕ)
-      → (r : Result (Option ℕ) E) → IsSafe reads may_leave log s
+  pub checks_all : {E : Type 0} → (owner : Masters) (s : Opened D) (log : Log) (mode : Mode) (first : ℕ)
+      → (r : Result (Option ℕ) E) → IsSafe tells log s
       → mode ≡ s.catalogue.mode → first ≡ s.catalogue.epoch - length log.offsets
-      → IfOk r (λ found. Told (reads s.disk) (λ i. (g : SealedHistory)
+      → IfOk r (λ found. Told (tells.reads s.disk) (λ i. (g : SealedHistory)
       → IsHistoryOf log mode first g i → Checks owner g found))
-      → IfOk r (λ found. (g : SealedHistory) → Serves reads may_leave g s
-      → Told (reads s.disk) (λ _. Checks owner g found))
-  checks_all reads_one owner s log mode first (Ok found) safe is_mode is_first checked =
-      checks_served reads_one owner s log found safe
+      → IfOk r (λ found. (g : SealedHistory) → Serves tells g s
+      → Told (tells.reads s.disk) (λ _. Checks owner g found))
+  checks_all owner s log mode first (Ok found) safe is_mode is_first checked =
+      checks_served owner s log found safe
       (λ i read g is. checked i read g (is.0, is.1 ∙ sym is_mode, is.2 ∙ sym is_first, is.3))
-  checks_all reads_one owner s log mode first (Err fault) safe is_mode is_first none = none
+  checks_all owner s log mode first (Err fault) safe is_mode is_first none = none

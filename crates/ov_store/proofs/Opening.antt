@@ -1,9 +1,10 @@
 -- The parts of an opening, one after the other.
 use Rattle.std.specs.Prelude.{IfOk}
-use Rattle.std.proofs.Common.{◌≡◌, inl, inr, ℕ, ◌≤◌, Option, Result, Ok, Err, refl, sym, ◌∙◌, ap, subst}
+use Rattle.std.proofs.Common.{◌≡◌, inl, inr, Result, Ok, Err, refl, sym, ◌∙◌, ap, subst}
 use Rattle.ov_base.specs.declared.mode.Mode.{Mode}
 use Rattle.ov_disk.specs.Disk.{Image, Narrows, Told}
 use Rattle.ov_disk.specs.Moments.{IsUntouched, LeavesOnly}
+use Rattle.ov_disk.specs.Tells.{DiskTells}
 use Rattle.ov_disk.proofs.Runs.{then_on, weaker}
 use Rattle.ov_history.specs.Catalogue.{Catalogue}
 use Rattle.ov_history.specs.Sealed.{SealedHistory, blank}
@@ -64,73 +65,67 @@ pub history_unborn : (k : Keys) (mode : Mode) (i : Image) (g : SealedHistory) �
 history_unborn k mode i g un is (inl none) = none.1 ∙ ap (λ (m : Mode). blank m 0) is
 history_unborn k mode i g un is (inr keeps) = absurd ((is_born k g i keeps).1 un)
 
-module _ {D : Type 0} (reads : D → Option Image) (may_leave : D → Image → Type 0)
-    (moment : D → ℕ) (left_since : D → ℕ → Image → Type 0) (k : Keys) (mode : Mode) where
+module _ {D : Type 0} (tells : DiskTells D) (k : Keys) (mode : Mode) where
   -- what a crash may leave now it might have left at the start
-  pub narrowed : (d0 d1 : D)
-      → ((t : ℕ) (x : Image) → t ≤ moment d1 → may_leave d1 x → left_since d1 t x)
-      → LeavesOnly moment left_since d0 d1 (may_leave d0) → Narrows (may_leave d0) (may_leave d1)
-  narrowed d0 d1 counts_now leaves x left = leaves.each x (counts_now (moment d0) x leaves.later
-      left)
+  pub narrowed : (d0 d1 : D) → LeavesOnly tells d0 d1 (tells.may_leave d0)
+      → Narrows (tells.may_leave d0) (tells.may_leave d1)
+  narrowed d0 d1 leaves x left =
+      leaves.each x (tells.counts_now d1 (tells.moment d0) x leaves.later left)
 
   -- two runs that write nothing
-  pub both_quiet : (d0 d1 d2 : D)
-      → ((t : ℕ) (x : Image) → t ≤ moment d1 → may_leave d1 x → left_since d1 t x)
-      → LeavesOnly moment left_since d0 d1 (may_leave d0)
-      → LeavesOnly moment left_since d1 d2 (may_leave d1)
-      → LeavesOnly moment left_since d0 d2 (may_leave d0)
-  both_quiet d0 d1 d2 counts_now one two =
-      then_on moment left_since may_leave d0 d1 d2 (may_leave d0) (may_leave d1) one two
-      (narrowed d0 d1 counts_now one)
+  pub both_quiet : (d0 d1 d2 : D) → LeavesOnly tells d0 d1 (tells.may_leave d0)
+      → LeavesOnly tells d1 d2 (tells.may_leave d1)
+      → LeavesOnly tells d0 d2 (tells.may_leave d0)
+  both_quiet d0 d1 d2 one two =
+      then_on tells d0 d1 d2 (tells.may_leave d0) (tells.may_leave d1) one two
+      (narrowed d0 d1 one)
 
   -- a run that writes nothing, and after which the disk reads the same
-  pub quiet_untouched : (d0 d1 : D)
-      → ((t : ℕ) (x : Image) → t ≤ moment d1 → may_leave d1 x → left_since d1 t x)
-      → reads d1 ≡ reads d0 → LeavesOnly moment left_since d0 d1 (may_leave d0)
-      → IsUntouched moment left_since may_leave reads d0 d1
-  quiet_untouched d0 d1 counts_now same leaves = record {
+  pub quiet_untouched : (d0 d1 : D) → tells.reads d1 ≡ tells.reads d0 → LeavesOnly tells d0 d1 (tells.may_leave d0)
+      → IsUntouched tells d0 d1
+  quiet_untouched d0 d1 same leaves = record {
     reads_same = same;
-    no_more = narrowed d0 d1 counts_now leaves;
+    no_more = narrowed d0 d1 leaves;
     any_moment = leaves;
   }
 
   -- where nothing is written the history stays
-  pub quiet_leaves : (d0 d1 : D) → LeavesOnly moment left_since d0 d1 (may_leave d0)
-      → LeavesHistory reads may_leave moment left_since k mode d0 d1
+  pub quiet_leaves : (d0 d1 : D) → LeavesOnly tells d0 d1 (tells.may_leave d0)
+      → LeavesHistory tells k mode d0 d1
   quiet_leaves d0 d1 leaves i at only g is image =
-      weaker moment left_since may_leave d0 d1 (may_leave d0) (IsImageOf k g) leaves
+      weaker tells d0 d1 (tells.may_leave d0) (IsImageOf k g) leaves
       (λ x left. subst (IsImageOf k g) (sym (only x left)) image)
 
-  pub quiet_writes : (d0 d1 : D) → LeavesOnly moment left_since d0 d1 (may_leave d0)
-      → WritesNoBorn reads may_leave moment left_since d0 d1
+  pub quiet_writes : (d0 d1 : D) → LeavesOnly tells d0 d1 (tells.may_leave d0)
+      → WritesNoBorn tells d0 d1
   quiet_writes d0 d1 leaves i at born = leaves
 
-  module _ (d0 d1 d2 : D) (unborn : Told (reads d0) (λ i. IsUnborn i.book)) where
-    pub birth_leaves : reads d1 ≡ reads d0 → LeavesOnly moment left_since d0 d1 (may_leave d0)
-        → Told (reads d1) (λ _. LeavesOnly moment left_since d1 d2 (IsImageOf k (blank mode 0)))
-        → LeavesHistory reads may_leave moment left_since k mode d0 d2
+  module _ (d0 d1 d2 : D) (unborn : Told (tells.reads d0) (λ i. IsUnborn i.book)) where
+    pub birth_leaves : tells.reads d1 ≡ tells.reads d0 → LeavesOnly tells d0 d1 (tells.may_leave d0)
+        → Told (tells.reads d1) (λ _. LeavesOnly tells d1 d2 (IsImageOf k (blank mode 0)))
+        → LeavesHistory tells k mode d0 d2
     birth_leaves same one two i at only g is image =
         let none = history_unborn k mode i g (unborn i at) is image in
-        then_on moment left_since may_leave d0 d1 d2 (IsImageOf k g) (IsImageOf k (blank mode 0))
+        then_on tells d0 d1 d2 (IsImageOf k g) (IsImageOf k (blank mode 0))
         (quiet_leaves d0 d1 one i at only g is image) (two i (same ∙ at))
         (λ x. subst (λ (y : SealedHistory). IsImageOf k y x) (sym none))
 
-    pub birth_writes : WritesNoBorn reads may_leave moment left_since d0 d2
+    pub birth_writes : WritesNoBorn tells d0 d2
     birth_writes i at born = absurd (born (unborn i at))
 
-    birth_finds : (s : Opened D) → Serves reads may_leave (blank mode 0) s
-        → Told (reads d0) (λ i. FindsHistory reads may_leave k mode i s)
+    birth_finds : (s : Opened D) → Serves tells (blank mode 0) s
+        → Told (tells.reads d0) (λ i. FindsHistory tells k mode i s)
     birth_finds s serves i at = record {
       some = (blank mode 0, refl, inl (unborn i at, refl));
-      each = λ g is image. subst (λ (y : SealedHistory). Serves reads may_leave y s)
+      each = λ g is image. subst (λ (y : SealedHistory). Serves tells y s)
           (sym (history_unborn k mode i g (unborn i at) is image)) serves;
     }
 
     -- a store that was just born is open
-    pub opened_at_birth : {E : Type 0} (r : Result (Store × Log) E) → reads d1 ≡ reads d0
-        → IfOk r (λ parts. IsBornStore reads may_leave parts.1 mode 0 (reads d1)
+    pub opened_at_birth : {E : Type 0} (r : Result (Store × Log) E) → tells.reads d1 ≡ tells.reads d0
+        → IfOk r (λ parts. IsBornStore tells parts.1 mode 0 (tells.reads d1)
         (open_with d2 k parts.0.catalogue parts.0.stored))
-        → IfOk r (λ parts. IsOpened reads may_leave parts.1 mode (reads d0)
+        → IfOk r (λ parts. IsOpened tells parts.1 mode (tells.reads d0)
         (open_with d2 k parts.0.catalogue parts.0.stored))
     opened_at_birth (Ok parts) same born = record {
       safe = born.safe;

@@ -1,9 +1,9 @@
 -- How a store begins on a disk.
-use Rattle.std.specs.Prelude.{◌≡◌, ◌≢◌, ◌⊎◌, ℕ, ◌≤◌, Option, Result, Ok, Err, false, ⊤}
-use Rattle.ov_base.specs.Causes.{Rose}
+use Rattle.std.specs.Prelude.{◌≡◌, ◌≢◌, ◌⊎◌, ℕ, Option, Result, Ok, Err, false, ⊤}
 use Rattle.ov_base.specs.declared.mode.Mode.{Mode}
-use Rattle.ov_disk.specs.Disk.{Image, Only, Told}
+use Rattle.ov_disk.specs.Disk.{Image, Only, StaysTold, Told}
 use Rattle.ov_disk.specs.Moments.{LeavesOnly}
+use Rattle.ov_disk.specs.Tells.{DiskTells}
 use Rattle.ov_disk.specs.declared.area.Area.TheVariants.{Book}
 use Rattle.ov_tokens.specs.Keys.{check_value_of}
 use Rattle.ov_history.specs.Catalogue.{empty_catalogue}
@@ -13,7 +13,7 @@ use Rattle.ov_journal.specs.Standing.{IsUnborn, IsForeign, HasNoMode}
 use Rattle.ov_journal.specs.declared.header.Header.{Header}
 use Rattle.ov_images.specs.Images.{Keys, IsImageOf, StandsIn}
 use Rattle.ov_images.specs.Damage.{HasHeader, IsFor, HasBadRecords}
-use Rattle.ov_store.specs.Opened.{IsSafe, Opened, Serves, StaysTold}
+use Rattle.ov_store.specs.Opened.{IsSafe, Opened, Serves}
 use Rattle.ov_store.specs.declared.begin.BeginRefused.{BeginRefused}
 use Rattle.ov_store.specs.declared.fault.BeginFault.{BeginFault}
 use Rattle.ov_store.specs.declared.fault.BeginFault.TheVariants.{Disk as DiskFailed, NotAStore, Damaged, BaseDiffers, SurfaceDiffers, ModeDiffers, Memory}
@@ -41,49 +41,45 @@ IsBeginFault k mode i (ModeDiffers stored given) =
 IsBeginFault k mode i Memory = ⊤
 
 -- The image stands for some history of this mode, and the store stands for each such history.
-pub record FindsHistory {D : Type 0} (reads : D → Option Image) (may_leave : D → Image → Type 0)
-    (k : Keys) (mode : Mode) (i : Image) (s : Opened D) : Type 0 where
+pub record FindsHistory {D : Type 0} (tells : DiskTells D) (k : Keys) (mode : Mode) (i : Image)
+    (s : Opened D) : Type 0 where
   pub some : StandsIn k mode i
-  pub each : (g : SealedHistory) → g.mode ≡ mode → IsImageOf k g i → Serves reads may_leave g s
+  pub each : (g : SealedHistory) → g.mode ≡ mode → IsImageOf k g i → Serves tells g s
 
 -- A store that was just opened on a disk: it is safe with its journal, has this mode, and stands
 -- for each history of the mode for which the image stood that was read, and which the disk still
 -- tells.
-pub record IsOpened {D : Type 0} (reads : D → Option Image) (may_leave : D → Image → Type 0)
-    (log : Log) (mode : Mode) (read : Option Image) (s : Opened D) : Type 0 where
-  pub safe : IsSafe reads may_leave log s
+pub record IsOpened {D : Type 0} (tells : DiskTells D) (log : Log) (mode : Mode)
+    (read : Option Image) (s : Opened D) : Type 0 where
+  pub safe : IsSafe tells log s
   pub mode_is : s.catalogue.mode ≡ mode
-  pub found : Told read (λ i. FindsHistory reads may_leave s.keys mode i s)
-  pub told : StaysTold read (reads s.disk)
+  pub found : Told read (λ i. FindsHistory tells s.keys mode i s)
+  pub told : StaysTold read (tells.reads s.disk)
 
 -- A store that was just begun without updates, from this epoch on: it is safe with its journal,
 -- stands for the history without updates, and has an empty catalogue; and the disk still tells what
 -- it told.
-pub record IsBornStore {D : Type 0} (reads : D → Option Image) (may_leave : D → Image → Type 0)
-    (log : Log) (mode : Mode) (first : ℕ) (read : Option Image) (s : Opened D) : Type 0 where
-  pub safe : IsSafe reads may_leave log s
-  pub serves : Serves reads may_leave (blank mode first) s
+pub record IsBornStore {D : Type 0} (tells : DiskTells D) (log : Log) (mode : Mode) (first : ℕ)
+    (read : Option Image) (s : Opened D) : Type 0 where
+  pub safe : IsSafe tells log s
+  pub serves : Serves tells (blank mode first) s
   pub empty : s.catalogue ≡ empty_catalogue mode first
-  pub told : StaysTold read (reads s.disk)
+  pub told : StaysTold read (tells.reads s.disk)
 
 -- From a disk with nothing pending, whose image stands for a history of this mode, a crash at any
 -- moment leaves that history.
-abbrev pub LeavesHistory : {D : Type 0} → (reads : D → Option Image)
-    → (may_leave : D → Image → Type 0) → (moment : D → ℕ) → (left_since : D → ℕ → Image → Type 0)
-    → Keys → Mode → D → D → Type 0
-LeavesHistory reads may_leave moment left_since k mode old new =
-    Told (reads old)
-    (λ i. Only i (may_leave old) → (g : SealedHistory) → g.mode ≡ mode → IsImageOf k g i
-    → LeavesOnly moment left_since old new (IsImageOf k g))
+abbrev pub LeavesHistory : {D : Type 0} → DiskTells D → Keys → Mode → D → D → Type 0
+LeavesHistory tells k mode old new =
+    Told (tells.reads old)
+    (λ i. Only i (tells.may_leave old) → (g : SealedHistory) → g.mode ≡ mode → IsImageOf k g i
+    → LeavesOnly tells old new (IsImageOf k g))
 
 -- Where a store was begun, or there is another file, a crash at any moment leaves what it might
 -- have left at the start: nothing is written.
-abbrev pub WritesNoBorn : {D : Type 0} → (reads : D → Option Image)
-    → (may_leave : D → Image → Type 0) → (moment : D → ℕ) → (left_since : D → ℕ → Image → Type 0)
-    → D → D → Type 0
-WritesNoBorn reads may_leave moment left_since old new =
-    Told (reads old)
-    (λ i. (IsUnborn i.book → ⊥) → LeavesOnly moment left_since old new (may_leave old))
+abbrev pub WritesNoBorn : {D : Type 0} → DiskTells D → D → D → Type 0
+WritesNoBorn tells old new =
+    Told (tells.reads old)
+    (λ i. (IsUnborn i.book → ⊥) → LeavesOnly tells old new (tells.may_leave old))
 
 -- ---- the call of a caller
 
@@ -93,11 +89,11 @@ IsNew k mode s = (s.keys ≡ k) × (s.failed ≡ false) × (s.catalogue.mode ≡
 
 -- What a caller gets: a store that was just begun, which stands for each history of the mode for
 -- which the image stood that was read, and whose disk still tells what it told.
-pub record IsBegun {D : Type 0} (reads : D → Option Image) (may_leave : D → Image → Type 0)
-    (k : Keys) (mode : Mode) (read : Option Image) (s : Opened D) : Type 0 where
+pub record IsBegun {D : Type 0} (tells : DiskTells D) (k : Keys) (mode : Mode)
+    (read : Option Image) (s : Opened D) : Type 0 where
   pub new : IsNew k mode s
-  pub found : Told read (λ i. FindsHistory reads may_leave k mode i s)
-  pub told : StaysTold read (reads s.disk)
+  pub found : Told read (λ i. FindsHistory tells k mode i s)
+  pub told : StaysTold read (tells.reads s.disk)
 
 -- the disk after the call, wherever it is
 abbrev pub disk_left : {D : Type 0} → Result (Opened D) (BeginRefused D) → D
@@ -108,11 +104,3 @@ disk_left (Err refused) = refused.disk
 abbrev pub IsDiskFault : {D : Type 0} → Result (Opened D) (BeginRefused D) → Type 0
 IsDiskFault (Ok s) = ⊥
 IsDiskFault (Err refused) = refused.fault ≡ DiskFailed
-
--- Calls on a disk keep its loan. The count of its faults doesn't fall, and it rose where the answer
--- is a fault of the disk.
-abbrev pub IsDiskCall : {D : Type 0} → (borrow : D → ℕ) → (faults : D → ℕ) → D → D → Type 0
-    → Type 0
-IsDiskCall borrow faults old new is_fault =
-    (borrow new ≡ borrow old) × (faults old ≤ faults new)
-    × (is_fault → Rose (faults old) (faults new))

@@ -1,9 +1,10 @@
 -- An open store as a value, and for which history it stands.
-use Rattle.std.specs.Prelude.{◌≡◌, ℕ, ◌≤◌, List, length, Bool, true, false, Option, Some}
+use Rattle.std.specs.Prelude.{◌≡◌, ℕ, ◌≤◌, List, length, Bool, true, false}
 use Rattle.ov_record.specs.Updates.{SealedUpdate}
 use Rattle.ov_history.specs.Catalogue.{Catalogue}
 use Rattle.ov_history.specs.Sealed.{SealedHistory, StandsFor, KeepsBytes}
 use Rattle.ov_disk.specs.Disk.{Image, Told}
+use Rattle.ov_disk.specs.Tells.{DiskTells}
 use Rattle.ov_journal.specs.Book.{contents_of}
 use Rattle.ov_journal.specs.Log.{IsLogOfFirst, Log, Stands}
 use Rattle.ov_images.specs.Images.{Keys, Keeps, KeepsEither}
@@ -23,36 +24,32 @@ open_with disk k catalogue stored =
     record { disk = disk; keys = k; catalogue = catalogue; stored = stored; failed = false }
 
 -- where the disk tells its bytes, each image that a crash may leave of it keeps the history
-abbrev pub Lasts : Keys → SealedHistory → Option Image → (Image → Type 0) → Type 0
-Lasts k g reads may_leave = Told reads (λ _. (c : Image) → may_leave c → Keeps k g c)
+abbrev pub Lasts : {D : Type 0} → DiskTells D → Keys → SealedHistory → D → Type 0
+Lasts tells k g disk =
+    Told (tells.reads disk) (λ _. (c : Image) → tells.may_leave disk c → Keeps k g c)
 
 -- where the disk tells its bytes, each image that a crash may leave of it keeps the history, or it
 -- with one update more, which is the same for all of them
-abbrev pub LastsEither : Keys → SealedHistory → Option Image → (Image → Type 0) → Type 0
-LastsEither k g reads may_leave =
-    Told reads (λ _. (u : SealedUpdate) × ((c : Image) → may_leave c → KeepsEither k g u c))
-
--- a disk that told its bytes still tells them
-abbrev pub StaysTold : Option Image → Option Image → Type 0
-StaysTold old new = Told old (λ _. (k : Image) × (new ≡ Some k))
+abbrev pub LastsEither : {D : Type 0} → DiskTells D → Keys → SealedHistory → D → Type 0
+LastsEither tells k g disk = Told (tells.reads disk) (λ _.
+    (u : SealedUpdate) × ((c : Image) → tells.may_leave disk c → KeepsEither k g u c))
 
 -- The store stands for the history: both halves are those of a store after it, and it lasts on the
 -- disk; once a call of the disk failed in an update, it lasts there, or it with one update more.
-pub record Serves {D : Type 0} (reads : D → Option Image) (may_leave : D → Image → Type 0)
-    (g : SealedHistory) (s : Opened D) : Type 0 where
+pub record Serves {D : Type 0} (tells : DiskTells D) (g : SealedHistory) (s : Opened D)
+    : Type 0 where
   pub catalogue : StandsFor s.keys.surface s.catalogue g
   pub bytes : KeepsBytes s.keys.surface s.stored g
-  pub disk : s.failed ≡ false → Lasts s.keys g (reads s.disk) (may_leave s.disk)
-  pub after_fault : s.failed ≡ true → LastsEither s.keys g (reads s.disk) (may_leave s.disk)
+  pub disk : s.failed ≡ false → Lasts tells s.keys g s.disk
+  pub after_fault : s.failed ≡ true → LastsEither tells s.keys g s.disk
 
 -- What holds of every open store with this journal: the journal is whole, and is that of the disk
 -- or, once a call of the disk failed, that of the first of its records; and the store stands for
 -- some history with as many updates as the journal has records.
-pub record IsSafe {D : Type 0} (reads : D → Option Image) (may_leave : D → Image → Type 0)
-    (log : Log) (s : Opened D) : Type 0 where
+pub record IsSafe {D : Type 0} (tells : DiskTells D) (log : Log) (s : Opened D) : Type 0 where
   pub whole : log.bad ≡ false
   pub count : length log.offsets ≤ s.catalogue.epoch
-  pub stands : s.failed ≡ false → Stands log (reads s.disk) (may_leave s.disk)
-  pub first : Told (reads s.disk) (λ i. IsLogOfFirst log (contents_of i.book).records)
-  pub some_history : (g : SealedHistory) × Serves reads may_leave g s
+  pub stands : s.failed ≡ false → Stands tells log s.disk
+  pub first : Told (tells.reads s.disk) (λ i. IsLogOfFirst log (contents_of i.book).records)
+  pub some_history : (g : SealedHistory) × Serves tells g s
       × (length g.updates ≡ length log.offsets)

@@ -1,5 +1,5 @@
 -- What an update of a store answers, and what it leaves.
-use Rattle.std.specs.Prelude.{◌≡◌, ℕ, ◌≤◌, Bool, true, false, Some, None, Option, Result, Ok, Err, ⊤}
+use Rattle.std.specs.Prelude.{◌≡◌, ℕ, ◌≤◌, Bool, true, false, Some, None, Result, Ok, Err, ⊤}
 use Rattle.ov_base.specs.Causes.{Rose}
 use Rattle.ov_record.specs.Updates.{SealedUpdate}
 use Rattle.ov_history.specs.Briefs.{Brief, brief, text_of}
@@ -8,8 +8,9 @@ use Rattle.ov_history.specs.Rewrites.{rewrites_of, stored_after}
 use Rattle.ov_history.specs.Sealed.{SealedHistory, HasParts, refusal_shown, with_sealed}
 use Rattle.ov_state.specs.Plans.{IsTaken}
 use Rattle.ov_history.specs.Briefs.{part_place}
-use Rattle.ov_disk.specs.Disk.{Image, Told}
+use Rattle.ov_disk.specs.Disk.{Told}
 use Rattle.ov_disk.specs.Moments.{LeavesOnly}
+use Rattle.ov_disk.specs.Tells.{DiskTells}
 use Rattle.ov_images.specs.Images.{KeepsEither}
 use Rattle.ov_store.specs.Opened.{Opened, Serves}
 use Rattle.ov_store.specs.declared.fault.StoreFault.{StoreFault}
@@ -78,28 +79,23 @@ pub record GoesOnAfter {D : Type 0} (result : Result ℕ StoreFault) (old new : 
 
 -- A crash at any moment of the call leaves a history for which the store stood, or this with the
 -- update.
-abbrev pub LeavesEither : {D : Type 0} → (reads : D → Option Image)
-    → (may_leave : D → Image → Type 0) → (moment : D → ℕ) → (left_since : D → ℕ → Image → Type 0)
-    → SealedUpdate → Opened D → Opened D → Type 0
-LeavesEither reads may_leave moment left_since u old new =
-    (g : SealedHistory) → Serves reads may_leave g old → old.failed ≡ false
-    → Told (reads old.disk)
-    (λ _. LeavesOnly moment left_since old.disk new.disk (KeepsEither old.keys g u))
+abbrev pub LeavesEither : {D : Type 0} → DiskTells D → SealedUpdate → Opened D → Opened D → Type 0
+LeavesEither tells u old new =
+    (g : SealedHistory) → Serves tells g old → old.failed ≡ false
+    → Told (tells.reads old.disk) (λ _.
+    LeavesOnly tells old.disk new.disk (KeepsEither old.keys g u))
 
 -- the new store stands for each history for which the old one stood, with this update
-abbrev pub ServesMore : {D : Type 0} → (reads : D → Option Image)
-    → (may_leave : D → Image → Type 0) → SealedUpdate → Opened D → Opened D → Type 0
-ServesMore reads may_leave u old new =
-    (g : SealedHistory) → Serves reads may_leave g old
-    → Serves reads may_leave (with_sealed g u) new
+abbrev pub ServesMore : {D : Type 0} → DiskTells D → SealedUpdate → Opened D → Opened D → Type 0
+ServesMore tells u old new =
+    (g : SealedHistory) → Serves tells g old → Serves tells (with_sealed g u) new
 
 -- ---- each call
 
 -- A call of a store keeps its keys and its disk's loan. The count of the disk's faults doesn't
 -- fall, and it rose where the answer is a fault of the disk.
-abbrev pub IsCallOf : {D : Type 0} → (borrow : D → ℕ) → (faults : D → ℕ) → Opened D → Opened D
-    → Type 0 → Type 0
-IsCallOf borrow faults old new is_fault =
-    (new.keys ≡ old.keys) × (borrow new.disk ≡ borrow old.disk)
-    × (faults old.disk ≤ faults new.disk)
-    × (is_fault → Rose (faults old.disk) (faults new.disk))
+abbrev pub IsCallOf : {D : Type 0} → DiskTells D → Opened D → Opened D → Type 0 → Type 0
+IsCallOf tells old new is_fault =
+    (new.keys ≡ old.keys) × (tells.borrow new.disk ≡ tells.borrow old.disk)
+    × (tells.faults old.disk ≤ tells.faults new.disk)
+    × (is_fault → Rose (tells.faults old.disk) (tells.faults new.disk))

@@ -1,9 +1,10 @@
 //! Beginning a store, where there is none or where an earlier run left one.
 ghost use Rattle.std.specs.Prelude.{◌≡◌, IfOk, IfErr, IsErrOf};
+ghost use Rattle.ov_disk.specs.Calls.{IsDiskCall};
 ghost use Rattle.ov_disk.specs.Disk.{Told};
 ghost use Rattle.ov_disk.specs.Moments.{IsUntouched};
 ghost use Rattle.ov_images.specs.Images.{keys};
-ghost use Rattle.ov_store.specs.Beginning.{IsBeginFault, IsBegun, IsDiskCall, IsDiskFault, IsOpened, LeavesHistory, WritesNoBorn, disk_left};
+ghost use Rattle.ov_store.specs.Beginning.{IsBeginFault, IsBegun, IsDiskFault, IsOpened, LeavesHistory, WritesNoBorn, disk_left};
 ghost use Rattle.ov_store.specs.Opened.{open_with};
 ghost use Rattle.ov_store.specs.declared.fault.BeginFault.TheVariants.{Disk as DiskFailed, Memory as NoMemory};
 
@@ -34,17 +35,16 @@ fn open<D: Disk>(
     mode: Mode,
 ) -> Result<(CatalogueVault, Journal), BeginFault>
     ensures opened { IfOk result (λ parts.
-        IsOpened D.reads D.may_leave parts.1 mode (D.reads disk.old)
+        IsOpened D.tells parts.1 mode (D.tells.reads disk.old)
         (open_with disk.new (keys base_check.now surface.now.bytes)
         parts.0.catalogue parts.0.stored)) }
-    ensures fault { Told (D.reads disk.old) (λ i.
+    ensures fault { Told (D.tells.reads disk.old) (λ i.
         IfErr result (IsBeginFault (keys base_check.now surface.now.bytes) mode i)) }
-    ensures any_moment { LeavesHistory D.reads D.may_leave D.moment D.left_since
+    ensures any_moment { LeavesHistory D.tells
         (keys base_check.now surface.now.bytes) mode disk.old disk.new }
-    ensures untouched { WritesNoBorn D.reads D.may_leave D.moment D.left_since disk.old disk.new }
-    ensures memory { IsErrOf result NoMemory
-        → IsUntouched D.moment D.left_since D.may_leave D.reads disk.old disk.new }
-    ensures call { IsDiskCall D.borrow D.faults disk.old disk.new (IsErrOf result DiskFailed) }
+    ensures untouched { WritesNoBorn D.tells disk.old disk.new }
+    ensures memory { IsErrOf result NoMemory → IsUntouched D.tells disk.old disk.new }
+    ensures call { IsDiskCall D.tells (IsErrOf result DiskFailed) disk.old disk.new }
 {
     match Journal::begin(alloc, disk)? {
         Found::Unborn => birth(alloc, disk, base_check, surface, mode, 0),
@@ -73,21 +73,20 @@ impl<D: Disk> Store<D> {
         mode: Mode,
     ) -> Result<Store<D>, BeginRefused<D>>
         // The image stands for a history, which the store shows and which lasts.
-        ensures begun { IfOk result (IsBegun D.reads D.may_leave
-            (keys base_check surface.bytes) mode (D.reads disk)) }
-        ensures fault { IfErr result (λ refused. Told (D.reads disk) (λ i.
+        ensures begun { IfOk result (IsBegun D.tells
+            (keys base_check surface.bytes) mode (D.tells.reads disk)) }
+        ensures fault { IfErr result (λ refused. Told (D.tells.reads disk) (λ i.
             IsBeginFault (keys base_check surface.bytes) mode i refused.fault)) }
 
         // What a crash at any moment of the call leaves, whatever is answered.
-        ensures any_moment { LeavesHistory D.reads D.may_leave D.moment D.left_since
+        ensures any_moment { LeavesHistory D.tells
             (keys base_check surface.bytes) mode disk (disk_left result) }
-        ensures untouched { WritesNoBorn D.reads D.may_leave D.moment D.left_since
-            disk (disk_left result) }
+        ensures untouched { WritesNoBorn D.tells disk (disk_left result) }
         // All memory is wanted before anything is written, so want of it leaves the disk as it was.
         ensures memory { IfErr result (λ refused. refused.fault ≡ NoMemory
-            → IsUntouched D.moment D.left_since D.may_leave D.reads disk refused.disk) }
+            → IsUntouched D.tells disk refused.disk) }
 
-        ensures call { IsDiskCall D.borrow D.faults disk (disk_left result) (IsDiskFault result) }
+        ensures call { IsDiskCall D.tells (IsDiskFault result) disk (disk_left result) }
     {
         let mut disk = disk;
         let surface = Master::new(&surface);

@@ -1,11 +1,12 @@
 //! A store on a disk where there is none.
 ghost use Rattle.std.specs.Prelude.{◌≡◌, IfErr, IfOk, IsErrOf};
+ghost use Rattle.ov_disk.specs.Calls.{IsDiskCall};
 ghost use Rattle.ov_disk.specs.Disk.{Image, Told, OnlyBook};
 ghost use Rattle.ov_disk.specs.Moments.{LeavesOnly};
 ghost use Rattle.ov_history.specs.Sealed.{blank};
 ghost use Rattle.ov_journal.specs.Standing.{IsUnborn};
 ghost use Rattle.ov_images.specs.Images.{IsImageOf, keys};
-ghost use Rattle.ov_store.specs.Beginning.{IsBeginFault, IsBornStore, IsDiskCall};
+ghost use Rattle.ov_store.specs.Beginning.{IsBeginFault, IsBornStore};
 ghost use Rattle.ov_store.specs.Opened.{open_with};
 ghost use Rattle.ov_store.specs.declared.fault.BeginFault.TheVariants.{Disk as DiskFailed, Memory as NoMemory};
 
@@ -26,20 +27,20 @@ pub(crate) fn birth<D: Disk>(
     mode: Mode,
     first: u32,
 ) -> Result<(CatalogueVault, Journal), BeginFault>
-    requires unborn { Told (D.reads disk.old) (λ i.
-        IsUnborn i.book × OnlyBook i.book (D.may_leave disk.old)) }
-    ensures born { IfOk result (λ parts. IsBornStore D.reads D.may_leave parts.1 mode first
-        (D.reads disk.old) (open_with disk.new (keys base_check.now surface.now.bytes)
+    requires unborn { Told (D.tells.reads disk.old) (λ i.
+        IsUnborn i.book × OnlyBook i.book (D.tells.may_leave disk.old)) }
+    ensures born { IfOk result (λ parts. IsBornStore D.tells parts.1 mode first
+        (D.tells.reads disk.old) (open_with disk.new (keys base_check.now surface.now.bytes)
         parts.0.catalogue parts.0.stored)) }
     ensures fault { IfErr result (λ fault. (i : Image)
         → IsBeginFault (keys base_check.now surface.now.bytes) mode i fault) }
     // A crash at any moment leaves no store, or this one without records.
-    ensures any_moment { first ≡ 0 → Told (D.reads disk.old) (λ _.
-        LeavesOnly D.moment D.left_since disk.old disk.new
+    ensures any_moment { first ≡ 0 → Told (D.tells.reads disk.old) (λ _.
+        LeavesOnly D.tells disk.old disk.new
         (IsImageOf (keys base_check.now surface.now.bytes) (blank mode 0))) }
     // Memory is wanted before the first call of the disk.
     ensures memory { IsErrOf result NoMemory → disk.new ≡ disk.old }
-    ensures call { IsDiskCall D.borrow D.faults disk.old disk.new (IsErrOf result DiskFailed) }
+    ensures call { IsDiskCall D.tells (IsErrOf result DiskFailed) disk.old disk.new }
 {
     let vault = Vault::new(alloc, mode, first)?;
     let header = Header {

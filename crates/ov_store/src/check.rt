@@ -1,5 +1,6 @@
 //! Whether all updates of a store are as their owner seals them.
 ghost use Rattle.std.specs.Prelude.{◌≡◌, ◌≤◌, IfOk, IsErrOf};
+ghost use Rattle.ov_disk.specs.Calls.{IsDiskCall};
 ghost use Rattle.ov_disk.specs.Disk.{Told};
 ghost use Rattle.ov_disk.specs.Moments.{IsUntouched};
 ghost use Rattle.ov_history.specs.Sealed.{SealedHistory};
@@ -9,7 +10,6 @@ ghost use Rattle.ov_journal.specs.declared.fault.CheckFault.TheVariants.{Disk as
 ghost use Rattle.ov_record.specs.Updates.{SealedUpdate};
 ghost use Rattle.ov_history.specs.Briefs.{brief};
 ghost use Rattle.ov_state.specs.Plans.{IsTaken};
-ghost use Rattle.ov_store.specs.Beginning.{IsDiskCall};
 ghost use Rattle.ov_store.specs.Bodies.{IsBodyOf};
 ghost use Rattle.ov_store.specs.Opened.{Serves};
 ghost use Rattle.ov_store.specs.Owners.{Checks, FollowsUpdate, IsHistoryOf, masters};
@@ -68,13 +68,13 @@ fn first_false<D: Disk>(
     mode: Mode,
     first: u32,
 ) -> Result<Option<u64>, CheckFault>
-    requires log { Told (D.reads disk.old) (λ i.
+    requires log { Told (D.tells.reads disk.old) (λ i.
         IsLogOfFirst journal.now (contents_of i.book).records) }
-    ensures checked { IfOk result (λ found. Told (D.reads disk.old) (λ i.
+    ensures checked { IfOk result (λ found. Told (D.tells.reads disk.old) (λ i.
         (g : SealedHistory) → IsHistoryOf journal.now mode first g i
         → Checks (masters base.now.bytes surface.now.bytes) g found)) }
-    ensures untouched { IsUntouched D.moment D.left_since D.may_leave D.reads disk.old disk.new }
-    ensures call { IsDiskCall D.borrow D.faults disk.old disk.new (IsErrOf result DiskFailed) }
+    ensures untouched { IsUntouched D.tells disk.old disk.new }
+    ensures call { IsDiskCall D.tells (IsErrOf result DiskFailed) disk.old disk.new }
 {
     let mut state: Catalogue = State::new(alloc, mode, first)?;
     let mut body = Vec::new(alloc);
@@ -95,16 +95,15 @@ impl<D: Disk> Store<D> {
     pub fn check(&mut self, alloc: Global, base: &Key) -> Result<Option<u64>, CheckFault>
         // Of each history for which the store stands.
         ensures checked { IfOk result (λ found. (g : SealedHistory)
-            → Serves D.reads D.may_leave g self.old → Told (D.reads self.old.disk)
+            → Serves D.tells g self.old → Told (D.tells.reads self.old.disk)
             (λ _. Checks (masters base.now.bytes self.old.keys.surface) g found)) }
 
         // Nothing is written, and the store stands for what it stood for.
         ensures kept { self.new ≡ record self.old { disk = self.new.disk } }
-        ensures untouched { IsUntouched D.moment D.left_since D.may_leave D.reads
-            self.old.disk self.new.disk }
-        ensures served { (g : SealedHistory) → Serves D.reads D.may_leave g self.old
-            → Serves D.reads D.may_leave g self.new }
-        ensures call { IsCallOf D.borrow D.faults self.old self.new (IsErrOf result DiskFailed) }
+        ensures untouched { IsUntouched D.tells self.old.disk self.new.disk }
+        ensures served { (g : SealedHistory) → Serves D.tells g self.old
+            → Serves D.tells g self.new }
+        ensures call { IsCallOf D.tells self.old self.new (IsErrOf result DiskFailed) }
     {
         let mode = self.vault.catalogue().mode();
         let base = Master::new(base);

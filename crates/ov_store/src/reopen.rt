@@ -1,11 +1,12 @@
 //! A store that an earlier run left on a disk.
 ghost use Rattle.std.specs.Prelude.{◌≡◌, None, IfOk, IfErr, OnOk, IsErrOf, false};
+ghost use Rattle.ov_disk.specs.Calls.{IsDiskCall};
 ghost use Rattle.ov_disk.specs.Disk.{Image, Only, Told};
 ghost use Rattle.ov_disk.specs.Moments.{IsUntouched};
 ghost use Rattle.ov_journal.specs.Finding.{IsStore};
 ghost use Rattle.ov_images.specs.Damage.{HasHeader, IsFor};
 ghost use Rattle.ov_images.specs.Images.{keys};
-ghost use Rattle.ov_store.specs.Beginning.{IsBeginFault, IsDiskCall, IsOpened};
+ghost use Rattle.ov_store.specs.Beginning.{IsBeginFault, IsOpened};
 ghost use Rattle.ov_store.specs.Opened.{open_with};
 ghost use Rattle.ov_store.specs.declared.fault.BeginFault.TheVariants.{Disk as DiskFailed};
 
@@ -65,16 +66,16 @@ pub(crate) fn reopen<D: Disk>(
     mode: Mode,
 ) -> Result<CatalogueVault, BeginFault>
     requires whole { bad ≡ None → journal.now.bad ≡ false }
-    requires store { Told (D.reads disk.old) (λ i.
-        IsStore journal.now header bad i.book × Only i (D.may_leave disk.old)) }
+    requires store { Told (D.tells.reads disk.old) (λ i.
+        IsStore journal.now header bad i.book × Only i (D.tells.may_leave disk.old)) }
     ensures opened { IfOk result (λ vault.
-        IsOpened D.reads D.may_leave journal.now mode (D.reads disk.old)
+        IsOpened D.tells journal.now mode (D.tells.reads disk.old)
         (open_with disk.new (keys base_check.now surface.now.bytes)
         vault.catalogue vault.stored)) }
-    ensures fault { Told (D.reads disk.old) (λ i.
+    ensures fault { Told (D.tells.reads disk.old) (λ i.
         IfErr result (IsBeginFault (keys base_check.now surface.now.bytes) mode i)) }
-    ensures untouched { IsUntouched D.moment D.left_since D.may_leave D.reads disk.old disk.new }
-    ensures call { IsDiskCall D.borrow D.faults disk.old disk.new (IsErrOf result DiskFailed) }
+    ensures untouched { IsUntouched D.tells disk.old disk.new }
+    ensures call { IsDiskCall D.tells (IsErrOf result DiskFailed) disk.old disk.new }
 {
     compare(&header, base_check, surface, mode)?;
     let vault = replay(alloc, disk, journal, surface, header.mode, header.first)?;

@@ -1,10 +1,10 @@
 //! Replaying the records of a journal.
 ghost use Rattle.std.specs.Prelude.{◌≡◌, ◌≤◌, ◌<◌, ◌^◌, ℕ, List, length, IfOk, IfErr, OnOk, IsErrOf};
+ghost use Rattle.ov_disk.specs.Calls.{IsDiskCall};
 ghost use Rattle.ov_disk.specs.Disk.{Told};
 ghost use Rattle.ov_disk.specs.Moments.{IsUntouched};
 ghost use Rattle.ov_journal.specs.Book.{contents_of};
 ghost use Rattle.ov_journal.specs.Log.{IsLogOf};
-ghost use Rattle.ov_store.specs.Beginning.{IsDiskCall};
 ghost use Rattle.ov_store.specs.Replaying.{TakesBody, IsBodyFault, IsReplay, IsReplayFault};
 ghost use Rattle.ov_store.specs.declared.fault.BeginFault.TheVariants.{Disk as DiskFailed};
 
@@ -62,16 +62,16 @@ pub(crate) fn replay<D: Disk>(
     mode: Mode,
     first: u32,
 ) -> Result<CatalogueVault, BeginFault>
-    requires log { Told (D.reads disk.old) (λ i.
+    requires log { Told (D.tells.reads disk.old) (λ i.
         IsLogOf journal.now (contents_of i.book).records) }
     ensures made { IfOk result (λ vault. (bodies : List (List ℕ))
         × IsReplay surface.now.bytes mode first bodies vault
         × (length bodies ≡ length journal.now.offsets)
-        × Told (D.reads disk.old) (λ i. bodies ≡ (contents_of i.book).records.bodies)) }
-    ensures fault { Told (D.reads disk.old) (λ i.
+        × Told (D.tells.reads disk.old) (λ i. bodies ≡ (contents_of i.book).records.bodies)) }
+    ensures fault { Told (D.tells.reads disk.old) (λ i.
         IfErr result (IsReplayFault mode first (contents_of i.book).records.bodies)) }
-    ensures untouched { IsUntouched D.moment D.left_since D.may_leave D.reads disk.old disk.new }
-    ensures call { IsDiskCall D.borrow D.faults disk.old disk.new (IsErrOf result DiskFailed) }
+    ensures untouched { IsUntouched D.tells disk.old disk.new }
+    ensures call { IsDiskCall D.tells (IsErrOf result DiskFailed) disk.old disk.new }
 {
     journal.known();
     let mut vault: CatalogueVault = Vault::new(alloc, mode, first)?;

@@ -1,5 +1,7 @@
 //! Updates, which are written down before they are made.
 ghost use Rattle.std.specs.Prelude.{◌≡◌, OnOk, IsErrOf};
+ghost use Rattle.ov_disk.specs.Calls.{IsDiskCall};
+ghost use Rattle.ov_disk.specs.Disk.{StaysTold};
 ghost use Rattle.ov_journal.specs.Book.{contents_of, with_body};
 ghost use Rattle.ov_journal.specs.Lasting.{AddsAtMost, IsAcknowledged};
 ghost use Rattle.ov_journal.specs.Log.{Stands};
@@ -7,9 +9,7 @@ ghost use Rattle.ov_journal.specs.declared.fault.CheckFault.TheVariants.{Disk as
 ghost use Rattle.ov_record.specs.Updates.{sealed_update};
 ghost use Rattle.ov_history.specs.Briefs.{brief};
 ghost use Rattle.ov_state.specs.Plans.{IsFitting};
-ghost use Rattle.ov_store.specs.Beginning.{IsDiskCall};
 ghost use Rattle.ov_store.specs.Bodies.{HasLogAfter, MayKeep};
-ghost use Rattle.ov_store.specs.Opened.{StaysTold};
 ghost use Rattle.ov_store.specs.Updating.{GoesOnAfter, IsCallOf, LeavesEither, ServesMore, Updates};
 ghost use Rattle.ov_store.specs.declared.fault.StoreFault.TheVariants.{Disk};
 
@@ -25,14 +25,13 @@ use std::alloc::Global;
 // Writes the body down as the next record. Memory is wanted before the first call of the disk.
 fn keep<D: Disk>(disk: &mut D, journal: &mut Journal, body: &[u8]) -> Result<(), CheckFault>
     requires body { MayKeep body.now journal.old }
-    requires stands { Stands journal.old (D.reads disk.old) (D.may_leave disk.old) }
-    ensures any_moment { AddsAtMost D.reads D.may_leave D.moment D.left_since body.now
-        disk.old disk.new }
+    requires stands { Stands D.tells journal.old disk.old }
+    ensures any_moment { AddsAtMost D.tells body.now disk.old disk.new }
     ensures acknowledged { OnOk result
-        (IsAcknowledged journal.new (D.reads disk.old) (D.reads disk.new) (D.may_leave disk.new)
+        (IsAcknowledged D.tells journal.new disk.old disk.new
         (λ i. with_body body.now (contents_of i.book))) }
     ensures log { HasLogAfter result journal.old journal.new (disk.new ≡ disk.old) }
-    ensures call { IsDiskCall D.borrow D.faults disk.old disk.new (IsErrOf result DiskFailed) }
+    ensures call { IsDiskCall D.tells (IsErrOf result DiskFailed) disk.old disk.new }
 {
     journal.reserve(body.len() as u32)?;
     journal.append(disk, body)?;
@@ -52,14 +51,13 @@ impl<D: Disk> Store<D> {
         ensures state { GoesOnAfter result self.old self.new }
 
         // A crash at any moment of the call leaves the history from before, or it with this update.
-        ensures any_moment { LeavesEither D.reads D.may_leave D.moment D.left_since
-            (sealed_update update) self.old self.new }
+        ensures any_moment { LeavesEither D.tells (sealed_update update) self.old self.new }
         // At `Ok` the history with the update lasts, and the disk still tells what it told.
         ensures served { OnOk result (
-            ServesMore D.reads D.may_leave (sealed_update update) self.old self.new
-            × StaysTold (D.reads self.old.disk) (D.reads self.new.disk)) }
+            ServesMore D.tells (sealed_update update) self.old self.new
+            × StaysTold (D.tells.reads self.old.disk) (D.tells.reads self.new.disk)) }
 
-        ensures call { IsCallOf D.borrow D.faults self.old self.new (IsErrOf result Disk) }
+        ensures call { IsCallOf D.tells self.old self.new (IsErrOf result Disk) }
     {
         if self.failed {
             return Err(StoreFault::Failed);

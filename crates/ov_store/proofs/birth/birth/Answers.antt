@@ -18,9 +18,9 @@ use Rattle.ov_store.proofs.birth.birth.Goals as goal
 pub returns-in_err-vault-clause-any_moment : goal.returns-in_err-vault-clause-any_moment
 returns-in_err-vault-clause-any_moment g c none i is =
     let low : c.args.first < 2 ^ 32 = search rules in
-    none_left g.D.Disk.reads g.D.Disk.may_leave g.D.Disk.moment g.D.Disk.left_since
+    none_left g.D.Disk.tells
     (keys c.args.base_check.now c.args.surface.now.bytes) c.args.mode c.args.first low
-    c.args.disk.now (g.met.D.Disk.only_now c.args.disk.now) i (c.requires.unborn i is)
+    c.args.disk.now i (c.requires.unborn i is)
 
 pub returns-in_err-journal-clause-any_moment : goal.returns-in_err-journal-clause-any_moment
 returns-in_err-journal-clause-any_moment g c none i is =
@@ -38,9 +38,9 @@ returns-in_err-journal-clause-any_moment g c none i is =
       base_check = c.args.base_check.now;
       surface_check = c.check_value.ensures j;
     } in
-    leaves_none g.D.Disk.reads g.D.Disk.may_leave g.D.Disk.moment g.D.Disk.left_since k c.args.mode
+    leaves_none g.D.Disk.tells k c.args.mode
     c.args.first low c.args.disk.now c.birth.new.disk none
-    (subst (λ (h : Header). LeavesOnly g.D.Disk.moment g.D.Disk.left_since c.args.disk.now c.birth.new.disk (IsUnbornOrEmpty h))
+    (subst (λ (h : Header). LeavesOnly g.D.Disk.tells c.args.disk.now c.birth.new.disk (IsUnbornOrEmpty h))
     same (c.birth.ensures.any_moment i is))
 
 pub returns-clause-born : goal.returns-clause-born
@@ -59,10 +59,10 @@ returns-clause-born g c =
       base_check = c.args.base_check.now;
       surface_check = c.check_value.ensures j;
     } in
-    let kept = subst (λ (h : Header). Told (g.D.Disk.reads c.args.disk.now) (λ i.
-    IsKept (g.D.Disk.reads c.birth.new.disk) (g.D.Disk.may_leave c.birth.new.disk) (born h [])
+    let kept = subst (λ (h : Header). Told (g.D.Disk.tells.reads c.args.disk.now) (λ i.
+    IsKept g.D.Disk.tells c.birth.new.disk (born h [])
     i.blobs)) same c.in_ok-journal.ensures.born.written.kept in
-    born_none g.D.Disk.reads g.D.Disk.may_leave g.D.Disk.moment g.D.Disk.left_since k c.args.mode
+    born_none g.D.Disk.tells k c.args.mode
     c.args.first low c.args.disk.now c.birth.new.disk c.in_ok-vault.vault.catalogue
     c.in_ok-vault.vault.stored c.in_ok-vault.ensures.catalogue c.in_ok-vault.ensures.stored
     c.in_ok-journal.ensures.born.written.told_before kept c.in_ok-journal.journal
@@ -78,17 +78,17 @@ returns-in_err-journal-clause-fault g c =
     (sym p.2) (λ i. fault_checked k c.args.mode i c.in_err-journal.field-0.0))
 
 pub returns-in_err-journal-clause-call : goal.returns-in_err-journal-clause-call
-returns-in_err-journal-clause-call g c = (
-  c.birth.ensures.call.same,
-  c.birth.ensures.call.later,
-  λ is.
+returns-in_err-journal-clause-call g c = record {
+  same = c.birth.ensures.call.same;
+  later = c.birth.ensures.call.later;
+  rose = λ is.
       let p = err_from_is_err_and c.from_residual-in_err-journal.result
       c.from_residual-in_err-journal.ensures.1 in
       let disk : p.0 ≡ DiskFailed = cc (p.1, is) in
-      disk_checked c.in_err-journal.field-0.0 (Rose (g.D.Disk.faults c.args.disk.now) (g.D.Disk.faults c.birth.new.disk))
+      disk_checked c.in_err-journal.field-0.0 (Rose (g.D.Disk.tells.faults c.args.disk.now) (g.D.Disk.tells.faults c.birth.new.disk))
       (λ same. c.birth.ensures.call.rose (c.in_err-journal.was ∙ (λ j. Err (same j))))
-      (sym p.2 ∙ disk),
-)
+      (sym p.2 ∙ disk);
+}
 
 pub returns-in_err-journal-clause-memory : goal.returns-in_err-journal-clause-memory
 returns-in_err-journal-clause-memory g c is =

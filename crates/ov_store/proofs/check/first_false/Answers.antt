@@ -1,9 +1,17 @@
 use Rattle.std.proofs.Common.{rules, ◌≡◌, ◌<◌, Bool, true, false, length, sym, ◌∙◌, subst, arith}
-use Rattle.ov_disk.proofs.Runs.{looks_then}
+use Rattle.ov_disk.proofs.Runs.{looks_then, untouched}
 use Rattle.ov_store.specs.Owners.{FollowsUpdate, masters}
 use Rattle.ov_store.proofs.Checking.{followed_all, followed_more, found_false}
 use Rattle.ov_store.proofs.Replays.{next_body}
 use Rattle.ov_store.proofs.check.first_false.Goals as goal
+
+pub records-init : goal.records-init
+records-init g c = record {
+  untouched = untouched g.D.Disk.tells c.args.disk.now;
+  made = search rules;
+  same = search rules;
+  later = search rules;
+}
 
 pub body-requires-clause-records : goal.body-requires-clause-records
 body-requires-clause-records g c i is =
@@ -11,19 +19,19 @@ body-requires-clause-records g c i is =
 
 pub returns-in_err-body-clause-untouched : goal.returns-in_err-body-clause-untouched
 returns-in_err-body-clause-untouched g c =
-    looks_then g.D.Disk.moment g.D.Disk.left_since g.D.Disk.may_leave g.D.Disk.reads
+    looks_then g.D.Disk.tells
     c.args.disk.now c.records.disk c.body.new.disk c.records.invariant.untouched
     c.body.ensures.untouched
 
 pub returns-in_err-follow-clause-untouched : goal.returns-in_err-follow-clause-untouched
 returns-in_err-follow-clause-untouched g c =
-    looks_then g.D.Disk.moment g.D.Disk.left_since g.D.Disk.may_leave g.D.Disk.reads
+    looks_then g.D.Disk.tells
     c.args.disk.now c.records.disk c.body.new.disk c.records.invariant.untouched
     c.body.ensures.untouched
 
 pub returns-then-not-branch-clause-untouched : goal.returns-then-not-branch-clause-untouched
 returns-then-not-branch-clause-untouched g c =
-    looks_then g.D.Disk.moment g.D.Disk.left_since g.D.Disk.may_leave g.D.Disk.reads
+    looks_then g.D.Disk.tells
     c.args.disk.now c.records.disk c.body.new.disk c.records.invariant.untouched
     c.body.ensures.untouched
 
@@ -31,7 +39,7 @@ pub returns-then-not-branch-clause-checked : goal.returns-then-not-branch-clause
 returns-then-not-branch-clause-checked g c = λ d read h history.
     let lt : c.records.i < length c.args.journal.now.offsets = search rules in
     let next = next_body c.args.journal.now c.records.i c.clear.new.self.items c.body.new.out.items
-    c.as_slice.result.now (g.D.Disk.reads c.args.disk.now) lt c.requires.log
+    c.as_slice.result.now (g.D.Disk.tells.reads c.args.disk.now) lt c.requires.log
     (λ d read. c.in_ok-body.ensures.bytes d (c.records.invariant.untouched.reads_same ∙ read))
     c.clear.ensures.items c.as_slice.ensures.value in
     let no : c.in_ok-follow.field-0 ≡ false = search rules in
@@ -47,16 +55,23 @@ returns-then-not-branch-clause-checked g c = λ d read h history.
     (c.in_ok-follow.ensures u is taken))
     (c.requires.log d read) history.3 (search rules)
 
+pub returns-then-not-branch-clause-call : goal.returns-then-not-branch-clause-call
+returns-then-not-branch-clause-call g c = record {
+  same = search rules;
+  later = search rules;
+  rose = search rules;
+}
+
 pub records-preserved : goal.records-preserved
 records-preserved g c =
     let lt : c.records.i < length c.args.journal.now.offsets = search rules in
     let next = next_body c.args.journal.now c.records.i c.clear.new.self.items c.body.new.out.items
-    c.as_slice.result.now (g.D.Disk.reads c.args.disk.now) lt c.requires.log
+    c.as_slice.result.now (g.D.Disk.tells.reads c.args.disk.now) lt c.requires.log
     (λ d read. c.in_ok-body.ensures.bytes d (c.records.invariant.untouched.reads_same ∙ read))
     c.clear.ensures.items c.as_slice.ensures.value in
     let yes : c.in_ok-follow.field-0 ≡ true = search rules in
     record {
-      untouched = looks_then g.D.Disk.moment g.D.Disk.left_since g.D.Disk.may_leave g.D.Disk.reads
+      untouched = looks_then g.D.Disk.tells
           c.args.disk.now c.records.disk c.body.new.disk c.records.invariant.untouched
           c.body.ensures.untouched;
       made = λ d read h history.

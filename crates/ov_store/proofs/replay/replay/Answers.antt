@@ -13,10 +13,10 @@ use Rattle.ov_store.proofs.replay.replay.Goals as goal
 
 pub records-init : goal.records-init
 records-init g c = record {
-  untouched = untouched g.D.Disk.moment g.D.Disk.left_since g.D.Disk.may_leave g.D.Disk.reads
-      c.args.disk.now (g.met.D.Disk.only_now c.args.disk.now);
+  untouched = untouched g.D.Disk.tells
+      c.args.disk.now;
   made = replayed_none c.args.surface.now.bytes c.args.mode c.args.first
-      (g.D.Disk.reads c.args.disk.now) _ c.in_ok-vault.ensures.catalogue
+      (g.D.Disk.tells.reads c.args.disk.now) _ c.in_ok-vault.ensures.catalogue
       c.in_ok-vault.ensures.stored;
   same = search rules;
   later = search rules;
@@ -34,11 +34,11 @@ returns-in_err-body-clause-fault g c i is =
     rw p.1 (subst (λ (fault : BeginFault). IsReplayFault c.args.mode c.args.first all fault)
     (sym p.2)
     (fault_of_read c.args.surface.now.bytes c.args.mode c.args.first
-    (g.D.Disk.reads c.args.disk.now) c.in_err-body.field-0.0 all))
+    (g.D.Disk.tells.reads c.args.disk.now) c.in_err-body.field-0.0 all))
 
 pub returns-in_err-body-clause-untouched : goal.returns-in_err-body-clause-untouched
 returns-in_err-body-clause-untouched g c =
-    looks_then g.D.Disk.moment g.D.Disk.left_since g.D.Disk.may_leave g.D.Disk.reads
+    looks_then g.D.Disk.tells
     c.args.disk.now c.records.disk c.body.new.disk c.records.invariant.untouched
     c.body.ensures.untouched
 
@@ -46,7 +46,7 @@ pub returns-in_err-take_record-clause-fault : goal.returns-in_err-take_record-cl
 returns-in_err-take_record-clause-fault g c i is =
     let lt : c.records.i < length c.args.journal.now.offsets = search rules in
     let next = next_body c.args.journal.now c.records.i c.clear.new.self.items c.body.new.out.items
-    c.as_slice.result.now (g.D.Disk.reads c.args.disk.now) lt
+    c.as_slice.result.now (g.D.Disk.tells.reads c.args.disk.now) lt
     (λ d at. all_first _ _ (c.requires.log d at))
     (λ d at. c.in_ok-body.ensures.bytes d (c.records.invariant.untouched.reads_same ∙ at))
     c.clear.ensures.items c.as_slice.ensures.value in
@@ -56,31 +56,37 @@ returns-in_err-take_record-clause-fault g c i is =
     rw p.1 (subst (λ (fault : BeginFault). IsReplayFault c.args.mode c.args.first all fault)
     (sym p.2)
     (fault_of_body c.args.surface.now.bytes c.args.mode c.args.first
-    (g.D.Disk.reads c.args.disk.now) c.args.journal.now c.requires.log c.known.ensures c.records.i
+    (g.D.Disk.tells.reads c.args.disk.now) c.args.journal.now c.requires.log c.known.ensures c.records.i
     c.records.vault c.as_slice.result.now c.offset-gate.result c.records.invariant.made
     c.offset-gate.ensures.place c.in_err-take_record.field-0.0 c.in_err-take_record.ensures.fault
     i is (next i is)))
 
 pub returns-in_err-take_record-clause-untouched : goal.returns-in_err-take_record-clause-untouched
 returns-in_err-take_record-clause-untouched g c =
-    looks_then g.D.Disk.moment g.D.Disk.left_since g.D.Disk.may_leave g.D.Disk.reads
+    looks_then g.D.Disk.tells
     c.args.disk.now c.records.disk c.body.new.disk c.records.invariant.untouched
     c.body.ensures.untouched
+
+pub returns-in_err-take_record-clause-call : goal.returns-in_err-take_record-clause-call
+returns-in_err-take_record-clause-call g c = record {
+  same = search rules;
+  later = search rules;
+  rose = search rules;
+}
 
 pub records-preserved : goal.records-preserved
 records-preserved g c =
     let lt : c.records.i < length c.args.journal.now.offsets = search rules in
     let next = next_body c.args.journal.now c.records.i c.clear.new.self.items c.body.new.out.items
-    c.as_slice.result.now (g.D.Disk.reads c.args.disk.now) lt
+    c.as_slice.result.now (g.D.Disk.tells.reads c.args.disk.now) lt
     (λ d at. all_first _ _ (c.requires.log d at))
     (λ d at. c.in_ok-body.ensures.bytes d (c.records.invariant.untouched.reads_same ∙ at))
     c.clear.ensures.items c.as_slice.ensures.value in
     record {
-      untouched = looks_then g.D.Disk.moment g.D.Disk.left_since g.D.Disk.may_leave
-          g.D.Disk.reads c.args.disk.now c.records.disk c.body.new.disk
+      untouched = looks_then g.D.Disk.tells c.args.disk.now c.records.disk c.body.new.disk
           c.records.invariant.untouched c.body.ensures.untouched;
       made = replayed_more c.args.surface.now.bytes c.args.mode c.args.first
-          (g.D.Disk.reads c.args.disk.now) c.records.i c.records.vault c.take_record.new.vault
+          (g.D.Disk.tells.reads c.args.disk.now) c.records.i c.records.vault c.take_record.new.vault
           c.as_slice.result.now c.records.invariant.made c.in_ok-take_record.ensures.taken next;
       same = search rules;
       later = search rules;
@@ -90,19 +96,19 @@ pub returns-clause-made : goal.returns-clause-made
 returns-clause-made g c =
     let last : c.records.i ≡ length c.args.journal.now.offsets =
     omega (arith, c.count-i-end.ensures) in
-    replayed_all c.args.surface.now.bytes c.args.mode c.args.first (g.D.Disk.reads c.args.disk.now)
+    replayed_all c.args.surface.now.bytes c.args.mode c.args.first (g.D.Disk.tells.reads c.args.disk.now)
     c.records.i c.records.vault c.args.journal.now c.records.invariant.made last c.requires.log
 
 pub returns-in_err-body-clause-call : goal.returns-in_err-body-clause-call
-returns-in_err-body-clause-call g c = (
-  search rules,
-  search rules,
-  λ is.
+returns-in_err-body-clause-call g c = record {
+  same = search rules;
+  later = search rules;
+  rose = λ is.
       let p = err_from_is_err_and c.from_residual-in_err-body.result
       c.from_residual-in_err-body.ensures.1 in
       let disk : p.0 ≡ DiskFailed = cc (p.1, is) in
-      rises c.in_err-body.field-0.0 (g.D.Disk.faults c.args.disk.now)
-      (g.D.Disk.faults c.records.disk) (g.D.Disk.faults c.body.new.disk)
+      rises c.in_err-body.field-0.0 (g.D.Disk.tells.faults c.args.disk.now)
+      (g.D.Disk.tells.faults c.records.disk) (g.D.Disk.tells.faults c.body.new.disk)
       (λ same. c.body.ensures.call.rose (c.in_err-body.was ∙ (λ j. Err (same j))))
-      c.records.invariant.later (sym p.2 ∙ disk),
-)
+      c.records.invariant.later (sym p.2 ∙ disk);
+}

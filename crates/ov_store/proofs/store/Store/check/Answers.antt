@@ -17,7 +17,7 @@ invariant_of-self g c =
       base_check = c.self.inside.base_check;
       surface = c.self.inside.surface.bytes;
     } in
-    safe_looked g.D.Disk.reads g.D.Disk.may_leave g.D.Disk.moment g.D.Disk.left_since k
+    safe_looked g.D.Disk.tells k
     c.self.inside.vault.catalogue
     c.self.inside.vault.stored c.self.inside.failed c.self.inside.disk c.first_false.new.disk
     c.first_false.ensures.untouched
@@ -29,11 +29,11 @@ returns-clause-served g c = λ h serves.
       base_check = c.self.inside.base_check;
       surface = c.self.inside.surface.bytes;
     } in
-    serves_looked g.D.Disk.reads g.D.Disk.may_leave g.D.Disk.moment g.D.Disk.left_since k
+    serves_looked g.D.Disk.tells k
     c.self.inside.vault.catalogue
     c.self.inside.vault.stored c.self.inside.failed c.self.inside.disk c.first_false.new.disk
     c.first_false.ensures.untouched h
-    (subst (λ (s : Opened g.row.D.Denot). Serves g.D.Disk.reads g.D.Disk.may_leave h s)
+    (subst (λ (s : Opened g.row.D.Denot). Serves g.D.Disk.tells h s)
     (sym c.self.view_is) serves)
 
 pub returns-clause-checked : goal.returns-clause-checked
@@ -52,15 +52,14 @@ returns-clause-checked g c =
     let s : Opened g.row.D.Denot = store_of c.self.inside.disk k c.self.inside.vault.catalogue
     c.self.inside.vault.stored c.self.inside.failed in
     subst (λ (old : Opened g.row.D.Denot). IfOk c.first_false.result (λ found.
-    (h : SealedHistory) → Serves g.D.Disk.reads g.D.Disk.may_leave h old
-    → Told (g.D.Disk.reads old.disk)
+    (h : SealedHistory) → Serves g.D.Disk.tells h old
+    → Told (g.D.Disk.tells.reads old.disk)
     (λ _. Checks (masters c.args.base.now.bytes old.keys.surface) h found))) c.self.view_is
     (subst (λ (base : Key). IfOk c.first_false.result (λ found.
-    (h : SealedHistory) → Serves g.D.Disk.reads g.D.Disk.may_leave h s
-    → Told (g.D.Disk.reads s.disk)
+    (h : SealedHistory) → Serves g.D.Disk.tells h s
+    → Told (g.D.Disk.tells.reads s.disk)
     (λ _. Checks (masters base.bytes s.keys.surface) h found))) c.new-base.ensures
-    (checks_all g.D.Disk.reads g.D.Disk.may_leave g.D.Disk.moment g.D.Disk.left_since
-    g.met.D.Disk.reads_one
+    (checks_all g.D.Disk.tells
     (masters c.new-base.result.bytes k.surface)
     s
     c.self.inside.journal c.mode-mode.result (c.epoch.result - c.count.result)

@@ -16,10 +16,8 @@ use Rattle.ov_store.proofs.store.Store.update.Goals as goal
 
 pub returns-in_err-body-clause-any_moment : goal.returns-in_err-body-clause-any_moment
 returns-in_err-body-clause-any_moment g c =
-    not_begun g.D.Disk.reads g.D.Disk.may_leave g.D.Disk.moment g.D.Disk.left_since
-    g.met.D.Disk.reads_one
-    (sealed_update c.args.update) c.args.self.now c.args.self.now refl (g.met.D.Disk.only_now
-    c.args.self.now.disk)
+    not_begun g.D.Disk.tells
+    (sealed_update c.args.update) c.args.self.now c.args.self.now refl
 
 pub returns-in_err-prepared-clause-any_moment : goal.returns-in_err-prepared-clause-any_moment
 returns-in_err-prepared-clause-any_moment g c =
@@ -27,13 +25,11 @@ returns-in_err-prepared-clause-any_moment g c =
       base_check = c.self.inside.base_check;
       surface = c.self.inside.surface.bytes;
     } in
-    not_begun g.D.Disk.reads g.D.Disk.may_leave g.D.Disk.moment g.D.Disk.left_since
-    g.met.D.Disk.reads_one
+    not_begun g.D.Disk.tells
     (sealed_update c.args.update) c.args.self.now
     (store_of c.self.inside.disk k c.prepare.new.self.catalogue c.prepare.new.self.stored
     c.self.inside.failed)
     (ap (λ (s : Opened g.row.D.Denot). s.disk) c.self.view_is)
-    (g.met.D.Disk.only_now c.args.self.now.disk)
 
 pub unreachable-requires : goal.unreachable-requires
 unreachable-requires g c =
@@ -77,10 +73,8 @@ returns-in-Err-Memory-clause-any_moment g c =
     let later : Opened g.row.D.Denot =
     store_of c.keep.new.disk k c.prepare.new.self.catalogue c.prepare.new.self.stored
     c.self.inside.failed in
-    subst (λ (old : Opened g.row.D.Denot). LeavesEither g.D.Disk.reads g.D.Disk.may_leave
-    g.D.Disk.moment g.D.Disk.left_since (sealed_update c.args.update) old later) c.self.view_is
-    (leaves_either g.D.Disk.reads g.D.Disk.may_leave g.D.Disk.moment g.D.Disk.left_since
-    g.met.D.Disk.reads_one k
+    subst (λ (old : Opened g.row.D.Denot). LeavesEither g.D.Disk.tells (sealed_update c.args.update) old later) c.self.view_is
+    (leaves_either g.D.Disk.tells k
     c.self.inside.disk c.keep.new.disk c.self.inside.vault.catalogue c.self.inside.vault.stored
     c.self.inside.failed
     (sealed_update c.args.update) c.as_slice.result.now
@@ -98,15 +92,13 @@ invariant_of-self-in-Err-Disk g c =
       surface = c.self.inside.surface.bytes;
     } in
     let same : HasSameRecords c.self.inside.journal c.keep.new.journal = search rules in
-    safe_failed g.D.Disk.reads g.D.Disk.may_leave g.D.Disk.moment g.D.Disk.left_since
-    g.met.D.Disk.reads_one k
+    safe_failed g.D.Disk.tells k
     c.self.inside.disk c.keep.new.disk c.self.inside.vault.catalogue c.self.inside.vault.stored
     c.self.inside.failed
     (sealed_update c.args.update) c.as_slice.result.now
     c.in_ok-prepared.ensures.prepared.change.taken is
     c.self.inside.journal c.keep.new.journal c.self.invariant c.if-self.false
     c.keep.ensures.log.whole same c.keep.ensures.any_moment
-    (g.met.D.Disk.counts_now c.keep.new.disk)
     c.prepare.new.self.catalogue c.prepare.new.self.stored
     c.in_ok-prepared.ensures.catalogue c.in_ok-prepared.ensures.stored
 
@@ -122,10 +114,8 @@ returns-in-Err-Disk-clause-any_moment g c =
     } in
     let later : Opened g.row.D.Denot =
     store_of c.keep.new.disk k c.prepare.new.self.catalogue c.prepare.new.self.stored true in
-    subst (λ (old : Opened g.row.D.Denot). LeavesEither g.D.Disk.reads g.D.Disk.may_leave
-    g.D.Disk.moment g.D.Disk.left_since (sealed_update c.args.update) old later) c.self.view_is
-    (leaves_either g.D.Disk.reads g.D.Disk.may_leave g.D.Disk.moment g.D.Disk.left_since
-    g.met.D.Disk.reads_one k
+    subst (λ (old : Opened g.row.D.Denot). LeavesEither g.D.Disk.tells (sealed_update c.args.update) old later) c.self.view_is
+    (leaves_either g.D.Disk.tells k
     c.self.inside.disk c.keep.new.disk c.self.inside.vault.catalogue c.self.inside.vault.stored
     c.self.inside.failed
     (sealed_update c.args.update) c.as_slice.result.now
@@ -145,10 +135,8 @@ returns-clause-any_moment g c =
     let later : Opened g.row.D.Denot =
     store_of c.keep.new.disk k c.commit.new.self.catalogue c.commit.new.self.stored
     c.self.inside.failed in
-    subst (λ (old : Opened g.row.D.Denot). LeavesEither g.D.Disk.reads g.D.Disk.may_leave
-    g.D.Disk.moment g.D.Disk.left_since (sealed_update c.args.update) old later) c.self.view_is
-    (leaves_either g.D.Disk.reads g.D.Disk.may_leave g.D.Disk.moment g.D.Disk.left_since
-    g.met.D.Disk.reads_one k
+    subst (λ (old : Opened g.row.D.Denot). LeavesEither g.D.Disk.tells (sealed_update c.args.update) old later) c.self.view_is
+    (leaves_either g.D.Disk.tells k
     c.self.inside.disk c.keep.new.disk c.self.inside.vault.catalogue c.self.inside.vault.stored
     c.self.inside.failed
     (sealed_update c.args.update) c.as_slice.result.now
@@ -178,8 +166,7 @@ invariant_of-self-2 g c =
     c.commit.ensures.stored
     ∙ ap (λ (x : List (List ℕ)). stored_with x c.in_ok-prepared.prepared)
     c.in_ok-prepared.ensures.stored ∙ c.in_ok-prepared.ensures.prepared.bytes in
-    safe_more g.D.Disk.reads g.D.Disk.may_leave g.D.Disk.moment g.D.Disk.left_since
-    g.met.D.Disk.reads_one k
+    safe_more g.D.Disk.tells k
     c.self.inside.disk c.keep.new.disk c.self.inside.vault.catalogue c.self.inside.vault.stored
     c.self.inside.failed
     (sealed_update c.args.update) c.as_slice.result.now
@@ -214,10 +201,9 @@ returns-clause-served g c =
     c.in_ok-prepared.ensures.stored ∙ c.in_ok-prepared.ensures.prepared.bytes in
     let later : Opened g.row.D.Denot = store_of c.keep.new.disk k c.commit.new.self.catalogue
     c.commit.new.self.stored c.self.inside.failed in
-    let served = subst (λ (old : Opened g.row.D.Denot). ServesMore g.D.Disk.reads g.D.Disk.may_leave
+    let served = subst (λ (old : Opened g.row.D.Denot). ServesMore g.D.Disk.tells
     (sealed_update c.args.update) old later) c.self.view_is
-    (serves_more g.D.Disk.reads g.D.Disk.may_leave g.D.Disk.moment g.D.Disk.left_since
-    g.met.D.Disk.reads_one k
+    (serves_more g.D.Disk.tells k
     c.self.inside.disk c.keep.new.disk c.self.inside.vault.catalogue c.self.inside.vault.stored
     c.self.inside.failed
     (sealed_update c.args.update) c.as_slice.result.now
@@ -226,8 +212,8 @@ returns-clause-served g c =
     c.commit.new.self.catalogue c.commit.new.self.stored made rewritten) in (
       served,
       λ i is.
-          let before : g.D.Disk.reads c.self.inside.disk ≡ Some i =
-          ap (λ (s : Opened g.row.D.Denot). g.D.Disk.reads s.disk) c.self.view_is ∙ is in
+          let before : g.D.Disk.tells.reads c.self.inside.disk ≡ Some i =
+          ap (λ (s : Opened g.row.D.Denot). g.D.Disk.tells.reads s.disk) c.self.view_is ∙ is in
           let kept = c.in-Ok.ensures.acknowledged.written.kept i before in
           (kept.now, kept.is_read),
     )
