@@ -29,7 +29,7 @@ const NEW_STORE: [u8; 79] = *b"\x01OVERENC0\x01\x01\x02\x03\x04\
 
 // The bodies of all records, one behind the other.
 fn bodies<D: Disk>(alloc: Global, disk: &mut D, journal: &Journal) -> Result<Vec<u8>, CheckFault>
-    requires { Told (D.reads disk.old) (λ i. IsLogOf journal.now (contents_of i.book).records) }
+    requires { Told (D.tells.reads disk.old) (λ i. IsLogOf journal.now (contents_of i.book).records) }
 {
     let mut all = Vec::new(alloc);
     'records: for i in 0..journal.count() {
@@ -58,10 +58,10 @@ fn put<D: Disk>(journal: &mut Journal, disk: &mut D, body: &[u8]) -> Result<(), 
     requires whole { journal.old.bad ≡ false }
     requires count { length journal.old.offsets < 9 }
     requires body { (1 ≤ length body.now) × (length body.now ≤ 9) }
-    requires stands { Stands journal.old (D.reads disk.old) (D.may_leave disk.old) }
+    requires stands { Stands D.tells journal.old disk.old }
     ensures whole { OnOk result (journal.new.bad ≡ false) }
     ensures count { OnOk result (length journal.new.offsets ≡ length journal.old.offsets + 1) }
-    ensures stands { OnOk result (Stands journal.new (D.reads disk.new) (D.may_leave disk.new)) }
+    ensures stands { OnOk result (Stands D.tells journal.new disk.new) }
 {
     journal.reserve(9)?;
     journal.append(disk, body)?;
@@ -70,8 +70,8 @@ fn put<D: Disk>(journal: &mut Journal, disk: &mut D, body: &[u8]) -> Result<(), 
 
 // A birth and two records: seven calls of an empty disk, and twice four.
 fn write<D: Disk>(alloc: Global, disk: &mut D) -> Result<(), CheckFault>
-    requires { Told (D.reads disk.old) (λ i.
-        IsUnborn i.book × OnlyBook i.book (D.may_leave disk.old)) }
+    requires { Told (D.tells.reads disk.old) (λ i.
+        IsUnborn i.book × OnlyBook i.book (D.tells.may_leave disk.old)) }
 {
     let mut journal = Journal::birth(alloc, disk, &HEADER)?;
     put(&mut journal, disk, b"\x01\x05alice")?;

@@ -25,10 +25,9 @@ fn two_updates<D: Disk + Drop>(
 ) -> Result<D, StoreFault>
     requires one { IsFitting (brief (sealed_update one)) }
     requires other { IsFitting (brief (sealed_update other)) }
-    ensures { (g : SealedHistory) → Serves D.reads D.may_leave g store → IfOk result (λ disk.
-        store.failed ≡ false → Lasts store.keys
-        (with_sealed (with_sealed g (sealed_update one)) (sealed_update other))
-        (D.reads disk) (D.may_leave disk)) }
+    ensures { (g : SealedHistory) → Serves D.tells g store → IfOk result (λ disk.
+        store.failed ≡ false → Lasts D.tells store.keys
+        (with_sealed (with_sealed g (sealed_update one)) (sealed_update other)) disk) }
 {
     let mut store = store;
     let _first = store.update(alloc, one)?;
@@ -47,10 +46,10 @@ fn begin_and_update<D: Disk + Drop>(
     update: Update<WIDTH>,
 ) -> Result<Store<D>, StoreFault>
     requires { IsFitting (brief (sealed_update update)) }
-    ensures { Told (D.reads disk) (λ i. (g : SealedHistory) → g.mode ≡ mode
+    ensures { Told (D.tells.reads disk) (λ i. (g : SealedHistory) → g.mode ≡ mode
         → IsImageOf (keys base_check surface.bytes) g i → IfOk result (λ s.
-        Lasts (keys base_check surface.bytes) (with_sealed g (sealed_update update))
-        (D.reads s.disk) (D.may_leave s.disk))) }
+        Lasts D.tells (keys base_check surface.bytes) (with_sealed g (sealed_update update))
+        s.disk)) }
 {
     match Store::begin(alloc, disk, surface, base_check, mode) {
         Ok(store) => {

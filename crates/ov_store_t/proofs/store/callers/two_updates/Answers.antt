@@ -14,8 +14,8 @@ returns g c h serves sound i read x left =
     c.update-2.ensures.call.0 ∙ c.update.ensures.call.0 in
     let still : c.update-2.new.self.failed ≡ false =
     c.in_ok-_second.ensures.state.failed.0 ∙ c.in_ok-_first.ensures.state.failed.0 ∙ sound in
-    let before : g.D.Disk.reads c.update-2.new.self.disk ≡ Some i =
-    ap g.D.Disk.reads (sym c.close.ensures) ∙ read in
+    let before : g.D.Disk.tells.reads c.update-2.new.self.disk ≡ Some i =
+    ap g.D.Disk.tells.reads (sym c.close.ensures) ∙ read in
     subst (λ (k : Keys). Keeps k both x) same
     (two.disk still i before x
-    (subst (λ (d : g.row.D.Denot). g.D.Disk.may_leave d x) c.close.ensures left))
+    (subst (λ (d : g.row.D.Denot). g.D.Disk.tells.may_leave d x) c.close.ensures left))
