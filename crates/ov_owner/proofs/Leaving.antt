@@ -27,7 +27,8 @@ use Rattle.ov_protocol.specs.Replies.{MayMake, updates_asked}
 use Rattle.ov_protocol.specs.Updating.{spelled_by}
 use Rattle.ov_protocol.proofs.Leaving.{replies_may_make}
 use Rattle.ov_protocol.proofs.Reading.{request_back}
-use Rattle.ov_peer.specs.Asks.{Ask, IsReplyAt}
+use Rattle.ov_peer.specs.Asks.{Ask}
+use Rattle.ov_peer.specs.Tells.{IsReplyAt}
 use Rattle.ov_peer.specs.Exchanges.{IsAnswerAt}
 use Rattle.ov_peer.proofs.Telling.{answer_at}
 use Rattle.ov_owner.specs.Alone.{AnsweredAlone, AskedAlone, IsOneOrNone, LeftAlone}

@@ -3,8 +3,9 @@ use Rattle.std.proofs.Common.{◌≡◌, ℕ, List, Option, Some, None, Result, 
 use Rattle.ov_script.specs.declared.command.Command.{Command}
 use Rattle.ov_history.specs.Masters.{Masters}
 use Rattle.ov_protocol.specs.Serving.{Service}
-use Rattle.ov_peer.specs.Asks.{Asked, EndsAt, Failed}
-use Rattle.ov_peer.specs.Laws.{AsksAreAlong}
+use Rattle.ov_peer.specs.Asks.{EndsAt}
+use Rattle.ov_peer.specs.Tells.{PeerTells}
+use Rattle.ov_peer.proofs.Telling.{asks_along}
 use Rattle.ov_owner.specs.Calls.{Runs}
 use Rattle.ov_owner.specs.Errands.{Errand}
 use Rattle.ov_owner.specs.Steps.{IsErrandFor, IsOwnersReply}
@@ -23,28 +24,27 @@ errand_for base (tasks.Create file list bytes) = refl
 errand_for base (tasks.Grant user file) = refl
 errand_for base (tasks.Revoke user file) = refl
 
-module _ {P : Type 0} (asked : Asked P) (failed : Failed P) (serves : P → Service → Type 0)
-    (along : AsksAreAlong asked serves) (k : Masters) (command : Command) (e : Errand)
-    (is : IsErrandFor k.base command e) (p q : P) (v : Service) (is_served : serves p v)
+module _ {P : Type 0} (peer : PeerTells P) (k : Masters) (command : Command) (e : Errand)
+    (is : IsErrandFor k.base command e) (p q : P) (v : Service) (is_served : peer.serves p v)
     (same : v.surface ≡ k.surface) where
   -- where the call has an answer, its last ask was answered
   answered_last : (m : P) (stage : Stage) (o : Option (List ℕ)) (result : Result ℕ OwnerFault)
-      → Closes k.surface e stage o result → (IsAskFault result → ⊥) → EndsAt failed m o q → m ≡ q
+      → Closes k.surface e stage o result → (IsAskFault result → ⊥) → EndsAt peer m o q → m ≡ q
   answered_last m stage None result closes other ends = ends
   answered_last m stage (Some frame) result (due, why) other ends = absurd (other why)
 
-  pub owners_reply : (result : Result ℕ OwnerFault) → Runs asked failed k.surface e p q result
-      → IsOwnersReply k command v (serves q) result
+  pub owners_reply : (result : Result ℕ OwnerFault) → Runs peer k.surface e p q result
+      → IsOwnersReply k command v (peer.serves q) result
   owners_reply (Ok epoch) runs =
       let (m, leads, ends) = runs.are_asks in
       let (final, goes, closes) = runs.talks in
-      let (histories, last, at_each, then) = along p m runs.asks v leads is_served in
+      let (histories, last, at_each, then) = asks_along peer p m runs.asks v leads is_served in
       let at_end = answered_last m final runs.unanswered (Ok epoch) closes never ends in (
         runs.asks,
         histories,
         last,
         at_each,
-        subst (λ r. serves r last) at_end then,
+        subst (λ r. peer.serves r last) at_end then,
         λ right. talks_are_steps k command e runs.asks runs.unanswered (Ok epoch) v last histories is runs.talks same at_each right,
       ) where
         never : IsAskFault (Ok epoch) → ⊥
@@ -53,13 +53,13 @@ module _ {P : Type 0} (asked : Asked P) (failed : Failed P) (serves : P → Serv
   owners_reply (Err (faults.Refused why)) runs =
       let (m, leads, ends) = runs.are_asks in
       let (final, goes, closes) = runs.talks in
-      let (histories, last, at_each, then) = along p m runs.asks v leads is_served in
+      let (histories, last, at_each, then) = asks_along peer p m runs.asks v leads is_served in
       let at_end = answered_last m final runs.unanswered (Err (faults.Refused why)) closes never ends in (
         runs.asks,
         histories,
         last,
         at_each,
-        subst (λ r. serves r last) at_end then,
+        subst (λ r. peer.serves r last) at_end then,
         λ right. talks_are_steps k command e runs.asks runs.unanswered (Err (faults.Refused why)) v last histories is runs.talks same at_each right,
       ) where
         never : IsAskFault (Err (faults.Refused why)) → ⊥
@@ -67,11 +67,11 @@ module _ {P : Type 0} (asked : Asked P) (failed : Failed P) (serves : P → Serv
         never (inr wrong) = cc wrong
   owners_reply (Err fault) runs = tt
 
-pub task_reply : {P : Type 0} (asked : Asked P) (failed : Failed P) (serves : P → Service → Type 0)
-    → AsksAreAlong asked serves → (k : Masters) (task : Task) (p q : P) (v : Service) → serves p v
+pub task_reply : {P : Type 0} (peer : PeerTells P) (k : Masters) (task : Task) (p q : P)
+    (v : Service) → peer.serves p v
     → v.surface ≡ k.surface → (result : Result ℕ OwnerFault)
-    → Runs asked failed k.surface (errand_of k.base task) p q result
-    → IsOwnersReply k (command_of task) v (serves q) result
-task_reply asked failed serves along k task p q v is_served same result runs =
-    owners_reply asked failed serves along k (command_of task) (errand_of k.base task) (errand_for k.base task)
+    → Runs peer k.surface (errand_of k.base task) p q result
+    → IsOwnersReply k (command_of task) v (peer.serves q) result
+task_reply peer k task p q v is_served same result runs =
+    owners_reply peer k (command_of task) (errand_of k.base task) (errand_for k.base task)
     p q v is_served same result runs

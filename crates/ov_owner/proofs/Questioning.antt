@@ -21,24 +21,24 @@ use Rattle.ov_wire.specs.declared.request.Request.TheVariants as requests
 use Rattle.ov_protocol.specs.Serving.{Service, later, served}
 use Rattle.ov_protocol.specs.Answers.{Answers, welcome_of}
 use Rattle.ov_protocol.proofs.Leaving.{later-nil}
-use Rattle.ov_peer.specs.Asks.{Asked, Failed}
 use Rattle.ov_peer.specs.Exchanges.{Exchanges, Tells}
 use Rattle.ov_peer.specs.declared.fault.ExchangeFault.{ExchangeFault}
 use Rattle.ov_peer.specs.declared.fault.ExchangeFault.TheVariants.{BadReply, Link, Memory}
+use Rattle.ov_peer.specs.Tells.{PeerTells}
 use Rattle.ov_owner.specs.Questions.{AsksOnce, IsListOf, IsWelcomeOf, RepliesThere, names_in, welcome_in}
 use Rattle.ov_owner.specs.Tasks.{owner_fault}
 use Rattle.ov_owner.specs.declared.fault.OwnerFault.{OwnerFault}
 
 -- ---- one ask
 
-module _ {P T : Type 0} (asked : Asked P) (failed : Failed P) (p q : P) (request : Request)
+module _ {P T : Type 0} (peer : PeerTells P) (p q : P) (request : Request)
     (take : Answer → Result T OwnerFault) where
-  pub answered_once : (a : Answer) → Exchanges asked failed p q request (Ok a)
-      → AsksOnce asked failed p q request take (take a)
+  pub answered_once : (a : Answer) → Exchanges peer p q request (Ok a)
+      → AsksOnce peer p q request take (take a)
   answered_once a x = inl (Ok a, x, refl)
 
-  pub unanswered_once : (fault : ExchangeFault) → Exchanges asked failed p q request (Err fault)
-      → AsksOnce asked failed p q request take (Err (owner_fault fault))
+  pub unanswered_once : (fault : ExchangeFault) → Exchanges peer p q request (Err fault)
+      → AsksOnce peer p q request take (Err (owner_fault fault))
   unanswered_once Link x = inr (inl (refl, x))
   unanswered_once (BadReply place) x = inl (Err place, x, refl)
   unanswered_once Memory x = inr (inr (refl, x))

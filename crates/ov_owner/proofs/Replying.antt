@@ -19,7 +19,8 @@ use Rattle.ov_wire.specs.AnswerReading.{answer_of}
 use Rattle.ov_wire.specs.Requests.{HasRequestForm, request_bytes}
 use Rattle.ov_protocol.specs.Serving.{Service, followed, served}
 use Rattle.ov_protocol.specs.Answers.{Answers, made_by}
-use Rattle.ov_peer.specs.Asks.{Along, AreRight, Ask, IsReplyAt}
+use Rattle.ov_peer.specs.Asks.{Along, AreRight, Ask}
+use Rattle.ov_peer.specs.Tells.{IsReplyAt}
 use Rattle.ov_peer.specs.Exchanges.{IsAnswerAt}
 use Rattle.ov_peer.proofs.Telling.{answer_at}
 use Rattle.ov_owner.specs.Errands.{Errand}

@@ -5,10 +5,11 @@ use Rattle.ov_wire.specs.declared.request.Request.{Request}
 use Rattle.ov_wire.specs.declared.answer.Answer.{Answer}
 use Rattle.ov_wire.specs.declared.answer.Answer.TheVariants as answers
 use Rattle.ov_wire.specs.Requests.{request_bytes}
-use Rattle.ov_peer.specs.Asks.{Ask, Asked, Failed, Leads}
+use Rattle.ov_peer.specs.Asks.{Ask, Leads}
 use Rattle.ov_peer.specs.Exchanges.{Answered, Exchanges}
 use Rattle.ov_peer.specs.declared.fault.ExchangeFault.{ExchangeFault}
 use Rattle.ov_peer.specs.declared.fault.ExchangeFault.TheVariants.{Link, BadReply, Memory}
+use Rattle.ov_peer.specs.Tells.{PeerTells}
 use Rattle.ov_owner.specs.Calls.{Concludes, Passes}
 use Rattle.ov_owner.specs.Errands.{Errand}
 use Rattle.ov_owner.specs.Talks.{CanSend, Ends, Goes, IsAskFault, Sends, Stage, after, asked_at, update_request}
@@ -16,10 +17,10 @@ use Rattle.ov_owner.specs.Tasks.{IsSent, owner_fault, sent_of}
 use Rattle.ov_owner.specs.declared.fault.OwnerFault.{OwnerFault}
 use Rattle.ov_owner.specs.declared.fault.OwnerFault.TheVariants as faults
 
-module _ {P : Type 0} (asked : Asked P) (failed : Failed P) (surface : List ℕ) (e : Errand) where
-  leads_on : (p m q : P) (asks more : List Ask) → Leads asked p asks m → Leads asked m more q
-      → Leads asked p (asks ++ more) q
-  leads_on p m q [] more same rest = subst (λ (r : P). Leads asked r more q) (sym same) rest
+module _ {P : Type 0} (peer : PeerTells P) (surface : List ℕ) (e : Errand) where
+  leads_on : (p m q : P) (asks more : List Ask) → Leads peer p asks m → Leads peer m more q
+      → Leads peer p (asks ++ more) q
+  leads_on p m q [] more same rest = subst (λ (r : P). Leads peer r more q) (sym same) rest
   leads_on p m q (a ∷ asks) more (n, first, leads) rest =
       (n, first, leads_on n m q asks more leads rest)
 
@@ -31,8 +32,8 @@ module _ {P : Type 0} (asked : Asked P) (failed : Failed P) (surface : List ℕ)
       (next, moves, goes_on next mid to asks more goes rest)
 
   -- asks behind asks
-  pub passes_on : (from mid to : Stage) (p m q : P) → Passes asked surface e from p mid m
-      → Passes asked surface e mid m to q → Passes asked surface e from p to q
+  pub passes_on : (from mid to : Stage) (p m q : P) → Passes peer surface e from p mid m
+      → Passes peer surface e mid m to q → Passes peer surface e from p to q
   passes_on from mid to p m q one other = record {
     asks = one.asks ++ other.asks;
     leads = leads_on p m q one.asks other.asks one.leads other.leads;
@@ -41,8 +42,8 @@ module _ {P : Type 0} (asked : Asked P) (failed : Failed P) (surface : List ℕ)
 
   -- a call that ends after asks
   pub concludes_on : (from mid : Stage) (p m q : P) (result : Result ℕ OwnerFault)
-      → Passes asked surface e from p mid m → Concludes asked failed surface e mid m q result
-      → Concludes asked failed surface e from p q result
+      → Passes peer surface e from p mid m → Concludes peer surface e mid m q result
+      → Concludes peer surface e from p q result
   concludes_on from mid p m q result one other =
       let (n, leads, ends) = other.are_asks in
       let (last, goes, closes) = other.talks in record {
@@ -53,12 +54,12 @@ module _ {P : Type 0} (asked : Asked P) (failed : Failed P) (surface : List ℕ)
       }
 
   -- no ask leads nowhere
-  pub stays : (from : Stage) (p : P) → Passes asked surface e from p from p
+  pub stays : (from : Stage) (p : P) → Passes peer surface e from p from p
   stays from p = record { asks = []; leads = refl; goes = refl }
 
   -- the stage says how the call ends
   pub ends_so : (from : Stage) (p q : P) (result : Result ℕ OwnerFault)
-      → Passes asked surface e from p (Ends result) q → Concludes asked failed surface e from p q result
+      → Passes peer surface e from p (Ends result) q → Concludes peer surface e from p q result
   ends_so from p q result one = record {
     asks = one.asks;
     unanswered = None;
@@ -67,7 +68,7 @@ module _ {P : Type 0} (asked : Asked P) (failed : Failed P) (surface : List ℕ)
   }
 
   -- memory runs out before an ask
-  pub nothing_asked : (from : Stage) (p : P) → Concludes asked failed surface e from p p (Err faults.Memory)
+  pub nothing_asked : (from : Stage) (p : P) → Concludes peer surface e from p p (Err faults.Memory)
   nothing_asked from p = record {
     asks = [];
     unanswered = None;
@@ -79,8 +80,8 @@ module _ {P : Type 0} (asked : Asked P) (failed : Failed P) (surface : List ℕ)
   module _ (from : Stage) (request : Request) (is_due : asked_at surface e from ≡ Some request) (form : CanSend surface e from) where
     -- it was answered
     pub answered_so : (p q : P) (read : Result Answer ℕ) (next : Stage)
-        → Answered asked p q request read → after e from read ≡ next
-        → Passes asked surface e from p next q
+        → Answered peer p q request read → after e from read ≡ next
+        → Passes peer surface e from p next q
     answered_so p q read next a is = record {
       asks = record { request = request_bytes request; reply = a.reply } ∷ [];
       leads = (q, a.sent, refl);
@@ -95,7 +96,7 @@ module _ {P : Type 0} (asked : Asked P) (failed : Failed P) (surface : List ℕ)
     }
 
     ask_fails : (p q : P) (fault : OwnerFault) → IsAskFault (Err fault)
-        → failed p (request_bytes request) q → Concludes asked failed surface e from p q (Err fault)
+        → peer.failed p (request_bytes request) q → Concludes peer surface e from p q (Err fault)
     ask_fails p q fault why f = record {
       asks = [];
       unanswered = Some (request_bytes request);
@@ -103,8 +104,8 @@ module _ {P : Type 0} (asked : Asked P) (failed : Failed P) (surface : List ℕ)
       talks = (from, refl, (record { request = request; due = is_due; form = form; spelled = refl }, why));
     }
 
-    answer_lost : (p q : P) (reply : List ℕ) → asked p (request_bytes request) reply q
-        → Concludes asked failed surface e from p q (Err faults.Memory)
+    answer_lost : (p q : P) (reply : List ℕ) → peer.asked p (request_bytes request) reply q
+        → Concludes peer surface e from p q (Err faults.Memory)
     answer_lost p q reply a = record {
       asks = record { request = request_bytes request; reply = reply } ∷ [];
       unanswered = None;
@@ -126,27 +127,27 @@ module _ {P : Type 0} (asked : Asked P) (failed : Failed P) (surface : List ℕ)
     -- or it has no answer, and the call ends
     pub exchange_fails : (p q : P) (fault : ExchangeFault)
         → ((place : ℕ) → after e from (Err place) ≡ Ends (Err (faults.BadReply place)))
-        → Exchanges asked failed p q request (Err fault)
-        → Concludes asked failed surface e from p q (Err (owner_fault fault))
+        → Exchanges peer p q request (Err fault)
+        → Concludes peer surface e from p q (Err (owner_fault fault))
     exchange_fails p q Link bad x = ask_fails p q faults.Link (inl refl) x
     exchange_fails p q (BadReply place) bad x =
         ends_so from p q (Err (faults.BadReply place)) (answered_so p q (Err place) _ x (bad place))
     exchange_fails p q Memory bad (inl same) =
-        subst (λ (r : P). Concludes asked failed surface e from p r (Err faults.Memory)) (sym same) (nothing_asked from p)
+        subst (λ (r : P). Concludes peer surface e from p r (Err faults.Memory)) (sym same) (nothing_asked from p)
     exchange_fails p q Memory bad (inr (inl f)) = ask_fails p q faults.Memory (inr refl) f
     exchange_fails p q Memory bad (inr (inr (reply, a))) = answer_lost p q reply a
 
   -- ---- an update is sent
   module _ (tries : List ℕ) (epoch : ℕ) (u : SealedUpdate) (form : CanSend surface e (Sends tries epoch u)) where
     by_answer : (p q : P) (a : Answer) (next : Stage)
-        → Answered asked p q (update_request surface epoch u) (Ok a)
+        → Answered peer p q (update_request surface epoch u) (Ok a)
         → after e (Sends tries epoch u) (Ok a) ≡ next
-        → Passes asked surface e (Sends tries epoch u) p next q
+        → Passes peer surface e (Sends tries epoch u) p next q
     by_answer p q a next x is =
         answered_so (Sends tries epoch u) (update_request surface epoch u) refl form p q (Ok a) next x is
 
-    pub sent_by : (p q : P) (a : Answer) → Answered asked p q (update_request surface epoch u) (Ok a)
-        → IsSent asked failed surface e tries epoch u p q (sent_of a)
+    pub sent_by : (p q : P) (a : Answer) → Answered peer p q (update_request surface epoch u) (Ok a)
+        → IsSent peer surface e tries epoch u p q (sent_of a)
     sent_by p q (answers.Accepted now) x =
         ends_so _ p q (Ok now) (by_answer p q (answers.Accepted now) _ x refl)
     sent_by p q (answers.Stale now) x = by_answer p q (answers.Stale now) _ x refl
@@ -161,7 +162,7 @@ module _ {P : Type 0} (asked : Asked P) (failed : Failed P) (surface : List ℕ)
     sent_by p q a x = ends_so _ p q (Err (faults.BadReply 0)) (by_answer p q a _ x refl)
 
     pub unsent_by : (p q : P) (fault : ExchangeFault)
-        → Exchanges asked failed p q (update_request surface epoch u) (Err fault)
-        → IsSent asked failed surface e tries epoch u p q (Err (owner_fault fault))
+        → Exchanges peer p q (update_request surface epoch u) (Err fault)
+        → IsSent peer surface e tries epoch u p q (Err (owner_fault fault))
     unsent_by p q fault x =
         exchange_fails (Sends tries epoch u) (update_request surface epoch u) refl form p q fault (λ place. refl) x

@@ -11,8 +11,8 @@ use Rattle.ov_wire.specs.declared.answer.Plan.{Plan}
 use Rattle.ov_wire.specs.declared.answer.Answer.{Answer}
 use Rattle.ov_wire.specs.declared.answer.Answer.TheVariants as answers
 use Rattle.ov_wire.specs.Requests.{HasRequestForm}
-use Rattle.ov_peer.specs.Asks.{Asked, Failed}
 use Rattle.ov_peer.specs.Exchanges.{Answered}
+use Rattle.ov_peer.specs.Tells.{PeerTells}
 use Rattle.ov_owner.specs.Calls.{Concludes, Passes}
 use Rattle.ov_owner.specs.Errands.{Errand, known_of, plan_of, sealed_by}
 use Rattle.ov_owner.specs.Talks.{Asks, Ends, Sends, Stage, after_first, again, again_if, sends_if, start}
@@ -26,38 +26,38 @@ use Rattle.ov_owner.proofs.Talking.{answered_so, concludes_on, ends_so, nothing_
 
 -- ---- the answer to the first request
 
-module _ {P : Type 0} (asked : Asked P) (failed : Failed P) (surface : List ℕ) (e : Errand) (tries : List ℕ)
+module _ {P : Type 0} (peer : PeerTells P) (surface : List ℕ) (e : Errand) (tries : List ℕ)
     (least : ℕ) (p q : P) (request : Request) (ours : request ≡ e.first) (form : HasRequestForm request)
-    (a : Answer) (x : Answered asked p q request (Ok a)) where
+    (a : Answer) (x : Answered peer p q request (Ok a)) where
   by_first : (next : Stage) → after_first tries least (e.sealed a) ≡ next
-      → Passes asked surface e (Asks tries least) p next q
+      → Passes peer surface e (Asks tries least) p next q
   by_first next is =
-      answered_so asked failed surface e (Asks tries least) e.first refl (subst HasRequestForm ours form) p q (Ok a) next
-      (subst (λ (r : Request). Answered asked p q r (Ok a)) ours x) is
+      answered_so peer surface e (Asks tries least) e.first refl (subst HasRequestForm ours form) p q (Ok a) next
+      (subst (λ (r : Request). Answered peer p q r (Ok a)) ours x) is
 
   -- nothing is sealed of it
   pub seal_fails : (fault : OwnerFault) → (fault ≡ faults.Memory) ⊎ (e.sealed a ≡ Err fault)
-      → Concludes asked failed surface e (Asks tries least) p q (Err fault)
+      → Concludes peer surface e (Asks tries least) p q (Err fault)
   seal_fails fault (inl memory) =
-      subst (λ (f : OwnerFault). Concludes asked failed surface e (Asks tries least) p q (Err f)) (sym memory)
-      (concludes_on asked failed surface e (Asks tries least) (after_first tries least (e.sealed a)) p q q (Err faults.Memory)
+      subst (λ (f : OwnerFault). Concludes peer surface e (Asks tries least) p q (Err f)) (sym memory)
+      (concludes_on peer surface e (Asks tries least) (after_first tries least (e.sealed a)) p q q (Err faults.Memory)
       (by_first (after_first tries least (e.sealed a)) refl)
-      (nothing_asked asked failed surface e (after_first tries least (e.sealed a)) q))
+      (nothing_asked peer surface e (after_first tries least (e.sealed a)) q))
   seal_fails fault (inr is) =
-      ends_so asked failed surface e (Asks tries least) p q (Err fault)
+      ends_so peer surface e (Asks tries least) p q (Err fault)
       (by_first (Ends (Err fault)) (ap (after_first tries least) is))
 
   -- its epoch is too low
   pub too_low : (epoch : ℕ) (u : SealedUpdate) → e.sealed a ≡ Ok (epoch, u) → epoch < least
-      → Concludes asked failed surface e (Asks tries least) p q (Err (faults.BadReply 1))
+      → Concludes peer surface e (Asks tries least) p q (Err (faults.BadReply 1))
   too_low epoch u is low =
-      ends_so asked failed surface e (Asks tries least) p q (Err (faults.BadReply 1))
+      ends_so peer surface e (Asks tries least) p q (Err (faults.BadReply 1))
       (by_first (Ends (Err (faults.BadReply 1)))
       (ap (after_first tries least) is ∙ ap (λ (b : Bool). sends_if b tries epoch u) (lt_is_true epoch least low)))
 
   -- the update is sent next
   pub sends_next : (epoch : ℕ) (u : SealedUpdate) → e.sealed a ≡ Ok (epoch, u) → least ≤ epoch
-      → Passes asked surface e (Asks tries least) p (Sends tries epoch u) q
+      → Passes peer surface e (Asks tries least) p (Sends tries epoch u) q
   sends_next epoch u is high =
       by_first (Sends tries epoch u)
       (ap (after_first tries least) is ∙ ap (λ (b : Bool). sends_if b tries epoch u) (lt_is_false epoch least high))
@@ -101,53 +101,53 @@ few_tries : (epochs : List ℕ) (i : ℕ) → length epochs ≡ MAX_TRIES → i 
     → length (take i epochs) < MAX_TRIES
 few_tries epochs i all low = let n = length-take-le i epochs (omega arith) in omega arith
 
-module _ {P : Type 0} (asked : Asked P) (failed : Failed P) (surface : List ℕ) (e : Errand) (epochs : List ℕ)
+module _ {P : Type 0} (peer : PeerTells P) (surface : List ℕ) (e : Errand) (epochs : List ℕ)
     (all : length epochs ≡ MAX_TRIES) (i : ℕ) (low : i < MAX_TRIES) (least : ℕ) (p m : P)
-    (so_far : Passes asked surface e start p (again (take i epochs) least) m) where
-  asks_now : Passes asked surface e start p (Asks (take i epochs) least) m
+    (so_far : Passes peer surface e start p (again (take i epochs) least) m) where
+  asks_now : Passes peer surface e start p (Asks (take i epochs) least) m
   asks_now =
-      subst (λ (s : Stage). Passes asked surface e start p s m)
+      subst (λ (s : Stage). Passes peer surface e start p s m)
       (asks_again (take i epochs) least (few_tries epochs i all low)) so_far
 
   -- the call ends at the first request
   pub ends_asking : (q : P) (result : Result ℕ OwnerFault)
-      → Concludes asked failed surface e (Asks (take i epochs) least) m q result
-      → Concludes asked failed surface e start p q result
-  ends_asking q result ends = concludes_on asked failed surface e start (Asks (take i epochs) least) p m q result asks_now ends
+      → Concludes peer surface e (Asks (take i epochs) least) m q result
+      → Concludes peer surface e start p q result
+  ends_asking q result ends = concludes_on peer surface e start (Asks (take i epochs) least) p m q result asks_now ends
 
   module _ (n : P) (epoch : ℕ) (u : SealedUpdate)
-      (one : Passes asked surface e (Asks (take i epochs) least) m (Sends (take i epochs) epoch u) n) where
-    sends_now : Passes asked surface e start p (Sends (take i epochs) epoch u) n
+      (one : Passes peer surface e (Asks (take i epochs) least) m (Sends (take i epochs) epoch u) n) where
+    sends_now : Passes peer surface e start p (Sends (take i epochs) epoch u) n
     sends_now =
-        passes_on asked failed surface e start (Asks (take i epochs) least) (Sends (take i epochs) epoch u) p m n asks_now one
+        passes_on peer surface e start (Asks (take i epochs) least) (Sends (take i epochs) epoch u) p m n asks_now one
 
     -- or at the update
     pub ends_sending : (q : P) (result : Result ℕ OwnerFault)
-        → Concludes asked failed surface e (Sends (take i epochs) epoch u) n q result
-        → Concludes asked failed surface e start p q result
+        → Concludes peer surface e (Sends (take i epochs) epoch u) n q result
+        → Concludes peer surface e start p q result
     ends_sending q result ends =
-        concludes_on asked failed surface e start (Sends (take i epochs) epoch u) p n q result sends_now ends
+        concludes_on peer surface e start (Sends (take i epochs) epoch u) p n q result sends_now ends
 
     -- or it goes on
     pub goes_on : (q : P) (now : ℕ)
-        → Passes asked surface e (Sends (take i epochs) epoch u) n (again (take i epochs ++ epoch ∷ []) now) q
-        → Passes asked surface e start p (again (take (i + 1) (slice_set epochs i epoch)) now) q
+        → Passes peer surface e (Sends (take i epochs) epoch u) n (again (take i epochs ++ epoch ∷ []) now) q
+        → Passes peer surface e start p (again (take (i + 1) (slice_set epochs i epoch)) now) q
     goes_on q now other =
         let more : take (i + 1) (slice_set epochs i epoch) ≡ take i epochs ++ epoch ∷ [] =
         take_more_set epochs i epoch (omega arith) in
-        subst (λ (tries : List ℕ). Passes asked surface e start p (again tries now) q) (sym more)
-        (passes_on asked failed surface e start (Sends (take i epochs) epoch u)
+        subst (λ (tries : List ℕ). Passes peer surface e start p (again tries now) q) (sym more)
+        (passes_on peer surface e start (Sends (take i epochs) epoch u)
         (again (take i epochs ++ epoch ∷ []) now) p n q sends_now other)
 
 -- after all tries it is unsettled
-pub unsettled : {P : Type 0} (asked : Asked P) (failed : Failed P) (surface : List ℕ) (e : Errand) (epochs : List ℕ)
+pub unsettled : {P : Type 0} (peer : PeerTells P) (surface : List ℕ) (e : Errand) (epochs : List ℕ)
     (least i : ℕ) (p q : P) → length epochs ≡ MAX_TRIES → i ≡ MAX_TRIES
-    → Passes asked surface e start p (again (take i epochs) least) q
-    → Concludes asked failed surface e start p q (Err (faults.Unsettled epochs))
-unsettled asked failed surface e epochs least i p q all is so_far =
+    → Passes peer surface e start p (again (take i epochs) least) q
+    → Concludes peer surface e start p q (Err (faults.Unsettled epochs))
+unsettled peer surface e epochs least i p q all is so_far =
     let whole : take i epochs ≡ epochs = take_all i epochs (omega arith) in
     let ended : again (take i epochs) least ≡ Ends (Err (faults.Unsettled epochs)) =
     ap (λ (tries : List ℕ). again tries least) whole
     ∙ ap (λ (n : ℕ). again_if (n == MAX_TRIES) epochs least) all in
-    ends_so asked failed surface e start p q (Err (faults.Unsettled epochs))
-    (subst (λ (s : Stage). Passes asked surface e start p s q) ended so_far)
+    ends_so peer surface e start p q (Err (faults.Unsettled epochs))
+    (subst (λ (s : Stage). Passes peer surface e start p s q) ended so_far)

@@ -9,7 +9,8 @@ use Rattle.ov_history.specs.Sealing.{sealed}
 use Rattle.ov_model.specs.Step.{after}
 use Rattle.ov_protocol.specs.Serving.{Service, later}
 use Rattle.ov_protocol.specs.Replies.{MayMake}
-use Rattle.ov_peer.specs.Asks.{Ask, IsReplyAt}
+use Rattle.ov_peer.specs.Asks.{Ask}
+use Rattle.ov_peer.specs.Tells.{IsReplyAt}
 
 -- each ask was answered at what the one before left
 abbrev pub AnsweredAlone : Service → List Ask → Service → Type 0

@@ -17,8 +17,8 @@ use Rattle.ov_script.specs.declared.reply.Reply.TheVariants.{List as Listed, Ref
 use Rattle.ov_model.specs.Step.{reply_to}
 use Rattle.ov_protocol.specs.Serving.{Service, later, served}
 use Rattle.ov_protocol.specs.Answers.{welcome_of}
-use Rattle.ov_peer.specs.Asks.{Asked, Failed}
 use Rattle.ov_peer.specs.Exchanges.{Answered, Forgets}
+use Rattle.ov_peer.specs.Tells.{PeerTells}
 use Rattle.ov_owner.specs.declared.fault.OwnerFault.{OwnerFault}
 use Rattle.ov_owner.specs.declared.fault.OwnerFault.TheVariants as faults
 
@@ -42,18 +42,17 @@ taken take (Ok answer) = take answer
 taken take (Err place) = Err (faults.BadReply place)
 
 -- no reply was read: the ask failed, or memory ran out before it, in it or after it
-abbrev pub IsUnread : {P T : Type 0} → Asked P → Failed P → P → P → Request
-    → Result T OwnerFault → Type 0
-IsUnread asked failed p q request result =
-    ((result ≡ Err faults.Link) × failed p (request_bytes request) q)
-    ⊎ ((result ≡ Err faults.Memory) × Forgets asked failed p q request)
+abbrev pub IsUnread : {P T : Type 0} → PeerTells P → P → P → Request → Result T OwnerFault → Type 0
+IsUnread peer p q request result =
+    ((result ≡ Err faults.Link) × peer.failed p (request_bytes request) q)
+    ⊎ ((result ≡ Err faults.Memory) × Forgets peer p q request)
 
 -- one request was asked, and this is what is taken of the reply; or none was read
-abbrev pub AsksOnce : {P T : Type 0} → Asked P → Failed P → P → P → Request
+abbrev pub AsksOnce : {P T : Type 0} → PeerTells P → P → P → Request
     → (Answer → Result T OwnerFault) → Result T OwnerFault → Type 0
-AsksOnce asked failed p q request take result =
-    ((read : Result Answer ℕ) × Answered asked p q request read × (result ≡ taken take read))
-    ⊎ IsUnread asked failed p q request result
+AsksOnce peer p q request take result =
+    ((read : Result Answer ℕ) × Answered peer p q request read × (result ≡ taken take read))
+    ⊎ IsUnread peer p q request result
 
 -- what was welcomed is what is served: this history, with what others made of it
 abbrev pub IsWelcomeOf : Service → (Service → Type 0) → Result Welcome OwnerFault → Type 0

@@ -5,9 +5,9 @@ use Rattle.ov_wire.specs.declared.answer.Answer.{Answer}
 use Rattle.ov_wire.specs.declared.answer.Answer.TheVariants as answers
 use Rattle.ov_script.specs.declared.command.Command.{Command}
 use Rattle.ov_script.specs.declared.command.Command.TheVariants as commands
-use Rattle.ov_peer.specs.Asks.{Asked, Failed}
 use Rattle.ov_peer.specs.declared.fault.ExchangeFault.{ExchangeFault}
 use Rattle.ov_peer.specs.declared.fault.ExchangeFault.TheVariants as exchange
+use Rattle.ov_peer.specs.Tells.{PeerTells}
 use Rattle.ov_owner.specs.Calls.{Concludes, Passes}
 use Rattle.ov_owner.specs.Errands.{Errand, IsCreation, creating, enrolling, granting, revoking}
 use Rattle.ov_owner.specs.Talks.{Asks, Sends, again}
@@ -60,20 +60,20 @@ sent_of answers.NoMemory = Err faults.Memory
 sent_of answer = Err (faults.BadReply 0)
 
 -- the first ask led to the stage at which this update is sent, or the call ended
-abbrev pub IsAsked : {P : Type 0} → Asked P → Failed P → List ℕ → Errand → ℕ → P → P
+abbrev pub IsAsked : {P : Type 0} → PeerTells P → List ℕ → Errand → ℕ → P → P
     → Result Sealed OwnerFault → Type 0
-IsAsked asked failed surface e least p q (Ok made) =
-    (tries : List ℕ) → Passes asked surface e (Asks tries least) p
+IsAsked peer surface e least p q (Ok made) =
+    (tries : List ℕ) → Passes peer surface e (Asks tries least) p
     (Sends tries made.epoch (sealed_update made.update)) q
-IsAsked asked failed surface e least p q (Err fault) =
-    (tries : List ℕ) → Concludes asked failed surface e (Asks tries least) p q (Err fault)
+IsAsked peer surface e least p q (Err fault) =
+    (tries : List ℕ) → Concludes peer surface e (Asks tries least) p q (Err fault)
 
 -- the update was sent, and the call ended or goes on after a Stale
-abbrev pub IsSent : {P : Type 0} → Asked P → Failed P → List ℕ → Errand → List ℕ → ℕ
+abbrev pub IsSent : {P : Type 0} → PeerTells P → List ℕ → Errand → List ℕ → ℕ
     → SealedUpdate → P → P → Result Sent OwnerFault → Type 0
-IsSent asked failed surface e tries epoch u p q (Ok (Accepted now)) =
-    Concludes asked failed surface e (Sends tries epoch u) p q (Ok now)
-IsSent asked failed surface e tries epoch u p q (Ok (Stale now)) =
-    Passes asked surface e (Sends tries epoch u) p (again (tries ++ epoch ∷ []) now) q
-IsSent asked failed surface e tries epoch u p q (Err fault) =
-    Concludes asked failed surface e (Sends tries epoch u) p q (Err fault)
+IsSent peer surface e tries epoch u p q (Ok (Accepted now)) =
+    Concludes peer surface e (Sends tries epoch u) p q (Ok now)
+IsSent peer surface e tries epoch u p q (Ok (Stale now)) =
+    Passes peer surface e (Sends tries epoch u) p (again (tries ++ epoch ∷ []) now) q
+IsSent peer surface e tries epoch u p q (Err fault) =
+    Concludes peer surface e (Sends tries epoch u) p q (Err fault)

@@ -15,7 +15,7 @@ use crate::sending::fault_of;
 use crate::{Owner, OwnerFault};
 use ov_base::Name;
 use ov_client::Client;
-use ov_peer::{Peer, asks_are_told, exchange};
+use ov_peer::{Peer, exchange};
 use ov_tokens::{Base, Layer, Surface};
 use ov_wire::{Answer, Known, Question, Request};
 use std::alloc::Global;
@@ -55,15 +55,14 @@ impl Owner {
         peer: &mut P,
         user: &Name,
     ) -> Result<Client, OwnerFault>
-        ensures asks { AsksOnce P.asked P.failed peer.old peer.new
+        ensures asks { AsksOnce P.tells peer.old peer.new
             (Ask (AsksKey user.now)) (reader_in self.now user.now) result }
         ensures form { HasRequestForm (Ask (AsksKey user.now)) }
-        ensures told { (v : Service) → P.serves peer.old v
-            → IsReaderOf self.now v (P.serves peer.new) user.now result }
-        ensures same { P.borrow peer.new ≡ P.borrow peer.old }
-        ensures cause { HasOwnerCause (P.faults peer.old) (P.faults peer.new) result }
+        ensures told { (v : Service) → P.tells.serves peer.old v
+            → IsReaderOf self.now v (P.tells.serves peer.new) user.now result }
+        ensures same { P.tells.borrow peer.new ≡ P.tells.borrow peer.old }
+        ensures cause { HasOwnerCause (P.tells.faults peer.old) (P.tells.faults peer.new) result }
     {
-        asks_are_told::<P>();
         let request = Request::Ask {
             question: Question::Key { user: user.copy() },
         };

@@ -13,7 +13,7 @@ use crate::OwnerFault;
 use crate::settling::settle;
 use crate::task::Task;
 use ov_base::{Key, Name, Names};
-use ov_peer::{Peer, asks_are_told};
+use ov_peer::Peer;
 use ov_tokens::{Master, SurfaceMaster};
 use std::alloc::Global;
 use std::marker::Model;
@@ -47,14 +47,13 @@ impl Owner {
     /// Makes a change.
     fn make<P: Peer>(&self, alloc: Global, peer: &mut P, task: &Task<'_>) -> Result<u32, OwnerFault>
         requires { HasTaskLimits task.now }
-        ensures runs { Runs P.asked P.failed self.now.surface (errand_of self.now.base task.now)
+        ensures runs { Runs P.tells self.now.surface (errand_of self.now.base task.now)
             peer.old peer.new result }
-        ensures told { (v : Service) → P.serves peer.old v → v.surface ≡ self.now.surface
-            → IsOwnersReply self.now (command_of task.now) v (P.serves peer.new) result }
-        ensures same { P.borrow peer.new ≡ P.borrow peer.old }
-        ensures cause { HasOwnerCause (P.faults peer.old) (P.faults peer.new) result }
+        ensures told { (v : Service) → P.tells.serves peer.old v → v.surface ≡ self.now.surface
+            → IsOwnersReply self.now (command_of task.now) v (P.tells.serves peer.new) result }
+        ensures same { P.tells.borrow peer.new ≡ P.tells.borrow peer.old }
+        ensures cause { HasOwnerCause (P.tells.faults peer.old) (P.tells.faults peer.new) result }
     {
-        asks_are_told::<P>();
         settle(alloc, peer, &self.base, &self.surface, task)
     }
 
@@ -65,12 +64,11 @@ impl Owner {
         peer: &mut P,
         user: &Name,
     ) -> Result<u32, OwnerFault>
-        ensures runs { Runs P.asked P.failed self.now.surface (enrolling user.now)
-            peer.old peer.new result }
-        ensures told { (v : Service) → P.serves peer.old v → v.surface ≡ self.now.surface
-            → IsOwnersReply self.now (Enrol user.now) v (P.serves peer.new) result }
-        ensures same { P.borrow peer.new ≡ P.borrow peer.old }
-        ensures cause { HasOwnerCause (P.faults peer.old) (P.faults peer.new) result }
+        ensures runs { Runs P.tells self.now.surface (enrolling user.now) peer.old peer.new result }
+        ensures told { (v : Service) → P.tells.serves peer.old v → v.surface ≡ self.now.surface
+            → IsOwnersReply self.now (Enrol user.now) v (P.tells.serves peer.new) result }
+        ensures same { P.tells.borrow peer.new ≡ P.tells.borrow peer.old }
+        ensures cause { HasOwnerCause (P.tells.faults peer.old) (P.tells.faults peer.new) result }
     {
         self.make(alloc, peer, &Task::Enrol { user })
     }
@@ -85,13 +83,13 @@ impl Owner {
         bytes: &[u8],
     ) -> Result<u32, OwnerFault>
         requires { IsCreation list.now bytes.now }
-        ensures runs { Runs P.asked P.failed self.now.surface
+        ensures runs { Runs P.tells self.now.surface
             (creating self.now.base file.now list.now bytes.now) peer.old peer.new result }
-        ensures told { (v : Service) → P.serves peer.old v → v.surface ≡ self.now.surface
+        ensures told { (v : Service) → P.tells.serves peer.old v → v.surface ≡ self.now.surface
             → IsOwnersReply self.now (Create file.now list.now bytes.now) v
-            (P.serves peer.new) result }
-        ensures same { P.borrow peer.new ≡ P.borrow peer.old }
-        ensures cause { HasOwnerCause (P.faults peer.old) (P.faults peer.new) result }
+            (P.tells.serves peer.new) result }
+        ensures same { P.tells.borrow peer.new ≡ P.tells.borrow peer.old }
+        ensures cause { HasOwnerCause (P.tells.faults peer.old) (P.tells.faults peer.new) result }
     {
         self.make(alloc, peer, &Task::Create { file, list, bytes })
     }
@@ -104,12 +102,12 @@ impl Owner {
         user: &Name,
         file: &Name,
     ) -> Result<u32, OwnerFault>
-        ensures runs { Runs P.asked P.failed self.now.surface
+        ensures runs { Runs P.tells self.now.surface
             (granting self.now.base user.now file.now) peer.old peer.new result }
-        ensures told { (v : Service) → P.serves peer.old v → v.surface ≡ self.now.surface
-            → IsOwnersReply self.now (Grant user.now file.now) v (P.serves peer.new) result }
-        ensures same { P.borrow peer.new ≡ P.borrow peer.old }
-        ensures cause { HasOwnerCause (P.faults peer.old) (P.faults peer.new) result }
+        ensures told { (v : Service) → P.tells.serves peer.old v → v.surface ≡ self.now.surface
+            → IsOwnersReply self.now (Grant user.now file.now) v (P.tells.serves peer.new) result }
+        ensures same { P.tells.borrow peer.new ≡ P.tells.borrow peer.old }
+        ensures cause { HasOwnerCause (P.tells.faults peer.old) (P.tells.faults peer.new) result }
     {
         self.make(alloc, peer, &Task::Grant { user, file })
     }
@@ -122,12 +120,12 @@ impl Owner {
         user: &Name,
         file: &Name,
     ) -> Result<u32, OwnerFault>
-        ensures runs { Runs P.asked P.failed self.now.surface (revoking user.now file.now)
+        ensures runs { Runs P.tells self.now.surface (revoking user.now file.now)
             peer.old peer.new result }
-        ensures told { (v : Service) → P.serves peer.old v → v.surface ≡ self.now.surface
-            → IsOwnersReply self.now (Revoke user.now file.now) v (P.serves peer.new) result }
-        ensures same { P.borrow peer.new ≡ P.borrow peer.old }
-        ensures cause { HasOwnerCause (P.faults peer.old) (P.faults peer.new) result }
+        ensures told { (v : Service) → P.tells.serves peer.old v → v.surface ≡ self.now.surface
+            → IsOwnersReply self.now (Revoke user.now file.now) v (P.tells.serves peer.new) result }
+        ensures same { P.tells.borrow peer.new ≡ P.tells.borrow peer.old }
+        ensures cause { HasOwnerCause (P.tells.faults peer.old) (P.tells.faults peer.new) result }
     {
         self.make(alloc, peer, &Task::Revoke { user, file })
     }

@@ -9,7 +9,7 @@ ghost use Rattle.ov_owner.specs.Questions.{AsksOnce, IsListOf, IsWelcomeOf, name
 use crate::sending::fault_of;
 use crate::{Owner, OwnerFault};
 use ov_base::{Name, Names};
-use ov_peer::{Peer, asks_are_told, exchange};
+use ov_peer::{Peer, exchange};
 use ov_wire::{Answer, Request, Welcome};
 use std::alloc::Global;
 
@@ -39,14 +39,13 @@ fn names_in(answer: Answer) -> Result<Names, OwnerFault>
 impl Owner {
     /// Asks for the store's mode, its epoch, and the check value of its base master.
     pub fn hello<P: Peer>(&self, alloc: Global, peer: &mut P) -> Result<Welcome, OwnerFault>
-        ensures asks { AsksOnce P.asked P.failed peer.old peer.new Hello welcome_in result }
+        ensures asks { AsksOnce P.tells peer.old peer.new Hello welcome_in result }
         ensures form { HasRequestForm Hello }
-        ensures told { (v : Service) → P.serves peer.old v
-            → IsWelcomeOf v (P.serves peer.new) result }
-        ensures same { P.borrow peer.new ≡ P.borrow peer.old }
-        ensures cause { HasOwnerCause (P.faults peer.old) (P.faults peer.new) result }
+        ensures told { (v : Service) → P.tells.serves peer.old v
+            → IsWelcomeOf v (P.tells.serves peer.new) result }
+        ensures same { P.tells.borrow peer.new ≡ P.tells.borrow peer.old }
+        ensures cause { HasOwnerCause (P.tells.faults peer.old) (P.tells.faults peer.new) result }
     {
-        asks_are_told::<P>();
         match exchange(alloc, peer, &Request::Hello) {
             Ok(answer) => welcome_in(answer),
             Err(fault) => Err(fault_of(fault)),
@@ -60,15 +59,13 @@ impl Owner {
         peer: &mut P,
         file: &Name,
     ) -> Result<Names, OwnerFault>
-        ensures asks { AsksOnce P.asked P.failed peer.old peer.new
-            (ListNames file.now) names_in result }
+        ensures asks { AsksOnce P.tells peer.old peer.new (ListNames file.now) names_in result }
         ensures form { HasRequestForm (ListNames file.now) }
-        ensures told { (v : Service) → P.serves peer.old v
-            → IsListOf v (P.serves peer.new) file.now result }
-        ensures same { P.borrow peer.new ≡ P.borrow peer.old }
-        ensures cause { HasOwnerCause (P.faults peer.old) (P.faults peer.new) result }
+        ensures told { (v : Service) → P.tells.serves peer.old v
+            → IsListOf v (P.tells.serves peer.new) file.now result }
+        ensures same { P.tells.borrow peer.new ≡ P.tells.borrow peer.old }
+        ensures cause { HasOwnerCause (P.tells.faults peer.old) (P.tells.faults peer.new) result }
     {
-        asks_are_told::<P>();
         match exchange(alloc, peer, &Request::List { file: file.copy() }) {
             Ok(answer) => names_in(answer),
             Err(fault) => Err(fault_of(fault)),

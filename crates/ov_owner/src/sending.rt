@@ -85,10 +85,10 @@ pub fn send<P: Peer>(
     sealed: &Sealed,
 ) -> Result<Sent, OwnerFault>
     requires { IsWithinLimits (sealed_update sealed.now.update) }
-    ensures sent { (e : Errand) (tries : List ℕ) → IsSent P.asked P.failed surface.now.bytes e tries
+    ensures sent { (e : Errand) (tries : List ℕ) → IsSent P.tells surface.now.bytes e tries
         sealed.now.epoch (sealed_update sealed.now.update) peer.old peer.new result }
-    ensures same { P.borrow peer.new ≡ P.borrow peer.old }
-    ensures cause { HasOwnerCause (P.faults peer.old) (P.faults peer.new) result }
+    ensures same { P.tells.borrow peer.new ≡ P.tells.borrow peer.old }
+    ensures cause { HasOwnerCause (P.tells.faults peer.old) (P.tells.faults peer.new) result }
 {
     let request = update_request(alloc, surface, sealed)?;
     match exchange(alloc, peer, &request) {

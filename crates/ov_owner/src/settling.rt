@@ -25,11 +25,11 @@ fn ask<P: Peer>(
     least: u32,
 ) -> Result<Sealed, OwnerFault>
     requires { HasTaskLimits task.now }
-    ensures asked { (surface : List ℕ) → IsAsked P.asked P.failed surface
+    ensures asked { (surface : List ℕ) → IsAsked P.tells surface
         (errand_of base.now.bytes task.now) least peer.old peer.new result }
     ensures limits { IfOk result (λ made. IsWithinLimits (sealed_update made.update)) }
-    ensures same { P.borrow peer.new ≡ P.borrow peer.old }
-    ensures cause { HasOwnerCause (P.faults peer.old) (P.faults peer.new) result }
+    ensures same { P.tells.borrow peer.new ≡ P.tells.borrow peer.old }
+    ensures cause { HasOwnerCause (P.tells.faults peer.old) (P.tells.faults peer.new) result }
 {
     let request = first_request(alloc, task)?;
     let answer = match exchange(alloc, peer, &request) {
@@ -54,10 +54,10 @@ pub fn settle<P: Peer>(
     task: &Task<'_>,
 ) -> Result<u32, OwnerFault>
     requires { HasTaskLimits task.now }
-    ensures runs { Runs P.asked P.failed surface.now.bytes (errand_of base.now.bytes task.now)
+    ensures runs { Runs P.tells surface.now.bytes (errand_of base.now.bytes task.now)
         peer.old peer.new result }
-    ensures same { P.borrow peer.new ≡ P.borrow peer.old }
-    ensures cause { HasOwnerCause (P.faults peer.old) (P.faults peer.new) result }
+    ensures same { P.tells.borrow peer.new ≡ P.tells.borrow peer.old }
+    ensures cause { HasOwnerCause (P.tells.faults peer.old) (P.tells.faults peer.new) result }
 {
     let mut epochs = [0; MAX_TRIES];
     let mut least = 0;

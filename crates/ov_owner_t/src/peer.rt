@@ -29,10 +29,10 @@ fn epoch_in(answer: Answer) -> Result<u32, ExchangeFault>
 /// Asks any peer for its epoch. It is the epoch of the history that the peer serves afterwards, which
 /// goes on from the one that it served by what others did.
 fn epoch_of<P: Peer>(alloc: Global, peer: &mut P) -> Result<u32, ExchangeFault>
-    ensures told { (v : Service) → P.serves peer.old v → IfOk result (λ epoch.
-        (others : List SealedUpdate) × P.serves peer.new (later v others)
+    ensures told { (v : Service) → P.tells.serves peer.old v → IfOk result (λ epoch.
+        (others : List SealedUpdate) × P.tells.serves peer.new (later v others)
         × (epoch ≡ (catalogue_of v.surface (followed v.history others)).epoch)) }
-    ensures same { P.borrow peer.new ≡ P.borrow peer.old }
+    ensures same { P.tells.borrow peer.new ≡ P.tells.borrow peer.old }
 {
     asks_are_told::<P>();
     match exchange(alloc, peer, &Request::Hello) {

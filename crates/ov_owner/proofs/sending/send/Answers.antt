@@ -12,7 +12,7 @@ pub returns-in_err-request-clause-sent : goal.returns-in_err-request-clause-sent
 returns-in_err-request-clause-sent g c = λ e tries.
     let p = err_from_is_err_and c.from_residual.result c.from_residual.ensures.1 in
     rw (p.1, p.2)
-    (nothing_asked g.P.Peer.asked g.P.Peer.failed c.args.surface.now.bytes e
+    (nothing_asked g.P.Peer.tells c.args.surface.now.bytes e
     (Sends tries c.args.sealed.now.epoch (sealed_update c.args.sealed.now.update)) c.args.peer.now)
 
 pub returns-in-Ok-clause-sent : goal.returns-in-Ok-clause-sent
@@ -24,9 +24,9 @@ returns-in-Ok-clause-sent g c = λ e tries.
     let q = c.exchange.new.peer in
     let ours : c.in_ok-request.request ≡ update_request surface epoch u = c.in_ok-request.ensures.request in
     rw c.sent_of.ensures
-    (sent_by g.P.Peer.asked g.P.Peer.failed surface e tries epoch u
+    (sent_by g.P.Peer.tells surface e tries epoch u
     (c.in_ok-request.ensures.form, subst HasRequestForm ours c.in-Ok.ensures.form) p q c.in-Ok.answer
-    (subst (λ (r : Request). Exchanges g.P.Peer.asked g.P.Peer.failed p q r (Ok c.in-Ok.answer)) ours c.in-Ok.ensures.exchanges))
+    (subst (λ (r : Request). Exchanges g.P.Peer.tells p q r (Ok c.in-Ok.answer)) ours c.in-Ok.ensures.exchanges))
 
 pub returns-clause-sent : goal.returns-clause-sent
 returns-clause-sent g c = λ e tries.
@@ -37,6 +37,6 @@ returns-clause-sent g c = λ e tries.
     let q = c.exchange.new.peer in
     let ours : c.in_ok-request.request ≡ update_request surface epoch u = c.in_ok-request.ensures.request in
     rw c.fault_of.ensures
-    (unsent_by g.P.Peer.asked g.P.Peer.failed surface e tries epoch u
+    (unsent_by g.P.Peer.tells surface e tries epoch u
     (c.in_ok-request.ensures.form, subst HasRequestForm ours c.in-Err.ensures.form) p q c.in-Err.fault
-    (subst (λ (r : Request). Exchanges g.P.Peer.asked g.P.Peer.failed p q r (Err c.in-Err.fault)) ours c.in-Err.ensures.exchanges))
+    (subst (λ (r : Request). Exchanges g.P.Peer.tells p q r (Err c.in-Err.fault)) ours c.in-Err.ensures.exchanges))

@@ -11,7 +11,7 @@ pub returns-in_err-sealed-clause-runs : goal.returns-in_err-sealed-clause-runs
 returns-in_err-sealed-clause-runs g c =
     let p = err_from_is_err_and c.from_residual.result c.from_residual.ensures.1 in
     rw (p.1, p.2)
-    (ends_asking g.P.Peer.asked g.P.Peer.failed c.args.surface.now.bytes
+    (ends_asking g.P.Peer.tells c.args.surface.now.bytes
     (errand_of c.args.base.now.bytes c.args.task.now) c.loop-i.epochs c.loop-i.invariant.all c.loop-i.i
     c.loop-i-test.true c.loop-i.least c.args.peer.now c.loop-i.peer c.loop-i.invariant.so_far
     c.ask.new.peer (Err c.in_err-sealed.field-0.0)
@@ -23,7 +23,7 @@ returns-in_err-epoch-clause-runs g c =
     let tries = take c.loop-i.i c.loop-i.epochs in
     let p = err_from_is_err_and c.from_residual-in_err-epoch.result c.from_residual-in_err-epoch.ensures.1 in
     rw (p.1, p.2)
-    (ends_sending g.P.Peer.asked g.P.Peer.failed c.args.surface.now.bytes e c.loop-i.epochs
+    (ends_sending g.P.Peer.tells c.args.surface.now.bytes e c.loop-i.epochs
     c.loop-i.invariant.all c.loop-i.i c.loop-i-test.true c.loop-i.least c.args.peer.now c.loop-i.peer
     c.loop-i.invariant.so_far c.ask.new.peer c.in_ok-sealed.sealed.epoch (sealed_update c.in_ok-sealed.sealed.update)
     (c.in_ok-sealed.ensures.asked c.args.surface.now.bytes tries) c.send.new.peer (Err c.in_err-epoch.field-0.0)
@@ -33,7 +33,7 @@ pub returns-in-Accepted-clause-runs : goal.returns-in-Accepted-clause-runs
 returns-in-Accepted-clause-runs g c =
     let e = errand_of c.args.base.now.bytes c.args.task.now in
     let tries = take c.loop-i.i c.loop-i.epochs in
-    ends_sending g.P.Peer.asked g.P.Peer.failed c.args.surface.now.bytes e c.loop-i.epochs
+    ends_sending g.P.Peer.tells c.args.surface.now.bytes e c.loop-i.epochs
     c.loop-i.invariant.all c.loop-i.i c.loop-i-test.true c.loop-i.least c.args.peer.now c.loop-i.peer
     c.loop-i.invariant.so_far c.ask.new.peer c.in_ok-sealed.sealed.epoch (sealed_update c.in_ok-sealed.sealed.update)
     (c.in_ok-sealed.ensures.asked c.args.surface.now.bytes tries) c.send.new.peer (Ok c.in-Accepted.epoch)
@@ -45,7 +45,7 @@ loop-i-preserved g c =
     let tries = take c.loop-i.i c.loop-i.epochs in
     let asked = c.in_ok-sealed.ensures in
     let sent = c.in_ok-epoch.ensures in record {
-      so_far = goes_on g.P.Peer.asked g.P.Peer.failed c.args.surface.now.bytes e c.loop-i.epochs
+      so_far = goes_on g.P.Peer.tells c.args.surface.now.bytes e c.loop-i.epochs
           c.loop-i.invariant.all c.loop-i.i c.loop-i-test.true c.loop-i.least c.args.peer.now c.loop-i.peer
           c.loop-i.invariant.so_far c.ask.new.peer c.in_ok-sealed.sealed.epoch
           (sealed_update c.in_ok-sealed.sealed.update) (asked.asked c.args.surface.now.bytes tries)
@@ -58,6 +58,6 @@ loop-i-preserved g c =
 pub returns-clause-runs : goal.returns-clause-runs
 returns-clause-runs g c =
     let last : c.loop-i.i ≡ MAX_TRIES = omega arith in
-    unsettled g.P.Peer.asked g.P.Peer.failed c.args.surface.now.bytes
+    unsettled g.P.Peer.tells c.args.surface.now.bytes
     (errand_of c.args.base.now.bytes c.args.task.now) c.loop-i.epochs c.loop-i.least c.loop-i.i c.args.peer.now
     c.loop-i.peer c.loop-i.invariant.all last c.loop-i.invariant.so_far

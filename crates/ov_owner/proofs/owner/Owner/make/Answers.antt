@@ -8,8 +8,9 @@ use Rattle.ov_owner.proofs.owner.Owner.make.Goals as goal
 pub returns-clause-told : goal.returns-clause-told
 returns-clause-told g c = λ v is same.
     let k : Masters = record { base = c.self.inside.base.bytes; surface = c.self.inside.surface.bytes } in
-    subst (λ (x : Masters). IsOwnersReply x (command_of c.args.task.now) v (g.P.Peer.serves c.settle.new.peer) c.settle.result)
+    let Then = g.P.Peer.tells.serves c.settle.new.peer in
+    subst (λ (x : Masters). IsOwnersReply x (command_of c.args.task.now) v Then c.settle.result)
     c.self.view_is
-    (task_reply g.P.Peer.asked g.P.Peer.failed g.P.Peer.serves c.asks_are_told.ensures.along k c.args.task.now
+    (task_reply g.P.Peer.tells k c.args.task.now
     c.args.peer.now c.settle.new.peer v is (same ∙ ap (λ (x : Masters). x.surface) (sym c.self.view_is))
     c.settle.result c.settle.ensures.runs)
