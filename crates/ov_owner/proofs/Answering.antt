@@ -1,6 +1,5 @@
 -- What is made by a refusal.
-use Rattle.std.proofs.Common.{◌≡◌, List, [], refl}
-use Rattle.ov_record.specs.Updates.{SealedUpdate}
+use Rattle.std.proofs.Common.{◌≡◌, [], refl}
 use Rattle.ov_base.specs.declared.refusal.Refusal.{Refusal}
 use Rattle.ov_wire.specs.declared.request.Request.{Request}
 use Rattle.ov_wire.specs.declared.request.Request.TheVariants as requests

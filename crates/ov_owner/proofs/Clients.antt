@@ -1,6 +1,6 @@
 -- The reader that is made of an answer is that of the user at the history.
-use Rattle.std.proofs.Common.{◌≡◌, ◌∙◌, ℕ, ◌<◌, Bool, true, false, List, [], ◌∷◌, Some, None, Result, Ok, Err, refl, sym, ap, subst, inl, inr}
-use Rattle.std.specs.Prelude.{Option, not}
+use Rattle.std.proofs.Common.{◌≡◌, ◌∙◌, ℕ, ◌<◌, Bool, true, false, List, [], ◌∷◌, Some, None, Ok, refl, sym, ap, subst, inl, inr}
+use Rattle.std.specs.Prelude.{not}
 use Rattle.ov_base.specs.declared.limits.TheConstants.{MAX_LAYER_NODES}
 use Rattle.ov_base.specs.declared.refusal.Refusal.{Refusal}
 use Rattle.ov_base.specs.declared.refusal.Refusal.TheVariants.{NoUser}
@@ -22,13 +22,11 @@ use Rattle.ov_wire.specs.declared.answer.Known.{Known}
 use Rattle.ov_wire.specs.declared.request.Question.TheVariants as questions
 use Rattle.ov_wire.specs.declared.request.Request.TheVariants as requests
 use Rattle.ov_wire.specs.AnswersTo.{IsAnswer}
-use Rattle.ov_protocol.specs.Serving.{Service, later, served}
+use Rattle.ov_protocol.specs.Serving.{Service, later}
 use Rattle.ov_protocol.specs.Asking.{AnswersAsk}
-use Rattle.ov_client.specs.Laws.{HasRoots}
 use Rattle.ov_peer.specs.Exchanges.{Tells}
-use Rattle.ov_owner.specs.Clients.{HasUser, IsReaderAt, IsReaderOf, IsSoThere, reader_in, reader_of}
+use Rattle.ov_owner.specs.Clients.{HasUser, IsReaderAt, IsReaderOf, reader_in, reader_of}
 use Rattle.ov_owner.specs.Errands.{known_of}
-use Rattle.ov_owner.specs.declared.fault.OwnerFault.{OwnerFault}
 use Rattle.ov_owner.proofs.Questioning.{none_made}
 
 -- ---- numbers that are told are those of nodes

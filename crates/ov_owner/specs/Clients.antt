@@ -1,5 +1,5 @@
 -- The reader that an owner makes for a user.
-use Rattle.std.specs.Prelude.{◌≡◌, ℕ, List, false, true, Result, Ok, Err}
+use Rattle.std.specs.Prelude.{◌≡◌, ℕ, List, true, Result, Ok, Err}
 use Rattle.ov_base.specs.declared.refusal.Refusal.TheVariants.{NoUser}
 use Rattle.ov_tokens.specs.declared.label.Kind.TheVariants.{Derive, Surface}
 use Rattle.ov_tokens.specs.Keys.{node_key}
