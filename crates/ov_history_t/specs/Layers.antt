@@ -4,7 +4,7 @@ use Rattle.ov_base.specs.declared.mode.Mode.TheVariants.{Delta}
 use Rattle.ov_tokens.specs.declared.label.Kind.TheVariants.{Derive, Surface as SurfaceLabels}
 use Rattle.ov_tokens.specs.Keys.{access_key_of, node_key}
 use Rattle.ov_surface.specs.Coats.{stored_under}
-use Rattle.ov_history.specs.History.{Update, Enrolled, Created, Granted}
+use Rattle.ov_history.specs.History.{Update, Enrolled, Created, Granted, Revoked}
 use Rattle.ov_history.specs.Layers.{Layers, Place, holders, layers_of}
 use Rattle.ov_history.specs.Masters.{access_key}
 use Rattle.ov_history.specs.Rewrites.{restored, surface_key}
@@ -45,6 +45,15 @@ ListsHaveNodes =
     (in_delta (Enrolled (97 ∷ []) ∷ Enrolled (98 ∷ []) ∷ Enrolled (99 ∷ [])
     ∷ Created (102 ∷ 49 ∷ []) 7 0 ∷ Created (102 ∷ 50 ∷ []) 5 0 ∷ [])).files
     ≡ bare 3 4 ∷ bare 4 5 ∷ []
+
+-- The second user loses the first of two files, and the third is granted it and so holds the base
+-- node of both. Both files want new surfaces: node 3 has the set of the first file, the first user
+-- and the third, and node 4 that of the second, the first two. In another order they would have each
+-- other's node.
+abbrev pub SurfacesInOrder : Type 0
+SurfacesInOrder =
+    (in_delta (two_files (Revoked 1 0 ∷ Granted 2 0 ∷ []))).surface
+    ≡ 1 ∷ 2 ∷ 4 ∷ 5 ∷ 3 ∷ []
 
 -- the key of surface node 3 is that of its number, and not that of node 0
 abbrev pub NodesHaveKeys : Type 0

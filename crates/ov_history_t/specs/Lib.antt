@@ -1,2 +1,4 @@
 pub mod Layers
 pub mod Machine
+pub mod Ordering
+pub mod Refusing

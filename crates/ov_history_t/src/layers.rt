@@ -1,6 +1,7 @@
 //! Rows of layers, and of the keys and the coats that stand on them.
 ghost use Rattle.ov_history_t.specs.Layers.{AccessesCount, CoatsAreTakenOff, CoatsAreUnderAccessKeys};
 ghost use Rattle.ov_history_t.specs.Layers.{HoldersDecide, ListsHaveNodes, NodesHaveKeys};
+ghost use Rattle.ov_history_t.specs.Layers.{SurfacesInOrder};
 
 /// Who was granted access to a base node holds it.
 pub fn holders_have_accesses()
@@ -16,6 +17,11 @@ pub fn a_new_file_has_a_node_of_its_own_list()
 /// set of that node.
 pub fn a_surface_for_the_holders_is_wanted()
     ensures { HoldersDecide }
+{}
+
+/// Of two surface nodes that one update adds, that of the file with the lower number comes first.
+pub fn new_surfaces_come_in_the_order_of_files()
+    ensures { SurfacesInOrder }
 {}
 
 /// Two surface nodes have keys of their own numbers.

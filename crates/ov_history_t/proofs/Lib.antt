@@ -1,0 +1,2 @@
+pub mod RefusalWords
+pub mod WantedOrder

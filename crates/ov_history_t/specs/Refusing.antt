@@ -1,0 +1,158 @@
+-- Where each refusal is answered, in the words of the table of refusals; and rows at the edges of
+-- what a store holds.
+use Rattle.std.specs.Prelude.{◌≡◌, ◌⊎◌, ℕ, ◌<◌, ◌≤◌, ◌+◌, List, [], ◌∷◌, length, Contains, Option}
+use Rattle.std.specs.Prelude.{Some, None}
+use Rattle.ov_base.specs.Refusals.{refusal_number}
+use Rattle.ov_base.specs.Sets.{Has, IsBelow}
+use Rattle.ov_base.specs.declared.limits.TheConstants.{LAST_EPOCH, MAX_FILES, MAX_LAYER_NODES}
+use Rattle.ov_base.specs.declared.limits.TheConstants.{MAX_STORE_BYTES, MAX_USERS}
+use Rattle.ov_base.specs.declared.mode.Mode.TheVariants.{Full}
+use Rattle.ov_base.specs.declared.refusal.Refusal.{Refusal}
+use Rattle.ov_base.specs.declared.refusal.Refusal.TheVariants.{Taken, NoUser, NoFile, NoPath}
+use Rattle.ov_base.specs.declared.refusal.Refusal.TheVariants.{Listed, NotListed, UsersFull}
+use Rattle.ov_base.specs.declared.refusal.Refusal.TheVariants.{FilesFull, BytesFull, NodesFull}
+use Rattle.ov_base.specs.declared.refusal.Refusal.TheVariants.{Spent}
+use Rattle.ov_history.specs.History.{Update, Enrolled, Created, Granted, Revoked, History, Matrix}
+use Rattle.ov_history.specs.History.{epoch_of, matrix_of, with_update}
+use Rattle.ov_history.specs.Layers.{Layers, layers_of}
+use Rattle.ov_history.specs.Lists.{byte_sum, file_at, file_names}
+use Rattle.ov_history.specs.Refusals.{list_refusal, read_refusal, refusal_of}
+
+-- ---- an update
+
+-- the user that is to be enrolled, or the file that is to be created, is there
+abbrev pub IsTaken : Matrix → Update → Type 0
+IsTaken m (Enrolled user) = Contains m.users user
+IsTaken m (Created file list size) = Contains (file_names m.files) file
+IsTaken m (Granted user file) = ⊥
+IsTaken m (Revoked user file) = ⊥
+
+-- a user that it names isn't enrolled
+abbrev pub LacksUser : Matrix → Update → Type 0
+LacksUser m (Enrolled user) = ⊥
+LacksUser m (Created file list size) = IsBelow (length m.users) list → ⊥
+LacksUser m (Granted user file) = length m.users ≤ user
+LacksUser m (Revoked user file) = length m.users ≤ user
+
+-- the file that it names isn't there
+abbrev pub LacksFile : Matrix → Update → Type 0
+LacksFile m (Enrolled user) = ⊥
+LacksFile m (Created file list size) = ⊥
+LacksFile m (Granted user file) = length m.files ≤ file
+LacksFile m (Revoked user file) = length m.files ≤ file
+
+-- the user who is to be granted the file is in its list
+abbrev pub IsInList : Matrix → Update → Type 0
+IsInList m (Enrolled user) = ⊥
+IsInList m (Created file list size) = ⊥
+IsInList m (Granted user file) = Has (file_at m file).list user
+IsInList m (Revoked user file) = ⊥
+
+-- the user whose access is to be revoked isn't in the file's list
+abbrev pub IsOutOfList : Matrix → Update → Type 0
+IsOutOfList m (Enrolled user) = ⊥
+IsOutOfList m (Created file list size) = ⊥
+IsOutOfList m (Granted user file) = ⊥
+IsOutOfList m (Revoked user file) = Has (file_at m file).list user → ⊥
+
+-- a user is to be enrolled, and there are as many as a store holds
+abbrev pub HasAllUsers : Matrix → Update → Type 0
+HasAllUsers m (Enrolled user) = MAX_USERS ≤ length m.users
+HasAllUsers m (Created file list size) = ⊥
+HasAllUsers m (Granted user file) = ⊥
+HasAllUsers m (Revoked user file) = ⊥
+
+-- a file is to be created, and there are as many as a store holds
+abbrev pub HasAllFiles : Matrix → Update → Type 0
+HasAllFiles m (Enrolled user) = ⊥
+HasAllFiles m (Created file list size) = MAX_FILES ≤ length m.files
+HasAllFiles m (Granted user file) = ⊥
+HasAllFiles m (Revoked user file) = ⊥
+
+-- A file is to be created, and with it all files have more bytes than a store holds. A store that is
+-- then exactly full has no more.
+abbrev pub PassesBytes : Matrix → Update → Type 0
+PassesBytes m (Enrolled user) = ⊥
+PassesBytes m (Created file list size) = MAX_STORE_BYTES < byte_sum m.files + size
+PassesBytes m (Granted user file) = ⊥
+PassesBytes m (Revoked user file) = ⊥
+
+-- a layer has more nodes than a layer holds
+abbrev pub PassesNodes : Layers → Type 0
+PassesNodes y = (MAX_LAYER_NODES < length y.base) ⊎ (MAX_LAYER_NODES < length y.surface)
+
+-- the refusal applies to the update after this history, whichever others do
+abbrev pub Applies : History → Update → Refusal → Type 0
+Applies h u Taken = IsTaken (matrix_of h) u
+Applies h u NoUser = LacksUser (matrix_of h) u
+Applies h u NoFile = LacksFile (matrix_of h) u
+Applies h u NoPath = ⊥
+Applies h u Listed = IsInList (matrix_of h) u
+Applies h u NotListed = IsOutOfList (matrix_of h) u
+Applies h u UsersFull = HasAllUsers (matrix_of h) u
+Applies h u FilesFull = HasAllFiles (matrix_of h) u
+Applies h u BytesFull = PassesBytes (matrix_of h) u
+Applies h u NodesFull = PassesNodes (layers_of (with_update h u))
+Applies h u Spent = LAST_EPOCH ≤ epoch_of h
+
+-- ---- a question
+
+-- the refusal applies to a read of the file by the user
+abbrev pub AppliesToRead : Matrix → ℕ → ℕ → Refusal → Type 0
+AppliesToRead m user file NoUser = length m.users ≤ user
+AppliesToRead m user file NoFile = length m.files ≤ file
+AppliesToRead m user file NoPath = Has (file_at m file).list user → ⊥
+AppliesToRead m user file why = ⊥
+
+-- the refusal applies to a question for the file's list
+abbrev pub AppliesToList : Matrix → ℕ → Refusal → Type 0
+AppliesToList m file NoFile = length m.files ≤ file
+AppliesToList m file why = ⊥
+
+-- ---- what is answered
+
+-- the answer is the refusal of the lowest number among those that apply, and none where none applies
+abbrev pub IsLowest : (Refusal → Type 0) → Option Refusal → Type 0
+IsLowest applies None = (why : Refusal) → applies why → ⊥
+IsLowest applies (Some why) =
+    applies why × ((other : Refusal) → applies other → refusal_number why ≤ refusal_number other)
+
+-- so it is for each update after each history
+abbrev pub UpdatesAreRefused : Type 0
+UpdatesAreRefused = (h : History) (u : Update) → IsLowest (Applies h u) (refusal_of h u)
+
+-- .. and for each read
+abbrev pub ReadsAreRefused : Type 0
+ReadsAreRefused =
+    (m : Matrix) (user file : ℕ)
+    → IsLowest (AppliesToRead m user file) (read_refusal m user file)
+
+-- .. and for each question for a list
+abbrev pub ListsAreRefused : Type 0
+ListsAreRefused =
+    (m : Matrix) (file : ℕ) → IsLowest (AppliesToList m file) (list_refusal m file)
+
+-- ---- rows at the edges
+
+-- the history that begins empty at this epoch, with these updates
+abbrev pub begun : ℕ → List Update → History
+begun first updates = record { mode = Full; first = first; updates = updates }
+
+-- One file has all bytes of a store but one. A file of one byte fits, and fills it; one of two
+-- doesn't. If a full store were too much, the first would be refused.
+pub record BytesFillStores : Type 0 where
+  pub fits : refusal_of (begun 0 (Created (102 ∷ []) 0 67108863 ∷ [])) (Created (103 ∷ []) 0 1)
+      ≡ None
+  pub passes : refusal_of (begun 0 (Created (102 ∷ []) 0 67108863 ∷ [])) (Created (103 ∷ []) 0 2)
+      ≡ Some BytesFull
+  pub none : refusal_of (begun 0 (Created (102 ∷ []) 0 67108864 ∷ [])) (Created (103 ∷ []) 0 0)
+      ≡ None
+
+-- A store begins at the last epoch but one. It takes one update, and of two refusals then answers
+-- that with the lower number.
+pub record LastEpochIsSpent : Type 0 where
+  pub one : refusal_of (begun 4294967294 []) (Enrolled (97 ∷ [])) ≡ None
+  pub two : refusal_of (begun 4294967294 (Enrolled (97 ∷ []) ∷ [])) (Enrolled (98 ∷ []))
+      ≡ Some Spent
+  pub lower : refusal_of (begun 4294967294 (Enrolled (97 ∷ []) ∷ [])) (Enrolled (97 ∷ []))
+      ≡ Some Taken

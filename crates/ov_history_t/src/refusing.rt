@@ -1,0 +1,25 @@
+//! Laws of refusals, in the words of the table of refusals, and rows at the edges.
+ghost use Rattle.ov_history_t.specs.Refusing.{BytesFillStores, LastEpochIsSpent, ListsAreRefused};
+ghost use Rattle.ov_history_t.specs.Refusing.{ReadsAreRefused, UpdatesAreRefused};
+
+/// To an update is answered the refusal of the lowest number among those that apply, each by its
+/// words, and none where none applies.
+pub fn an_update_has_the_lowest_refusal()
+    ensures { UpdatesAreRefused }
+{}
+
+/// So it is of a read, and of a question for a list.
+pub fn a_question_has_the_lowest_refusal()
+    ensures reads { ReadsAreRefused }
+    ensures lists { ListsAreRefused }
+{}
+
+/// A file that makes a store exactly full fits, and one byte more doesn't.
+pub fn bytes_fill_a_store()
+    ensures { BytesFillStores }
+{}
+
+/// At the last epoch no update is taken.
+pub fn the_last_epoch_is_spent()
+    ensures { LastEpochIsSpent }
+{}
