@@ -3,10 +3,15 @@
 
 One frame of each kind, with each of its bytes changed in its lowest and in its highest bit. For each change the place
 of the first wrong byte is computed by the reader below, which shares nothing with the crates, or 65535 where the bytes
-are another request or answer. Run it at the top of the repository:
+are another request or answer. With `grammar` it writes the grammar of answers instead: answers with each field at its
+limits and past them, and each of them read as the answer to a request of each kind. Run it at the top of the
+repository:
 
-    python3 tools/wire_cases.py > crates/ov_wire_t/src/wire/cases.rt; (cd crates/ov_wire_t && rt fmt)
+    python3 tools/wire_cases.py > crates/ov_wire_t/src/wire/cases.rt
+    python3 tools/wire_cases.py grammar > crates/ov_wire_t/src/wire/grammar.rt; (cd crates/ov_wire_t && rt fmt)
 """
+import sys
+
 from common import literal
 
 GOOD = 65535
@@ -228,7 +233,95 @@ def case(request, data):
         literal(request or b""), literal(data), low, high)
 
 
+# ---- the grammar of answers: a request of each kind, and answers at the limits of each field
+
+ASKED = [
+    HELLO, ASK, GRANTED, b"\2\4" + ALICE + F1, b"\2\5" + BOB, COVER, UPDATE, b"\4" + u32(7) + CREATION + TAG,
+    REQUESTS[7], REQUESTS[8], CHAIN, CHUNK, b"\6" + u32(3) + u32(9) + u32(0) + u32(65536),
+] + [b"\7" + bytes([part]) + u32(0) for part in range(7)] + [LIST]
+
+
+def known(user=0, base=0, surface=0, file=0, node=0, wants=0, epoch=7):
+    return b"\x82" + u32(epoch) + u32(user) + u32(base) + u32(surface) + u32(file) + u32(node) + bytes([wants])
+
+
+def planned(file=0, node=0, fresh=0, edges=u16(0), members=SET):
+    return b"\x83" + u32(7) + u32(file) + members + u32(node) + bytes([fresh]) + edges
+
+
+def one_chain(kinds, root=0, number=6):
+    return u32(root) + u16(len(kinds)) + b"".join(bytes([kind]) + u32(number) + TOKEN for kind in kinds)
+
+
+def chained(file=0, size=0, base=one_chain(b"A"), surface=b"\0"):
+    return b"\x85" + u32(7) + u32(file) + u32(size) + u32(6) + TAG + base + surface
+
+
+def page(entry):
+    return b"\x87\1" + entry
+
+
+def node_entry(edges):
+    return page(SET + edges)
+
+
+def file_entry(node=0, size=0, surface=b"\0"):
+    return page(F1 + u32(node) + u32(size) + u32(6) + TAG + surface)
+
+
+LAST = 2 ** 32 - 1
+SAMPLES = [
+    b"\x80", b"\x81\0" + u32(0) + TAG, b"\x81\1" + u32(LAST) + TAG, b"\x81\2" + u32(0) + TAG,
+    known(), known(epoch=LAST), known(user=255), known(user=256), known(base=NODE), known(base=NODE + 1),
+    known(surface=NODE), known(surface=NODE + 1), known(file=1), known(file=FILE), known(file=FILE + 1), known(node=1),
+    known(node=NODE), known(node=NODE + 1), known(wants=1), known(wants=2), known(file=1, node=1, wants=1),
+    planned(), planned(file=FILE), planned(file=FILE + 1), planned(members=b"\xff" * 32), planned(node=NODE),
+    planned(node=NODE + 1), planned(fresh=1), planned(fresh=2), planned(edges=u16(256)), planned(edges=u16(257)),
+    planned(edges=u16(1) + u32(NODE)), planned(edges=u16(1) + u32(NODE + 1)),
+    b"\x84" + u32(7), b"\x84" + u32(8), b"\x84" + u32(9),
+    chained(), chained(file=FILE), chained(file=FILE + 1), chained(size=BYTES), chained(size=BYTES + 1),
+    chained(base=one_chain(b"")), chained(base=one_chain(b"B")), chained(base=one_chain(b"BB")),
+    chained(base=one_chain(b"BA")), chained(base=one_chain(b"AB")), chained(base=one_chain(b"S")),
+    chained(base=one_chain(b"A", root=NODE)), chained(base=one_chain(b"A", root=NODE + 1)),
+    chained(base=one_chain(b"A", number=NODE)), chained(base=one_chain(b"A", number=NODE + 1)),
+    chained(surface=b"\1" + one_chain(b"")), chained(surface=b"\1" + one_chain(b"SS")),
+    chained(surface=b"\1" + one_chain(b"A")), chained(surface=b"\1" + one_chain(b"B")),
+    chained(surface=b"\1" + one_chain(b"S", root=NODE + 1)), chained(surface=b"\2"),
+    b"\x86", b"\x86abcdef", b"\x86abcdefg", b"\x87\0", b"\x87\2", page(ALICE + u32(NODE) + u32(NODE)),
+    page(ALICE + u32(NODE + 1) + u32(0)), page(ALICE + u32(0) + u32(NODE + 1)), node_entry(u16(0)),
+    node_entry(u16(1) + u32(NODE) + TOKEN), node_entry(u16(1) + u32(NODE + 1) + TOKEN), node_entry(u16(256)),
+    node_entry(u16(257)), page(u32(255) + u32(NODE) + TOKEN), page(u32(256) + u32(0) + TOKEN),
+    page(u32(0) + u32(NODE + 1) + TOKEN), file_entry(), file_entry(node=NODE), file_entry(node=NODE + 1),
+    file_entry(size=BYTES), file_entry(size=BYTES + 1), file_entry(surface=b"\1" + u32(NODE)),
+    file_entry(surface=b"\1" + u32(NODE + 1)), file_entry(surface=b"\2"),
+    b"\x89" + u32(7), b"\x89" + u32(8), b"\x89" + u32(LAST), b"\x8a", b"\x8b" + u32(0), b"\x8c" + u32(9),
+    b"\x8c" + u32(10), b"\x8c" + u32(LAST), b"\x8d", b"\x8e", b"\x8f" + u16(0), b"\x8f" + u16(1) + ALICE,
+    b"\x8f" + u16(2) + ALICE + ALICE, b"\x8f" + u16(256), b"\x8f" + u16(257), b"\x90",
+]
+REFUSALS = [bytes([0x88, number]) for number in range(13)]
+
+
+def row(request):
+    def places(answers):
+        return [place(lambda text: read_answer(request, text), answer) for answer in answers]
+    return "Row { request: %s, refusals: &%s, samples: &%s }," % (literal(request), places(REFUSALS), places(SAMPLES))
+
+
+def grammar():
+    print("//! Written by tools/wire_cases.py: answers at the limits of their fields, and the place of the first")
+    print("//! wrong byte in each of them as an answer to each request.\n\nuse super::Row;\n")
+    print("pub const SAMPLES: [&[u8]; %d] = [" % len(SAMPLES))
+    for sample in SAMPLES:
+        print("    " + literal(sample) + ",")
+    print("];\n\npub const ROWS: [Row; %d] = [" % len(ASKED))
+    for request in ASKED:
+        print("    " + row(request))
+    print("];")
+
+
 def main():
+    if sys.argv[1:] == ["grammar"]:
+        return grammar()
     print("//! Written by tools/wire_cases.py: frames, and the place of the first wrong byte in each change of")
     print("//! them.\n\nuse super::Case;\n")
     for name, cases in (("REQUESTS", [(None, r) for r in REQUESTS]), ("ANSWERS", ANSWERS)):

@@ -1,11 +1,13 @@
 //! Frames that another program made, and the places of wrong bytes.
 
 mod cases;
+mod grammar;
 mod trace;
 
 ghost use Rattle.std.specs.Prelude.{◌≤◌};
 
 use cases::{ANSWERS, REQUESTS};
+use grammar::{ROWS, SAMPLES};
 use ov_base::Octets;
 use ov_wire::*;
 use std::alloc::Global;
@@ -20,6 +22,14 @@ pub struct Case {
     pub frame: &'static [u8],
     pub low: &'static [u16],
     pub high: &'static [u16],
+}
+
+/// A request, and the place of the first wrong byte in an answer with the refusal of each number
+/// from 0, and in each of the sample answers.
+pub struct Row {
+    pub request: &'static [u8],
+    pub refusals: &'static [u16],
+    pub samples: &'static [u16],
 }
 
 /// No byte is wrong: the frame is another request or answer.
@@ -117,6 +127,27 @@ fn each_change_of_a_request_is_met(rt: HostRuntime) -> Result<(), Fail> {
 fn each_change_of_an_answer_is_met(rt: HostRuntime) -> Result<(), Fail> {
     for case in &ANSWERS {
         expect_case(&rt, rt.alloc(), case)?;
+    }
+    Ok(())
+}
+
+/// Makes sure of the place of the first wrong byte in each answer to the request.
+fn expect_row(rt: &impl Abort, alloc: Global, row: &Row) -> Result<(), Fail> {
+    for (number, place) in row.refusals.iter().enumerate() {
+        let refused = [0x88, number as u8];
+        assert_eq!(rt; place_in(rt, alloc, row.request, &refused)?, *place as u32);
+    }
+    assert_eq!(rt; row.samples.len(), SAMPLES.len());
+    for (sample, place) in SAMPLES.iter().zip(row.samples) {
+        assert_eq!(rt; place_in(rt, alloc, row.request, sample)?, *place as u32);
+    }
+    Ok(())
+}
+
+#[test]
+fn each_request_has_its_own_answers(rt: HostRuntime) -> Result<(), Fail> {
+    for row in &ROWS {
+        expect_row(&rt, rt.alloc(), row)?;
     }
     Ok(())
 }
