@@ -10,7 +10,8 @@ use Rattle.ov_wire.specs.AnswerBytes.{answer_bytes}
 use Rattle.ov_wire.specs.Requests.{HasRequestForm, request_bytes}
 use Rattle.ov_protocol.specs.Serving.{Service, later, served}
 use Rattle.ov_protocol.specs.Replies.{Replies}
-use Rattle.ov_peer.specs.Asks.{Ask, IsReplyAt}
+use Rattle.ov_peer.specs.Asks.{Ask}
+use Rattle.ov_peer.specs.Tells.{IsReplyAt}
 use Rattle.ov_peer.specs.Disks.{MayNeedDisk}
 use Rattle.ov_owner.specs.Alone.{AnsweredAlone}
 use Rattle.ov_transcript.specs.Talking.{ArePut}

@@ -33,7 +33,8 @@ use Rattle.ov_protocol.specs.Serving.{Service, later, served}
 use Rattle.ov_protocol.specs.Reading.{AnswersChain, AnswersChunk}
 use Rattle.ov_protocol.specs.Replies.{Replies}
 use Rattle.ov_protocol.proofs.Reading.{replies_are_read}
-use Rattle.ov_peer.specs.Asks.{Ask, IsReplyAt}
+use Rattle.ov_peer.specs.Asks.{Ask}
+use Rattle.ov_peer.specs.Tells.{IsReplyAt}
 use Rattle.ov_peer.specs.Disks.{MayNeedDisk}
 use Rattle.ov_peer.proofs.Needing.{needs_disk}
 use Rattle.ov_client.specs.Readers.{Reader, judged, keys_along, uncovered}
