@@ -11,7 +11,7 @@ use Rattle.ov_wire.specs.declared.answer.Answer.{Answer}
 use Rattle.ov_wire.specs.declared.answer.Answer.TheVariants as answers
 use Rattle.ov_wire.specs.AnswerForm.{HasAnswerForm}
 use Rattle.ov_protocol.specs.Reading.{AnswersChunk}
-use Rattle.ov_disk.specs.Disk.{Image}
+use Rattle.ov_disk.specs.Tells.{DiskTells}
 use Rattle.ov_store.specs.Chunks.{Chunks}
 use Rattle.ov_store.specs.Opened.{Opened}
 use Rattle.ov_store.specs.declared.fault.ChunkFault.{ChunkFault}
@@ -73,13 +73,11 @@ module _ (c : Catalogue) (stored : List (List ℕ)) (file generation start count
 
 -- ---- a fault of the disk
 
-module _ {D : Type 0} (reads : D → Option Image) (may_leave : D → Image → Type 0)
-    (moment : D → ℕ) (left_since : D → ℕ → Image → Type 0) (borrow faults : D → ℕ)
-    (only_now : (d : D) (c : Image) → left_since d (moment d) c → may_leave d c) where
+module _ {D : Type 0} (tells : DiskTells D) where
   pub chunk_failed : (s new : Opened D) (request reply : List ℕ)
       (last : Result (Unit {0}) NoMemory) → new ≡ s → AsksBytes (serving_of s) request
-      → Puts (Ok answers.DeviceFault) reply last → Rose (faults s.disk) (faults new.disk)
-      → AsksServer reads may_leave moment left_since borrow faults s new request reply last
+      → Puts (Ok answers.DeviceFault) reply last → Rose (tells.faults s.disk) (tells.faults new.disk)
+      → AsksServer tells s new request reply last
   chunk_failed s new request reply (Ok done) same asks (put, err) rose = record {
     answer = inr (record {
       spelled = put_is _ answers.DeviceFault reply refl put;
@@ -88,17 +86,14 @@ module _ {D : Type 0} (reads : D → Option Image) (may_leave : D → Image → 
       before = λ failed. same;
     });
     memory = tt;
-    any_moment = subst (LeavesAsked reads may_leave moment left_since request s) (sym same)
-        (still_leaves reads may_leave moment left_since borrow faults only_now s request);
+    any_moment = subst (LeavesAsked tells request s) (sym same) (still_leaves tells s request);
     call = (
       ap (λ (o : Opened D). o.keys) same,
-      ap (λ (o : Opened D). borrow o.disk) same,
-      omega (arith, ap (λ (o : Opened D). faults o.disk) same),
+      ap (λ (o : Opened D). tells.borrow o.disk) same,
+      omega (arith, ap (λ (o : Opened D). tells.faults o.disk) same),
       λ fault. rose,
     );
   }
   chunk_failed s new request reply (Err why) same asks (put, err) rose =
-      subst
-      (λ o. AsksServer reads may_leave moment left_since borrow faults s o request reply (Err why))
-      (sym same)
-      (forgot reads may_leave moment left_since borrow faults only_now s request reply why err)
+      subst (λ o. AsksServer tells s o request reply (Err why)) (sym same)
+      (forgot tells s request reply why err)

@@ -1,12 +1,12 @@
 -- A server goes on from where it began by what it accepts.
 use Rattle.std.proofs.Common.{◌≡◌, ◌∙◌, inl, inr, ℕ, ◌+◌, Bool, true, false, List, [], ◌∷◌, ◌++◌, length, Result, Ok, Err, refl, sym, ap, subst, arith, append_assoc, length-append, true≢false}
-use Rattle.std.specs.Prelude.{OnOk, Option}
+use Rattle.std.specs.Prelude.{OnOk}
 use Rattle.ov_base.specs.declared.memory.Memory.{Memory}
 use Rattle.std.proofs.lemmas.List.{append-nil}
 use Rattle.ov_record.specs.Updates.{SealedUpdate}
 use Rattle.ov_history.specs.Catalogue.{Catalogue, empty_catalogue}
 use Rattle.ov_history.specs.Sealed.{SealedHistory, catalogue_all}
-use Rattle.ov_disk.specs.Disk.{Image}
+use Rattle.ov_disk.specs.Tells.{DiskTells}
 use Rattle.ov_wire.specs.declared.request.Request.{Request}
 use Rattle.ov_wire.specs.declared.answer.Answer.TheVariants as answers
 use Rattle.ov_wire.specs.Frames.{IsFrame}
@@ -27,10 +27,9 @@ use Rattle.ov_server.proofs.AnswerKinds.{IsMade, accepted_made, nothing_made, sa
 
 -- ---- the start
 
-pub served_now : {D : Type 0} (reads : D → Option Image) (may_leave : D → Image → Type 0)
-    (s : Opened D) (g : SealedHistory) → Serves reads may_leave g s
-    → (v : Service) × IsService (serving_of s) v
-served_now reads may_leave s g serves = (
+pub served_now : {D : Type 0} (tells : DiskTells D) (s : Opened D) (g : SealedHistory)
+    → Serves tells g s → (v : Service) × IsService (serving_of s) v
+served_now tells s g serves = (
   record { history = g; surface = s.keys.surface; base_check = s.keys.base_check },
   record {
     stands = serves.catalogue;
@@ -96,12 +95,11 @@ later-append v updates more =
 
 -- ---- replies
 
-module _ {D : Type 0} (reads : D → Option Image) (may_leave : D → Image → Type 0)
-    (old new : Opened D) (request reply : List ℕ)
-    (answered : AnswersOrFails reads may_leave old new request reply) where
+module _ {D : Type 0} (tells : DiskTells D) (old new : Opened D) (request reply : List ℕ)
+    (answered : AnswersOrFails tells old new request reply) where
   pub is_frame : IsFrame reply
   is_frame = by_case answered where
-    by_case : AnswersOrFails reads may_leave old new request reply → IsFrame reply
+    by_case : AnswersOrFails tells old new request reply → IsFrame reply
     by_case (inl is) =
         replies_are_frames (serving_of old) request reply is.frame.made is.frame.replies
     by_case (inr is) =
@@ -110,7 +108,7 @@ module _ {D : Type 0} (reads : D → Option Image) (may_leave : D → Image → 
   -- ---- what is accepted
 
   -- the update that is made where the reply says so
-  made_if_so : IsAnswered reads may_leave old new request reply → says_accepted reply ≡ true
+  made_if_so : IsAnswered tells old new request reply → says_accepted reply ≡ true
       → (made : List SealedUpdate) × IsMade (request_of request) made
   made_if_so is so =
       let r = is.frame.replies in
@@ -120,7 +118,7 @@ module _ {D : Type 0} (reads : D → Option Image) (may_leave : D → Image → 
             (subst (AnswersRead (serving_of old) (request_of request)) accepted.1 r.answers),
       )
 
-  is_made : (is : IsAnswered reads may_leave old new request reply)
+  is_made : (is : IsAnswered tells old new request reply)
       → (so : says_accepted reply ≡ true) → is.frame.made ≡ (made_if_so is so).0
   unfolding made_if_so
   is_made is so =
@@ -129,7 +127,7 @@ module _ {D : Type 0} (reads : D → Option Image) (may_leave : D → Image → 
 
   pub accepts_updates : says_accepted reply ≡ true → IsUpdate request
   accepts_updates so = by_case answered where
-    by_case : AnswersOrFails reads may_leave old new request reply → IsUpdate request
+    by_case : AnswersOrFails tells old new request reply → IsUpdate request
     by_case (inl is) =
         let made = (made_if_so is so).1 in (made.epoch, made.spelling, made.tag, made.is)
     by_case (inr is) =
@@ -139,8 +137,7 @@ module _ {D : Type 0} (reads : D → Option Image) (may_leave : D → Image → 
 
   module _ (start : Serving) (list : List (List ℕ))
       (reaches : Reaches start list (serving_of old)) where
-    at_old : AnswersOrFails reads may_leave old new request reply
-        → RepliesAt (serving_of old) request reply
+    at_old : AnswersOrFails tells old new request reply → RepliesAt (serving_of old) request reply
     at_old (inl is) = inl (is.frame.made, is.frame.replies)
     at_old (inr is) = inr (is.spelled, needs old new request reply is)
 
@@ -151,7 +148,7 @@ module _ {D : Type 0} (reads : D → Option Image) (may_leave : D → Image → 
         (services_are_served (serving_of old) here (reaches.goes_on v is)) (at_old answered)
 
     -- an update more
-    one_more : (is : IsAnswered reads may_leave old new request reply) → says_accepted reply ≡ true
+    one_more : (is : IsAnswered tells old new request reply) → says_accepted reply ≡ true
         → Reaches start (list ++ spelling_of request ∷ []) (serving_of new)
     one_more is so =
         let (made, m) = made_if_so is so in
@@ -173,7 +170,7 @@ module _ {D : Type 0} (reads : D → Option Image) (may_leave : D → Image → 
         }
 
     -- no update more
-    no_more : (is : IsAnswered reads may_leave old new request reply)
+    no_more : (is : IsAnswered tells old new request reply)
         → says_accepted reply ≡ false → Reaches start list (serving_of new)
     no_more is so =
         let r = is.frame.replies in
@@ -192,7 +189,7 @@ module _ {D : Type 0} (reads : D → Option Image) (may_leave : D → Image → 
         }
 
     next : (so : Bool) → says_accepted reply ≡ so
-        → AnswersOrFails reads may_leave old new request reply
+        → AnswersOrFails tells old new request reply
         → Reaches start (longer_if so list (spelling_of request)) (serving_of new)
     next true so (inl is) = one_more is so
     next false so (inl is) = no_more is so
@@ -204,34 +201,33 @@ module _ {D : Type 0} (reads : D → Option Image) (may_leave : D → Image → 
 
 -- ---- the same of each result of a call
 
-module _ {D : Type 0} (reads : D → Option Image) (may_leave : D → Image → Type 0)
-    (old new : Opened D) (request reply : List ℕ) where
+module _ {D : Type 0} (tells : DiskTells D) (old new : Opened D) (request reply : List ℕ) where
   pub frame_ok : (r : Result (Unit {0}) Memory)
-      → OnOk r (AnswersOrFails reads may_leave old new request reply) → OnOk r (IsFrame reply)
-  frame_ok (Ok done) a = is_frame reads may_leave old new request reply a
+      → OnOk r (AnswersOrFails tells old new request reply) → OnOk r (IsFrame reply)
+  frame_ok (Ok done) a = is_frame tells old new request reply a
   frame_ok (Err why) a = tt
 
   pub accepted_ok : (r : Result (Unit {0}) Memory)
-      → OnOk r (AnswersOrFails reads may_leave old new request reply)
+      → OnOk r (AnswersOrFails tells old new request reply)
       → OnOk r (says_accepted reply ≡ true → IsUpdate request)
-  accepted_ok (Ok done) a = accepts_updates reads may_leave old new request reply a
+  accepted_ok (Ok done) a = accepts_updates tells old new request reply a
   accepted_ok (Err why) a = tt
 
   pub replies_ok : (r : Result (Unit {0}) Memory)
-      → OnOk r (AnswersOrFails reads may_leave old new request reply)
+      → OnOk r (AnswersOrFails tells old new request reply)
       → (start : Opened D) (list : List (List ℕ))
       → Reaches (serving_of start) list (serving_of old)
       → OnOk r (RepliesAfter (serving_of start) list request reply)
   replies_ok (Ok done) a start list reaches =
-      replies_after reads may_leave old new request reply a (serving_of start) list reaches
+      replies_after tells old new request reply a (serving_of start) list reaches
   replies_ok (Err why) a start list reaches = tt
 
   pub reached_ok : (r : Result (Unit {0}) Memory)
-      → OnOk r (AnswersOrFails reads may_leave old new request reply)
+      → OnOk r (AnswersOrFails tells old new request reply)
       → (start : Opened D) (list : List (List ℕ))
       → Reaches (serving_of start) list (serving_of old)
       → OnOk r
       (Reaches (serving_of start) (with_accepted list request reply) (serving_of new))
   reached_ok (Ok done) a start list reaches =
-      reached_after reads may_leave old new request reply a (serving_of start) list reaches
+      reached_after tells old new request reply a (serving_of start) list reaches
   reached_ok (Err why) a start list reaches = tt

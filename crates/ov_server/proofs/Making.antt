@@ -1,6 +1,6 @@
 -- An update that a server makes, or that its store doesn't make.
 use Rattle.std.proofs.Common.{◌≡◌, ◌∙◌, inl, inr, ℕ, ◌+◌, ◌-◌, ◌^◌, ◌<◌, false, List, [], ◌∷◌, Result, Ok, Err, refl, sym, ap, subst, arith, true≢false}
-use Rattle.std.specs.Prelude.{IfOk, IsErrOf, None, OnOk, Option, min}
+use Rattle.std.specs.Prelude.{IfOk, IsErrOf, None, OnOk, min}
 use Rattle.std.proofs.lemmas.Bool.{false_from_ne_true}
 use Rattle.ov_base.specs.Causes.{Rose}
 use Rattle.ov_base.specs.declared.limits.TheConstants.{LAST_EPOCH}
@@ -16,8 +16,9 @@ use Rattle.ov_history.specs.Catalogue.{Catalogue, matrix_shown, outline}
 use Rattle.ov_history.specs.Refusals.{tests_of}
 use Rattle.ov_history.proofs.SoundTests.{NoneApplies, none_applies}
 use Rattle.ov_history.specs.Sealed.{refusal_shown}
-use Rattle.ov_disk.specs.Disk.{Image}
+use Rattle.ov_disk.specs.Disk.{StaysTold}
 use Rattle.ov_disk.specs.Moments.{LeavesOnly}
+use Rattle.ov_disk.specs.Tells.{DiskTells}
 use Rattle.ov_wire.specs.declared.request.Request.{Request}
 use Rattle.ov_wire.specs.declared.request.Request.TheVariants as requests
 use Rattle.ov_wire.specs.declared.answer.Answer.{Answer}
@@ -28,7 +29,7 @@ use Rattle.ov_protocol.specs.Serving.{Serving}
 use Rattle.ov_protocol.specs.Updating.{AnswersSealed, AnswersSpelled, spelled_by}
 use Rattle.ov_protocol.specs.Replies.{AnswersRead, made_of, updates_asked}
 use Rattle.ov_peer.specs.Spellings.{IsUpdate}
-use Rattle.ov_store.specs.Opened.{Opened, StaysTold}
+use Rattle.ov_store.specs.Opened.{Opened}
 use Rattle.ov_store.specs.Updating.{GoesOnAfter, IsCallOf, LeavesEither, ServesMore, Updates}
 use Rattle.ov_store.specs.declared.fault.StoreFault.{StoreFault}
 use Rattle.ov_store.specs.declared.fault.StoreFault.TheVariants.{Refused, BadPlan, Disk as DiskFailed, Failed, Memory as NoMemory}
@@ -111,16 +112,13 @@ same_serving old new catalogue stored keys =
       base_check = (keys i).base_check;
     }
 
-module _ {D : Type 0} (reads : D → Option Image) (may_leave : D → Image → Type 0)
-    (moment : D → ℕ) (left_since : D → ℕ → Image → Type 0) (borrow faults : D → ℕ)
-    (only_now : (d : D) (c : Image) → left_since d (moment d) c → may_leave d c)
+module _ {D : Type 0} (tells : DiskTells D)
     (old new : Opened D) (request : List ℕ) (u : SealedUpdate)
     (has : HasUpdate (serving_of old) request u) where
   -- what a crash leaves
-  pub leaves_asked : LeavesEither reads may_leave moment left_since u old new
-      → LeavesAsked reads may_leave moment left_since request old new
+  pub leaves_asked : LeavesEither tells u old new → LeavesAsked tells request old new
   leaves_asked leaves g serves sound i read =
-      subst (λ us. LeavesOnly moment left_since old.disk new.disk (KeepsWith old.keys g us))
+      subst (λ us. LeavesOnly tells old.disk new.disk (KeepsWith old.keys g us))
       (sym (asked (serving_of old) request u has)) (leaves g serves sound i read)
 
   -- ---- it is made
@@ -129,10 +127,10 @@ module _ {D : Type 0} (reads : D → Option Image) (may_leave : D → Image → 
       (reply_is : reply ≡ answer_bytes (answers.Accepted epoch))
       (epoch_is : epoch ≡ min (old.catalogue.epoch + 1) (2 ^ 32 - 1))
       (made_it : Updates u old new (Ok n)) (state : GoesOnAfter (Ok n) old new)
-      (served : ServesMore reads may_leave u old new
-      × StaysTold (reads old.disk) (reads new.disk))
+      (served : ServesMore tells u old new
+      × StaysTold (tells.reads old.disk) (tells.reads new.disk))
       (keys : new.keys ≡ old.keys) where
-    is_answered : IsAnswered reads may_leave old new request reply
+    is_answered : IsAnswered tells old new request reply
     is_answered =
         let after : ℕ = old.catalogue.epoch + 1 in
         let room : old.catalogue.epoch < LAST_EPOCH = not_spent old.catalogue u made_it.0.0 in
@@ -170,13 +168,10 @@ module _ {D : Type 0} (reads : D → Option Image) (may_leave : D → Image → 
       (result : Result (Unit {0}) Memory) → new ≡ old
       → IfOk answer (AnswersSealed old.catalogue u) → IfOk answer HasAnswerForm
       → IfOk answer (MakesNone old request (request_of request)) → Puts answer reply result
-      → AsksServer reads may_leave moment left_since borrow faults old new request reply result
+      → AsksServer tells old new request reply result
   answers_no answer reply result same is form none puts =
-      subst
-      (λ x. AsksServer reads may_leave moment left_since borrow faults old x request reply result)
-      (sym same)
-      (answers_still reads may_leave moment left_since borrow faults only_now old request
-      (request_of request) refl answer reply result
+      subst (λ x. AsksServer tells old x request reply result) (sym same)
+      (answers_still tells old request (request_of request) refl answer reply result
       (each answer is) form none puts) where
         each : (b : Result Answer Memory) → IfOk b (AnswersSealed old.catalogue u)
             → IfOk b (AnswersRead (serving_of old) (request_of request))
@@ -225,22 +220,20 @@ module _ {D : Type 0} (reads : D → Option Image) (may_leave : D → Image → 
 
   module _ (result : Result ℕ StoreFault) (answer : Updates u old new result)
       (state : GoesOnAfter result old new)
-      (moments : LeavesEither reads may_leave moment left_since u old new)
-      (served : OnOk result (ServesMore reads may_leave u old new
-      × StaysTold (reads old.disk) (reads new.disk)))
-      (call : IsCallOf borrow faults old new (IsErrOf result DiskFailed))
+      (moments : LeavesEither tells u old new)
+      (served : OnOk result (ServesMore tells u old new
+      × StaysTold (tells.reads old.disk) (tells.reads new.disk)))
+      (call : IsCallOf tells old new (IsErrOf result DiskFailed))
       (reply : List ℕ) (last : Result (Unit {0}) Memory) where
     abbrev Asked : Type 0
-    Asked = AsksServer reads may_leave moment left_since borrow faults old new request reply last
+    Asked = AsksServer tells old new request reply last
 
     -- all that is said, where it is answered
-    answered : (done : Unit {0}) → last ≡ Ok done
-        → AnswersOrFails reads may_leave old new request reply
-        → (IsNewFault old request reply → Rose (faults old.disk) (faults new.disk)) → Asked
+    answered : (done : Unit {0}) → last ≡ Ok done → AnswersOrFails tells old new request reply
+        → (IsNewFault old request reply → Rose (tells.faults old.disk) (tells.faults new.disk))
+        → Asked
     answered done is answers_it rose =
-        subst
-        (AsksServer reads may_leave moment left_since borrow faults old new request reply)
-        (sym is)
+        subst (AsksServer tells old new request reply) (sym is)
         (record {
           answer = answers_it;
           memory = tt;
@@ -256,8 +249,8 @@ module _ {D : Type 0} (reads : D → Option Image) (may_leave : D → Image → 
         (inl (is_answered n epoch reply reply_is epoch_is (subst (Updates u old new) is answer)
         (subst (λ r. GoesOnAfter r old new) is state)
         (subst
-        (λ (r : Result ℕ StoreFault). OnOk r (ServesMore reads may_leave u old new
-        × StaysTold (reads old.disk) (reads new.disk))) is served)
+        (λ (r : Result ℕ StoreFault). OnOk r (ServesMore tells u old new
+        × StaysTold (tells.reads old.disk) (tells.reads new.disk))) is served)
         call.0))
         (λ fault. absurd (accepted_apart epoch (sym reply_is ∙ fault.0)))
 

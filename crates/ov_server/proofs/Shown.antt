@@ -1,11 +1,11 @@
 -- What a server answers by what it shows, and what it makes by that.
 use Rattle.std.proofs.Common.{◌≡◌, ◌∙◌, inl, ℕ, false, List, [], Result, Ok, Err, refl, sym, ap, subst, arith, true≢false}
-use Rattle.std.specs.Prelude.{IfOk, IsErr, OnErr, OnOk, Option}
+use Rattle.std.specs.Prelude.{IfOk, IsErr, OnErr, OnOk}
 use Rattle.std.proofs.lemmas.List.{append-nil}
 use Rattle.ov_base.specs.declared.memory.Memory.{Memory}
 use Rattle.ov_record.specs.Updates.{SealedUpdate}
 use Rattle.ov_history.specs.Sealed.{SealedHistory}
-use Rattle.ov_disk.specs.Disk.{Image}
+use Rattle.ov_disk.specs.Tells.{DiskTells}
 use Rattle.ov_disk.proofs.Runs.{started}
 use Rattle.ov_wire.specs.declared.request.Request.{Request}
 use Rattle.ov_wire.specs.declared.request.Request.TheVariants as requests
@@ -73,29 +73,25 @@ pub always : (answer : Result Answer Memory) (P : Answer → Type 0) → ((a : A
 always (Ok a) P all = all a
 always (Err why) P all = tt
 
-module _ {D : Type 0} (reads : D → Option Image) (may_leave : D → Image → Type 0)
-    (moment : D → ℕ) (left_since : D → ℕ → Image → Type 0) (borrow faults : D → ℕ)
-    (only_now : (d : D) (c : Image) → left_since d (moment d) c → may_leave d c) where
+module _ {D : Type 0} (tells : DiskTells D) where
   -- the history is the same with no updates
   nothing_follows : (g : SealedHistory) → followed g [] ≡ g
   nothing_follows g =
       ap (λ (us : List SealedUpdate). record g { updates = us }) (append-nil g.updates)
 
   -- where the disk isn't called, a crash leaves what it might have left before
-  pub still_leaves : (s : Opened D) (request : List ℕ)
-      → LeavesAsked reads may_leave moment left_since request s s
+  pub still_leaves : (s : Opened D) (request : List ℕ) → LeavesAsked tells request s s
   still_leaves s request g serves sound i read =
-      started moment left_since may_leave s.disk
-      (KeepsWith s.keys g (updates_asked (request_of request))) (only_now s.disk)
+      started tells s.disk (KeepsWith s.keys g (updates_asked (request_of request)))
       (λ x left. inl (serves.disk sound i read x left))
 
   -- and nothing else changes
-  pub still_call : (s : Opened D) (F : Type 0) → (F → ⊥) → IsCallOf borrow faults s s F
+  pub still_call : (s : Opened D) (F : Type 0) → (F → ⊥) → IsCallOf tells s s F
   still_call s F never = (refl, refl, omega arith, λ fault. absurd (never fault))
 
   -- memory was refused
   pub forgot : (s : Opened D) (request reply : List ℕ) (why : Memory) → reply ≡ []
-      → AsksServer reads may_leave moment left_since borrow faults s s request reply (Err why)
+      → AsksServer tells s s request reply (Err why)
   forgot s request reply why none = record {
     answer = tt;
     memory = (refl, none);
@@ -105,8 +101,7 @@ module _ {D : Type 0} (reads : D → Option Image) (may_leave : D → Image → 
   }
 
   pub forgot_by : (s : Opened D) (request reply : List ℕ) (result : Result (Unit {0}) Memory)
-      → IsErr result → reply ≡ []
-      → AsksServer reads may_leave moment left_since borrow faults s s request reply result
+      → IsErr result → reply ≡ [] → AsksServer tells s s request reply result
   forgot_by s request reply (Ok done) is none = absurd (true≢false (sym is))
   forgot_by s request reply (Err why) is none = forgot s request reply why none
 
@@ -117,7 +112,7 @@ module _ {D : Type 0} (reads : D → Option Image) (may_leave : D → Image → 
     pub says : (a : Answer) (reply : List ℕ) → AnswersRead (serving_of s) read a → HasAnswerForm a
         → made_of read a ≡ [] → reply ≡ answer_bytes a
         → ((u : SealedUpdate) → HasUpdate (serving_of s) request u → s.failed ≡ false)
-        → IsAnswered reads may_leave s s request reply
+        → IsAnswered tells s s request reply
     says a reply fits form none spelled sound = record {
       frame = record {
         made = [];
@@ -131,7 +126,7 @@ module _ {D : Type 0} (reads : D → Option Image) (may_leave : D → Image → 
         next = refl;
       };
       lasts = λ g serves.
-          subst (λ (h : SealedHistory). Serves reads may_leave h s) (sym (nothing_follows g)) serves;
+          subst (λ (h : SealedHistory). Serves tells h s) (sym (nothing_follows g)) serves;
       untouched = λ nothing. refl;
       told = λ i at. (i, at);
       failed = refl;
@@ -143,7 +138,7 @@ module _ {D : Type 0} (reads : D → Option Image) (may_leave : D → Image → 
         (result : Result (Unit {0}) Memory)
         → IfOk answer (AnswersRead (serving_of s) read) → IfOk answer HasAnswerForm
         → IfOk answer (MakesNone s request read) → Puts answer reply result
-        → AsksServer reads may_leave moment left_since borrow faults s s request reply result
+        → AsksServer tells s s request reply result
     answers_still (Ok a) reply (Ok done) fits form (none, sound) (put, err) =
         let same : a ≡ put.0 = cc (put.1) in
         let spelled : reply ≡ answer_bytes a = put.2 ∙ ap answer_bytes (sym same) in record {

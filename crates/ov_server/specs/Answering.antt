@@ -1,13 +1,14 @@
 -- What a server answers to a frame, over a disk that may fail, and what it then stands for.
 use Rattle.std.specs.Prelude.{◌≡◌, ◌⊎◌, ℕ, List, [], true, false}
-use Rattle.std.specs.Prelude.{Option, Result, OnErr, OnOk}
+use Rattle.std.specs.Prelude.{Result, OnErr, OnOk}
 use Rattle.ov_base.specs.declared.memory.Memory.{Memory}
 use Rattle.ov_record.specs.Updates.{SealedUpdate}
 use Rattle.ov_history.specs.Briefs.{brief}
 use Rattle.ov_history.specs.Sealed.{SealedHistory}
 use Rattle.ov_state.specs.Plans.{IsTaken}
-use Rattle.ov_disk.specs.Disk.{Image, Told}
+use Rattle.ov_disk.specs.Disk.{Image, StaysTold, Told}
 use Rattle.ov_disk.specs.Moments.{LeavesOnly}
+use Rattle.ov_disk.specs.Tells.{DiskTells}
 use Rattle.ov_images.specs.Images.{Keys, Keeps}
 use Rattle.ov_wire.specs.declared.answer.Answer.TheVariants.{DeviceFault}
 use Rattle.ov_wire.specs.AnswerBytes.{answer_bytes}
@@ -16,7 +17,7 @@ use Rattle.ov_protocol.specs.Serving.{Serving, followed}
 use Rattle.ov_protocol.specs.Replies.{AnswersFrame, updates_asked}
 use Rattle.ov_peer.specs.Disks.{AsksBytes, HasUpdate}
 use Rattle.ov_peer.specs.Spellings.{IsUpdate}
-use Rattle.ov_store.specs.Opened.{Opened, Serves, StaysTold}
+use Rattle.ov_store.specs.Opened.{Opened, Serves}
 use Rattle.ov_store.specs.Updating.{IsCallOf}
 
 -- what a server answers by: both halves of its store, and the keys with which this was opened
@@ -34,13 +35,12 @@ serving_of s = record {
 -- history for which it stood is one for which it stands then: so what is accepted lasts. Where it
 -- makes nothing all stays as it was, the disk too. An update is looked at only where the disk has
 -- never failed in one.
-pub record IsAnswered {D : Type 0} (reads : D → Option Image) (may_leave : D → Image → Type 0)
-    (old new : Opened D) (request reply : List ℕ) : Type 0 where
+pub record IsAnswered {D : Type 0} (tells : DiskTells D) (old new : Opened D)
+    (request reply : List ℕ) : Type 0 where
   pub frame : AnswersFrame (serving_of old) (serving_of new) request reply
-  pub lasts : (g : SealedHistory) → Serves reads may_leave g old
-      → Serves reads may_leave (followed g frame.made) new
+  pub lasts : (g : SealedHistory) → Serves tells g old → Serves tells (followed g frame.made) new
   pub untouched : frame.made ≡ [] → new ≡ old
-  pub told : StaysTold (reads old.disk) (reads new.disk)
+  pub told : StaysTold (tells.reads old.disk) (tells.reads new.disk)
   pub failed : new.failed ≡ old.failed
   pub sound : (u : SealedUpdate) → HasUpdate (serving_of old) request u → old.failed ≡ false
 
@@ -62,10 +62,10 @@ pub record IsFaulted {D : Type 0} (old new : Opened D) (request reply : List ℕ
   pub before : old.failed ≡ true → new ≡ old
 
 -- one of the two
-abbrev pub AnswersOrFails : {D : Type 0} → (reads : D → Option Image)
-    → (may_leave : D → Image → Type 0) → Opened D → Opened D → List ℕ → List ℕ → Type 0
-AnswersOrFails reads may_leave old new request reply =
-    IsAnswered reads may_leave old new request reply ⊎ IsFaulted old new request reply
+abbrev pub AnswersOrFails : {D : Type 0} → DiskTells D → Opened D → Opened D → List ℕ → List ℕ
+    → Type 0
+AnswersOrFails tells old new request reply =
+    IsAnswered tells old new request reply ⊎ IsFaulted old new request reply
 
 -- the answer is that the disk failed, and this isn't said because of an earlier update
 abbrev pub IsNewFault : {D : Type 0} → Opened D → List ℕ → List ℕ → Type 0
@@ -80,24 +80,20 @@ KeepsWith k g updates i = Keeps k g i ⊎ Keeps k (followed g updates) i
 
 -- A crash at any moment of the call leaves a history for which the server stood, or this with the
 -- update that the request has.
-abbrev pub LeavesAsked : {D : Type 0} → (reads : D → Option Image)
-    → (may_leave : D → Image → Type 0) → (moment : D → ℕ) → (left_since : D → ℕ → Image → Type 0)
-    → List ℕ → Opened D → Opened D → Type 0
-LeavesAsked reads may_leave moment left_since request old new =
-    (g : SealedHistory) → Serves reads may_leave g old → old.failed ≡ false
-    → Told (reads old.disk)
-    (λ _. LeavesOnly moment left_since old.disk new.disk
+abbrev pub LeavesAsked : {D : Type 0} → DiskTells D → List ℕ → Opened D → Opened D → Type 0
+LeavesAsked tells request old new =
+    (g : SealedHistory) → Serves tells g old → old.failed ≡ false
+    → Told (tells.reads old.disk)
+    (λ _. LeavesOnly tells old.disk new.disk
     (KeepsWith old.keys g (updates_asked (request_of request))))
 
 -- ---- one call
 
 -- All that is said of a call in which a server is asked a frame: it is answered, or memory was
 -- refused and all is as it was.
-pub record AsksServer {D : Type 0} (reads : D → Option Image) (may_leave : D → Image → Type 0)
-    (moment : D → ℕ) (left_since : D → ℕ → Image → Type 0) (borrow faults : D → ℕ)
-    (old new : Opened D) (request reply : List ℕ) (result : Result (Unit {0}) Memory) : Type 0
-  where
-    pub answer : OnOk result (AnswersOrFails reads may_leave old new request reply)
-    pub memory : OnErr result ((new ≡ old) × (reply ≡ []))
-    pub any_moment : LeavesAsked reads may_leave moment left_since request old new
-    pub call : IsCallOf borrow faults old new (IsNewFault old request reply)
+pub record AsksServer {D : Type 0} (tells : DiskTells D) (old new : Opened D)
+    (request reply : List ℕ) (result : Result (Unit {0}) Memory) : Type 0 where
+  pub answer : OnOk result (AnswersOrFails tells old new request reply)
+  pub memory : OnErr result ((new ≡ old) × (reply ≡ []))
+  pub any_moment : LeavesAsked tells request old new
+  pub call : IsCallOf tells old new (IsNewFault old request reply)

@@ -1,13 +1,14 @@
 -- What a server in this process tells: nobody else updates what it serves.
-use Rattle.std.specs.Prelude.{◌≡◌, ◌⊎◌, ℕ, List, [], Option}
+use Rattle.std.specs.Prelude.{◌≡◌, ◌⊎◌, ℕ, List, []}
 use Rattle.std.proofs.Common.{inl, inr, refl, subst, sym}
 use Rattle.ov_record.specs.Updates.{SealedUpdate}
-use Rattle.ov_disk.specs.Disk.{Image}
+use Rattle.ov_disk.specs.Tells.{DiskTells}
 use Rattle.ov_protocol.specs.Serving.{IsService, Service, Serving, later, served}
 use Rattle.ov_protocol.specs.Replies.{Replies}
 use Rattle.ov_protocol.proofs.GoingOn.{servers_go_on, services_are_served}
 use Rattle.ov_protocol.proofs.Leaving.{later-nil}
-use Rattle.ov_peer.specs.Asks.{Asked, IsReplyAt, LeavesTold, Told}
+use Rattle.ov_peer.specs.Asks.{Asked}
+use Rattle.ov_peer.specs.Tells.{IsReplyAt, LeavesTold, Told}
 use Rattle.ov_peer.specs.Disks.{AsksBytes, NeedsDisk}
 use Rattle.ov_store.specs.Opened.{Opened}
 use Rattle.ov_server.specs.Answering.{AnswersOrFails, FailsUpdate, IsAnswered, IsFaulted, serving_of}
@@ -31,11 +32,11 @@ AreAlone {D} asked =
 -- ---- inner: no public contract needs the rest
 
 -- an answer by what is shown is one at what is served
-answered : {D : Type 0} (reads : D → Option Image) (may_leave : D → Image → Type 0)
-    (p q : Opened D) (request reply : List ℕ) (v : Service)
-    → IsAnswered reads may_leave p q request reply → IsServedBy p v
+answered : {D : Type 0} (tells : DiskTells D) (p q : Opened D) (request reply : List ℕ)
+    (v : Service)
+    → IsAnswered tells p q request reply → IsServedBy p v
     → AnswersAlone v request reply (IsServedBy q)
-answered reads may_leave p q request reply v is serves = (
+answered tells p q request reply v is serves = (
   is.frame.made,
   inl
       (subst (λ (s : Serving). Replies s request reply is.frame.made)
@@ -66,13 +67,13 @@ faulted p q request reply v is serves =
     )
 
 -- what is served is what is answered by, and nobody else updates it
-pub answers_alone : {D : Type 0} (reads : D → Option Image) (may_leave : D → Image → Type 0)
-    (p q : Opened D) (request reply : List ℕ) (v : Service)
-    → AnswersOrFails reads may_leave p q request reply → IsServedBy p v
+pub answers_alone : {D : Type 0} (tells : DiskTells D) (p q : Opened D) (request reply : List ℕ)
+    (v : Service)
+    → AnswersOrFails tells p q request reply → IsServedBy p v
     → AnswersAlone v request reply (IsServedBy q)
-answers_alone reads may_leave p q request reply v (inl is) serves =
-    answered reads may_leave p q request reply v is serves
-answers_alone reads may_leave p q request reply v (inr is) serves =
+answers_alone tells p q request reply v (inl is) serves =
+    answered tells p q request reply v is serves
+answers_alone tells p q request reply v (inr is) serves =
     faulted p q request reply v is serves
 
 -- what was served, with nothing that others did
@@ -80,12 +81,11 @@ nobody_else : (P : Service → Type 0) (v : Service) → P v → P (later v [])
 nobody_else P v is = subst P (sym (later-nil v)) is
 
 -- so it is answered by what is served
-pub answers_told : {D : Type 0} (reads : D → Option Image) (may_leave : D → Image → Type 0)
-    (p q : Opened D) (request reply : List ℕ) (v : Service)
-    → AnswersOrFails reads may_leave p q request reply → IsServedBy p v
-    → Told v request reply (IsServedBy q)
-answers_told reads may_leave p q request reply v is serves =
-    let (made, at_it, goes_on) = answers_alone reads may_leave p q request reply v is serves in (
+pub answers_told : {D : Type 0} (tells : DiskTells D) (p q : Opened D) (request reply : List ℕ)
+    (v : Service)
+    → AnswersOrFails tells p q request reply → IsServedBy p v → Told v request reply (IsServedBy q)
+answers_told tells p q request reply v is serves =
+    let (made, at_it, goes_on) = answers_alone tells p q request reply v is serves in (
       [],
       made,
       nobody_else (λ w. IsReplyAt w request reply made) v at_it,

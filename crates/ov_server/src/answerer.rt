@@ -8,12 +8,11 @@ impl<D: Disk> Answerer for Server<D> {
     ghost use Rattle.ov_server.specs.Answering.{serving_of};
     ghost use Rattle.ov_server.specs.Following.{Reaches, RepliesAfter};
 
-    ghost reached = { λ start list now. Reaches (serving_of start) list (serving_of now) };
-
-    ghost replies = { λ start list request reply.
-        RepliesAfter (serving_of start) list request reply };
-
-    ghost epoch_of = { λ s. s.catalogue.epoch };
+    ghost tells = { record {
+      reached = λ start list now. Reaches (serving_of start) list (serving_of now);
+      replies = λ start list request reply. RepliesAfter (serving_of start) list request reply;
+      epoch_of = λ s. s.catalogue.epoch;
+    } };
 
     fn answer(&mut self, request: &[u8], reply: &mut Vec<u8>) -> Result<(), Memory> {
         Server::<D>::answer(self, request, reply)

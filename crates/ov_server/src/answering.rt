@@ -42,8 +42,7 @@ impl<D: Disk> Server<D> {
         requires { HasRequestForm asked.now }
         ensures { (request : List ℕ)
             → request_of request ≡ Ok asked.now
-            → AsksServer D.reads D.may_leave D.moment D.left_since D.borrow D.faults
-            self.old self.new request reply.new.items result }
+            → AsksServer D.tells self.old self.new request reply.new.items result }
     {
         self.known();
         let alloc = *reply.allocator();
@@ -82,16 +81,15 @@ impl<D: Disk> Server<D> {
     pub fn answer(&mut self, request: &[u8], reply: &mut Vec<u8>) -> Result<(), Memory>
         requires { IsFrame request.now }
         // By what it shows, or that its disk failed.
-        ensures answer { OnOk result (AnswersOrFails D.reads D.may_leave
-            self.old self.new request.now reply.new.items) }
+        ensures answer { OnOk result (AnswersOrFails D.tells self.old self.new request.now
+            reply.new.items) }
         ensures memory { OnErr result ((self.new ≡ self.old) × (reply.new.items ≡ [])) }
         // A crash at any moment of the call leaves the history from before, or it with the
         // request's update.
-        ensures any_moment { LeavesAsked D.reads D.may_leave D.moment D.left_since
-            request.now self.old self.new }
+        ensures any_moment { LeavesAsked D.tells request.now self.old self.new }
         // That the disk failed is answered only where its count of faults rose in this call, or to
         // an update after one that was answered so.
-        ensures call { IsCallOf D.borrow D.faults self.old self.new
+        ensures call { IsCallOf D.tells self.old self.new
             (IsNewFault self.old request.now reply.new.items) }
     {
         match read_request(*reply.allocator(), request) {

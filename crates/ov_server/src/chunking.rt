@@ -25,8 +25,7 @@ impl<D: Disk> Server<D> {
         requires { count ≤ MAX_CHUNK_BYTES }
         ensures { (request : List ℕ)
             → request_of request ≡ Ok (Chunk file generation start count)
-            → AsksServer D.reads D.may_leave D.moment D.left_since D.borrow D.faults
-            self.old self.new request reply.new.items result }
+            → AsksServer D.tells self.old self.new request reply.new.items result }
     {
         let mut bytes = Vec::new(*reply.allocator());
         match self.store.chunk(file, generation, start, count, &mut bytes) {

@@ -93,8 +93,7 @@ impl<D: Disk> Server<D> {
         requires { size ≤ MAX_FILE_BYTES }
         ensures { (request : List ℕ)
             → request_of request ≡ Ok (requests.Cover file.now size names.now)
-            → AsksServer D.reads D.may_leave D.moment D.left_since D.borrow D.faults
-            self.old self.new request reply.new.items result }
+            → AsksServer D.tells self.old self.new request reply.new.items result }
     {
         reply.clear();
         let answer = answer_cover(*reply.allocator(), self.store.state(), file, size, names)?;

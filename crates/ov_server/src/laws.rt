@@ -9,6 +9,5 @@ use ov_disk::Disk;
 /// at just the history that it serves. And that its disk failed it answers only to what needs it.
 pub fn asks_are_alone<D: Disk>()
     ensures { AreAlone (λ p request reply q.
-        AsksServer D.reads D.may_leave D.moment D.left_since D.borrow D.faults
-        p q request reply (Ok tt)) }
+        AsksServer D.tells p q request reply (Ok tt)) }
 {}

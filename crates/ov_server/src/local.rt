@@ -51,22 +51,15 @@ impl<D: Disk> Peer for LocalPeer<D> {
     ghost use Rattle.ov_server.specs.Answering.{AsksServer};
     ghost use Rattle.ov_server.specs.Locally.{IsServedBy, answers_told, same_left};
 
-    ghost asked = { λ p request reply q.
-        AsksServer D.reads D.may_leave D.moment D.left_since D.borrow D.faults
-        p q request reply (Ok tt) };
-
-    ghost failed = { λ p request q. q ≡ p };
-
-    ghost serves = { λ p v. IsServedBy p v };
-
-    ghost faults = { λ _. 0 };
-
-    ghost borrow = { λ p. D.borrow p.disk };
-
-    ghost told = { λ p q request reply v a s.
-        answers_told D.reads D.may_leave p q request reply v a.answer s };
-
-    ghost left = { λ p q request v f s. same_left p q request v f s };
+    ghost tells = { record {
+      asked = λ p request reply q. AsksServer D.tells p q request reply (Ok tt);
+      failed = λ p request q. q ≡ p;
+      serves = λ p v. IsServedBy p v;
+      faults = λ _. 0;
+      borrow = λ p. D.tells.borrow p.disk;
+      told = λ p q request reply v a s. answers_told D.tells p q request reply v a.answer s;
+      left = λ p q request v f s. same_left p q request v f s;
+    } };
 
     fn ask(&mut self, request: &[u8], reply: &mut Vec<u8>) -> Result<(), PeerFault> {
         match self.server.answer(request, reply) {

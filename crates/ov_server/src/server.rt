@@ -58,7 +58,7 @@ impl<D: Disk> Server<D> {
 
     /// Does nothing. Its contract is what holds of every server: it stands for some history.
     pub fn known(&self)
-        ensures { (g : SealedHistory) × Serves D.reads D.may_leave g self.now }
+        ensures { (g : SealedHistory) × Serves D.tells g self.now }
     {
         self.store.known();
     }

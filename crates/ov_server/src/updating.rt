@@ -43,8 +43,7 @@ impl<D: Disk> Server<D> {
         requires { HasForm 32 (sealed_update update) }
         ensures { (request : List ℕ)
             → HasUpdate (serving_of self.old) request (sealed_update update)
-            → AsksServer D.reads D.may_leave D.moment D.left_since D.borrow D.faults
-            self.old self.new request reply.new.items result }
+            → AsksServer D.tells self.old self.new request reply.new.items result }
     {
         // The reply stands before the first write of the disk, so that what comes after it takes no
         // memory. At the last epoch the update is refused.
@@ -80,8 +79,7 @@ impl<D: Disk> Server<D> {
         requires { length spelling.now ≤ MAX_FRAME_BYTES }
         ensures { (request : List ℕ)
             → request_of request ≡ Ok (requests.Update epoch spelling.now tag.now)
-            → AsksServer D.reads D.may_leave D.moment D.left_since D.borrow D.faults
-            self.old self.new request reply.new.items result }
+            → AsksServer D.tells self.old self.new request reply.new.items result }
     {
         if !same(&owner_tag(&self.surface, epoch, spelling), tag) {
             return reply_with(Ok(Answer::BadTag), reply);

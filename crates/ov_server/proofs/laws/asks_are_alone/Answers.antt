@@ -2,6 +2,4 @@ use Rattle.ov_server.proofs.Alone.{are_alone}
 use Rattle.ov_server.proofs.laws.asks_are_alone.Goals as goal
 
 pub returns : goal.returns
-returns g c =
-    are_alone g.D.Disk.reads g.D.Disk.may_leave g.D.Disk.moment g.D.Disk.left_since
-    g.D.Disk.borrow g.D.Disk.faults
+returns g c = are_alone g.D.Disk.tells

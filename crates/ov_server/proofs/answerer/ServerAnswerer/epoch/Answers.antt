@@ -8,8 +8,7 @@ use Rattle.ov_server.proofs.answerer.ServerAnswerer.epoch.Goals as goal
 pub returns-clause-begins : goal.returns-clause-begins
 returns-clause-begins g c =
     reached_at_once (serving_of c.args.self.now)
-    (served_now g.D.Disk.reads g.D.Disk.may_leave c.args.self.now c.known.ensures.0
-    c.known.ensures.1)
+    (served_now g.D.Disk.tells c.args.self.now c.known.ensures.0 c.known.ensures.1)
 
 pub returns-clause-counts : goal.returns-clause-counts
 returns-clause-counts g c =

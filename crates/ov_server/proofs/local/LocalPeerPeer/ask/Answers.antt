@@ -10,14 +10,12 @@ use Rattle.ov_server.proofs.local.LocalPeerPeer.ask.Goals.{in-Ok, in-Err}
 pub returns-clause-asked : goal.returns-clause-asked
 returns-clause-asked g c =
     let P : Opened g.row.D.Denot → Type 0 =
-    λ old. AsksServer g.D.Disk.reads g.D.Disk.may_leave g.D.Disk.moment g.D.Disk.left_since
-    g.D.Disk.borrow g.D.Disk.faults old
-    c.answer.new.self c.args.request.now c.answer.new.reply.items (Ok tt) in
+    λ old. AsksServer g.D.Disk.tells old c.answer.new.self c.args.request.now
+    c.answer.new.reply.items (Ok tt) in
     subst (λ old. OnOk c.match-answer.result (P old)) c.self.view_is
     (elim c.match-answer.branch [
       | in-Ok w ↦
-          asked_at g.D.Disk.reads g.D.Disk.may_leave g.D.Disk.moment g.D.Disk.left_since
-          g.D.Disk.borrow g.D.Disk.faults c.self.inside.server c.answer.new.self c.args.request.now
+          asked_at g.D.Disk.tells c.self.inside.server c.answer.new.self c.args.request.now
           c.answer.new.reply.items c.answer.result c.answer.ensures.answer
           c.answer.ensures.any_moment c.answer.ensures.call _ w.in-Ok.is c.match-answer.result _
           w.result-is
@@ -28,8 +26,7 @@ pub returns-clause-frame : goal.returns-clause-frame
 returns-clause-frame g c =
     elim c.match-answer.branch [
       | in-Ok w ↦
-          frame_at g.D.Disk.reads g.D.Disk.may_leave g.D.Disk.moment g.D.Disk.left_since
-          g.D.Disk.borrow g.D.Disk.faults c.self.inside.server c.answer.new.self c.args.request.now
+          frame_at g.D.Disk.tells c.self.inside.server c.answer.new.self c.args.request.now
           c.answer.new.reply.items c.answer.result c.answer.ensures.answer
           c.answer.ensures.any_moment c.answer.ensures.call _ w.in-Ok.is c.match-answer.result _
           w.result-is

@@ -12,18 +12,15 @@ pub returns-in-Err-Bad-clause-answer : goal.returns-in-Err-Bad-clause-answer
 returns-in-Err-Bad-clause-answer g c =
     let bad : request_of c.args.request.now ≡ Err c.in-Err-Bad.at =
     rw c.in-Err-Bad.field-0-is at c.in-Err-Bad.ensures.exact in
-    (answers_still g.D.Disk.reads g.D.Disk.may_leave g.D.Disk.moment g.D.Disk.left_since
-    g.D.Disk.borrow g.D.Disk.faults g.met.D.Disk.only_now c.args.self.now c.args.request.now (Err c.in-Err-Bad.at) bad
+    (answers_still g.D.Disk.tells c.args.self.now c.args.request.now (Err c.in-Err-Bad.at) bad
     (Ok (answers.BadRequest c.in-Err-Bad.at)) c.reply_with.new.reply.items c.reply_with.result refl
     (search rules) (refl, λ u has. absurd (no_frame c.args.self.now c.args.request.now u has c.in-Err-Bad.at bad))
     (c.reply_with.ensures.ok, c.reply_with.ensures.err)).answer
 
 pub returns-in-Err-Bad-clause-any_moment : goal.returns-in-Err-Bad-clause-any_moment
 returns-in-Err-Bad-clause-any_moment g c =
-    still_leaves g.D.Disk.reads g.D.Disk.may_leave g.D.Disk.moment g.D.Disk.left_since
-    g.D.Disk.borrow g.D.Disk.faults g.met.D.Disk.only_now c.args.self.now c.args.request.now
+    still_leaves g.D.Disk.tells c.args.self.now c.args.request.now
 
 pub returns-in-Err-Memory-clause-any_moment : goal.returns-in-Err-Memory-clause-any_moment
 returns-in-Err-Memory-clause-any_moment g c =
-    still_leaves g.D.Disk.reads g.D.Disk.may_leave g.D.Disk.moment g.D.Disk.left_since
-    g.D.Disk.borrow g.D.Disk.faults g.met.D.Disk.only_now c.args.self.now c.args.request.now
+    still_leaves g.D.Disk.tells c.args.self.now c.args.request.now

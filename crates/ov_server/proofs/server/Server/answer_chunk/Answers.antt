@@ -20,12 +20,8 @@ returns-in-Ok g c =
     let same : c.chunk.new.self ≡ s = c.chunk.ensures.same ∙ c.self.view_is in
     let asked : Request = requests.Chunk c.args.file c.args.generation c.args.start c.args.count in
     λ request is.
-    subst
-    (λ o. AsksServer g.D.Disk.reads g.D.Disk.may_leave g.D.Disk.moment g.D.Disk.left_since
-    g.D.Disk.borrow g.D.Disk.faults s o
-    request c.reply_with.new.reply.items c.reply_with.result) (sym same)
-    (answers_still g.D.Disk.reads g.D.Disk.may_leave g.D.Disk.moment g.D.Disk.left_since
-    g.D.Disk.borrow g.D.Disk.faults g.met.D.Disk.only_now s request (Ok asked) is
+    subst (λ o. AsksServer g.D.Disk.tells s o request c.reply_with.new.reply.items c.reply_with.result) (sym same)
+    (answers_still g.D.Disk.tells s request (Ok asked) is
     (Ok (answers.Bytes c.from_vec-bytes.result)) c.reply_with.new.reply.items c.reply_with.result
     (subst
     (λ (o : Opened g.row.D.Denot). AnswersChunk (slice_get o.catalogue.files c.args.file)
@@ -48,12 +44,8 @@ returns-in-Err-NoFile g c =
     let same : c.chunk.new.self ≡ s = c.chunk.ensures.same ∙ c.self.view_is in
     let asked : Request = requests.Chunk c.args.file c.args.generation c.args.start c.args.count in
     λ request is.
-    subst
-    (λ o. AsksServer g.D.Disk.reads g.D.Disk.may_leave g.D.Disk.moment g.D.Disk.left_since
-    g.D.Disk.borrow g.D.Disk.faults s o
-    request c.reply_with-in-Err-NoFile.new.reply.items c.reply_with-in-Err-NoFile.result) (sym same)
-    (answers_still g.D.Disk.reads g.D.Disk.may_leave g.D.Disk.moment g.D.Disk.left_since
-    g.D.Disk.borrow g.D.Disk.faults g.met.D.Disk.only_now s request (Ok asked) is
+    subst (λ o. AsksServer g.D.Disk.tells s o request c.reply_with-in-Err-NoFile.new.reply.items c.reply_with-in-Err-NoFile.result) (sym same)
+    (answers_still g.D.Disk.tells s request (Ok asked) is
     (Ok (answers.Refused NoFile)) c.reply_with-in-Err-NoFile.new.reply.items c.reply_with-in-Err-NoFile.result
     (subst
     (λ (o : Opened g.row.D.Denot). AnswersChunk (slice_get o.catalogue.files c.args.file)
@@ -72,12 +64,8 @@ returns-in-Err-Moved g c =
     let same : c.chunk.new.self ≡ s = c.chunk.ensures.same ∙ c.self.view_is in
     let asked : Request = requests.Chunk c.args.file c.args.generation c.args.start c.args.count in
     λ request is.
-    subst
-    (λ o. AsksServer g.D.Disk.reads g.D.Disk.may_leave g.D.Disk.moment g.D.Disk.left_since
-    g.D.Disk.borrow g.D.Disk.faults s o
-    request c.reply_with-in-Err-Moved.new.reply.items c.reply_with-in-Err-Moved.result) (sym same)
-    (answers_still g.D.Disk.reads g.D.Disk.may_leave g.D.Disk.moment g.D.Disk.left_since
-    g.D.Disk.borrow g.D.Disk.faults g.met.D.Disk.only_now s request (Ok asked) is
+    subst (λ o. AsksServer g.D.Disk.tells s o request c.reply_with-in-Err-Moved.new.reply.items c.reply_with-in-Err-Moved.result) (sym same)
+    (answers_still g.D.Disk.tells s request (Ok asked) is
     (Ok (answers.Moved c.in-Err-Moved.generation)) c.reply_with-in-Err-Moved.new.reply.items c.reply_with-in-Err-Moved.result
     (subst
     (λ (o : Opened g.row.D.Denot). AnswersChunk (slice_get o.catalogue.files c.args.file)
@@ -96,8 +84,7 @@ returns-in-Err-Disk g c =
     let same : c.chunk.new.self ≡ c.args.self.now = c.chunk.ensures.same ∙ c.self.view_is in
     let failed = chunk_err c.chunk.result c.in-Err-Disk.field-0 _ c.in-Err-Disk.is c.in-Err-Disk.field-0-is in
     λ request is.
-    chunk_failed g.D.Disk.reads g.D.Disk.may_leave g.D.Disk.moment g.D.Disk.left_since
-    g.D.Disk.borrow g.D.Disk.faults g.met.D.Disk.only_now c.args.self.now
+    chunk_failed g.D.Disk.tells c.args.self.now
     c.chunk.new.self request c.reply_with-in-Err-Disk.new.reply.items
     c.reply_with-in-Err-Disk.result same
     (record {
@@ -115,7 +102,7 @@ returns-in-Err-Disk g c =
     })
     (c.reply_with-in-Err-Disk.ensures.ok, c.reply_with-in-Err-Disk.ensures.err)
     (subst
-    (λ (o : Opened g.row.D.Denot). Rose (g.D.Disk.faults o.disk) (g.D.Disk.faults c.chunk.new.self.disk))
+    (λ (o : Opened g.row.D.Denot). Rose (g.D.Disk.tells.faults o.disk) (g.D.Disk.tells.faults c.chunk.new.self.disk))
     c.self.view_is
     (c.chunk.ensures.cause failed))
 
@@ -126,12 +113,8 @@ returns g c =
     let same : c.chunk.new.self ≡ s = c.chunk.ensures.same ∙ c.self.view_is in
     let asked : Request = requests.Chunk c.args.file c.args.generation c.args.start c.args.count in
     λ request is.
-    subst
-    (λ o. AsksServer g.D.Disk.reads g.D.Disk.may_leave g.D.Disk.moment g.D.Disk.left_since
-    g.D.Disk.borrow g.D.Disk.faults s o
-    request c.reply_with-in-Err-Memory.new.reply.items c.reply_with-in-Err-Memory.result) (sym same)
-    (answers_still g.D.Disk.reads g.D.Disk.may_leave g.D.Disk.moment g.D.Disk.left_since
-    g.D.Disk.borrow g.D.Disk.faults g.met.D.Disk.only_now s request (Ok asked) is
+    subst (λ o. AsksServer g.D.Disk.tells s o request c.reply_with-in-Err-Memory.new.reply.items c.reply_with-in-Err-Memory.result) (sym same)
+    (answers_still g.D.Disk.tells s request (Ok asked) is
     (Err _) c.reply_with-in-Err-Memory.new.reply.items c.reply_with-in-Err-Memory.result
     tt tt
     tt

@@ -29,8 +29,7 @@ returns-in-Hello g c =
     λ request is.
     let read : request_of request ≡ Ok requests.Hello =
     is ∙ ap (λ (r : Request). Ok r) c.in-Hello.is in
-    answers_still g.D.Disk.reads g.D.Disk.may_leave g.D.Disk.moment g.D.Disk.left_since
-    g.D.Disk.borrow g.D.Disk.faults g.met.D.Disk.only_now s request (Ok requests.Hello) read (Ok c.welcome.result)
+    answers_still g.D.Disk.tells s request (Ok requests.Hello) read (Ok c.welcome.result)
     c.reply_with.new.reply.items c.reply_with.result
     c.welcome.ensures.answer c.welcome.ensures.form
     (refl, λ u has. absurd (no_update s request u has requests.Hello read (λ e. let wrong = e.3 in cc)))
@@ -44,8 +43,7 @@ returns-in-Ask g c =
     let asked : Request = requests.Ask c.in-Ask.question in
     λ request is.
     let read : request_of request ≡ Ok asked = is ∙ ap (λ (r : Request). Ok r) c.in-Ask.is in
-    answers_still g.D.Disk.reads g.D.Disk.may_leave g.D.Disk.moment g.D.Disk.left_since
-    g.D.Disk.borrow g.D.Disk.faults g.met.D.Disk.only_now s request (Ok asked) read c.answer_ask.result
+    answers_still g.D.Disk.tells s request (Ok asked) read c.answer_ask.result
     c.reply_with-in-Ask.new.reply.items c.reply_with-in-Ask.result
     (subst (λ (k : Catalogue). IfOk c.answer_ask.result (AnswersAsk k c.in-Ask.question)) same
     c.answer_ask.ensures.answer) c.answer_ask.ensures.form
@@ -61,8 +59,7 @@ returns-in-Chain g c =
     let asked : Request = requests.Chain c.in-Chain.user c.in-Chain.file in
     λ request is.
     let read : request_of request ≡ Ok asked = is ∙ ap (λ (r : Request). Ok r) c.in-Chain.is in
-    answers_still g.D.Disk.reads g.D.Disk.may_leave g.D.Disk.moment g.D.Disk.left_since
-    g.D.Disk.borrow g.D.Disk.faults g.met.D.Disk.only_now s request (Ok asked) read c.answer_chain.result
+    answers_still g.D.Disk.tells s request (Ok asked) read c.answer_chain.result
     c.reply_with-in-Chain.new.reply.items c.reply_with-in-Chain.result
     (subst (λ (k : Catalogue). IfOk c.answer_chain.result (AnswersChain k
     (user_named k c.in-Chain.user) (file_named k c.in-Chain.file))) same
@@ -79,8 +76,7 @@ returns-in-Page g c =
     let asked : Request = requests.Page c.in-Page.part c.in-Page.number in
     λ request is.
     let read : request_of request ≡ Ok asked = is ∙ ap (λ (r : Request). Ok r) c.in-Page.is in
-    answers_still g.D.Disk.reads g.D.Disk.may_leave g.D.Disk.moment g.D.Disk.left_since
-    g.D.Disk.borrow g.D.Disk.faults g.met.D.Disk.only_now s request (Ok asked) read c.answer_page.result
+    answers_still g.D.Disk.tells s request (Ok asked) read c.answer_page.result
     c.reply_with-in-Page.new.reply.items c.reply_with-in-Page.result
     (subst (λ (k : Catalogue). IfOk c.answer_page.result (λ (a : Answer).
     a ≡ answers.PageOf (page_of (entry_of k c.in-Page.part c.in-Page.number)))) same
@@ -97,8 +93,7 @@ returns-in-List g c =
     let asked : Request = requests.List c.in-List.file in
     λ request is.
     let read : request_of request ≡ Ok asked = is ∙ ap (λ (r : Request). Ok r) c.in-List.is in
-    answers_still g.D.Disk.reads g.D.Disk.may_leave g.D.Disk.moment g.D.Disk.left_since
-    g.D.Disk.borrow g.D.Disk.faults g.met.D.Disk.only_now s request (Ok asked) read c.answer_list.result
+    answers_still g.D.Disk.tells s request (Ok asked) read c.answer_list.result
     c.reply_with-in-List.new.reply.items c.reply_with-in-List.result
     (subst (λ (k : Catalogue). IfOk c.answer_list.result (AnswersList k (file_named k c.in-List.file))) same
     c.answer_list.ensures.answer) c.answer_list.ensures.form

@@ -27,8 +27,7 @@ returns-then-not-same g c =
     ∙ sym right))
     ∙ c.if-not-same.true) in
     λ request is.
-    answers_still g.D.Disk.reads g.D.Disk.may_leave g.D.Disk.moment g.D.Disk.left_since
-    g.D.Disk.borrow g.D.Disk.faults g.met.D.Disk.only_now s request
+    answers_still g.D.Disk.tells s request
     (Ok (requests.Update c.args.epoch c.args.spelling.now c.args.tag.now)) is (Ok answers.BadTag)
     c.reply_with.new.reply.items c.reply_with.result wrong tt
     (refl, λ u has. absurd (other_tag _ request u has _ _ _ is wrong))
@@ -49,8 +48,7 @@ returns-then-epoch-now g c =
     let wrong : c.args.epoch ≢ s.catalogue.epoch =
     λ same. c.if-epoch-now.true (same ∙ sym now_is) in
     λ request is.
-    answers_still g.D.Disk.reads g.D.Disk.may_leave g.D.Disk.moment g.D.Disk.left_since
-    g.D.Disk.borrow g.D.Disk.faults g.met.D.Disk.only_now s request
+    answers_still g.D.Disk.tells s request
     (Ok (requests.Update c.args.epoch c.args.spelling.now c.args.tag.now)) is
     (Ok (answers.Stale c.epoch-now.result)) c.reply_with-then-epoch-now.new.reply.items
     c.reply_with-then-epoch-now.result (right, wrong, now_is) c.epoch-now.type_inv
@@ -98,8 +96,7 @@ returns-in-Err-BadRecord g c =
     let wrong : update_of 32 c.args.spelling.now ≡ Err place =
     rw c.in-Err-BadRecord.field-0-is at c.in-Err-BadRecord.ensures.exact in
     λ request is.
-    answers_still g.D.Disk.reads g.D.Disk.may_leave g.D.Disk.moment g.D.Disk.left_since
-    g.D.Disk.borrow g.D.Disk.faults g.met.D.Disk.only_now s request
+    answers_still g.D.Disk.tells s request
     (Ok (requests.Update c.args.epoch c.args.spelling.now c.args.tag.now)) is
     (Ok (answers.BadRequest (5 + place))) c.reply_with-in-Err-BadRecord.new.reply.items
     c.reply_with-in-Err-BadRecord.result (
@@ -123,8 +120,7 @@ returns-in-Err-BadRecord g c =
 pub returns-in-Err-Memory : goal.returns-in-Err-Memory
 returns-in-Err-Memory g c =
     λ request is.
-    answers_still g.D.Disk.reads g.D.Disk.may_leave g.D.Disk.moment g.D.Disk.left_since
-    g.D.Disk.borrow g.D.Disk.faults g.met.D.Disk.only_now c.args.self.now request
+    answers_still g.D.Disk.tells c.args.self.now request
     (Ok (requests.Update c.args.epoch c.args.spelling.now c.args.tag.now)) is (Err _)
     c.reply_with-in-Err-Memory.new.reply.items c.reply_with-in-Err-Memory.result tt tt tt
     (c.reply_with-in-Err-Memory.ensures.ok, c.reply_with-in-Err-Memory.ensures.err)

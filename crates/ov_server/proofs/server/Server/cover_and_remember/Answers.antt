@@ -20,12 +20,10 @@ covered : (g : Over) (s : Opened g.row.D.Denot) (k : Catalogue) → k ≡ s.cata
     → (file : List ℕ) (size : ℕ) (names : List (List ℕ)) (a : Answer) (reply : List ℕ)
     → AnswersCover k file size (set_named k.users names) a → HasAnswerForm a → reply ≡ answer_bytes a
     → (request : List ℕ) → request_of request ≡ Ok (requests.Cover file size names)
-    → AsksServer g.D.Disk.reads g.D.Disk.may_leave g.D.Disk.moment g.D.Disk.left_since
-    g.D.Disk.borrow g.D.Disk.faults s s request reply (Ok tt)
+    → AsksServer g.D.Disk.tells s s request reply (Ok tt)
 covered g s k same file size names a reply told form spelled request read =
     let asked : Request = requests.Cover file size names in
-    answers_still g.D.Disk.reads g.D.Disk.may_leave g.D.Disk.moment g.D.Disk.left_since
-    g.D.Disk.borrow g.D.Disk.faults g.met.D.Disk.only_now s request (Ok asked) read (Ok a) reply (Ok tt)
+    answers_still g.D.Disk.tells s request (Ok asked) read (Ok a) reply (Ok tt)
     (subst (λ (c : Catalogue). AnswersCover c file size (set_named c.users names) a) same told) form
     (refl, λ u has. absurd (no_update s request u has asked read (λ e. let wrong = e.3 in cc)))
     ((a, refl, spelled), tt)
@@ -33,15 +31,13 @@ covered g s k same file size names a reply told form spelled request read =
 pub returns-in_err-answer : goal.returns-in_err-answer
 returns-in_err-answer g c =
     λ request is.
-    forgot_by g.D.Disk.reads g.D.Disk.may_leave g.D.Disk.moment g.D.Disk.left_since
-    g.D.Disk.borrow g.D.Disk.faults g.met.D.Disk.only_now c.args.self.now request c.clear.new.self.items
+    forgot_by g.D.Disk.tells c.args.self.now request c.clear.new.self.items
     c.from_residual.result c.from_residual.ensures.0 c.clear.ensures.items
 
 pub returns-in_err-write_answer : goal.returns-in_err-write_answer
 returns-in_err-write_answer g c =
     λ request is.
-    forgot_by g.D.Disk.reads g.D.Disk.may_leave g.D.Disk.moment g.D.Disk.left_since
-    g.D.Disk.borrow g.D.Disk.faults g.met.D.Disk.only_now c.args.self.now request c.write_answer.new.out.items
+    forgot_by g.D.Disk.tells c.args.self.now request c.write_answer.new.out.items
     c.from_residual-in_err-write_answer.result c.from_residual-in_err-write_answer.ensures.0
     (c.in_err-write_answer.ensures.err ∙ c.clear.ensures.items)
 
@@ -58,8 +54,7 @@ returns-in-Some g c =
     c.state.ensures ∙ ap (λ (o : Opened g.row.D.Denot). o.catalogue) c.self.view_is in
     λ request is.
     subst
-    (λ (o : Opened g.row.D.Denot). AsksServer g.D.Disk.reads g.D.Disk.may_leave g.D.Disk.moment g.D.Disk.left_since
-    g.D.Disk.borrow g.D.Disk.faults s o request c.write_answer.new.out.items (Ok tt))
+    (λ (o : Opened g.row.D.Denot). AsksServer g.D.Disk.tells s o request c.write_answer.new.out.items (Ok tt))
     (sym (c.remember.ensures ∙ c.self.view_is))
     (covered g s c.state.result.now.catalogue same c.args.file.now c.args.size c.args.names.now
     c.in_ok-answer.answer c.write_answer.new.out.items c.in_ok-answer.ensures.answer c.in_ok-answer.ensures.form
