@@ -2,6 +2,7 @@
 use Rattle.std.specs.Prelude.{◌≡◌, ◌≤◌, ◌⊎◌, ℕ, List, take, Option}
 use Rattle.std.specs.Io.KnownBytes.{Appends}
 use Rattle.ov_base.specs.Causes.{Rose}
+use Rattle.ov_io.specs.Tells.{SinkTells}
 use Rattle.ov_report.specs.Faults.{memory_line}
 
 -- this line was put, and the status is this; or a front of it, and the status is 6
@@ -17,7 +18,7 @@ EndsOr last code old new status =
 
 -- A sink was put to: it keeps its loan, its count of faults doesn't fall, and the count rose where
 -- the status is 6.
-pub record IsPutTo {O : Type 0} (borrow faults : O → ℕ) (old new : O) (status : ℕ) : Type 0 where
-  pub same : borrow new ≡ borrow old
-  pub later : faults old ≤ faults new
-  pub write : status ≡ 6 → Rose (faults old) (faults new)
+pub record IsPutTo {O : Type 0} (tells : SinkTells O) (old new : O) (status : ℕ) : Type 0 where
+  pub same : tells.borrow new ≡ tells.borrow old
+  pub later : tells.faults old ≤ tells.faults new
+  pub write : status ≡ 6 → Rose (tells.faults old) (tells.faults new)
