@@ -14,7 +14,8 @@ use Rattle.ov_owner.specs.Questions.{AsksOnce, taken}
 use Rattle.ov_owner.specs.declared.fault.OwnerFault.{OwnerFault}
 use Rattle.ov_owner.specs.declared.fault.OwnerFault.TheVariants as faults
 use Rattle.ov_peer.proofs.Needing.{needs_disk}
-use Rattle.ov_peer.specs.Asks.{Along, Ask, Asked, Failed, IsReplyAt, Leads}
+use Rattle.ov_peer.specs.Asks.{Along, Ask, Leads}
+use Rattle.ov_peer.specs.Tells.{IsReplyAt, PeerTells}
 use Rattle.ov_peer.specs.Disks.{MayNeedDisk}
 use Rattle.ov_peer.specs.Exchanges.{Answered}
 use Rattle.ov_protocol.proofs.Leaving.{later-nil, replies_may_make}
@@ -78,13 +79,13 @@ read_asks r file (AsksChunk tries c stored) request is =
     subst (λ (x : Request). updates_asked (Ok x) ≡ []) same refl
 read_asks r file (Ends result) request is = absurd (cc is)
 
-module _ {P : Type 0} (asked : Asked P) (failed : Failed P) (serves : P → Service → Type 0)
-    (alone : IsAlone asked serves) where
+module _ {P : Type 0} (peer : PeerTells P)
+    (alone : IsAlone peer) where
   -- ---- lists of asks
 
-  leads_alone : (asks : List Ask) (p q : P) (v : Service) → Leads asked p asks q → serves p v
-      → (last : Service) × AnsweredAlone v asks last × serves q last
-  leads_alone [] p q v same is = (v, refl, subst (λ x. serves x v) same is)
+  leads_alone : (asks : List Ask) (p q : P) (v : Service) → Leads peer p asks q → peer.serves p v
+      → (last : Service) × AnsweredAlone v asks last × peer.serves q last
+  leads_alone [] p q v same is = (v, refl, subst (λ x. peer.serves x v) same is)
   leads_alone (a ∷ asks) p q v (n, one, rest) is =
       let (made, at_v, goes_on) = alone p n a.request a.reply v one is in
       let (last, more, end) = leads_alone asks n q (later v made) rest goes_on in
@@ -92,7 +93,7 @@ module _ {P : Type 0} (asked : Asked P) (failed : Failed P) (serves : P → Serv
 
   -- whatever came of the ask behind them
   pub asked_alone : (asks : List Ask) (unanswered : Option (List ℕ)) (p q : P) (v : Service)
-      → Leads asked p asks q → serves p v → (last : Service) × AskedAlone v asks unanswered last
+      → Leads peer p asks q → peer.serves p v → (last : Service) × AskedAlone v asks unanswered last
   asked_alone asks None p q v leads is =
       let (last, more, end) = leads_alone asks p q v leads is in (last, (last, more, refl))
   asked_alone asks (Some request) p q v leads is =
@@ -107,7 +108,7 @@ module _ {P : Type 0} (asked : Asked P) (failed : Failed P) (serves : P → Serv
       (histories : List SealedHistory) × Along v asks histories v × AllAre v.history histories
 
   pub read_alone : (r : Reader) (file : List ℕ) (asks : List Ask) (stage last : Stage) (p q : P)
-      (v : Service) → Goes r file stage asks last → Leads asked p asks q → serves p v
+      (v : Service) → Goes r file stage asks last → Leads peer p asks q → peer.serves p v
       → AllAt v asks
   read_alone r file [] stage last p q v goes leads is = ([], refl, tt)
   read_alone r file (a ∷ asks) stage last p q v (next, moves, goes) (n, one, rest) is =
@@ -117,7 +118,7 @@ module _ {P : Type 0} (asked : Asked P) (failed : Failed P) (serves : P → Serv
       (reply_makes v a.request a.reply made at_v) in
       let none : made ≡ [] = sent_makes moves.asks.request made moves.asks.form
       (read_asks r file stage moves.asks.request moves.asks.is_asked) may in
-      let still : serves n v = subst (serves n) (same_left v made none) goes_on in
+      let still : peer.serves n v = subst (peer.serves n) (same_left v made none) goes_on in
       let (histories, along, same) = read_alone r file asks next last n q v goes rest still in
       let nothing : later v [] ≡ v = later-nil v in
       let left : later (later v []) made ≡ v =
@@ -142,12 +143,12 @@ module _ {P : Type 0} (asked : Asked P) (failed : Failed P) (serves : P → Serv
     IsTakenOf p q v result =
         ((a : Answer) × (reply : List ℕ)
         × Answers (served v) request a × (result ≡ take a)
-        × asked p (request_bytes request) reply q × serves q v)
+        × peer.asked p (request_bytes request) reply q × peer.serves q v)
         ⊎ IsCutOff result
 
     replied : (p q : P) (v : Service) (result : Result T OwnerFault) (read : Result Answer ℕ)
-        (answered : Answered asked p q request read) (made : List SealedUpdate)
-        → result ≡ taken take read → serves q (later v made)
+        (answered : Answered peer p q request read) (made : List SealedUpdate)
+        → result ≡ taken take read → peer.serves q (later v made)
         → IsReplyAt v (request_bytes request) answered.reply made
         → IsTakenOf p q v result
     replied p q v result read answered made is goes_on (inr fault) =
@@ -169,11 +170,11 @@ module _ {P : Type 0} (asked : Asked P) (failed : Failed P) (serves : P → Serv
           at_v,
           is ∙ ap (taken take) (sym answered.reads ∙ reads_as),
           answered.sent,
-          subst (serves q) (same_left v made none) goes_on,
+          subst (peer.serves q) (same_left v made none) goes_on,
         )
 
     pub once_alone : (p q : P) (v : Service) (result : Result T OwnerFault)
-        → AsksOnce asked failed p q request take result → serves p v → IsTakenOf p q v result
+        → AsksOnce peer p q request take result → peer.serves p v → IsTakenOf p q v result
     once_alone p q v result (inl (read, answered, is)) serving =
         let (made, at_v, goes_on) =
         alone p q (request_bytes request) answered.reply v answered.sent serving in

@@ -22,7 +22,6 @@ use Rattle.ov_owner.specs.Errands.{Errand, creating, enrolling, granting, revoki
 use Rattle.ov_owner.specs.Questions.{AsksOnce, names_in, welcome_in}
 use Rattle.ov_owner.specs.Steps.{IsErrandFor}
 use Rattle.ov_owner.specs.declared.fault.OwnerFault.{OwnerFault}
-use Rattle.ov_peer.specs.Asks.{Asked, Failed}
 use Rattle.ov_protocol.specs.Answers.{Answers}
 use Rattle.ov_protocol.specs.Serving.{Service, served}
 use Rattle.ov_script.specs.declared.command.Command.{Command}
@@ -33,6 +32,7 @@ use Rattle.ov_wire.specs.declared.answer.Answer.{Answer}
 use Rattle.ov_wire.specs.declared.answer.Welcome.{Welcome}
 use Rattle.ov_wire.specs.declared.request.Question.TheVariants as questions
 use Rattle.ov_wire.specs.declared.request.Request.TheVariants as requests
+use Rattle.ov_peer.specs.Tells.{PeerTells}
 use Rattle.ov_acts.proofs.AskingAlone.{IsCutOff, IsTakenOf, asked_alone}
 use Rattle.ov_acts.proofs.AskingAlone.{once_alone, read_alone}
 use Rattle.ov_acts.specs.Acts.{GoesOn, Owns, Performs}
@@ -49,34 +49,34 @@ use Rattle.ov_acts.proofs.Called.{IsCalled, answered_by, cut_called, hello_plain
 use Rattle.ov_acts.proofs.Called.{key_plain}
 use Rattle.ov_acts.proofs.Called.{list_plain, names_called, proper_called, read_called, says_so}
 
-module _ {P : Type 0} (asked : Asked P) (failed : Failed P) (serves : P → Service → Type 0)
-    (alone : IsAlone asked serves) (k : Masters) (h : PlainHistory) (v : Service)
+module _ {P : Type 0} (peer : PeerTells P)
+    (alone : IsAlone peer) (k : Masters) (h : PlainHistory) (v : Service)
     (store : IsStoreOf k h v) where
   abbrev Disk : P → P → Type 0
-  Disk p q = FailsDisk asked serves p q
+  Disk p q = FailsDisk peer p q
 
   -- ---- an owner's calls
 
   update_called : (command : Command) (e : Errand) (p q : P) (result : Result ℕ OwnerFault)
-      → IsErrandFor k.base command e → Runs asked failed k.surface e p q result → serves p v
+      → IsErrandFor k.base command e → Runs peer k.surface e p q result → peer.serves p v
       → IsCalled (Disk p q) result
   update_called command e p q result is runs serving =
       let (m, leads, ends) = runs.are_asks in
       let (last, at_it) =
-      asked_alone asked failed serves alone runs.asks runs.unanswered p m v leads serving in
+      asked_alone peer alone runs.asks runs.unanswered p m v leads serving in
       proper_called (Disk p q) result
       (talks_are_proper k command e runs.asks runs.unanswered result v last h is runs.talks
       store.surface store.legal store.history at_it)
       (λ device.
-      update_fails asked failed serves alone k.surface command e k.base is p q v
-      (subst (λ (x : Result ℕ OwnerFault). Runs asked failed k.surface e p q x) device runs)
+      update_fails peer alone k.surface command e k.base is p q v
+      (subst (λ (x : Result ℕ OwnerFault). Runs peer k.surface e p q x) device runs)
       serving)
 
   list_called : (file : List ℕ) (p q : P) (result : Result (List (List ℕ)) OwnerFault)
-      → IsName file → AsksOnce asked failed p q (requests.List file) names_in result → serves p v
+      → IsName file → AsksOnce peer p q (requests.List file) names_in result → peer.serves p v
       → IsCalled (Disk p q) result
   list_called file p q result named asks serving =
-      elim (once_alone asked failed serves alone (requests.List file) names_in
+      elim (once_alone peer alone (requests.List file) names_in
       (list_plain file named) p q v result asks serving) [
         | inl (a, reply, at_v, is, sent, still) ↦ subst (IsCalled (Disk p q)) (sym is)
             (names_called (Disk p q) (served v).catalogue
@@ -86,10 +86,10 @@ module _ {P : Type 0} (asked : Asked P) (failed : Failed P) (serves : P → Serv
 
   client_called : (user : List ℕ) (p q : P) (result : Result Reader OwnerFault)
       → IsName user
-      → AsksOnce asked failed p q (requests.Ask (questions.Key user)) (reader_in k user) result
-      → serves p v → IsCalled (Disk p q) result
+      → AsksOnce peer p q (requests.Ask (questions.Key user)) (reader_in k user) result
+      → peer.serves p v → IsCalled (Disk p q) result
   client_called user p q result named asks serving =
-      elim (once_alone asked failed serves alone (requests.Ask (questions.Key user))
+      elim (once_alone peer alone (requests.Ask (questions.Key user))
       (reader_in k user) (key_plain user named) p q v result asks serving) [
         | inl (a, reply, at_v, is, sent, still) ↦ subst (IsCalled (Disk p q)) (sym is)
             (key_called (Disk p q) k (served v).catalogue user a at_v)
@@ -97,7 +97,7 @@ module _ {P : Type 0} (asked : Asked P) (failed : Failed P) (serves : P → Serv
       ]
 
   performed : (act : Act) (bytes : List ℕ) (p q : P) (outcome : Outcome) → AsksByName act
-      → Performs asked failed k act bytes p q outcome → serves p v → IsAnsweredOr (Disk p q) outcome
+      → Performs peer k act bytes p q outcome → peer.serves p v → IsAnsweredOr (Disk p q) outcome
   performed (acts.Enrol user) bytes p q outcome named (result, runs, says) serving =
       says_so (Disk p q) update_line result outcome
       (update_called (commands.Enrol user) (enrolling user) p q result refl runs serving) says
@@ -134,12 +134,12 @@ module _ {P : Type 0} (asked : Asked P) (failed : Failed P) (serves : P → Serv
       (ap (λ (b : Bool). admitted_if b) same)
 
   pub owned : (act : Act) (bytes : List ℕ) (p q : P) (outcome : Outcome) → AsksByName act
-      → Owns asked failed k act bytes p q outcome → serves p v → IsAnsweredOr (Disk p q) outcome
+      → Owns peer k act bytes p q outcome → peer.serves p v → IsAnsweredOr (Disk p q) outcome
   owned act bytes p q outcome named (greeting, m, asks, goes) serving =
-      by (once_alone asked failed serves alone requests.Hello welcome_in hello_plain p m v greeting
+      by (once_alone peer alone requests.Hello welcome_in hello_plain p m v greeting
       asks serving) where
         Next : Result (Unit {0}) Stop → Type 0
-        Next found = GoesOn found m q outcome (λ _. Performs asked failed k act bytes m q outcome)
+        Next found = GoesOn found m q outcome (λ _. Performs peer k act bytes m q outcome)
 
         by_cut : (g : Result Welcome OwnerFault) → IsCutOff g → Next (admitted k.base g)
             → IsAnsweredOr (Disk p q) outcome
@@ -152,11 +152,11 @@ module _ {P : Type 0} (asked : Asked P) (failed : Failed P) (serves : P → Serv
             subst (λ (x : Result Welcome OwnerFault). Next (admitted k.base x)) memory next in
             subst (IsAnsweredOr (Disk p q)) (sym stops.1) tt
 
-        by : IsTakenOf asked failed serves alone requests.Hello welcome_in hello_plain p m v
+        by : IsTakenOf peer alone requests.Hello welcome_in hello_plain p m v
             greeting → IsAnsweredOr (Disk p q) outcome
         by (inl (a, reply, at_v, is, sent, still)) =
             answered_by (Disk m q) (Disk p q)
-            (fails_later asked serves p m q (request_bytes requests.Hello) reply sent) outcome
+            (fails_later peer p m q (request_bytes requests.Hello) reply sent) outcome
             (performed act bytes m q outcome named
             (subst Next (ap (admitted k.base) is ∙ welcomed a at_v) goes) still)
         by (inr cut) = by_cut greeting cut goes
@@ -164,17 +164,17 @@ module _ {P : Type 0} (asked : Asked P) (failed : Failed P) (serves : P → Serv
   -- ---- a reader's
 
   pub read_answered : (r : Reader) (file : List ℕ) (p q : P) (result : Result (List ℕ) ClientFault)
-      → HoldsRootKeys k r → HasRoots h r → Reads asked failed p q r file result → serves p v
+      → HoldsRootKeys k r → HasRoots h r → Reads peer p q r file result → peer.serves p v
       → IsAnsweredOr (Disk p q) (read_outcome result)
   read_answered r file p q result holds roots
       (asks, unanswered, (m, leads, ends), (last, goes, closes)) serving =
-      let (histories, along, same) = read_alone asked failed serves alone r file asks
+      let (histories, along, same) = read_alone peer alone r file asks
       (AsksChain [] 0) last p m v goes leads serving in
       read_called (Disk p q) result
       (reads_are_answered k r file asks unanswered result v v histories h holds roots store.surface
       (last, goes, closes) along store.legal
       (subst (λ (g : SealedHistory). AllAre g histories) store.history same))
       (λ device.
-      read_fails asked failed serves alone r file p q v
-      (subst (λ (x : Result (List ℕ) ClientFault). Reads asked failed p q r file x) device
+      read_fails peer alone r file p q v
+      (subst (λ (x : Result (List ℕ) ClientFault). Reads peer p q r file x) device
       (asks, unanswered, (m, leads, ends), (last, goes, closes))) serving)

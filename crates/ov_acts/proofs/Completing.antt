@@ -11,8 +11,8 @@ use Rattle.ov_history.specs.Plain.{PlainHistory}
 use Rattle.ov_keyfile.proofs.Parts.{one_pair}
 use Rattle.ov_keyfile.specs.KeyFile.{IsKeyFile}
 use Rattle.ov_keyfile.specs.declared.masters.Masters.{Masters as ReadMasters}
-use Rattle.ov_peer.specs.Asks.{Asked, Failed}
 use Rattle.ov_protocol.specs.Serving.{Service}
+use Rattle.ov_peer.specs.Tells.{PeerTells}
 use Rattle.ov_acts.proofs.Sources.{same_masters}
 use Rattle.ov_acts.specs.Acts.{Acts, GoesOn, Owns, OwnsBy, ReadsBy, SaysCheck}
 use Rattle.ov_acts.specs.Completeness.{AsksByName, HasFilesFor, HasOwnersFiles, HasReadersLine}
@@ -100,14 +100,14 @@ check_answered disk file k (Err stops.BadKeys) outcome key is e =
 check_answered disk file k (Err stops.Read) outcome key is e = subst (IsAnsweredOr disk) (sym e) tt
 check_answered disk file k (Err stop) outcome key is e = absurd is
 
-module _ {P : Type 0} (asked : Asked P) (failed : Failed P) (serves : P → Service → Type 0)
+module _ {P : Type 0} (peer : PeerTells P)
     (p q : P) (outcome : Outcome) where
   abbrev disk : Type 0
-  disk = FailsDisk asked serves p q
+  disk = FailsDisk peer p q
 
   owner_answered : (act : Act) (keys body : Option (List ℕ)) (k : Masters) (h : PlainHistory)
-      (v : Service) → AsksByName act → OwnsBy asked failed act keys body p q outcome
-      → IsAlone asked serves → serves p v → IsStoreOf k h v → HasOwnersFiles act keys body k
+      (v : Service) → AsksByName act → OwnsBy peer act keys body p q outcome
+      → IsAlone peer → peer.serves p v → IsStoreOf k h v → HasOwnersFiles act keys body k
       → IsAnsweredOr disk outcome
   owner_answered act keys body k h v named (found, is, goes) alone serving store files =
       masters_found disk files.file k found p q outcome _ files.masters
@@ -115,25 +115,25 @@ module _ {P : Type 0} (asked : Asked P) (failed : Failed P) (serves : P → Serv
       (λ masters one (taken, body_is, then).
       body_taken disk act body files.bytes taken p q outcome _ files.stores files.few body_is
       (λ bytes owns.
-      owned asked failed serves alone k h v store act bytes p q outcome named
-      (subst (λ (m : Masters). Owns asked failed m act bytes p q outcome) (sym one) owns) serving)
+      owned peer alone k h v store act bytes p q outcome named
+      (subst (λ (m : Masters). Owns peer m act bytes p q outcome) (sym one) owns) serving)
       then) goes
 
   reader_answered : (file : List ℕ) (keys : Option (List ℕ)) (k : Masters) (h : PlainHistory)
-      (v : Service) → ReadsBy asked failed file keys p q outcome
-      → IsAlone asked serves → serves p v → IsStoreOf k h v → HasReadersLine keys k h
+      (v : Service) → ReadsBy peer file keys p q outcome
+      → IsAlone peer → peer.serves p v → IsStoreOf k h v → HasReadersLine keys k h
       → IsAnsweredOr disk outcome
   reader_answered file keys k h v (found, is, goes) alone serving store has =
       reader_found disk has.line has.reader found p q outcome _ has.is
       (subst (λ (known : Option (List ℕ)). FindsReader known found) has.told is)
       (λ (result, reads, e).
       subst (IsAnsweredOr disk) (sym e)
-      (read_answered asked failed serves alone k h v store has.reader file p q result has.holds
+      (read_answered peer alone k h v store has.reader file p q result has.holds
       has.roots reads serving)) goes
 
   act_answered : (act : Act) (keys body : Option (List ℕ)) (k : Masters) (h : PlainHistory)
-      (v : Service) → AsksByName act → Acts asked failed act keys body p q outcome
-      → IsAlone asked serves → serves p v → IsStoreOf k h v → HasFilesFor act keys body k h
+      (v : Service) → AsksByName act → Acts peer act keys body p q outcome
+      → IsAlone peer → peer.serves p v → IsStoreOf k h v → HasFilesFor act keys body k h
       → IsAnsweredOr disk outcome
   act_answered (acts.Read file) keys body k h v named does alone serving store has =
       reader_answered file keys k h v does alone serving store has
@@ -155,11 +155,11 @@ module _ {P : Type 0} (asked : Asked P) (failed : Failed P) (serves : P → Serv
 
   -- the check value asks no server
   check_done : (act : Act) (keys body : Option (List ℕ)) (k : Masters) → act ≡ acts.Check
-      → Acts asked failed act keys body p q outcome → HasOwnersFiles act keys body k
+      → Acts peer act keys body p q outcome → HasOwnersFiles act keys body k
       → IsAnsweredOr ⊥ outcome
   check_done act keys body k is does has =
       let (same, (found, there, says)) =
-      subst (λ (a : Act). Acts asked failed a keys body p q outcome) is does in
+      subst (λ (a : Act). Acts peer a keys body p q outcome) is does in
       check_answered ⊥ has.file k found outcome has.masters
       (subst (λ (known : Option (List ℕ)). FindsMasters known found) has.told there) says
 
@@ -190,8 +190,8 @@ module _ {P : Type 0} (asked : Asked P) (failed : Failed P) (serves : P → Serv
 
     -- every act over such a server is answered
     pub complete : (act : Act) (keys body : Option (List ℕ)) → AsksByName act
-        → Acts asked failed act keys body p q outcome → PutsOutcome outcome old new status
-        → IsComplete asked serves act keys body p q status
+        → Acts peer act keys body p q outcome → PutsOutcome outcome old new status
+        → IsComplete peer act keys body p q status
     complete act keys body named does puts = record {
       over_server = λ k h v alone serving store has.
           status_answered disk outcome

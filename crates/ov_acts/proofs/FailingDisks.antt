@@ -16,7 +16,8 @@ use Rattle.ov_owner.specs.Talks.{update_request}
 use Rattle.ov_owner.specs.declared.fault.OwnerFault.{OwnerFault}
 use Rattle.ov_owner.specs.declared.fault.OwnerFault.TheVariants as faults
 use Rattle.ov_owner.specs.declared.limits.TheConstants.{MAX_TRIES}
-use Rattle.ov_peer.specs.Asks.{Ask, Asked, EndsAt, Failed, Leads}
+use Rattle.ov_peer.specs.Asks.{Ask, EndsAt, Leads}
+use Rattle.ov_peer.specs.Tells.{PeerTells}
 use Rattle.ov_protocol.proofs.Reading.{replies_are_read}
 use Rattle.ov_protocol.specs.Answers.{Answers}
 use Rattle.ov_protocol.specs.Replies.{Replies}
@@ -114,10 +115,10 @@ update_other s surface tries epoch u answers.NoMemory is = tt
 update_other s surface tries epoch u a is = tt
 
 -- it is so from earlier on
-pub fails_later : {P : Type 0} (asked : Asked P) (serves : P → Service → Type 0) (p m q : P)
+pub fails_later : {P : Type 0} (peer : PeerTells P) (p m q : P)
     (request reply : List ℕ)
-    → asked p request reply m → FailsDisk asked serves m q → FailsDisk asked serves p q
-fails_later asked serves p m q request reply sent f = record {
+    → peer.asked p request reply m → FailsDisk peer m q → FailsDisk peer p q
+fails_later peer p m q request reply sent f = record {
   earlier = record { request = request; reply = reply } ∷ f.earlier;
   before = f.before;
   leads = (m, sent, f.leads);
@@ -133,8 +134,8 @@ fails_later asked serves p m q request reply sent f = record {
   fault = f.fault;
 }
 
-module _ {P : Type 0} (asked : Asked P) (failed : Failed P) (serves : P → Service → Type 0)
-    (alone : IsAlone asked serves) where
+module _ {P : Type 0} (peer : PeerTells P)
+    (alone : IsAlone peer) where
   module _ (surface : List ℕ) (command : Command) (e : Errand) (base : List ℕ)
       (is : IsErrandFor base command e) where
     read_other : (v : Service) (stage : Stage) (request : Request) (reply : List ℕ)
@@ -181,13 +182,14 @@ module _ {P : Type 0} (asked : Asked P) (failed : Failed P) (serves : P → Serv
           (form_of stage a.request moves.asked) bytes refl at_it)
 
     goes_fails : (asks : List Ask) (stage : Stage) (p q : P) (v : Service) → IsOther stage
-        → Goes surface e stage asks (Ends (Err faults.Device)) → Leads asked p asks q → serves p v
-        → FailsDisk asked serves p q
+        → Goes surface e stage asks (Ends (Err faults.Device)) → Leads peer p asks q
+        → peer.serves p v
+        → FailsDisk peer p q
     goes_fails [] stage p q v other goes leads serving = absurd (subst IsOther goes other)
     goes_fails (a ∷ asks) stage p q v other (next, moves, goes) (n, one, rest) serving =
         let (made, at_v, goes_on) = alone p n a.request a.reply v one serving in
         elim at_v [
-          | inl replies ↦ fails_later asked serves p n q a.request a.reply one
+          | inl replies ↦ fails_later peer p n q a.request a.reply one
               (goes_fails asks next n q (later v made)
               (move_other v stage next a made moves replies) goes rest goes_on)
           | inr fault ↦ record {
@@ -208,7 +210,7 @@ module _ {P : Type 0} (asked : Asked P) (failed : Failed P) (serves : P → Serv
         ]
 
     ends_there : (final : Stage) (o : Option (List ℕ)) (m q : P)
-        → Closes surface e final o (Err faults.Device) → EndsAt failed m o q
+        → Closes surface e final o (Err faults.Device) → EndsAt peer m o q
         → (final ≡ Ends (Err faults.Device)) × (m ≡ q)
     ends_there final None m q (inl e) ends = (e, ends)
     ends_there final None m q (inr e) ends = absurd (cc e)
@@ -217,12 +219,12 @@ module _ {P : Type 0} (asked : Asked P) (failed : Failed P) (serves : P → Serv
 
     -- an update that ends so was replied that the disk failed
     pub update_fails : (p q : P) (v : Service)
-        → Runs asked failed surface e p q (Err faults.Device) → serves p v
-        → FailsDisk asked serves p q
+        → Runs peer surface e p q (Err faults.Device) → peer.serves p v
+        → FailsDisk peer p q
     update_fails p q v runs serving =
         let (m, leads, ends) = runs.are_asks in
         let (final, goes, closes) = runs.talks in
         let both = ends_there final runs.unanswered m q closes ends in
-        subst (FailsDisk asked serves p) both.1
+        subst (FailsDisk peer p) both.1
         (goes_fails runs.asks start p m v tt
         (subst (λ (s : Stage). Goes surface e start runs.asks s) both.0 goes) leads serving)

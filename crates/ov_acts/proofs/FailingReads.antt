@@ -18,7 +18,8 @@ use Rattle.ov_client.specs.declared.telling.Fetched.TheVariants.{Bytes}
 use Rattle.ov_fields.specs.Fronts.{AreAllBytes}
 use Rattle.ov_history.specs.Catalogue.{Filed}
 use Rattle.ov_owner.specs.Talks.{start}
-use Rattle.ov_peer.specs.Asks.{Ask, Asked, EndsAt, Failed, Leads}
+use Rattle.ov_peer.specs.Asks.{Ask, EndsAt, Leads}
+use Rattle.ov_peer.specs.Tells.{PeerTells}
 use Rattle.ov_protocol.proofs.Reading.{replies_are_read}
 use Rattle.ov_protocol.specs.Answers.{Answers}
 use Rattle.ov_protocol.specs.Reading.{AnswersChunk}
@@ -109,8 +110,8 @@ chunk_other s r tries c stored answers.DeviceFault is =
 chunk_other s r tries c stored answers.NoMemory is = tt
 chunk_other s r tries c stored a is = tt
 
-module _ {P : Type 0} (asked : Asked P) (failed : Failed P) (serves : P → Service → Type 0)
-    (alone : IsAlone asked serves) (r : Reader) (file : List ℕ) where
+module _ {P : Type 0} (peer : PeerTells P)
+    (alone : IsAlone peer) (r : Reader) (file : List ℕ) where
   read_other : (v : Service) (stage : ReadStage) (request : Request) (reply : List ℕ)
       (made : List SealedUpdate) (read : Result Answer ℕ)
       → read_asked_at r file stage ≡ Some request → HasRequestForm request
@@ -151,13 +152,13 @@ module _ {P : Type 0} (asked : Asked P) (failed : Failed P) (serves : P → Serv
         at_it)
 
   goes_fails : (asks : List Ask) (stage : ReadStage) (p q : P) (v : Service) → IsOther stage
-      → ReadGoes r file stage asks (ReadEnds (Err client.Device)) → Leads asked p asks q
-      → serves p v → FailsDisk asked serves p q
+      → ReadGoes r file stage asks (ReadEnds (Err client.Device)) → Leads peer p asks q
+      → peer.serves p v → FailsDisk peer p q
   goes_fails [] stage p q v other goes leads serving = absurd (subst IsOther goes other)
   goes_fails (a ∷ asks) stage p q v other (next, moves, goes) (n, one, rest) serving =
       let (made, at_v, goes_on) = alone p n a.request a.reply v one serving in
       elim at_v [
-        | inl replies ↦ fails_later asked serves p n q a.request a.reply one
+        | inl replies ↦ fails_later peer p n q a.request a.reply one
             (goes_fails asks next n q (later v made)
             (move_other v stage next a made moves replies) goes rest goes_on)
         | inr fault ↦ record {
@@ -178,7 +179,7 @@ module _ {P : Type 0} (asked : Asked P) (failed : Failed P) (serves : P → Serv
       ]
 
   ends_there : (final : ReadStage) (o : Option (List ℕ)) (m q : P)
-      → ReadCloses r file final o (Err client.Device) → EndsAt failed m o q
+      → ReadCloses r file final o (Err client.Device) → EndsAt peer m o q
       → (final ≡ ReadEnds (Err client.Device)) × (m ≡ q)
   ends_there final None m q (inl e) ends = (e, ends)
   ends_there final None m q (inr e) ends = absurd (cc e)
@@ -186,11 +187,11 @@ module _ {P : Type 0} (asked : Asked P) (failed : Failed P) (serves : P → Serv
   ends_there final (Some frame) m q (due, inr e) ends = absurd (cc e)
 
   -- a read that ends so was replied that the disk failed
-  pub read_fails : (p q : P) (v : Service) → Reads asked failed p q r file (Err client.Device)
-      → serves p v → FailsDisk asked serves p q
+  pub read_fails : (p q : P) (v : Service) → Reads peer p q r file (Err client.Device)
+      → peer.serves p v → FailsDisk peer p q
   read_fails p q v (asks, unanswered, (m, leads, ends), (final, goes, closes)) serving =
       let both = ends_there final unanswered m q closes ends in
-      subst (FailsDisk asked serves p) both.1
+      subst (FailsDisk peer p) both.1
       (goes_fails asks (AsksChain [] 0) p m v tt
       (subst (λ (s : ReadStage). ReadGoes r file (AsksChain [] 0) asks s) both.0 goes) leads
       serving)

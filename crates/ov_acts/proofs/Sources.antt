@@ -7,11 +7,11 @@ use Rattle.ov_client.specs.Readers.{Reader}
 use Rattle.ov_history.specs.Masters.{Masters}
 use Rattle.ov_keyfile.specs.KeyFile.{HasMasters, IsKeyFile}
 use Rattle.ov_keyfile.specs.declared.masters.Masters.{Masters as ReadMasters}
-use Rattle.ov_peer.specs.Asks.{Asked, Failed}
 use Rattle.ov_acts.specs.Acts.{Acts, GoesOn, SaysCheck}
 use Rattle.ov_acts.specs.Causes.{HasKeys, NeedsKeys}
 use Rattle.ov_acts.specs.Files.{FindsBody, FindsMasters, FindsReader, plain_masters}
 use Rattle.ov_protocol.specs.Serving.{Service}
+use Rattle.ov_peer.specs.Tells.{PeerTells}
 use Rattle.ov_acts.specs.Machine.{OwnersAsMachine, OwnsAsMachine, StoresBytes}
 use Rattle.ov_acts.specs.Printing.{PutsOutcome}
 use Rattle.ov_acts.specs.Stops.{Outcome}
@@ -107,10 +107,10 @@ no_check file (Err stops.Damaged) p q outcome none is same says = absurd is
 no_check file (Err stops.Unsettled) p q outcome none is same says = absurd is
 no_check file (Err stops.TooLong) p q outcome none is same says = absurd is
 
-module _ {P : Type 0} (asked : Asked P) (failed : Failed P) where
+module _ {P : Type 0} (peer : PeerTells P) where
   -- without keys nothing is asked
   no_keys : (act : Act) (file : List ℕ) (body : Option (List ℕ)) (p q : P) (outcome : Outcome)
-      → (HasKeys act file → ⊥) → Acts asked failed act (Some file) body p q outcome
+      → (HasKeys act file → ⊥) → Acts peer act (Some file) body p q outcome
       → StopsThere p q outcome
   no_keys (acts.Read name) file body p q outcome none (found, is, goes) =
       no_reader file found p q outcome _ none is goes
@@ -141,7 +141,7 @@ module _ {P : Type 0} (asked : Asked P) (failed : Failed P) where
   -- an act needs its keys
   pub needs_keys : (act : Act) (keys body : Option (List ℕ)) (p q : P) (outcome : Outcome)
       (old new : Option (List ℕ)) (status : ℕ)
-      → Acts asked failed act keys body p q outcome → PutsOutcome outcome old new status
+      → Acts peer act keys body p q outcome → PutsOutcome outcome old new status
       → NeedsKeys act keys p q status
   needs_keys act None body p q outcome old new status does puts = tt
   needs_keys act (Some file) body p q outcome old new status does puts = λ none.

@@ -2,6 +2,7 @@
 use Rattle.std.proofs.Common.{◌≡◌, ◌⊎◌, ℕ, List, Option, Some, None, Ok, inl, inr, length, refl, subst, sym}
 use Rattle.std.specs.Prelude.{◌<◌, IfSome, ⊤}
 use Rattle.ov_io.specs.Calls.{TakesWhile}
+use Rattle.ov_io.specs.Tells.{SourceTells}
 use Rattle.ov_io.proofs.Pieces.{while_as}
 use Rattle.ov_keyfile.specs.declared.masters.Masters.{Masters as ReadMasters}
 use Rattle.ov_acts.specs.Causes.{HasKeys, IsCreation, TakesFiles, TakesUpTo, most_bytes, most_keys}
@@ -10,13 +11,13 @@ use Rattle.ov_acts.specs.declared.job.Act.{Act}
 use Rattle.ov_acts.specs.declared.job.Act.TheVariants as acts
 
 -- whether the call failed or not
-pub takes_so : {S : Type 0} (takes : S → S → Type 0) (left : S → Option (List ℕ)) (size most : ℕ)
+pub takes_so : {S : Type 0} (tells : SourceTells S) (size most : ℕ)
     (failed : Type 0) (old new : S) → size ≡ most
-    → TakesWhile takes left (λ seen. length seen < size) ⊤ failed old new
-    → TakesUpTo takes left most old new
-takes_so {S} takes left size most failed old new e t =
-    while_as takes left (λ seen. length seen < most) ⊤ ⊤ failed ⊥ old new (λ x. x) (λ x. absurd x)
-    (subst (λ (n : ℕ). TakesWhile takes left (λ seen. length seen < n) ⊤ failed old new) e t)
+    → TakesWhile tells (λ seen. length seen < size) ⊤ failed old new
+    → TakesUpTo tells most old new
+takes_so {S} tells size most failed old new e t =
+    while_as tells (λ seen. length seen < most) ⊤ ⊤ failed ⊥ old new (λ x. x) (λ x. absurd x)
+    (subst (λ (n : ℕ). TakesWhile tells (λ seen. length seen < n) ⊤ failed old new) e t)
 
 -- a creation takes from its body, or doesn't
 pub created_takes : (same takes : Type 0) (act : Act) (file : List ℕ) (list : List (List ℕ))
@@ -43,12 +44,11 @@ keys_hold (acts.Key user) (Some file) masters owns found =
 keys_hold (acts.Read name) (Some file) masters owns found = absurd owns
 keys_hold acts.Check (Some file) masters owns found = absurd owns
 
-module _ {K B : Type 0} (keys_takes : K → K → Type 0) (keys_left : K → Option (List ℕ))
-    (body_takes : B → B → Type 0) (body_left : B → Option (List ℕ)) where
+module _ {K B : Type 0} (keys_tells : SourceTells K) (body_tells : SourceTells B) where
   -- an owner's act whose body wasn't touched
   pub keys_alone : (act : Act) (k k_after : K) (b b_after : B) → IsOwners act
-      → TakesUpTo keys_takes keys_left 131 k k_after → b_after ≡ b
-      → TakesFiles keys_takes keys_left body_takes body_left act k k_after b b_after
+      → TakesUpTo keys_tells 131 k k_after → b_after ≡ b
+      → TakesFiles keys_tells body_tells act k k_after b b_after
   keys_alone (acts.Enrol user) k k_after b b_after owns takes same =
       record { keys = takes; body = inl same }
   keys_alone (acts.Grant user name) k k_after b b_after owns takes same =
@@ -66,21 +66,21 @@ module _ {K B : Type 0} (keys_takes : K → K → Type 0) (keys_left : K → Opt
 
   -- an act that has no body
   pub keys_only : (act : Act) (most : ℕ) (k k_after : K) (b : B) → most_keys act ≡ most
-      → TakesUpTo keys_takes keys_left most k k_after
-      → TakesFiles keys_takes keys_left body_takes body_left act k k_after b b
+      → TakesUpTo keys_tells most k k_after
+      → TakesFiles keys_tells body_tells act k k_after b b
   keys_only act most k k_after b e takes = record {
-    keys = subst (λ (n : ℕ). TakesUpTo keys_takes keys_left n k k_after) (sym e) takes;
+    keys = subst (λ (n : ℕ). TakesUpTo keys_tells n k k_after) (sym e) takes;
     body = inl refl;
   }
 
   -- one whose masters were found
   pub both_files : (act : Act) (k k_after : K) (b b_after : B) (masters : ReadMasters)
-      → IsOwners act → FindsMasters (keys_left k) (Ok masters)
-      → TakesUpTo keys_takes keys_left 131 k k_after
-      → (b_after ≡ b) ⊎ (IsCreation act × TakesUpTo body_takes body_left most_bytes b b_after)
-      → TakesFiles keys_takes keys_left body_takes body_left act k k_after b b_after
+      → IsOwners act → FindsMasters (keys_tells.left k) (Ok masters)
+      → TakesUpTo keys_tells 131 k k_after
+      → (b_after ≡ b) ⊎ (IsCreation act × TakesUpTo body_tells most_bytes b b_after)
+      → TakesFiles keys_tells body_tells act k k_after b b_after
   both_files act k k_after b b_after masters owns found takes (inl same) =
       keys_alone act k k_after b b_after owns takes same
   both_files act k k_after b b_after masters owns found takes (inr (stores, more)) =
       let first = keys_alone act k k_after b b owns takes refl in
-      record { keys = first.keys; body = inr (stores, keys_hold act (keys_left k) masters owns found, more) }
+      record { keys = first.keys; body = inr (stores, keys_hold act (keys_tells.left k) masters owns found, more) }

@@ -14,12 +14,12 @@ use Rattle.ov_owner.specs.Clients.{reader_in}
 use Rattle.ov_owner.specs.Errands.{creating, enrolling, granting, revoking}
 use Rattle.ov_owner.specs.Questions.{AsksOnce, names_in, welcome_in}
 use Rattle.ov_owner.specs.declared.fault.OwnerFault.{OwnerFault}
-use Rattle.ov_peer.specs.Asks.{Asked, Failed}
 use Rattle.ov_script.specs.Lines.{reply_line}
 use Rattle.ov_script.specs.declared.reply.Reply.TheVariants as replies
 use Rattle.ov_wire.specs.declared.answer.Welcome.{Welcome}
 use Rattle.ov_wire.specs.declared.request.Question.TheVariants as questions
 use Rattle.ov_wire.specs.declared.request.Request.TheVariants as requests
+use Rattle.ov_peer.specs.Tells.{PeerTells}
 use Rattle.ov_acts.specs.Files.{FindsBody, FindsMasters, FindsReader, plain_masters}
 use Rattle.ov_acts.specs.Stops.{Outcome, stop_of_client, stop_of_owner}
 use Rattle.ov_acts.specs.declared.job.Act.{Act}
@@ -84,31 +84,31 @@ abbrev pub admitted : List ℕ → Result Welcome OwnerFault → Result (Unit {0
 admitted base (Ok welcome) = admitted_if (bytes_eq welcome.base_check (check_value_of base))
 admitted base (Err fault) = Err (stop_of_owner fault)
 
-module _ {P : Type 0} (asked : Asked P) (failed : Failed P) where
+module _ {P : Type 0} (peer : PeerTells P) where
   -- the owner with these masters makes the call of the act, and this comes of it
   abbrev pub Performs : Masters → Act → List ℕ → P → P → Outcome → Type 0
   Performs k (Enrol user) bytes p q outcome =
       (result : Result ℕ OwnerFault)
-      × Runs asked failed k.surface (enrolling user) p q result × Says update_line result outcome
+      × Runs peer k.surface (enrolling user) p q result × Says update_line result outcome
   Performs k (Grant user file) bytes p q outcome =
       (result : Result ℕ OwnerFault)
-      × Runs asked failed k.surface (granting k.base user file) p q result
+      × Runs peer k.surface (granting k.base user file) p q result
       × Says update_line result outcome
   Performs k (Revoke user file) bytes p q outcome =
       (result : Result ℕ OwnerFault)
-      × Runs asked failed k.surface (revoking user file) p q result
+      × Runs peer k.surface (revoking user file) p q result
       × Says update_line result outcome
   Performs k (Create file list) bytes p q outcome =
       (result : Result ℕ OwnerFault)
-      × Runs asked failed k.surface (creating k.base file list bytes) p q result
+      × Runs peer k.surface (creating k.base file list bytes) p q result
       × Says update_line result outcome
   Performs k (ListNames file) bytes p q outcome =
       (result : Result (List (List ℕ)) OwnerFault)
-      × AsksOnce asked failed p q (requests.List file) names_in result
+      × AsksOnce peer p q (requests.List file) names_in result
       × Says (list_line file) result outcome
   Performs k (Key user) bytes p q outcome =
       (result : Result Reader OwnerFault)
-      × AsksOnce asked failed p q (requests.Ask (questions.Key user)) (reader_in k user) result
+      × AsksOnce peer p q (requests.Ask (questions.Key user)) (reader_in k user) result
       × Says key_line result outcome
   Performs k (Read file) bytes p q outcome = ⊥
   Performs k Check bytes p q outcome = ⊥
@@ -118,7 +118,7 @@ module _ {P : Type 0} (asked : Asked P) (failed : Failed P) where
   abbrev pub Owns : Masters → Act → List ℕ → P → P → Outcome → Type 0
   Owns k act bytes p q outcome =
       (greeting : Result Welcome OwnerFault) × (m : P)
-      × AsksOnce asked failed p m requests.Hello welcome_in greeting
+      × AsksOnce peer p m requests.Hello welcome_in greeting
       × GoesOn (admitted k.base greeting) m q outcome (λ _. Performs k act bytes m q outcome)
 
   -- nothing is asked until the masters are there and, behind them, the bytes to be stored
@@ -137,7 +137,7 @@ module _ {P : Type 0} (asked : Asked P) (failed : Failed P) where
   ReadsBy file keys p q outcome =
       (found : Result Reader Stop) × FindsReader keys found
       × GoesOn found p q outcome (λ r.
-      (result : Result (List ℕ) ClientFault) × Reads asked failed p q r file result
+      (result : Result (List ℕ) ClientFault) × Reads peer p q r file result
       × (outcome ≡ read_outcome result))
 
   -- what is asked of a peer for an act, and what comes of it

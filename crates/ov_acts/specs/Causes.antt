@@ -4,6 +4,7 @@ use Rattle.ov_base.specs.declared.limits.TheConstants.{MAX_FILE_BYTES}
 use Rattle.ov_client.specs.KeyLines.{IsLineOf}
 use Rattle.ov_client.specs.Readers.{Reader}
 use Rattle.ov_io.specs.Calls.{TakesWhile}
+use Rattle.ov_io.specs.Tells.{SourceTells}
 use Rattle.ov_keyfile.specs.KeyFile.{HasMasters}
 use Rattle.ov_acts.specs.declared.job.Act.{Act}
 use Rattle.ov_acts.specs.declared.job.Act.TheVariants.{Create, Read}
@@ -61,21 +62,18 @@ abbrev pub most_bytes : ℕ
 most_bytes = MAX_FILE_BYTES + 1
 
 -- a source is taken from only while so many bytes haven't come, and not again once it gave nothing
-abbrev pub TakesUpTo : {S : Type 0} → (S → S → Type 0) → (S → Option (List ℕ)) → ℕ → S → S
-    → Type 0
-TakesUpTo takes left most old new = TakesWhile takes left (λ seen. length seen < most) ⊤ ⊥ old new
+abbrev pub TakesUpTo : {S : Type 0} → SourceTells S → ℕ → S → S → Type 0
+TakesUpTo tells most old new = TakesWhile tells (λ seen. length seen < most) ⊤ ⊥ old new
 
 -- The file to be stored is taken from only for a creation, and only once the file of keys was found
 -- to be of its form.
-abbrev pub TakesBody : {S : Type 0} → (S → S → Type 0) → (S → Option (List ℕ)) → Act
-    → Option (List ℕ) → S → S → Type 0
-TakesBody takes left act keys old new =
+abbrev pub TakesBody : {S : Type 0} → SourceTells S → Act → Option (List ℕ) → S → S → Type 0
+TakesBody tells act keys old new =
     (new ≡ old)
-    ⊎ (IsCreation act × IfSome keys (HasKeys act) × TakesUpTo takes left most_bytes old new)
+    ⊎ (IsCreation act × IfSome keys (HasKeys act) × TakesUpTo tells most_bytes old new)
 
 -- what an act takes of its two files
-pub record TakesFiles {K B : Type 0} (keys_takes : K → K → Type 0) (keys_left : K → Option (List ℕ))
-    (body_takes : B → B → Type 0) (body_left : B → Option (List ℕ)) (act : Act)
-    (k k_after : K) (b b_after : B) : Type 0 where
-  pub keys : TakesUpTo keys_takes keys_left (most_keys act) k k_after
-  pub body : TakesBody body_takes body_left act (keys_left k) b b_after
+pub record TakesFiles {K B : Type 0} (keys_tells : SourceTells K) (body_tells : SourceTells B)
+    (act : Act) (k k_after : K) (b b_after : B) : Type 0 where
+  pub keys : TakesUpTo keys_tells (most_keys act) k k_after
+  pub body : TakesBody body_tells act (keys_tells.left k) b b_after

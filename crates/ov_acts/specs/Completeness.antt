@@ -11,8 +11,9 @@ use Rattle.ov_history.specs.Plain.{PlainHistory, history_of}
 use Rattle.ov_history.specs.Refusals.{IsLegal}
 use Rattle.ov_history.specs.Sealing.{sealed}
 use Rattle.ov_keyfile.specs.KeyFile.{IsKeyFile}
-use Rattle.ov_peer.specs.Asks.{Ask, Asked, IsReplyAt, Leads}
+use Rattle.ov_peer.specs.Asks.{Ask, Leads}
 use Rattle.ov_peer.specs.Disks.{IsDiskFault}
+use Rattle.ov_peer.specs.Tells.{IsReplyAt, PeerTells}
 use Rattle.ov_protocol.specs.Serving.{Service, later, served}
 use Rattle.ov_record.specs.Updates.{SealedUpdate}
 use Rattle.ov_acts.specs.Machine.{StoresBytes}
@@ -25,27 +26,26 @@ use Rattle.ov_acts.specs.declared.stop.Stop.TheVariants as stops
 
 -- Nobody else updates what this peer serves: whatever it is asked, it replies by just the history
 -- that it serves, or that its disk failed, and then serves that with what the request made.
-abbrev pub IsAlone : {P : Type 0} → Asked P → (P → Service → Type 0) → Type 0
-IsAlone {P} asked serves =
+abbrev pub IsAlone : {P : Type 0} → PeerTells P → Type 0
+IsAlone {P} peer =
     (p q : P) (request reply : List ℕ) (v : Service)
-    → asked p request reply q → serves p v
-    → (made : List SealedUpdate) × IsReplyAt v request reply made × serves q (later v made)
+    → peer.asked p request reply q → peer.serves p v
+    → (made : List SealedUpdate) × IsReplyAt v request reply made × peer.serves q (later v made)
 
 -- Between the one value of the peer and the other it replied that its disk failed, to an ask that
 -- needs the disk at what it served.
-pub record FailsDisk {P : Type 0} (asked : Asked P) (serves : P → Service → Type 0) (p q : P)
-    : Type 0 where
+pub record FailsDisk {P : Type 0} (peer : PeerTells P) (p q : P) : Type 0 where
   pub earlier : List Ask
   pub before : P
-  pub leads : Leads asked p earlier before
+  pub leads : Leads peer p earlier before
   pub request : List ℕ
   pub reply : List ℕ
   pub after : P
-  pub asks : asked before request reply after
+  pub asks : peer.asked before request reply after
   pub more : List Ask
-  pub goes_on : Leads asked after more q
+  pub goes_on : Leads peer after more q
   pub service : Service
-  pub serving : serves before service
+  pub serving : peer.serves before service
   pub made : List SealedUpdate
   pub fault : IsDiskFault (served service) request reply made
 
@@ -95,11 +95,11 @@ IsAnswered disk status =
 -- So every act ends over a server that nobody else updates, with right files: its keys are those of
 -- the store, each reply is an answer, no file is damaged, and one try is enough. The check value
 -- needs the key file alone.
-pub record IsComplete {P : Type 0} (asked : Asked P) (serves : P → Service → Type 0) (act : Act)
+pub record IsComplete {P : Type 0} (peer : PeerTells P) (act : Act)
     (keys body : Option (List ℕ)) (p q : P) (status : ℕ) : Type 0 where
   pub over_server : (k : Masters) (h : PlainHistory) (v : Service)
-      → IsAlone asked serves → serves p v → IsStoreOf k h v → HasFilesFor act keys body k h
-      → IsAnswered (FailsDisk asked serves p q) status
+      → IsAlone peer → peer.serves p v → IsStoreOf k h v → HasFilesFor act keys body k h
+      → IsAnswered (FailsDisk peer p q) status
   pub check : (k : Masters) → act ≡ Check → HasOwnersFiles act keys body k → IsAnswered ⊥ status
 
 -- ---- inner: no public contract needs the rest

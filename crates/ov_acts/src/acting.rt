@@ -30,11 +30,11 @@ use std::alloc::Global;
 
 /// The bytes that an act stores.
 fn body_of<B: Source>(alloc: Global, act: &Act, body: &mut B) -> Result<Octets, Stop>
-    ensures found { FindsBody act.now (B.left body.old) result }
-    ensures cause { StopsFor (Rose (B.faults body.old) (B.faults body.new)) ⊥ ⊥
-        (StoresTooMany act.now (B.left body.old)) result }
+    ensures found { FindsBody act.now (B.tells.left body.old) result }
+    ensures cause { StopsFor (Rose (B.tells.faults body.old) (B.tells.faults body.new)) ⊥ ⊥
+        (StoresTooMany act.now (B.tells.left body.old)) result }
     ensures takes { (body.new ≡ body.old)
-        ⊎ (IsCreation act.now × TakesUpTo B.takes B.left most_bytes body.old body.new) }
+        ⊎ (IsCreation act.now × TakesUpTo B.tells most_bytes body.old body.new) }
 {
     match act {
         Act::Create { file: _, list: _ } => bytes_of(alloc, body),
@@ -52,17 +52,17 @@ fn own<K: Source, B: Source, P: Peer>(
 ) -> Result<Octets, Stop>
     requires owners { IsOwners act.now }
     requires list { HasListLimits act.now }
-    ensures acts { OwnsBy P.asked P.failed act.now (K.left keys.old) (B.left body.old)
+    ensures acts { OwnsBy P.tells act.now (K.tells.left keys.old) (B.tells.left body.old)
         peer.old peer.new result }
-    ensures told { (v : Service) → P.serves peer.old v → OwnersAsMachine act.now (K.left keys.old)
-        (B.left body.old) v (P.serves peer.new) result }
-    ensures cause { StopsFor (Rose (K.faults keys.old) (K.faults keys.new)
-        ⊎ Rose (B.faults body.old) (B.faults body.new))
-        (Rose (P.faults peer.old) (P.faults peer.new))
-        (IfSome (K.left keys.old) (λ file. HasMasters file → ⊥))
-        (StoresTooMany act.now (B.left body.old)) result }
-    ensures files { TakesFiles K.takes K.left B.takes B.left act.now keys.old keys.new
-        body.old body.new }
+    ensures told { (v : Service) → P.tells.serves peer.old v
+        → OwnersAsMachine act.now (K.tells.left keys.old) (B.tells.left body.old) v
+        (P.tells.serves peer.new) result }
+    ensures cause { StopsFor (Rose (K.tells.faults keys.old) (K.tells.faults keys.new)
+        ⊎ Rose (B.tells.faults body.old) (B.tells.faults body.new))
+        (Rose (P.tells.faults peer.old) (P.tells.faults peer.new))
+        (IfSome (K.tells.left keys.old) (λ file. HasMasters file → ⊥))
+        (StoresTooMany act.now (B.tells.left body.old)) result }
+    ensures files { TakesFiles K.tells B.tells act.now keys.old keys.new body.old body.new }
 {
     one_pair_of_masters();
     let masters = match masters_of(keys) {
@@ -84,13 +84,13 @@ fn read<K: Source, P: Peer>(
     keys: &mut K,
     peer: &mut P,
 ) -> Result<Octets, Stop>
-    ensures acts { ReadsBy P.asked P.failed file.now (K.left keys.old) peer.old peer.new result }
-    ensures told { (v : Service) → P.serves peer.old v
-        → ReadersAsMachine file.now (K.left keys.old) v (P.serves peer.new) result }
-    ensures cause { StopsFor (Rose (K.faults keys.old) (K.faults keys.new))
-        (Rose (P.faults peer.old) (P.faults peer.new))
-        (IfSome (K.left keys.old) (λ line. ((r : Reader) × IsLineOf line r) → ⊥)) ⊥ result }
-    ensures takes { TakesUpTo K.takes K.left 206 keys.old keys.new }
+    ensures acts { ReadsBy P.tells file.now (K.tells.left keys.old) peer.old peer.new result }
+    ensures told { (v : Service) → P.tells.serves peer.old v
+        → ReadersAsMachine file.now (K.tells.left keys.old) v (P.tells.serves peer.new) result }
+    ensures cause { StopsFor (Rose (K.tells.faults keys.old) (K.tells.faults keys.new))
+        (Rose (P.tells.faults peer.old) (P.tells.faults peer.new))
+        (IfSome (K.tells.left keys.old) (λ line. ((r : Reader) × IsLineOf line r) → ⊥)) ⊥ result }
+    ensures takes { TakesUpTo K.tells 206 keys.old keys.new }
 {
     asks_are_told::<P>();
     reads_are_the_machines();
@@ -118,10 +118,10 @@ fn line_on_check(alloc: Global, value: &[u8; 32]) -> Result<Octets, Memory>
 
 /// Gives the base master's check value.
 fn check<K: Source>(alloc: Global, keys: &mut K) -> Result<Octets, Stop>
-    ensures acts { ChecksBy (K.left keys.old) result }
-    ensures cause { StopsFor (Rose (K.faults keys.old) (K.faults keys.new)) ⊥
-        (IfSome (K.left keys.old) (λ file. HasMasters file → ⊥)) ⊥ result }
-    ensures takes { TakesUpTo K.takes K.left 131 keys.old keys.new }
+    ensures acts { ChecksBy (K.tells.left keys.old) result }
+    ensures cause { StopsFor (Rose (K.tells.faults keys.old) (K.tells.faults keys.new)) ⊥
+        (IfSome (K.tells.left keys.old) (λ file. HasMasters file → ⊥)) ⊥ result }
+    ensures takes { TakesUpTo K.tells 131 keys.old keys.new }
 {
     let masters = match masters_of(keys) {
         Ok(masters) => masters,
@@ -142,17 +142,17 @@ fn perform<K: Source, B: Source, P: Peer>(
     peer: &mut P,
 ) -> Result<Octets, Stop>
     requires list { HasListLimits act.now }
-    ensures acts { Acts P.asked P.failed act.now (K.left keys.old) (B.left body.old)
+    ensures acts { Acts P.tells act.now (K.tells.left keys.old) (B.tells.left body.old)
         peer.old peer.new result }
-    ensures told { (v : Service) → P.serves peer.old v → ActsAsMachine act.now (K.left keys.old)
-        (B.left body.old) v (P.serves peer.new) result }
-    ensures cause { StopsFor (Rose (K.faults keys.old) (K.faults keys.new)
-        ⊎ Rose (B.faults body.old) (B.faults body.new))
-        (Rose (P.faults peer.old) (P.faults peer.new))
-        (IfSome (K.left keys.old) (λ bytes. HasKeys act.now bytes → ⊥))
-        (StoresTooMany act.now (B.left body.old)) result }
-    ensures files { TakesFiles K.takes K.left B.takes B.left act.now keys.old keys.new
-        body.old body.new }
+    ensures told { (v : Service) → P.tells.serves peer.old v
+        → ActsAsMachine act.now (K.tells.left keys.old) (B.tells.left body.old) v
+        (P.tells.serves peer.new) result }
+    ensures cause { StopsFor (Rose (K.tells.faults keys.old) (K.tells.faults keys.new)
+        ⊎ Rose (B.tells.faults body.old) (B.tells.faults body.new))
+        (Rose (P.tells.faults peer.old) (P.tells.faults peer.new))
+        (IfSome (K.tells.left keys.old) (λ bytes. HasKeys act.now bytes → ⊥))
+        (StoresTooMany act.now (B.tells.left body.old)) result }
+    ensures files { TakesFiles K.tells B.tells act.now keys.old keys.new body.old body.new }
 {
     match act {
         Act::Check => check(alloc, keys),
@@ -188,21 +188,20 @@ pub fn act<K: Source, B: Source, O: Sink, P: Peer>(
     peer: &mut P,
 ) -> u8
     requires list { HasListLimits job.now.act }
-    ensures ends { Ends P.asked P.failed P.serves job.now.act (K.left keys.old) (B.left body.old)
-        peer.old peer.new (O.written out.old) (O.written out.new) result }
-    ensures keys { NeedsKeys job.now.act (K.left keys.old) peer.old peer.new result }
-    ensures causes { EndsFor result (Rose (K.faults keys.old) (K.faults keys.new)
-        ⊎ Rose (B.faults body.old) (B.faults body.new))
-        (Rose (O.faults out.old) (O.faults out.new))
-        (Rose (P.faults peer.old) (P.faults peer.new))
-        (IfSome (K.left keys.old) (λ bytes. HasKeys job.now.act bytes → ⊥))
-        (StoresTooMany job.now.act (B.left body.old)) }
+    ensures ends { Ends P.tells job.now.act (K.tells.left keys.old) (B.tells.left body.old)
+        peer.old peer.new (O.tells.written out.old) (O.tells.written out.new) result }
+    ensures keys { NeedsKeys job.now.act (K.tells.left keys.old) peer.old peer.new result }
+    ensures causes { EndsFor result (Rose (K.tells.faults keys.old) (K.tells.faults keys.new)
+        ⊎ Rose (B.tells.faults body.old) (B.tells.faults body.new))
+        (Rose (O.tells.faults out.old) (O.tells.faults out.new))
+        (Rose (P.tells.faults peer.old) (P.tells.faults peer.new))
+        (IfSome (K.tells.left keys.old) (λ bytes. HasKeys job.now.act bytes → ⊥))
+        (StoresTooMany job.now.act (B.tells.left body.old)) }
     ensures quiet { (result ≢ 0) → (result ≢ 3) → (result ≢ 6)
-        → Keeps (O.written out.old) (O.written out.new) }
-    ensures files { TakesFiles K.takes K.left B.takes B.left job.now.act keys.old keys.new
-        body.old body.new }
-    ensures complete { IsComplete P.asked P.serves job.now.act (K.left keys.old) (B.left body.old)
-        peer.old peer.new result }
+        → Keeps (O.tells.written out.old) (O.tells.written out.new) }
+    ensures files { TakesFiles K.tells B.tells job.now.act keys.old keys.new body.old body.new }
+    ensures complete { IsComplete P.tells job.now.act (K.tells.left keys.old)
+        (B.tells.left body.old) peer.old peer.new result }
 {
     known_names(&job.act);
     let outcome = perform(alloc, &job.act, keys, body, peer);

@@ -115,11 +115,11 @@ pub fn command<P: Peer>(
     requires owners { IsOwners act.now }
     requires list { HasListLimits act.now }
     requires file { length bytes.now ≤ MAX_FILE_BYTES }
-    ensures performs { Performs P.asked P.failed owner.now act.now bytes.now
-        peer.old peer.new result }
-    ensures told { (v : Service) → P.serves peer.old v → v.surface ≡ owner.now.surface
-        → CommandsAsMachine owner.now act.now bytes.now v (P.serves peer.new) result }
-    ensures cause { StopsFor ⊥ (Rose (P.faults peer.old) (P.faults peer.new)) ⊥ ⊥ result }
+    ensures performs { Performs P.tells owner.now act.now bytes.now peer.old peer.new result }
+    ensures told { (v : Service) → P.tells.serves peer.old v → v.surface ≡ owner.now.surface
+        → CommandsAsMachine owner.now act.now bytes.now v (P.tells.serves peer.new) result }
+    ensures cause { StopsFor ⊥ (Rose (P.tells.faults peer.old) (P.tells.faults peer.new)) ⊥ ⊥
+        result }
 {
     match act {
         Act::Enrol { user } => line_on_update(alloc, owner.enrol(alloc, peer, user)),
@@ -146,10 +146,11 @@ pub fn greet_and_command<P: Peer>(
     requires act { IsOwners act.now × HasListLimits act.now }
     requires file { length bytes.now ≤ MAX_FILE_BYTES }
     requires base { owner.now.base ≡ base.now.bytes }
-    ensures owns { Owns P.asked P.failed owner.now act.now bytes.now peer.old peer.new result }
-    ensures told { (v : Service) → P.serves peer.old v → v.surface ≡ owner.now.surface
-        → OwnsAsMachine owner.now act.now bytes.now v (P.serves peer.new) result }
-    ensures cause { StopsFor ⊥ (Rose (P.faults peer.old) (P.faults peer.new)) ⊥ ⊥ result }
+    ensures owns { Owns P.tells owner.now act.now bytes.now peer.old peer.new result }
+    ensures told { (v : Service) → P.tells.serves peer.old v → v.surface ≡ owner.now.surface
+        → OwnsAsMachine owner.now act.now bytes.now v (P.tells.serves peer.new) result }
+    ensures cause { StopsFor ⊥ (Rose (P.tells.faults peer.old) (P.tells.faults peer.new)) ⊥ ⊥
+        result }
 {
     match admitted(base, owner.hello(alloc, peer)) {
         Ok(()) => command(alloc, owner, act, bytes, peer),

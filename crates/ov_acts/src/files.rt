@@ -24,10 +24,10 @@ const TOO_MANY: usize = 1_048_577;
 
 /// The masters of the key file.
 pub fn masters_of<K: Source>(keys: &mut K) -> Result<Masters, Stop>
-    ensures takes { TakesUpTo K.takes K.left 131 keys.old keys.new }
-    ensures found { FindsMasters (K.left keys.old) result }
-    ensures cause { StopsFor (Rose (K.faults keys.old) (K.faults keys.new)) ⊥
-        (IfSome (K.left keys.old) (λ file. HasMasters file → ⊥)) ⊥ result }
+    ensures takes { TakesUpTo K.tells 131 keys.old keys.new }
+    ensures found { FindsMasters (K.tells.left keys.old) result }
+    ensures cause { StopsFor (Rose (K.tells.faults keys.old) (K.tells.faults keys.new)) ⊥
+        (IfSome (K.tells.left keys.old) (λ file. HasMasters file → ⊥)) ⊥ result }
 {
     match read_masters(keys) {
         Ok(Some(masters)) => Ok(masters),
@@ -38,10 +38,10 @@ pub fn masters_of<K: Source>(keys: &mut K) -> Result<Masters, Stop>
 
 /// The reader of the user key line.
 pub fn client_of<K: Source>(keys: &mut K) -> Result<Client, Stop>
-    ensures takes { TakesUpTo K.takes K.left ENOUGH keys.old keys.new }
-    ensures found { FindsReader (K.left keys.old) result }
-    ensures cause { StopsFor (Rose (K.faults keys.old) (K.faults keys.new)) ⊥
-        (IfSome (K.left keys.old) (λ line. ((r : Reader) × IsLineOf line r) → ⊥)) ⊥ result }
+    ensures takes { TakesUpTo K.tells ENOUGH keys.old keys.new }
+    ensures found { FindsReader (K.tells.left keys.old) result }
+    ensures cause { StopsFor (Rose (K.tells.faults keys.old) (K.tells.faults keys.new)) ⊥
+        (IfSome (K.tells.left keys.old) (λ line. ((r : Reader) × IsLineOf line r) → ⊥)) ⊥ result }
 {
     let mut buffer = [0; ENOUGH];
     match fill(keys, &mut buffer) {
@@ -58,11 +58,10 @@ pub fn client_of<K: Source>(keys: &mut K) -> Result<Client, Stop>
 
 /// The bytes of the file, where they aren't too many.
 pub fn bytes_of<B: Source>(alloc: Global, body: &mut B) -> Result<Octets, Stop>
-    ensures takes { (body.new ≡ body.old)
-        ⊎ TakesUpTo B.takes B.left most_bytes body.old body.new }
-    ensures found { FindsBytes (B.left body.old) result }
-    ensures cause { StopsFor (Rose (B.faults body.old) (B.faults body.new)) ⊥ ⊥
-        (IfSome (B.left body.old) (λ bytes. MAX_FILE_BYTES < length bytes)) result }
+    ensures takes { (body.new ≡ body.old) ⊎ TakesUpTo B.tells most_bytes body.old body.new }
+    ensures found { FindsBytes (B.tells.left body.old) result }
+    ensures cause { StopsFor (Rose (B.tells.faults body.old) (B.tells.faults body.new)) ⊥ ⊥
+        (IfSome (B.tells.left body.old) (λ bytes. MAX_FILE_BYTES < length bytes)) result }
 {
     let mut bytes = match vec![in alloc; 0_u8; TOO_MANY] {
         Ok(bytes) => bytes,

@@ -15,10 +15,10 @@ use std::alloc::Global;
 
 /// Puts the bytes, and gives the status where that succeeds.
 fn put<O: Sink>(out: &mut O, bytes: &[u8], status: Status) -> u8
-    ensures puts { Puts bytes.now (status_code status) (O.written out.old) (O.written out.new)
-        result }
+    ensures puts { Puts bytes.now (status_code status)
+        (O.tells.written out.old) (O.tells.written out.new) result }
     ensures write { status ≢ Status.WriteFault → result ≡ 6
-        → Rose (O.faults out.old) (O.faults out.new) }
+        → Rose (O.tells.faults out.old) (O.tells.faults out.new) }
 {
     match out.put(bytes) {
         Ok(()) => status.code(),
@@ -29,9 +29,9 @@ fn put<O: Sink>(out: &mut O, bytes: &[u8], status: Status) -> u8
 /// Puts the line on a refusal.
 fn put_refusal<O: Sink>(alloc: Global, why: Refusal, out: &mut O) -> u8
     ensures puts { Puts (reply_line (RefusedReply why)) 3
-        (O.written out.old) (O.written out.new) result
-        ⊎ PutsNone 7 (O.written out.old) (O.written out.new) result }
-    ensures write { result ≡ 6 → Rose (O.faults out.old) (O.faults out.new) }
+        (O.tells.written out.old) (O.tells.written out.new) result
+        ⊎ PutsNone 7 (O.tells.written out.old) (O.tells.written out.new) result }
+    ensures write { result ≡ 6 → Rose (O.tells.faults out.old) (O.tells.faults out.new) }
 {
     let mut bytes = Vec::new(alloc);
     match line(&Reply::Refused(why), &mut bytes) {
@@ -42,8 +42,9 @@ fn put_refusal<O: Sink>(alloc: Global, why: Refusal, out: &mut O) -> u8
 
 /// The end of an act that has no result.
 fn stopped<O: Sink>(alloc: Global, stop: Stop, out: &mut O) -> u8
-    ensures puts { PutsOutcome (Err stop) (O.written out.old) (O.written out.new) result }
-    ensures write { result ≡ 6 → Rose (O.faults out.old) (O.faults out.new) }
+    ensures puts { PutsOutcome (Err stop)
+        (O.tells.written out.old) (O.tells.written out.new) result }
+    ensures write { result ≡ 6 → Rose (O.tells.faults out.old) (O.tells.faults out.new) }
     ensures reason { HasReason result (Err stop) }
 {
     match stop {
@@ -54,8 +55,8 @@ fn stopped<O: Sink>(alloc: Global, stop: Stop, out: &mut O) -> u8
 
 /// The end of an act.
 pub fn finish<O: Sink>(alloc: Global, outcome: Result<Octets, Stop>, out: &mut O) -> u8
-    ensures puts { PutsOutcome outcome (O.written out.old) (O.written out.new) result }
-    ensures write { result ≡ 6 → Rose (O.faults out.old) (O.faults out.new) }
+    ensures puts { PutsOutcome outcome (O.tells.written out.old) (O.tells.written out.new) result }
+    ensures write { result ≡ 6 → Rose (O.tells.faults out.old) (O.tells.faults out.new) }
     ensures reason { HasReason result outcome }
 {
     match outcome {

@@ -7,9 +7,9 @@ use Rattle.ov_acts.proofs.acting.own.Goals as goal
 
 pub returns-clause-told : goal.returns-clause-told
 returns-clause-told g c = λ v is.
-    let Then = g.P.Peer.serves c.greet_and_command.new.peer in
+    let Then = g.P.Peer.tells.serves c.greet_and_command.new.peer in
     let outcome = c.greet_and_command.result in
-    owner_told c.args.act.now (g.K.Source.left c.args.keys.now) (g.B.Source.left c.args.body.now) v
+    owner_told c.args.act.now (g.K.Source.tells.left c.args.keys.now) (g.B.Source.tells.left c.args.body.now) v
     Then outcome c.in-Ok.masters c.in-Ok-body_of.bytes c.one_pair_of_masters.ensures
     c.in-Ok.ensures.found c.in-Ok-body_of.ensures.found
     (λ same.
@@ -22,17 +22,17 @@ returns-clause-told g c = λ v is.
 
 pub returns-in-Err-clause-files : goal.returns-in-Err-clause-files
 returns-in-Err-clause-files g c =
-    keys_alone g.K.Source.takes g.K.Source.left g.B.Source.takes g.B.Source.left c.args.act.now _ _
+    keys_alone g.K.Source.tells g.B.Source.tells c.args.act.now _ _
     _ _ c.requires.owners c.masters_of.ensures.takes refl
 
 pub returns-in-Err-body_of-clause-files : goal.returns-in-Err-body_of-clause-files
 returns-in-Err-body_of-clause-files g c =
-    both_files g.K.Source.takes g.K.Source.left g.B.Source.takes g.B.Source.left c.args.act.now _ _
+    both_files g.K.Source.tells g.B.Source.tells c.args.act.now _ _
     _ _ c.in-Ok.masters c.requires.owners c.in-Ok.ensures.found c.masters_of.ensures.takes
     c.body_of.ensures.takes
 
 pub returns-clause-files : goal.returns-clause-files
 returns-clause-files g c =
-    both_files g.K.Source.takes g.K.Source.left g.B.Source.takes g.B.Source.left c.args.act.now _ _
+    both_files g.K.Source.tells g.B.Source.tells c.args.act.now _ _
     _ _ c.in-Ok.masters c.requires.owners c.in-Ok.ensures.found c.masters_of.ensures.takes
     c.body_of.ensures.takes

@@ -6,7 +6,7 @@ use Rattle.ov_acts.proofs.command.command.Goals as goal
 
 pub returns-in-Key-clause-told : goal.returns-in-Key-clause-told
 returns-in-Key-clause-told g c = λ v is same.
-    let Then = g.P.Peer.serves c.client.new.peer in
+    let Then = g.P.Peer.tells.serves c.client.new.peer in
     subst (λ (act : Act). CommandsAsMachine c.args.owner.now act c.args.bytes.now v Then
     c.line_on_client.result) (sym c.in-Key.is)
     (keys_told c.args.owner.now v Then c.in-Key.user c.client.result c.line_on_client.result
