@@ -1,17 +1,16 @@
 -- What comes of an act, by the access-matrix machine, at a server that tells what it serves.
-use Rattle.std.specs.Prelude.{◌≡◌, ℕ, List, [], Option, Some, None, Ok, Err}
+use Rattle.std.specs.Prelude.{◌≡◌, ℕ, List, [], Option, Some, Ok, Err}
 use Rattle.ov_client.specs.KeyLines.{IsLineOf, key_line}
-use Rattle.ov_client.specs.Laws.{HoldsRootKeys, MachineAnswers, last_chain}
+use Rattle.ov_client.specs.Laws.{HoldsRootKeys}
 use Rattle.ov_client.specs.Readers.{Reader}
-use Rattle.ov_client.specs.declared.fault.ClientFault.TheVariants.{Refused as RefusedRead}
+use Rattle.ov_client.specs.Told.{ReadsAlong}
+use Rattle.ov_client.specs.declared.fault.ClientFault.TheVariants as faults
 use Rattle.ov_base.specs.declared.refusal.Refusal.TheVariants.{NoUser}
 use Rattle.ov_history.specs.Masters.{Masters}
-use Rattle.ov_history.specs.Sealed.{SealedHistory}
 use Rattle.ov_keyfile.specs.KeyFile.{IsKeyFile}
 use Rattle.ov_owner.specs.Clients.{HasUser, IsReaderAt, IsSoThere}
 use Rattle.ov_owner.specs.Questions.{RepliesThere}
 use Rattle.ov_owner.specs.Steps.{AnswersAsMachine}
-use Rattle.ov_peer.specs.Asks.{Along, AreRight, Ask}
 use Rattle.ov_protocol.specs.Serving.{Service, later}
 use Rattle.ov_record.specs.Updates.{SealedUpdate}
 use Rattle.ov_script.specs.declared.command.Command.{Command}
@@ -80,30 +79,16 @@ OwnsAsMachine k act bytes v Then (Err stop) = Unit {0}
 
 -- ---- a reader's
 
--- the machine's answer to this read, if that is bytes or a refusal; damaged bytes never come
-abbrev pub IsMachinesRead : Masters → Option SealedHistory → List ℕ → List ℕ → Outcome → Type 0
-IsMachinesRead k at_one user file (Ok bytes) = MachineAnswers k at_one user file (Ok bytes)
-IsMachinesRead k at_one user file (Err (Refused why)) =
-    MachineAnswers k at_one user file (Err (RefusedRead why))
-IsMachinesRead k at_one user file (Err Damaged) = ⊥
-IsMachinesRead k at_one user file (Err stop) = Unit {0}
-
--- Asks were answered along histories that go on from the one that was served, and what is served
--- then goes on from them. Where they are right under the masters of the reader's root keys, this is
--- the machine's at the history of the last Chain.
-abbrev pub ReadsAlong : Masters → Reader → List ℕ → Service → (Service → Type 0) → Outcome → Type 0
-ReadsAlong k r file v Then outcome =
-    (asks : List Ask) × (histories : List SealedHistory) × (last : Service)
-    × Along v asks histories last × Then last
-    × (AreRight k histories
-    → IsMachinesRead k (last_chain None asks histories) r.name file outcome)
-
--- so it is with bytes that are printed, and with a refusal; and damaged bytes never come there
+-- Bytes that are printed are the machine's, and so is a refusal, where the histories by which the
+-- asks were answered are right under these masters; and damaged bytes never come there.
 abbrev pub ReadsAsMachine : Masters → Reader → List ℕ → Service → (Service → Type 0) → Outcome
     → Type 0
 ReadsAsMachine k r file v Then (Ok bytes) = ReadsAlong k r file v Then (Ok bytes)
-ReadsAsMachine k r file v Then (Err (Refused why)) = ReadsAlong k r file v Then (Err (Refused why))
-ReadsAsMachine k r file v Then (Err Damaged) = ReadsAlong k r file v Then (Err Damaged)
+ReadsAsMachine k r file v Then (Err (Refused why)) =
+    ReadsAlong k r file v Then (Err (faults.Refused why))
+ReadsAsMachine k r file v Then (Err Damaged) =
+    (stored : List ℕ) × (computed : List ℕ)
+    × ReadsAlong k r file v Then (Err (faults.Damaged stored computed))
 ReadsAsMachine k r file v Then (Err stop) = Unit {0}
 
 -- ---- all acts

@@ -20,11 +20,11 @@ use crate::finish::finish;
 use crate::job::{Act, Job};
 use crate::stop::{Stop, stop_of_client};
 use ov_base::{Memory, Name, Octets};
-use ov_client::{lines_are_read_once, reads_are_the_machines};
+use ov_client::lines_are_read_once;
 use ov_io::{Sink, Source};
 use ov_keyfile::one_pair_of_masters;
 use ov_owner::Owner;
-use ov_peer::{Peer, asks_are_told};
+use ov_peer::Peer;
 use ov_tokens::{Master, check_value};
 use std::alloc::Global;
 
@@ -92,8 +92,6 @@ fn read<K: Source, P: Peer>(
         (IfSome (K.tells.left keys.old) (λ line. ((r : Reader) × IsLineOf line r) → ⊥)) ⊥ result }
     ensures takes { TakesUpTo K.tells 206 keys.old keys.new }
 {
-    asks_are_told::<P>();
-    reads_are_the_machines();
     lines_are_read_once();
     let client = match client_of(keys) {
         Ok(client) => client,
