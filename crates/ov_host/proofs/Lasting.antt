@@ -1,10 +1,11 @@
 -- A server's disk goes on with it, answer by answer.
-use Rattle.std.proofs.Common.{◌≡◌, ◌∙◌, ◌⊎◌, inl, inr, ℕ, ◌≤◌, Bool, true, false, List, [], ◌∷◌, ◌++◌, Result, Ok, Err, Option, refl, sym, ap, subst, append_assoc, append-nil, true≢false, arith}
+use Rattle.std.proofs.Common.{◌≡◌, ◌∙◌, ◌⊎◌, inl, inr, ℕ, ◌≤◌, Bool, true, false, List, [], ◌∷◌, ◌++◌, Result, Ok, Err, refl, sym, ap, subst, append_assoc, append-nil, true≢false, arith}
 use Rattle.std.specs.Prelude.{OnErr, OnOk}
 use Rattle.ov_base.specs.declared.memory.Memory.{Memory as NoRoom}
 use Rattle.ov_record.specs.Updates.{SealedUpdate}
 use Rattle.ov_history.specs.Sealed.{SealedHistory}
 use Rattle.ov_disk.specs.Disk.{Image}
+use Rattle.ov_disk.specs.Tells.{DiskTells}
 use Rattle.ov_disk.proofs.Runs.{started, then_on, weaker}
 use Rattle.ov_images.specs.Images.{Keeps, Keys}
 use Rattle.ov_wire.specs.declared.request.Request.{Request}
@@ -102,39 +103,37 @@ has_update s request n made is m =
       spells = m.spells;
     }
 
-module _ {D : Type 0} (reads : D → Option Image) (may_leave : D → Image → Type 0) (moment : D → ℕ) (left_since : D → ℕ → Image → Type 0)
-    (counts_now : (disk : D) (t : ℕ) (c : Image) → t ≤ moment disk → may_leave disk c → left_since disk t c)
-    (only_now : (disk : D) (c : Image) → left_since disk (moment disk) c → may_leave disk c) (borrow faults : D → ℕ) where
+module _ {D : Type 0} (tells : DiskTells D) where
   -- a store goes on from itself
-  pub begins : (s : Opened D) → Reaches (serving_of s) [] (serving_of s) → GoesOn reads may_leave moment left_since faults s [] s
+  pub begins : (s : Opened D) → Reaches (serving_of s) [] (serving_of s) → GoesOn tells s [] s
   begins s reaches = record {
     reaches = reaches;
     keys = refl;
     later = omega arith;
     cause = λ sound failed. absurd (true≢false (sym failed ∙ sound));
     endures = λ g serves sound i told.
-        let here : (c : Image) → may_leave s.disk c → Keeps s.keys (followed g []) c =
+        let here : (c : Image) → tells.may_leave s.disk c → Keeps s.keys (followed g []) c =
         λ c left. subst (λ (h : SealedHistory). Keeps s.keys h c) (sym (followed-nil g)) (serves.disk sound i told c left) in record {
-          any_moment = started moment left_since may_leave s.disk (KeepsSome s.keys g [] s.failed) (only_now s.disk) (λ c left. inr (inl (here c left)));
+          any_moment = started tells s.disk (KeepsSome s.keys g [] s.failed) (λ c left. inr (inl (here c left)));
           at_end = λ c left. inl (here c left);
-          goes_on = λ same. subst (λ (h : SealedHistory). Serves reads may_leave h s) (sym (followed-nil g)) serves;
+          goes_on = λ same. subst (λ (h : SealedHistory). Serves tells h s) (sym (followed-nil g)) serves;
           told = λ same. (i, told);
         };
   }
 
   -- ---- one answer
 
-  module _ (old new : Opened D) (request reply : List ℕ) (answered : AnswersOrFails reads may_leave old new request reply)
-      (any : LeavesAsked reads may_leave moment left_since request old new) (call : IsCallOf borrow faults old new (IsNewFault old request reply))
-      (start : Opened D) (list : List (List ℕ)) (before : GoesOn reads may_leave moment left_since faults start list old) where
+  module _ (old new : Opened D) (request reply : List ℕ) (answered : AnswersOrFails tells old new request reply)
+      (any : LeavesAsked tells request old new) (call : IsCallOf tells old new (IsNewFault old request reply))
+      (start : Opened D) (list : List (List ℕ)) (before : GoesOn tells start list old) where
     -- the updates that were made so far endure in this store
     Lasts : SealedHistory → List SealedUpdate → Opened D → Type 0
-    Lasts g us s = Endures reads may_leave moment left_since g us start s
+    Lasts g us s = Endures tells g us start s
 
     same_lasts : (g : SealedHistory) (us : List SealedUpdate) → new ≡ old → Lasts g us old → Lasts g us new
     same_lasts g us same e = subst (Lasts g us) (sym same) e
 
-    accepted_update : (is : IsAnswered reads may_leave old new request reply) → says_accepted reply ≡ true
+    accepted_update : (is : IsAnswered tells old new request reply) → says_accepted reply ≡ true
         → (m : IsMade (request_of request) is.frame.made) × HasUpdate (serving_of old) request m.update
     accepted_update is so =
         let r = is.frame.replies in
@@ -148,21 +147,21 @@ module _ {D : Type 0} (reads : D → Option Image) (may_leave : D → Image → 
         (m, has_update (serving_of old) request accepted.0 is.frame.made here m)
 
     -- an update is made
-    made_lasts : (g : SealedHistory) (us : List SealedUpdate) (is : IsAnswered reads may_leave old new request reply)
+    made_lasts : (g : SealedHistory) (us : List SealedUpdate) (is : IsAnswered tells old new request reply)
         → updates_asked (request_of request) ≡ is.frame.made → old.failed ≡ false → Lasts g us old → Lasts g (us ++ is.frame.made) new
     unfolding Lasts
     made_lasts g us is asked sound e =
-        let serves : Serves reads may_leave (followed g us) old = e.goes_on sound in
+        let serves : Serves tells (followed g us) old = e.goes_on sound in
         let told = e.told sound in
         let still : new.failed ≡ false = is.failed ∙ sound in
-        let next : Serves reads may_leave (followed g (us ++ is.frame.made)) new =
-        subst (λ (h : SealedHistory). Serves reads may_leave h new) (followed-append g us is.frame.made) (is.lasts (followed g us) serves) in
+        let next : Serves tells (followed g (us ++ is.frame.made)) new =
+        subst (λ (h : SealedHistory). Serves tells h new) (followed-append g us is.frame.made) (is.lasts (followed g us) serves) in
         let told_new = is.told told.0 told.1 in
-        let so_far = weaker moment left_since may_leave start.disk old.disk (KeepsSome start.keys g us old.failed)
+        let so_far = weaker tells start.disk old.disk (KeepsSome start.keys g us old.failed)
         (KeepsSome start.keys g (us ++ is.frame.made) new.failed) e.any_moment
         (λ c. some_more start.keys g us c is.frame.made old.failed new.failed sound) in
         let step = any (followed g us) serves sound told.0 told.1 in record {
-          any_moment = then_on moment left_since may_leave start.disk old.disk new.disk (KeepsSome start.keys g (us ++ is.frame.made) new.failed)
+          any_moment = then_on tells start.disk old.disk new.disk (KeepsSome start.keys g (us ++ is.frame.made) new.failed)
               (KeepsWith old.keys (followed g us) (updates_asked (request_of request))) so_far step
               (λ c keeps. asked_some start.keys g us c (updates_asked (request_of request)) is.frame.made new.failed asked
               (subst (λ (k : Keys). KeepsWith k (followed g us) (updates_asked (request_of request)) c) before.keys keeps));
@@ -182,11 +181,11 @@ module _ {D : Type 0} (reads : D → Option Image) (may_leave : D → Image → 
         let here : (c : Image) → KeepsWith old.keys (followed g us) (updates_asked (request_of request)) c → KeepsAll start.keys g us new.failed c =
         λ c keeps. asked_all start.keys g us c (updates_asked (request_of request)) fails.update new.failed asked fails.failed
         (subst (λ (k : Keys). KeepsWith k (followed g us) (updates_asked (request_of request)) c) before.keys keeps) in
-        let so_far = weaker moment left_since may_leave start.disk old.disk (KeepsSome start.keys g us old.failed)
+        let so_far = weaker tells start.disk old.disk (KeepsSome start.keys g us old.failed)
         (KeepsSome start.keys g us new.failed) e.any_moment (λ c. some_still start.keys g us c old.failed new.failed sound) in record {
-          any_moment = then_on moment left_since may_leave start.disk old.disk new.disk (KeepsSome start.keys g us new.failed)
+          any_moment = then_on tells start.disk old.disk new.disk (KeepsSome start.keys g us new.failed)
               (KeepsWith old.keys (followed g us) (updates_asked (request_of request))) so_far step (λ c keeps. inr (here c keeps));
-          at_end = λ c left. here c (step.each c (counts_now new.disk (moment old.disk) c step.later left));
+          at_end = λ c left. here c (step.each c (tells.counts_now new.disk (tells.moment old.disk) c step.later left));
           goes_on = λ same. absurd (true≢false (sym fails.failed ∙ same));
           told = λ same. absurd (true≢false (sym fails.failed ∙ same));
         }
@@ -201,7 +200,7 @@ module _ {D : Type 0} (reads : D → Option Image) (may_leave : D → Image → 
       by_need (inl fails) = by_failed old.failed refl fails
       by_need (inr (asks, same)) = same_lasts g us same e
 
-    answered_lasts : (so : Bool) → says_accepted reply ≡ so → IsAnswered reads may_leave old new request reply → (g : SealedHistory)
+    answered_lasts : (so : Bool) → says_accepted reply ≡ so → IsAnswered tells old new request reply → (g : SealedHistory)
         → Lasts g (updates_of list) old → Lasts g (updates_of (longer_if so list (spelling_of request))) new
     answered_lasts true so is g e =
         let one = accepted_update is so in
@@ -217,7 +216,7 @@ module _ {D : Type 0} (reads : D → Option Image) (may_leave : D → Image → 
         let none : is.frame.made ≡ [] = r.makes ∙ nothing_made (request_of request) r.answer (ap says_accepted (sym r.spelled) ∙ so) in
         same_lasts g (updates_of list) (is.untouched none) e
 
-    lasts_after : (so : Bool) → says_accepted reply ≡ so → AnswersOrFails reads may_leave old new request reply → (g : SealedHistory)
+    lasts_after : (so : Bool) → says_accepted reply ≡ so → AnswersOrFails tells old new request reply → (g : SealedHistory)
         → Lasts g (updates_of list) old → Lasts g (updates_of (longer_if so list (spelling_of request))) new
     lasts_after true so (inl is) g e = answered_lasts true so is g e
     lasts_after false so (inl is) g e = answered_lasts false so is g e
@@ -225,19 +224,19 @@ module _ {D : Type 0} (reads : D → Option Image) (may_leave : D → Image → 
     lasts_after false so (inr is) g e = faulted_lasts g (updates_of list) is e
 
     -- the disk failed only where its count rose
-    cause_after : start.failed ≡ false → new.failed ≡ true → Rose (faults start.disk) (faults new.disk)
+    cause_after : start.failed ≡ false → new.failed ≡ true → Rose (tells.faults start.disk) (tells.faults new.disk)
     cause_after sound failed = by_old old.failed refl answered where
-      by_old : (was : Bool) → old.failed ≡ was → AnswersOrFails reads may_leave old new request reply → Rose (faults start.disk) (faults new.disk)
-      by_old true bad is = rose_still (faults start.disk) (faults old.disk) (faults new.disk) (before.cause sound bad) call.2
+      by_old : (was : Bool) → old.failed ≡ was → AnswersOrFails tells old new request reply → Rose (tells.faults start.disk) (tells.faults new.disk)
+      by_old true bad is = rose_still (tells.faults start.disk) (tells.faults old.disk) (tells.faults new.disk) (before.cause sound bad) call.2
       by_old false was (inl is) = absurd (true≢false (sym failed ∙ is.failed ∙ was))
       by_old false was (inr is) =
-          rose_from (faults start.disk) (faults old.disk) (faults new.disk) before.later (call.3 (is.spelled, λ update. was))
+          rose_from (tells.faults start.disk) (tells.faults old.disk) (tells.faults new.disk) before.later (call.3 (is.spelled, λ update. was))
 
     -- the store goes on by what was accepted
-    pub goes_on_after : GoesOn reads may_leave moment left_since faults start (with_accepted list request reply) new
+    pub goes_on_after : GoesOn tells start (with_accepted list request reply) new
     unfolding Lasts
     goes_on_after = record {
-      reaches = reached_after reads may_leave old new request reply answered (serving_of start) list before.reaches;
+      reaches = reached_after tells old new request reply answered (serving_of start) list before.reaches;
       keys = call.0 ∙ before.keys;
       later = omega (arith, before.later, call.2);
       cause = cause_after;
@@ -248,21 +247,21 @@ module _ {D : Type 0} (reads : D → Option Image) (may_leave : D → Image → 
   -- ---- the same of each result of a call
 
   module _ (old new : Opened D) (request reply : List ℕ) where
-    pub goes_on_ok : (r : Result (Unit {0}) NoRoom) → OnOk r (AnswersOrFails reads may_leave old new request reply)
-        → LeavesAsked reads may_leave moment left_since request old new → IsCallOf borrow faults old new (IsNewFault old request reply)
-        → (start : Opened D) (list : List (List ℕ)) → GoesOn reads may_leave moment left_since faults start list old
-        → OnOk r (GoesOn reads may_leave moment left_since faults start (with_accepted list request reply) new)
+    pub goes_on_ok : (r : Result (Unit {0}) NoRoom) → OnOk r (AnswersOrFails tells old new request reply)
+        → LeavesAsked tells request old new → IsCallOf tells old new (IsNewFault old request reply)
+        → (start : Opened D) (list : List (List ℕ)) → GoesOn tells start list old
+        → OnOk r (GoesOn tells start (with_accepted list request reply) new)
     goes_on_ok (Ok done) answered any call start list before = goes_on_after old new request reply answered any call start list before
     goes_on_ok (Err why) answered any call start list before = tt
 
     pub goes_on_err : (r : Result (Unit {0}) NoRoom) → OnErr r ((new ≡ old) × (reply ≡ []))
-        → (start : Opened D) (list : List (List ℕ)) → GoesOn reads may_leave moment left_since faults start list old
-        → OnErr r (GoesOn reads may_leave moment left_since faults start list new)
+        → (start : Opened D) (list : List (List ℕ)) → GoesOn tells start list old
+        → OnErr r (GoesOn tells start list new)
     goes_on_err (Ok done) same start list before = tt
-    goes_on_err (Err why) (same, none) start list before = subst (GoesOn reads may_leave moment left_since faults start list) (sym same) before
+    goes_on_err (Err why) (same, none) start list before = subst (GoesOn tells start list) (sym same) before
 
   -- and of the replies
-  pub replies_after : (old new : Opened D) (request reply : List ℕ) (r : Result (Unit {0}) NoRoom) → OnOk r (AnswersOrFails reads may_leave old new request reply)
-      → (start : Opened D) (list : List (List ℕ)) → GoesOn reads may_leave moment left_since faults start list old
+  pub replies_after : (old new : Opened D) (request reply : List ℕ) (r : Result (Unit {0}) NoRoom) → OnOk r (AnswersOrFails tells old new request reply)
+      → (start : Opened D) (list : List (List ℕ)) → GoesOn tells start list old
       → OnOk r (RepliesAfter (serving_of start) list request reply)
-  replies_after old new request reply r answered start list before = replies_ok reads may_leave old new request reply r answered start list before.reaches
+  replies_after old new request reply r answered start list before = replies_ok tells old new request reply r answered start list before.reaches

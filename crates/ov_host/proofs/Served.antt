@@ -1,46 +1,46 @@
 -- A store went on by the updates that its sessions accepted.
 use Rattle.std.proofs.Common.{◌≡◌, inl, inr, ℕ, List, [], Option, None, subst, sym}
 use Rattle.ov_base.specs.declared.mode.Mode.{Mode}
-use Rattle.ov_disk.specs.Disk.{Image}
+use Rattle.ov_disk.specs.Tells.{DiskTells}
+use Rattle.ov_io.specs.Tells.{SinkTells, SourceTells}
 use Rattle.ov_images.specs.Images.{Keys}
 use Rattle.ov_session.specs.Doors.{Doorway}
 use Rattle.ov_store.specs.Beginning.{IsBegun, LeavesHistory}
 use Rattle.ov_store.specs.Opened.{Opened}
-use Rattle.ov_host.specs.Hosting.{Serves, ServesStore, accepted, serves_store, store_replies}
-use Rattle.ov_host.specs.Lasting.{GoesOn}
+use Rattle.ov_host.specs.Hosting.{Serves, ServesStore, accepted, serves_store}
+use Rattle.ov_host.specs.Lasting.{GoesOn, store_tells}
 use Rattle.ov_host.specs.declared.hosted.Hosted.{Hosted}
 use Rattle.ov_host.proofs.Accepting.{sessions_reach}
 use Rattle.ov_host.proofs.Surviving.{survives_from}
 
-module _ {D S : Type 0} (reads : D → Option Image) (may_leave : D → Image → Type 0) (moment : D → ℕ) (left_since : D → ℕ → Image → Type 0) (faults : D → ℕ)
-    (left written : S → Option (List ℕ)) (read_faults write_faults : S → ℕ) where
+module _ {D S : Type 0} (disk_tells : DiskTells D) (source : SourceTells S) (sink : SinkTells S) where
   -- how a store goes on
   abbrev Reached : Opened D → List (List ℕ) → Opened D → Type 0
-  Reached v list w = GoesOn reads may_leave moment left_since faults v list w
+  Reached v list w = GoesOn disk_tells v list w
 
   pub served_reach : (v w : Opened D) (old new : Doorway S) (wanted : ℕ) (before after : Option (List ℕ)) (status : ℕ) → Reached v [] v
-      → (serves : Serves (serves_store reads may_leave moment left_since faults left written read_faults write_faults) v w old new wanted before after status)
-      → Reached v (accepted reads may_leave moment left_since faults left written read_faults write_faults v w old new wanted before after status serves) w
+      → (serves : Serves (serves_store disk_tells source sink) v w old new wanted before after status)
+      → Reached v (accepted disk_tells source sink v w old new wanted before after status serves) w
   served_reach v w old new wanted before after status here (inl fails) = subst (Reached v []) (sym fails.same) here
   served_reach v w old new wanted before after status here (inr (address, inl fails)) = subst (Reached v []) (sym fails.same) here
   served_reach v w old new wanted before after status here (inr (address, inr tells)) =
-      sessions_reach (GoesOn reads may_leave moment left_since faults) store_replies left written read_faults write_faults v v tells.serves.sessions.sessions w [] here tells.serves.sessions.follows
+      sessions_reach (store_tells disk_tells) source sink v v tells.serves.sessions.sessions w [] here tells.serves.sessions.follows
 
   -- the server of a store that was just begun on this disk served
   pub store_served : (k : Keys) (mode : Mode) (disk : D) (s last : Opened D) (old new : Doorway S) (wanted : ℕ) (before after : Option (List ℕ)) (hosted : Hosted D)
-      → IsBegun reads may_leave k mode (reads disk) s → LeavesHistory reads may_leave moment left_since k mode disk s.disk → hosted.disk ≡ None
+      → IsBegun disk_tells k mode (disk_tells.reads disk) s → LeavesHistory disk_tells k mode disk s.disk → hosted.disk ≡ None
       → (v : Opened D) → v ≡ s → Reached v [] v
-      → Serves (serves_store reads may_leave moment left_since faults left written read_faults write_faults) v last old new wanted before after hosted.status
-      → ServesStore reads may_leave moment left_since faults left written read_faults write_faults k mode disk s old new wanted before after hosted
+      → Serves (serves_store disk_tells source sink) v last old new wanted before after hosted.status
+      → ServesStore disk_tells source sink k mode disk s old new wanted before after hosted
   store_served k mode disk s last old new wanted before after hosted begun first back v same here serves =
-      let from : Serves (serves_store reads may_leave moment left_since faults left written read_faults write_faults) s last old new wanted before after hosted.status =
-      subst (λ (m : Opened D). Serves (serves_store reads may_leave moment left_since faults left written read_faults write_faults) m last old new wanted before after hosted.status) same serves in
+      let from : Serves (serves_store disk_tells source sink) s last old new wanted before after hosted.status =
+      subst (λ (m : Opened D). Serves (serves_store disk_tells source sink) m last old new wanted before after hosted.status) same serves in
       let on = served_reach s last old new wanted before after hosted.status (subst (λ (m : Opened D). Reached m [] m) same here) from in
       record {
         back = back;
         last = last;
         serves = from;
         goes_on = on;
-        survives = survives_from reads may_leave moment left_since faults k mode disk s last
-            (accepted reads may_leave moment left_since faults left written read_faults write_faults s last old new wanted before after hosted.status from) begun first on;
+        survives = survives_from disk_tells k mode disk s last
+            (accepted disk_tells source sink s last old new wanted before after hosted.status from) begun first on;
       }

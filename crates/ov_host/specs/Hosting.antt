@@ -6,24 +6,25 @@ use Rattle.std.specs.Fmt.{decimal}
 use Rattle.std.specs.Io.KnownBytes.{Appends}
 use Rattle.ov_base.specs.Causes.{Rose}
 use Rattle.ov_base.specs.declared.mode.Mode.{Mode}
-use Rattle.ov_disk.specs.Disk.{Image, Only, Told}
+use Rattle.ov_disk.specs.Calls.{IsDiskCall}
+use Rattle.ov_disk.specs.Disk.{Only, Told}
 use Rattle.ov_disk.specs.Moments.{IsUntouched}
+use Rattle.ov_disk.specs.Tells.{DiskTells}
+use Rattle.ov_io.specs.Tells.{SinkTells, SourceTells}
 use Rattle.ov_history.specs.Sealed.{SealedHistory}
 use Rattle.ov_images.specs.Images.{IsImageOf, Keys}
 use Rattle.ov_protocol.specs.Updating.{updates_of}
-use Rattle.ov_store.specs.Beginning.{IsBeginFault, IsBegun, IsDiskCall, IsDiskFault, LeavesHistory}
+use Rattle.ov_store.specs.Beginning.{IsBeginFault, IsBegun, IsDiskFault, LeavesHistory}
 use Rattle.ov_store.specs.Beginning.{WritesNoBorn, disk_left}
 use Rattle.ov_store.specs.Opened.{Opened}
 use Rattle.ov_store.specs.declared.begin.BeginRefused.{BeginRefused}
 use Rattle.ov_store.specs.declared.fault.BeginFault.TheVariants.{Memory as NoMemory}
-use Rattle.ov_server.specs.Answering.{serving_of}
-use Rattle.ov_server.specs.Following.{RepliesAfter}
 use Rattle.ov_session.specs.Doors.{Doorway}
 use Rattle.ov_session.specs.Serving.{OneSession, ServesEach, serves_alone}
 use Rattle.ov_report.specs.Ends.{EndsIn, EndsOr}
 use Rattle.ov_report.specs.Faults.{fault_line, fault_status, memory_line}
 use Rattle.ov_host.specs.Accepting.{accepted_in}
-use Rattle.ov_host.specs.Lasting.{GoesOn, Survives}
+use Rattle.ov_host.specs.Lasting.{GoesOn, Survives, store_tells}
 use Rattle.ov_host.specs.declared.hosted.Hosted.{Hosted}
 
 -- ---- lines
@@ -103,18 +104,16 @@ SaysDoor before now status =
 -- ---- a store and its server
 
 -- What is known of a store that is begun, or isn't, on this disk: what `Store::begin` says.
-pub record Begins {D : Type 0} (reads : D → Option Image) (may_leave : D → Image → Type 0)
-    (moment : D → ℕ) (left_since : D → ℕ → Image → Type 0) (borrow faults : D → ℕ)
-    (k : Keys) (mode : Mode) (disk : D) (begun : Result (Opened D) (BeginRefused D)) : Type 0
-  where
-    pub opened : IfOk begun (IsBegun reads may_leave k mode (reads disk))
-    pub fault : IfErr begun (λ refused. Told (reads disk) (λ i.
-        IsBeginFault k mode i refused.fault))
-    pub any_moment : LeavesHistory reads may_leave moment left_since k mode disk (disk_left begun)
-    pub untouched : WritesNoBorn reads may_leave moment left_since disk (disk_left begun)
-    pub memory : IfErr begun (λ refused. refused.fault ≡ NoMemory
-        → IsUntouched moment left_since may_leave reads disk refused.disk)
-    pub call : IsDiskCall borrow faults disk (disk_left begun) (IsDiskFault begun)
+pub record Begins {D : Type 0} (tells : DiskTells D) (k : Keys) (mode : Mode) (disk : D)
+    (begun : Result (Opened D) (BeginRefused D)) : Type 0 where
+  pub opened : IfOk begun (IsBegun tells k mode (tells.reads disk))
+  pub fault : IfErr begun (λ refused. Told (tells.reads disk) (λ i.
+      IsBeginFault k mode i refused.fault))
+  pub any_moment : LeavesHistory tells k mode disk (disk_left begun)
+  pub untouched : WritesNoBorn tells disk (disk_left begun)
+  pub memory : IfErr begun (λ refused. refused.fault ≡ NoMemory
+      → IsUntouched tells disk refused.disk)
+  pub call : IsDiskCall tells (IsDiskFault begun) disk (disk_left begun)
 
 -- A store wasn't begun: the disk is handed back, the door isn't touched, and the line says why.
 pub record HandsBack {D S : Type 0} (refused : BeginRefused D) (old new : Doorway S)
@@ -124,18 +123,12 @@ pub record HandsBack {D S : Type 0} (refused : BeginRefused D) (old new : Doorwa
   pub ends : EndsOr (fault_line refused.fault) (fault_status refused.fault)
       before after hosted.status
 
--- what a server over a store replies
-abbrev pub store_replies : {D : Type 0} → Opened D → List (List ℕ) → List ℕ → List ℕ → Type 0
-store_replies start list request reply = RepliesAfter (serving_of start) list request reply
-
-module _ {D S : Type 0} (reads : D → Option Image) (may_leave : D → Image → Type 0)
-    (moment : D → ℕ) (left_since : D → ℕ → Image → Type 0) (faults : D → ℕ)
-    (left written : S → Option (List ℕ)) (read_faults write_faults : S → ℕ) where
+module _ {D S : Type 0} (disk_tells : DiskTells D) (source : SourceTells S)
+    (sink : SinkTells S) where
   -- one session of the server, by the bytes and the counts of its stream
   abbrev pub serves_store : OneSession (Opened D) S
   serves_store v w given stream ending =
-      serves_alone (GoesOn reads may_leave moment left_since faults) store_replies
-      left written read_faults write_faults v w given stream ending
+      serves_alone (store_tells disk_tells) source sink v w given stream ending
 
   -- the spellings of the updates that were accepted in all sessions, in order
   abbrev pub accepted : (v w : Opened D) (old new : Doorway S) (wanted : ℕ)
@@ -144,8 +137,7 @@ module _ {D S : Type 0} (reads : D → Option Image) (may_leave : D → Image �
   accepted v w old new wanted before after status (inl fails) = []
   accepted v w old new wanted before after status (inr (address, inl fails)) = []
   accepted v w old new wanted before after status (inr (address, inr tells)) =
-      accepted_in (GoesOn reads may_leave moment left_since faults) store_replies
-      left written read_faults write_faults v tells.serves.sessions.sessions w []
+      accepted_in (store_tells disk_tells) source sink v tells.serves.sessions.sessions w []
       tells.serves.sessions.follows
 
   -- The server of a store that was begun served, and the disk isn't handed back. The store went on
@@ -156,11 +148,11 @@ module _ {D S : Type 0} (reads : D → Option Image) (may_leave : D → Image �
     pub back : hosted.disk ≡ None
     pub last : Opened D
     pub serves : Serves serves_store s last old new wanted before after hosted.status
-    pub goes_on : GoesOn reads may_leave moment left_since faults s
+    pub goes_on : GoesOn disk_tells s
         (accepted s last old new wanted before after hosted.status serves) last
-    pub survives : Told (reads disk) (λ i. Only i (may_leave disk)
+    pub survives : Told (disk_tells.reads disk) (λ i. Only i (disk_tells.may_leave disk)
         → (g : SealedHistory) → g.mode ≡ mode → IsImageOf k g i
-        → Survives reads may_leave moment left_since k g
+        → Survives disk_tells k g
         (updates_of (accepted s last old new wanted before after hosted.status serves))
         last.failed disk last.disk)
 
@@ -173,9 +165,10 @@ module _ {D S : Type 0} (reads : D → Option Image) (may_leave : D → Image �
       HandsBack refused old new before after hosted
 
 -- the status is 4 only where a disk is handed back whose count of faults rose
-abbrev pub SaysDisk : {D : Type 0} → (D → ℕ) → D → Hosted D → Type 0
-SaysDisk {D} faults disk hosted =
-    hosted.status ≡ 4 → (left : D) × (hosted.disk ≡ Some left) × Rose (faults disk) (faults left)
+abbrev pub SaysDisk : {D : Type 0} → DiskTells D → D → Hosted D → Type 0
+SaysDisk {D} tells disk hosted =
+    hosted.status ≡ 4
+    → (left : D) × (hosted.disk ≡ Some left) × Rose (tells.faults disk) (tells.faults left)
 
 -- one of the statuses of a server whose disk has its store, or none yet
 abbrev pub IsOpenStatus : ℕ → Type 0

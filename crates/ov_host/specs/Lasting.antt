@@ -1,19 +1,21 @@
 -- What the disk of a server keeps while it answers.
 use Rattle.std.specs.Prelude.{◌≡◌, ◌≤◌, ◌⊎◌, ℕ, List, [], ◌∷◌, ◌++◌}
-use Rattle.std.specs.Prelude.{Bool, true, false, Option, Some}
+use Rattle.std.specs.Prelude.{Bool, true, false, Some}
 use Rattle.ov_base.specs.Causes.{Rose}
 use Rattle.ov_base.specs.declared.mode.Mode.{Mode}
 use Rattle.ov_record.specs.Updates.{SealedUpdate}
 use Rattle.ov_history.specs.Sealed.{SealedHistory}
 use Rattle.ov_disk.specs.Disk.{Image, Only, Told}
 use Rattle.ov_disk.specs.Moments.{LeavesOnly}
+use Rattle.ov_disk.specs.Tells.{DiskTells}
 use Rattle.ov_images.specs.Images.{IsImageOf, Keeps, Keys}
 use Rattle.ov_protocol.specs.Serving.{followed}
 use Rattle.ov_protocol.specs.Updating.{updates_of}
+use Rattle.ov_peer.specs.Tells.{AnswererTells}
 use Rattle.ov_store.specs.Beginning.{IsBegun, LeavesHistory}
 use Rattle.ov_store.specs.Opened.{Opened, Serves}
 use Rattle.ov_server.specs.Answering.{serving_of}
-use Rattle.ov_server.specs.Following.{Reaches}
+use Rattle.ov_server.specs.Following.{Reaches, RepliesAfter}
 
 -- the image keeps the history with these updates; or, once the disk failed in an update, with these
 -- and one more
@@ -33,51 +35,57 @@ KeepsFirst k g updates i =
 abbrev pub KeepsSome : Keys → SealedHistory → List SealedUpdate → Bool → Image → Type 0
 KeepsSome k g updates failed i = KeepsFirst k g updates i ⊎ KeepsAll k g updates failed i
 
-module _ {D : Type 0} (reads : D → Option Image) (may_leave : D → Image → Type 0)
-    (moment : D → ℕ) (left_since : D → ℕ → Image → Type 0) where
+module _ {D : Type 0} (tells : DiskTells D) where
   -- These updates lead from one store, which stands for the history, to another. A crash at any
   -- moment between them leaves the history with some first ones of them, and a crash now leaves it
   -- with all of them; or, once the disk failed in an update, with one more. Until then the store
   -- stands for it with all of them, and its disk tells its bytes.
   pub record Endures (g : SealedHistory) (updates : List SealedUpdate) (start now : Opened D)
       : Type 0 where
-    pub any_moment : LeavesOnly moment left_since start.disk now.disk
+    pub any_moment : LeavesOnly tells start.disk now.disk
         (KeepsSome start.keys g updates now.failed)
-    pub at_end : (c : Image) → may_leave now.disk c
+    pub at_end : (c : Image) → tells.may_leave now.disk c
         → KeepsAll start.keys g updates now.failed c
-    pub goes_on : now.failed ≡ false → Serves reads may_leave (followed g updates) now
-    pub told : now.failed ≡ false → (i : Image) × (reads now.disk ≡ Some i)
+    pub goes_on : now.failed ≡ false → Serves tells (followed g updates) now
+    pub told : now.failed ≡ false → (i : Image) × (tells.reads now.disk ≡ Some i)
 
   -- From one store the updates with these spellings lead to another: what is served goes on by
   -- them, the keys stay, and, where the disk tells its bytes and hadn't failed, it endures. The
   -- disk failed in an update only where its count of faults rose.
-  pub record GoesOn (faults : D → ℕ) (start : Opened D) (list : List (List ℕ)) (now : Opened D)
-      : Type 0 where
+  pub record GoesOn (start : Opened D) (list : List (List ℕ)) (now : Opened D) : Type 0 where
     pub reaches : Reaches (serving_of start) list (serving_of now)
     pub keys : now.keys ≡ start.keys
-    pub later : faults start.disk ≤ faults now.disk
+    pub later : tells.faults start.disk ≤ tells.faults now.disk
     pub cause : start.failed ≡ false → now.failed ≡ true
-        → Rose (faults start.disk) (faults now.disk)
-    pub endures : (g : SealedHistory) → Serves reads may_leave g start → start.failed ≡ false
-        → Told (reads start.disk) (λ _. Endures g (updates_of list) start now)
+        → Rose (tells.faults start.disk) (tells.faults now.disk)
+    pub endures : (g : SealedHistory) → Serves tells g start → start.failed ≡ false
+        → Told (tells.reads start.disk) (λ _. Endures g (updates_of list) start now)
 
   -- What a stop leaves of updates that were made behind a history for which a disk stood. At any
   -- moment it leaves this history, or it with some first ones of them; and now it with all of them;
   -- or, once the disk failed in an update, with one more.
   pub record Survives (k : Keys) (g : SealedHistory) (updates : List SealedUpdate) (failed : Bool)
       (first last : D) : Type 0 where
-    pub any_moment : LeavesOnly moment left_since first last
+    pub any_moment : LeavesOnly tells first last
         (λ c. IsImageOf k g c ⊎ KeepsSome k g updates failed c)
-    pub at_end : (c : Image) → may_leave last c → KeepsAll k g updates failed c
+    pub at_end : (c : Image) → tells.may_leave last c → KeepsAll k g updates failed c
 
   -- where a store was begun on a disk that had nothing pending and whose image stood for a history,
   -- and went on by some updates, the history survives with them
-  abbrev pub StoresSurvive : (D → ℕ) → Type 0
-  StoresSurvive faults =
+  abbrev pub StoresSurvive : Type 0
+  StoresSurvive =
       (k : Keys) (mode : Mode) (disk : D) (s last : Opened D) (list : List (List ℕ))
-      → IsBegun reads may_leave k mode (reads disk) s
-      → LeavesHistory reads may_leave moment left_since k mode disk s.disk
-      → GoesOn faults s list last
-      → Told (reads disk) (λ i. Only i (may_leave disk) → (g : SealedHistory)
+      → IsBegun tells k mode (tells.reads disk) s
+      → LeavesHistory tells k mode disk s.disk
+      → GoesOn s list last
+      → Told (tells.reads disk) (λ i. Only i (tells.may_leave disk) → (g : SealedHistory)
       → g.mode ≡ mode → IsImageOf k g i
       → Survives k g (updates_of list) last.failed disk last.disk)
+
+-- what a server over a store tells: how its store and its disk went on, and what it replies by that
+abbrev pub store_tells : {D : Type 0} → DiskTells D → AnswererTells (Opened D)
+store_tells tells = record {
+  reached = λ start list now. GoesOn tells start list now;
+  replies = λ start list request reply. RepliesAfter (serving_of start) list request reply;
+  epoch_of = λ s. s.catalogue.epoch;
+}

@@ -27,8 +27,7 @@ impl<D: Disk> DiskServer<D> {
     /// This server, which has made no update since.
     pub fn new(server: Server<D>) -> DiskServer<D>
         ensures same { result ≡ server }
-        ensures begins { GoesOn D.reads D.may_leave D.moment D.left_since D.faults
-            result [] result }
+        ensures begins { GoesOn D.tells result [] result }
     {
         server.known();
         DiskServer { server }
@@ -36,17 +35,9 @@ impl<D: Disk> DiskServer<D> {
 }
 
 impl<D: Disk> Answerer for DiskServer<D> {
-    ghost use Rattle.ov_host.specs.Lasting.{GoesOn};
-    ghost use Rattle.ov_server.specs.Answering.{serving_of};
-    ghost use Rattle.ov_server.specs.Following.{RepliesAfter};
+    ghost use Rattle.ov_host.specs.Lasting.{store_tells};
 
-    ghost reached = { λ start list now.
-        GoesOn D.reads D.may_leave D.moment D.left_since D.faults start list now };
-
-    ghost replies = { λ start list request reply.
-        RepliesAfter (serving_of start) list request reply };
-
-    ghost epoch_of = { λ s. s.catalogue.epoch };
+    ghost tells = { store_tells D.tells };
 
     fn answer(&mut self, request: &[u8], reply: &mut Vec<u8>) -> Result<(), Memory> {
         Server::<D>::answer(&mut self.server, request, reply)

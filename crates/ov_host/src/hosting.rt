@@ -28,8 +28,8 @@ fn begin_store<D: Disk + Drop>(
     settings: &Settings,
     disk: D,
 ) -> Result<Store<D>, BeginRefused<D>>
-    ensures { Begins D.reads D.may_leave D.moment D.left_since D.borrow D.faults
-        (keys settings.now.base_check settings.now.surface.bytes) settings.now.mode disk result }
+    ensures { Begins D.tells (keys settings.now.base_check settings.now.surface.bytes)
+        settings.now.mode disk result }
 {
     Store::begin(
         alloc,
@@ -49,8 +49,8 @@ fn hand_back<D: Disk + Drop, O: Sink>(
     ensures disk { result.disk ≡ Some refused.disk }
     ensures known { HasValues refused.fault }
     ensures ends { EndsOr (fault_line refused.fault) (fault_status refused.fault)
-        (O.written out.old) (O.written out.new) result.status }
-    ensures put { IsPutTo O.borrow O.faults out.old out.new result.status }
+        (O.tells.written out.old) (O.tells.written out.new) result.status }
+    ensures put { IsPutTo O.tells out.old out.new result.status }
 {
     let BeginRefused { fault, disk } = refused;
     values_are_known(fault);
@@ -73,18 +73,17 @@ pub fn host<R: Wait, D: Disk + Drop, A: Door, O: Sink>(
 ) -> Hosted<D>
     requires { IsUnused (A.shows door.old) }
     ensures hosts { (begun : Result (Opened D) (BeginRefused D))
-        × Begins D.reads D.may_leave D.moment D.left_since D.borrow D.faults
-        (keys settings.now.base_check settings.now.surface.bytes) settings.now.mode disk begun
-        × Hosts D.reads D.may_leave D.moment D.left_since D.faults A.Stream.Source.left
-        A.Stream.Sink.written A.Stream.Source.faults A.Stream.Sink.faults
+        × Begins D.tells (keys settings.now.base_check settings.now.surface.bytes)
+        settings.now.mode disk begun
+        × Hosts D.tells A.Stream.Source.tells A.Stream.Sink.tells
         (keys settings.now.base_check settings.now.surface.bytes) settings.now.mode disk begun
         (A.shows door.old) (A.shows door.new) settings.now.sessions
-        (O.written out.old) (O.written out.new) result }
-    ensures disk { SaysDisk D.faults disk result }
+        (O.tells.written out.old) (O.tells.written out.new) result }
+    ensures disk { SaysDisk D.tells disk result }
     ensures door { SaysDoor (A.shows door.old).faults (A.shows door.new).faults result.status }
-    ensures put { IsPutTo O.borrow O.faults out.old out.new result.status }
+    ensures put { IsPutTo O.tells out.old out.new result.status }
     // With no fault and ample memory a server over a store of its keys and mode ends with 0.
-    ensures opens { Told (D.reads disk) (λ i.
+    ensures opens { Told (D.tells.reads disk) (λ i.
         StandsIn (keys settings.now.base_check settings.now.surface.bytes) settings.now.mode i
         → IsOpenStatus result.status) }
 {

@@ -31,8 +31,9 @@ fn line_on_address(alloc: Global, address: &[u8]) -> Result<Vec<u8>, Memory>
 // Puts the line that says how many sessions were served, or the one that says that memory was
 // refused for it.
 fn put_served<O: Sink>(alloc: Global, out: &mut O, served: u32) -> u8
-    ensures ends { EndsOr (served_line served) 0 (O.written out.old) (O.written out.new) result }
-    ensures put { IsPutTo O.borrow O.faults out.old out.new result }
+    ensures ends { EndsOr (served_line served) 0
+        (O.tells.written out.old) (O.tells.written out.new) result }
+    ensures put { IsPutTo O.tells out.old out.new result }
 {
     match format!(in alloc; "served {served}\n") {
         Ok(text) => put_last(out, text.as_bytes(), 0),
@@ -42,16 +43,17 @@ fn put_served<O: Sink>(alloc: Global, out: &mut O, served: u32) -> u8
 
 // Puts the line on a door that failed.
 fn put_door<O: Sink>(out: &mut O) -> u8
-    ensures ends { EndsIn door_line 13 (O.written out.old) (O.written out.new) result }
-    ensures put { IsPutTo O.borrow O.faults out.old out.new result }
+    ensures ends { EndsIn door_line 13 (O.tells.written out.old) (O.tells.written out.new) result }
+    ensures put { IsPutTo O.tells out.old out.new result }
 {
     put_last(out, b"error door\n", DOOR_FAULT)
 }
 
 // Puts the last line behind so many sessions: how many there were, or that the door failed.
 fn put_end<O: Sink>(alloc: Global, out: &mut O, served: u32, failed: bool) -> u8
-    ensures ends { EndsServing failed served (O.written out.old) (O.written out.new) result }
-    ensures put { IsPutTo O.borrow O.faults out.old out.new result }
+    ensures ends { EndsServing failed served
+        (O.tells.written out.old) (O.tells.written out.new) result }
+    ensures put { IsPutTo O.tells out.old out.new result }
 {
     if failed {
         put_door(out)
@@ -63,10 +65,11 @@ fn put_end<O: Sink>(alloc: Global, out: &mut O, served: u32, failed: bool) -> u8
 // Says where a server listens, or gives the status where it can't.
 fn tell<O: Sink>(alloc: Global, out: &mut O, address: &[u8]) -> Result<(), u8>
     ensures told { MatchResult result
-        (λ _. Appends (O.written out.old) (O.written out.new) (listening_line address.now))
-        (IsUntold address.now (O.written out.old) (O.written out.new)) }
-    ensures put { MatchResult result (λ _. IsPutTo O.borrow O.faults out.old out.new 0)
-        (IsPutTo O.borrow O.faults out.old out.new) }
+        (λ _. Appends (O.tells.written out.old) (O.tells.written out.new)
+        (listening_line address.now))
+        (IsUntold address.now (O.tells.written out.old) (O.tells.written out.new)) }
+    ensures put { MatchResult result (λ _. IsPutTo O.tells out.old out.new 0)
+        (IsPutTo O.tells out.old out.new) }
 {
     match line_on_address(alloc, address) {
         Ok(line) => match out.put(&line) {
@@ -88,12 +91,11 @@ pub fn serve_door<R: Wait, A: Door, V: Answerer, O: Sink>(
     out: &mut O,
 ) -> u8
     requires { IsUnused (A.shows door.old) }
-    ensures serves { Serves (serves_alone V.reached V.replies A.Stream.Source.left
-        A.Stream.Sink.written A.Stream.Source.faults A.Stream.Sink.faults) value.old value.new
-        (A.shows door.old) (A.shows door.new) sessions (O.written out.old) (O.written out.new)
-        result }
+    ensures serves { Serves (serves_alone V.tells A.Stream.Source.tells A.Stream.Sink.tells)
+        value.old value.new (A.shows door.old) (A.shows door.new) sessions
+        (O.tells.written out.old) (O.tells.written out.new) result }
     ensures door { SaysDoor (A.shows door.old).faults (A.shows door.new).faults result }
-    ensures put { IsPutTo O.borrow O.faults out.old out.new result }
+    ensures put { IsPutTo O.tells out.old out.new result }
 {
     let mut address = Vec::new(alloc);
     match door.listen(&mut address) {

@@ -11,12 +11,11 @@ returns-in-Ok-clause-hosts g c =
     let begun = c.in-Ok.ensures in (
       Ok c.in-Ok.store,
       begun,
-      store_served g.D.Disk.reads g.D.Disk.may_leave g.D.Disk.moment g.D.Disk.left_since g.D.Disk.faults
-          g.A.Stream.Source.left g.A.Stream.Sink.written g.A.Stream.Source.faults g.A.Stream.Sink.faults
+      store_served g.D.Disk.tells g.A.Stream.Source.tells g.A.Stream.Sink.tells
           (keys c.args.settings.now.base_check c.args.settings.now.surface.bytes) c.args.settings.now.mode
           c.args.disk c.in-Ok.store c.serve_door-status.new.value (g.A.Door.shows c.args.door.now)
           (g.A.Door.shows c.serve_door-status.new.door) c.args.settings.now.sessions
-          (g.O.Sink.written c.args.out.now) (g.O.Sink.written c.serve_door-status.new.out)
+          (g.O.Sink.tells.written c.args.out.now) (g.O.Sink.tells.written c.serve_door-status.new.out)
           (record { status = c.serve_door-status.result; disk = None }) begun.opened begun.any_moment refl
           c.new-server.result (c.new-server.ensures.same ∙ c.new.ensures) c.new-server.ensures.begins
           c.serve_door-status.ensures.serves,
@@ -24,15 +23,11 @@ returns-in-Ok-clause-hosts g c =
 
 pub returns-in-Ok-clause-disk : goal.returns-in-Ok-clause-disk
 returns-in-Ok-clause-disk g c = λ four.
-    absurd (serves_not_4 (serves_store g.D.Disk.reads g.D.Disk.may_leave g.D.Disk.moment
-    g.D.Disk.left_since g.D.Disk.faults g.A.Stream.Source.left g.A.Stream.Sink.written g.A.Stream.Source.faults
-    g.A.Stream.Sink.faults) _ _ _ _ _ _ _ _ c.serve_door-status.ensures.serves four)
+    absurd (serves_not_4 (serves_store g.D.Disk.tells g.A.Stream.Source.tells g.A.Stream.Sink.tells) _ _ _ _ _ _ _ _ c.serve_door-status.ensures.serves four)
 
 pub returns-in-Ok-clause-opens : goal.returns-in-Ok-clause-opens
 returns-in-Ok-clause-opens g c = λ i told stands.
-    serves_open (serves_store g.D.Disk.reads g.D.Disk.may_leave g.D.Disk.moment g.D.Disk.left_since g.D.Disk.faults
-    g.A.Stream.Source.left g.A.Stream.Sink.written g.A.Stream.Source.faults
-    g.A.Stream.Sink.faults) _ _ _ _ _ _ _ _ c.serve_door-status.ensures.serves
+    serves_open (serves_store g.D.Disk.tells g.A.Stream.Source.tells g.A.Stream.Sink.tells) _ _ _ _ _ _ _ _ c.serve_door-status.ensures.serves
 
 pub returns-in-Err-clause-hosts : goal.returns-in-Err-clause-hosts
 returns-in-Err-clause-hosts g c =

@@ -2,4 +2,4 @@ use Rattle.ov_host.proofs.Surviving.{survives_from}
 use Rattle.ov_host.proofs.laws.stores_survive.Goals as goal
 
 pub returns : goal.returns
-returns g c = survives_from g.D.Disk.reads g.D.Disk.may_leave g.D.Disk.moment g.D.Disk.left_since g.D.Disk.faults
+returns g c = survives_from g.D.Disk.tells

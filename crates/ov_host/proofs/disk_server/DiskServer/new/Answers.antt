@@ -4,5 +4,4 @@ use Rattle.ov_host.proofs.disk_server.DiskServer.new.Goals as goal
 
 pub returns-clause-begins : goal.returns-clause-begins
 returns-clause-begins g c =
-    begins g.D.Disk.reads g.D.Disk.may_leave g.D.Disk.moment g.D.Disk.left_since g.met.D.Disk.counts_now g.met.D.Disk.only_now g.D.Disk.borrow g.D.Disk.faults
-    _ (reached_at_once _ (served_now g.D.Disk.reads g.D.Disk.may_leave _ c.known.ensures.0 c.known.ensures.1))
+    begins g.D.Disk.tells _ (reached_at_once _ (served_now g.D.Disk.tells _ c.known.ensures.0 c.known.ensures.1))

@@ -7,30 +7,24 @@ use Rattle.ov_host.proofs.disk_server.DiskServerAnswerer.answer.Goals as goal
 
 pub returns-clause-frame : goal.returns-clause-frame
 returns-clause-frame g c =
-    frame_ok g.D.Disk.reads g.D.Disk.may_leave _ _ _ _ c.answer.result c.answer.ensures.answer
+    frame_ok g.D.Disk.tells _ _ _ _ c.answer.result c.answer.ensures.answer
 
 pub returns-clause-accepted : goal.returns-clause-accepted
 returns-clause-accepted g c =
-    accepted_ok g.D.Disk.reads g.D.Disk.may_leave _ _ _ _ c.answer.result c.answer.ensures.answer
+    accepted_ok g.D.Disk.tells _ _ _ _ c.answer.result c.answer.ensures.answer
 
 pub returns-clause-replies : goal.returns-clause-replies
 returns-clause-replies g c = λ start list before.
-    replies_after g.D.Disk.reads g.D.Disk.may_leave g.D.Disk.moment g.D.Disk.left_since
-    g.met.D.Disk.counts_now g.met.D.Disk.only_now g.D.Disk.borrow g.D.Disk.faults _ _ _ _ c.answer.result c.answer.ensures.answer
-    start list (subst (λ (s : Opened g.row.D.Denot). GoesOn g.D.Disk.reads g.D.Disk.may_leave
-    g.D.Disk.moment g.D.Disk.left_since g.D.Disk.faults start list s) (sym c.self.view_is) before)
+    replies_after g.D.Disk.tells _ _ _ _ c.answer.result c.answer.ensures.answer
+    start list (subst (λ (s : Opened g.row.D.Denot). GoesOn g.D.Disk.tells start list s) (sym c.self.view_is) before)
 
 pub returns-clause-reached : goal.returns-clause-reached
 returns-clause-reached g c = λ start list before.
-    goes_on_ok g.D.Disk.reads g.D.Disk.may_leave g.D.Disk.moment g.D.Disk.left_since
-    g.met.D.Disk.counts_now g.met.D.Disk.only_now g.D.Disk.borrow g.D.Disk.faults _ _ _ _ c.answer.result c.answer.ensures.answer
+    goes_on_ok g.D.Disk.tells _ _ _ _ c.answer.result c.answer.ensures.answer
     c.answer.ensures.any_moment c.answer.ensures.call
-    start list (subst (λ (s : Opened g.row.D.Denot). GoesOn g.D.Disk.reads g.D.Disk.may_leave
-    g.D.Disk.moment g.D.Disk.left_since g.D.Disk.faults start list s) (sym c.self.view_is) before)
+    start list (subst (λ (s : Opened g.row.D.Denot). GoesOn g.D.Disk.tells start list s) (sym c.self.view_is) before)
 
 pub returns-clause-kept : goal.returns-clause-kept
 returns-clause-kept g c = λ start list before.
-    goes_on_err g.D.Disk.reads g.D.Disk.may_leave g.D.Disk.moment g.D.Disk.left_since
-    g.met.D.Disk.counts_now g.met.D.Disk.only_now g.D.Disk.borrow g.D.Disk.faults _ _ c.args.request.now _ c.answer.result c.answer.ensures.memory
-    start list (subst (λ (s : Opened g.row.D.Denot). GoesOn g.D.Disk.reads g.D.Disk.may_leave
-    g.D.Disk.moment g.D.Disk.left_since g.D.Disk.faults start list s) (sym c.self.view_is) before)
+    goes_on_err g.D.Disk.tells _ _ c.args.request.now _ c.answer.result c.answer.ensures.memory
+    start list (subst (λ (s : Opened g.row.D.Denot). GoesOn g.D.Disk.tells start list s) (sym c.self.view_is) before)

@@ -8,10 +8,8 @@ use Rattle.ov_host.proofs.disk_server.DiskServerAnswerer.epoch.Goals as goal
 
 pub returns-clause-begins : goal.returns-clause-begins
 returns-clause-begins g c =
-    subst (λ (s : Opened g.row.D.Denot). GoesOn g.D.Disk.reads g.D.Disk.may_leave
-    g.D.Disk.moment g.D.Disk.left_since g.D.Disk.faults s [] s) c.self.view_is
-    (begins g.D.Disk.reads g.D.Disk.may_leave g.D.Disk.moment g.D.Disk.left_since
-    g.met.D.Disk.counts_now g.met.D.Disk.only_now g.D.Disk.borrow g.D.Disk.faults _ c.epoch.ensures.begins)
+    subst (λ (s : Opened g.row.D.Denot). GoesOn g.D.Disk.tells s [] s) c.self.view_is
+    (begins g.D.Disk.tells _ c.epoch.ensures.begins)
 
 pub returns-clause-counts : goal.returns-clause-counts
 returns-clause-counts g c = λ start list before.
