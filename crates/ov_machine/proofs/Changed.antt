@@ -3,7 +3,7 @@ use Rattle.std.proofs.Common.{◌≡◌, ◌∙◌, ℕ, ◌+◌, ◌<◌, ◌^�
 use Rattle.std.specs.Prelude.{◌⊎◌}
 use Rattle.ov_base.proofs.Tests.{lt_is_false}
 use Rattle.ov_base.specs.declared.refusal.Refusal.{Refusal}
-use Rattle.ov_disk.specs.Disk.{Image}
+use Rattle.ov_disk.specs.Tells.{DiskTells}
 use Rattle.ov_record.specs.Spelling.{HasForm, spelling}
 use Rattle.ov_record.specs.Updates.{SealedUpdate}
 use Rattle.ov_history.specs.Briefs.{brief}
@@ -27,7 +27,7 @@ use Rattle.ov_owner.specs.declared.fault.OwnerFault.{OwnerFault}
 use Rattle.ov_owner.specs.declared.fault.OwnerFault.TheVariants as faults
 use Rattle.ov_owner.proofs.Fitting.{reads_back}
 use Rattle.ov_owner.proofs.Stepping.{read_back}
-use Rattle.ov_machine.specs.Seats.{LeftBy as LeftBySeat, served}
+use Rattle.ov_machine.specs.Seats.{LeftBy as LeftBySeat, served, store_peer}
 use Rattle.ov_machine.proofs.Errands.{IsHonest, IsMakeable, IsTold}
 use Rattle.ov_machine.proofs.Quiet.{Says, quiet_asked, says}
 
@@ -57,15 +57,13 @@ update_taken surface c epoch u a ready spelled (tagged, now, is) form =
     taken c epoch u a ready
     (subst (λ (r : Result SealedUpdate ℕ). AnswersSpelled c r a) (read_back u spelled) is) form
 
-module _ {D : Type 0} (reads : D → Option Image) (may_leave : D → Image → Type 0)
-    (moment : D → ℕ) (left_since : D → ℕ → Image → Type 0) (borrow faults_of : D → ℕ)
-    (surface : List ℕ) (e : Errand) (is_honest : IsHonest e) where
+module _ {D : Type 0} (tells : DiskTells D) (surface : List ℕ) (e : Errand)
+    (is_honest : IsHonest e) where
   abbrev asked : Opened D → List ℕ → List ℕ → Opened D → Type 0
-  asked s request reply t =
-      served reads may_leave moment left_since borrow faults_of s request reply t
+  asked s request reply t = served tells s request reply t
 
   abbrev LeftBy : Opened D → Option (List ℕ) → Opened D → Type 0
-  LeftBy m o t = LeftBySeat reads may_leave moment left_since borrow faults_of m o t
+  LeftBy m o t = LeftBySeat tells m o t
 
   abbrev frame_of : ℕ → SealedUpdate → List ℕ
   frame_of epoch u = request_bytes (update_request surface epoch u)
@@ -73,7 +71,7 @@ module _ {D : Type 0} (reads : D → Option Image) (may_leave : D → Image → 
   -- the update was made, and so is told; or memory or the link failed after it
   pub record IsMade (s t : Opened D) (epoch : ℕ) (u : SealedUpdate) (reply : List ℕ)
       (result : Result ℕ OwnerFault) : Type 0 where
-    pub answered : IsAnswered reads may_leave s t (frame_of epoch u) reply
+    pub answered : IsAnswered tells s t (frame_of epoch u) reply
     pub makes : answered.frame.made ≡ u ∷ []
     pub ends : (result ≡ Ok (epoch + 1)) ⊎ IsAskFault result
 
@@ -121,7 +119,7 @@ module _ {D : Type 0} (reads : D → Option Image) (may_leave : D → Image → 
   -- behind the end nothing is asked
   at_end : (r : Result ℕ OwnerFault) (asks : List Ask) (last : Stage) (o : Option (List ℕ))
       (result : Result ℕ OwnerFault) (n m t : Opened D)
-      → Goes surface e (Ends r) asks last → Leads asked n asks m → LeftBy m o t
+      → Goes surface e (Ends r) asks last → Leads (store_peer tells) n asks m → LeftBy m o t
       → Closes surface e last o result → (t ≡ n) × ((r ≡ result) ⊎ IsAskFault result)
   at_end r [] last None result n m t goes leads left (inl is) =
       let same : Ends r ≡ Ends result = goes ∙ is in (sym (leads ∙ left), inl cc)
@@ -137,7 +135,7 @@ module _ {D : Type 0} (reads : D → Option Image) (may_leave : D → Image → 
       (ready : IsMakeable s.catalogue epoch u) (form : CanSend surface e (Sends [] epoch u))
       (reply : List ℕ) where
     -- where it is answered it is accepted
-    accepted : (is : IsAnswered reads may_leave s t (frame_of epoch u) reply)
+    accepted : (is : IsAnswered tells s t (frame_of epoch u) reply)
         → (is.frame.made ≡ u ∷ []) × (answer_of (update_request surface epoch u) reply ≡ Ok (answers.Accepted (epoch + 1)))
     accepted is =
         let (a, said, makes) = says (serving_of s) (update_request surface epoch u) reply
@@ -166,7 +164,7 @@ module _ {D : Type 0} (reads : D → Option Image) (may_leave : D → Image → 
         → asked s (frame_of epoch u) reply t
         → IsMade s t epoch u reply result ⊎ IsFailed s t epoch u reply result
     comes_cut result why asks = by asks.answer where
-      by : AnswersOrFails reads may_leave s t (frame_of epoch u) reply
+      by : AnswersOrFails tells s t (frame_of epoch u) reply
           → IsMade s t epoch u reply result ⊎ IsFailed s t epoch u reply result
       by (inl is) = inl (record { answered = is; makes = (accepted is).0; ends = inr why })
       by (inr is) = inr (record { faulted = is; ends = inr why })
@@ -183,7 +181,7 @@ module _ {D : Type 0} (reads : D → Option Image) (may_leave : D → Image → 
           → next ≡ stage_after e (Sends [] epoch u) read
       goes read so = is ∙ ap (stage_after e (Sends [] epoch u)) so
 
-      by : AnswersOrFails reads may_leave s t (frame_of epoch u) reply
+      by : AnswersOrFails tells s t (frame_of epoch u) reply
           → (r : Result ℕ OwnerFault) × (next ≡ Ends r)
           × (IsMade s t epoch u reply r ⊎ IsFailed s t epoch u reply r)
       by (inl answered) = (
@@ -228,7 +226,7 @@ module _ {D : Type 0} (reads : D → Option Image) (may_leave : D → Image → 
         (m t : Opened D)
         → Answers (serving_of s) e.first told → e.sealed told ≡ Ok (epoch, u)
         → IsMakeable s.catalogue epoch u
-        → Goes surface e (Sends [] epoch u) asks last → Leads asked s asks m → LeftBy m o t
+        → Goes surface e (Sends [] epoch u) asks last → Leads (store_peer tells) s asks m → LeftBy m o t
         → Closes surface e last o result → Changes s t result
     from_sends told epoch u [] last None result m t answered is ready goes leads left (inl ends) =
         let never : Sends [] epoch u ≡ Ends result = goes ∙ ends in absurd (cc never)
@@ -290,7 +288,7 @@ module _ {D : Type 0} (reads : D → Option Image) (may_leave : D → Image → 
         (o : Option (List ℕ)) (result : Result ℕ OwnerFault) (n m t : Opened D)
         → n ≡ s → Answers (serving_of s) e.first told → IsTold s.catalogue (e.sealed told)
         → next ≡ after_first [] 0 (e.sealed told)
-        → Goes surface e next asks last → Leads asked n asks m → LeftBy m o t
+        → Goes surface e next asks last → Leads (store_peer tells) n asks m → LeftBy m o t
         → Closes surface e last o result → Changes s t result
     from_told told next asks last o result n m t still answered (inl (why, is)) after_it goes leads
         left closes =
@@ -307,12 +305,12 @@ module _ {D : Type 0} (reads : D → Option Image) (may_leave : D → Image → 
         after_it ∙ ap (after_first [] 0) is ∙ sends_on epoch u in
         from_sends told epoch u asks last o result m t answered is ready
         (subst (λ (x : Stage). Goes surface e x asks last) sends goes)
-        (subst (λ (x : Opened D). Leads asked x asks m) still leads) left closes
+        (subst (λ (x : Opened D). Leads (store_peer tells) x asks m) still leads) left closes
 
     -- a whole call
     pub changed_by : (asks : List Ask) (o : Option (List ℕ)) (result : Result ℕ OwnerFault)
         (m t : Opened D)
-        → Talks surface e asks o result → Leads asked s asks m → LeftBy m o t
+        → Talks surface e asks o result → Leads (store_peer tells) s asks m → LeftBy m o t
         → Changes s t result
     changed_by [] None result m t (last, goes, inl ends) leads left =
         let never : start ≡ Ends result = goes ∙ ends in absurd (cc never)
@@ -325,7 +323,7 @@ module _ {D : Type 0} (reads : D → Option Image) (may_leave : D → Image → 
         let ours = first_is frame due in
         let spelled : frame ≡ request_bytes e.first =
         due.spelled ∙ ap request_bytes (sym ours) in
-        let quiet = quiet_asked reads may_leave moment left_since borrow faults_of m t e.first reply
+        let quiet = quiet_asked tells m t e.first reply
         due.form is_honest.quiet
         (subst (λ (x : List ℕ). asked m x reply t) spelled lost) in
         cut (quiet.0 ∙ sym leads) why
@@ -334,7 +332,7 @@ module _ {D : Type 0} (reads : D → Option Image) (may_leave : D → Image → 
         let ours = first_is a.request due in
         let spelled : a.request ≡ request_bytes e.first =
         due.spelled ∙ ap request_bytes (sym ours) in
-        let (still, told, said) = quiet_asked reads may_leave moment left_since borrow faults_of s n
+        let (still, told, said) = quiet_asked tells s n
         e.first a.reply due.form is_honest.quiet
         (subst (λ (x : List ℕ). asked s x a.reply n) spelled first) in
         let then : IsAfter e start e.first a.reply next =

@@ -1,8 +1,8 @@
 -- A step over frames, all in all.
-use Rattle.std.proofs.Common.{◌≡◌, ◌∙◌, ℕ, ◌≤◌, List, false, Option, Result, Ok, Err, refl, sym, ap, subst, inl, inr}
+use Rattle.std.proofs.Common.{◌≡◌, ◌∙◌, ℕ, List, false, Option, Result, Ok, Err, refl, sym, ap, subst, inl, inr}
 use Rattle.std.specs.Prelude.{◌⊎◌}
 use Rattle.ov_base.specs.declared.refusal.Refusal.{Refusal}
-use Rattle.ov_disk.specs.Disk.{Image}
+use Rattle.ov_disk.specs.Tells.{DiskTells}
 use Rattle.ov_script.specs.declared.command.Command.{Command}
 use Rattle.ov_script.specs.declared.command.Command.TheVariants as commands
 use Rattle.ov_script.specs.declared.reply.Reply.{Reply}
@@ -15,7 +15,7 @@ use Rattle.ov_wire.specs.declared.answer.Answer.TheVariants as answers
 use Rattle.ov_wire.specs.declared.answer.Welcome.{Welcome}
 use Rattle.ov_wire.specs.declared.request.Request.TheVariants as requests
 use Rattle.ov_wire.specs.Requests.{HasRequestForm}
-use Rattle.ov_peer.specs.Asks.{Asked, Failed}
+use Rattle.ov_peer.specs.Tells.{PeerTells}
 use Rattle.ov_protocol.specs.Reading.{AnswersList}
 use Rattle.ov_history.specs.Asking.{file_named}
 use Rattle.ov_store.specs.Opened.{Opened}
@@ -52,243 +52,237 @@ ListEnds file p x = EndsThere p (commands.List file) (names_reply file x)
 abbrev ListCauses : ℕ → List ℕ → Result (List (List ℕ)) OwnerFault → Type 0
 ListCauses count file x = HasOwnCause count (names_reply file x)
 
-module _ {D : Type 0} (reads : D → Option Image) (may_leave : D → Image → Type 0)
-    (moment : D → ℕ) (left_since : D → ℕ → Image → Type 0) (borrow faults_of : D → ℕ)
-    (only_now : (d : D) (c : Image) → left_since d (moment d) c → may_leave d c)
-    (counts_now : (d : D) (t : ℕ) (c : Image) → t ≤ moment d → may_leave d c → left_since d t c)
-    {P : Type 0} (asked : Asked P) (failed : Failed P) (server : P → Opened D)
-    (put : P → Option (List ℕ)) (loan : P → ℕ)
-    (seat : IsSeat reads may_leave moment left_since borrow faults_of asked failed server put loan)
-  where
-    -- all that is said of a step but its count of faults
-    pub record IsDone (command : Command) (old new : KeptOn D) (a b : P)
-        (r : Result Reply StepFault) : Type 0 where
-      pub steps : Steps reads may_leave moment left_since command old new r
-      pub traced : Traces reads may_leave command old new (put a) (put b) r
-      pub step : IsStep borrow faults_of old new r
+module _ {D : Type 0} (tells : DiskTells D) {P : Type 0} (peer : PeerTells P)
+    (server : P → Opened D) (put : P → Option (List ℕ)) (loan : P → ℕ)
+    (seat : IsSeat tells peer server put loan) where
+  -- all that is said of a step but its count of faults
+  pub record IsDone (command : Command) (old new : KeptOn D) (a b : P)
+      (r : Result Reply StepFault) : Type 0 where
+    pub steps : Steps tells command old new r
+    pub traced : Traces tells command old new (put a) (put b) r
+    pub step : IsStep tells old new r
 
-    -- ---- changes
+  -- ---- changes
 
-    module _ (k : Masters) (command : Command) (e : Errand) (ours : IsErrandFor k.base command e)
-        (a b : P) (made : Result ℕ OwnerFault)
-        (runs : Runs asked failed k.surface e a b made) where
-      changed : (server a).keys.surface ≡ k.surface
-          → Changes reads may_leave moment left_since borrow faults_of k.surface e (honest k.base command e ours) (server a) (server b) made
-      changed same =
-          let (m, leads, ends) = runs.are_asks in
-          changed_by reads may_leave moment left_since borrow faults_of k.surface e
-          (honest k.base command e ours) (server a) same runs.asks runs.unanswered made (server m)
-          (server b) runs.talks
-          (leads_so reads may_leave moment left_since borrow faults_of asked failed server put loan seat runs.asks a m leads)
-          (left_so reads may_leave moment left_since borrow faults_of asked failed server put loan seat runs.unanswered m b ends)
+  module _ (k : Masters) (command : Command) (e : Errand) (ours : IsErrandFor k.base command e)
+      (a b : P) (made : Result ℕ OwnerFault) (runs : Runs peer k.surface e a b made) where
+    changed : (server a).keys.surface ≡ k.surface
+        → Changes tells k.surface e (honest k.base command e ours) (server a) (server b) made
+    changed same =
+        let (m, leads, ends) = runs.are_asks in
+        changed_by tells k.surface e
+        (honest k.base command e ours) (server a) same runs.asks runs.unanswered made (server m)
+        (server b) runs.talks
+        (leads_so tells peer server put loan seat runs.asks a m leads)
+        (left_so tells peer server put loan seat runs.unanswered m b ends)
 
-      -- no other fault comes
-      pub change_proper : (server a).keys.surface ≡ k.surface → HasOwnFault made
-      change_proper same =
-          changes_proper reads may_leave moment left_since borrow faults_of k.surface e
-          (honest k.base command e ours) (server a) (server b) made (changed same)
+    -- no other fault comes
+    pub change_proper : (server a).keys.surface ≡ k.surface → HasOwnFault made
+    change_proper same =
+        changes_proper tells k.surface e
+        (honest k.base command e ours) (server a) (server b) made (changed same)
 
-    pub change_done : (old new : KeptOn D) (command : Command) (e : Errand)
-        (ours : IsErrandFor old.kept.masters.base command e) (a b : P) (made : Result ℕ OwnerFault)
-        → Runs asked failed old.kept.masters.surface e a b made
-        → server a ≡ opened_of old → server b ≡ opened_of new
-        → new.kept.masters ≡ old.kept.masters → old.failed ≡ false
-        → IsDone command old new a b (change_reply made)
-    change_done old new command e ours a b made runs at_a at_b masters sound =
-        let k = old.kept.masters in
-        let is_honest = honest k.base command e ours in
-        let surface : (server a).keys.surface ≡ k.surface =
-        ap (λ (x : Opened D). x.keys.surface) at_a in
-        let at_ab : Changes reads may_leave moment left_since borrow faults_of k.surface e is_honest (server a) (server b) made =
-        changed k command e ours a b made runs surface in
-        let is : Changes reads may_leave moment left_since borrow faults_of k.surface e is_honest (opened_of old) (opened_of new) made =
-        subst (λ (t : Opened D). Changes reads may_leave moment left_since borrow faults_of k.surface e is_honest (opened_of old) t made) at_b
-        (subst (λ (s : Opened D). Changes reads may_leave moment left_since borrow faults_of k.surface e is_honest s (server b) made) at_a at_ab) in record {
-          steps = λ m p same stands.
-              subst (λ (x : Masters). StepsAt reads may_leave moment left_since x p command old new (change_reply made)) same
-              (changes_step reads may_leave moment left_since borrow faults_of only_now counts_now old new p
-              stands masters sound command e ours is_honest made is);
-          traced = λ p stands.
-              change_put reads may_leave moment left_since borrow faults_of asked failed server put loan seat
-              k p stands.0.0 command e runs.asks runs.unanswered made a b
-              (HasMade reads may_leave k p command old.disk new.disk)
-              (λ last serves comes.
-              has_made reads may_leave moment left_since borrow faults_of only_now counts_now old new p
-              stands masters sound command e ours is_honest made is last
-              (subst (λ (s : Opened D). IsServedBy s last) at_b serves) comes)
-              ours
-              (subst (λ (s : Opened D). IsServedBy s (service_of k p)) (sym at_a) (serves_at old p stands))
-              runs.are_asks runs.talks;
-          step = changes_call reads may_leave moment left_since borrow faults_of k.surface e is_honest old
-              new sound masters made is;
-        }
+  pub change_done : (old new : KeptOn D) (command : Command) (e : Errand)
+      (ours : IsErrandFor old.kept.masters.base command e) (a b : P) (made : Result ℕ OwnerFault)
+      → Runs peer old.kept.masters.surface e a b made
+      → server a ≡ opened_of old → server b ≡ opened_of new
+      → new.kept.masters ≡ old.kept.masters → old.failed ≡ false
+      → IsDone command old new a b (change_reply made)
+  change_done old new command e ours a b made runs at_a at_b masters sound =
+      let k = old.kept.masters in
+      let is_honest = honest k.base command e ours in
+      let surface : (server a).keys.surface ≡ k.surface =
+      ap (λ (x : Opened D). x.keys.surface) at_a in
+      let at_ab : Changes tells k.surface e is_honest (server a) (server b) made =
+      changed k command e ours a b made runs surface in
+      let is : Changes tells k.surface e is_honest (opened_of old) (opened_of new) made =
+      subst (λ (t : Opened D). Changes tells k.surface e is_honest (opened_of old) t made) at_b
+      (subst (λ (s : Opened D). Changes tells k.surface e is_honest s (server b) made) at_a at_ab) in record {
+        steps = λ m p same stands.
+            subst (λ (x : Masters). StepsAt tells x p command old new (change_reply made)) same
+            (changes_step tells old new p
+            stands masters sound command e ours is_honest made is);
+        traced = λ p stands.
+            change_put tells peer server put loan seat
+            k p stands.0.0 command e runs.asks runs.unanswered made a b
+            (HasMade tells k p command old.disk new.disk)
+            (λ last serves comes.
+            has_made tells old new p
+            stands masters sound command e ours is_honest made is last
+            (subst (λ (s : Opened D). IsServedBy s last) at_b serves) comes)
+            ours
+            (subst (λ (s : Opened D). IsServedBy s (service_of k p)) (sym at_a) (serves_at old p stands))
+            runs.are_asks runs.talks;
+        step = changes_call tells k.surface e is_honest old
+            new sound masters made is;
+      }
 
-    -- ---- questions
+  -- ---- questions
 
-    -- a question whose reply is the machine's, and changes nothing
-    pub question_done : (command : Command) (old new : KeptOn D) (a b : P) (r : Result Reply StepFault)
-        → server a ≡ opened_of old → server b ≡ opened_of new → server b ≡ server a
+  -- a question whose reply is the machine's, and changes nothing
+  pub question_done : (command : Command) (old new : KeptOn D) (a b : P) (r : Result Reply StepFault)
+      → server a ≡ opened_of old → server b ≡ opened_of new → server b ≡ server a
+      → new.kept.masters ≡ old.kept.masters
+      → ((p : PlainHistory) → after p command ≡ p)
+      → ((p : PlainHistory) → StandsFor old.kept p → EndsThere p command r)
+      → HasOwnCause (tells.faults old.disk) r
+      → ((p : PlainHistory) → StandsFor old.kept p → IsServedBy (server a) (service_of old.kept.masters p)
+      → TracesAt old.kept.masters p command (Unit {0}) (put a) (put b) r)
+      → IsDone command old new a b r
+  question_done command old new a b r at_a at_b still masters stay ends cause put_so =
+      let same : opened_of new ≡ opened_of old = sym at_b ∙ still ∙ at_a in record {
+        steps = λ m p is stands.
+            subst (λ (x : Masters). StepsAt tells x p command old new r) is
+            (still_steps old new masters same tells p stands command
+            (stay p) r (ends p stands));
+        traced = λ p stands.
+            traced_with old.kept.masters p command (HasMade tells old.kept.masters p command old.disk new.disk)
+            (put a) (put b) r
+            (still_made tells old.kept.masters p command old.disk new.disk (stay p)
+            (ap (λ (s : Opened D). s.disk) same))
+            (put_so p stands
+            (subst (λ (s : Opened D). IsServedBy s (service_of old.kept.masters p)) (sym at_a) (serves_at old p stands)));
+        step = still_call old new masters same tells r cause;
+      }
+
+  -- what is taken of an answer is no fault but these
+  cut_proper : {T : Type 0} (told : Result T OwnerFault) → IsCutOff told → HasOwnFault told
+  cut_proper told (inl is) = subst HasOwnFault (sym is) tt
+  cut_proper told (inr is) = subst HasOwnFault (sym is) tt
+
+  -- ---- the epoch
+
+  hello_taken : (s : Opened D) (told : Result Welcome OwnerFault)
+      → IsTakenOf s requests.Hello welcome_in told
+      → ((w : Welcome) × (w.epoch ≡ s.catalogue.epoch) × (told ≡ Ok w)) ⊎ IsCutOff told
+  hello_taken s told (inl (x, is, so)) =
+      inl (_, refl, so ∙ ap welcome_in is)
+  hello_taken s told (inr cut) = inr cut
+
+  module _ (a b : P) (told : Result Welcome OwnerFault) (form : HasRequestForm requests.Hello)
+      (asks : AsksOnce peer a b requests.Hello welcome_in told) where
+    hello_so : (server b ≡ server a) × IsTakenOf (server a) requests.Hello welcome_in told
+    hello_so =
+        once_so tells peer server put loan seat
+        requests.Hello welcome_in (hello_plain form) a b told asks
+
+    pub hello_proper : HasOwnFault told
+    hello_proper = by (hello_taken (server a) told hello_so.1) where
+      by : ((w : Welcome) × (w.epoch ≡ (server a).catalogue.epoch) × (told ≡ Ok w)) ⊎ IsCutOff told
+          → HasOwnFault told
+      by (inl (w, is, so)) = subst HasOwnFault (sym so) tt
+      by (inr cut) = cut_proper told cut
+
+    pub hello_done : (old new : KeptOn D) → server a ≡ opened_of old → server b ≡ opened_of new
         → new.kept.masters ≡ old.kept.masters
-        → ((p : PlainHistory) → after p command ≡ p)
-        → ((p : PlainHistory) → StandsFor old.kept p → EndsThere p command r)
-        → HasOwnCause (faults_of old.disk) r
-        → ((p : PlainHistory) → StandsFor old.kept p → IsServedBy (server a) (service_of old.kept.masters p)
-        → TracesAt old.kept.masters p command (Unit {0}) (put a) (put b) r)
-        → IsDone command old new a b r
-    question_done command old new a b r at_a at_b still masters stay ends cause put_so =
-        let same : opened_of new ≡ opened_of old = sym at_b ∙ still ∙ at_a in record {
-          steps = λ m p is stands.
-              subst (λ (x : Masters). StepsAt reads may_leave moment left_since x p command old new r) is
-              (still_steps old new masters same reads may_leave moment left_since only_now p stands command
-              (stay p) r (ends p stands));
-          traced = λ p stands.
-              traced_with old.kept.masters p command (HasMade reads may_leave old.kept.masters p command old.disk new.disk)
-              (put a) (put b) r
-              (still_made reads may_leave moment left_since old.kept.masters p command old.disk new.disk (stay p)
-              (ap (λ (s : Opened D). s.disk) same))
-              (put_so p stands
-              (subst (λ (s : Opened D). IsServedBy s (service_of old.kept.masters p)) (sym at_a) (serves_at old p stands)));
-          step = still_call old new masters same borrow faults_of r cause;
-        }
+        → IsDone commands.Epoch old new a b (epoch_reply told)
+    hello_done old new at_a at_b masters =
+        question_done commands.Epoch old new a b (epoch_reply told) at_a at_b hello_so.0 masters
+        (λ p. refl) (λ p stands. ends p stands (hello_taken (server a) told hello_so.1))
+        (cause (hello_taken (server a) told hello_so.1))
+        (λ p stands serves. question_put tells peer
+        server put loan seat old.kept.masters p stands.0.0 commands.Epoch form welcome_in told
+        (epoch_reply told) a b tt serves asks
+        (λ reply is link. no_reply (ap epoch_reply (sym link) ∙ is))
+        (λ reply is memory. no_memory (ap epoch_reply (sym memory) ∙ is))) where
+          no_reply : {reply : Reply} → fault_reply faults.Link ≡ Ok reply → ⊥
+          no_reply is = cc is
 
-    -- what is taken of an answer is no fault but these
-    cut_proper : {T : Type 0} (told : Result T OwnerFault) → IsCutOff told → HasOwnFault told
-    cut_proper told (inl is) = subst HasOwnFault (sym is) tt
-    cut_proper told (inr is) = subst HasOwnFault (sym is) tt
+          no_memory : {reply : Reply} → fault_reply faults.Memory ≡ Ok reply → ⊥
+          no_memory is = cc is
 
-    -- ---- the epoch
+          ends : (p : PlainHistory) → StandsFor old.kept p
+              → ((w : Welcome) × (w.epoch ≡ (server a).catalogue.epoch) × (told ≡ Ok w)) ⊎ IsCutOff told
+              → EndsThere p commands.Epoch (epoch_reply told)
+          ends p stands (inl (w, is, so)) =
+              subst (λ (x : Result Welcome OwnerFault). EndsThere p commands.Epoch (epoch_reply x)) (sym so)
+              (ap replies.Epoch (is ∙ ap (λ (s : Opened D). s.catalogue.epoch) at_a) ∙ epoch_is old.kept p stands)
+          ends p stands (inr (inl is)) =
+              subst (λ (x : Result Welcome OwnerFault). EndsThere p commands.Epoch (epoch_reply x)) (sym is) tt
+          ends p stands (inr (inr is)) =
+              subst (λ (x : Result Welcome OwnerFault). EndsThere p commands.Epoch (epoch_reply x)) (sym is) tt
 
-    hello_taken : (s : Opened D) (told : Result Welcome OwnerFault)
-        → IsTakenOf s requests.Hello welcome_in told
-        → ((w : Welcome) × (w.epoch ≡ s.catalogue.epoch) × (told ≡ Ok w)) ⊎ IsCutOff told
-    hello_taken s told (inl (x, is, so)) =
-        inl (_, refl, so ∙ ap welcome_in is)
-    hello_taken s told (inr cut) = inr cut
+          cause : ((w : Welcome) × (w.epoch ≡ (server a).catalogue.epoch) × (told ≡ Ok w)) ⊎ IsCutOff told
+              → HasOwnCause (tells.faults old.disk) (epoch_reply told)
+          cause (inl (w, is, so)) =
+              subst (λ (x : Result Welcome OwnerFault). HasOwnCause (tells.faults old.disk) (epoch_reply x)) (sym so) tt
+          cause (inr (inl is)) =
+              subst (λ (x : Result Welcome OwnerFault). HasOwnCause (tells.faults old.disk) (epoch_reply x)) (sym is) tt
+          cause (inr (inr is)) =
+              subst (λ (x : Result Welcome OwnerFault). HasOwnCause (tells.faults old.disk) (epoch_reply x)) (sym is) tt
 
-    module _ (a b : P) (told : Result Welcome OwnerFault) (form : HasRequestForm requests.Hello)
-        (asks : AsksOnce asked failed a b requests.Hello welcome_in told) where
-      hello_so : (server b ≡ server a) × IsTakenOf (server a) requests.Hello welcome_in told
-      hello_so =
-          once_so reads may_leave moment left_since borrow faults_of asked failed server put loan seat
-          requests.Hello welcome_in (hello_plain form) a b told asks
+  -- ---- lists
 
-      pub hello_proper : HasOwnFault told
-      hello_proper = by (hello_taken (server a) told hello_so.1) where
-        by : ((w : Welcome) × (w.epoch ≡ (server a).catalogue.epoch) × (told ≡ Ok w)) ⊎ IsCutOff told
-            → HasOwnFault told
-        by (inl (w, is, so)) = subst HasOwnFault (sym so) tt
-        by (inr cut) = cut_proper told cut
+  -- names were listed, or the file isn't there
+  abbrev IsListed : Opened D → List ℕ → Result (List (List ℕ)) OwnerFault → Type 0
+  IsListed s file told =
+      ((names : List (List ℕ)) × (told ≡ Ok names)
+      × AnswersList s.catalogue (file_named s.catalogue file) (answers.Listed names))
+      ⊎ ((why : Refusal) × (told ≡ Err (faults.Refused why))
+      × AnswersList s.catalogue (file_named s.catalogue file) (answers.Refused why))
 
-      pub hello_done : (old new : KeptOn D) → server a ≡ opened_of old → server b ≡ opened_of new
-          → new.kept.masters ≡ old.kept.masters
-          → IsDone commands.Epoch old new a b (epoch_reply told)
-      hello_done old new at_a at_b masters =
-          question_done commands.Epoch old new a b (epoch_reply told) at_a at_b hello_so.0 masters
-          (λ p. refl) (λ p stands. ends p stands (hello_taken (server a) told hello_so.1))
-          (cause (hello_taken (server a) told hello_so.1))
-          (λ p stands serves. question_put reads may_leave moment left_since borrow faults_of asked failed
-          server put loan seat old.kept.masters p stands.0.0 commands.Epoch form welcome_in told
-          (epoch_reply told) a b tt serves asks
-          (λ reply is link. no_reply (ap epoch_reply (sym link) ∙ is))
-          (λ reply is memory. no_memory (ap epoch_reply (sym memory) ∙ is))) where
-            no_reply : {reply : Reply} → fault_reply faults.Link ≡ Ok reply → ⊥
-            no_reply is = cc is
+  list_answer : (s : Opened D) (file : List ℕ) (told : Result (List (List ℕ)) OwnerFault) (x : Answer)
+      → AnswersList s.catalogue (file_named s.catalogue file) x → told ≡ names_in x
+      → IsListed s file told
+  list_answer s file told (answers.Listed names) is so = inl (names, so, is)
+  list_answer s file told (answers.Refused why) is so = inr (why, so, is)
+  list_answer s file told x is so = absurd is
 
-            no_memory : {reply : Reply} → fault_reply faults.Memory ≡ Ok reply → ⊥
-            no_memory is = cc is
+  list_taken : (s : Opened D) (file : List ℕ) (told : Result (List (List ℕ)) OwnerFault)
+      → IsTakenOf s (requests.List file) names_in told
+      → IsListed s file told ⊎ IsCutOff told
+  list_taken s file told (inl (x, is, so)) = inl (list_answer s file told x is so)
+  list_taken s file told (inr cut) = inr cut
 
-            ends : (p : PlainHistory) → StandsFor old.kept p
-                → ((w : Welcome) × (w.epoch ≡ (server a).catalogue.epoch) × (told ≡ Ok w)) ⊎ IsCutOff told
-                → EndsThere p commands.Epoch (epoch_reply told)
-            ends p stands (inl (w, is, so)) =
-                subst (λ (x : Result Welcome OwnerFault). EndsThere p commands.Epoch (epoch_reply x)) (sym so)
-                (ap replies.Epoch (is ∙ ap (λ (s : Opened D). s.catalogue.epoch) at_a) ∙ epoch_is old.kept p stands)
-            ends p stands (inr (inl is)) =
-                subst (λ (x : Result Welcome OwnerFault). EndsThere p commands.Epoch (epoch_reply x)) (sym is) tt
-            ends p stands (inr (inr is)) =
-                subst (λ (x : Result Welcome OwnerFault). EndsThere p commands.Epoch (epoch_reply x)) (sym is) tt
+  module _ (file : List ℕ) (a b : P) (told : Result (List (List ℕ)) OwnerFault)
+      (form : HasRequestForm (requests.List file))
+      (asks : AsksOnce peer a b (requests.List file) names_in told) where
+    list_so : (server b ≡ server a) × IsTakenOf (server a) (requests.List file) names_in told
+    list_so =
+        once_so tells peer server put loan seat
+        (requests.List file) names_in (list_plain file form) a b told asks
 
-            cause : ((w : Welcome) × (w.epoch ≡ (server a).catalogue.epoch) × (told ≡ Ok w)) ⊎ IsCutOff told
-                → HasOwnCause (faults_of old.disk) (epoch_reply told)
-            cause (inl (w, is, so)) =
-                subst (λ (x : Result Welcome OwnerFault). HasOwnCause (faults_of old.disk) (epoch_reply x)) (sym so) tt
-            cause (inr (inl is)) =
-                subst (λ (x : Result Welcome OwnerFault). HasOwnCause (faults_of old.disk) (epoch_reply x)) (sym is) tt
-            cause (inr (inr is)) =
-                subst (λ (x : Result Welcome OwnerFault). HasOwnCause (faults_of old.disk) (epoch_reply x)) (sym is) tt
+    pub list_proper : HasOwnFault told
+    list_proper = by (list_taken (server a) file told list_so.1) where
+      by : IsListed (server a) file told ⊎ IsCutOff told → HasOwnFault told
+      by (inl (inl (names, so, is))) = subst HasOwnFault (sym so) tt
+      by (inl (inr (why, so, is))) = subst HasOwnFault (sym so) tt
+      by (inr cut) = cut_proper told cut
 
-    -- ---- lists
+    pub list_done : (old new : KeptOn D) → server a ≡ opened_of old → server b ≡ opened_of new
+        → new.kept.masters ≡ old.kept.masters
+        → IsDone (commands.List file) old new a b (names_reply file told)
+    list_done old new at_a at_b masters =
+        question_done (commands.List file) old new a b (names_reply file told) at_a at_b list_so.0
+        masters (λ p. refl) (λ p stands. ends p stands (list_taken (server a) file told list_so.1))
+        (cause (list_taken (server a) file told list_so.1))
+        (λ p stands serves. question_put tells peer
+        server put loan seat old.kept.masters p stands.0.0 (commands.List file) form names_in told
+        (names_reply file told) a b tt serves asks
+        (λ reply is link. no_reply (ap (names_reply file) (sym link) ∙ is))
+        (λ reply is memory. no_memory (ap (names_reply file) (sym memory) ∙ is))) where
+          no_reply : {reply : Reply} → fault_reply faults.Link ≡ Ok reply → ⊥
+          no_reply is = cc is
 
-    -- names were listed, or the file isn't there
-    abbrev IsListed : Opened D → List ℕ → Result (List (List ℕ)) OwnerFault → Type 0
-    IsListed s file told =
-        ((names : List (List ℕ)) × (told ≡ Ok names)
-        × AnswersList s.catalogue (file_named s.catalogue file) (answers.Listed names))
-        ⊎ ((why : Refusal) × (told ≡ Err (faults.Refused why))
-        × AnswersList s.catalogue (file_named s.catalogue file) (answers.Refused why))
+          no_memory : {reply : Reply} → fault_reply faults.Memory ≡ Ok reply → ⊥
+          no_memory is = cc is
 
-    list_answer : (s : Opened D) (file : List ℕ) (told : Result (List (List ℕ)) OwnerFault) (x : Answer)
-        → AnswersList s.catalogue (file_named s.catalogue file) x → told ≡ names_in x
-        → IsListed s file told
-    list_answer s file told (answers.Listed names) is so = inl (names, so, is)
-    list_answer s file told (answers.Refused why) is so = inr (why, so, is)
-    list_answer s file told x is so = absurd is
+          at_old : (x : Answer) → AnswersList (server a).catalogue (file_named (server a).catalogue file) x
+              → AnswersList old.kept.catalogue (file_named old.kept.catalogue file) x
+          at_old x is =
+              subst (λ (s : Opened D). AnswersList s.catalogue (file_named s.catalogue file) x) at_a is
 
-    list_taken : (s : Opened D) (file : List ℕ) (told : Result (List (List ℕ)) OwnerFault)
-        → IsTakenOf s (requests.List file) names_in told
-        → IsListed s file told ⊎ IsCutOff told
-    list_taken s file told (inl (x, is, so)) = inl (list_answer s file told x is so)
-    list_taken s file told (inr cut) = inr cut
+          ends : (p : PlainHistory) → StandsFor old.kept p → IsListed (server a) file told ⊎ IsCutOff told
+              → ListEnds file p told
+          ends p stands (inl (inl (names, so, is))) =
+              subst (ListEnds file p) (sym so) (list_is old.kept p stands file names (at_old (answers.Listed names) is))
+          ends p stands (inl (inr (why, so, is))) =
+              subst (ListEnds file p) (sym so) (refused_is old.kept p stands file why (at_old (answers.Refused why) is))
+          ends p stands (inr (inl is)) = subst (ListEnds file p) (sym is) tt
+          ends p stands (inr (inr is)) = subst (ListEnds file p) (sym is) tt
 
-    module _ (file : List ℕ) (a b : P) (told : Result (List (List ℕ)) OwnerFault)
-        (form : HasRequestForm (requests.List file))
-        (asks : AsksOnce asked failed a b (requests.List file) names_in told) where
-      list_so : (server b ≡ server a) × IsTakenOf (server a) (requests.List file) names_in told
-      list_so =
-          once_so reads may_leave moment left_since borrow faults_of asked failed server put loan seat
-          (requests.List file) names_in (list_plain file form) a b told asks
-
-      pub list_proper : HasOwnFault told
-      list_proper = by (list_taken (server a) file told list_so.1) where
-        by : IsListed (server a) file told ⊎ IsCutOff told → HasOwnFault told
-        by (inl (inl (names, so, is))) = subst HasOwnFault (sym so) tt
-        by (inl (inr (why, so, is))) = subst HasOwnFault (sym so) tt
-        by (inr cut) = cut_proper told cut
-
-      pub list_done : (old new : KeptOn D) → server a ≡ opened_of old → server b ≡ opened_of new
-          → new.kept.masters ≡ old.kept.masters
-          → IsDone (commands.List file) old new a b (names_reply file told)
-      list_done old new at_a at_b masters =
-          question_done (commands.List file) old new a b (names_reply file told) at_a at_b list_so.0
-          masters (λ p. refl) (λ p stands. ends p stands (list_taken (server a) file told list_so.1))
-          (cause (list_taken (server a) file told list_so.1))
-          (λ p stands serves. question_put reads may_leave moment left_since borrow faults_of asked failed
-          server put loan seat old.kept.masters p stands.0.0 (commands.List file) form names_in told
-          (names_reply file told) a b tt serves asks
-          (λ reply is link. no_reply (ap (names_reply file) (sym link) ∙ is))
-          (λ reply is memory. no_memory (ap (names_reply file) (sym memory) ∙ is))) where
-            no_reply : {reply : Reply} → fault_reply faults.Link ≡ Ok reply → ⊥
-            no_reply is = cc is
-
-            no_memory : {reply : Reply} → fault_reply faults.Memory ≡ Ok reply → ⊥
-            no_memory is = cc is
-
-            at_old : (x : Answer) → AnswersList (server a).catalogue (file_named (server a).catalogue file) x
-                → AnswersList old.kept.catalogue (file_named old.kept.catalogue file) x
-            at_old x is =
-                subst (λ (s : Opened D). AnswersList s.catalogue (file_named s.catalogue file) x) at_a is
-
-            ends : (p : PlainHistory) → StandsFor old.kept p → IsListed (server a) file told ⊎ IsCutOff told
-                → ListEnds file p told
-            ends p stands (inl (inl (names, so, is))) =
-                subst (ListEnds file p) (sym so) (list_is old.kept p stands file names (at_old (answers.Listed names) is))
-            ends p stands (inl (inr (why, so, is))) =
-                subst (ListEnds file p) (sym so) (refused_is old.kept p stands file why (at_old (answers.Refused why) is))
-            ends p stands (inr (inl is)) = subst (ListEnds file p) (sym is) tt
-            ends p stands (inr (inr is)) = subst (ListEnds file p) (sym is) tt
-
-            cause : IsListed (server a) file told ⊎ IsCutOff told → ListCauses (faults_of old.disk) file told
-            cause (inl (inl (names, so, is))) = subst (ListCauses (faults_of old.disk) file) (sym so) tt
-            cause (inl (inr (why, so, is))) = subst (ListCauses (faults_of old.disk) file) (sym so) tt
-            cause (inr (inl is)) = subst (ListCauses (faults_of old.disk) file) (sym is) tt
-            cause (inr (inr is)) = subst (ListCauses (faults_of old.disk) file) (sym is) tt
+          cause : IsListed (server a) file told ⊎ IsCutOff told → ListCauses (tells.faults old.disk) file told
+          cause (inl (inl (names, so, is))) = subst (ListCauses (tells.faults old.disk) file) (sym so) tt
+          cause (inl (inr (why, so, is))) = subst (ListCauses (tells.faults old.disk) file) (sym so) tt
+          cause (inr (inl is)) = subst (ListCauses (tells.faults old.disk) file) (sym is) tt
+          cause (inr (inr is)) = subst (ListCauses (tells.faults old.disk) file) (sym is) tt

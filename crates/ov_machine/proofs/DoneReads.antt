@@ -1,8 +1,8 @@
 -- A read over frames, all in all.
-use Rattle.std.proofs.Common.{◌≡◌, ℕ, ◌≤◌, List, false, Option, Some, Result, Ok, Err, refl, sym, subst, inl, inr}
+use Rattle.std.proofs.Common.{◌≡◌, ℕ, List, false, Option, Some, Result, Ok, Err, refl, sym, subst, inl, inr}
 use Rattle.std.specs.Prelude.{◌⊎◌}
 use Rattle.ov_base.specs.declared.refusal.Refusal.{Refusal}
-use Rattle.ov_disk.specs.Disk.{Image}
+use Rattle.ov_disk.specs.Tells.{DiskTells}
 use Rattle.ov_script.specs.declared.command.Command.TheVariants.{Read}
 use Rattle.ov_script.specs.declared.reply.Reply.{Reply}
 use Rattle.ov_history.specs.Asking.{key_refusal, user_named}
@@ -15,7 +15,8 @@ use Rattle.ov_wire.specs.declared.answer.Answer.TheVariants as answers
 use Rattle.ov_wire.specs.declared.request.Question.TheVariants as questions
 use Rattle.ov_wire.specs.declared.request.Request.TheVariants as requests
 use Rattle.ov_wire.specs.Requests.{HasRequestForm}
-use Rattle.ov_peer.specs.Asks.{Asked, Failed, Leads}
+use Rattle.ov_peer.specs.Asks.{Leads}
+use Rattle.ov_peer.specs.Tells.{PeerTells}
 use Rattle.ov_protocol.specs.Asking.{AnswersAsk}
 use Rattle.ov_client.specs.Readers.{Reader}
 use Rattle.ov_client.specs.Reads.{Reads}
@@ -32,7 +33,7 @@ use Rattle.ov_transcript.specs.Transcripts.{service_of}
 use Rattle.ov_machine.specs.Frames.{TracesAt}
 use Rattle.ov_machine.specs.Machine.{KeptOn, StandsFor, opened_of}
 use Rattle.ov_machine.specs.Replying.{HasOwnFault, HasReadFault, fault_reply, read_reply}
-use Rattle.ov_machine.specs.Seats.{AllStay, IsSeat, served}
+use Rattle.ov_machine.specs.Seats.{AllStay, IsSeat, store_peer}
 use Rattle.ov_machine.specs.declared.fault.StepFault.{StepFault}
 use Rattle.ov_machine.proofs.Done.{IsDone, question_done}
 use Rattle.ov_machine.proofs.Fetching.{HasLengths, IsReadEnd, reads_so}
@@ -44,9 +45,9 @@ use Rattle.ov_machine.proofs.Seating.{leads_so, left_so}
 use Rattle.ov_machine.proofs.Staying.{EndsThere, HasOwnCause}
 
 -- what a store that stands for some history stores of a file has the file's length
-pub has_lengths : {D : Type 0} (reads : D → Option Image) (may_leave : D → Image → Type 0)
-    (s : Opened D) (g : SealedHistory) → Serves reads may_leave g s → HasLengths s
-has_lengths reads may_leave s g serves n f is =
+pub has_lengths : {D : Type 0} (tells : DiskTells D)
+    (s : Opened D) (g : SealedHistory) → Serves tells g s → HasLengths s
+has_lengths tells s g serves n f is =
     (stored_is_coated s.keys.surface s.catalogue s.stored g serves.catalogue serves.bytes).lengths n f is
 
 -- a read that ends has no other fault
@@ -97,33 +98,27 @@ replied_so user file (Err client.Device) reply is = absurd (cc is)
 replied_so user file (Err (client.Unsettled generations)) reply is = absurd (cc is)
 replied_so user file (Err client.Memory) reply is = absurd (cc is)
 
-module _ {D : Type 0} (reads : D → Option Image) (may_leave : D → Image → Type 0)
-    (moment : D → ℕ) (left_since : D → ℕ → Image → Type 0) (borrow faults_of : D → ℕ)
-    (only_now : (d : D) (c : Image) → left_since d (moment d) c → may_leave d c)
-    (counts_now : (d : D) (t : ℕ) (c : Image) → t ≤ moment d → may_leave d c → left_since d t c)
-    {P : Type 0} (asked : Asked P) (failed : Failed P) (server : P → Opened D)
-    (put : P → Option (List ℕ)) (loan : P → ℕ)
-    (seat : IsSeat reads may_leave moment left_since borrow faults_of asked failed server put loan)
-    (k : Masters) (user file : List ℕ) (a b : P)
+module _ {D : Type 0} (tells : DiskTells D) {P : Type 0} (peer : PeerTells P)
+    (server : P → Opened D) (put : P → Option (List ℕ)) (loan : P → ℕ)
+    (seat : IsSeat tells peer server put loan) (k : Masters) (user file : List ℕ) (a b : P)
     (form : HasRequestForm (requests.Ask (questions.Key user))) where
   abbrev Done : KeptOn D → KeptOn D → P → Result Reply StepFault → Type 0
   Done old new d r =
-      IsDone reads may_leave moment left_since borrow faults_of only_now counts_now asked failed server put
+      IsDone tells peer server put
       loan seat (Read user file) old new a d r
 
   module _ (told : Result Reader OwnerFault)
-      (asks : AsksOnce asked failed a b (requests.Ask (questions.Key user)) (reader_in k user) told)
-    where
-      pub key_so : (server b ≡ server a)
-          × IsTakenOf (server a) (requests.Ask (questions.Key user)) (reader_in k user) told
-      key_so =
-          once_so reads may_leave moment left_since borrow faults_of asked failed server put loan seat
-          (requests.Ask (questions.Key user)) (reader_in k user) (key_plain user form) a b told asks
+      (asks : AsksOnce peer a b (requests.Ask (questions.Key user)) (reader_in k user) told) where
+    pub key_so : (server b ≡ server a)
+        × IsTakenOf (server a) (requests.Ask (questions.Key user)) (reader_in k user) told
+    key_so =
+        once_so tells peer server put loan seat
+        (requests.Ask (questions.Key user)) (reader_in k user) (key_plain user form) a b told asks
 
   -- ---- no reader
 
   module _ (fault : OwnerFault)
-      (asks : AsksOnce asked failed a b (requests.Ask (questions.Key user)) (reader_in k user) (Err fault))
+      (asks : AsksOnce peer a b (requests.Ask (questions.Key user)) (reader_in k user) (Err fault))
     where
       -- the user isn't there, or the call was cut off
       abbrev IsUnreadFor : Opened D → Type 0
@@ -158,13 +153,13 @@ module _ {D : Type 0} (reads : D → Option Image) (may_leave : D → Image → 
           → server b ≡ opened_of new → new.kept.masters ≡ old.kept.masters
           → Done old new b (fault_reply fault)
       unread_done old new at_k at_a at_b masters =
-          question_done reads may_leave moment left_since borrow faults_of only_now counts_now asked failed
+          question_done tells peer
           server put loan seat (Read user file) old new a b (fault_reply fault) at_a at_b
           (key_so (Err fault) asks).0 masters (λ p. refl)
           (λ p stands. ends p stands unread_so) (cause unread_so)
           (λ p stands serves.
           subst (λ (m : Masters). TracesAt m p (Read user file) (Unit {0}) (put a) (put b) (fault_reply fault)) at_k
-          (unread_put reads may_leave moment left_since borrow faults_of asked failed server put loan seat k p
+          (unread_put tells peer server put loan seat k p
           stands.0.0 user file fault a b form
           (subst (λ (m : Masters). IsServedBy (server a) (service_of m p)) (sym at_k) serves) asks)) where
             ends : (p : PlainHistory) → StandsFor old.kept p → IsUnreadFor (server a)
@@ -179,20 +174,20 @@ module _ {D : Type 0} (reads : D → Option Image) (may_leave : D → Image → 
             ends p stands (inr (inr so)) =
                 subst (λ (f : OwnerFault). EndsThere p (Read user file) (fault_reply f)) (sym so) tt
 
-            cause : IsUnreadFor (server a) → HasOwnCause (faults_of old.disk) (fault_reply fault)
+            cause : IsUnreadFor (server a) → HasOwnCause (tells.faults old.disk) (fault_reply fault)
             cause (inl (why, so, is)) =
-                subst (λ (f : OwnerFault). HasOwnCause (faults_of old.disk) (fault_reply f)) (sym so) tt
+                subst (λ (f : OwnerFault). HasOwnCause (tells.faults old.disk) (fault_reply f)) (sym so) tt
             cause (inr (inl so)) =
-                subst (λ (f : OwnerFault). HasOwnCause (faults_of old.disk) (fault_reply f)) (sym so) tt
+                subst (λ (f : OwnerFault). HasOwnCause (tells.faults old.disk) (fault_reply f)) (sym so) tt
             cause (inr (inr so)) =
-                subst (λ (f : OwnerFault). HasOwnCause (faults_of old.disk) (fault_reply f)) (sym so) tt
+                subst (λ (f : OwnerFault). HasOwnCause (tells.faults old.disk) (fault_reply f)) (sym so) tt
 
   -- ---- a reader
 
   module _ (r : Reader) (found : Result (List ℕ) ClientFault) (d : P)
-      (asks : AsksOnce asked failed a b (requests.Ask (questions.Key user)) (reader_in k user) (Ok r))
-      (talk : Reads asked failed b d r file found)
-      (sizes : HasLengths (server a)) (sound : (server a).failed ≡ false) where
+      (asks : AsksOnce peer a b (requests.Ask (questions.Key user)) (reader_in k user) (Ok r))
+      (talk : Reads peer b d r file found) (sizes : HasLengths (server a))
+      (sound : (server a).failed ≡ false) where
     reader : IsReader k (server a).catalogue user r
     reader = by (key_so (Ok r) asks).1 where
       by : IsTakenOf (server a) (requests.Ask (questions.Key user)) (reader_in k user) (Ok r)
@@ -204,37 +199,37 @@ module _ {D : Type 0} (reads : D → Option Image) (may_leave : D → Image → 
     still : server b ≡ server a
     still = (key_so (Ok r) asks).0
 
-    fetched : (server d ≡ server a) × IsReadEnd (faults_of (server a).disk) found
-        × AllStay reads may_leave moment left_since borrow faults_of (server a) talk.0
+    fetched : (server d ≡ server a) × IsReadEnd (tells.faults (server a).disk) found
+        × AllStay tells (server a) talk.0
     fetched =
         let (list, o, (m, leads, ends), talks) = talk in
-        reads_so reads may_leave moment left_since borrow faults_of (server a) sizes sound r reader.roots
+        reads_so tells (server a) sizes sound r reader.roots
         file list o found (server m) (server d) talks
-        (subst (λ (s : Opened D). Leads (served reads may_leave moment left_since borrow faults_of) s list (server m)) still
-        (leads_so reads may_leave moment left_since borrow faults_of asked failed server put loan seat list b m leads))
-        (left_so reads may_leave moment left_since borrow faults_of asked failed server put loan seat o m d ends)
+        (subst (λ (s : Opened D). Leads (store_peer tells) s list (server m)) still
+        (leads_so tells peer server put loan seat list b m leads))
+        (left_so tells peer server put loan seat o m d ends)
 
     pub read_proper : HasReadFault found
-    read_proper = end_proper (faults_of (server a).disk) found fetched.1
+    read_proper = end_proper (tells.faults (server a).disk) found fetched.1
 
     pub read_done : (old new : KeptOn D) → k ≡ old.kept.masters → server a ≡ opened_of old
         → server d ≡ opened_of new → new.kept.masters ≡ old.kept.masters
         → Done old new d (read_reply user file found)
     read_done old new at_k at_a at_d masters =
-        question_done reads may_leave moment left_since borrow faults_of only_now counts_now asked failed
+        question_done tells peer
         server put loan seat (Read user file) old new a d (read_reply user file found) at_a at_d fetched.0
         masters (λ p. refl)
         (λ p stands. end_there p user file found
-        (read_there reads may_leave moment left_since borrow faults_of old p stands user file r
+        (read_there tells old p stands user file r
         (subst (λ (m : Masters). IsReader m old.kept.catalogue user r) at_k
         (subst (λ (s : Opened D). IsReader k s.catalogue user r) at_a reader))
         talk.0 talk.1 found talk.3
-        (subst (λ (s : Opened D). AllStay reads may_leave moment left_since borrow faults_of s talk.0) at_a fetched.2)))
-        (end_cause (faults_of old.disk) user file found
-        (subst (λ (s : Opened D). IsReadEnd (faults_of s.disk) found) at_a fetched.1))
+        (subst (λ (s : Opened D). AllStay tells s talk.0) at_a fetched.2)))
+        (end_cause (tells.faults old.disk) user file found
+        (subst (λ (s : Opened D). IsReadEnd (tells.faults s.disk) found) at_a fetched.1))
         (λ p stands serves.
         subst (λ (m : Masters). TracesAt m p (Read user file) (Unit {0}) (put a) (put d) (read_reply user file found)) at_k
-        (read_put reads may_leave moment left_since borrow faults_of asked failed server put loan seat k p
+        (read_put tells peer server put loan seat k p
         stands.0.0 user file r talk.0 talk.1 found (read_reply user file found) a b d form
         (subst (λ (m : Masters). IsServedBy (server a) (service_of m p)) (sym at_k) serves) still
         reader.name asks talk.2 talk.3 (replied_so user file found)))

@@ -1,8 +1,8 @@
 -- How a change by the owner ends: its reply, and what is true of it at any store.
-use Rattle.std.proofs.Common.{◌≡◌, ℕ, ◌+◌, List, false, Option, Result, Ok, Err, refl, sym, ap, subst, inl, inr, arith}
+use Rattle.std.proofs.Common.{◌≡◌, ℕ, ◌+◌, List, false, Result, Ok, Err, refl, sym, ap, subst, inl, inr, arith}
 use Rattle.std.specs.Prelude.{◌⊎◌, OnOk}
 use Rattle.ov_base.specs.Causes.{Rose}
-use Rattle.ov_disk.specs.Disk.{Image}
+use Rattle.ov_disk.specs.Tells.{DiskTells}
 use Rattle.ov_script.specs.declared.reply.Reply.{Reply}
 use Rattle.ov_store.specs.Opened.{Opened}
 use Rattle.ov_owner.specs.Errands.{Errand}
@@ -34,11 +34,10 @@ cut_proper : (made : Result ℕ OwnerFault) → IsAskFault made → HasOwnFault 
 cut_proper made (inl is) = subst HasOwnFault (sym is) tt
 cut_proper made (inr is) = subst HasOwnFault (sym is) tt
 
-module _ {D : Type 0} (reads : D → Option Image) (may_leave : D → Image → Type 0)
-    (moment : D → ℕ) (left_since : D → ℕ → Image → Type 0) (borrow faults_of : D → ℕ)
-    (surface : List ℕ) (e : Errand) (is_honest : IsHonest e) where
+module _ {D : Type 0} (tells : DiskTells D) (surface : List ℕ) (e : Errand)
+    (is_honest : IsHonest e) where
   abbrev Changed : Opened D → Opened D → Result ℕ OwnerFault → Type 0
-  Changed s t made = Changes reads may_leave moment left_since borrow faults_of surface e is_honest s t made
+  Changed s t made = Changes tells surface e is_honest s t made
 
   -- no call gets a fault that says that the server is wrong
   pub changes_proper : (s t : Opened D) (made : Result ℕ OwnerFault) → Changed s t made
@@ -54,8 +53,8 @@ module _ {D : Type 0} (reads : D → Option Image) (may_leave : D → Image → 
     by_failed (inl is) = subst HasOwnFault (sym is) tt
     by_failed (inr why) = cut_proper made why
 
-    by : IsMade reads may_leave moment left_since borrow faults_of surface e is_honest s t x.epoch x.update x.reply made
-        ⊎ IsFailed reads may_leave moment left_since borrow faults_of surface e is_honest s t x.epoch x.update x.reply made
+    by : IsMade tells surface e is_honest s t x.epoch x.update x.reply made
+        ⊎ IsFailed tells surface e is_honest s t x.epoch x.update x.reply made
         → HasOwnFault made
     by (inl m) = by_made m.ends
     by (inr f) = by_failed f.ends
@@ -77,14 +76,14 @@ module _ {D : Type 0} (reads : D → Option Image) (may_leave : D → Image → 
       (masters : new.kept.masters ≡ old.kept.masters) where
     -- nothing changed
     still_step : (r : Result Reply StepFault) → opened_of new ≡ opened_of old → IsQuiet r
-        → IsStep borrow faults_of old new r
+        → IsStep tells old new r
     unfolding IsQuiet
     still_step r same quiet = record {
       masters = masters;
       call = record {
-        same = ap (λ (x : Opened D). borrow x.disk) same;
-        later = omega (arith, ap (λ (x : Opened D). faults_of x.disk) same);
-        disk = λ is. absurd (quiet.0 is);
+        same = ap (λ (x : Opened D). tells.borrow x.disk) same;
+        later = omega (arith, ap (λ (x : Opened D). tells.faults x.disk) same);
+        rose = λ is. absurd (quiet.0 is);
       };
       sound = by r;
       tag = λ bad is. absurd (quiet.1 bad is);
@@ -95,60 +94,60 @@ module _ {D : Type 0} (reads : D → Option Image) (may_leave : D → Image → 
 
     -- an update was sent
     sent_step : (made : Result ℕ OwnerFault)
-        → IsSentTo reads may_leave moment left_since borrow faults_of surface e is_honest (opened_of old) (opened_of new) made
-        → IsStep borrow faults_of old new (change_reply made)
+        → IsSentTo tells surface e is_honest (opened_of old) (opened_of new) made
+        → IsStep tells old new (change_reply made)
     unfolding IsQuiet
     sent_step made x = by x.comes where
       step_of : (r : Result Reply StepFault)
-          → (r ≡ Err Disk → Rose (faults_of old.disk) (faults_of new.disk))
+          → (r ≡ Err Disk → Rose (tells.faults old.disk) (tells.faults new.disk))
           → OnOk r (new.failed ≡ old.failed) → ((bad : BadTag) → r ≡ Err (Tag bad) → ⊥)
-          → IsStep borrow faults_of old new r
+          → IsStep tells old new r
       step_of r disk still no_tag = record {
         masters = masters;
         call = record {
           same = x.asks.call.1;
           later = x.asks.call.2;
-          disk = disk;
+          rose = disk;
         };
         sound = still;
         tag = λ bad is. absurd (no_tag bad is);
       }
 
-      cut_off : IsAskFault made → IsStep borrow faults_of old new (change_reply made)
+      cut_off : IsAskFault made → IsStep tells old new (change_reply made)
       cut_off (inl is) =
-          subst (λ (r : Result ℕ OwnerFault). IsStep borrow faults_of old new (change_reply r)) (sym is)
+          subst (λ (r : Result ℕ OwnerFault). IsStep tells old new (change_reply r)) (sym is)
           (step_of (Err Trace) (λ y. absurd cc) tt (λ bad y. absurd cc))
       cut_off (inr is) =
-          subst (λ (r : Result ℕ OwnerFault). IsStep borrow faults_of old new (change_reply r)) (sym is)
+          subst (λ (r : Result ℕ OwnerFault). IsStep tells old new (change_reply r)) (sym is)
           (step_of (change_reply (Err faults.Memory)) (λ y. absurd cc) tt (λ bad y. absurd cc))
 
-      by_made : (m : IsMade reads may_leave moment left_since borrow faults_of surface e is_honest (opened_of old) (opened_of new) x.epoch x.update x.reply made)
+      by_made : (m : IsMade tells surface e is_honest (opened_of old) (opened_of new) x.epoch x.update x.reply made)
           → (made ≡ Ok (x.epoch + 1)) ⊎ IsAskFault made
-          → IsStep borrow faults_of old new (change_reply made)
+          → IsStep tells old new (change_reply made)
       by_made m (inl is) =
-          subst (λ (r : Result ℕ OwnerFault). IsStep borrow faults_of old new (change_reply r)) (sym is)
+          subst (λ (r : Result ℕ OwnerFault). IsStep tells old new (change_reply r)) (sym is)
           (step_of (change_reply (Ok (x.epoch + 1))) (λ y. absurd cc) m.answered.failed (λ bad y. absurd cc))
       by_made m (inr why) = cut_off why
 
-      by_failed : (f : IsFailed reads may_leave moment left_since borrow faults_of surface e is_honest (opened_of old) (opened_of new) x.epoch x.update x.reply made)
+      by_failed : (f : IsFailed tells surface e is_honest (opened_of old) (opened_of new) x.epoch x.update x.reply made)
           → (made ≡ Err faults.Device) ⊎ IsAskFault made
-          → IsStep borrow faults_of old new (change_reply made)
+          → IsStep tells old new (change_reply made)
       by_failed f (inl is) =
-          subst (λ (r : Result ℕ OwnerFault). IsStep borrow faults_of old new (change_reply r)) (sym is)
+          subst (λ (r : Result ℕ OwnerFault). IsStep tells old new (change_reply r)) (sym is)
           (step_of (Err Disk) (λ y. x.asks.call.3 (f.faulted.spelled, λ update. sound)) tt (λ bad y. absurd cc))
       by_failed f (inr why) = cut_off why
 
-      by : IsMade reads may_leave moment left_since borrow faults_of surface e is_honest (opened_of old) (opened_of new) x.epoch x.update x.reply made
-          ⊎ IsFailed reads may_leave moment left_since borrow faults_of surface e is_honest (opened_of old) (opened_of new) x.epoch x.update x.reply made
-          → IsStep borrow faults_of old new (change_reply made)
+      by : IsMade tells surface e is_honest (opened_of old) (opened_of new) x.epoch x.update x.reply made
+          ⊎ IsFailed tells surface e is_honest (opened_of old) (opened_of new) x.epoch x.update x.reply made
+          → IsStep tells old new (change_reply made)
       by (inl m) = by_made m m.ends
       by (inr f) = by_failed f f.ends
 
     pub changes_call : (made : Result ℕ OwnerFault) → Changed (opened_of old) (opened_of new) made
-        → IsStep borrow faults_of old new (change_reply made)
+        → IsStep tells old new (change_reply made)
     unfolding IsQuiet
     changes_call made (refused told why same answered is so) =
-        subst (λ (r : Result ℕ OwnerFault). IsStep borrow faults_of old new (change_reply r)) (sym so)
+        subst (λ (r : Result ℕ OwnerFault). IsStep tells old new (change_reply r)) (sym so)
         (still_step (change_reply (Err (faults.Refused why))) same ((λ x. absurd cc), λ bad x. absurd cc))
     changes_call made (cut same why) = still_step (change_reply made) same (cut_quiet made why)
     changes_call made (sent x) = sent_step made x

@@ -12,7 +12,7 @@ use Rattle.ov_base.specs.Causes.{Rose}
 use Rattle.ov_base.specs.declared.limits.TheConstants.{MAX_CHUNK_BYTES}
 use Rattle.ov_base.specs.declared.refusal.Refusal.TheVariants.{NoUser, NoFile, NoPath}
 use Rattle.ov_base.specs.Sets.{has}
-use Rattle.ov_disk.specs.Disk.{Image}
+use Rattle.ov_disk.specs.Tells.{DiskTells}
 use Rattle.ov_surface.specs.Tags.{tag_of_file}
 use Rattle.ov_history.specs.Asking.{file_named, user_named}
 use Rattle.ov_history.specs.Catalogue.{Catalogue, Filed, matrix_shown, outline}
@@ -45,7 +45,7 @@ use Rattle.ov_client.proofs.Leading.{BeginsAt}
 use Rattle.ov_client.proofs.Staying.{file_in, found_file}
 use Rattle.ov_client.proofs.Fields.{right_field}
 use Rattle.ov_client.proofs.ReadingBack.{base_begins, chain_is_answer, reads_back, surface_begins}
-use Rattle.ov_machine.specs.Seats.{AllStay, LeftBy, served}
+use Rattle.ov_machine.specs.Seats.{AllStay, LeftBy, served, store_peer}
 use Rattle.ov_machine.proofs.Quiet.{quiet_asked, says}
 
 -- the third test of a read comes only where the file is there
@@ -83,10 +83,8 @@ IsReadEnd count (Err client.Device) = Rose count count
 IsReadEnd count (Err (client.Damaged stored computed)) = computed ≢ stored
 IsReadEnd count result = Unit {0}
 
-module _ {D : Type 0} (reads : D → Option Image) (may_leave : D → Image → Type 0)
-    (moment : D → ℕ) (left_since : D → ℕ → Image → Type 0) (borrow faults : D → ℕ)
-    (s : Opened D) (sizes : HasLengths s) (sound : s.failed ≡ false)
-    (r : Reader) (roots : HasRootsAt s.catalogue r) (file : List ℕ) where
+module _ {D : Type 0} (tells : DiskTells D) (s : Opened D) (sizes : HasLengths s)
+    (sound : s.failed ≡ false) (r : Reader) (roots : HasRootsAt s.catalogue r) (file : List ℕ) where
   abbrev c : Catalogue
   c = s.catalogue
 
@@ -97,8 +95,7 @@ module _ {D : Type 0} (reads : D → Option Image) (may_leave : D → Image → 
   n = file_named c file
 
   abbrev asked : Opened D → List ℕ → List ℕ → Opened D → Type 0
-  asked p request reply q =
-      served reads may_leave moment left_since borrow faults p request reply q
+  asked p request reply q = served tells p request reply q
 
   -- the chains to the file were told, and these stored bytes are a front of its own
   pub record IsFetching (told : Chained) (stored : List ℕ) : Type 0 where
@@ -110,18 +107,18 @@ module _ {D : Type 0} (reads : D → Option Image) (may_leave : D → Image → 
   unfoldable pub Stands : Stage → Type 0
   Stands (AsksChain tries least) = least ≡ 0
   Stands (AsksChunk tries told stored) = IsFetching told stored
-  Stands (Ends result) = IsReadEnd (faults s.disk) result
+  Stands (Ends result) = IsReadEnd (tells.faults s.disk) result
 
   -- bytes are given, or a wrong tag is told
   judged_ends : (told : Chained) (bytes : List ℕ)
-      → IsReadEnd (faults s.disk) (judged (keys_along r told) told bytes)
+      → IsReadEnd (tells.faults s.disk) (judged (keys_along r told) told bytes)
   judged_ends told bytes =
       by_test (bytes_eq (tag_of_file (keys_along r told).access told.file bytes) told.tag) refl where
         computed : List ℕ
         computed = tag_of_file (keys_along r told).access told.file bytes
 
         by_test : (b : Bool) → bytes_eq computed told.tag ≡ b
-            → IsReadEnd (faults s.disk) (if b then Ok bytes else Err (client.Damaged told.tag computed))
+            → IsReadEnd (tells.faults s.disk) (if b then Ok bytes else Err (client.Damaged told.tag computed))
         by_test true is = tt
         by_test false is = λ same. true≢false (sym ((bytes_eq-Decides computed told.tag).1 same) ∙ is)
 
@@ -249,14 +246,14 @@ module _ {D : Type 0} (reads : D → Option Image) (may_leave : D → Image → 
       by_need is (inr (asks_bytes, same)) =
           let read : answer_of chunk reply ≡ Ok answers.DeviceFault =
           ap (answer_of chunk) is.spelled ∙ reads_back chunk answers.DeviceFault tt tt in
-          let rose : Rose (faults s.disk) (faults t.disk) =
+          let rose : Rose (tells.faults s.disk) (tells.faults t.disk) =
           asks.call.3 (is.spelled, λ update. sound) in (
             same,
             subst (λ (x : Result Answer ℕ). Stands (after r (AsksChunk tries told stored) x)) (sym read)
-                (subst (λ (x : Opened D). Rose (faults s.disk) (faults x.disk)) same rose),
+                (subst (λ (x : Opened D). Rose (tells.faults s.disk) (tells.faults x.disk)) same rose),
           )
 
-      by : AnswersOrFails reads may_leave s t (request_bytes chunk) reply
+      by : AnswersOrFails tells s t (request_bytes chunk) reply
           → (t ≡ s) × Stands (after r (AsksChunk tries told stored) (answer_of chunk reply))
       by (inl is) =
           let (a, said, makes) = says (serving_of s) chunk reply is.frame.made form is.frame.replies in
@@ -279,7 +276,7 @@ module _ {D : Type 0} (reads : D → Option Image) (may_leave : D → Image → 
       → asked s (request_bytes (requests.Chain r.name file)) reply t
       → (t ≡ s) × Stands (after r (AsksChain tries least) (answer_of (requests.Chain r.name file) reply))
   chain_asked tries least t reply none form asks =
-      let (same, a, said) = quiet_asked reads may_leave moment left_since borrow faults s t
+      let (same, a, said) = quiet_asked tells s t
       (requests.Chain r.name file) reply form (λ x. x) asks in
       let read : answer_of (requests.Chain r.name file) reply ≡ Ok a =
       ap (answer_of (requests.Chain r.name file)) said.spelled
@@ -335,8 +332,8 @@ module _ {D : Type 0} (reads : D → Option Image) (may_leave : D → Image → 
         absurd (let none = ap (asked_at r file) is in cc (none, moves.asks.is_asked))
 
   all_asks : (asks : List Ask) (stage last : Stage) (p m : Opened D) → p ≡ s → Stands stage
-      → Goes r file stage asks last → Leads asked p asks m
-      → (m ≡ s) × Stands last × AllStay reads may_leave moment left_since borrow faults s asks
+      → Goes r file stage asks last → Leads (store_peer tells) p asks m
+      → (m ≡ s) × Stands last × AllStay tells s asks
   all_asks [] stage last p m same stands goes leads =
       (sym leads ∙ same, subst Stands goes stands, tt)
   all_asks (a ∷ asks) stage last p m same stands (next, moves, goes) (q, first, leads) =
@@ -360,29 +357,29 @@ module _ {D : Type 0} (reads : D → Option Image) (may_leave : D → Image → 
 
   closed_so : (last : Stage) (o : Option (List ℕ)) (result : Result (List ℕ) ClientFault)
       (m t : Opened D) → m ≡ s → Stands last → Closes r file last o result
-      → LeftBy reads may_leave moment left_since borrow faults m o t
-      → (t ≡ s) × IsReadEnd (faults s.disk) result
+      → LeftBy tells m o t
+      → (t ≡ s) × IsReadEnd (tells.faults s.disk) result
   unfolding Stands
   closed_so last None result m t same stands (inl is) left = (sym left ∙ same, subst Stands is stands)
   closed_so last None result m t same stands (inr memory) left =
-      (sym left ∙ same, subst (IsReadEnd (faults s.disk)) (sym memory) tt)
+      (sym left ∙ same, subst (IsReadEnd (tells.faults s.disk)) (sym memory) tt)
   closed_so last (Some frame) result m t same stands (due, why) left = (
     last_ask last frame t stands due
         (subst (λ (x : Opened D). (t ≡ x) ⊎ ((reply : List ℕ) × asked x frame reply t)) same left),
     by why,
   ) where
     by : (result ≡ Err client.Link) ⊎ (result ≡ Err client.Memory)
-        → IsReadEnd (faults s.disk) result
-    by (inl link) = subst (IsReadEnd (faults s.disk)) (sym link) tt
-    by (inr memory) = subst (IsReadEnd (faults s.disk)) (sym memory) tt
+        → IsReadEnd (tells.faults s.disk) result
+    by (inl link) = subst (IsReadEnd (tells.faults s.disk)) (sym link) tt
+    by (inr memory) = subst (IsReadEnd (tells.faults s.disk)) (sym memory) tt
 
   -- a read changes nothing, and ends so
   pub reads_so : (asks : List Ask) (o : Option (List ℕ)) (result : Result (List ℕ) ClientFault)
       (m t : Opened D)
-      → Talks r file asks o result → Leads asked s asks m
-      → LeftBy reads may_leave moment left_since borrow faults m o t
-      → (t ≡ s) × IsReadEnd (faults s.disk) result
-      × AllStay reads may_leave moment left_since borrow faults s asks
+      → Talks r file asks o result → Leads (store_peer tells) s asks m
+      → LeftBy tells m o t
+      → (t ≡ s) × IsReadEnd (tells.faults s.disk) result
+      × AllStay tells s asks
   reads_so asks o result m t (last, goes, closes) leads left =
       let (still, stands, each) = all_asks asks (AsksChain [] 0) last s m refl begins goes leads in
       let (same, ends) = closed_so last o result m t still stands closes left in

@@ -1,8 +1,9 @@
 -- Questions over a traced peer to which the machine lends its server, and its caller the sink.
-use Rattle.std.proofs.Common.{◌≡◌, ◌∙◌, ℕ, ◌+◌, ◌≤◌, List, false, Option, Result, Ok, Err, refl, sym, ap, subst, arith}
+use Rattle.std.proofs.Common.{◌≡◌, ◌∙◌, ℕ, ◌+◌, List, false, Option, Result, Ok, Err, refl, sym, ap, subst, arith}
 use Rattle.std.specs.Io.KnownBytes.{Appends}
 use Rattle.std.proofs.KnownBytes.{Appends-trans}
-use Rattle.ov_disk.specs.Disk.{Image}
+use Rattle.ov_io.specs.Tells.{SinkTells}
+use Rattle.ov_disk.specs.Tells.{DiskTells}
 use Rattle.ov_images.specs.Images.{keys_of}
 use Rattle.ov_script.specs.declared.command.Command.{Command}
 use Rattle.ov_script.specs.declared.command.Command.TheVariants as commands
@@ -39,7 +40,7 @@ use Rattle.ov_machine.specs.declared.replying.Found.TheVariants.{Read, Unread}
 use Rattle.ov_machine.proofs.Done.{IsDone, hello_done, hello_proper, list_done, list_proper}
 use Rattle.ov_machine.proofs.DoneReads.{has_lengths, read_done, read_proper, unread_done, unread_proper}
 use Rattle.ov_machine.proofs.Fetching.{HasLengths}
-use Rattle.ov_machine.proofs.Lent.{IsWhole, Lent, keeps_keys, lent_asked, lent_failed, loan_of, opens_as, put_of, puts_more, seat, store_of}
+use Rattle.ov_machine.proofs.Lent.{IsWhole, Lent, keeps_keys, lent, loan_of, opens_as, put_of, puts_more, seat, store_of}
 use Rattle.ov_machine.proofs.Listing.{hello_plain, key_plain, list_plain}
 use Rattle.ov_machine.proofs.Questioning.{IsPlainQuestion, once_asks}
 use Rattle.ov_machine.proofs.Stepping.{machine_of}
@@ -83,47 +84,29 @@ no_reader f = Err f
 fault_of : (f : OwnerFault) → no_reader f ≡ no_reader faults.Link → f ≡ faults.Link
 fault_of f is = cc is
 
-module _ {D T : Type 0} (reads : D → Option Image) (may_leave : D → Image → Type 0)
-    (moment : D → ℕ) (left_since : D → ℕ → Image → Type 0) (borrow faults_of : D → ℕ)
-    (only_now : (d : D) (c : Image) → left_since d (moment d) c → may_leave d c)
-    (counts_now : (d : D) (t : ℕ) (c : Image) → t ≤ moment d → may_leave d c → left_since d t c)
-    (written : T → Option (List ℕ)) (sink_faults : T → ℕ)
-    (k : Masters) (a : Lent reads may_leave moment left_since borrow faults_of only_now counts_now written sink_faults)
-    (s : Opened D) (keys : s.keys ≡ keys_of k) (at_a : a.peer.now ≡ s)
+module _ {D T : Type 0} (tells : DiskTells D) (sink : SinkTells T) (k : Masters)
+    (a : Lent tells sink) (s : Opened D) (keys : s.keys ≡ keys_of k) (at_a : a.peer.now ≡ s)
     (old : KeptOn D) (seen : machine_of k s ≡ old) where
   abbrev Peer : Type 0
-  Peer = Lent reads may_leave moment left_since borrow faults_of only_now counts_now written sink_faults
+  Peer = Lent tells sink
 
   abbrev AsksIt : {V : Type 0} → Request → (Answer → Result V OwnerFault) → Peer → Peer
       → Result V OwnerFault → Type 0
   AsksIt request take p q told =
-      AsksOnce
-      (lent_asked reads may_leave moment left_since borrow faults_of only_now counts_now written sink_faults)
-      (lent_failed reads may_leave moment left_since borrow faults_of only_now counts_now written sink_faults)
-      p q request take told
+      AsksOnce (lent tells sink) p q request take told
 
   abbrev AreIt : Peer → List Ask → Option (List ℕ) → Peer → Type 0
   AreIt p asks o q =
-      AreAsks
-      (lent_asked reads may_leave moment left_since borrow faults_of only_now counts_now written sink_faults)
-      (lent_failed reads may_leave moment left_since borrow faults_of only_now counts_now written sink_faults)
-      p asks o q
+      AreAsks (lent tells sink) p asks o q
 
   abbrev Whole : Command → Peer → T → T → Result Reply StepFault → Type 0
   Whole command b t_old t_new r =
-      IsWhole reads may_leave moment left_since borrow faults_of only_now counts_now written sink_faults
-      command old (machine_of k b.peer.now) t_old t_new r
+      IsWhole tells sink command old (machine_of k b.peer.now) t_old t_new r
 
   abbrev DoneBy : Command → Peer → Result Reply StepFault → Type 0
   DoneBy command b r =
-      IsDone reads may_leave moment left_since borrow faults_of only_now counts_now
-      (lent_asked reads may_leave moment left_since borrow faults_of only_now counts_now written sink_faults)
-      (lent_failed reads may_leave moment left_since borrow faults_of only_now counts_now written sink_faults)
-      (store_of reads may_leave moment left_since borrow faults_of only_now counts_now written sink_faults)
-      (put_of reads may_leave moment left_since borrow faults_of only_now counts_now written sink_faults)
-      (loan_of reads may_leave moment left_since borrow faults_of only_now counts_now written sink_faults)
-      (seat reads may_leave moment left_since borrow faults_of only_now counts_now written sink_faults)
-      command (machine_of k s) (machine_of k b.peer.now) a b r
+      IsDone tells (lent tells sink) (store_of tells sink) (put_of tells sink) (loan_of tells sink)
+      (seat tells sink) command (machine_of k s) (machine_of k b.peer.now) a b r
 
   at_old : a.peer.now ≡ opened_of (machine_of k s)
   at_old = at_a ∙ opens_as k s keys
@@ -131,25 +114,24 @@ module _ {D T : Type 0} (reads : D → Option Image) (may_leave : D → Image �
   new_keys : (asks : List Ask) (o : Option (List ℕ)) (b : Peer) → AreIt a asks o b
       → b.peer.now.keys ≡ keys_of k
   new_keys asks o b are =
-      keeps_keys reads may_leave moment left_since borrow faults_of only_now counts_now written sink_faults
-      asks o a b are ∙ ap (λ (x : Opened D). x.keys) at_a ∙ keys
+      keeps_keys tells sink asks o a b are ∙ ap (λ (x : Opened D). x.keys) at_a ∙ keys
 
   -- what is done is the whole, where the sink was put to so
   whole_so : (command : Command) (b : Peer) (t_old t_new : T) (r : Result Reply StepFault)
-      → DoneBy command b r → PutsTo written sink_faults (r ≡ Err Trace) a.sink.now b.sink.now
+      → DoneBy command b r → PutsTo sink (r ≡ Err Trace) a.sink.now b.sink.now
       → a.sink.now ≡ t_old → b.sink.now ≡ t_new → Whole command b t_old t_new r
   whole_so command b t_old t_new r is puts put_a put_b =
-      subst (λ (m : KeptOn D). IsWhole reads may_leave moment left_since borrow faults_of only_now counts_now written sink_faults
+      subst (λ (m : KeptOn D). IsWhole tells sink
       command m (machine_of k b.peer.now) t_old t_new r) seen
       (record {
         steps = is.steps;
         traced = λ p stands.
-            subst (λ (x : T). TracesAt k p command (HasMade reads may_leave k p command s.disk b.peer.now.disk) (written t_old) (written x) r) put_b
-            (subst (λ (x : T). TracesAt k p command (HasMade reads may_leave k p command s.disk b.peer.now.disk) (written x) (written b.sink.now) r) put_a
+            subst (λ (x : T). TracesAt k p command (HasMade tells k p command s.disk b.peer.now.disk) (sink.written t_old) (sink.written x) r) put_b
+            (subst (λ (x : T). TracesAt k p command (HasMade tells k p command s.disk b.peer.now.disk) (sink.written x) (sink.written b.sink.now) r) put_a
             (is.traced p stands));
         step = is.step;
-        sink = subst (λ (x : T). PutsTo written sink_faults (r ≡ Err Trace) t_old x) put_b
-            (subst (λ (x : T). PutsTo written sink_faults (r ≡ Err Trace) x b.sink.now) put_a puts);
+        sink = subst (λ (x : T). PutsTo sink (r ≡ Err Trace) t_old x) put_b
+            (subst (λ (x : T). PutsTo sink (r ≡ Err Trace) x b.sink.now) put_a puts);
       })
 
   -- ---- one question
@@ -159,28 +141,21 @@ module _ {D T : Type 0} (reads : D → Option Image) (may_leave : D → Image �
       (asks : AsksIt request take a b told) where
     listed : (list : List Ask) × (o : Option (List ℕ)) × AreIt a list o b
     listed =
-        once_asks reads may_leave moment left_since borrow faults_of
-        (lent_asked reads may_leave moment left_since borrow faults_of only_now counts_now written sink_faults)
-        (lent_failed reads may_leave moment left_since borrow faults_of only_now counts_now written sink_faults)
-        (store_of reads may_leave moment left_since borrow faults_of only_now counts_now written sink_faults)
-        (put_of reads may_leave moment left_since borrow faults_of only_now counts_now written sink_faults)
-        (loan_of reads may_leave moment left_since borrow faults_of only_now counts_now written sink_faults)
-        (seat reads may_leave moment left_since borrow faults_of only_now counts_now written sink_faults)
-        request take question a b told asks
+        once_asks tells (lent tells sink) (store_of tells sink) (put_of tells sink) (loan_of tells sink)
+        (seat tells sink) request take question a b told asks
 
     once_keys : b.peer.now.keys ≡ keys_of k
     once_keys = let (list, o, are) = listed in new_keys list o b are
 
-    once_grew : (bytes : List ℕ) × Appends (written a.sink.now) (written b.sink.now) bytes
+    once_grew : (bytes : List ℕ) × Appends (sink.written a.sink.now) (sink.written b.sink.now) bytes
     once_grew =
         let (list, o, are) = listed in
-        puts_more reads may_leave moment left_since borrow faults_of only_now counts_now written sink_faults
-        list o a b are
+        puts_more tells sink list o a b are
 
     once_puts : (r : Result Reply StepFault)
-        → HasOwnerCause (0 + sink_faults a.sink.now) (0 + sink_faults b.sink.now) told
+        → HasOwnerCause (0 + sink.faults a.sink.now) (0 + sink.faults b.sink.now) told
         → (r ≡ Err Trace → told ≡ Err faults.Link)
-        → PutsTo written sink_faults (r ≡ Err Trace) a.sink.now b.sink.now
+        → PutsTo sink (r ≡ Err Trace) a.sink.now b.sink.now
     once_puts r cause link = record {
       grew = once_grew;
       later = omega (arith, cause.later);
@@ -196,20 +171,16 @@ module _ {D T : Type 0} (reads : D → Option Image) (may_leave : D → Image �
 
     pub hello_fault : HasOwnFault told
     hello_fault =
-        hello_proper reads may_leave moment left_since borrow faults_of only_now counts_now _ _ _ _ _
-        (seat reads may_leave moment left_since borrow faults_of only_now counts_now written sink_faults)
-        a b told form asks
+        hello_proper tells _ _ _ _ (seat tells sink) a b told form asks
 
     pub hello_all : (t_old t_new : T) (r : Result Reply StepFault) → a.sink.now ≡ t_old
         → b.sink.now ≡ t_new
-        → HasOwnerCause (0 + sink_faults a.sink.now) (0 + sink_faults b.sink.now) told
+        → HasOwnerCause (0 + sink.faults a.sink.now) (0 + sink.faults b.sink.now) told
         → r ≡ epoch_reply told → Whole commands.Epoch b t_old t_new r
     hello_all t_old t_new r put_a put_b cause replied =
         subst (Whole commands.Epoch b t_old t_new) (sym replied)
         (whole_so commands.Epoch b t_old t_new (epoch_reply told)
-        (hello_done reads may_leave moment left_since borrow faults_of only_now counts_now _ _ _ _ _
-        (seat reads may_leave moment left_since borrow faults_of only_now counts_now written sink_faults)
-        a b told form asks (machine_of k s) (machine_of k b.peer.now) at_old
+        (hello_done tells _ _ _ _ (seat tells sink) a b told form asks (machine_of k s) (machine_of k b.peer.now) at_old
         (opens_as k b.peer.now hello_keys) refl)
         (once_puts requests.Hello welcome_in (hello_plain form) b told asks (epoch_reply told) cause
         (epoch_link told hello_fault)) put_a put_b)
@@ -224,20 +195,16 @@ module _ {D T : Type 0} (reads : D → Option Image) (may_leave : D → Image �
 
     pub list_fault : HasOwnFault told
     list_fault =
-        list_proper reads may_leave moment left_since borrow faults_of only_now counts_now _ _ _ _ _
-        (seat reads may_leave moment left_since borrow faults_of only_now counts_now written sink_faults)
-        file a b told form asks
+        list_proper tells _ _ _ _ (seat tells sink) file a b told form asks
 
     pub list_all : (t_old t_new : T) (r : Result Reply StepFault) → a.sink.now ≡ t_old
         → b.sink.now ≡ t_new
-        → HasOwnerCause (0 + sink_faults a.sink.now) (0 + sink_faults b.sink.now) told
+        → HasOwnerCause (0 + sink.faults a.sink.now) (0 + sink.faults b.sink.now) told
         → r ≡ names_reply file told → Whole (commands.List file) b t_old t_new r
     list_all t_old t_new r put_a put_b cause replied =
         subst (Whole (commands.List file) b t_old t_new) (sym replied)
         (whole_so (commands.List file) b t_old t_new (names_reply file told)
-        (list_done reads may_leave moment left_since borrow faults_of only_now counts_now _ _ _ _ _
-        (seat reads may_leave moment left_since borrow faults_of only_now counts_now written sink_faults)
-        file a b told form asks (machine_of k s) (machine_of k b.peer.now) at_old
+        (list_done tells _ _ _ _ (seat tells sink) file a b told form asks (machine_of k s) (machine_of k b.peer.now) at_old
         (opens_as k b.peer.now list_keys) refl)
         (once_puts (requests.List file) names_in (list_plain file form) b told asks (names_reply file told)
         cause (names_link file told list_fault)) put_a put_b)
@@ -255,20 +222,16 @@ module _ {D T : Type 0} (reads : D → Option Image) (may_leave : D → Image �
 
         pub unread_fault : MayCome fault
         unread_fault =
-            unread_proper reads may_leave moment left_since borrow faults_of only_now counts_now _ _ _ _ _
-            (seat reads may_leave moment left_since borrow faults_of only_now counts_now written sink_faults)
-            k user file a b form fault asks
+            unread_proper tells _ _ _ _ (seat tells sink) k user file a b form fault asks
 
         pub unread_all : (t_old t_new : T) (r : Result Reply StepFault) → a.sink.now ≡ t_old
             → b.sink.now ≡ t_new
-            → HasOwnerCause {T = Reader} (0 + sink_faults a.sink.now) (0 + sink_faults b.sink.now) (Err fault)
+            → HasOwnerCause {T = Reader} (0 + sink.faults a.sink.now) (0 + sink.faults b.sink.now) (Err fault)
             → r ≡ fault_reply fault → Whole (commands.Read user file) b t_old t_new r
         unread_all t_old t_new r put_a put_b cause replied =
             subst (Whole (commands.Read user file) b t_old t_new) (sym replied)
             (whole_so (commands.Read user file) b t_old t_new (fault_reply fault)
-            (unread_done reads may_leave moment left_since borrow faults_of only_now counts_now _ _ _ _ _
-            (seat reads may_leave moment left_since borrow faults_of only_now counts_now written sink_faults)
-            k user file a b form fault asks (machine_of k s) (machine_of k b.peer.now) refl at_old
+            (unread_done tells _ _ _ _ (seat tells sink) k user file a b form fault asks (machine_of k s) (machine_of k b.peer.now) refl at_old
             (opens_as k b.peer.now unread_keys) refl)
             (once_puts (requests.Ask (questions.Key user)) (reader_in k user) (key_plain user form) b
             (Err fault) asks (fault_reply fault) cause
@@ -276,11 +239,8 @@ module _ {D T : Type 0} (reads : D → Option Image) (may_leave : D → Image �
 
       module _ (r : Reader) (found : Result (List ℕ) ClientFault) (d : Peer)
           (asks : AsksIt (requests.Ask (questions.Key user)) (reader_in k user) a b (Ok r))
-          (talk : Reads
-          (lent_asked reads may_leave moment left_since borrow faults_of only_now counts_now written sink_faults)
-          (lent_failed reads may_leave moment left_since borrow faults_of only_now counts_now written sink_faults)
-          b d r file found)
-          (sizes : HasLengths s) (sound : s.failed ≡ false) where
+          (talk : Reads (lent tells sink) b d r file found) (sizes : HasLengths s)
+          (sound : s.failed ≡ false) where
         sizes_a : HasLengths a.peer.now
         sizes_a = subst HasLengths (sym at_a) sizes
 
@@ -290,24 +250,20 @@ module _ {D T : Type 0} (reads : D → Option Image) (may_leave : D → Image �
         pub read_keys : d.peer.now.keys ≡ keys_of k
         read_keys =
             let (list, o, are, talks) = talk in
-            keeps_keys reads may_leave moment left_since borrow faults_of only_now counts_now written sink_faults
-            list o b d are
+            keeps_keys tells sink list o b d are
             ∙ once_keys (requests.Ask (questions.Key user)) (reader_in k user) (key_plain user form) b (Ok r) asks
 
         pub read_fault : HasReadFault found
         read_fault =
-            read_proper reads may_leave moment left_since borrow faults_of only_now counts_now _ _ _ _ _
-            (seat reads may_leave moment left_since borrow faults_of only_now counts_now written sink_faults)
-            k user file a b form r found d asks talk sizes_a sound_a
+            read_proper tells _ _ _ _ (seat tells sink) k user file a b form r found d asks talk sizes_a sound_a
 
-        read_puts : HasFoundCause (0 + sink_faults a.sink.now) (0 + sink_faults d.sink.now) (Read found)
-            → PutsTo written sink_faults (read_reply user file found ≡ Err Trace) a.sink.now d.sink.now
+        read_puts : HasFoundCause (0 + sink.faults a.sink.now) (0 + sink.faults d.sink.now) (Read found)
+            → PutsTo sink (read_reply user file found ≡ Err Trace) a.sink.now d.sink.now
         read_puts cause =
             let (list, o, are, talks) = talk in
             let one = once_grew (requests.Ask (questions.Key user)) (reader_in k user) (key_plain user form) b (Ok r) asks in
-            let more = puts_more reads may_leave moment left_since borrow faults_of only_now counts_now written sink_faults
-            list o b d are in record {
-              grew = (_, Appends-trans (written a.sink.now) (written b.sink.now) (written d.sink.now) _ _ one.1 more.1);
+            let more = puts_more tells sink list o b d are in record {
+              grew = (_, Appends-trans (sink.written a.sink.now) (sink.written b.sink.now) (sink.written d.sink.now) _ _ one.1 more.1);
               later = omega (arith, cause.later);
               write = λ is.
                   let rose = cause.read (ap Read (read_link user file found read_fault is)) in omega (arith, rose);
@@ -315,32 +271,27 @@ module _ {D T : Type 0} (reads : D → Option Image) (may_leave : D → Image �
 
         pub read_all : (t_old t_new : T) (reply : Result Reply StepFault) → a.sink.now ≡ t_old
             → d.sink.now ≡ t_new
-            → HasFoundCause (0 + sink_faults a.sink.now) (0 + sink_faults d.sink.now) (Read found)
+            → HasFoundCause (0 + sink.faults a.sink.now) (0 + sink.faults d.sink.now) (Read found)
             → reply ≡ read_reply user file found → Whole (commands.Read user file) d t_old t_new reply
         read_all t_old t_new reply put_a put_d cause replied =
             subst (Whole (commands.Read user file) d t_old t_new) (sym replied)
             (whole_so (commands.Read user file) d t_old t_new (read_reply user file found)
-            (read_done reads may_leave moment left_since borrow faults_of only_now counts_now _ _ _ _ _
-            (seat reads may_leave moment left_since borrow faults_of only_now counts_now written sink_faults)
-            k user file a b form r found d asks talk sizes_a sound_a (machine_of k s) (machine_of k d.peer.now) refl
+            (read_done tells _ _ _ _ (seat tells sink) k user file a b form r found d asks talk sizes_a sound_a (machine_of k s) (machine_of k d.peer.now) refl
             at_old (opens_as k d.peer.now read_keys) refl)
             (read_puts cause) put_a put_d)
 
   -- whatever came of it
-  module _ (user file : List ℕ) (form : HasRequestForm (requests.Ask (questions.Key user))) (d : Peer)
-      (some : (g : SealedHistory) × Serves reads may_leave g s) (sound : old.failed ≡ false) where
+  module _ (user file : List ℕ) (form : HasRequestForm (requests.Ask (questions.Key user)))
+      (d : Peer) (some : (g : SealedHistory) × Serves tells g s) (sound : old.failed ≡ false) where
     sound_s : s.failed ≡ false
     sound_s = ap (λ (m : KeptOn D). m.failed) seen ∙ sound
 
     sizes_s : HasLengths s
-    sizes_s = has_lengths reads may_leave s some.0 some.1
+    sizes_s = has_lengths tells s some.0 some.1
 
     abbrev ReadsIt : Found → Type 0
     ReadsIt found =
-        ReadsBy
-        (lent_asked reads may_leave moment left_since borrow faults_of only_now counts_now written sink_faults)
-        (lent_failed reads may_leave moment left_since borrow faults_of only_now counts_now written sink_faults)
-        k a d user file found
+        ReadsBy (lent tells sink) k a d user file found
 
     pub found_keys : (found : Found) → ReadsIt found → d.peer.now.keys ≡ keys_of k
     found_keys (Unread fault) asks = unread_keys user file form d fault asks
@@ -354,7 +305,7 @@ module _ {D T : Type 0} (reads : D → Option Image) (may_leave : D → Image �
 
     found_so : (found : Found) (t_old t_new : T) → ReadsIt found → a.sink.now ≡ t_old
         → d.sink.now ≡ t_new
-        → HasFoundCause (0 + sink_faults a.sink.now) (0 + sink_faults d.sink.now) found
+        → HasFoundCause (0 + sink.faults a.sink.now) (0 + sink.faults d.sink.now) found
         → Whole (commands.Read user file) d t_old t_new (found_reply user file found)
     found_so (Unread fault) t_old t_new asks put_a put_d cause =
         unread_all user file form d fault asks t_old t_new (fault_reply fault) put_a put_d
@@ -365,7 +316,7 @@ module _ {D T : Type 0} (reads : D → Option Image) (may_leave : D → Image �
 
     pub found_all : (found : Found) (t_old t_new : T) (reply : Result Reply StepFault) → ReadsIt found
         → a.sink.now ≡ t_old → d.sink.now ≡ t_new
-        → HasFoundCause (0 + sink_faults a.sink.now) (0 + sink_faults d.sink.now) found
+        → HasFoundCause (0 + sink.faults a.sink.now) (0 + sink.faults d.sink.now) found
         → reply ≡ found_reply user file found → Whole (commands.Read user file) d t_old t_new reply
     found_all found t_old t_new reply by put_a put_d cause replied =
         subst (Whole (commands.Read user file) d t_old t_new) (sym replied)

@@ -6,7 +6,7 @@ use Rattle.std.proofs.KnownBytes.{Appends-nil, Appends-trans}
 use Rattle.std.proofs.Common.{append_assoc}
 use Rattle.std.proofs.lemmas.List.{append-nil}
 use Rattle.ov_base.specs.declared.refusal.Refusal.{Refusal}
-use Rattle.ov_disk.specs.Disk.{Image}
+use Rattle.ov_disk.specs.Tells.{DiskTells}
 use Rattle.ov_script.specs.declared.command.Command.{Command}
 use Rattle.ov_script.specs.declared.command.Command.TheVariants.{Read}
 use Rattle.ov_script.specs.declared.reply.Reply.{Reply}
@@ -20,7 +20,8 @@ use Rattle.ov_fields.specs.Fronts.{AreAllBytes}
 use Rattle.ov_wire.specs.AnswerReading.{answer_of}
 use Rattle.ov_wire.specs.Requests.{HasRequestForm, request_bytes}
 use Rattle.ov_protocol.specs.Serving.{Service}
-use Rattle.ov_peer.specs.Asks.{AreAsks, Ask, Asked, Failed}
+use Rattle.ov_peer.specs.Asks.{AreAsks, Ask}
+use Rattle.ov_peer.specs.Tells.{PeerTells}
 use Rattle.ov_client.specs.Readers.{Reader}
 use Rattle.ov_client.specs.Talks.{Closes as ReadCloses, Talks as ReadTalks}
 use Rattle.ov_client.specs.declared.fault.ClientFault.{ClientFault}
@@ -85,28 +86,25 @@ none_failed made answered (inr is) = subst IsAnswered is answered
 joins : (xs ys zs : List ℕ) → (xs ++ []) ++ (ys ++ zs) ≡ (xs ++ ys) ++ zs
 joins xs ys zs = ap (λ (x : List ℕ). x ++ (ys ++ zs)) (append-nil xs) ∙ sym (append_assoc xs ys zs)
 
-module _ {D : Type 0} (reads : D → Option Image) (may_leave : D → Image → Type 0)
-    (moment : D → ℕ) (left_since : D → ℕ → Image → Type 0) (borrow faults_of : D → ℕ)
-    {P : Type 0} (asked : Asked P) (failed : Failed P) (server : P → Opened D)
-    (put : P → Option (List ℕ)) (loan : P → ℕ)
-    (seat : IsSeat reads may_leave moment left_since borrow faults_of asked failed server put loan)
-    (k : Masters) (p : PlainHistory) (legal : IsLegal (history_of p)) where
+module _ {D : Type 0} (tells : DiskTells D) {P : Type 0} (peer : PeerTells P)
+    (server : P → Opened D) (put : P → Option (List ℕ)) (loan : P → ℕ)
+    (seat : IsSeat tells peer server put loan) (k : Masters) (p : PlainHistory)
+    (legal : IsLegal (history_of p)) where
   -- ---- changes
 
   pub change_put : (command : Command) (e : Errand) (asks : List Ask) (o : Option (List ℕ))
       (made : Result ℕ OwnerFault) (a b : P) (Made : Type 0)
       → ((last : Service) → IsServedBy (server b) last → ComesTo k p command last → Made)
       → IsErrandFor k.base command e → IsServedBy (server a) (service_of k p)
-      → AreAsks asked failed a asks o b → Talks k.surface e asks o made
+      → AreAsks peer a asks o b → Talks k.surface e asks o made
       → TracesAt k p command Made (put a) (put b) (change_reply made)
   change_put command e asks o made a b Made comes ours serves (m, leads, ends) talks =
-      let (w, alone, then) = alone_so reads may_leave moment left_since borrow faults_of asked failed
+      let (w, alone, then) = alone_so tells peer
       server put loan seat asks a m (service_of k p) serves leads in
-      let (more, last, put_more, on, serves_last) = end_on reads may_leave moment left_since borrow faults_of asked
-      failed server put loan seat o m b w then ends in
-      let put_so = are_put reads may_leave moment left_since borrow faults_of asked failed server put loan seat o w last more on in
+      let (more, last, put_more, on, serves_last) = end_on tells peer server put loan seat o m b w then ends in
+      let put_so = are_put tells peer server put loan seat o w last more on in
       let put_all = Appends-trans (put a) (put m) (put b) (frames asks) more
-      (frames_put reads may_leave moment left_since borrow faults_of asked failed server put loan seat asks a m leads)
+      (frames_put tells peer server put loan seat asks a m leads)
       put_more in
       breaks_so k p command Made (put a) (put b) (change_reply made)
       (λ reply is. whole w alone more put_so put_all (answered_so made reply is)) (
@@ -137,32 +135,32 @@ module _ {D : Type 0} (reads : D → Option Image) (may_leave : D → Image → 
   module _ (command : Command) (form : HasRequestForm (first_request command)) where
     -- one ask that was answered
     first_ask : (a b : P) (reply : List ℕ) → IsServedBy (server a) (service_of k p)
-        → asked a (request_bytes (first_request command)) reply b
+        → peer.asked a (request_bytes (first_request command)) reply b
         → (x : Ask) × (x.reply ≡ reply) × IsFirstAsk k p command x
         × Appends (put a) (put b) (frames (x ∷ []))
     first_ask a b reply serves asks =
         let x : Ask = record { request = request_bytes (first_request command); reply = reply } in
-        let (w, alone, then) = alone_so reads may_leave moment left_since borrow faults_of asked failed
+        let (w, alone, then) = alone_so tells peer
         server put loan seat (x ∷ []) a b (service_of k p) serves (b, asks, refl) in (
           x,
           refl,
           record { form = form; asked = refl; made = alone.0; replied = alone.1 },
-          frames_put reads may_leave moment left_since borrow faults_of asked failed server put loan
+          frames_put tells peer server put loan
               seat (x ∷ []) a b (b, asks, refl),
         )
 
     answered_front : (a b : P) (reply : List ℕ) → IsServedBy (server a) (service_of k p)
-        → asked a (request_bytes (first_request command)) reply b
+        → peer.asked a (request_bytes (first_request command)) reply b
         → TranscribesFront k p command (put a) (put b)
     answered_front a b reply serves asks =
         let (x, same, first, bytes) = first_ask a b reply serves asks in
         (frames (x ∷ []), first_answers_are_fronts k p command x first, bytes)
 
     failed_front : (a b : P) → IsServedBy (server a) (service_of k p)
-        → failed a (request_bytes (first_request command)) b
+        → peer.failed a (request_bytes (first_request command)) b
         → TranscribesFront k p command (put a) (put b)
     failed_front a b serves fault =
-        let (bytes, put_it, is) = end_put reads may_leave moment left_since borrow faults_of asked failed
+        let (bytes, put_it, is) = end_put tells peer
         server put loan seat (Some (request_bytes (first_request command))) a b (service_of k p) serves
         fault in
         (bytes, first_asks_are_fronts k p command bytes form is, put_it)
@@ -177,7 +175,7 @@ module _ {D : Type 0} (reads : D → Option Image) (may_leave : D → Image → 
     -- a front, however it ended
     pub once_front : {T : Type 0} (take : Answer → Result T OwnerFault) (result : Result T OwnerFault)
         (a b : P) → IsServedBy (server a) (service_of k p)
-        → AsksOnce asked failed a b (first_request command) take result
+        → AsksOnce peer a b (first_request command) take result
         → TranscribesFront k p command (put a) (put b)
     once_front take result a b serves (inl (read, answered, is)) =
         answered_front a b answered.reply serves answered.sent
@@ -191,7 +189,7 @@ module _ {D : Type 0} (reads : D → Option Image) (may_leave : D → Image → 
     pub question_put : {T : Type 0} (take : Answer → Result T OwnerFault)
         (result : Result T OwnerFault) (r : Result Reply StepFault) (a b : P)
         → IsOneQuestion command → IsServedBy (server a) (service_of k p)
-        → AsksOnce asked failed a b (first_request command) take result
+        → AsksOnce peer a b (first_request command) take result
         → ((reply : Reply) → r ≡ Ok reply → result ≡ Err faults.Link → ⊥)
         → ((reply : Reply) → r ≡ Ok reply → result ≡ Err faults.Memory → ⊥)
         → TracesAt k p command (Unit {0}) (put a) (put b) r
@@ -199,7 +197,7 @@ module _ {D : Type 0} (reads : D → Option Image) (may_leave : D → Image → 
         traces_so k p command (put a) (put b) r (λ reply is. whole reply is once)
         (once_front take result a b serves once) where
           whole : (reply : Reply) → r ≡ Ok reply
-              → AsksOnce asked failed a b (first_request command) take result
+              → AsksOnce peer a b (first_request command) take result
               → Transcribes k p command (put a) (put b)
           whole reply is (inl (read, answered, so)) =
               let (x, same, first, bytes) = first_ask a b answered.reply serves answered.sent in
@@ -212,7 +210,7 @@ module _ {D : Type 0} (reads : D → Option Image) (may_leave : D → Image → 
   -- the reader wasn't got
   pub unread_put : (user file : List ℕ) (fault : OwnerFault) (a b : P)
       → HasRequestForm (first_request (Read user file)) → IsServedBy (server a) (service_of k p)
-      → AsksOnce asked failed a b (first_request (Read user file)) (reader_in k user) (Err fault)
+      → AsksOnce peer a b (first_request (Read user file)) (reader_in k user) (Err fault)
       → TracesAt k p (Read user file) (Unit {0}) (put a) (put b) (fault_reply fault)
   unread_put user file fault a b form serves once =
       traces_so k p (Read user file) (put a) (put b) (fault_reply fault)
@@ -224,7 +222,7 @@ module _ {D : Type 0} (reads : D → Option Image) (may_leave : D → Image → 
         no_reader answer why is = absurd cc
 
         by : (f : OwnerFault) {reply : Reply} → fault_reply f ≡ Ok reply
-            → AsksOnce asked failed a b (first_request (Read user file)) (reader_in k user) (Err f)
+            → AsksOnce peer a b (first_request (Read user file)) (reader_in k user) (Err f)
             → Transcribes k p (Read user file) (put a) (put b)
         by (faults.Refused why) is (inl (Ok answer, answered, so)) =
             let (x, same, first, bytes) = first_ask (Read user file) form a b answered.reply serves answered.sent in
@@ -252,8 +250,8 @@ module _ {D : Type 0} (reads : D → Option Image) (may_leave : D → Image → 
       (found : Result (List ℕ) ClientFault) (reply : Result Reply StepFault) (a b d : P)
       → HasRequestForm (first_request (Read user file)) → IsServedBy (server a) (service_of k p)
       → server b ≡ server a → r.name ≡ user
-      → AsksOnce asked failed a b (first_request (Read user file)) (reader_in k user) (Ok r)
-      → AreAsks asked failed b asks o d → ReadTalks r file asks o found
+      → AsksOnce peer a b (first_request (Read user file)) (reader_in k user) (Ok r)
+      → AreAsks peer b asks o d → ReadTalks r file asks o found
       → ((x : Reply) → reply ≡ Ok x → IsReadAnswered found)
       → TracesAt k p (Read user file) (Unit {0}) (put a) (put d) reply
   read_put user file r asks o found reply a b d form serves still named (inr (inl (link, fault))) are talks replied =
@@ -291,12 +289,11 @@ module _ {D : Type 0} (reads : D → Option Image) (may_leave : D → Image → 
             } in
             let serves_b : IsServedBy (server b) (service_of k p) =
             subst (λ (s : Opened D). IsServedBy s (service_of k p)) (sym still) serves in
-            let (w, alone, then) = alone_so reads may_leave moment left_since borrow faults_of asked failed
+            let (w, alone, then) = alone_so tells peer
             server put loan seat asks b m (service_of k p) serves_b leads in
-            let (more, put_more, are_put) = end_put reads may_leave moment left_since borrow faults_of asked
-            failed server put loan seat o m d w then ends in
+            let (more, put_more, are_put) = end_put tells peer server put loan seat o m d w then ends in
             let put_reads = Appends-trans (put b) (put m) (put d) (frames asks) more
-            (frames_put reads may_leave moment left_since borrow faults_of asked failed server put loan seat asks b m leads)
+            (frames_put tells peer server put loan seat asks b m leads)
             put_more in
             let put_all = Appends-trans (put a) (put b) (put d) (frames (key ∷ [])) (frames asks ++ more) key_bytes put_reads in
             let joined : frames (key ∷ []) ++ (frames asks ++ more) ≡ frames (key ∷ asks) ++ more =

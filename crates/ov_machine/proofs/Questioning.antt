@@ -1,7 +1,7 @@
 -- What one question to the machine's server comes to.
 use Rattle.std.proofs.Common.{◌≡◌, ◌∙◌, ℕ, List, [], ◌∷◌, Option, Some, None, Result, Ok, Err, refl, sym, ap, inl, inr}
 use Rattle.std.specs.Prelude.{◌⊎◌}
-use Rattle.ov_disk.specs.Disk.{Image}
+use Rattle.ov_disk.specs.Tells.{DiskTells}
 use Rattle.ov_wire.specs.declared.request.Request.{Request}
 use Rattle.ov_wire.specs.declared.answer.Answer.{Answer}
 use Rattle.ov_wire.specs.AnswerForm.{HasAnswerForm}
@@ -10,17 +10,18 @@ use Rattle.ov_wire.specs.AnswersTo.{IsAnswer}
 use Rattle.ov_wire.specs.Requests.{HasRequestForm, request_bytes}
 use Rattle.ov_protocol.specs.Answers.{Answers}
 use Rattle.ov_protocol.specs.Serving.{Serving}
-use Rattle.ov_peer.specs.Asks.{AreAsks, Ask, Asked, Failed}
+use Rattle.ov_peer.specs.Asks.{AreAsks, Ask}
 use Rattle.ov_peer.specs.Disks.{MayNeedDisk}
 use Rattle.ov_peer.specs.Exchanges.{Forgets}
 use Rattle.ov_peer.specs.Tracing.{TracesFault, unanswered, unasked, unput}
+use Rattle.ov_peer.specs.Tells.{PeerTells}
 use Rattle.ov_server.specs.Answering.{serving_of}
 use Rattle.ov_store.specs.Opened.{Opened}
 use Rattle.ov_owner.specs.Questions.{AsksOnce, taken}
 use Rattle.ov_owner.specs.declared.fault.OwnerFault.{OwnerFault}
 use Rattle.ov_owner.specs.declared.fault.OwnerFault.TheVariants as faults
 use Rattle.ov_owner.proofs.Fitting.{reads_back}
-use Rattle.ov_machine.specs.Seats.{IsSeat, served, unserved}
+use Rattle.ov_machine.specs.Seats.{IsSeat, served, store_peer}
 use Rattle.ov_machine.proofs.Quiet.{quiet_asked}
 
 -- the question is no more than that: it needs no disk, and its answers are in the grammar
@@ -40,34 +41,29 @@ abbrev pub IsTakenOf : {D T : Type 0} → Opened D → Request → (Answer → R
 IsTakenOf s request take result =
     ((a : Answer) × Answers (serving_of s) request a × (result ≡ take a)) ⊎ IsCutOff result
 
-module _ {D : Type 0} (reads : D → Option Image) (may_leave : D → Image → Type 0)
-    (moment : D → ℕ) (left_since : D → ℕ → Image → Type 0) (borrow faults_of : D → ℕ)
-    {P : Type 0} (asked : Asked P) (failed : Failed P) (server : P → Opened D)
-    (put : P → Option (List ℕ)) (loan : P → ℕ)
-    (seat : IsSeat reads may_leave moment left_since borrow faults_of asked failed server put loan)
-    {T : Type 0} (request : Request) (take : Answer → Result T OwnerFault)
-    (question : IsPlainQuestion request) where
+module _ {D : Type 0} (tells : DiskTells D) {P : Type 0} (peer : PeerTells P)
+    (server : P → Opened D) (put : P → Option (List ℕ)) (loan : P → ℕ)
+    (seat : IsSeat tells peer server put loan) {T : Type 0} (request : Request)
+    (take : Answer → Result T OwnerFault) (question : IsPlainQuestion request) where
   abbrev store_asked : Opened D → List ℕ → List ℕ → Opened D → Type 0
-  store_asked s bytes reply t =
-      served reads may_leave moment left_since borrow faults_of s bytes reply t
+  store_asked s bytes reply t = served tells s bytes reply t
 
   stays : (p q : P) (reply : List ℕ) → store_asked (server p) (request_bytes request) reply (server q)
       → server q ≡ server p
   stays p q reply asks =
-      (quiet_asked reads may_leave moment left_since borrow faults_of (server p) (server q) request
+      (quiet_asked tells (server p) (server q) request
       reply question.form question.quiet asks).0
 
-  fault_stays : (p q : P) → failed p (request_bytes request) q → server q ≡ server p
+  fault_stays : (p q : P) → peer.failed p (request_bytes request) q → server q ≡ server p
   fault_stays p q fault = by (seat.fails p q (request_bytes request) fault).0 where
-    by : TracesFault (served reads may_leave moment left_since borrow faults_of)
-        (unserved reads may_leave moment left_since borrow faults_of)
+    by : TracesFault (store_peer tells)
         (server p) (server q) (put p) (put q) (request_bytes request)
         → server q ≡ server p
     by (unasked same n bytes) = same
     by (unanswered same bytes) = same
     by (unput reply n asks bytes) = stays p q reply asks
 
-  forgets_stays : (p q : P) → Forgets asked failed p q request → server q ≡ server p
+  forgets_stays : (p q : P) → Forgets peer p q request → server q ≡ server p
   forgets_stays p q (inl same) = ap server same
   forgets_stays p q (inr (inl fault)) = fault_stays p q fault
   forgets_stays p q (inr (inr (reply, asks))) =
@@ -75,11 +71,11 @@ module _ {D : Type 0} (reads : D → Option Image) (may_leave : D → Image → 
 
   -- nothing changes, and so it ends
   pub once_so : (p q : P) (result : Result T OwnerFault)
-      → AsksOnce asked failed p q request take result
+      → AsksOnce peer p q request take result
       → (server q ≡ server p) × IsTakenOf (server p) request take result
   once_so p q result (inl (read, answered, is)) =
       let asks = (seat.asks p q (request_bytes request) answered.reply answered.sent).0.peer in
-      let (same, a, said) = quiet_asked reads may_leave moment left_since borrow faults_of (server p)
+      let (same, a, said) = quiet_asked tells (server p)
       (server q) request answered.reply question.form question.quiet asks in
       let reads_as : answer_of request answered.reply ≡ Ok a =
       reads_back request a answered.reply
@@ -90,8 +86,8 @@ module _ {D : Type 0} (reads : D → Option Image) (may_leave : D → Image → 
 
   -- as a list of asks
   pub once_asks : (p q : P) (result : Result T OwnerFault)
-      → AsksOnce asked failed p q request take result
-      → (asks : List Ask) × (o : Option (List ℕ)) × AreAsks asked failed p asks o q
+      → AsksOnce peer p q request take result
+      → (asks : List Ask) × (o : Option (List ℕ)) × AreAsks peer p asks o q
   once_asks p q result (inl (read, answered, is)) = (
     record { request = request_bytes request; reply = answered.reply } ∷ [],
     None,

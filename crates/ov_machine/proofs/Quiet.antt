@@ -1,6 +1,6 @@
 -- What the machine's server does when it is asked what changes nothing.
-use Rattle.std.proofs.Common.{◌≡◌, ◌∙◌, ℕ, List, [], Option, Result, refl, ap, subst, inl, inr}
-use Rattle.ov_disk.specs.Disk.{Image}
+use Rattle.std.proofs.Common.{◌≡◌, ◌∙◌, ℕ, List, [], Result, refl, ap, subst, inl, inr}
+use Rattle.ov_disk.specs.Tells.{DiskTells}
 use Rattle.ov_record.specs.Updates.{SealedUpdate}
 use Rattle.ov_wire.specs.declared.request.Request.{Request}
 use Rattle.ov_wire.specs.declared.request.Request.TheVariants as requests
@@ -47,15 +47,14 @@ quiet_makes : (request : Request) → (MayNeedDisk request → ⊥) → (a : Ans
 quiet_makes (requests.Update epoch spelling tag) quiet a = absurd (quiet tt)
 quiet_makes request quiet a = refl
 
-module _ {D : Type 0} (reads : D → Option Image) (may_leave : D → Image → Type 0)
-    (moment : D → ℕ) (left_since : D → ℕ → Image → Type 0) (borrow faults : D → ℕ) where
+module _ {D : Type 0} (tells : DiskTells D) where
   -- it is answered, and all stays
   pub quiet_asked : (s t : Opened D) (request : Request) (reply : List ℕ)
       → HasRequestForm request → (MayNeedDisk request → ⊥)
-      → served reads may_leave moment left_since borrow faults s (request_bytes request) reply t
+      → served tells s (request_bytes request) reply t
       → (t ≡ s) × (a : Answer) × Says (serving_of s) request reply a
   quiet_asked s t request reply form quiet asks = by_answer asks.answer where
-    by_answer : AnswersOrFails reads may_leave s t (request_bytes request) reply
+    by_answer : AnswersOrFails tells s t (request_bytes request) reply
         → (t ≡ s) × (a : Answer) × Says (serving_of s) request reply a
     by_answer (inl is) =
         let (a, said, makes) = says (serving_of s) request reply is.frame.made form

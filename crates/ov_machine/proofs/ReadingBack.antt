@@ -4,7 +4,7 @@ use Rattle.std.specs.Prelude.{◌⊎◌}
 use Rattle.std.proofs.lemmas.List.{nil_from_length}
 use Rattle.ov_base.specs.declared.refusal.Refusal.{Refusal}
 use Rattle.ov_base.specs.declared.refusal.Refusal.TheVariants.{NoUser}
-use Rattle.ov_disk.specs.Disk.{Image}
+use Rattle.ov_disk.specs.Tells.{DiskTells}
 use Rattle.ov_record.specs.Updates.{SealedUpdate}
 use Rattle.ov_history.specs.Asking.{key_refusal, user_named}
 use Rattle.ov_history.specs.Catalogue.{Catalogue, matrix_shown}
@@ -28,7 +28,8 @@ use Rattle.ov_protocol.specs.Serving.{Service, Serving, later, served as shown}
 use Rattle.ov_protocol.specs.Replies.{Replies}
 use Rattle.ov_protocol.proofs.GoingOn.{epochs_go_on, services_are_served}
 use Rattle.ov_protocol.proofs.Leaving.{later-nil}
-use Rattle.ov_peer.specs.Asks.{Along, AreRight, Ask, IsReplyAt}
+use Rattle.ov_peer.specs.Asks.{Along, AreRight, Ask}
+use Rattle.ov_peer.specs.Tells.{IsReplyAt}
 use Rattle.ov_peer.specs.Disks.{NeedsDisk}
 use Rattle.ov_server.specs.Answering.{AnswersOrFails, serving_of}
 use Rattle.ov_server.specs.Locally.{IsServedBy, needs}
@@ -75,12 +76,10 @@ reader_so k c user a r is made = absurd is
 
 -- ---- all is answered at one history
 
-module _ {D : Type 0} (reads : D → Option Image) (may_leave : D → Image → Type 0)
-    (moment : D → ℕ) (left_since : D → ℕ → Image → Type 0) (borrow faults_of : D → ℕ)
-    (s : Opened D) (v : Service) (serves : IsServedBy s v) where
+module _ {D : Type 0} (tells : DiskTells D) (s : Opened D) (v : Service)
+    (serves : IsServedBy s v) where
   abbrev asked : Opened D → List ℕ → List ℕ → Opened D → Type 0
-  asked p request reply q =
-      served reads may_leave moment left_since borrow faults_of p request reply q
+  asked p request reply q = served tells p request reply q
 
   -- a reply that leaves all as it was is one at the history, and makes nothing
   reply_at : (t : Opened D) (request reply : List ℕ) → asked s request reply t → t ≡ s
@@ -89,7 +88,7 @@ module _ {D : Type 0} (reads : D → Option Image) (may_leave : D → Image → 
     is_shown : serving_of s ≡ shown v
     is_shown = services_are_served (serving_of s) v serves
 
-    by : AnswersOrFails reads may_leave s t request reply → IsReplyAt v request reply []
+    by : AnswersOrFails tells s t request reply → IsReplyAt v request reply []
     by (inl is) =
         let longer = epochs_go_on (serving_of s) (serving_of t) request reply is.frame in
         let none : is.frame.made ≡ [] =
@@ -107,7 +106,7 @@ module _ {D : Type 0} (reads : D → Option Image) (may_leave : D → Image → 
 
   -- so asks that leave all as it was are answered along it
   pub along_so : (asks : List Ask)
-      → AllStay reads may_leave moment left_since borrow faults_of s asks
+      → AllStay tells s asks
       → (histories : List SealedHistory) × (last : Service) × Along v asks histories last
       × AllAre v.history histories
   along_so [] stay = ([], v, refl, tt)
@@ -187,19 +186,18 @@ there_so k p o user file (Err (client.Unsettled generations)) at_p is = tt
 there_so k p o user file (Err client.Memory) at_p is = tt
 
 -- a read of a machine that stands for the history, with the keys of its user's roots
-pub read_there : {D : Type 0} (reads : D → Option Image) (may_leave : D → Image → Type 0)
-    (moment : D → ℕ) (left_since : D → ℕ → Image → Type 0) (borrow faults_of : D → ℕ)
+pub read_there : {D : Type 0} (tells : DiskTells D)
     (old : KeptOn D) (p : PlainHistory) (stands : StandsFor old.kept p)
     (user file : List ℕ) (r : Reader) → IsReader old.kept.masters old.kept.catalogue user r
     → (asks : List Ask) (o : Option (List ℕ)) (result : Result (List ℕ) ClientFault)
     → Talks r file asks o result
-    → AllStay reads may_leave moment left_since borrow faults_of (opened_of old) asks
+    → AllStay tells (opened_of old) asks
     → IsReadThere p user file result
-read_there reads may_leave moment left_since borrow faults_of old p stands user file r reader asks o
+read_there tells old p stands user file r reader asks o
     result talks stay =
     let k = old.kept.masters in
     let v = service_at k p in
-    let (histories, last, along, all) = along_so reads may_leave moment left_since borrow faults_of
+    let (histories, last, along, all) = along_so tells
     (opened_of old) v (serves_at old p stands) asks stay in
     let is = reads_are_the_machines k r file asks o result v last histories reader.keys refl talks
     along (right_all k p v.history histories stands.0.0 refl all) in

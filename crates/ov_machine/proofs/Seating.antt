@@ -2,79 +2,75 @@
 use Rattle.std.proofs.Common.{◌≡◌, ◌∙◌, ℕ, List, [], ◌∷◌, length, Option, Some, None, refl, sym, ap, subst, inl, inr}
 use Rattle.std.specs.Io.KnownBytes.{Appends}
 use Rattle.std.proofs.KnownBytes.{Appends-nil, Appends-trans}
-use Rattle.ov_disk.specs.Disk.{Image}
+use Rattle.ov_disk.specs.Tells.{DiskTells}
+use Rattle.ov_io.specs.Tells.{SinkTells}
 use Rattle.ov_wire.specs.Frames.{framed}
 use Rattle.ov_protocol.specs.Serving.{Service, later}
-use Rattle.ov_peer.specs.Asks.{Ask, AreAsks, Asked, EndsAt, Failed, Leads}
-use Rattle.ov_peer.specs.Tracing.{TracesAsk, TracesFault, unanswered, unasked, unput}
+use Rattle.ov_peer.specs.Asks.{Ask, AreAsks, EndsAt, Leads}
+use Rattle.ov_peer.specs.Tells.{PeerTells}
+use Rattle.ov_peer.specs.Traced.{traced_tells}
+use Rattle.ov_peer.specs.Tracing.{TracesFault, unanswered, unasked, unput}
 use Rattle.ov_store.specs.Opened.{Opened}
 use Rattle.ov_server.specs.Locally.{IsServedBy, answers_alone}
 use Rattle.ov_owner.specs.Alone.{AnsweredAlone}
 use Rattle.ov_transcript.specs.Talking.{ArePut}
 use Rattle.ov_transcript.specs.Transcripts.{frames}
-use Rattle.ov_machine.specs.Seats.{IsSeat, LeftBy, served, unserved}
+use Rattle.ov_machine.specs.Seats.{IsSeat, LeftBy, served, store_peer}
 use Rattle.ov_machine.proofs.KeptLoans.{asks_keep}
 use Rattle.ov_machine.proofs.PutOn.{IsPutOn}
 use Rattle.ov_machine.proofs.Reading.{take_whole}
 
-module _ {D : Type 0} (reads : D → Option Image) (may_leave : D → Image → Type 0)
-    (moment : D → ℕ) (left_since : D → ℕ → Image → Type 0) (borrow faults : D → ℕ)
-    {P : Type 0} (asked : Asked P) (failed : Failed P) (server : P → Opened D)
-    (put : P → Option (List ℕ)) (loan : P → ℕ)
-    (seat : IsSeat reads may_leave moment left_since borrow faults asked failed server put loan) where
-  abbrev asks_store : Asked (Opened D)
-  asks_store = served reads may_leave moment left_since borrow faults
-
-  pub leads_so : (asks : List Ask) (p m : P) → Leads asked p asks m
-      → Leads asks_store (server p) asks (server m)
+module _ {D : Type 0} (tells : DiskTells D) {P : Type 0} (peer : PeerTells P)
+    (server : P → Opened D) (put : P → Option (List ℕ)) (loan : P → ℕ)
+    (seat : IsSeat tells peer server put loan) where
+  pub leads_so : (asks : List Ask) (p m : P) → Leads peer p asks m
+      → Leads (store_peer tells) (server p) asks (server m)
   leads_so [] p m same = ap server same
   leads_so (a ∷ asks) p m (n, first, leads) =
       (server n, (seat.asks p n a.request a.reply first).0.peer, leads_so asks n m leads)
 
-  pub left_so : (o : Option (List ℕ)) (m q : P) → EndsAt failed m o q
-      → LeftBy reads may_leave moment left_since borrow faults (server m) o (server q)
+  pub left_so : (o : Option (List ℕ)) (m q : P) → EndsAt peer m o q
+      → LeftBy tells (server m) o (server q)
   left_so None m q same = ap server same
   left_so (Some request) m q fault = by (seat.fails m q request fault).0 where
-    by : TracesFault asks_store (unserved reads may_leave moment left_since borrow faults)
-        (server m) (server q) (put m) (put q) request
-        → LeftBy reads may_leave moment left_since borrow faults (server m) (Some request) (server q)
+    by : TracesFault (store_peer tells) (server m) (server q) (put m) (put q) request
+        → LeftBy tells (server m) (Some request) (server q)
     by (unasked same n bytes) = inl same
     by (unanswered same bytes) = inl same
     by (unput reply n asks bytes) = inr (reply, asks)
 
   -- the sink stays lent as it was
-  pub lent_so : (asks : List Ask) (o : Option (List ℕ)) (p q : P) → AreAsks asked failed p asks o q
+  pub lent_so : (asks : List Ask) (o : Option (List ℕ)) (p q : P) → AreAsks peer p asks o q
       → loan q ≡ loan p
   lent_so =
-      asks_keep asked failed loan (λ p q request reply answered. (seat.asks p q request reply answered).1)
+      asks_keep peer loan (λ p q request reply answered. (seat.asks p q request reply answered).1)
       (λ p q request fault. (seat.fails p q request fault).1)
 
   -- the store keeps its keys
-  keys_lead : (asks : List Ask) (p m : P) → Leads asked p asks m
+  keys_lead : (asks : List Ask) (p m : P) → Leads peer p asks m
       → (server m).keys ≡ (server p).keys
   keys_lead [] p m same = ap (λ (x : P). (server x).keys) (sym same)
   keys_lead (a ∷ asks) p m (n, first, leads) =
       keys_lead asks n m leads ∙ (seat.asks p n a.request a.reply first).0.peer.call.0
 
-  keys_end : (o : Option (List ℕ)) (m q : P) → EndsAt failed m o q
+  keys_end : (o : Option (List ℕ)) (m q : P) → EndsAt peer m o q
       → (server q).keys ≡ (server m).keys
   keys_end None m q same = ap (λ (x : P). (server x).keys) (sym same)
   keys_end (Some request) m q fault = by (seat.fails m q request fault).0 where
-    by : TracesFault asks_store (unserved reads may_leave moment left_since borrow faults)
-        (server m) (server q) (put m) (put q) request
+    by : TracesFault (store_peer tells) (server m) (server q) (put m) (put q) request
         → (server q).keys ≡ (server m).keys
     by (unasked same n bytes) = ap (λ (x : Opened D). x.keys) same
     by (unanswered same bytes) = ap (λ (x : Opened D). x.keys) same
     by (unput reply n asks bytes) = asks.call.0
 
-  pub keys_so : (asks : List Ask) (o : Option (List ℕ)) (p q : P) → AreAsks asked failed p asks o q
+  pub keys_so : (asks : List Ask) (o : Option (List ℕ)) (p q : P) → AreAsks peer p asks o q
       → (server q).keys ≡ (server p).keys
   keys_so asks o p q (m, leads, ends) = keys_end o m q ends ∙ keys_lead asks p m leads
 
   -- ---- what is put
 
   -- the frames of the asks that were answered
-  pub frames_put : (asks : List Ask) (p m : P) → Leads asked p asks m
+  pub frames_put : (asks : List Ask) (p m : P) → Leads peer p asks m
       → Appends (put p) (put m) (frames asks)
   frames_put [] p m same =
       subst (λ (x : P). Appends (put p) (put x) []) same (Appends-nil (put p))
@@ -84,7 +80,7 @@ module _ {D : Type 0} (reads : D → Option Image) (may_leave : D → Image → 
 
   -- those of the one that failed, as far as they were put, and what is served then
   pub end_on : (o : Option (List ℕ)) (m q : P) (w : Service) → IsServedBy (server m) w
-      → EndsAt failed m o q
+      → EndsAt peer m o q
       → (bytes : List ℕ) × (last : Service) × Appends (put m) (put q) bytes × IsPutOn w o bytes last
       × IsServedBy (server q) last
   end_on None m q w serves same = (
@@ -95,8 +91,7 @@ module _ {D : Type 0} (reads : D → Option Image) (may_leave : D → Image → 
     subst (λ (x : P). IsServedBy (server x) w) same serves,
   )
   end_on (Some request) m q w serves fault = by (seat.fails m q request fault).0 where
-    by : TracesFault asks_store (unserved reads may_leave moment left_since borrow faults)
-        (server m) (server q) (put m) (put q) request
+    by : TracesFault (store_peer tells) (server m) (server q) (put m) (put q) request
         → (bytes : List ℕ) × (last : Service) × Appends (put m) (put q) bytes
         × IsPutOn w (Some request) bytes last × IsServedBy (server q) last
     by (unasked same n bytes) =
@@ -109,7 +104,7 @@ module _ {D : Type 0} (reads : D → Option Image) (may_leave : D → Image → 
       subst (λ (s : Opened D). IsServedBy s w) (sym same) serves,
     )
     by (unput reply n asks bytes) =
-        let (made, at_w, then) = answers_alone reads may_leave (server m) (server q) request reply w
+        let (made, at_w, then) = answers_alone tells (server m) (server q) request reply w
         asks.answer serves in
         (_, later w made, bytes, inr (reply, made, n, at_w, refl, refl), then)
 
@@ -121,7 +116,7 @@ module _ {D : Type 0} (reads : D → Option Image) (may_leave : D → Image → 
       inr (reply, made, n, replied, is)
 
   pub end_put : (o : Option (List ℕ)) (m q : P) (w : Service) → IsServedBy (server m) w
-      → EndsAt failed m o q
+      → EndsAt peer m o q
       → (bytes : List ℕ) × Appends (put m) (put q) bytes × ArePut w o bytes
   end_put o m q w serves ends =
       let (bytes, last, put_it, on, then) = end_on o m q w serves ends in
@@ -129,31 +124,30 @@ module _ {D : Type 0} (reads : D → Option Image) (may_leave : D → Image → 
 
   -- what is served goes on by what the asks made
   pub alone_so : (asks : List Ask) (p m : P) (v : Service) → IsServedBy (server p) v
-      → Leads asked p asks m
+      → Leads peer p asks m
       → (w : Service) × AnsweredAlone v asks w × IsServedBy (server m) w
   alone_so [] p m v serves same =
       (v, refl, subst (λ (x : P). IsServedBy (server x) v) same serves)
   alone_so (a ∷ asks) p m v serves (n, first, leads) =
       let one = (seat.asks p n a.request a.reply first).0.peer in
-      let (made, at_v, then) = answers_alone reads may_leave (server p) (server n) a.request a.reply v
+      let (made, at_v, then) = answers_alone tells (server p) (server n) a.request a.reply v
       one.answer serves in
       let (w, alone, last) = alone_so asks n m (later v made) then leads in
       (w, (made, at_v, alone), last)
 
   -- some bytes were put
-  grew_at : (o : Option (List ℕ)) (m q : P) → EndsAt failed m o q
+  grew_at : (o : Option (List ℕ)) (m q : P) → EndsAt peer m o q
       → (bytes : List ℕ) × Appends (put m) (put q) bytes
   grew_at None m q same =
       ([], subst (λ (x : P). Appends (put m) (put x) []) same (Appends-nil (put m)))
   grew_at (Some request) m q fault = by (seat.fails m q request fault).0 where
-    by : TracesFault asks_store (unserved reads may_leave moment left_since borrow faults)
-        (server m) (server q) (put m) (put q) request
+    by : TracesFault (store_peer tells) (server m) (server q) (put m) (put q) request
         → (bytes : List ℕ) × Appends (put m) (put q) bytes
     by (unasked same n bytes) = (_, bytes)
     by (unanswered same bytes) = (_, bytes)
     by (unput reply n asks bytes) = (_, bytes)
 
-  pub grew_so : (asks : List Ask) (o : Option (List ℕ)) (p q : P) → AreAsks asked failed p asks o q
+  pub grew_so : (asks : List Ask) (o : Option (List ℕ)) (p q : P) → AreAsks peer p asks o q
       → (bytes : List ℕ) × Appends (put p) (put q) bytes
   grew_so asks o p q (m, leads, ends) =
       let more = grew_at o m q ends in
@@ -161,33 +155,27 @@ module _ {D : Type 0} (reads : D → Option Image) (may_leave : D → Image → 
 
 -- ---- the peer that a step makes
 
-module _ {D : Type 0} (reads : D → Option Image) (may_leave : D → Image → Type 0)
-    (moment : D → ℕ) (left_since : D → ℕ → Image → Type 0) (borrow faults : D → ℕ)
-    {M P : Type 0} (lent_asked : Asked M) (lent_failed : Failed M) (server : M → Opened D)
-    (asks : (p q : M) (request reply : List ℕ) → lent_asked p request reply q
-    → served reads may_leave moment left_since borrow faults (server p) request reply (server q))
-    (fails : (p q : M) (request : List ℕ) → lent_failed p request q → server q ≡ server p)
-    (peer : P → M) (put : P → Option (List ℕ)) (loan : P → ℕ) where
+module _ {D : Type 0} (tells : DiskTells D) {M T : Type 0} (lent : PeerTells M) (sink : SinkTells T)
+    (server : M → Opened D)
+    (asks : (p q : M) (request reply : List ℕ) → lent.asked p request reply q
+    → served tells (server p) request reply (server q))
+    (fails : (p q : M) (request : List ℕ) → lent.failed p request q → server q ≡ server p) where
   fault_so : (p q : M) (was now : Option (List ℕ)) (request : List ℕ)
-      → TracesFault lent_asked lent_failed p q was now request
-      → TracesFault (served reads may_leave moment left_since borrow faults)
-      (unserved reads may_leave moment left_since borrow faults) (server p) (server q) was now request
+      → TracesFault lent p q was now request
+      → TracesFault (store_peer tells) (server p) (server q) was now request
   fault_so p q was now request (unasked same n bytes) = unasked (ap server same) n bytes
   fault_so p q was now request (unanswered fault bytes) = unanswered (fails p q request fault) bytes
   fault_so p q was now request (unput reply n answered bytes) =
       unput reply n (asks p q request reply answered) bytes
 
   -- a traced peer over a lent server is one of these
-  pub traced_seat : IsSeat reads may_leave moment left_since borrow faults
-      (λ p request reply q. TracesAsk lent_asked (peer p) (peer q) (put p) (put q) request reply
-      × (loan q ≡ loan p))
-      (λ p request q. TracesFault lent_asked lent_failed (peer p) (peer q) (put p) (put q) request
-      × (loan q ≡ loan p))
-      (λ p. server (peer p)) put loan
+  pub traced_seat : IsSeat tells (traced_tells lent sink) (λ p. server p.peer)
+      (λ p. sink.written p.sink) (λ p. sink.borrow p.sink)
   traced_seat = record {
     asks = λ p q request reply a. (
-      record { peer = asks (peer p) (peer q) request reply a.0.peer; put = a.0.put },
+      record { peer = asks p.peer q.peer request reply a.0.peer; put = a.0.put },
       a.1,
     );
-    fails = λ p q request f. (fault_so (peer p) (peer q) (put p) (put q) request f.0, f.1);
+    fails = λ p q request f.
+        (fault_so p.peer q.peer (sink.written p.sink) (sink.written q.sink) request f.0, f.1);
   }

@@ -1,9 +1,10 @@
 -- What a change by the owner is at a history for which the machine stands: the machine's step.
-use Rattle.std.proofs.Common.{◌≡◌, ◌∙◌, inl, inr, ℕ, ◌+◌, ◌≤◌, [], ◌∷◌, length, length-append, false, refl, sym, ap, subst, arith, true≢false, Option, None, Result, Ok, Err}
+use Rattle.std.proofs.Common.{◌≡◌, ◌∙◌, inl, inr, ℕ, ◌+◌, [], ◌∷◌, length, length-append, false, refl, sym, ap, subst, arith, true≢false, None, Result, Ok, Err}
 use Rattle.std.specs.Prelude.{◌⊎◌}
 use Rattle.ov_base.specs.declared.refusal.Refusal.{Refusal}
 use Rattle.ov_disk.specs.Disk.{Image}
 use Rattle.ov_disk.proofs.Runs.{weaker}
+use Rattle.ov_disk.specs.Tells.{DiskTells}
 use Rattle.ov_images.specs.Images.{Keeps, keys_of}
 use Rattle.ov_record.specs.Updates.{SealedUpdate}
 use Rattle.ov_script.specs.declared.command.Command.{Command}
@@ -92,14 +93,10 @@ stands_at m p v legal surface is serves = (
   serves.keeps ∙ (λ i. stored_of (surface i) (is i)),
 )
 
-module _ {D : Type 0} (reads : D → Option Image) (may_leave : D → Image → Type 0)
-    (moment : D → ℕ) (left_since : D → ℕ → Image → Type 0) (borrow faults_of : D → ℕ)
-    (only_now : (d : D) (c : Image) → left_since d (moment d) c → may_leave d c)
-    (counts_now : (d : D) (t : ℕ) (c : Image) → t ≤ moment d → may_leave d c → left_since d t c)
-    (old new : KeptOn D) (p : PlainHistory) (stands : StandsFor old.kept p)
-    (masters : new.kept.masters ≡ old.kept.masters) (sound : old.failed ≡ false)
-    (command : Command) (e : Errand) (ours : IsErrandFor old.kept.masters.base command e)
-    (is_honest : IsHonest e) where
+module _ {D : Type 0} (tells : DiskTells D) (old new : KeptOn D) (p : PlainHistory)
+    (stands : StandsFor old.kept p) (masters : new.kept.masters ≡ old.kept.masters)
+    (sound : old.failed ≡ false) (command : Command) (e : Errand)
+    (ours : IsErrandFor old.kept.masters.base command e) (is_honest : IsHonest e) where
   abbrev k : Masters
   k = old.kept.masters
 
@@ -138,7 +135,7 @@ module _ {D : Type 0} (reads : D → Option Image) (may_leave : D → Image → 
   -- ---- an update
 
   -- the store stands for the history, on a disk that holds it
-  stands_there : Holds reads may_leave k p old.disk → Serves reads may_leave (sealed k p) s
+  stands_there : Holds tells k p old.disk → Serves tells (sealed k p) s
   stands_there holds = record {
     catalogue = kept_stands_for k p old.kept.catalogue stands.0;
     bytes = stands.1;
@@ -146,7 +143,8 @@ module _ {D : Type 0} (reads : D → Option Image) (may_leave : D → Image → 
     after_fault = λ failed. absurd (true≢false (sym failed ∙ sound));
   }
 
-  module _ (result : Result ℕ OwnerFault) (x : IsSentTo reads may_leave moment left_since borrow faults_of k.surface e is_honest s t result) where
+  module _ (result : Result ℕ OwnerFault)
+      (x : IsSentTo tells k.surface e is_honest s t result) where
     told_so : (x.epoch ≡ (catalogue_of k.surface (sealed k p)).epoch)
         × (x.update ≡ sealed_update k (layers_of (history_of p)) plain)
         × (refusal_of (history_of p) (measured plain) ≡ None)
@@ -177,21 +175,20 @@ module _ {D : Type 0} (reads : D → Option Image) (may_leave : D → Image → 
         inr (subst (λ (g : SealedHistory). Keeps (keys_of k) g c)
         (ap (followed (sealed k p)) asks_it ∙ sealed_is) keeps)
 
-    leaves_so : Holds reads may_leave k p old.disk
-        → LeavesStep reads may_leave moment left_since k p command old.disk new.disk
+    leaves_so : Holds tells k p old.disk
+        → LeavesStep tells k p command old.disk new.disk
     leaves_so holds =
-        let moments = weaker moment left_since may_leave old.disk new.disk
+        let moments = weaker tells old.disk new.disk
         (KeepsWith (keys_of k) (sealed k p) (updates_asked (request_of (request_bytes (update_request k.surface x.epoch x.update)))))
         (KeepsStep k p command)
         (x.asks.any_moment (sealed k p) (stands_there holds) sound holds.told.0 holds.told.1)
         either in record {
           moments = moments;
-          now = now_so reads may_leave moment left_since old.disk new.disk (KeepsStep k p command)
-              (counts_now new.disk) moments;
+          now = now_so tells old.disk new.disk (KeepsStep k p command) moments;
         }
 
     -- what is served then is the history after the command
-    module _ (made : IsMade reads may_leave moment left_since borrow faults_of k.surface e is_honest s t x.epoch x.update x.reply result) where
+    module _ (made : IsMade tells k.surface e is_honest s t x.epoch x.update x.reply result) where
       after_it : (later (service_at k p) made.answered.frame.made).history ≡ sealed k (after p command)
       after_it = ap (followed (sealed k p)) made.makes ∙ sealed_is
 
@@ -204,8 +201,8 @@ module _ {D : Type 0} (reads : D → Option Image) (may_leave : D → Image → 
           (servers_go_on (serving_of s) (serving_of t) (service_at k p) _ x.reply
           made.answered.frame (serves_at old p stands))
 
-      holds_so : Holds reads may_leave k p old.disk
-          → Holds reads may_leave k (after p command) new.disk
+      holds_so : Holds tells k p old.disk
+          → Holds tells k (after p command) new.disk
       holds_so holds =
           let image = made.answered.told holds.told.0 holds.told.1 in
           let more = made.answered.lasts (sealed k p) (stands_there holds) in
@@ -223,72 +220,72 @@ module _ {D : Type 0} (reads : D → Option Image) (may_leave : D → Image → 
           ∙ ap (λ (r : Reply × PlainHistory). r.0) (sym step_is)
 
       made_so : (result ≡ Ok (x.epoch + 1)) ⊎ IsAskFault result
-          → StepsAt reads may_leave moment left_since k p command old new (change_reply result)
+          → StepsAt tells k p command old new (change_reply result)
       made_so (inl is) =
-          subst (λ (r : Result ℕ OwnerFault). StepsAt reads may_leave moment left_since k p command old new (change_reply r)) (sym is)
+          subst (λ (r : Result ℕ OwnerFault). StepsAt tells k p command old new (change_reply r)) (sym is)
           (reply_is, record { stands = stands_so; leaves = leaves_so; holds = holds_so })
       made_so (inr (inl is)) =
-          subst (λ (r : Result ℕ OwnerFault). StepsAt reads may_leave moment left_since k p command old new (change_reply r)) (sym is) leaves_so
+          subst (λ (r : Result ℕ OwnerFault). StepsAt tells k p command old new (change_reply r)) (sym is) leaves_so
       made_so (inr (inr is)) =
-          subst (λ (r : Result ℕ OwnerFault). StepsAt reads may_leave moment left_since k p command old new (change_reply r)) (sym is) leaves_so
+          subst (λ (r : Result ℕ OwnerFault). StepsAt tells k p command old new (change_reply r)) (sym is) leaves_so
 
     failed_so : (result ≡ Err faults.Device) ⊎ IsAskFault result
-        → StepsAt reads may_leave moment left_since k p command old new (change_reply result)
+        → StepsAt tells k p command old new (change_reply result)
     failed_so (inl is) =
-        subst (λ (r : Result ℕ OwnerFault). StepsAt reads may_leave moment left_since k p command old new (change_reply r)) (sym is) leaves_so
+        subst (λ (r : Result ℕ OwnerFault). StepsAt tells k p command old new (change_reply r)) (sym is) leaves_so
     failed_so (inr (inl is)) =
-        subst (λ (r : Result ℕ OwnerFault). StepsAt reads may_leave moment left_since k p command old new (change_reply r)) (sym is) leaves_so
+        subst (λ (r : Result ℕ OwnerFault). StepsAt tells k p command old new (change_reply r)) (sym is) leaves_so
     failed_so (inr (inr is)) =
-        subst (λ (r : Result ℕ OwnerFault). StepsAt reads may_leave moment left_since k p command old new (change_reply r)) (sym is) leaves_so
+        subst (λ (r : Result ℕ OwnerFault). StepsAt tells k p command old new (change_reply r)) (sym is) leaves_so
 
   -- ---- any of them
 
   -- nothing changed
   stays_so : (r : Result Reply StepFault) → t ≡ s
-      → StepsAt reads may_leave moment left_since k p command old old r
-      → StepsAt reads may_leave moment left_since k p command old new r
+      → StepsAt tells k p command old old r
+      → StepsAt tells k p command old new r
   stays_so r same is =
-      subst (λ m. StepsAt reads may_leave moment left_since k p command old m r)
+      subst (λ m. StepsAt tells k p command old m r)
       (sym (same_machine old new masters same)) is
 
   cut_so : (result : Result ℕ OwnerFault) → IsAskFault result
-      → StepsAt reads may_leave moment left_since k p command old old (change_reply result)
+      → StepsAt tells k p command old old (change_reply result)
   cut_so result (inl is) =
-      subst (λ (r : Result ℕ OwnerFault). StepsAt reads may_leave moment left_since k p command old old (change_reply r)) (sym is)
-      (stays_left reads may_leave moment left_since old (only_now old.disk) k p command)
+      subst (λ (r : Result ℕ OwnerFault). StepsAt tells k p command old old (change_reply r)) (sym is)
+      (stays_left tells old k p command)
   cut_so result (inr is) =
-      subst (λ (r : Result ℕ OwnerFault). StepsAt reads may_leave moment left_since k p command old old (change_reply r)) (sym is)
-      (stays_left reads may_leave moment left_since old (only_now old.disk) k p command)
+      subst (λ (r : Result ℕ OwnerFault). StepsAt tells k p command old old (change_reply r)) (sym is)
+      (stays_left tells old k p command)
 
   pub changes_step : (result : Result ℕ OwnerFault)
-      → Changes reads may_leave moment left_since borrow faults_of k.surface e is_honest s t result
-      → StepsAt reads may_leave moment left_since k p command old new (change_reply result)
+      → Changes tells k.surface e is_honest s t result
+      → StepsAt tells k p command old new (change_reply result)
   changes_step result (refused a why same answered is so) =
       let at_step = refused_so a why answered is in
       stays_so (change_reply result) same
-      (subst (λ (r : Result ℕ OwnerFault). StepsAt reads may_leave moment left_since k p command old old (change_reply r)) (sym so)
-      (stays reads may_leave moment left_since old (only_now old.disk) k p command (Refused why) stands
+      (subst (λ (r : Result ℕ OwnerFault). StepsAt tells k p command old old (change_reply r)) (sym so)
+      (stays tells old k p command (Refused why) stands
       (ap (λ (r : Reply × PlainHistory). r.0) (sym at_step)) (ap (λ (r : Reply × PlainHistory). r.1) at_step)))
   changes_step result (cut same why) = stays_so (change_reply result) same (cut_so result why)
   changes_step result (sent x) = by x.comes where
-    by : IsMade reads may_leave moment left_since borrow faults_of k.surface e is_honest s t x.epoch x.update x.reply result
-        ⊎ IsFailed reads may_leave moment left_since borrow faults_of k.surface e is_honest s t x.epoch x.update x.reply result
-        → StepsAt reads may_leave moment left_since k p command old new (change_reply result)
+    by : IsMade tells k.surface e is_honest s t x.epoch x.update x.reply result
+        ⊎ IsFailed tells k.surface e is_honest s t x.epoch x.update x.reply result
+        → StepsAt tells k p command old new (change_reply result)
     by (inl made) = made_so result x made made.ends
     by (inr failed) = failed_so result x failed.ends
 
   -- ---- where the whole transcript was put
 
   -- where the command leaves the history the disk has it made
-  same_made : (r : Result Reply StepFault) → StepsAt reads may_leave moment left_since k p command old new r
-      → after p command ≡ p → HasMade reads may_leave k p command old.disk new.disk
+  same_made : (r : Result Reply StepFault) → StepsAt tells k p command old new r
+      → after p command ≡ p → HasMade tells k p command old.disk new.disk
   same_made r steps same = λ holds c left. by r steps holds c left where
     either_way : (c : Image) → KeepsStep k p command c → KeepsPlain k (after p command) c
     either_way c (inl keeps) = subst (λ q. KeepsPlain k q c) (sym same) keeps
     either_way c (inr keeps) = keeps
 
-    by : (x : Result Reply StepFault) → StepsAt reads may_leave moment left_since k p command old new x
-        → Holds reads may_leave k p old.disk → (c : Image) → may_leave new.disk c → KeepsPlain k (after p command) c
+    by : (x : Result Reply StepFault) → StepsAt tells k p command old new x
+        → Holds tells k p old.disk → (c : Image) → tells.may_leave new.disk c → KeepsPlain k (after p command) c
     by (Ok reply) goes holds c left = (goes.1.holds holds).each c left
     by (Err Disk) leaves holds c left = either_way c ((leaves holds).now c left)
     by (Err Trace) leaves holds c left = either_way c ((leaves holds).now c left)
@@ -315,22 +312,22 @@ module _ {D : Type 0} (reads : D → Option Image) (may_leave : D → Image → 
 
   -- the whole transcript was put, and so the command is made
   pub has_made : (result : Result ℕ OwnerFault)
-      → Changes reads may_leave moment left_since borrow faults_of k.surface e is_honest s t result
+      → Changes tells k.surface e is_honest s t result
       → (last : Service) → IsService (serving_of t) last → ComesTo k p command last
-      → HasMade reads may_leave k p command old.disk new.disk
+      → HasMade tells k p command old.disk new.disk
   has_made result changes last serves (inl same) =
       same_made (change_reply result) (changes_step result changes) same
   has_made result changes last serves (inr (u, is, then)) = by changes where
     unmade : serving_of t ≡ serving_of s → ⊥
     unmade same = still_unmade last u serves is then same
 
-    by : Changes reads may_leave moment left_since borrow faults_of k.surface e is_honest s t result
-        → HasMade reads may_leave k p command old.disk new.disk
+    by : Changes tells k.surface e is_honest s t result
+        → HasMade tells k p command old.disk new.disk
     by (refused a why same answered told so) = absurd (unmade (ap serving_of same))
     by (cut same why) = absurd (unmade (ap serving_of same))
     by (sent x) = by_reply x.comes where
-      by_reply : IsMade reads may_leave moment left_since borrow faults_of k.surface e is_honest s t x.epoch x.update x.reply result
-          ⊎ IsFailed reads may_leave moment left_since borrow faults_of k.surface e is_honest s t x.epoch x.update x.reply result
-          → HasMade reads may_leave k p command old.disk new.disk
+      by_reply : IsMade tells k.surface e is_honest s t x.epoch x.update x.reply result
+          ⊎ IsFailed tells k.surface e is_honest s t x.epoch x.update x.reply result
+          → HasMade tells k p command old.disk new.disk
       by_reply (inl made) = λ holds c left. (holds_so result x made holds).each c left
       by_reply (inr failed) = absurd (unmade failed.faulted.same)

@@ -18,7 +18,8 @@ use Rattle.ov_wire.specs.Frames.{framed}
 use Rattle.ov_wire.specs.Requests.{HasRequestForm, request_bytes}
 use Rattle.ov_protocol.specs.Serving.{Service, later, served}
 use Rattle.ov_protocol.specs.Answers.{Answers}
-use Rattle.ov_peer.specs.Asks.{Ask, IsReplyAt}
+use Rattle.ov_peer.specs.Asks.{Ask}
+use Rattle.ov_peer.specs.Tells.{IsReplyAt}
 use Rattle.ov_owner.specs.Alone.{AnsweredAlone}
 use Rattle.ov_owner.specs.Errands.{Errand}
 use Rattle.ov_owner.specs.Talks.{CanSend, Closes, Ends, Goes, IsAfter, IsDue, Sends, Stage, after as stage_after, after_first, sends_if, start, update_request}

@@ -27,7 +27,8 @@ use Rattle.ov_protocol.specs.Answers.{Answers, made_by}
 use Rattle.ov_protocol.specs.Replies.{Replies}
 use Rattle.ov_protocol.specs.Updating.{spelled_by}
 use Rattle.ov_protocol.proofs.OneAnswer.{one_answer}
-use Rattle.ov_peer.specs.Asks.{Ask, IsReplyAt}
+use Rattle.ov_peer.specs.Asks.{Ask}
+use Rattle.ov_peer.specs.Tells.{IsReplyAt}
 use Rattle.ov_peer.proofs.Needing.{needs_disk}
 use Rattle.ov_owner.specs.Alone.{AnsweredAlone}
 use Rattle.ov_owner.specs.Errands.{Errand}

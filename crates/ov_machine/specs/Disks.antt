@@ -1,8 +1,8 @@
 -- What a disk keeps of a history.
-use Rattle.std.specs.Prelude.{◌≡◌, ◌⊎◌, ℕ, ◌≤◌}
+use Rattle.std.specs.Prelude.{◌≡◌, ◌⊎◌}
 use Rattle.std.specs.Prelude.{Option, Some}
-use Rattle.ov_base.specs.Causes.{Rose}
 use Rattle.ov_disk.specs.Disk.{Image, Told}
+use Rattle.ov_disk.specs.Tells.{DiskTells}
 use Rattle.ov_images.specs.Images.{IsImageOf, Keeps, keys_of}
 use Rattle.ov_script.specs.declared.command.Command.{Command}
 use Rattle.ov_history.specs.Masters.{Masters}
@@ -30,22 +30,14 @@ KeepsStep k p command c = KeepsPlain k p c ⊎ KeepsPlain k (after p command) c
 abbrev pub TellsNothing : Option Image → Type 0
 TellsNothing reads = Told reads (λ _. ⊥)
 
--- Calls on a disk keep its loan. The count of its faults doesn't fall, and it rose where they
--- failed for a fault of the disk.
-pub record IsDiskCall {D : Type 0} (borrow faults : D → ℕ) (failed : Type 0) (old new : D)
-    : Type 0 where
-  pub same : borrow new ≡ borrow old
-  pub later : faults old ≤ faults new
-  pub disk : failed → Rose (faults old) (faults new)
-
-module _ {D : Type 0} (reads : D → Option Image) (may_leave : D → Image → Type 0) where
+module _ {D : Type 0} (tells : DiskTells D) where
   -- the disk tells its bytes, and each image that a crash may leave of it keeps the history
   pub record Holds (k : Masters) (p : PlainHistory) (disk : D) : Type 0 where
-    pub told : (i : Image) × (reads disk ≡ Some i)
-    pub each : (c : Image) → may_leave disk c → KeepsPlain k p c
+    pub told : (i : Image) × (tells.reads disk ≡ Some i)
+    pub each : (c : Image) → tells.may_leave disk c → KeepsPlain k p c
 
   -- where the disk held the history, each image that a crash may leave of it now keeps the history
   -- after the command
   abbrev pub HasMade : Masters → PlainHistory → Command → D → D → Type 0
   HasMade k p command old new =
-      Holds k p old → (c : Image) → may_leave new c → KeepsPlain k (after p command) c
+      Holds k p old → (c : Image) → tells.may_leave new c → KeepsPlain k (after p command) c

@@ -2,7 +2,7 @@
 use Rattle.std.specs.Prelude.{ℕ, List}
 use Rattle.std.specs.Prelude.{Option, Result, Ok, Err}
 use Rattle.std.specs.Io.KnownBytes.{Appends}
-use Rattle.ov_disk.specs.Disk.{Image}
+use Rattle.ov_disk.specs.Tells.{DiskTells}
 use Rattle.ov_script.specs.declared.command.Command.{Command}
 use Rattle.ov_history.specs.Masters.{Masters}
 use Rattle.ov_history.specs.Plain.{PlainHistory}
@@ -40,10 +40,9 @@ TracesAt k p command Made old new (Err fault) = BreaksOff k p command Made old n
 
 -- So it is at whatever history is kept; and where the transcript was put whole the disk has the
 -- command made.
-abbrev pub Traces : {D T : Type 0} → (reads : D → Option Image) → (may_leave : D → Image → Type 0)
-    → Command → KeptOn D → KeptOn D → Option (List ℕ) → Option (List ℕ) → Result T StepFault
-    → Type 0
-Traces reads may_leave command old new t_old t_new result =
+abbrev pub Traces : {D T : Type 0} → DiskTells D → Command → KeptOn D → KeptOn D
+    → Option (List ℕ) → Option (List ℕ) → Result T StepFault → Type 0
+Traces tells command old new t_old t_new result =
     (p : PlainHistory) → StandsFor old.kept p
     → TracesAt old.kept.masters p command
-    (HasMade reads may_leave old.kept.masters p command old.disk new.disk) t_old t_new result
+    (HasMade tells old.kept.masters p command old.disk new.disk) t_old t_new result

@@ -1,8 +1,10 @@
 -- What the program keeps of a history, and what it does to it.
-use Rattle.std.specs.Prelude.{◌≡◌, ◌≢◌, ℕ, List, Bool, Option, None}
+use Rattle.std.specs.Prelude.{◌≡◌, ◌≢◌, ℕ, List, Bool, None}
 use Rattle.std.specs.Prelude.{Result, Ok, Err, OnOk}
+use Rattle.ov_disk.specs.Calls.{IsDiskCall}
 use Rattle.ov_disk.specs.Disk.{Image}
 use Rattle.ov_disk.specs.Moments.{LeavesOnly}
+use Rattle.ov_disk.specs.Tells.{DiskTells}
 use Rattle.ov_images.specs.Images.{keys_of}
 use Rattle.ov_keyfile.specs.KeyFile.{IsKeyFile}
 use Rattle.ov_keyfile.specs.declared.masters.Masters.{Masters as KeyMasters}
@@ -24,7 +26,7 @@ use Rattle.ov_history.specs.Sealing.{sealed_update}
 use Rattle.ov_model.specs.Step.{reply_to, after, step, update}
 use Rattle.ov_owner.specs.Errands.{IsCreation}
 use Rattle.ov_store.specs.Opened.{Opened}
-use Rattle.ov_machine.specs.Disks.{Holds, IsDiskCall, KeepsStep}
+use Rattle.ov_machine.specs.Disks.{Holds, KeepsStep}
 use Rattle.ov_machine.specs.declared.fault.BadTag.{BadTag}
 use Rattle.ov_machine.specs.declared.fault.StepFault.{StepFault}
 use Rattle.ov_machine.specs.declared.fault.StepFault.TheVariants.{Memory, Disk, Tag, Trace}
@@ -105,22 +107,20 @@ AreOtherTags bad = bad.computed ≢ bad.stored
 
 -- ---- steps
 
-module _ {D : Type 0} (reads : D → Option Image) (may_leave : D → Image → Type 0)
-    (moment : D → ℕ) (left_since : D → ℕ → Image → Type 0) where
+module _ {D : Type 0} (tells : DiskTells D) where
   -- From a disk that holds the history, a crash at any moment leaves the history from before the
   -- command or that after it; and so it is at the end.
   pub record LeavesStep (k : Masters) (p : PlainHistory) (command : Command) (old new : D)
       : Type 0 where
-    pub moments : LeavesOnly moment left_since old new (KeepsStep k p command)
-    pub now : (c : Image) → may_leave new c → KeepsStep k p command c
+    pub moments : LeavesOnly tells old new (KeepsStep k p command)
+    pub now : (c : Image) → tells.may_leave new c → KeepsStep k p command c
 
   -- what is kept goes on as the history does, and so does the disk that holds it
   pub record GoesOn (k : Masters) (p : PlainHistory) (command : Command) (old new : KeptOn D)
       : Type 0 where
     pub stands : StandsFor new.kept (after p command)
-    pub leaves : Holds reads may_leave k p old.disk → LeavesStep k p command old.disk new.disk
-    pub holds : Holds reads may_leave k p old.disk
-        → Holds reads may_leave k (after p command) new.disk
+    pub leaves : Holds tells k p old.disk → LeavesStep k p command old.disk new.disk
+    pub holds : Holds tells k p old.disk → Holds tells k (after p command) new.disk
 
   -- A command at a history for which what is kept stands. It is answered with the machine's reply,
   -- and all goes on as the history does. Or a call of the disk failed, a frame wasn't put, or
@@ -131,11 +131,11 @@ module _ {D : Type 0} (reads : D → Option Image) (may_leave : D → Image → 
   StepsAt k p command old new (Ok reply) =
       (reply ≡ reply_to p command) × GoesOn k p command old new
   StepsAt k p command old new (Err Disk) =
-      Holds reads may_leave k p old.disk → LeavesStep k p command old.disk new.disk
+      Holds tells k p old.disk → LeavesStep k p command old.disk new.disk
   StepsAt k p command old new (Err Trace) =
-      Holds reads may_leave k p old.disk → LeavesStep k p command old.disk new.disk
+      Holds tells k p old.disk → LeavesStep k p command old.disk new.disk
   StepsAt k p command old new (Err Memory) =
-      Holds reads may_leave k p old.disk → LeavesStep k p command old.disk new.disk
+      Holds tells k p old.disk → LeavesStep k p command old.disk new.disk
   StepsAt k p command old new (Err (Tag bad)) = ⊥
 
   -- so it is at whatever history is kept
@@ -146,9 +146,9 @@ module _ {D : Type 0} (reads : D → Option Image) (may_leave : D → Image → 
 
 -- Each step keeps the masters, and is a call on the disk. One that is answered leaves a store that
 -- hasn't failed so; and a tag that is said to be wrong is another one.
-pub record IsStep {D T : Type 0} (borrow faults : D → ℕ) (old new : KeptOn D)
+pub record IsStep {D T : Type 0} (tells : DiskTells D) (old new : KeptOn D)
     (result : Result T StepFault) : Type 0 where
   pub masters : new.kept.masters ≡ old.kept.masters
-  pub call : IsDiskCall borrow faults (result ≡ Err Disk) old.disk new.disk
+  pub call : IsDiskCall tells (result ≡ Err Disk) old.disk new.disk
   pub sound : OnOk result (new.failed ≡ old.failed)
   pub tag : (bad : BadTag) → result ≡ Err (Tag bad) → AreOtherTags bad

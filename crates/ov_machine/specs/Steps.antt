@@ -1,6 +1,7 @@
 -- All that one step of the machine does, whatever history is kept.
-use Rattle.std.specs.Prelude.{◌≡◌, ℕ, List, Option, Result, Err}
-use Rattle.ov_disk.specs.Disk.{Image}
+use Rattle.std.specs.Prelude.{◌≡◌, Result, Err}
+use Rattle.ov_disk.specs.Tells.{DiskTells}
+use Rattle.ov_io.specs.Tells.{SinkTells}
 use Rattle.ov_script.specs.declared.command.Command.{Command}
 use Rattle.ov_script.specs.declared.reply.Reply.{Reply}
 use Rattle.ov_machine.specs.Frames.{Traces}
@@ -11,11 +12,11 @@ use Rattle.ov_machine.specs.declared.fault.StepFault.TheVariants.{Trace}
 
 -- A command is one step: what its reply, what is kept and the disk are, what was put of its
 -- transcript, what is kept of the machine at any rate, and where its faults come from.
-pub record IsWholeStep {D T : Type 0} (reads : D → Option Image) (may_leave : D → Image → Type 0)
-    (moment : D → ℕ) (left_since : D → ℕ → Image → Type 0) (borrow faults : D → ℕ)
-    (written : T → Option (List ℕ)) (sink_faults : T → ℕ) (command : Command) (old new : KeptOn D)
-    (t_old t_new : T) (result : Result Reply StepFault) : Type 0 where
-  pub steps : Steps reads may_leave moment left_since command old new result
-  pub traced : Traces reads may_leave command old new (written t_old) (written t_new) result
-  pub step : IsStep borrow faults old new result
-  pub sink : PutsTo written sink_faults (result ≡ Err Trace) t_old t_new
+pub record IsWholeStep {D T : Type 0} (disk_tells : DiskTells D) (sink_tells : SinkTells T)
+    (command : Command) (old new : KeptOn D) (t_old t_new : T) (result : Result Reply StepFault)
+    : Type 0 where
+  pub steps : Steps disk_tells command old new result
+  pub traced : Traces disk_tells command old new (sink_tells.written t_old)
+      (sink_tells.written t_new) result
+  pub step : IsStep disk_tells old new result
+  pub sink : PutsTo sink_tells (result ≡ Err Trace) t_old t_new

@@ -25,8 +25,8 @@ impl<D: Disk> Machine<D> {
         trace: &mut T,
     ) -> Result<Reply, StepFault>
         requires healthy { self.old.failed ≡ false }
-        ensures { IsWholeStep D.reads D.may_leave D.moment D.left_since D.borrow D.faults
-            T.written T.faults (Enrol user.now) self.old self.new trace.old trace.new result }
+        ensures { IsWholeStep D.tells T.tells
+            (Enrol user.now) self.old self.new trace.old trace.new result }
     {
         let mut peer = Traced::new(&mut self.peer, trace);
         let made = kept_loans::enrol(&self.owner, alloc, &mut peer, user);
@@ -45,8 +45,7 @@ impl<D: Disk> Machine<D> {
     ) -> Result<Reply, StepFault>
         requires healthy { self.old.failed ≡ false }
         requires few { IsCreation list.now bytes.now }
-        ensures { IsWholeStep D.reads D.may_leave D.moment D.left_since D.borrow D.faults
-            T.written T.faults (Create file.now list.now bytes.now) self.old self.new
+        ensures { IsWholeStep D.tells T.tells (Create file.now list.now bytes.now) self.old self.new
             trace.old trace.new result }
     {
         let mut peer = Traced::new(&mut self.peer, trace);
@@ -64,8 +63,7 @@ impl<D: Disk> Machine<D> {
         trace: &mut T,
     ) -> Result<Reply, StepFault>
         requires healthy { self.old.failed ≡ false }
-        ensures { IsWholeStep D.reads D.may_leave D.moment D.left_since D.borrow D.faults
-            T.written T.faults (Grant user.now file.now) self.old self.new
+        ensures { IsWholeStep D.tells T.tells (Grant user.now file.now) self.old self.new
             trace.old trace.new result }
     {
         let mut peer = Traced::new(&mut self.peer, trace);
@@ -83,8 +81,7 @@ impl<D: Disk> Machine<D> {
         trace: &mut T,
     ) -> Result<Reply, StepFault>
         requires healthy { self.old.failed ≡ false }
-        ensures { IsWholeStep D.reads D.may_leave D.moment D.left_since D.borrow D.faults
-            T.written T.faults (Revoke user.now file.now) self.old self.new
+        ensures { IsWholeStep D.tells T.tells (Revoke user.now file.now) self.old self.new
             trace.old trace.new result }
     {
         let mut peer = Traced::new(&mut self.peer, trace);

@@ -5,6 +5,7 @@ ghost use Rattle.ov_wire.specs.Requests.{HasRequestForm};
 ghost use Rattle.ov_wire.specs.declared.request.Question.TheVariants.{Key as AsksKey};
 ghost use Rattle.ov_wire.specs.declared.request.Request.TheVariants.{Ask, Hello};
 ghost use Rattle.ov_wire.specs.declared.request.Request.TheVariants.{List as ListNames};
+ghost use Rattle.ov_peer.specs.Traced.{traced_tells};
 ghost use Rattle.ov_client.specs.Causes.{HasClientCause};
 ghost use Rattle.ov_client.specs.Reads.{Reads};
 ghost use Rattle.ov_owner.specs.Calls.{Runs};
@@ -12,7 +13,7 @@ ghost use Rattle.ov_owner.specs.Causes.{HasOwnerCause};
 ghost use Rattle.ov_owner.specs.Clients.{reader_in};
 ghost use Rattle.ov_owner.specs.Errands.{IsCreation, creating, enrolling, granting, revoking};
 ghost use Rattle.ov_owner.specs.Questions.{AsksOnce, names_in, welcome_in};
-ghost use Rattle.ov_machine.specs.Seats.{HasFoundCause, ReadsBy, traced_asked, traced_failed};
+ghost use Rattle.ov_machine.specs.Seats.{HasFoundCause, ReadsBy};
 
 use crate::replying::Found;
 use ov_base::{Name, Names, Octets};
@@ -30,13 +31,12 @@ pub fn enrol<P: Peer + Drop, T: Sink + Drop>(
     peer: &mut Traced<P, T>,
     user: &Name,
 ) -> Result<u32, OwnerFault>
-    ensures runs { Runs (traced_asked P.asked T.written T.borrow)
-        (traced_failed P.asked P.failed T.written T.borrow)
+    ensures runs { Runs (traced_tells P.tells T.tells)
         owner.now.surface (enrolling user.now) peer.old peer.new result }
-    ensures lent { T.borrow peer.new.sink ≡ T.borrow peer.old.sink }
-    ensures same { P.borrow peer.new.peer ≡ P.borrow peer.old.peer }
-    ensures cause { HasOwnerCause (P.faults peer.old.peer + T.faults peer.old.sink)
-        (P.faults peer.new.peer + T.faults peer.new.sink) result }
+    ensures lent { T.tells.borrow peer.new.sink ≡ T.tells.borrow peer.old.sink }
+    ensures same { P.tells.borrow peer.new.peer ≡ P.tells.borrow peer.old.peer }
+    ensures cause { HasOwnerCause (P.tells.faults peer.old.peer + T.tells.faults peer.old.sink)
+        (P.tells.faults peer.new.peer + T.tells.faults peer.new.sink) result }
 {
     owner.enrol(alloc, peer, user)
 }
@@ -51,14 +51,13 @@ pub fn create<P: Peer + Drop, T: Sink + Drop>(
     bytes: &[u8],
 ) -> Result<u32, OwnerFault>
     requires { IsCreation list.now bytes.now }
-    ensures runs { Runs (traced_asked P.asked T.written T.borrow)
-        (traced_failed P.asked P.failed T.written T.borrow)
+    ensures runs { Runs (traced_tells P.tells T.tells)
         owner.now.surface (creating owner.now.base file.now list.now bytes.now)
         peer.old peer.new result }
-    ensures lent { T.borrow peer.new.sink ≡ T.borrow peer.old.sink }
-    ensures same { P.borrow peer.new.peer ≡ P.borrow peer.old.peer }
-    ensures cause { HasOwnerCause (P.faults peer.old.peer + T.faults peer.old.sink)
-        (P.faults peer.new.peer + T.faults peer.new.sink) result }
+    ensures lent { T.tells.borrow peer.new.sink ≡ T.tells.borrow peer.old.sink }
+    ensures same { P.tells.borrow peer.new.peer ≡ P.tells.borrow peer.old.peer }
+    ensures cause { HasOwnerCause (P.tells.faults peer.old.peer + T.tells.faults peer.old.sink)
+        (P.tells.faults peer.new.peer + T.tells.faults peer.new.sink) result }
 {
     owner.create(alloc, peer, file, list, bytes)
 }
@@ -71,13 +70,12 @@ pub fn grant<P: Peer + Drop, T: Sink + Drop>(
     user: &Name,
     file: &Name,
 ) -> Result<u32, OwnerFault>
-    ensures runs { Runs (traced_asked P.asked T.written T.borrow)
-        (traced_failed P.asked P.failed T.written T.borrow)
+    ensures runs { Runs (traced_tells P.tells T.tells)
         owner.now.surface (granting owner.now.base user.now file.now) peer.old peer.new result }
-    ensures lent { T.borrow peer.new.sink ≡ T.borrow peer.old.sink }
-    ensures same { P.borrow peer.new.peer ≡ P.borrow peer.old.peer }
-    ensures cause { HasOwnerCause (P.faults peer.old.peer + T.faults peer.old.sink)
-        (P.faults peer.new.peer + T.faults peer.new.sink) result }
+    ensures lent { T.tells.borrow peer.new.sink ≡ T.tells.borrow peer.old.sink }
+    ensures same { P.tells.borrow peer.new.peer ≡ P.tells.borrow peer.old.peer }
+    ensures cause { HasOwnerCause (P.tells.faults peer.old.peer + T.tells.faults peer.old.sink)
+        (P.tells.faults peer.new.peer + T.tells.faults peer.new.sink) result }
 {
     owner.grant(alloc, peer, user, file)
 }
@@ -90,13 +88,12 @@ pub fn revoke<P: Peer + Drop, T: Sink + Drop>(
     user: &Name,
     file: &Name,
 ) -> Result<u32, OwnerFault>
-    ensures runs { Runs (traced_asked P.asked T.written T.borrow)
-        (traced_failed P.asked P.failed T.written T.borrow)
+    ensures runs { Runs (traced_tells P.tells T.tells)
         owner.now.surface (revoking user.now file.now) peer.old peer.new result }
-    ensures lent { T.borrow peer.new.sink ≡ T.borrow peer.old.sink }
-    ensures same { P.borrow peer.new.peer ≡ P.borrow peer.old.peer }
-    ensures cause { HasOwnerCause (P.faults peer.old.peer + T.faults peer.old.sink)
-        (P.faults peer.new.peer + T.faults peer.new.sink) result }
+    ensures lent { T.tells.borrow peer.new.sink ≡ T.tells.borrow peer.old.sink }
+    ensures same { P.tells.borrow peer.new.peer ≡ P.tells.borrow peer.old.peer }
+    ensures cause { HasOwnerCause (P.tells.faults peer.old.peer + T.tells.faults peer.old.sink)
+        (P.tells.faults peer.new.peer + T.tells.faults peer.new.sink) result }
 {
     owner.revoke(alloc, peer, user, file)
 }
@@ -107,14 +104,13 @@ pub fn hello<P: Peer + Drop, T: Sink + Drop>(
     alloc: Global,
     peer: &mut Traced<P, T>,
 ) -> Result<Welcome, OwnerFault>
-    ensures asks { AsksOnce (traced_asked P.asked T.written T.borrow)
-        (traced_failed P.asked P.failed T.written T.borrow)
+    ensures asks { AsksOnce (traced_tells P.tells T.tells)
         peer.old peer.new Hello welcome_in result }
     ensures form { HasRequestForm Hello }
-    ensures lent { T.borrow peer.new.sink ≡ T.borrow peer.old.sink }
-    ensures same { P.borrow peer.new.peer ≡ P.borrow peer.old.peer }
-    ensures cause { HasOwnerCause (P.faults peer.old.peer + T.faults peer.old.sink)
-        (P.faults peer.new.peer + T.faults peer.new.sink) result }
+    ensures lent { T.tells.borrow peer.new.sink ≡ T.tells.borrow peer.old.sink }
+    ensures same { P.tells.borrow peer.new.peer ≡ P.tells.borrow peer.old.peer }
+    ensures cause { HasOwnerCause (P.tells.faults peer.old.peer + T.tells.faults peer.old.sink)
+        (P.tells.faults peer.new.peer + T.tells.faults peer.new.sink) result }
 {
     owner.hello(alloc, peer)
 }
@@ -126,14 +122,13 @@ pub fn list<P: Peer + Drop, T: Sink + Drop>(
     peer: &mut Traced<P, T>,
     file: &Name,
 ) -> Result<Names, OwnerFault>
-    ensures asks { AsksOnce (traced_asked P.asked T.written T.borrow)
-        (traced_failed P.asked P.failed T.written T.borrow)
+    ensures asks { AsksOnce (traced_tells P.tells T.tells)
         peer.old peer.new (ListNames file.now) names_in result }
     ensures form { HasRequestForm (ListNames file.now) }
-    ensures lent { T.borrow peer.new.sink ≡ T.borrow peer.old.sink }
-    ensures same { P.borrow peer.new.peer ≡ P.borrow peer.old.peer }
-    ensures cause { HasOwnerCause (P.faults peer.old.peer + T.faults peer.old.sink)
-        (P.faults peer.new.peer + T.faults peer.new.sink) result }
+    ensures lent { T.tells.borrow peer.new.sink ≡ T.tells.borrow peer.old.sink }
+    ensures same { P.tells.borrow peer.new.peer ≡ P.tells.borrow peer.old.peer }
+    ensures cause { HasOwnerCause (P.tells.faults peer.old.peer + T.tells.faults peer.old.sink)
+        (P.tells.faults peer.new.peer + T.tells.faults peer.new.sink) result }
 {
     owner.list(alloc, peer, file)
 }
@@ -145,14 +140,13 @@ fn client<P: Peer + Drop, T: Sink + Drop>(
     peer: &mut Traced<P, T>,
     user: &Name,
 ) -> Result<Client, OwnerFault>
-    ensures asks { AsksOnce (traced_asked P.asked T.written T.borrow)
-        (traced_failed P.asked P.failed T.written T.borrow)
+    ensures asks { AsksOnce (traced_tells P.tells T.tells)
         peer.old peer.new (Ask (AsksKey user.now)) (reader_in owner.now user.now) result }
     ensures form { HasRequestForm (Ask (AsksKey user.now)) }
-    ensures lent { T.borrow peer.new.sink ≡ T.borrow peer.old.sink }
-    ensures same { P.borrow peer.new.peer ≡ P.borrow peer.old.peer }
-    ensures cause { HasOwnerCause (P.faults peer.old.peer + T.faults peer.old.sink)
-        (P.faults peer.new.peer + T.faults peer.new.sink) result }
+    ensures lent { T.tells.borrow peer.new.sink ≡ T.tells.borrow peer.old.sink }
+    ensures same { P.tells.borrow peer.new.peer ≡ P.tells.borrow peer.old.peer }
+    ensures cause { HasOwnerCause (P.tells.faults peer.old.peer + T.tells.faults peer.old.sink)
+        (P.tells.faults peer.new.peer + T.tells.faults peer.new.sink) result }
 {
     owner.client(alloc, peer, user)
 }
@@ -164,13 +158,11 @@ fn fetch<P: Peer + Drop, T: Sink + Drop>(
     peer: &mut Traced<P, T>,
     file: &Name,
 ) -> Result<Octets, ClientFault>
-    ensures talk { Reads (traced_asked P.asked T.written T.borrow)
-        (traced_failed P.asked P.failed T.written T.borrow)
-        peer.old peer.new client file.now result }
-    ensures lent { T.borrow peer.new.sink ≡ T.borrow peer.old.sink }
-    ensures same { P.borrow peer.new.peer ≡ P.borrow peer.old.peer }
-    ensures cause { HasClientCause (P.faults peer.old.peer + T.faults peer.old.sink)
-        (P.faults peer.new.peer + T.faults peer.new.sink) result }
+    ensures talk { Reads (traced_tells P.tells T.tells) peer.old peer.new client file.now result }
+    ensures lent { T.tells.borrow peer.new.sink ≡ T.tells.borrow peer.old.sink }
+    ensures same { P.tells.borrow peer.new.peer ≡ P.tells.borrow peer.old.peer }
+    ensures cause { HasClientCause (P.tells.faults peer.old.peer + T.tells.faults peer.old.sink)
+        (P.tells.faults peer.new.peer + T.tells.faults peer.new.sink) result }
 {
     client.fetch(alloc, peer, file)
 }
@@ -183,14 +175,13 @@ pub fn read<P: Peer + Drop, T: Sink + Drop>(
     user: &Name,
     file: &Name,
 ) -> Found
-    ensures reads { ReadsBy (traced_asked P.asked T.written T.borrow)
-        (traced_failed P.asked P.failed T.written T.borrow)
+    ensures reads { ReadsBy (traced_tells P.tells T.tells)
         owner.now peer.old peer.new user.now file.now result }
     ensures form { HasRequestForm (Ask (AsksKey user.now)) }
-    ensures lent { T.borrow peer.new.sink ≡ T.borrow peer.old.sink }
-    ensures same { P.borrow peer.new.peer ≡ P.borrow peer.old.peer }
-    ensures cause { HasFoundCause (P.faults peer.old.peer + T.faults peer.old.sink)
-        (P.faults peer.new.peer + T.faults peer.new.sink) result }
+    ensures lent { T.tells.borrow peer.new.sink ≡ T.tells.borrow peer.old.sink }
+    ensures same { P.tells.borrow peer.new.peer ≡ P.tells.borrow peer.old.peer }
+    ensures cause { HasFoundCause (P.tells.faults peer.old.peer + T.tells.faults peer.old.sink)
+        (P.tells.faults peer.new.peer + T.tells.faults peer.new.sink) result }
 {
     match client(owner, alloc, peer, user) {
         Ok(client) => Found::Read(fetch(client, alloc, peer, file)),

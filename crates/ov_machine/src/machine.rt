@@ -92,8 +92,7 @@ impl<D: Disk> Machine<D> {
     ) -> Result<Reply, StepFault>
         requires command { IsCommand command }
         requires healthy { self.old.failed ≡ false }
-        ensures { IsWholeStep D.reads D.may_leave D.moment D.left_since D.borrow D.faults
-            T.written T.faults command self.old self.new trace.old trace.new result }
+        ensures { IsWholeStep D.tells T.tells command self.old self.new trace.old trace.new result }
     {
         match command {
             Command::Enrol { user } => self.enrol(alloc, &user, trace),

@@ -19,8 +19,7 @@ impl<D: Disk> Machine<D> {
     /// Gives the epoch.
     pub fn hello<T: Sink>(&mut self, alloc: Global, trace: &mut T) -> Result<Reply, StepFault>
         requires healthy { self.old.failed ≡ false }
-        ensures { IsWholeStep D.reads D.may_leave D.moment D.left_since D.borrow D.faults
-            T.written T.faults Epoch self.old self.new trace.old trace.new result }
+        ensures { IsWholeStep D.tells T.tells Epoch self.old self.new trace.old trace.new result }
     {
         let mut peer = Traced::new(&mut self.peer, trace);
         let told = kept_loans::hello(&self.owner, alloc, &mut peer);
@@ -36,8 +35,8 @@ impl<D: Disk> Machine<D> {
         trace: &mut T,
     ) -> Result<Reply, StepFault>
         requires healthy { self.old.failed ≡ false }
-        ensures { IsWholeStep D.reads D.may_leave D.moment D.left_since D.borrow D.faults
-            T.written T.faults (ListNames file) self.old self.new trace.old trace.new result }
+        ensures { IsWholeStep D.tells T.tells
+            (ListNames file) self.old self.new trace.old trace.new result }
     {
         let mut peer = Traced::new(&mut self.peer, trace);
         let told = kept_loans::list(&self.owner, alloc, &mut peer, &file);
@@ -54,8 +53,8 @@ impl<D: Disk> Machine<D> {
         trace: &mut T,
     ) -> Result<Reply, StepFault>
         requires healthy { self.old.failed ≡ false }
-        ensures { IsWholeStep D.reads D.may_leave D.moment D.left_since D.borrow D.faults
-            T.written T.faults (Read user file) self.old self.new trace.old trace.new result }
+        ensures { IsWholeStep D.tells T.tells
+            (Read user file) self.old self.new trace.old trace.new result }
     {
         self.peer.server().known();
         let mut peer = Traced::new(&mut self.peer, trace);

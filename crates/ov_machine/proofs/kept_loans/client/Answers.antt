@@ -1,13 +1,12 @@
 use Rattle.ov_wire.specs.declared.request.Question.TheVariants.{Key as AsksKey}
 use Rattle.ov_wire.specs.declared.request.Request.TheVariants.{Ask}
 use Rattle.ov_owner.specs.Clients.{reader_in}
-use Rattle.ov_machine.specs.Seats.{traced_asked, traced_failed}
+use Rattle.ov_peer.specs.Traced.{traced_tells}
 use Rattle.ov_machine.proofs.KeptLoans.{once_keeps}
 use Rattle.ov_machine.proofs.kept_loans.client.Goals as goal
 
 pub returns-clause-lent : goal.returns-clause-lent
 returns-clause-lent g c =
-    once_keeps (traced_asked g.P.Peer.asked g.T.Sink.written g.T.Sink.borrow)
-    (traced_failed g.P.Peer.asked g.P.Peer.failed g.T.Sink.written g.T.Sink.borrow)
-    (λ p. g.T.Sink.borrow p.sink) (λ p q request reply a. a.1) (λ p q request f. f.1)
+    once_keeps (traced_tells g.P.Peer.tells g.T.Sink.tells)
+    (λ p. g.T.Sink.tells.borrow p.sink) (λ p q request reply a. a.1) (λ p q request f. f.1)
     (Ask (AsksKey c.args.user.now)) (reader_in c.args.owner.now c.args.user.now) c.client.result c.args.peer.now c.client.new.peer c.client.ensures.asks

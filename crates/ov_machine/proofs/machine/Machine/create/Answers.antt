@@ -6,24 +6,21 @@ use Rattle.ov_machine.proofs.machine.Machine.create.Goals as goal
 
 pub change_reply-requires : goal.change_reply-requires
 change_reply-requires g c =
-    change_fault g.D.Disk.reads g.D.Disk.may_leave g.D.Disk.moment g.D.Disk.left_since g.D.Disk.borrow g.D.Disk.faults
-    g.met.D.Disk.only_now g.met.D.Disk.counts_now g.T.Sink.written g.T.Sink.faults
+    change_fault g.D.Disk.tells g.T.Sink.tells
     c.self.inside.owner (Create c.args.file.now c.args.list.now c.args.bytes.now) (creating c.self.inside.owner.base c.args.file.now c.args.list.now c.args.bytes.now) refl c.new-peer.result
     c.create-made.new.peer c.create-made.result c.create-made.ensures.runs c.self.inside.peer
     c.create-made.new.peer.peer.now c.self.invariant (search rules)
 
 pub invariant_of-self : goal.invariant_of-self
 invariant_of-self g c =
-    change_keys g.D.Disk.reads g.D.Disk.may_leave g.D.Disk.moment g.D.Disk.left_since g.D.Disk.borrow g.D.Disk.faults
-    g.met.D.Disk.only_now g.met.D.Disk.counts_now g.T.Sink.written g.T.Sink.faults
+    change_keys g.D.Disk.tells g.T.Sink.tells
     c.self.inside.owner (Create c.args.file.now c.args.list.now c.args.bytes.now) (creating c.self.inside.owner.base c.args.file.now c.args.list.now c.args.bytes.now) refl c.new-peer.result
     c.create-made.new.peer c.create-made.result c.create-made.ensures.runs c.self.inside.peer
     c.create-made.new.peer.peer.now c.self.invariant (search rules) refl
 
 pub returns : goal.returns
 returns g c =
-    change_all g.D.Disk.reads g.D.Disk.may_leave g.D.Disk.moment g.D.Disk.left_since g.D.Disk.borrow g.D.Disk.faults
-    g.met.D.Disk.only_now g.met.D.Disk.counts_now g.T.Sink.written g.T.Sink.faults
+    change_all g.D.Disk.tells g.T.Sink.tells
     c.self.inside.owner (Create c.args.file.now c.args.list.now c.args.bytes.now) (creating c.self.inside.owner.base c.args.file.now c.args.list.now c.args.bytes.now) refl c.new-peer.result
     c.create-made.new.peer c.create-made.result c.create-made.ensures.runs c.self.inside.peer
     c.create-made.new.peer.peer.now c.self.invariant (search rules)

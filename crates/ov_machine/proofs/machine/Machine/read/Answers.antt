@@ -4,8 +4,7 @@ use Rattle.ov_machine.proofs.machine.Machine.read.Goals as goal
 
 pub found_reply-requires : goal.found_reply-requires
 found_reply-requires g c =
-    found_fault g.D.Disk.reads g.D.Disk.may_leave g.D.Disk.moment g.D.Disk.left_since g.D.Disk.borrow g.D.Disk.faults
-    g.met.D.Disk.only_now g.met.D.Disk.counts_now g.T.Sink.written g.T.Sink.faults
+    found_fault g.D.Disk.tells g.T.Sink.tells
     c.self.inside.owner c.new-peer.result c.self.inside.peer c.self.invariant (search rules)
     c.args.self.now c.self.view_is
     c.args.user c.args.file c.read-found.ensures.form c.read-found.new.peer (search rules) c.requires.healthy
@@ -13,8 +12,7 @@ found_reply-requires g c =
 
 pub invariant_of-self : goal.invariant_of-self
 invariant_of-self g c =
-    found_keys g.D.Disk.reads g.D.Disk.may_leave g.D.Disk.moment g.D.Disk.left_since g.D.Disk.borrow g.D.Disk.faults
-    g.met.D.Disk.only_now g.met.D.Disk.counts_now g.T.Sink.written g.T.Sink.faults
+    found_keys g.D.Disk.tells g.T.Sink.tells
     c.self.inside.owner c.new-peer.result c.self.inside.peer c.self.invariant (search rules)
     c.args.self.now c.self.view_is
     c.args.user c.args.file c.read-found.ensures.form c.read-found.new.peer (search rules) c.requires.healthy
@@ -22,8 +20,7 @@ invariant_of-self g c =
 
 pub returns : goal.returns
 returns g c =
-    found_all g.D.Disk.reads g.D.Disk.may_leave g.D.Disk.moment g.D.Disk.left_since g.D.Disk.borrow g.D.Disk.faults
-    g.met.D.Disk.only_now g.met.D.Disk.counts_now g.T.Sink.written g.T.Sink.faults
+    found_all g.D.Disk.tells g.T.Sink.tells
     c.self.inside.owner c.new-peer.result c.self.inside.peer c.self.invariant (search rules)
     c.args.self.now c.self.view_is
     c.args.user c.args.file c.read-found.ensures.form c.read-found.new.peer (search rules) c.requires.healthy
