@@ -14,14 +14,15 @@ use std::test::Fail;
 
 // Sends back what one take gives. Its clauses need the laws of a stream.
 fn echo<L: Stream>(stream: &mut L, buf: &mut [u8]) -> Result<usize, Fault>
-    ensures read { IfOk result (λ n.
-        Consumes (L.Source.left stream.old) (L.Source.left stream.new) (take n buf.new)) }
-    ensures written { IfOk result (λ n.
-        Appends (L.Sink.written stream.old) (L.Sink.written stream.new) (take n buf.new)) }
-    ensures cause { OnErr result (Rose (L.Source.faults stream.old) (L.Source.faults stream.new)
-        ⊎ Rose (L.Sink.faults stream.old) (L.Sink.faults stream.new)) }
-    ensures same { (L.Source.borrow stream.new ≡ L.Source.borrow stream.old)
-        × (L.Sink.borrow stream.new ≡ L.Sink.borrow stream.old) }
+    ensures read { IfOk result (λ n. Consumes (L.Source.tells.left stream.old)
+        (L.Source.tells.left stream.new) (take n buf.new)) }
+    ensures written { IfOk result (λ n. Appends (L.Sink.tells.written stream.old)
+        (L.Sink.tells.written stream.new) (take n buf.new)) }
+    ensures cause { OnErr result
+        (Rose (L.Source.tells.faults stream.old) (L.Source.tells.faults stream.new)
+        ⊎ Rose (L.Sink.tells.faults stream.old) (L.Sink.tells.faults stream.new)) }
+    ensures same { (L.Source.tells.borrow stream.new ≡ L.Source.tells.borrow stream.old)
+        × (L.Sink.tells.borrow stream.new ≡ L.Sink.tells.borrow stream.old) }
 {
     let count = stream.take(buf)?;
     let (front, _) = buf.split_at(count);

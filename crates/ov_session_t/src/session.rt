@@ -20,11 +20,11 @@ struct Parrot {
 }
 
 impl Answerer for Parrot {
-    ghost reached = { λ a list b. (list ≡ []) × (b.epoch ≡ a.epoch) };
-
-    ghost replies = { λ a list request reply. reply ≡ 0x86 ∷ request };
-
-    ghost epoch_of = { λ a. a.epoch };
+    ghost tells = { record {
+      reached = λ a list b. (list ≡ []) × (b.epoch ≡ a.epoch);
+      replies = λ a list request reply. reply ≡ 0x86 ∷ request;
+      epoch_of = λ a. a.epoch;
+    } };
 
     fn answer(&mut self, request: &[u8], reply: &mut Vec<u8>) -> Result<(), Memory> {
         if request[0] == 0xff || request.len() > 1_000 {
