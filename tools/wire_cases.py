@@ -298,13 +298,12 @@ SAMPLES = [
     b"\x8c" + u32(10), b"\x8c" + u32(LAST), b"\x8d", b"\x8e", b"\x8f" + u16(0), b"\x8f" + u16(1) + ALICE,
     b"\x8f" + u16(2) + ALICE + ALICE, b"\x8f" + u16(256), b"\x8f" + u16(257), b"\x90",
 ]
-REFUSALS = [bytes([0x88, number]) for number in range(13)]
+SAMPLES += [bytes([0x88, number]) for number in range(13)]
 
 
 def row(request):
-    def places(answers):
-        return [place(lambda text: read_answer(request, text), answer) for answer in answers]
-    return "Row { request: %s, refusals: &%s, samples: &%s }," % (literal(request), places(REFUSALS), places(SAMPLES))
+    places = [place(lambda text: read_answer(request, text), answer) for answer in SAMPLES]
+    return "Row { request: %s, places: &%s }," % (literal(request), places)
 
 
 def grammar():
