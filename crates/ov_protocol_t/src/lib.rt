@@ -1,13 +1,15 @@
-//! Rows of `ov_protocol` and `ov_images`: their definitions at small values, and what one step of
-//! them says.
+//! Rows of `ov_protocol` and `ov_images`, and of the tries of `ov_client` and `ov_owner`: definitions
+//! at small values, and what one step of them says.
 //!
-//! Those crates have no code, so no wrong code shows what a definition is for. Each function here
-//! has an empty body, and its contract is a row. Where the definition is turned the row isn't proved
-//! any more. The statements are in `specs/`, and each says what the turned definition would give.
+//! No wrong code shows what a definition is for where there is none, or where code reads it too. Each
+//! function here has an empty body, and its contract is a row. Where the definition is turned the row
+//! isn't proved any more. The statements are in `specs/`, and each says what the turned definition
+//! would give.
 #![tactic(auto)]
 
 mod images;
 mod replies;
+mod tries;
 
 pub use images::{
     a_book_keeps_its_last_update, a_header_has_the_check_of_the_surface_master,
@@ -18,3 +20,4 @@ pub use replies::{
     an_accepted_update_is_shown, the_tag_is_looked_at_before_the_epoch,
     updates_are_made_at_their_epoch_alone,
 };
+pub use tries::{a_read_has_nine_tries, an_update_has_nine_tries};

@@ -1,0 +1,21 @@
+-- Rows of tries: nine, and then a read or an update is given up.
+use Rattle.std.specs.Prelude.{◌≡◌, ℕ, List, [], ◌∷◌, Err}
+use Rattle.ov_client.specs.Talks.{AsksChain, Ends, again}
+use Rattle.ov_client.specs.declared.fault.ClientFault.TheVariants.{Unsettled}
+use Rattle.ov_owner.specs.Talks as owners
+use Rattle.ov_owner.specs.declared.fault.OwnerFault.TheVariants as faults
+
+-- eight generations
+abbrev pub eight : List ℕ
+eight = 1 ∷ 2 ∷ 3 ∷ 4 ∷ 5 ∷ 6 ∷ 7 ∷ 8 ∷ []
+
+-- After eight tries that were answered Moved a reader asks for the chains again, and after nine it
+-- doesn't. With another number of tries one of the two would be otherwise.
+pub record ReadsHaveNineTries : Type 0 where
+  pub eighth : again eight 9 ≡ AsksChain eight 9
+  pub ninth : again (0 ∷ eight) 9 ≡ Ends (Err (Unsettled (0 ∷ eight)))
+
+-- So does an owner with an update, after tries that were answered Stale.
+pub record UpdatesHaveNineTries : Type 0 where
+  pub eighth : owners.again eight 9 ≡ owners.Asks eight 9
+  pub ninth : owners.again (0 ∷ eight) 9 ≡ owners.Ends (Err (faults.Unsettled (0 ∷ eight)))
