@@ -7,6 +7,7 @@ use Rattle.ov_base.specs.Causes.{Rose}
 use Rattle.ov_base.specs.declared.limits.TheConstants.{MAX_SCRIPT_BYTES}
 use Rattle.ov_disk.specs.Disk.{Image}
 use Rattle.ov_disk.proofs.Runs.{started, then_on}
+use Rattle.ov_disk.specs.Tells.{DiskTells}
 use Rattle.ov_script.specs.declared.command.Command.{Command}
 use Rattle.ov_script.specs.declared.command.Command.TheVariants.{Enrol, Create, Grant, Revoke, Read as AskRead, List as ListNames, Epoch as AskEpoch}
 use Rattle.ov_script.specs.declared.next.Next.{Next}
@@ -140,12 +141,11 @@ put_never r old new bytes puts = (
   λ bad e. subst (λ (x : Option Stop). PutsOr x old new bytes) e puts,
 )
 
-module _ {D : Type 0} (reads : D → Option Image) (may_leave : D → Image → Type 0)
-    (moment : D → ℕ) (left_since : D → ℕ → Image → Type 0) where
+module _ {D : Type 0} (tells : DiskTells D) where
   -- it was answered, and then its line was put or not
   pub put_so : (k : Masters) (p : PlainHistory) (command : Command) (first last : KeptOn D) (reply : Reply) (r : Option Stop) (old new : Option (List ℕ))
-      → PutsOr r old new (reply_line reply) → StepsAt reads may_leave moment left_since k p command first last (Ok reply)
-      → Answers reads may_leave moment left_since k p command r old new first last
+      → PutsOr r old new (reply_line reply) → StepsAt tells k p command first last (Ok reply)
+      → Answers tells k p command r old new first last
   put_so k p command first last reply None old new puts (is, goes) = (subst (λ (r : Reply). Appends old new (reply_line r)) is puts, goes)
   put_so k p command first last reply (Some Write) old new (n, puts) (is, goes) =
       ((n, subst (λ (r : Reply). Appends old new (take n (reply_line r))) is puts), goes)
@@ -160,8 +160,8 @@ module _ {D : Type 0} (reads : D → Option Image) (may_leave : D → Image → 
 
   -- it wasn't
   pub unanswered_so : (k : Masters) (p : PlainHistory) (command : Command) (first last : KeptOn D) (fault : StepFault) (out : Option (List ℕ))
-      → StepsAt reads may_leave moment left_since k p command first last (Err fault)
-      → Answers reads may_leave moment left_since k p command (Some (stop_for fault)) out out first last
+      → StepsAt tells k p command first last (Err fault)
+      → Answers tells k p command (Some (stop_for fault)) out out first last
   unanswered_so k p command first last NoDisk out steps = (kept out, steps)
   unanswered_so k p command first last NoTrace out steps = (kept out, steps)
   unanswered_so k p command first last NoMemory out steps = (kept out, steps)
@@ -169,9 +169,9 @@ module _ {D : Type 0} (reads : D → Option Image) (may_leave : D → Image → 
 
   -- ---- the first of them
 
-  module _ (k : Masters) (p : PlainHistory) (first : KeptOn D) (stands : StandsFor first.kept p)
-      (only_now : (c : Image) → left_since first.disk (moment first.disk) c → may_leave first.disk c) where
-    nothing_yet : (input out : Option (List ℕ)) → IfSome input (λ text. SoFar reads may_leave moment left_since k p text input 1 MAX_SCRIPT_BYTES out out first first)
+  module _ (k : Masters) (p : PlainHistory) (first : KeptOn D)
+      (stands : StandsFor first.kept p) where
+    nothing_yet : (input out : Option (List ℕ)) → IfSome input (λ text. SoFar tells k p text input 1 MAX_SCRIPT_BYTES out out first first)
     nothing_yet None out = tt
     nothing_yet (Some text) out = record {
       commands = [];
@@ -180,24 +180,24 @@ module _ {D : Type 0} (reads : D → Option Image) (may_leave : D → Image → 
       stands = stands;
       reaches = λ holds. record {
         holds = holds;
-        moments = started moment left_since may_leave first.disk (KeepsFirst k p text) only_now
+        moments = started tells first.disk (KeepsFirst k p text)
             (λ c left. ([], (1, MAX_SCRIPT_BYTES, text, (refl, refl, refl)), inr (holds.each c left)));
       };
     }
 
     pub begins_so : (line room : ℕ) (input out : Option (List ℕ)) → line ≡ 1 → room ≡ MAX_SCRIPT_BYTES
-        → IfSome input (λ text. SoFar reads may_leave moment left_since k p text input line room out out first first)
+        → IfSome input (λ text. SoFar tells k p text input line room out out first first)
     begins_so line room input out l r =
-        subst (λ m. IfSome input (λ text. SoFar reads may_leave moment left_since k p text input m room out out first first)) (sym l)
-        (subst (λ m. IfSome input (λ text. SoFar reads may_leave moment left_since k p text input 1 m out out first first)) (sym r) (nothing_yet input out))
+        subst (λ m. IfSome input (λ text. SoFar tells k p text input m room out out first first)) (sym l)
+        (subst (λ m. IfSome input (λ text. SoFar tells k p text input 1 m out out first first)) (sym r) (nothing_yet input out))
 
   -- ---- one more
 
   module _ (k : Masters) (p : PlainHistory) (first mid : KeptOn D) (masters : mid.kept.masters ≡ k) (old now : Option (List ℕ)) (line room : ℕ) where
     -- the reading ends
     pub answered : (input rest : Option (List ℕ)) (ending : Ending)
-        → IfSome input (λ text. SoFar reads may_leave moment left_since k p text rest line room old now first mid) → IfSome rest (λ t. Reads line room t [] ending)
-        → IfSome input (λ text. AnsweredAll reads may_leave moment left_since k p text ending old now first mid)
+        → IfSome input (λ text. SoFar tells k p text rest line room old now first mid) → IfSome rest (λ t. Reads line room t [] ending)
+        → IfSome input (λ text. AnsweredAll tells k p text ending old now first mid)
     answered None rest ending s says = tt
     answered (Some text) None ending s says = absurd s
     answered (Some text) (Some t) ending s says = record {
@@ -211,20 +211,20 @@ module _ {D : Type 0} (reads : D → Option Image) (may_leave : D → Image → 
     -- at its end the epoch is asked for
     module _ (last : KeptOn D) where
       -- what keeps the history from before that question or behind it keeps what it was
-      epoch_first : (text t : List ℕ) (s : AnsweredSoFar reads may_leave moment left_since k p text t line room old now first mid) (c : Image)
+      epoch_first : (text t : List ℕ) (s : AnsweredSoFar tells k p text t line room old now first mid) (c : Image)
           → KeepsStep k (after_all p s.commands) AskEpoch c → KeepsFirst k p text c
       epoch_first text t s c (inl keeps) = (s.commands, (line, room, t, s.begins), inr keeps)
       epoch_first text t s c (inr keeps) = (s.commands, (line, room, t, s.begins), inr keeps)
 
-      epoch_now : (text t : List ℕ) (s : AnsweredSoFar reads may_leave moment left_since k p text t line room old now first mid) (c : Image)
+      epoch_now : (text t : List ℕ) (s : AnsweredSoFar tells k p text t line room old now first mid) (c : Image)
           → KeepsStep k (after_all p s.commands) AskEpoch c → KeepsNext k p text s.commands c
       epoch_now text t s c (inl keeps) = inl (inr keeps)
       epoch_now text t s c (inr keeps) = inl (inr keeps)
 
       pub answered_end : (input rest : Option (List ℕ)) (reply : Reply)
-          → IfSome input (λ text. SoFar reads may_leave moment left_since k p text rest line room old now first mid) → IfSome rest (λ t. Reads line room t [] AtEnd)
-          → ((k : Masters) (p : PlainHistory) → mid.kept.masters ≡ k → StandsFor mid.kept p → StepsAt reads may_leave moment left_since k p AskEpoch mid last (Ok reply))
-          → IfSome input (λ text. AnsweredAll reads may_leave moment left_since k p text AtEnd old now first last)
+          → IfSome input (λ text. SoFar tells k p text rest line room old now first mid) → IfSome rest (λ t. Reads line room t [] AtEnd)
+          → ((k : Masters) (p : PlainHistory) → mid.kept.masters ≡ k → StandsFor mid.kept p → StepsAt tells k p AskEpoch mid last (Ok reply))
+          → IfSome input (λ text. AnsweredAll tells k p text AtEnd old now first last)
       answered_end None rest reply s says steps = tt
       answered_end (Some text) None reply s says steps = absurd s
       answered_end (Some text) (Some t) reply s says steps =
@@ -235,48 +235,48 @@ module _ {D : Type 0} (reads : D → Option Image) (may_leave : D → Image → 
             stands = goes.stands;
             reaches = λ holds. record {
               holds = goes.holds (s.reaches holds).holds;
-              moments = then_on moment left_since may_leave first.disk mid.disk last.disk (KeepsFirst k p text) (KeepsStep k (after_all p s.commands) AskEpoch)
+              moments = then_on tells first.disk mid.disk last.disk (KeepsFirst k p text) (KeepsStep k (after_all p s.commands) AskEpoch)
                   (s.reaches holds).moments (goes.leaves (s.reaches holds).holds).moments (epoch_first text t s);
             };
           }
 
       -- that isn't answered
-      end_first : (text t : List ℕ) (s : AnsweredSoFar reads may_leave moment left_since k p text t line room old now first mid)
-          → (Holds reads may_leave k (after_all p s.commands) mid.disk → LeavesStep reads may_leave moment left_since k (after_all p s.commands) AskEpoch mid.disk last.disk)
-          → AnsweredFirst reads may_leave moment left_since k p text old now first last
+      end_first : (text t : List ℕ) (s : AnsweredSoFar tells k p text t line room old now first mid)
+          → (Holds tells k (after_all p s.commands) mid.disk → LeavesStep tells k (after_all p s.commands) AskEpoch mid.disk last.disk)
+          → AnsweredFirst tells k p text old now first last
       end_first text t s leaves = record {
         commands = s.commands;
         begins = (line, room, t, s.begins);
         put = s.put;
         stopped = λ holds. record {
           now = λ c left. epoch_now text t s c ((leaves (s.reaches holds).holds).now c left);
-          moments = then_on moment left_since may_leave first.disk mid.disk last.disk (KeepsFirst k p text) (KeepsStep k (after_all p s.commands) AskEpoch)
+          moments = then_on tells first.disk mid.disk last.disk (KeepsFirst k p text) (KeepsStep k (after_all p s.commands) AskEpoch)
               (s.reaches holds).moments (leaves (s.reaches holds).holds).moments (epoch_first text t s);
         };
       }
 
-      by_fault : (text t : List ℕ) (s : AnsweredSoFar reads may_leave moment left_since k p text t line room old now first mid) (fault : StepFault)
-          → StepsAt reads may_leave moment left_since k (after_all p s.commands) AskEpoch mid last (Err fault)
-          → Stops reads may_leave moment left_since k p text (stop_for fault) old now first last
+      by_fault : (text t : List ℕ) (s : AnsweredSoFar tells k p text t line room old now first mid) (fault : StepFault)
+          → StepsAt tells k (after_all p s.commands) AskEpoch mid last (Err fault)
+          → Stops tells k p text (stop_for fault) old now first last
       by_fault text t s NoDisk steps = end_first text t s steps
       by_fault text t s NoTrace steps = end_first text t s steps
       by_fault text t s NoMemory steps = end_first text t s steps
       by_fault text t s (WrongTag bad) steps = absurd steps
 
       pub end_stops : (input rest : Option (List ℕ)) (stop : Stop) (fault : StepFault) → stop ≡ stop_for fault
-          → IfSome input (λ text. SoFar reads may_leave moment left_since k p text rest line room old now first mid)
-          → ((k : Masters) (p : PlainHistory) → mid.kept.masters ≡ k → StandsFor mid.kept p → StepsAt reads may_leave moment left_since k p AskEpoch mid last (Err fault))
-          → IfSome input (λ text. Stops reads may_leave moment left_since k p text stop old now first last)
+          → IfSome input (λ text. SoFar tells k p text rest line room old now first mid)
+          → ((k : Masters) (p : PlainHistory) → mid.kept.masters ≡ k → StandsFor mid.kept p → StepsAt tells k p AskEpoch mid last (Err fault))
+          → IfSome input (λ text. Stops tells k p text stop old now first last)
       end_stops None rest stop fault is s steps = tt
       end_stops (Some text) None stop fault is s steps = absurd s
       end_stops (Some text) (Some t) stop fault is s steps =
-          subst (λ (x : Stop). Stops reads may_leave moment left_since k p text x old now first last) (sym is)
+          subst (λ (x : Stop). Stops tells k p text x old now first last) (sym is)
           (by_fault text t s fault (steps k (after_all p s.commands) masters s.stands))
 
     -- a read or memory ends it
     pub answered_first : (input rest : Option (List ℕ))
-        → IfSome input (λ text. SoFar reads may_leave moment left_since k p text rest line room old now first mid)
-        → IfSome input (λ text. AnsweredFirst reads may_leave moment left_since k p text old now first mid)
+        → IfSome input (λ text. SoFar tells k p text rest line room old now first mid)
+        → IfSome input (λ text. AnsweredFirst tells k p text old now first mid)
     answered_first None rest s = tt
     answered_first (Some text) None s = absurd s
     answered_first (Some text) (Some t) s = record {
@@ -290,8 +290,9 @@ module _ {D : Type 0} (reads : D → Option Image) (may_leave : D → Image → 
     }
 
     module _ (last : KeptOn D) (now' : Option (List ℕ)) (command : Command) where
-      module _ (text t more item : List ℕ) (s : AnsweredSoFar reads may_leave moment left_since k p text t line room old now first mid)
-          (e : t ≡ item ++ more) (fits : length item ≤ room) (is : IsItem item command) where
+      module _ (text t more item : List ℕ)
+          (s : AnsweredSoFar tells k p text t line room old now first mid) (e : t ≡ item ++ more)
+          (fits : length item ≤ room) (is : IsItem item command) where
         abbrev q : PlainHistory
         q = after_all p s.commands
 
@@ -312,29 +313,29 @@ module _ {D : Type 0} (reads : D → Option Image) (may_leave : D → Image → 
         step_next c (inl keeps) = inl (inr keeps)
         step_next c (inr keeps) = inr (command, begins_script, inr (subst (λ h. KeepsPlain k h c) (sym after_is) keeps))
 
-        goes_on_so : GoesOn reads may_leave moment left_since k q command mid last → Holds reads may_leave k p first.disk
-            → Reaches reads may_leave moment left_since k p (after_all p (s.commands ++ command ∷ [])) text first.disk last.disk
+        goes_on_so : GoesOn tells k q command mid last → Holds tells k p first.disk
+            → Reaches tells k p (after_all p (s.commands ++ command ∷ [])) text first.disk last.disk
         goes_on_so goes holds = record {
-          holds = subst (λ h. Holds reads may_leave k h last.disk) (sym after_is) (goes.holds (s.reaches holds).holds);
-          moments = then_on moment left_since may_leave first.disk mid.disk last.disk (KeepsFirst k p text) (KeepsStep k q command)
+          holds = subst (λ h. Holds tells k h last.disk) (sym after_is) (goes.holds (s.reaches holds).holds);
+          moments = then_on tells first.disk mid.disk last.disk (KeepsFirst k p text) (KeepsStep k q command)
               (s.reaches holds).moments (goes.leaves (s.reaches holds).holds).moments step_first;
         }
 
-        stops_so : (Holds reads may_leave k q mid.disk → LeavesStep reads may_leave moment left_since k q command mid.disk last.disk)
-            → Keeps now now' → AnsweredFirst reads may_leave moment left_since k p text old now' first last
+        stops_so : (Holds tells k q mid.disk → LeavesStep tells k q command mid.disk last.disk)
+            → Keeps now now' → AnsweredFirst tells k p text old now' first last
         stops_so leaves keeps = record {
           commands = s.commands;
           begins = (line, room, t, s.begins);
           put = Appends-kept old now now' (lines p s.commands) s.put keeps;
           stopped = λ holds. record {
             now = λ c left. step_next c ((leaves (s.reaches holds).holds).now c left);
-            moments = then_on moment left_since may_leave first.disk mid.disk last.disk (KeepsFirst k p text) (KeepsStep k q command)
+            moments = then_on tells first.disk mid.disk last.disk (KeepsFirst k p text) (KeepsStep k q command)
                 (s.reaches holds).moments (leaves (s.reaches holds).holds).moments step_first;
           };
         }
 
-        part_so : (n : ℕ) → Appends now now' (take n (reply_line (reply_to q command))) → GoesOn reads may_leave moment left_since k q command mid last
-            → AnsweredPart reads may_leave moment left_since k p text old now' first last
+        part_so : (n : ℕ) → Appends now now' (take n (reply_line (reply_to q command))) → GoesOn tells k q command mid last
+            → AnsweredPart tells k p text old now' first last
         part_so n puts goes = record {
           commands = s.commands;
           next = command;
@@ -345,8 +346,8 @@ module _ {D : Type 0} (reads : D → Option Image) (may_leave : D → Image → 
           reaches = goes_on_so goes;
         }
 
-        stopped : (stop : Stop) → Answers reads may_leave moment left_since k q command (Some stop) now now' mid last
-            → Stops reads may_leave moment left_since k p text stop old now' first last
+        stopped : (stop : Stop) → Answers tells k q command (Some stop) now now' mid last
+            → Stops tells k p text stop old now' first last
         stopped End a = absurd a
         stopped (BadLine n) a = absurd a
         stopped Long a = absurd a
@@ -357,8 +358,8 @@ module _ {D : Type 0} (reads : D → Option Image) (may_leave : D → Image → 
         stopped Write a = part_so a.0.0 a.0.1 a.1
         stopped (Tag bad) a = absurd a
 
-        more_so : Answers reads may_leave moment left_since k q command None now now' mid last
-            → AnsweredSoFar reads may_leave moment left_since k p text more (line + lf_count item) (room - length item) old now' first last
+        more_so : Answers tells k q command None now now' mid last
+            → AnsweredSoFar tells k p text more (line + lf_count item) (room - length item) old now' first last
         more_so a = record {
           commands = s.commands ++ command ∷ [];
           begins = begins_more;
@@ -370,24 +371,24 @@ module _ {D : Type 0} (reads : D → Option Image) (may_leave : D → Image → 
 
       -- one more command is answered
       pub answered_more : (input rest rest' : Option (List ℕ)) (line' room' : ℕ)
-          → IfSome input (λ text. SoFar reads may_leave moment left_since k p text rest line room old now first mid)
+          → IfSome input (λ text. SoFar tells k p text rest line room old now first mid)
           → IfSome rest (λ t. Says line room t (Next-Command command) line' room' rest')
-          → ((k : Masters) (p : PlainHistory) → mid.kept.masters ≡ k → StandsFor mid.kept p → Answers reads may_leave moment left_since k p command None now now' mid last)
-          → IfSome input (λ text. SoFar reads may_leave moment left_since k p text rest' line' room' old now' first last)
+          → ((k : Masters) (p : PlainHistory) → mid.kept.masters ≡ k → StandsFor mid.kept p → Answers tells k p command None now now' mid last)
+          → IfSome input (λ text. SoFar tells k p text rest' line' room' old now' first last)
       answered_more None rest rest' line' room' s says answers = tt
       answered_more (Some text) None rest' line' room' s says answers = absurd s
       answered_more (Some text) (Some t) None line' room' s says answers = absurd says.2
       answered_more (Some text) (Some t) (Some more) line' room' s says answers =
           let made = more_so text t more says.0 s says.2 says.3 says.1 (answers k (after_all p s.commands) masters s.stands) in
-          subst (λ l. AnsweredSoFar reads may_leave moment left_since k p text more l room' old now' first last) (sym says.4)
-          (subst (λ r. AnsweredSoFar reads may_leave moment left_since k p text more (line + lf_count says.0) r old now' first last) (sym says.5) made)
+          subst (λ l. AnsweredSoFar tells k p text more l room' old now' first last) (sym says.4)
+          (subst (λ r. AnsweredSoFar tells k p text more (line + lf_count says.0) r old now' first last) (sym says.5) made)
 
       -- an answer that stops
       pub answer_stops : (input rest rest' : Option (List ℕ)) (line' room' : ℕ) (stop : Stop)
-          → IfSome input (λ text. SoFar reads may_leave moment left_since k p text rest line room old now first mid)
+          → IfSome input (λ text. SoFar tells k p text rest line room old now first mid)
           → IfSome rest (λ t. Says line room t (Next-Command command) line' room' rest')
-          → ((k : Masters) (p : PlainHistory) → mid.kept.masters ≡ k → StandsFor mid.kept p → Answers reads may_leave moment left_since k p command (Some stop) now now' mid last)
-          → IfSome input (λ text. Stops reads may_leave moment left_since k p text stop old now' first last)
+          → ((k : Masters) (p : PlainHistory) → mid.kept.masters ≡ k → StandsFor mid.kept p → Answers tells k p command (Some stop) now now' mid last)
+          → IfSome input (λ text. Stops tells k p text stop old now' first last)
       answer_stops None rest rest' line' room' stop s says answers = tt
       answer_stops (Some text) None rest' line' room' stop s says answers = absurd s
       answer_stops (Some text) (Some t) None line' room' stop s says answers = absurd says.2
@@ -396,13 +397,12 @@ module _ {D : Type 0} (reads : D → Option Image) (may_leave : D → Image → 
 
 -- ---- what is kept stands for a history
 
-module _ {D : Type 0} (reads : D → Option Image) (may_leave : D → Image → Type 0)
-    (moment : D → ℕ) (left_since : D → ℕ → Image → Type 0) (mid last : KeptOn D) (command : Command)
+module _ {D : Type 0} (tells : DiskTells D) (mid last : KeptOn D) (command : Command)
     (old new : Option (List ℕ)) where
   abbrev AreAnswers : Option Stop → Type 0
   AreAnswers r =
       (k : Masters) (p : PlainHistory) → mid.kept.masters ≡ k → StandsFor mid.kept p
-      → Answers reads may_leave moment left_since k p command r old new mid last
+      → Answers tells k p command r old new mid last
 
   -- behind an answer it goes on so
   pub kept_more : AreAnswers None → (q : PlainHistory) × StandsFor mid.kept q
@@ -415,16 +415,15 @@ module _ {D : Type 0} (reads : D → Option Image) (may_leave : D → Image → 
       → (q : PlainHistory) × StandsFor mid.kept q → ⊥
   tag_at_none stop bad is answers (q, stands) =
       subst
-      (λ (s : Stop). Answers reads may_leave moment left_since mid.kept.masters q command (Some s)
+      (λ (s : Stop). Answers tells mid.kept.masters q command (Some s)
       old new mid last) is (answers mid.kept.masters q refl stands)
 
 -- so it is at the end of a script
-pub end_tag : {D : Type 0} (reads : D → Option Image) (may_leave : D → Image → Type 0)
-    (moment : D → ℕ) (left_since : D → ℕ → Image → Type 0) (mid last : KeptOn D) (fault : StepFault) (bad : BadTag) → fault ≡ WrongTag bad
-    → ((k : Masters) (p : PlainHistory) → mid.kept.masters ≡ k → StandsFor mid.kept p → StepsAt reads may_leave moment left_since k p AskEpoch mid last (Err fault))
+pub end_tag : {D : Type 0} (tells : DiskTells D) (mid last : KeptOn D) (fault : StepFault) (bad : BadTag) → fault ≡ WrongTag bad
+    → ((k : Masters) (p : PlainHistory) → mid.kept.masters ≡ k → StandsFor mid.kept p → StepsAt tells k p AskEpoch mid last (Err fault))
     → (q : PlainHistory) × StandsFor mid.kept q → ⊥
-end_tag reads may_leave moment left_since mid last fault bad is steps (q, stands) =
-    subst (λ (f : StepFault). StepsAt reads may_leave moment left_since mid.kept.masters q AskEpoch mid last (Err f)) is
+end_tag tells mid last fault bad is steps (q, stands) =
+    subst (λ (f : StepFault). StepsAt tells mid.kept.masters q AskEpoch mid last (Err f)) is
     (steps mid.kept.masters q refl stands)
 
 -- ---- one call of `next`

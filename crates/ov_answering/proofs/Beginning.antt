@@ -1,18 +1,19 @@
 -- A disk that is opened, or isn't, and what follows of a script that is answered over it.
-use Rattle.std.proofs.Common.{◌≡◌, ◌⊎◌, inl, inr, ℕ, ◌≤◌, List, [], ◌∷◌, refl, sym, ◌∙◌, ap, subst, arith, Option, Some, None, false}
+use Rattle.std.proofs.Common.{◌≡◌, ◌⊎◌, inl, inr, ℕ, List, [], ◌∷◌, refl, sym, ◌∙◌, ap, subst, arith, Option, Some, None, false}
 use Rattle.std.specs.Prelude.{IfSome}
 use Rattle.std.proofs.KnownBytes.{Appends-nil}
 use Rattle.ov_base.specs.declared.mode.Mode.{Mode}
-use Rattle.ov_disk.specs.Disk.{Image, Told}
+use Rattle.ov_disk.specs.Disk.{Image, StaysTold, Told}
 use Rattle.ov_disk.specs.Moments.{LeavesOnly}
 use Rattle.ov_disk.proofs.Runs.{then_on, weaker}
+use Rattle.ov_disk.specs.Tells.{DiskTells}
 use Rattle.ov_images.specs.Images.{Keeps, keys_of}
 use Rattle.ov_history.specs.Masters.{Masters}
 use Rattle.ov_history.specs.Plain.{PlainHistory, history_of}
 use Rattle.ov_history.specs.Refusals.{IsLegal}
 use Rattle.ov_history.specs.Sealing.{sealed}
 use Rattle.ov_store.specs.Beginning.{IsNew, LeavesHistory}
-use Rattle.ov_store.specs.Opened.{Opened, Serves, StaysTold}
+use Rattle.ov_store.specs.Opened.{Opened, Serves}
 use Rattle.ov_store.specs.declared.fault.BeginFault.{BeginFault}
 use Rattle.ov_store.specs.declared.fault.BeginFault.TheVariants.{Disk, NotAStore, Damaged, BaseDiffers, SurfaceDiffers, ModeDiffers, Memory}
 use Rattle.ov_report.specs.Ends.{EndsIn, EndsOr}
@@ -57,45 +58,43 @@ disk_said fault line old new status (inr (inr q)) four = let six : status ≡ 6 
 
 -- ---- scripts
 
-module _ {D : Type 0} (reads : D → Option Image) (may_leave : D → Image → Type 0)
-    (moment : D → ℕ) (left_since : D → ℕ → Image → Type 0) (k : Masters) (p : PlainHistory) where
+module _ {D : Type 0} (tells : DiskTells D) (k : Masters) (p : PlainHistory) where
   -- before the first command each image stands for the history
   pub first_of_all : (text : List ℕ) (c : Image) → StandsForPlain k p c → KeepsFirst k p text c
   first_of_all text c stands = ([], none_read text, stands)
 
   -- an error line and nothing else was put
   pub survives_alone : (text error : List ℕ) (code : ℕ) (first last : D) (old new : Option (List ℕ)) (status : ℕ)
-      → EndsIn (101 ∷ 114 ∷ error) code old new status → LeavesOnly moment left_since first last (StandsForPlain k p)
-      → ((t : ℕ) (c : Image) → t ≤ moment last → may_leave last c → left_since last t c)
-      → Survives reads may_leave moment left_since k p text first last old new
-  survives_alone text error code first last old new status ends leaves counts_now = record {
-    any_moment = weaker moment left_since may_leave first last (StandsForPlain k p) (KeepsFirst k p text) leaves (first_of_all text);
+      → EndsIn (101 ∷ 114 ∷ error) code old new status → LeavesOnly tells first last (StandsForPlain k p)
+      → Survives tells k p text first last old new
+  survives_alone text error code first last old new status ends leaves = record {
+    any_moment = weaker tells first last (StandsForPlain k p) (KeepsFirst k p text) leaves (first_of_all text);
     at_exit = (
       [],
       none_read text,
       answered_error p text [] old old new (Appends-nil old) error (front_put (101 ∷ 114 ∷ error) code old new status ends),
-      λ c left. inl (now_so reads may_leave moment left_since first last (StandsForPlain k p) counts_now leaves c left),
+      λ c left. inl (now_so tells first last (StandsForPlain k p) leaves c left),
     );
   }
 
   -- the disk didn't open
   pub ends_refused : (text : List ℕ) (first last : D) (old new : Option (List ℕ)) (status : ℕ)
-      → EndsIn disk_line 4 old new status ⊎ EndsIn memory_line 7 old new status → LeavesOnly moment left_since first last (StandsForPlain k p)
-      → ((t : ℕ) (c : Image) → t ≤ moment last → may_leave last c → left_since last t c)
-      → EndsAs reads may_leave moment left_since k p text first last old new status (Unit {0})
-  ends_refused text first last old new status (inl e) leaves counts_now = record {
+      → EndsIn disk_line 4 old new status ⊎ EndsIn memory_line 7 old new status → LeavesOnly tells first last (StandsForPlain k p)
+      → EndsAs tells k p text first last old new status (Unit {0})
+  ends_refused text first last old new status (inl e) leaves = record {
     concluded = at_once p text disk_line DiskFault old new status (disk_printed p text) e;
-    survives = λ _. survives_alone text _ 4 first last old new status e leaves counts_now;
+    survives = λ _. survives_alone text _ 4 first last old new status e leaves;
     lasts = λ _ zero. absurd (not_zero disk_line 4 old new status e (λ z. omega arith) zero);
   }
-  ends_refused text first last old new status (inr e) leaves counts_now = record {
+  ends_refused text first last old new status (inr e) leaves = record {
     concluded = at_once p text memory_line OutOfMemory old new status (memory_printed p text) e;
-    survives = λ _. survives_alone text _ 7 first last old new status e leaves counts_now;
+    survives = λ _. survives_alone text _ 7 first last old new status e leaves;
     lasts = λ _ zero. absurd (not_zero memory_line 7 old new status e (λ z. omega arith) zero);
   }
 
   -- it opened, and the script was answered over it
-  module _ (m : KeptOn D) (masters : m.kept.masters ≡ k) (sound : m.failed ≡ false) (serves : Serves reads may_leave (sealed k p) (opened_of m)) where
+  module _ (m : KeptOn D) (masters : m.kept.masters ≡ k) (sound : m.failed ≡ false)
+      (serves : Serves tells (sealed k p) (opened_of m)) where
     begun_stands : IsLegal (history_of p) → StandsFor m.kept p
     begun_stands legal =
         subst (λ (x : Masters). Rattle.ov_history.specs.Kept.IsKept x p m.kept.catalogue × Rattle.ov_history.specs.Kept.AreKept x p m.kept.stored) (sym masters) (
@@ -103,23 +102,23 @@ module _ {D : Type 0} (reads : D → Option Image) (may_leave : D → Image → 
           serves.bytes ∙ ap (λ (x : Masters). Rattle.ov_history.specs.Sealed.stored_of x.surface (sealed k p)) masters,
         )
 
-    pub begun_holds : (i : Image) × (reads m.disk ≡ Some i) → Holds reads may_leave k p m.disk
+    pub begun_holds : (i : Image) × (tells.reads m.disk ≡ Some i) → Holds tells k p m.disk
     begun_holds told = record {
       told = told;
       each = λ c left. subst (λ (x : Masters). Keeps (keys_of x) (sealed k p) c) masters (serves.disk sound told.0 told.1 c left);
     }
 
-    pub ends_begun : (text : List ℕ) (first last : D) (old new : Option (List ℕ)) (status : ℕ) → (i : Image) × (reads m.disk ≡ Some i)
-        → LeavesOnly moment left_since first m.disk (StandsForPlain k p)
-        → EndsAs reads may_leave moment left_since k p text m.disk last old new status (Holds reads may_leave k p m.disk)
-        → EndsAs reads may_leave moment left_since k p text first last old new status (Unit {0})
+    pub ends_begun : (text : List ℕ) (first last : D) (old new : Option (List ℕ)) (status : ℕ) → (i : Image) × (tells.reads m.disk ≡ Some i)
+        → LeavesOnly tells first m.disk (StandsForPlain k p)
+        → EndsAs tells k p text m.disk last old new status (Holds tells k p m.disk)
+        → EndsAs tells k p text first last old new status (Unit {0})
     ends_begun text first last old new status told leaves ends =
         let holds = begun_holds told in
         let after = ends.survives holds in record {
           concluded = ends.concluded;
           survives = λ _. record {
-            any_moment = then_on moment left_since may_leave first m.disk last (KeepsFirst k p text) (KeepsFirst k p text)
-                (weaker moment left_since may_leave first m.disk (StandsForPlain k p) (KeepsFirst k p text) leaves (first_of_all text))
+            any_moment = then_on tells first m.disk last (KeepsFirst k p text) (KeepsFirst k p text)
+                (weaker tells first m.disk (StandsForPlain k p) (KeepsFirst k p text) leaves (first_of_all text))
                 after.any_moment (λ c keeps. keeps);
             at_exit = after.at_exit;
           };
@@ -129,74 +128,71 @@ module _ {D : Type 0} (reads : D → Option Image) (may_leave : D → Image → 
 -- ---- from the call that opens the disk
 
 -- from a disk that tells its bytes what is kept stands for a history
-pub tells_nothing : {D : Type 0} (reads : D → Option Image) (may_leave : D → Image → Type 0)
-    (moment : D → ℕ) (left_since : D → ℕ → Image → Type 0) (k : Masters) (mode : Mode) (first : D)
+pub tells_nothing : {D : Type 0} (tells : DiskTells D) (k : Masters) (mode : Mode) (first : D)
     (m : KeptOn D) (s : Opened D) → opened_of m ≡ s → m.kept.masters ≡ k → s.failed ≡ false
-    → Told (reads first) (λ i. FindsPlain reads may_leave k mode i s)
-    → ((p : PlainHistory) → StandsFor m.kept p → ⊥) → TellsNothing (reads first)
-tells_nothing {D} reads may_leave moment left_since k mode first m s is masters sound found none =
+    → Told (tells.reads first) (λ i. FindsPlain tells k mode i s)
+    → ((p : PlainHistory) → StandsFor m.kept p → ⊥) → TellsNothing (tells.reads first)
+tells_nothing {D} tells k mode first m s is masters sound found none =
     λ i read.
     let f = found i read in
     let (p, legal, mode_is, stands) = f.some in
-    let serves = subst (λ (o : Opened D). Serves reads may_leave (sealed k p) o) (sym is)
+    let serves = subst (λ (o : Opened D). Serves tells (sealed k p) o) (sym is)
     (f.each p mode_is stands) in
     none p
-    (begun_stands reads may_leave moment left_since k p m masters
+    (begun_stands tells k p m masters
     (ap (λ (o : Opened D). o.failed) is ∙ sound) serves legal)
 
-module _ {D : Type 0} (reads : D → Option Image) (may_leave : D → Image → Type 0)
-    (moment : D → ℕ) (left_since : D → ℕ → Image → Type 0) (k : Masters) (mode : Mode) (p : PlainHistory)
-    (first : D) (opens : OpensAs reads may_leave k mode p first) where
+module _ {D : Type 0} (tells : DiskTells D) (k : Masters) (mode : Mode) (p : PlainHistory)
+    (first : D) (opens : OpensAs tells k mode p first) where
   -- what was opened stands for the history
   module _ (m : KeptOn D) (s : Opened D) (is : opened_of m ≡ s) (masters : m.kept.masters ≡ k) (fresh : IsNew (keys_of k) mode s)
-      (found : Told (reads first) (λ i. FindsPlain reads may_leave k mode i s) × StaysTold (reads first) (reads s.disk)) where
-    pub serves : Serves reads may_leave (sealed k p) (opened_of m)
+      (found : Told (tells.reads first) (λ i. FindsPlain tells k mode i s) × StaysTold (tells.reads first) (tells.reads s.disk)) where
+    pub serves : Serves tells (sealed k p) (opened_of m)
     serves =
-        subst (λ (o : Opened D). Serves reads may_leave (sealed k p) o) (sym is)
+        subst (λ (o : Opened D). Serves tells (sealed k p) o) (sym is)
         ((found.0 opens.image opens.told).each p opens.mode_is opens.stands)
 
     pub sound : m.failed ≡ false
     sound = ap (λ (o : Opened D). o.failed) is ∙ fresh.1
 
     pub over_stands : StandsFor m.kept p
-    over_stands = begun_stands reads may_leave moment left_since k p m masters sound serves opens.legal
+    over_stands = begun_stands tells k p m masters sound serves opens.legal
 
-module _ {D : Type 0} (reads : D → Option Image) (may_leave : D → Image → Type 0)
-    (moment : D → ℕ) (left_since : D → ℕ → Image → Type 0) (k : Masters) (mode : Mode) (p : PlainHistory)
-    (first : D) (opens : OpensAs reads may_leave k mode p first) (input old new : Option (List ℕ)) (status : ℕ) where
-  pub leaves_plain : (last : D) → LeavesHistory reads may_leave moment left_since (keys_of k) mode first last → LeavesOnly moment left_since first last (StandsForPlain k p)
+module _ {D : Type 0} (tells : DiskTells D) (k : Masters) (mode : Mode) (p : PlainHistory)
+    (first : D) (opens : OpensAs tells k mode p first) (input old new : Option (List ℕ))
+    (status : ℕ) where
+  pub leaves_plain : (last : D) → LeavesHistory tells (keys_of k) mode first last → LeavesOnly tells first last (StandsForPlain k p)
   leaves_plain last any = any opens.image opens.told opens.settled (sealed k p) opens.mode_is opens.stands
 
-  pub over_refused : (last : D) (fault : BeginFault) → Told (reads first) (λ i. Refuses k mode i fault)
-      → EndsOr (fault_line fault) (fault_status fault) old new status → LeavesHistory reads may_leave moment left_since (keys_of k) mode first last
-      → ((t : ℕ) (c : Image) → t ≤ moment last → may_leave last c → left_since last t c)
-      → IfSome input (λ text. EndsAs reads may_leave moment left_since k p text first last old new status (Unit {0}))
-  over_refused last fault refuses ends any counts_now = by_text input where
+  pub over_refused : (last : D) (fault : BeginFault) → Told (tells.reads first) (λ i. Refuses k mode i fault)
+      → EndsOr (fault_line fault) (fault_status fault) old new status → LeavesHistory tells (keys_of k) mode first last
+      → IfSome input (λ text. EndsAs tells k p text first last old new status (Unit {0}))
+  over_refused last fault refuses ends any = by_text input where
     said : EndsIn disk_line 4 old new status ⊎ EndsIn memory_line 7 old new status
     said = ends_in_fault fault old new status ((refuses opens.image opens.told).opens (p, opens.legal, opens.mode_is, opens.stands)) ends
 
-    by_text : (input : Option (List ℕ)) → IfSome input (λ text. EndsAs reads may_leave moment left_since k p text first last old new status (Unit {0}))
+    by_text : (input : Option (List ℕ)) → IfSome input (λ text. EndsAs tells k p text first last old new status (Unit {0}))
     by_text None = tt
-    by_text (Some text) = ends_refused reads may_leave moment left_since k p text first last old new status said (leaves_plain last any) counts_now
+    by_text (Some text) = ends_refused tells k p text first last old new status said (leaves_plain last any)
 
   module _ (m : KeptOn D) (s : Opened D) (is : opened_of m ≡ s) (masters : m.kept.masters ≡ k) (fresh : IsNew (keys_of k) mode s)
-      (found : Told (reads first) (λ i. FindsPlain reads may_leave k mode i s) × StaysTold (reads first) (reads s.disk))
-      (any : LeavesHistory reads may_leave moment left_since (keys_of k) mode first s.disk) where
-    pub told : (i : Image) × (reads m.disk ≡ Some i)
-    told = subst (λ (o : Opened D). (i : Image) × (reads o.disk ≡ Some i)) (sym is) (found.1 opens.image opens.told)
+      (found : Told (tells.reads first) (λ i. FindsPlain tells k mode i s) × StaysTold (tells.reads first) (tells.reads s.disk))
+      (any : LeavesHistory tells (keys_of k) mode first s.disk) where
+    pub told : (i : Image) × (tells.reads m.disk ≡ Some i)
+    told = subst (λ (o : Opened D). (i : Image) × (tells.reads o.disk ≡ Some i)) (sym is) (found.1 opens.image opens.told)
 
-    pub leaves : LeavesOnly moment left_since first m.disk (StandsForPlain k p)
-    leaves = subst (λ (o : Opened D). LeavesOnly moment left_since first o.disk (StandsForPlain k p)) (sym is) (leaves_plain s.disk any)
+    pub leaves : LeavesOnly tells first m.disk (StandsForPlain k p)
+    leaves = subst (λ (o : Opened D). LeavesOnly tells first o.disk (StandsForPlain k p)) (sym is) (leaves_plain s.disk any)
 
     pub over_begun : (last : D)
-        → ((q : PlainHistory) → StandsFor m.kept q → IfSome input (λ text. EndsAs reads may_leave moment left_since m.kept.masters q text m.disk last old new status
-        (Holds reads may_leave m.kept.masters q m.disk)))
-        → IfSome input (λ text. EndsAs reads may_leave moment left_since k p text first last old new status (Unit {0}))
-    over_begun last ends = by_text input (ends p (over_stands reads may_leave moment left_since k mode p first opens m s is masters fresh found)) where
-      by_text : (input : Option (List ℕ)) → IfSome input (λ text. EndsAs reads may_leave moment left_since m.kept.masters p text m.disk last old new status
-          (Holds reads may_leave m.kept.masters p m.disk)) → IfSome input (λ text. EndsAs reads may_leave moment left_since k p text first last old new status (Unit {0}))
+        → ((q : PlainHistory) → StandsFor m.kept q → IfSome input (λ text. EndsAs tells m.kept.masters q text m.disk last old new status
+        (Holds tells m.kept.masters q m.disk)))
+        → IfSome input (λ text. EndsAs tells k p text first last old new status (Unit {0}))
+    over_begun last ends = by_text input (ends p (over_stands tells k mode p first opens m s is masters fresh found)) where
+      by_text : (input : Option (List ℕ)) → IfSome input (λ text. EndsAs tells m.kept.masters p text m.disk last old new status
+          (Holds tells m.kept.masters p m.disk)) → IfSome input (λ text. EndsAs tells k p text first last old new status (Unit {0}))
       by_text None e = tt
       by_text (Some text) e =
-          ends_begun reads may_leave moment left_since k p m masters (sound reads may_leave moment left_since k mode p first opens m s is masters fresh found)
-          (serves reads may_leave moment left_since k mode p first opens m s is masters fresh found) text first last old new status told leaves
-          (subst (λ (x : Masters). EndsAs reads may_leave moment left_since x p text m.disk last old new status (Holds reads may_leave x p m.disk)) masters e)
+          ends_begun tells k p m masters (sound tells k mode p first opens m s is masters fresh found)
+          (serves tells k mode p first opens m s is masters fresh found) text first last old new status told leaves
+          (subst (λ (x : Masters). EndsAs tells x p text m.disk last old new status (Holds tells x p m.disk)) masters e)

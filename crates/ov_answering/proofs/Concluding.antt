@@ -5,7 +5,7 @@ use Rattle.std.specs.Io.KnownBytes.{Appends, Keeps}
 use Rattle.std.proofs.KnownBytes.{Appends-trans, Appends-kept, Appends-nil}
 use Rattle.std.proofs.lemmas.List.{append-nil}
 use Rattle.ov_base.specs.declared.limits.TheConstants.{MAX_SCRIPT_BYTES}
-use Rattle.ov_disk.specs.Disk.{Image}
+use Rattle.ov_disk.specs.Tells.{DiskTells}
 use Rattle.ov_script.specs.declared.command.Command.{Command}
 use Rattle.ov_script.specs.declared.reply.Reply.TheVariants.{End as EndReply}
 use Rattle.ov_script.specs.Lines.{reply_line}
@@ -51,10 +51,9 @@ part_of h text commands begins n old new status six puts =
     ap (take (length (take n all))) split ∙ take-append_seam (take n all) (drop n all ++ read_line) in
     part six (ReadFault, all ++ read_line, (commands, begins, refl), (length (take n all), subst (Appends old new) (sym front) puts))
 
-module _ {D : Type 0} (reads : D → Option Image) (may_leave : D → Image → Type 0)
-    (moment : D → ℕ) (left_since : D → ℕ → Image → Type 0) (k : Masters) (h : PlainHistory) (text : List ℕ)
+module _ {D : Type 0} (tells : DiskTells D) (k : Masters) (h : PlainHistory) (text : List ℕ)
     (old mid new : Option (List ℕ)) (first last : KeptOn D) (status : ℕ) where
-  whole_or : (end : List ℕ) (ending : Ending) (a : AnsweredAll reads may_leave moment left_since k h text ending old mid first last)
+  whole_or : (end : List ℕ) (ending : Ending) (a : AnsweredAll tells k h text ending old mid first last)
       → end ≡ last_line (after_all h a.commands) ending → EndsOr end (status_of (Answered ending)) mid new status → Concluded h text old new status
   whole_or end ending a e (inl q) =
       then_last h text (lines h a.commands) end (Answered ending) (status_of (Answered ending)) old mid new status
@@ -62,13 +61,13 @@ module _ {D : Type 0} (reads : D → Option Image) (may_leave : D → Image → 
   whole_or end ending a e (inr q) =
       then_last h text (lines h a.commands) memory_line OutOfMemory 7 old mid new status (a.commands, first_of text a.commands ending a.read, refl) refl a.put q
 
-  first_in : (end : List ℕ) (outcome : Outcome) (a : AnsweredFirst reads may_leave moment left_since k h text old mid first last)
+  first_in : (end : List ℕ) (outcome : Outcome) (a : AnsweredFirst tells k h text old mid first last)
       → ((commands : List Command) → BeginsScript text commands → IsPrinted h text outcome (lines h commands ++ end))
       → EndsIn end (status_of outcome) mid new status → Concluded h text old new status
   first_in end outcome a printed q = then_last h text (lines h a.commands) end outcome (status_of outcome) old mid new status (printed a.commands a.begins) refl a.put q
 
   -- no last line was put
-  first_only : AnsweredFirst reads may_leave moment left_since k h text old mid first last → status ≡ 6 → Keeps mid new → Concluded h text old new status
+  first_only : AnsweredFirst tells k h text old mid first last → status ≡ 6 → Keeps mid new → Concluded h text old new status
   first_only a six kept =
       let all = lines h a.commands in
       let front : take (length all + 0) (all ++ []) ≡ all ++ take 0 [] = take-append-add all [] 0 in
@@ -77,7 +76,7 @@ module _ {D : Type 0} (reads : D → Option Image) (may_leave : D → Image → 
       part_of h text a.commands a.begins (length all + 0) old new status six
       (subst (Appends old new) (sym whole) (Appends-kept old mid new all a.put kept))
 
-  part_in : AnsweredPart reads may_leave moment left_since k h text old mid first last → status ≡ 6 → Keeps mid new → Concluded h text old new status
+  part_in : AnsweredPart tells k h text old mid first last → status ≡ 6 → Keeps mid new → Concluded h text old new status
   part_in a six kept =
       let line = reply_line (reply_to (after_all h a.commands) a.next) in
       let all = lines h a.commands in
@@ -86,7 +85,7 @@ module _ {D : Type 0} (reads : D → Option Image) (may_leave : D → Image → 
       part_of h text (a.commands ++ a.next ∷ []) a.begins_next (length all + a.count) old new status six
       (subst (Appends old new) (sym front) (Appends-kept old mid new (all ++ take a.count line) a.put kept))
 
-  pub concluded_at : (stop : Stop) (n : ℕ) → Stops reads may_leave moment left_since k h text stop old mid first last → Finishes stop n mid new status
+  pub concluded_at : (stop : Stop) (n : ℕ) → Stops tells k h text stop old mid first last → Finishes stop n mid new status
       → n ≡ last.kept.catalogue.epoch → Concluded h text old new status
   concluded_at End n a f count =
       let same : n ≡ epoch_of (history_of (after_all h a.commands)) = count ∙ (shows last.kept (after_all h a.commands) a.stands).epoch in

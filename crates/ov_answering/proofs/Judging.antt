@@ -4,11 +4,13 @@ use Rattle.std.proofs.Common.{subst, arith}
 use Rattle.std.proofs.Common.{Option, Some, None, Result, Ok, Err, IfOk, IfErr, IsErrOf}
 use Rattle.std.specs.Io.KnownBytes.{Appends}
 use Rattle.ov_base.specs.declared.mode.Mode.{Mode}
-use Rattle.ov_disk.specs.Disk.{Image, Told}
+use Rattle.ov_disk.specs.Calls.{IsDiskCall}
+use Rattle.ov_disk.specs.Disk.{Image, StaysTold, Told}
 use Rattle.ov_disk.specs.Moments.{IsUntouched, LeavesOnly}
 use Rattle.ov_disk.proofs.Runs.{then_on}
 use Rattle.ov_disk.specs.declared.area.Area.{Area}
 use Rattle.ov_disk.specs.declared.area.Area.TheVariants.{Book}
+use Rattle.ov_disk.specs.Tells.{DiskTells}
 use Rattle.ov_journal.specs.Standing.{IsUnborn}
 use Rattle.ov_journal.specs.declared.fault.CheckFault.{CheckFault}
 use Rattle.ov_journal.specs.declared.fault.CheckFault.TheVariants.{Disk as NoDisk}
@@ -25,9 +27,9 @@ use Rattle.ov_history.specs.Sealed.{IsSealed, SealedHistory, outer_all, outer_of
 use Rattle.ov_history.specs.Sealing.{sealed, sealed_from}
 use Rattle.ov_history.proofs.Pushing.{with_updates, with_updates-all}
 use Rattle.ov_history.proofs.Sealing.{measured-sealed, owners_histories}
-use Rattle.ov_store.specs.Beginning.{FindsHistory, IsBeginFault, IsDiskCall, IsNew, LeavesHistory}
+use Rattle.ov_store.specs.Beginning.{FindsHistory, IsBeginFault, IsNew, LeavesHistory}
 use Rattle.ov_store.specs.Beginning.{WritesNoBorn, disk_left}
-use Rattle.ov_store.specs.Opened.{Opened, Serves, StaysTold}
+use Rattle.ov_store.specs.Opened.{Opened, Serves}
 use Rattle.ov_store.specs.Owners.{HasFalseUpdate, IsOwners, masters, with_first}
 use Rattle.ov_store.specs.declared.begin.BeginRefused.{BeginRefused}
 use Rattle.ov_store.specs.declared.fault.BeginFault.{BeginFault}
@@ -150,56 +152,52 @@ module _ {D : Type 0} where
   new_so ks mode s (Err refused) same fresh = tt
 
   -- two calls on a disk, of which the second may have failed
-  pub call_so : (borrow faults : D → ℕ) (d0 d1 d2 : D) (A B : Type 0)
-      → IsDiskCall borrow faults d0 d1 A → IsDiskCall borrow faults d1 d2 B
-      → IsDiskCall borrow faults d0 d2 B
-  call_so borrow faults d0 d1 d2 A B first next = (
-    next.0 ∙ first.0,
-    omega (arith, first.1, next.1),
-    λ failed. omega (arith, first.1, next.2 failed),
-  )
+  pub call_so : (tells : DiskTells D) (d0 d1 d2 : D) (A B : Type 0)
+      → IsDiskCall tells A d0 d1 → IsDiskCall tells B d1 d2 → IsDiskCall tells B d0 d2
+  call_so tells d0 d1 d2 A B first next = record {
+    same = next.same ∙ first.same;
+    later = omega (arith, first.later, next.later);
+    rose = λ failed. omega (arith, first.later, next.rose failed);
+  }
 
-module _ {D : Type 0} (reads : D → Option Image) (may_leave : D → Image → Type 0)
-    (moment : D → ℕ) (left_since : D → ℕ → Image → Type 0) where
+module _ {D : Type 0} (tells : DiskTells D) where
   -- a look at the disk that was begun on writes nothing
-  module _ (first mid last : D)
-      (counts_now : (t : ℕ) (c : Image) → t ≤ moment mid → may_leave mid c → left_since mid t c)
-      (quiet : IsUntouched moment left_since may_leave reads mid last) where
-    still : (P : Image → Type 0) → LeavesOnly moment left_since first mid P
-        → LeavesOnly moment left_since first last P
+  module _ (first mid last : D) (quiet : IsUntouched tells mid last) where
+    still : (P : Image → Type 0) → LeavesOnly tells first mid P
+        → LeavesOnly tells first last P
     still P so_far =
-        then_on moment left_since may_leave first mid last P (may_leave mid) so_far quiet.any_moment
-        (now_so reads may_leave moment left_since first mid P counts_now so_far)
+        then_on tells first mid last P (tells.may_leave mid) so_far quiet.any_moment
+        (now_so tells first mid P so_far)
 
     pub leaves_still : (ks other : Keys) (mode : Mode) → ks ≡ other
-        → LeavesHistory reads may_leave moment left_since ks mode first mid
-        → LeavesHistory reads may_leave moment left_since other mode first last
+        → LeavesHistory tells ks mode first mid
+        → LeavesHistory tells other mode first last
     leaves_still ks other mode same leaves =
-        subst (λ (x : Keys). LeavesHistory reads may_leave moment left_since x mode first last) same
+        subst (λ (x : Keys). LeavesHistory tells x mode first last) same
         (λ i read only g is image. still (IsImageOf ks g) (leaves i read only g is image))
 
-    pub writes_still : WritesNoBorn reads may_leave moment left_since first mid
-        → WritesNoBorn reads may_leave moment left_since first last
-    writes_still writes = λ i read born. still (may_leave first) (writes i read born)
+    pub writes_still : WritesNoBorn tells first mid
+        → WritesNoBorn tells first last
+    writes_still writes = λ i read born. still (tells.may_leave first) (writes i read born)
 
   -- what is found of the image of a store that was begun, by what is found of its updates
   module _ (k : Masters) (mode : Mode) (first : D) (s : Opened D)
-      (found : Told (reads first) (λ i. FindsHistory reads may_leave (keys_of k) mode i s)
-      × StaysTold (reads first) (reads s.disk)) where
+      (found : Told (tells.reads first) (λ i. FindsHistory tells (keys_of k) mode i s)
+      × StaysTold (tells.reads first) (tells.reads s.disk)) where
     abbrev Owners : Result (Opened D) (BeginRefused D) → Type 0
     Owners r =
-        (g : SealedHistory) → Serves reads may_leave g s
-        → Told (reads s.disk) (λ _. IsChecked reads may_leave k g r)
+        (g : SealedHistory) → Serves tells g s
+        → Told (tells.reads s.disk) (λ _. IsChecked tells k g r)
 
-    seen : (r : Result (Opened D) (BeginRefused D)) → Owners r → (i : Image) → reads first ≡ Some i
+    seen : (r : Result (Opened D) (BeginRefused D)) → Owners r → (i : Image) → tells.reads first ≡ Some i
         → (g : SealedHistory) → g.mode ≡ mode
-        → IsImageOf (keys_of k) g i → IsChecked reads may_leave k g r
+        → IsImageOf (keys_of k) g i → IsChecked tells k g r
     seen r owners i read g is image =
         let told = found.1 i read in
         owners g ((found.0 i read).each g is image) told.0 told.1
 
-    opens_found : (t : Opened D) → Owners (Ok t) → (i : Image) → reads first ≡ Some i
-        → FindsPlain reads may_leave k mode i t
+    opens_found : (t : Opened D) → Owners (Ok t) → (i : Image) → tells.reads first ≡ Some i
+        → FindsPlain tells k mode i t
     opens_found t owners i read =
         let (g, is, image) = (found.0 i read).some in record {
           some = opens_so k mode i g is image ((found.0 i read).each g is image).catalogue.0
@@ -208,9 +206,9 @@ module _ {D : Type 0} (reads : D → Option Image) (may_leave : D → Image → 
         }
 
     plain_found : (r : Result (Opened D) (BeginRefused D)) → Owners r
-        → reads (disk_left r) ≡ reads s.disk
-        → IfOk r (λ t. Told (reads first) (λ i. FindsPlain reads may_leave k mode i t)
-        × StaysTold (reads first) (reads t.disk))
+        → tells.reads (disk_left r) ≡ tells.reads s.disk
+        → IfOk r (λ t. Told (tells.reads first) (λ i. FindsPlain tells k mode i t)
+        × StaysTold (tells.reads first) (tells.reads t.disk))
     plain_found (Ok t) owners same = (
       λ i read. opens_found t owners i read,
       λ i read. let told = found.1 i read in (told.0, same ∙ told.1),
@@ -243,7 +241,7 @@ module _ {D : Type 0} (reads : D → Option Image) (may_leave : D → Image → 
         }
 
     false_refused : (r : Result (Opened D) (BeginRefused D)) → Owners r
-        → IfErr r (λ refused. Told (reads first) (λ i. Refuses k mode i refused.fault))
+        → IfErr r (λ refused. Told (tells.reads first) (λ i. Refuses k mode i refused.fault))
     false_refused (Ok t) owners = tt
     false_refused (Err refused) owners = λ i read.
         by_fault i refused.fault (found.0 i read).some (seen (Err refused) owners i read)
@@ -251,22 +249,22 @@ module _ {D : Type 0} (reads : D → Option Image) (may_leave : D → Image → 
   -- so it is under the keys with which it was begun
   pub looked : (k : Masters) (ks : Keys) (mode : Mode) (first : D) (s : Opened D)
       → ks ≡ keys_of k → s.keys ≡ ks
-      → Told (reads first) (λ i. FindsHistory reads may_leave ks mode i s)
-      × StaysTold (reads first) (reads s.disk)
+      → Told (tells.reads first) (λ i. FindsHistory tells ks mode i s)
+      × StaysTold (tells.reads first) (tells.reads s.disk)
       → (r : Result (Opened D) (BeginRefused D))
-      → ((g : SealedHistory) → Serves reads may_leave g s → Told (reads s.disk)
-      (λ _. IsChecked reads may_leave (masters k.base s.keys.surface) g r))
-      → reads (disk_left r) ≡ reads s.disk
-      → IfOk r (λ t. Told (reads first) (λ i. FindsPlain reads may_leave k mode i t)
-      × StaysTold (reads first) (reads t.disk))
-      × IfErr r (λ refused. Told (reads first) (λ i. Refuses k mode i refused.fault))
+      → ((g : SealedHistory) → Serves tells g s → Told (tells.reads s.disk)
+      (λ _. IsChecked tells (masters k.base s.keys.surface) g r))
+      → tells.reads (disk_left r) ≡ tells.reads s.disk
+      → IfOk r (λ t. Told (tells.reads first) (λ i. FindsPlain tells k mode i t)
+      × StaysTold (tells.reads first) (tells.reads t.disk))
+      × IfErr r (λ refused. Told (tells.reads first) (λ i. Refuses k mode i refused.fault))
   looked k ks mode first s same fresh found r owners quiet =
       let under = subst
-      (λ (x : Keys). Told (reads first) (λ i. FindsHistory reads may_leave x mode i s)
-      × StaysTold (reads first) (reads s.disk)) same found in
+      (λ (x : Keys). Told (tells.reads first) (λ i. FindsHistory tells x mode i s)
+      × StaysTold (tells.reads first) (tells.reads s.disk)) same found in
       let own = subst
-      (λ (x : Keys). (g : SealedHistory) → Serves reads may_leave g s → Told (reads s.disk)
-      (λ _. IsChecked reads may_leave (masters k.base x.surface) g r)) (fresh ∙ same) owners in
+      (λ (x : Keys). (g : SealedHistory) → Serves tells g s → Told (tells.reads s.disk)
+      (λ _. IsChecked tells (masters k.base x.surface) g r)) (fresh ∙ same) owners in
       (plain_found k mode first s under r own quiet, false_refused k mode first s under r own)
 
 -- no store was begun

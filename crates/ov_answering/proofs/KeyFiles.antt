@@ -1,10 +1,11 @@
 -- What holds under the masters of a key file, by what was read of it.
-use Rattle.std.proofs.Common.{◌≡◌, ℕ, ◌≤◌, List, sym, subst, arith, Option, Some, None}
+use Rattle.std.proofs.Common.{◌≡◌, ℕ, List, sym, subst, arith, Option, Some, None}
 use Rattle.std.specs.Prelude.{IfSome}
 use Rattle.ov_base.specs.declared.mode.Mode.{Mode}
 use Rattle.ov_disk.specs.Disk.{Image}
 use Rattle.ov_disk.specs.Moments.{LeavesOnly}
 use Rattle.ov_disk.proofs.Runs.{started}
+use Rattle.ov_disk.specs.Tells.{DiskTells}
 use Rattle.ov_keyfile.specs.KeyFile.{HasMasters, IsKeyFile}
 use Rattle.ov_keyfile.proofs.Parts.{one_pair}
 use Rattle.ov_history.specs.Masters.{Masters}
@@ -64,16 +65,13 @@ image_all P None all = tt
 image_all P (Some file) all = λ k are. all k
 
 -- the key file couldn't be read, and the disk wasn't touched
-pub ends_untouched : {D : Type 0} (reads : D → Option Image) (may_leave : D → Image → Type 0)
-    (moment : D → ℕ) (left_since : D → ℕ → Image → Type 0) (k : Masters) (mode : Mode) (p : PlainHistory) (text : List ℕ) (disk : D)
-    (old new : Option (List ℕ)) (status : ℕ) → EndsIn read_line 5 old new status → OpensAs reads may_leave k mode p disk
-    → ((c : Image) → left_since disk (moment disk) c → may_leave disk c)
-    → ((t : ℕ) (c : Image) → t ≤ moment disk → may_leave disk c → left_since disk t c)
-    → EndsAs reads may_leave moment left_since k p text disk disk old new status (Unit {0})
-ends_untouched reads may_leave moment left_since k mode p text disk old new status e opens only_now counts_now =
-    let here : (c : Image) → may_leave disk c → StandsForPlain k p c = λ c left. subst (λ (x : Image). StandsForPlain k p x) (sym (opens.settled c left)) opens.stands in
-    let leaves : LeavesOnly moment left_since disk disk (StandsForPlain k p) = started moment left_since may_leave disk (StandsForPlain k p) only_now here in record {
+pub ends_untouched : {D : Type 0} (tells : DiskTells D) (k : Masters) (mode : Mode) (p : PlainHistory) (text : List ℕ) (disk : D)
+    (old new : Option (List ℕ)) (status : ℕ) → EndsIn read_line 5 old new status → OpensAs tells k mode p disk
+    → EndsAs tells k p text disk disk old new status (Unit {0})
+ends_untouched tells k mode p text disk old new status e opens =
+    let here : (c : Image) → tells.may_leave disk c → StandsForPlain k p c = λ c left. subst (λ (x : Image). StandsForPlain k p x) (sym (opens.settled c left)) opens.stands in
+    let leaves : LeavesOnly tells disk disk (StandsForPlain k p) = started tells disk (StandsForPlain k p) here in record {
       concluded = at_once p text read_line ReadFault old new status (read_printed p text) e;
-      survives = λ _. survives_alone reads may_leave moment left_since k p text _ 5 disk disk old new status e leaves counts_now;
+      survives = λ _. survives_alone tells k p text _ 5 disk disk old new status e leaves;
       lasts = λ _ zero. absurd (not_zero read_line 5 old new status e (λ z. omega arith) zero);
     }

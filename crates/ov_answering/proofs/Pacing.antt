@@ -1,13 +1,14 @@
 -- What was taken of a script is paced by what was put.
-use Rattle.std.proofs.Common.{◌≡◌, inl, ℕ, ◌+◌, ◌-◌, List, [], ◌∷◌, ◌++◌, length, refl, sym, ◌∙◌, ap, subst, append_assoc, Option, Some, None}
+use Rattle.std.proofs.Common.{MutBor, ◌≡◌, inl, ℕ, ◌+◌, ◌-◌, List, [], ◌∷◌, ◌++◌, length, refl, sym, ◌∙◌, ap, subst, append_assoc, Option, Some, None}
 use Rattle.std.specs.Prelude.{IfSome, Ok, ⊤}
 use Rattle.std.specs.Io.KnownBytes.{Appends, Consumes, prepend_known}
 use Rattle.std.proofs.KnownBytes.{Appends-trans, Appends-kept, Appends-nil}
 use Rattle.std.proofs.lemmas.List.{append_cancel_right}
 use Rattle.ov_base.specs.declared.limits.TheConstants.{MAX_SCRIPT_BYTES}
-use Rattle.ov_disk.specs.Disk.{Image}
+use Rattle.ov_disk.specs.Tells.{DiskTells}
 use Rattle.ov_io.specs.Calls.{TakesPieces, no_piece, each_gave, last_gave_none}
 use Rattle.ov_io.proofs.Pieces.{pieces_as, pieces_behind, pieces_consumed, while_as, while_behind, while_lent}
+use Rattle.ov_io.specs.Tells.{SourceTells}
 use Rattle.ov_script.specs.declared.command.Command.{Command}
 use Rattle.ov_script.specs.declared.next.Next.{Next}
 use Rattle.ov_script.specs.declared.next.Next.TheVariants.{Command as Next-Command}
@@ -95,47 +96,47 @@ awaits_on p seen old mid new a (bytes, puts) = record {
 }
 
 -- What was taken so far, in pieces that each awaited more.
-abbrev pub IsPacedSoFar : {S : Type 0} → (S → S → Type 0) → (S → Option (List ℕ)) → PlainHistory
-    → S → S → Option (List ℕ) → Option (List ℕ) → Type 0
-IsPacedSoFar takes left p old new put_old put_now =
-    (seen : List ℕ) × TakesPieces takes left (λ seen. AwaitsMore p seen put_old put_now) old new seen
+abbrev pub IsPacedSoFar : {S : Type 0} → SourceTells S → PlainHistory → S → S
+    → Option (List ℕ) → Option (List ℕ) → Type 0
+IsPacedSoFar source p old new put_old put_now =
+    (seen : List ℕ) × TakesPieces source (λ seen. AwaitsMore p seen put_old put_now) old new seen
 
-module _ {S : Type 0} (takes : S → S → Type 0) (left : S → Option (List ℕ)) (p : PlainHistory) where
+module _ {S : Type 0} (source : SourceTells S) (p : PlainHistory) where
   -- nothing was taken
-  pub untaken : (s : S) (old new : Option (List ℕ)) → IsPaced takes left p s s old new
+  pub untaken : (s : S) (old new : Option (List ℕ)) → IsPaced source p s s old new
   untaken s old new = each_gave [] (no_piece s refl) (λ none. none)
 
-  pub untouched : (input : Option (List ℕ)) (s : S) (old new : Option (List ℕ)) → IfSome input (λ _. IsPaced takes left p s s old new)
+  pub untouched : (input : Option (List ℕ)) (s : S) (old new : Option (List ℕ)) → IfSome input (λ _. IsPaced source p s s old new)
   untouched None s old new = tt
   untouched (Some text) s old new = untaken s old new
 
   -- nothing was taken yet
-  pub none_yet : (input : Option (List ℕ)) (s : S) (old new : Option (List ℕ)) → IfSome input (λ _. IsPacedSoFar takes left p s s old new)
+  pub none_yet : (input : Option (List ℕ)) (s : S) (old new : Option (List ℕ)) → IfSome input (λ _. IsPacedSoFar source p s s old new)
   none_yet None s old new = tt
   none_yet (Some text) s old new = ([], no_piece s refl)
 
   -- more was put
   pieces_on : (first last : S) (seen : List ℕ) (old mid new : Option (List ℕ)) → Grows mid new
-      → TakesPieces takes left (λ seen. AwaitsMore p seen old mid) first last seen → TakesPieces takes left (λ seen. AwaitsMore p seen old new) first last seen
+      → TakesPieces source (λ seen. AwaitsMore p seen old mid) first last seen → TakesPieces source (λ seen. AwaitsMore p seen old new) first last seen
   pieces_on first last seen old mid new grew t =
-      pieces_as takes left (λ seen. AwaitsMore p seen old mid) (λ seen. AwaitsMore p seen old new) first last seen (λ seen awaits. awaits_on p seen old mid new awaits grew) t
+      pieces_as source (λ seen. AwaitsMore p seen old mid) (λ seen. AwaitsMore p seen old new) first last seen (λ seen awaits. awaits_on p seen old mid new awaits grew) t
 
-  paced_on : (first last : S) (old mid new : Option (List ℕ)) → IsPaced takes left p first last old mid → Grows mid new → IsPaced takes left p first last old new
+  paced_on : (first last : S) (old mid new : Option (List ℕ)) → IsPaced source p first last old mid → Grows mid new → IsPaced source p first last old new
   paced_on first last old mid new (each_gave seen t ok) grew = each_gave seen (pieces_on first last seen old mid new grew t) ok
   paced_on first last old mid new (last_gave_none at seen t awaits step c end) grew =
       last_gave_none at seen (pieces_on first at seen old mid new grew t) (awaits_on p seen old mid new awaits grew) step c end
 
   pub paced_then : (input : Option (List ℕ)) (first last : S) (old mid new : Option (List ℕ))
-      → IfSome input (λ _. IsPaced takes left p first last old mid) → Grows mid new → IfSome input (λ _. IsPaced takes left p first last old new)
+      → IfSome input (λ _. IsPaced source p first last old mid) → Grows mid new → IfSome input (λ _. IsPaced source p first last old new)
   paced_then None first last old mid new paced grew = tt
   paced_then (Some text) first last old mid new paced grew = paced_on first last old mid new paced grew
 
   -- one item more was read, or not to its end, and then more was put
   module _ (first mid last : S) (pending : List ℕ) (line room : ℕ) (old now new : Option (List ℕ))
-      (so : (seen : List ℕ) → Consumes (left first) (left mid) seen → Taken p seen pending line room old now) (before : IsPacedSoFar takes left p first mid old now) (grew : Grows now new) where
+      (so : (seen : List ℕ) → Consumes (source.left first) (source.left mid) seen → Taken p seen pending line room old now) (before : IsPacedSoFar source p first mid old now) (grew : Grows now new) where
     awaited : (seen : List ℕ) → IsUnsettled room (pending ++ seen) → AwaitsMore p (before.0 ++ seen) old new
     awaited seen unsettled =
-        let a = so before.0 (pieces_consumed takes left (λ seen. AwaitsMore p seen old now) first mid before.0 before.1) in
+        let a = so before.0 (pieces_consumed source (λ seen. AwaitsMore p seen old now) first mid before.0 before.1) in
         record {
           commands = a.commands;
           line = line;
@@ -147,26 +148,25 @@ module _ {S : Type 0} (takes : S → S → Type 0) (left : S → Option (List �
           put = Appends-trans old now new (lines p a.commands) grew.0 a.put grew.1;
         }
 
-    step : (E F : Type 0) → TakesWhatItNeeds takes left room pending E F mid last → IsPaced takes left p first last old new
+    step : (E F : Type 0) → TakesWhatItNeeds source room pending E F mid last → IsPaced source p first last old new
     step E F needed =
-        while_behind takes left (λ seen. AwaitsMore p seen old new) (λ seen. IsUnsettled room (pending ++ seen)) ⊤ ⊥ first mid last before.0 awaited
+        while_behind source (λ seen. AwaitsMore p seen old new) (λ seen. IsUnsettled room (pending ++ seen)) ⊤ ⊥ first mid last before.0 awaited
         (pieces_on first mid before.0 old now new grew before.1)
-        (while_as takes left (λ seen. IsUnsettled room (pending ++ seen)) E ⊤ F ⊥ mid last (λ e. tt) (λ none. absurd none) needed)
+        (while_as source (λ seen. IsUnsettled room (pending ++ seen)) E ⊤ F ⊥ mid last (λ e. tt) (λ none. absurd none) needed)
 
     -- an item that was read ended at no take that gave nothing
-    step_on : (E F : Type 0) → (E → ⊥) → TakesWhatItNeeds takes left room pending E F mid last → IsPacedSoFar takes left p first last old new
+    step_on : (E F : Type 0) → (E → ⊥) → TakesWhatItNeeds source room pending E F mid last → IsPacedSoFar source p first last old new
     step_on E F goes (each_gave seen t ok) = (
       before.0 ++ seen,
-      pieces_behind takes left (λ seen. AwaitsMore p seen old new) (λ seen. IsUnsettled room (pending ++ seen)) first mid last before.0 seen awaited
+      pieces_behind source (λ seen. AwaitsMore p seen old new) (λ seen. IsUnsettled room (pending ++ seen)) first mid last before.0 seen awaited
           (pieces_on first mid before.0 old now new grew before.1) t,
     )
     step_on E F goes (last_gave_none at seen t unsettled step c end) = absurd (goes end)
 
-  module _ {D : Type 0} (reads : D → Option Image) (may_leave : D → Image → Type 0)
-      (moment : D → ℕ) (left_since : D → ℕ → Image → Type 0) (k : Masters) (first_kept mid_kept : KeptOn D) where
+  module _ {D : Type 0} (tells : DiskTells D) (k : Masters) (first_kept mid_kept : KeptOn D) where
     -- what was answered so far stands in what was taken
     so_taken : (front pending : List ℕ) (line room : ℕ) (a b old now : Option (List ℕ)) → front ≡ []
-        → IfSome (prepend_known front a) (λ text. SoFar reads may_leave moment left_since k p text (prepend_known pending b) line room old now first_kept mid_kept)
+        → IfSome (prepend_known front a) (λ text. SoFar tells k p text (prepend_known pending b) line room old now first_kept mid_kept)
         → IfSome (prepend_known front a) (λ _. (seen : List ℕ) → Consumes a b seen → Taken p seen pending line room old now)
     so_taken front pending line room None b old now none s = tt
     so_taken front pending line room (Some xs) None old now none s = absurd s
@@ -178,22 +178,22 @@ module _ {S : Type 0} (takes : S → S → Type 0) (left : S → Option (List �
 
     -- one call of `next`, and what was put behind it
     module _ (first mid last : S) (front pending : List ℕ) (line room : ℕ) (E F : Type 0) (old now new : Option (List ℕ)) (none : front ≡ [])
-        (s : IfSome (prepend_known front (left first)) (λ text. SoFar reads may_leave moment left_since k p text (prepend_known pending (left mid)) line room old now first_kept mid_kept))
-        (paced : IfSome (prepend_known front (left first)) (λ _. IsPacedSoFar takes left p first mid old now))
-        (needed : TakesWhatItNeeds takes left room pending E F mid last) (grew : Grows now new) where
-      pub paced_next : IfSome (prepend_known front (left first)) (λ _. IsPaced takes left p first last old new)
+        (s : IfSome (prepend_known front (source.left first)) (λ text. SoFar tells k p text (prepend_known pending (source.left mid)) line room old now first_kept mid_kept))
+        (paced : IfSome (prepend_known front (source.left first)) (λ _. IsPacedSoFar source p first mid old now))
+        (needed : TakesWhatItNeeds source room pending E F mid last) (grew : Grows now new) where
+      pub paced_next : IfSome (prepend_known front (source.left first)) (λ _. IsPaced source p first last old new)
       paced_next =
-          both (prepend_known front (left first)) (λ _. (seen : List ℕ) → Consumes (left first) (left mid) seen → Taken p seen pending line room old now)
-          (λ _. IsPacedSoFar takes left p first mid old now) (λ _. IsPaced takes left p first last old new)
+          both (prepend_known front (source.left first)) (λ _. (seen : List ℕ) → Consumes (source.left first) (source.left mid) seen → Taken p seen pending line room old now)
+          (λ _. IsPacedSoFar source p first mid old now) (λ _. IsPaced source p first last old new)
           (λ text so before. step first mid last pending line room old now new so before grew E F needed)
-          (so_taken front pending line room (left first) (left mid) old now none s) paced
+          (so_taken front pending line room (source.left first) (source.left mid) old now none s) paced
 
-      pub paced_more : (E → ⊥) → IfSome (prepend_known front (left first)) (λ _. IsPacedSoFar takes left p first last old new)
+      pub paced_more : (E → ⊥) → IfSome (prepend_known front (source.left first)) (λ _. IsPacedSoFar source p first last old new)
       paced_more goes =
-          both (prepend_known front (left first)) (λ _. (seen : List ℕ) → Consumes (left first) (left mid) seen → Taken p seen pending line room old now)
-          (λ _. IsPacedSoFar takes left p first mid old now) (λ _. IsPacedSoFar takes left p first last old new)
+          both (prepend_known front (source.left first)) (λ _. (seen : List ℕ) → Consumes (source.left first) (source.left mid) seen → Taken p seen pending line room old now)
+          (λ _. IsPacedSoFar source p first mid old now) (λ _. IsPacedSoFar source p first last old new)
           (λ text so before. step_on first mid last pending line room old now new so before grew E F goes needed)
-          (so_taken front pending line room (left first) (left mid) old now none s) paced
+          (so_taken front pending line room (source.left first) (source.left mid) old now none s) paced
 
 -- a command doesn't end the reading
 pub command_goes_on : (next : Next) (command : Command) → next ≡ Next-Command command → EndsReading (Ok next) → ⊥
@@ -205,13 +205,25 @@ none_pending {S} place is = ap (λ (p : Place S). p.pending) is
 
 -- ---- behind a loan
 
--- what is said of a source behind a loan is said of the source
-pub paced_lent : {L S : Type 0} (now : L → S) (lent : L → L → Type 0) (takes : S → S → Type 0) (left : S → Option (List ℕ)) (p : PlainHistory)
-    → ((a b : L) → lent a b → takes (now a) (now b)) → (input : Option (List ℕ)) (first last : L) (final : S) (old new : Option (List ℕ)) → now last ≡ final
-    → IfSome (prepend_known [] input) (λ _. IsPaced lent (λ l. left (now l)) p first last old new) → IfSome input (λ _. IsPaced takes left p (now first) final old new)
-paced_lent {L} {S} now lent takes left p each None first last final old new back paced = tt
-paced_lent {L} {S} now lent takes left p each (Some text) first last final old new back paced =
-    subst (λ (s : S). IsPaced takes left p (now first) s old new) back (while_lent now lent takes left (λ seen. AwaitsMore p seen old new) ⊤ ⊥ each first last paced)
+-- what a source behind a loan tells
+abbrev pub lent_source : {S : Type 0} → SourceTells S → SourceTells (MutBor S)
+lent_source source = record {
+  left = λ s. source.left s.now;
+  faults = λ s. source.faults s.now;
+  borrow = λ s. s.ghost_name;
+  takes = λ a b. (b.ghost_name ≡ a.ghost_name) × source.takes a.now b.now;
+}
+
+-- what is said of it is said of the source
+pub paced_lent : {S : Type 0} (source : SourceTells S) (p : PlainHistory) (input : Option (List ℕ))
+    (first last : MutBor S) (final : S) (old new : Option (List ℕ)) → last.now ≡ final
+    → IfSome (prepend_known [] input) (λ _. IsPaced (lent_source source) p first last old new)
+    → IfSome input (λ _. IsPaced source p first.now final old new)
+paced_lent {S} source p None first last final old new back paced = tt
+paced_lent {S} source p (Some text) first last final old new back paced =
+    subst (λ (s : S). IsPaced source p first.now s old new) back
+    (while_lent (λ (l : MutBor S). l.now) (lent_source source) source (λ seen. AwaitsMore p seen old new) ⊤ ⊥
+    (record { left = λ l. refl; takes = λ a b t. t.1 }) first last paced)
 
 -- ---- the last line
 

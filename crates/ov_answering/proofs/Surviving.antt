@@ -7,6 +7,7 @@ use Rattle.std.proofs.lemmas.List.{append-nil, length-take, take_all}
 use Rattle.ov_base.specs.declared.limits.TheConstants.{MAX_SCRIPT_BYTES}
 use Rattle.ov_disk.specs.Disk.{Image}
 use Rattle.ov_disk.proofs.Runs.{started}
+use Rattle.ov_disk.specs.Tells.{DiskTells}
 use Rattle.ov_script.specs.declared.command.Command.{Command}
 use Rattle.ov_script.specs.declared.reply.Reply.{Reply}
 use Rattle.ov_script.specs.declared.reply.Reply.TheVariants.{Accepted, Bytes, List as Listed, Epoch as EpochIs, Refused, End as EndReply}
@@ -184,12 +185,11 @@ module _ (p : PlainHistory) (text : List ℕ) (commands : List Command) (next : 
 
 -- ---- the whole
 
-module _ {D : Type 0} (reads : D → Option Image) (may_leave : D → Image → Type 0)
-    (moment : D → ℕ) (left_since : D → ℕ → Image → Type 0) (k : Masters) (p : PlainHistory) (text : List ℕ)
+module _ {D : Type 0} (tells : DiskTells D) (k : Masters) (p : PlainHistory) (text : List ℕ)
     (old mid new : Option (List ℕ)) where
-  module _ (first last : KeptOn D) (holds : Holds reads may_leave k p first.disk) where
-    survives_whole : (ending : Ending) → AnsweredAll reads may_leave moment left_since k p text ending old mid first last
-        → (rest : List ℕ) × Appends mid new rest → Survives reads may_leave moment left_since k p text first.disk last.disk old new
+  module _ (first last : KeptOn D) (holds : Holds tells k p first.disk) where
+    survives_whole : (ending : Ending) → AnsweredAll tells k p text ending old mid first last
+        → (rest : List ℕ) × Appends mid new rest → Survives tells k p text first.disk last.disk old new
     survives_whole ending a more = record {
       any_moment = (a.reaches holds).moments;
       at_exit = (
@@ -200,27 +200,27 @@ module _ {D : Type 0} (reads : D → Option Image) (may_leave : D → Image → 
       );
     }
 
-    survives_first : (error : List ℕ) → AnsweredFirst reads may_leave moment left_since k p text old mid first last
-        → (n : ℕ) × Appends mid new (take n (101 ∷ 114 ∷ error)) → Survives reads may_leave moment left_since k p text first.disk last.disk old new
+    survives_first : (error : List ℕ) → AnsweredFirst tells k p text old mid first last
+        → (n : ℕ) × Appends mid new (take n (101 ∷ 114 ∷ error)) → Survives tells k p text first.disk last.disk old new
     survives_first error a more = record {
       any_moment = (a.stopped holds).moments;
       at_exit = (a.commands, a.begins, answered_error p text a.commands old mid new a.put error more, (a.stopped holds).now);
     }
 
-    survives_part : AnsweredPart reads may_leave moment left_since k p text old mid first last → Keeps mid new
-        → Survives reads may_leave moment left_since k p text first.disk last.disk old new
+    survives_part : AnsweredPart tells k p text old mid first last → Keeps mid new
+        → Survives tells k p text first.disk last.disk old new
     survives_part a kept =
         let line = reply_line (reply_to (after_all p a.commands) a.next) in
         let puts = Appends-kept old mid new (lines p a.commands ++ take a.count line) a.put kept in
         record { any_moment = (a.reaches holds).moments; at_exit = at_exit (part_answered p text a.commands a.next old new a.begins_next a.count puts) } where
           at_exit : HasAnswered p text a.commands old new ⊎ HasAnswered p text (a.commands ++ a.next ∷ []) old new
               → (commands : List Command) × BeginsScript text commands × HasAnswered p text commands old new
-              × ((c : Image) → may_leave last.disk c → KeepsNext k p text commands c)
+              × ((c : Image) → tells.may_leave last.disk c → KeepsNext k p text commands c)
           at_exit (inl answered) = (a.commands, a.begins, answered, λ c left. inr (a.next, a.begins_next, inr ((a.reaches holds).holds.each c left)))
           at_exit (inr answered) = (a.commands ++ a.next ∷ [], a.begins_next, answered, λ c left. inl (inr ((a.reaches holds).holds.each c left)))
 
-    survives_at : (stop : Stop) (n status : ℕ) → Stops reads may_leave moment left_since k p text stop old mid first last → Finishes stop n mid new status
-        → Survives reads may_leave moment left_since k p text first.disk last.disk old new
+    survives_at : (stop : Stop) (n status : ℕ) → Stops tells k p text stop old mid first last → Finishes stop n mid new status
+        → Survives tells k p text first.disk last.disk old new
     survives_at End n status a f = survives_whole _ a (some_put _ 0 mid new status f)
     survives_at (BadLine m) n status a f = survives_whole _ a (some_put _ 3 mid new status f)
     survives_at Long n status a f = survives_whole _ a (let q = front_put long_line 11 mid new status f in (take q.0 long_line, q.1))
@@ -231,63 +231,61 @@ module _ {D : Type 0} (reads : D → Option Image) (may_leave : D → Image → 
     survives_at Write n status a f = survives_part a f.1
     survives_at (Tag bad) n status a f = absurd a
 
-    lasts_whole : ((i : Image) → reads last.disk ≡ Some i → may_leave last.disk i) → AnsweredAll reads may_leave moment left_since k p text AtEnd old mid first last
-        → Lasts reads may_leave k p text last.disk
-    lasts_whole reads_one a =
+    lasts_whole : AnsweredAll tells k p text AtEnd old mid first last
+        → Lasts tells k p text last.disk
+    lasts_whole a =
         let held = (a.reaches holds).holds in record {
           commands = a.commands;
           whole = a.read;
           image = held.told.0;
           told = held.told.1;
-          reads_it = held.each held.told.0 (reads_one held.told.0 held.told.1);
+          reads_it = held.each held.told.0 (tells.reads_one last.disk held.told.0 held.told.1);
           leaves_it = λ c left. held.each c left;
           tokens = publishes_matrix k (after_all p a.commands) a.stands.0.0;
         }
 
-    lasts_at : ((i : Image) → reads last.disk ≡ Some i → may_leave last.disk i) → (stop : Stop) (n status : ℕ)
-        → Stops reads may_leave moment left_since k p text stop old mid first last → Finishes stop n mid new status → status ≡ 0
-        → Lasts reads may_leave k p text last.disk
-    lasts_at reads_one End n status a f e = lasts_whole reads_one a
-    lasts_at reads_one (BadLine m) n status a f e = absurd (not_zero_or _ 3 mid new status f (λ z. omega arith) e)
-    lasts_at reads_one Long n status a f e = absurd (not_zero _ 11 mid new status f (λ z. omega arith) e)
-    lasts_at reads_one Read n status a f e = absurd (not_zero _ 5 mid new status f (λ z. omega arith) e)
-    lasts_at reads_one Disk n status a f e = absurd (not_zero _ 4 mid new status f (λ z. omega arith) e)
-    lasts_at reads_one Memory n status a f e = absurd (not_zero _ 7 mid new status f (λ z. omega arith) e)
-    lasts_at reads_one Write n status a f e = absurd (let six : status ≡ 6 = f.0 in omega arith)
-    lasts_at reads_one Trace n status a f e = absurd (let six : status ≡ 6 = f.0 in omega arith)
-    lasts_at reads_one (Tag bad) n status a f e = absurd a
+    lasts_at : (stop : Stop) (n status : ℕ)
+        → Stops tells k p text stop old mid first last → Finishes stop n mid new status → status ≡ 0
+        → Lasts tells k p text last.disk
+    lasts_at End n status a f e = lasts_whole a
+    lasts_at (BadLine m) n status a f e = absurd (not_zero_or _ 3 mid new status f (λ z. omega arith) e)
+    lasts_at Long n status a f e = absurd (not_zero _ 11 mid new status f (λ z. omega arith) e)
+    lasts_at Read n status a f e = absurd (not_zero _ 5 mid new status f (λ z. omega arith) e)
+    lasts_at Disk n status a f e = absurd (not_zero _ 4 mid new status f (λ z. omega arith) e)
+    lasts_at Memory n status a f e = absurd (not_zero _ 7 mid new status f (λ z. omega arith) e)
+    lasts_at Write n status a f e = absurd (let six : status ≡ 6 = f.0 in omega arith)
+    lasts_at Trace n status a f e = absurd (let six : status ≡ 6 = f.0 in omega arith)
+    lasts_at (Tag bad) n status a f e = absurd a
 
-  pub ends_at : (first last : KeptOn D) → ((i : Image) → reads last.disk ≡ Some i → may_leave last.disk i) → (stop : Stop) (n status : ℕ)
-      → Stops reads may_leave moment left_since k p text stop old mid first last → Finishes stop n mid new status → n ≡ last.kept.catalogue.epoch
-      → EndsAs reads may_leave moment left_since k p text first.disk last.disk old new status (Holds reads may_leave k p first.disk)
-  ends_at first last reads_one stop n status a f count = record {
-    concluded = concluded_at reads may_leave moment left_since k p text old mid new first last status stop n a f count;
+  pub ends_at : (first last : KeptOn D) → (stop : Stop) (n status : ℕ)
+      → Stops tells k p text stop old mid first last → Finishes stop n mid new status → n ≡ last.kept.catalogue.epoch
+      → EndsAs tells k p text first.disk last.disk old new status (Holds tells k p first.disk)
+  ends_at first last stop n status a f count = record {
+    concluded = concluded_at tells k p text old mid new first last status stop n a f count;
     survives = λ holds. survives_at first last holds stop n status a f;
-    lasts = λ holds. lasts_at first last holds reads_one stop n status a f;
+    lasts = λ holds. lasts_at first last holds stop n status a f;
   }
 
 -- nothing of the script was taken before
-pub ends_all : {D : Type 0} (reads : D → Option Image) (may_leave : D → Image → Type 0)
-    (moment : D → ℕ) (left_since : D → ℕ → Image → Type 0) (k : Masters) (p : PlainHistory) (input : Option (List ℕ))
-    (old mid new : Option (List ℕ)) (first last : KeptOn D) → ((i : Image) → reads last.disk ≡ Some i → may_leave last.disk i) → (stop : Stop) (n status : ℕ)
-    → IfSome (prepend_known [] input) (λ text. Stops reads may_leave moment left_since k p text stop old mid first last) → Finishes stop n mid new status
+pub ends_all : {D : Type 0} (tells : DiskTells D) (k : Masters) (p : PlainHistory) (input : Option (List ℕ))
+    (old mid new : Option (List ℕ)) (first last : KeptOn D) → (stop : Stop) (n status : ℕ)
+    → IfSome (prepend_known [] input) (λ text. Stops tells k p text stop old mid first last) → Finishes stop n mid new status
     → n ≡ last.kept.catalogue.epoch
-    → IfSome input (λ text. EndsAs reads may_leave moment left_since k p text first.disk last.disk old new status (Holds reads may_leave k p first.disk))
-ends_all reads may_leave moment left_since k p None old mid new first last reads_one stop n status a f count = tt
-ends_all reads may_leave moment left_since k p (Some text) old mid new first last reads_one stop n status a f count =
-    ends_at reads may_leave moment left_since k p text old mid new first last reads_one stop n status a f count
+    → IfSome input (λ text. EndsAs tells k p text first.disk last.disk old new status (Holds tells k p first.disk))
+ends_all tells k p None old mid new first last stop n status a f count = tt
+ends_all tells k p (Some text) old mid new first last stop n status a f count =
+    ends_at tells k p text old mid new first last stop n status a f count
 
 -- memory was refused at once
-pub ends_unread : {D : Type 0} (reads : D → Option Image) (may_leave : D → Image → Type 0)
-    (moment : D → ℕ) (left_since : D → ℕ → Image → Type 0) (k : Masters) (p : PlainHistory) (input : Option (List ℕ))
-    (old new : Option (List ℕ)) (first : D) (status : ℕ) → ((c : Image) → left_since first (moment first) c → may_leave first c)
+pub ends_unread : {D : Type 0} (tells : DiskTells D) (k : Masters) (p : PlainHistory) (input : Option (List ℕ))
+    (old new : Option (List ℕ)) (first : D) (status : ℕ)
     → EndsIn memory_line 7 old new status
-    → IfSome input (λ text. EndsAs reads may_leave moment left_since k p text first first old new status (Holds reads may_leave k p first))
-ends_unread reads may_leave moment left_since k p None old new first status only_now e = tt
-ends_unread reads may_leave moment left_since k p (Some text) old new first status only_now e = record {
+    → IfSome input (λ text. EndsAs tells k p text first first old new status (Holds tells k p first))
+ends_unread tells k p None old new first status e = tt
+ends_unread tells k p (Some text) old new first status e = record {
   concluded = at_once p text memory_line OutOfMemory old new status (memory_printed p text) e;
   survives = λ holds. record {
-    any_moment = started moment left_since may_leave first (KeepsFirst k p text) only_now (λ c left. ([], none_read text, inr (holds.each c left)));
+    any_moment = started tells first (KeepsFirst k p text) (λ c left. ([], none_read text, inr (holds.each c left)));
     at_exit = (
       [],
       none_read text,

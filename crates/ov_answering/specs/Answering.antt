@@ -3,8 +3,10 @@ use Rattle.std.specs.Prelude.{◌≡◌, ℕ, List, [], ◌∷◌, ◌++◌, tak
 use Rattle.std.specs.Prelude.{Option, Some, None, IfNone, false}
 use Rattle.std.specs.Io.KnownBytes.{Appends, Keeps}
 use Rattle.ov_base.specs.declared.limits.TheConstants.{MAX_SCRIPT_BYTES}
+use Rattle.ov_disk.specs.Calls.{IsDiskCall}
 use Rattle.ov_disk.specs.Disk.{Image}
 use Rattle.ov_disk.specs.Moments.{LeavesOnly}
+use Rattle.ov_disk.specs.Tells.{DiskTells}
 use Rattle.ov_script.specs.declared.command.Command.{Command}
 use Rattle.ov_script.specs.declared.reply.Reply.TheVariants.{End as EndReply}
 use Rattle.ov_script.specs.Lines.{reply_line}
@@ -16,7 +18,7 @@ use Rattle.ov_model.specs.Step.{reply_to, after_all}
 use Rattle.ov_history.specs.Masters.{Masters}
 use Rattle.ov_report.specs.Ends.{EndsIn, EndsOr}
 use Rattle.ov_report.specs.Faults.{disk_line, memory_line}
-use Rattle.ov_machine.specs.Disks.{Holds, IsDiskCall}
+use Rattle.ov_machine.specs.Disks.{Holds}
 use Rattle.ov_machine.specs.Machine.{AreOtherTags, GoesOn, Kept, KeptOn, LeavesStep, StandsFor}
 use Rattle.ov_machine.specs.declared.fault.BadTag.{BadTag}
 use Rattle.ov_machine.specs.declared.fault.StepFault.{StepFault}
@@ -79,23 +81,22 @@ stop_for (WrongTag bad) = Tag bad
 -- An answer keeps the masters and is a call on the disk, at which it stops only where that failed.
 -- Where it doesn't stop, the store hasn't failed. It stops in no read, and for a tag only where two
 -- differ.
-pub record IsAnswer {D : Type 0} (borrow faults : D → ℕ) (old new : KeptOn D)
-    (result : Option Stop) : Type 0 where
+pub record IsAnswer {D : Type 0} (tells : DiskTells D) (old new : KeptOn D) (result : Option Stop)
+    : Type 0 where
   pub masters : new.kept.masters ≡ old.kept.masters
-  pub call : IsDiskCall borrow faults (result ≡ Some Disk) old.disk new.disk
+  pub call : IsDiskCall tells (result ≡ Some Disk) old.disk new.disk
   pub sound : IfNone result (new.failed ≡ false)
   pub no_read : result ≡ Some Read → ⊥
   pub tag : (bad : BadTag) → result ≡ Some (Tag bad) → AreOtherTags bad
 
 -- The answering of a script is calls on the disk, at which it stopped only where one failed. It
 -- stopped for a tag only where two differ, and what was kept at the start stands for no history.
-pub record StopsAt {D : Type 0} (borrow faults : D → ℕ) (old new : KeptOn D) (stop : Stop)
+pub record StopsAt {D : Type 0} (tells : DiskTells D) (old new : KeptOn D) (stop : Stop)
     : Type 0 where
-  pub call : IsDiskCall borrow faults (stop ≡ Disk) old.disk new.disk
+  pub call : IsDiskCall tells (stop ≡ Disk) old.disk new.disk
   pub tag : (bad : BadTag) → stop ≡ Tag bad → FindsTag old.kept bad
 
-module _ {D : Type 0} (reads : D → Option Image) (may_leave : D → Image → Type 0)
-    (moment : D → ℕ) (left_since : D → ℕ → Image → Type 0) where
+module _ {D : Type 0} (tells : DiskTells D) where
   -- One command at a history for which what is kept stands. Its reply line was put, or a front of
   -- it, and all goes on as the history does. Or the line wasn't put, and of what a crash leaves it
   -- isn't said whether it is from before the command.
@@ -103,22 +104,19 @@ module _ {D : Type 0} (reads : D → Option Image) (may_leave : D → Image → 
       → Option (List ℕ) → Option (List ℕ) → KeptOn D → KeptOn D → Type 0
   Answers k p command None old new first last =
       Appends old new (reply_line (reply_to p command))
-      × GoesOn reads may_leave moment left_since k p command first last
+      × GoesOn tells k p command first last
   Answers k p command (Some Write) old new first last =
       ((n : ℕ) × Appends old new (take n (reply_line (reply_to p command))))
-      × GoesOn reads may_leave moment left_since k p command first last
+      × GoesOn tells k p command first last
   Answers k p command (Some Memory) old new first last =
       Keeps old new
-      × (Holds reads may_leave k p first.disk
-      → LeavesStep reads may_leave moment left_since k p command first.disk last.disk)
+      × (Holds tells k p first.disk → LeavesStep tells k p command first.disk last.disk)
   Answers k p command (Some Disk) old new first last =
       Keeps old new
-      × (Holds reads may_leave k p first.disk
-      → LeavesStep reads may_leave moment left_since k p command first.disk last.disk)
+      × (Holds tells k p first.disk → LeavesStep tells k p command first.disk last.disk)
   Answers k p command (Some Trace) old new first last =
       Keeps old new
-      × (Holds reads may_leave k p first.disk
-      → LeavesStep reads may_leave moment left_since k p command first.disk last.disk)
+      × (Holds tells k p first.disk → LeavesStep tells k p command first.disk last.disk)
   Answers k p command (Some End) old new first last = ⊥
   Answers k p command (Some (BadLine n)) old new first last = ⊥
   Answers k p command (Some Long) old new first last = ⊥
@@ -131,15 +129,15 @@ module _ {D : Type 0} (reads : D → Option Image) (may_leave : D → Image → 
   -- history q, and a crash at any moment leaves the history after some first commands.
   pub record Reaches (k : Masters) (p q : PlainHistory) (text : List ℕ) (first last : D)
       : Type 0 where
-    pub holds : Holds reads may_leave k q last
-    pub moments : LeavesOnly moment left_since first last (KeepsFirst k p text)
+    pub holds : Holds tells k q last
+    pub moments : LeavesOnly tells first last (KeepsFirst k p text)
 
   -- The same where the answering stopped behind these commands, of which the next one may have been
   -- made.
   pub record Stopped (k : Masters) (p : PlainHistory) (text : List ℕ) (commands : List Command)
       (first last : D) : Type 0 where
-    pub now : (c : Image) → may_leave last c → KeepsNext k p text commands c
-    pub moments : LeavesOnly moment left_since first last (KeepsFirst k p text)
+    pub now : (c : Image) → tells.may_leave last c → KeepsNext k p text commands c
+    pub moments : LeavesOnly tells first last (KeepsFirst k p text)
 
   -- these commands were read to this ending, and all their lines were put
   pub record AnsweredAll (k : Masters) (p : PlainHistory) (text : List ℕ) (ending : Ending)
@@ -148,7 +146,7 @@ module _ {D : Type 0} (reads : D → Option Image) (may_leave : D → Image → 
     pub read : IsScript text commands ending
     pub put : Appends old new (lines p commands)
     pub stands : StandsFor last.kept (after_all p commands)
-    pub reaches : Holds reads may_leave k p first.disk
+    pub reaches : Holds tells k p first.disk
         → Reaches k p (after_all p commands) text first.disk last.disk
 
   -- the lines of the first commands were put
@@ -157,8 +155,7 @@ module _ {D : Type 0} (reads : D → Option Image) (may_leave : D → Image → 
     pub commands : List Command
     pub begins : BeginsScript text commands
     pub put : Appends old new (lines p commands)
-    pub stopped : Holds reads may_leave k p first.disk
-        → Stopped k p text commands first.disk last.disk
+    pub stopped : Holds tells k p first.disk → Stopped k p text commands first.disk last.disk
 
   -- the lines of the first commands were put, and a front of that of the next one
   pub record AnsweredPart (k : Masters) (p : PlainHistory) (text : List ℕ)
@@ -170,7 +167,7 @@ module _ {D : Type 0} (reads : D → Option Image) (may_leave : D → Image → 
     pub count : ℕ
     pub put : Appends old new
         (lines p commands ++ take count (reply_line (reply_to (after_all p commands) next)))
-    pub reaches : Holds reads may_leave k p first.disk
+    pub reaches : Holds tells k p first.disk
         → Reaches k p (after_all p (commands ++ next ∷ [])) text first.disk last.disk
 
   -- what was put, and what is left, where the answering stopped so
@@ -193,7 +190,7 @@ module _ {D : Type 0} (reads : D → Option Image) (may_leave : D → Image → 
     pub begins : BeginsWith 1 MAX_SCRIPT_BYTES text commands line room rest
     pub put : Appends old now (lines p commands)
     pub stands : StandsFor last.kept (after_all p commands)
-    pub reaches : Holds reads may_leave k p first.disk
+    pub reaches : Holds tells k p first.disk
         → Reaches k p (after_all p commands) text first.disk last.disk
 
   -- so it is where what is left is told

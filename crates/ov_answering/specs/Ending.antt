@@ -2,8 +2,10 @@
 use Rattle.std.specs.Prelude.{◌≡◌, ◌⊎◌, ℕ, List, Option, IfSome}
 use Rattle.std.specs.Io.KnownBytes.{Appends}
 use Rattle.ov_base.specs.declared.mode.Mode.{Mode}
+use Rattle.ov_disk.specs.Calls.{IsDiskCall}
 use Rattle.ov_disk.specs.Disk.{Image}
 use Rattle.ov_disk.specs.Moments.{LeavesOnly}
+use Rattle.ov_disk.specs.Tells.{DiskTells}
 use Rattle.ov_images.specs.Images.{Opens}
 use Rattle.ov_keyfile.specs.KeyFile.{HasMasters}
 use Rattle.ov_history.specs.Masters.{Masters}
@@ -11,7 +13,6 @@ use Rattle.ov_history.specs.Plain.{PlainHistory}
 use Rattle.ov_store.specs.declared.fault.BeginFault.{BeginFault}
 use Rattle.ov_report.specs.Ends.{EndsIn, EndsOr}
 use Rattle.ov_report.specs.Faults.{fault_line, fault_status}
-use Rattle.ov_machine.specs.Disks.{IsDiskCall}
 use Rattle.ov_answering.specs.Judging.{IsRefusal}
 use Rattle.ov_answering.specs.Lasting.{Lasts, Survives}
 use Rattle.ov_answering.specs.Printing.{Outcome, status_of, Prints, PrintsFront, keys_line}
@@ -64,9 +65,9 @@ pub record FailsForFaults (status : ℕ) (disks reads writes tags : Type 0) : Ty
 -- What a run leaves of its disk, and why it ends with the status of a fault: with 4 only where the
 -- disk's count of faults rose, with 5 only where one of what is read did, with 6 only where that of
 -- the sink did, and with 12 only for a tag that is wrong.
-pub record EndsFor {D : Type 0} (borrow faults : D → ℕ) (old new : D) (status : ℕ)
+pub record EndsFor {D : Type 0} (tells : DiskTells D) (old new : D) (status : ℕ)
     (reads writes tags : Type 0) : Type 0 where
-  pub disk : IsDiskCall borrow faults (status ≡ 4) old new
+  pub disk : IsDiskCall tells (status ≡ 4) old new
   pub read : status ≡ 5 → reads
   pub write : status ≡ 6 → writes
   pub tag : status ≡ 12 → tags
@@ -89,15 +90,14 @@ pub record JudgesImage (k : Masters) (mode : Mode) (i : Image) (status : ℕ)
   pub unread : (Opens k mode i → ⊥) → script_unread
   pub unwritten : (Opens k mode i → ⊥) → nothing_written
 
-module _ {D : Type 0} (reads : D → Option Image) (may_leave : D → Image → Type 0)
-    (moment : D → ℕ) (left_since : D → ℕ → Image → Type 0) where
+module _ {D : Type 0} (tells : DiskTells D) where
   -- a crash at any moment leaves what it might have left at the start
   abbrev pub LeavesAsAtStart : D → D → Type 0
-  LeavesAsAtStart first last = LeavesOnly moment left_since first last (may_leave first)
+  LeavesAsAtStart first last = LeavesOnly tells first last (tells.may_leave first)
 
   -- how a run ends over this script, from a disk that stands for the history where this holds
   pub record EndsAs (k : Masters) (p : PlainHistory) (text : List ℕ) (first last : D)
       (old new : Option (List ℕ)) (status : ℕ) (holds : Type 0) : Type 0 where
     pub concluded : Concluded p text old new status
-    pub survives : holds → Survives reads may_leave moment left_since k p text first last old new
-    pub lasts : holds → status ≡ 0 → Lasts reads may_leave k p text last
+    pub survives : holds → Survives tells k p text first last old new
+    pub lasts : holds → status ≡ 0 → Lasts tells k p text last

@@ -3,6 +3,7 @@ use Rattle.std.specs.Prelude.{◌≡◌, ◌⊎◌, ℕ, Option, Some, None, Res
 use Rattle.ov_base.specs.declared.mode.Mode.{Mode}
 use Rattle.ov_disk.specs.Disk.{Image}
 use Rattle.ov_disk.specs.declared.area.Area.TheVariants.{Book}
+use Rattle.ov_disk.specs.Tells.{DiskTells}
 use Rattle.ov_journal.specs.declared.fault.CheckFault.{CheckFault}
 use Rattle.ov_journal.specs.declared.fault.CheckFault.TheVariants.{Disk as NoDisk}
 use Rattle.ov_journal.specs.declared.fault.CheckFault.TheVariants.{Memory as NoMemory}
@@ -47,11 +48,11 @@ pub record Refuses (k : Masters) (mode : Mode) (i : Image) (fault : BeginFault) 
 
 -- The image opens for the masters and the mode, and the store stands for each history of the mode
 -- whose sealed form the image stands for.
-pub record FindsPlain {D : Type 0} (reads : D → Option Image) (may_leave : D → Image → Type 0)
-    (k : Masters) (mode : Mode) (i : Image) (s : Opened D) : Type 0 where
+pub record FindsPlain {D : Type 0} (tells : DiskTells D) (k : Masters) (mode : Mode) (i : Image)
+    (s : Opened D) : Type 0 where
   pub some : Opens k mode i
   pub each : (p : PlainHistory) → p.mode ≡ mode → StandsForPlain k p i
-      → Serves reads may_leave (sealed k p) s
+      → Serves tells (sealed k p) s
 
 -- ---- what is found of the updates of a store
 
@@ -75,9 +76,8 @@ IsCheckFault k g Memory = ⊤
 
 -- The store that stands for this history is handed on: all updates are as their owner seals them,
 -- and it stands for it still. Or it isn't, for this reason.
-abbrev pub IsChecked : {D : Type 0} → (reads : D → Option Image)
-    → (may_leave : D → Image → Type 0) → Masters → SealedHistory
+abbrev pub IsChecked : {D : Type 0} → DiskTells D → Masters → SealedHistory
     → Result (Opened D) (BeginRefused D) → Type 0
-IsChecked reads may_leave k g (Ok s) =
-    AllAreOwners k (start_of (outer_of g)) g.updates × Serves reads may_leave g s
-IsChecked reads may_leave k g (Err refused) = IsCheckFault k g refused.fault
+IsChecked tells k g (Ok s) =
+    AllAreOwners k (start_of (outer_of g)) g.updates × Serves tells g s
+IsChecked tells k g (Err refused) = IsCheckFault k g refused.fault

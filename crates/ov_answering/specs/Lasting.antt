@@ -5,6 +5,7 @@ use Rattle.std.specs.Io.KnownBytes.{Appends}
 use Rattle.ov_base.specs.declared.mode.Mode.{Mode}
 use Rattle.ov_disk.specs.Disk.{Image, Only}
 use Rattle.ov_disk.specs.Moments.{LeavesOnly}
+use Rattle.ov_disk.specs.Tells.{DiskTells}
 use Rattle.ov_script.specs.declared.command.Command.{Command}
 use Rattle.ov_script.specs.Lines.{reply_line}
 use Rattle.ov_script.specs.Reading.{AtEnd, BeginsScript, IsScript}
@@ -69,13 +70,13 @@ pub record PublishesMatrix (k : Masters) (p : PlainHistory) : Type 0 where
 
 -- ---- disks
 
-module _ {D : Type 0} (reads : D → Option Image) (may_leave : D → Image → Type 0) where
+module _ {D : Type 0} (tells : DiskTells D) where
   -- The disk opens for the masters and the mode: it tells its bytes, nothing is pending, and the
   -- image stands for this legal history of the mode, as it is sealed under the masters.
   pub record OpensAs (k : Masters) (mode : Mode) (p : PlainHistory) (disk : D) : Type 0 where
     pub image : Image
-    pub told : reads disk ≡ Some image
-    pub settled : Only image (may_leave disk)
+    pub told : tells.reads disk ≡ Some image
+    pub settled : Only image (tells.may_leave disk)
     pub legal : IsLegal (history_of p)
     pub mode_is : p.mode ≡ mode
     pub stands : StandsForPlain k p image
@@ -87,25 +88,24 @@ module _ {D : Type 0} (reads : D → Option Image) (may_leave : D → Image → 
     pub commands : List Command
     pub whole : IsScript text commands AtEnd
     pub image : Image
-    pub told : reads disk ≡ Some image
+    pub told : tells.reads disk ≡ Some image
     pub reads_it : KeepsPlain k (after_all p commands) image
-    pub leaves_it : (c : Image) → may_leave disk c → KeepsPlain k (after_all p commands) c
+    pub leaves_it : (c : Image) → tells.may_leave disk c → KeepsPlain k (after_all p commands) c
     pub tokens : PublishesMatrix k (after_all p commands)
 
-  module _ (moment : D → ℕ) (left_since : D → ℕ → Image → Type 0) where
-    -- What a stop leaves of a script that is answered from a disk which stood for the history. At
-    -- any moment since the start each image stands for the history after some first commands; and
-    -- at the exit each has all updates whose reply line was put whole, and at most one more.
-    pub record Survives (k : Masters) (p : PlainHistory) (text : List ℕ) (first last : D)
-        (old new : Option (List ℕ)) : Type 0 where
-      pub any_moment : LeavesOnly moment left_since first last (KeepsFirst k p text)
-      pub at_exit : (commands : List Command) × BeginsScript text commands
-          × HasAnswered p text commands old new
-          × ((c : Image) → may_leave last c → KeepsNext k p text commands c)
+  -- What a stop leaves of a script that is answered from a disk which stood for the history. At
+  -- any moment since the start each image stands for the history after some first commands; and
+  -- at the exit each has all updates whose reply line was put whole, and at most one more.
+  pub record Survives (k : Masters) (p : PlainHistory) (text : List ℕ) (first last : D)
+      (old new : Option (List ℕ)) : Type 0 where
+    pub any_moment : LeavesOnly tells first last (KeepsFirst k p text)
+    pub at_exit : (commands : List Command) × BeginsScript text commands
+        × HasAnswered p text commands old new
+        × ((c : Image) → tells.may_leave last c → KeepsNext k p text commands c)
 
-    -- What the disk keeps of a script that ends with this status, from a disk which stood for the
-    -- history: whatever the status, what a stop leaves; and with 0 what lasts of all of it.
-    pub record Endures (k : Masters) (p : PlainHistory) (text : List ℕ) (status : ℕ)
-        (first last : D) (old new : Option (List ℕ)) : Type 0 where
-      pub survives : Survives k p text first last old new
-      pub lasts : status ≡ 0 → Lasts k p text last
+  -- What the disk keeps of a script that ends with this status, from a disk which stood for the
+  -- history: whatever the status, what a stop leaves; and with 0 what lasts of all of it.
+  pub record Endures (k : Masters) (p : PlainHistory) (text : List ℕ) (status : ℕ) (first last : D)
+      (old new : Option (List ℕ)) : Type 0 where
+    pub survives : Survives k p text first last old new
+    pub lasts : status ≡ 0 → Lasts k p text last

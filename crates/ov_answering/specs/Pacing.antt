@@ -3,6 +3,7 @@ use Rattle.std.specs.Prelude.{ℕ, List, ◌++◌, Option, ⊤}
 use Rattle.std.specs.Io.KnownBytes.{Appends}
 use Rattle.ov_base.specs.declared.limits.TheConstants.{MAX_SCRIPT_BYTES}
 use Rattle.ov_io.specs.Calls.{TakesWhile}
+use Rattle.ov_io.specs.Tells.{SourceTells}
 use Rattle.ov_script.specs.declared.command.Command.{Command}
 use Rattle.ov_script.specs.Reading.{BeginsWith}
 use Rattle.ov_script.specs.Taking.{IsUnsettled}
@@ -26,7 +27,7 @@ pub record AwaitsMore (p : PlainHistory) (seen : List ℕ) (old new : Option (Li
 -- only while what was taken before it awaited more, and none behind one that gave nothing. This
 -- speaks of the end alone, and orders all takes and puts, since any put may be the one that fails
 -- and ends a run.
-abbrev pub IsPaced : {S : Type 0} → (S → S → Type 0) → (S → Option (List ℕ)) → PlainHistory
-    → S → S → Option (List ℕ) → Option (List ℕ) → Type 0
-IsPaced takes left p old new put_old put_new =
-    TakesWhile takes left (λ seen. AwaitsMore p seen put_old put_new) ⊤ ⊥ old new
+abbrev pub IsPaced : {S : Type 0} → SourceTells S → PlainHistory → S → S
+    → Option (List ℕ) → Option (List ℕ) → Type 0
+IsPaced tells p old new put_old put_new =
+    TakesWhile tells (λ seen. AwaitsMore p seen put_old put_new) ⊤ ⊥ old new

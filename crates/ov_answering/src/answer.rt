@@ -43,9 +43,11 @@ pub enum Stop {
 
 // Puts a reply line, for which `buffer` is used, or says what stopped it.
 fn put_reply<O: Sink>(reply: &Reply, buffer: &mut Vec<u8>, out: &mut O) -> Option<Stop>
-    ensures put { PutsOr result (O.written out.old) (O.written out.new) (reply_line reply.now) }
-    ensures later { O.faults out.old ≤ O.faults out.new }
-    ensures write { result ≡ Some Stop.Write → Rose (O.faults out.old) (O.faults out.new) }
+    ensures put { PutsOr result
+        (O.tells.written out.old) (O.tells.written out.new) (reply_line reply.now) }
+    ensures later { O.tells.faults out.old ≤ O.tells.faults out.new }
+    ensures write { result ≡ Some Stop.Write
+        → Rose (O.tells.faults out.old) (O.tells.faults out.new) }
 {
     buffer.clear();
     match line(reply, buffer) {
@@ -81,14 +83,15 @@ fn answer<D: Disk, O: Sink, T: Sink>(
     requires healthy { machine.old.failed ≡ false }
     ensures answer { (k : Masters) (p : PlainHistory) → machine.old.kept.masters ≡ k
         → StandsFor machine.old.kept p
-        → Answers D.reads D.may_leave D.moment D.left_since k p command result
-        (O.written out.old) (O.written out.new) machine.old machine.new }
-    ensures step { IsAnswer D.borrow D.faults machine.old machine.new result }
+        → Answers D.tells k p command result
+        (O.tells.written out.old) (O.tells.written out.new) machine.old machine.new }
+    ensures step { IsAnswer D.tells machine.old machine.new result }
     ensures traced { (p : PlainHistory) → StandsFor machine.old.kept p
         → TracesLine machine.old.kept.masters p command result
-        (O.written out.old) (O.written out.new) (T.written trace.old) (T.written trace.new) }
-    ensures sinks { PutsTo O.written O.faults (result ≡ Some Stop.Write) out.old out.new
-        × PutsTo T.written T.faults (result ≡ Some Stop.Trace) trace.old trace.new }
+        (O.tells.written out.old) (O.tells.written out.new)
+        (T.tells.written trace.old) (T.tells.written trace.new) }
+    ensures sinks { PutsTo O.tells (result ≡ Some Stop.Write) out.old out.new
+        × PutsTo T.tells (result ≡ Some Stop.Trace) trace.old trace.new }
 {
     let alloc = *buffer.allocator();
     match machine.step(alloc, command, trace) {
@@ -108,16 +111,14 @@ pub fn answer_all<S: Source + Drop, O: Sink, T: Sink, D: Disk>(
     requires start { script.old ≡ start script.old.source }
     requires healthy { machine.old.failed ≡ false }
     ensures text { (p : PlainHistory) → StandsFor machine.old.kept p
-        → IfSome (text_left S.left script.old) (λ text.
-        StopsText D.reads D.may_leave D.moment D.left_since S.takes S.left
+        → IfSome (text_left S.tells script.old) (λ text. StopsText D.tells S.tells
         machine.old.kept.masters p text result machine.old machine.new
-        script.old.source script.new.source (O.written out.old) (O.written out.new)
-        (T.written trace.old) (T.written trace.new)) }
-    ensures source { IsCallOf S.borrow S.faults (result ≡ Stop.Read)
-        script.old.source script.new.source }
-    ensures machine { StopsAt D.borrow D.faults machine.old machine.new result }
-    ensures sinks { PutsTo O.written O.faults (result ≡ Stop.Write) out.old out.new
-        × PutsTo T.written T.faults (result ≡ Stop.Trace) trace.old trace.new }
+        script.old.source script.new.source (O.tells.written out.old) (O.tells.written out.new)
+        (T.tells.written trace.old) (T.tells.written trace.new)) }
+    ensures source { IsCallOf S.tells (result ≡ Stop.Read) script.old.source script.new.source }
+    ensures machine { StopsAt D.tells machine.old machine.new result }
+    ensures sinks { PutsTo O.tells (result ≡ Stop.Write) out.old out.new
+        × PutsTo T.tells (result ≡ Stop.Trace) trace.old trace.new }
 {
     let mut buffer = Vec::new(alloc);
     'items: loop {

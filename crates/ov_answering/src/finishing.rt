@@ -23,8 +23,8 @@ use std::alloc::Global;
 pub fn put_last<O: Sink>(out: &mut O, bytes: &[u8], status: Status) -> u8
     requires { status_code status ≢ WRITE_FAULT }
     ensures ends { EndsIn bytes.now (status_code status)
-        (O.written out.old) (O.written out.new) result }
-    ensures put { IsPutTo O.borrow O.faults out.old out.new result }
+        (O.tells.written out.old) (O.tells.written out.new) result }
+    ensures put { IsPutTo O.tells out.old out.new result }
 {
     ov_report::put_last(out, bytes, status.code())
 }
@@ -32,8 +32,8 @@ pub fn put_last<O: Sink>(out: &mut O, bytes: &[u8], status: Status) -> u8
 // Puts the end line, or the one that says that memory was refused for it.
 fn put_end<O: Sink>(alloc: Global, out: &mut O, epoch: u32) -> u8
     ensures ends { EndsOr (reply_line (EndReply epoch)) 0
-        (O.written out.old) (O.written out.new) result }
-    ensures put { IsPutTo O.borrow O.faults out.old out.new result }
+        (O.tells.written out.old) (O.tells.written out.new) result }
+    ensures put { IsPutTo O.tells out.old out.new result }
 {
     let mut bytes = Vec::new(alloc);
     match line(&Reply::End(epoch), &mut bytes) {
@@ -44,8 +44,9 @@ fn put_end<O: Sink>(alloc: Global, out: &mut O, epoch: u32) -> u8
 
 // Puts the line that names a bad line, or the one that says that memory was refused for it.
 fn put_bad_line<O: Sink>(alloc: Global, out: &mut O, number: u64) -> u8
-    ensures ends { EndsOr (bad_line number) 3 (O.written out.old) (O.written out.new) result }
-    ensures put { IsPutTo O.borrow O.faults out.old out.new result }
+    ensures ends { EndsOr (bad_line number) 3
+        (O.tells.written out.old) (O.tells.written out.new) result }
+    ensures put { IsPutTo O.tells out.old out.new result }
 {
     match format!(in alloc; "error line {number}\n") {
         Ok(text) => put_last(out, text.as_bytes(), Status::BadLine),
@@ -65,8 +66,9 @@ fn line_on_tag(alloc: Global, bad: &BadTag) -> Result<Vec<u8>, Memory>
 
 // Puts that line, or the one that says that memory was refused for it.
 fn put_tag<O: Sink>(alloc: Global, out: &mut O, bad: &BadTag) -> u8
-    ensures ends { EndsOr (tag_line bad.now) 12 (O.written out.old) (O.written out.new) result }
-    ensures put { IsPutTo O.borrow O.faults out.old out.new result }
+    ensures ends { EndsOr (tag_line bad.now) 12
+        (O.tells.written out.old) (O.tells.written out.new) result }
+    ensures put { IsPutTo O.tells out.old out.new result }
 {
     match line_on_tag(alloc, bad) {
         Ok(bytes) => put_last(out, &bytes, Status::WrongTag),
@@ -76,10 +78,11 @@ fn put_tag<O: Sink>(alloc: Global, out: &mut O, bad: &BadTag) -> u8
 
 /// Puts the last line, by why the answering stopped, and gives the status.
 pub fn finish<O: Sink>(alloc: Global, stop: Stop, epoch: u32, out: &mut O) -> u8
-    ensures finish { Finishes stop epoch (O.written out.old) (O.written out.new) result }
-    ensures later { O.faults out.old ≤ O.faults out.new }
+    ensures finish { Finishes stop epoch
+        (O.tells.written out.old) (O.tells.written out.new) result }
+    ensures later { O.tells.faults out.old ≤ O.tells.faults out.new }
     ensures write { result ≡ 6 → ((stop ≡ Stop.Write) ⊎ (stop ≡ Stop.Trace))
-        ⊎ Rose (O.faults out.old) (O.faults out.new) }
+        ⊎ Rose (O.tells.faults out.old) (O.tells.faults out.new) }
 {
     match stop {
         Stop::End => put_end(alloc, out, epoch),

@@ -1,12 +1,13 @@
 //! Beginning the store of a run, whose updates are all its owner's.
 ghost use Rattle.std.specs.Prelude.{◌≡◌, false, IfOk, IfErr};
-ghost use Rattle.ov_disk.specs.Disk.{Told};
+ghost use Rattle.ov_disk.specs.Calls.{IsDiskCall};
+ghost use Rattle.ov_disk.specs.Disk.{StaysTold, Told};
 ghost use Rattle.ov_disk.specs.Moments.{IsUntouched};
 ghost use Rattle.ov_history.specs.Sealed.{SealedHistory};
 ghost use Rattle.ov_images.specs.Images.{keys_of};
-ghost use Rattle.ov_store.specs.Beginning.{IsDiskCall, IsDiskFault, IsNew, LeavesHistory};
-ghost use Rattle.ov_store.specs.Beginning.{WritesNoBorn, disk_left};
-ghost use Rattle.ov_store.specs.Opened.{Serves, StaysTold};
+ghost use Rattle.ov_store.specs.Beginning.{IsDiskFault, IsNew, LeavesHistory, WritesNoBorn};
+ghost use Rattle.ov_store.specs.Beginning.{disk_left};
+ghost use Rattle.ov_store.specs.Opened.{Serves};
 ghost use Rattle.ov_store.specs.Owners.{masters as both};
 ghost use Rattle.ov_tokens.specs.Keys.{check_value_of};
 ghost use Rattle.ov_machine.specs.Machine.{plain_masters};
@@ -41,12 +42,11 @@ fn fault_found(found: Result<Option<u64>, CheckFault>) -> Option<BeginFault>
 fn checked<D: Disk>(alloc: Global, store: Store<D>, base: &Key) -> Result<Store<D>, BeginRefused<D>>
     requires { store.failed ≡ false }
     ensures same { IfOk result (λ s. s ≡ record store { disk = s.disk }) }
-    ensures owners { (g : SealedHistory) → Serves D.reads D.may_leave g store
-        → Told (D.reads store.disk) (λ _. IsChecked D.reads D.may_leave
+    ensures owners { (g : SealedHistory) → Serves D.tells g store
+        → Told (D.tells.reads store.disk) (λ _. IsChecked D.tells
         (both base.now.bytes store.keys.surface) g result) }
-    ensures untouched { IsUntouched D.moment D.left_since D.may_leave D.reads
-        store.disk (disk_left result) }
-    ensures call { IsDiskCall D.borrow D.faults store.disk (disk_left result) (IsDiskFault result) }
+    ensures untouched { IsUntouched D.tells store.disk (disk_left result) }
+    ensures call { IsDiskCall D.tells (IsDiskFault result) store.disk (disk_left result) }
 {
     let mut store = store;
     match fault_found(store.check(alloc, base)) {
@@ -75,19 +75,18 @@ pub fn begin<D: Disk>(
 ) -> Result<Store<D>, BeginRefused<D>>
     ensures new { IfOk result (IsNew (keys_of (plain_masters masters)) mode) }
     // The image opens, and the store stands for its history, which lasts.
-    ensures found { IfOk result (λ s. Told (D.reads disk) (λ i.
-        FindsPlain D.reads D.may_leave (plain_masters masters) mode i s)
-        × StaysTold (D.reads disk) (D.reads s.disk)) }
-    ensures fault { IfErr result (λ refused. Told (D.reads disk) (λ i.
+    ensures found { IfOk result (λ s. Told (D.tells.reads disk) (λ i.
+        FindsPlain D.tells (plain_masters masters) mode i s)
+        × StaysTold (D.tells.reads disk) (D.tells.reads s.disk)) }
+    ensures fault { IfErr result (λ refused. Told (D.tells.reads disk) (λ i.
         Refuses (plain_masters masters) mode i refused.fault)) }
 
     // What a crash at any moment of the call leaves, whatever is answered.
-    ensures any_moment { LeavesHistory D.reads D.may_leave D.moment D.left_since
+    ensures any_moment { LeavesHistory D.tells
         (keys_of (plain_masters masters)) mode disk (disk_left result) }
-    ensures untouched { WritesNoBorn D.reads D.may_leave D.moment D.left_since
-        disk (disk_left result) }
+    ensures untouched { WritesNoBorn D.tells disk (disk_left result) }
 
-    ensures call { IsDiskCall D.borrow D.faults disk (disk_left result) (IsDiskFault result) }
+    ensures call { IsDiskCall D.tells (IsDiskFault result) disk (disk_left result) }
 {
     let base_check = base_check_of(&masters.base);
     match Store::begin(alloc, disk, masters.surface, base_check, mode) {

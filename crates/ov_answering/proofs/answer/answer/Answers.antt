@@ -10,15 +10,15 @@ use Rattle.ov_answering.proofs.answer.answer.Goals as goal
 
 pub returns-in-Ok-clause-answer : goal.returns-in-Ok-clause-answer
 returns-in-Ok-clause-answer g c = λ k p at stands.
-    put_so g.D.Disk.reads g.D.Disk.may_leave g.D.Disk.moment g.D.Disk.left_since k p c.args.command c.args.machine.now c.step.new.self c.in-Ok.reply
+    put_so g.D.Disk.tells k p c.args.command c.args.machine.now c.step.new.self c.in-Ok.reply
     c.put_reply.result _ _ c.put_reply.ensures.put (c.in-Ok.ensures.steps k p at stands)
 
 pub returns-in-Err-clause-answer : goal.returns-in-Err-clause-answer
 returns-in-Err-clause-answer g c = λ k p at stands.
-    subst (λ (stop : Stop). Answers g.D.Disk.reads g.D.Disk.may_leave g.D.Disk.moment g.D.Disk.left_since k p c.args.command (Some stop)
-    (g.O.Sink.written c.args.out.now) (g.O.Sink.written c.args.out.now) c.args.machine.now c.step.new.self) (sym c.stop_of.ensures)
-    (unanswered_so g.D.Disk.reads g.D.Disk.may_leave g.D.Disk.moment g.D.Disk.left_since k p c.args.command c.args.machine.now c.step.new.self c.in-Err.fault
-    (g.O.Sink.written c.args.out.now) (c.in-Err.ensures.steps k p at stands))
+    subst (λ (stop : Stop). Answers g.D.Disk.tells k p c.args.command (Some stop)
+    (g.O.Sink.tells.written c.args.out.now) (g.O.Sink.tells.written c.args.out.now) c.args.machine.now c.step.new.self) (sym c.stop_of.ensures)
+    (unanswered_so g.D.Disk.tells k p c.args.command c.args.machine.now c.step.new.self c.in-Err.fault
+    (g.O.Sink.tells.written c.args.out.now) (c.in-Err.ensures.steps k p at stands))
 
 pub returns-in-Ok-clause-step : goal.returns-in-Ok-clause-step
 returns-in-Ok-clause-step g c =
@@ -28,7 +28,7 @@ returns-in-Ok-clause-step g c =
       call = record {
         same = c.step.ensures.step.call.same;
         later = c.step.ensures.step.call.later;
-        disk = λ e. absurd (never.1 e);
+        rose = λ e. absurd (never.1 e);
       };
       sound = if_none c.put_reply.result _ (c.in-Ok.ensures.step.sound ∙ c.requires.healthy);
       no_read = never.0;
@@ -41,7 +41,7 @@ returns-in-Err-clause-step g c = record {
   call = record {
     same = c.step.ensures.step.call.same;
     later = c.step.ensures.step.call.later;
-    disk = disk_so c.in-Err.fault c.stop_of.result _ c.stop_of.ensures (λ e. c.in-Err.ensures.step.call.disk (ap Err e));
+    rose = disk_so c.in-Err.fault c.stop_of.result _ c.stop_of.ensures (λ e. c.in-Err.ensures.step.call.rose (ap Err e));
   };
   sound = tt;
   no_read = never_read c.in-Err.fault c.stop_of.result c.stop_of.ensures;
@@ -83,6 +83,6 @@ returns-in-Ok-clause-traced g c = λ p stands.
 
 pub returns-in-Err-clause-traced : goal.returns-in-Err-clause-traced
 returns-in-Err-clause-traced g c = λ p stands.
-    subst (λ (stop : Stop). TracesLine c.args.machine.now.kept.masters p c.args.command (Some stop) (g.O.Sink.written c.args.out.now) (g.O.Sink.written c.args.out.now)
-    (g.T.Sink.written c.args.trace.now) (g.T.Sink.written c.step.new.trace)) (sym c.stop_of.ensures)
+    subst (λ (stop : Stop). TracesLine c.args.machine.now.kept.masters p c.args.command (Some stop) (g.O.Sink.tells.written c.args.out.now) (g.O.Sink.tells.written c.args.out.now)
+    (g.T.Sink.tells.written c.args.trace.now) (g.T.Sink.tells.written c.step.new.trace)) (sym c.stop_of.ensures)
     (fault_traced c.args.machine.now.kept.masters p c.args.command _ c.in-Err.fault _ _ _ (c.in-Err.ensures.traced p stands))

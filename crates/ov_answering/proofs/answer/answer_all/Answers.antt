@@ -12,9 +12,9 @@ use Rattle.ov_answering.proofs.answer.answer_all.Goals as goal
 pub items-init : goal.items-init
 items-init g c = record {
   so_far = λ p stands.
-      begins_so g.D.Disk.reads g.D.Disk.may_leave g.D.Disk.moment g.D.Disk.left_since c.args.machine.now.kept.masters p c.args.machine.now stands
-      (g.met.D.Disk.only_now c.args.machine.now.disk) _ _ _ _ (starts_fresh _ c.requires.start).0 (starts_fresh _ c.requires.start).1;
-  paced = λ p stands. none_yet g.S.Source.takes g.S.Source.left p _ _ _ _;
+      begins_so g.D.Disk.tells c.args.machine.now.kept.masters p c.args.machine.now stands
+      _ _ _ _ (starts_fresh _ c.requires.start).0 (starts_fresh _ c.requires.start).1;
+  paced = λ p stands. none_yet g.S.Source.tells p _ _ _ _;
   kept = λ p stands. (p, stands);
   masters = grind (arith, common_steps);
   healthy = c.requires.healthy;
@@ -35,10 +35,10 @@ answer-requires-clause-command g c = commands_come _ c.in-Ok-Command.command c.i
 
 pub returns-in-Some-clause-text : goal.returns-in-Some-clause-text
 returns-in-Some-clause-text g c = λ p stands.
-    text_stops g.D.Disk.reads g.D.Disk.may_leave g.D.Disk.moment g.D.Disk.left_since g.S.Source.takes g.S.Source.left _ p _ _ _ _ _ _ _ _ _ _
-    (answer_stops g.D.Disk.reads g.D.Disk.may_leave g.D.Disk.moment g.D.Disk.left_since _ p _ _ c.items.invariant.masters _ _ _ _ _ _ _ _ _ _ _ _ _
+    text_stops g.D.Disk.tells g.S.Source.tells _ p _ _ _ _ _ _ _ _ _ _
+    (answer_stops g.D.Disk.tells _ p _ _ c.items.invariant.masters _ _ _ _ _ _ _ _ _ _ _ _ _
     (c.items.invariant.so_far p stands) (rw c.in-Ok-Command.field-0-is at (c.in-Ok-Command.ensures.says c.items.invariant.ended)) c.in-Some.ensures.answer)
-    (paced_next g.S.Source.takes g.S.Source.left p g.D.Disk.reads g.D.Disk.may_leave g.D.Disk.moment g.D.Disk.left_since _ _ _ _ _ _ _ _ _ _ _ _ _ _ _
+    (paced_next g.S.Source.tells p g.D.Disk.tells _ _ _ _ _ _ _ _ _ _ _ _ _ _ _
     (none_pending _ c.requires.start) (c.items.invariant.so_far p stands) (c.items.invariant.paced p stands) c.in-Ok-Command.ensures.needed c.in-Some.ensures.sinks.0.grew)
     (traced_stops _ p _ c.items.invariant.masters _ _ _ _ _ _ c.answer.new.machine.kept _ _ _ _ _ _ _ _ _
     (c.items.invariant.traced p stands) (rw c.in-Ok-Command.field-0-is at (c.in-Ok-Command.ensures.says c.items.invariant.ended)) c.in-Some.ensures.traced)
@@ -46,14 +46,14 @@ returns-in-Some-clause-text g c = λ p stands.
 pub items-preserved : goal.items-preserved
 items-preserved g c = record {
   so_far = λ p stands.
-      answered_more g.D.Disk.reads g.D.Disk.may_leave g.D.Disk.moment g.D.Disk.left_since _ p _ _ c.items.invariant.masters _ _ _ _ _ _ _ _ _ _ _ _
+      answered_more g.D.Disk.tells _ p _ _ c.items.invariant.masters _ _ _ _ _ _ _ _ _ _ _ _
       (c.items.invariant.so_far p stands) (rw c.in-Ok-Command.field-0-is at (c.in-Ok-Command.ensures.says c.items.invariant.ended)) c.in-None.ensures.answer;
   paced = λ p stands.
-      paced_more g.S.Source.takes g.S.Source.left p g.D.Disk.reads g.D.Disk.may_leave g.D.Disk.moment g.D.Disk.left_since _ _ _ _ _ _ _ _ _ _ _ _ _ _ _
+      paced_more g.S.Source.tells p g.D.Disk.tells _ _ _ _ _ _ _ _ _ _ _ _ _ _ _
       (none_pending _ c.requires.start) (c.items.invariant.so_far p stands) (c.items.invariant.paced p stands) c.in-Ok-Command.ensures.needed c.in-None.ensures.sinks.0.grew
       (command_goes_on _ c.in-Ok-Command.command c.in-Ok-Command.field-0-is);
   kept = λ p stands.
-      kept_more g.D.Disk.reads g.D.Disk.may_leave g.D.Disk.moment g.D.Disk.left_since _ _ _ _ _
+      kept_more g.D.Disk.tells _ _ _ _ _
       c.in-None.ensures.answer (c.items.invariant.kept p stands);
   masters = c.in-None.ensures.step.masters ∙ c.items.invariant.masters;
   healthy = c.in-None.ensures.step.sound;
@@ -74,39 +74,39 @@ items-preserved g c = record {
 
 pub returns-in-Ok-BadLine-clause-text : goal.returns-in-Ok-BadLine-clause-text
 returns-in-Ok-BadLine-clause-text g c = λ p stands.
-    text_stops g.D.Disk.reads g.D.Disk.may_leave g.D.Disk.moment g.D.Disk.left_since g.S.Source.takes g.S.Source.left _ p _ _ _ _ _ _ _ _ _ _
-    (answered g.D.Disk.reads g.D.Disk.may_leave g.D.Disk.moment g.D.Disk.left_since _ p _ _ c.items.invariant.masters _ _ _ _ _ _ (BadAt c.in-Ok-BadLine.line)
+    text_stops g.D.Disk.tells g.S.Source.tells _ p _ _ _ _ _ _ _ _ _ _
+    (answered g.D.Disk.tells _ p _ _ c.items.invariant.masters _ _ _ _ _ _ (BadAt c.in-Ok-BadLine.line)
     (c.items.invariant.so_far p stands) (rw c.in-Ok-BadLine.field-0-is at (c.in-Ok-BadLine.ensures.says c.items.invariant.ended)))
-    (paced_next g.S.Source.takes g.S.Source.left p g.D.Disk.reads g.D.Disk.may_leave g.D.Disk.moment g.D.Disk.left_since _ _ _ _ _ _ _ _ _ _ _ _ _ _ _
+    (paced_next g.S.Source.tells p g.D.Disk.tells _ _ _ _ _ _ _ _ _ _ _ _ _ _ _
     (none_pending _ c.requires.start) (c.items.invariant.so_far p stands) (c.items.invariant.paced p stands) c.in-Ok-BadLine.ensures.needed ([], Appends-nil _))
     (traced_whole _ p _ c.items.invariant.masters _ _ _ _ _ _ _ _ (BadAt c.in-Ok-BadLine.line) (λ commands. refl)
     (c.items.invariant.traced p stands) (rw c.in-Ok-BadLine.field-0-is at (c.in-Ok-BadLine.ensures.says c.items.invariant.ended)))
 
 pub returns-in-Ok-Long-clause-text : goal.returns-in-Ok-Long-clause-text
 returns-in-Ok-Long-clause-text g c = λ p stands.
-    text_stops g.D.Disk.reads g.D.Disk.may_leave g.D.Disk.moment g.D.Disk.left_since g.S.Source.takes g.S.Source.left _ p _ _ _ _ _ _ _ _ _ _
-    (answered g.D.Disk.reads g.D.Disk.may_leave g.D.Disk.moment g.D.Disk.left_since _ p _ _ c.items.invariant.masters _ _ _ _ _ _ TooLong
+    text_stops g.D.Disk.tells g.S.Source.tells _ p _ _ _ _ _ _ _ _ _ _
+    (answered g.D.Disk.tells _ p _ _ c.items.invariant.masters _ _ _ _ _ _ TooLong
     (c.items.invariant.so_far p stands) (rw c.in-Ok-Long.field-0-is at (c.in-Ok-Long.ensures.says c.items.invariant.ended)))
-    (paced_next g.S.Source.takes g.S.Source.left p g.D.Disk.reads g.D.Disk.may_leave g.D.Disk.moment g.D.Disk.left_since _ _ _ _ _ _ _ _ _ _ _ _ _ _ _
+    (paced_next g.S.Source.tells p g.D.Disk.tells _ _ _ _ _ _ _ _ _ _ _ _ _ _ _
     (none_pending _ c.requires.start) (c.items.invariant.so_far p stands) (c.items.invariant.paced p stands) c.in-Ok-Long.ensures.needed ([], Appends-nil _))
     (traced_whole _ p _ c.items.invariant.masters _ _ _ _ _ _ _ _ TooLong (λ commands. refl)
     (c.items.invariant.traced p stands) (rw c.in-Ok-Long.field-0-is at (c.in-Ok-Long.ensures.says c.items.invariant.ended)))
 
 pub returns-in-Err-Read-clause-text : goal.returns-in-Err-Read-clause-text
 returns-in-Err-Read-clause-text g c = λ p stands.
-    text_stops g.D.Disk.reads g.D.Disk.may_leave g.D.Disk.moment g.D.Disk.left_since g.S.Source.takes g.S.Source.left _ p _ _ _ _ _ _ _ _ _ _
-    (answered_first g.D.Disk.reads g.D.Disk.may_leave g.D.Disk.moment g.D.Disk.left_since _ p _ _ c.items.invariant.masters _ _ _ _ _ _
+    text_stops g.D.Disk.tells g.S.Source.tells _ p _ _ _ _ _ _ _ _ _ _
+    (answered_first g.D.Disk.tells _ p _ _ c.items.invariant.masters _ _ _ _ _ _
     (c.items.invariant.so_far p stands))
-    (paced_next g.S.Source.takes g.S.Source.left p g.D.Disk.reads g.D.Disk.may_leave g.D.Disk.moment g.D.Disk.left_since _ _ _ _ _ _ _ _ _ _ _ _ _ _ _
+    (paced_next g.S.Source.tells p g.D.Disk.tells _ _ _ _ _ _ _ _ _ _ _ _ _ _ _
     (none_pending _ c.requires.start) (c.items.invariant.so_far p stands) (c.items.invariant.paced p stands) c.in-Err-Read.ensures.needed ([], Appends-nil _))
     (traced_first _ p _ c.items.invariant.masters _ _ _ _ _ _ _ _ (c.items.invariant.traced p stands))
 
 pub returns-in-Err-Memory-clause-text : goal.returns-in-Err-Memory-clause-text
 returns-in-Err-Memory-clause-text g c = λ p stands.
-    text_stops g.D.Disk.reads g.D.Disk.may_leave g.D.Disk.moment g.D.Disk.left_since g.S.Source.takes g.S.Source.left _ p _ _ _ _ _ _ _ _ _ _
-    (answered_first g.D.Disk.reads g.D.Disk.may_leave g.D.Disk.moment g.D.Disk.left_since _ p _ _ c.items.invariant.masters _ _ _ _ _ _
+    text_stops g.D.Disk.tells g.S.Source.tells _ p _ _ _ _ _ _ _ _ _ _
+    (answered_first g.D.Disk.tells _ p _ _ c.items.invariant.masters _ _ _ _ _ _
     (c.items.invariant.so_far p stands))
-    (paced_next g.S.Source.takes g.S.Source.left p g.D.Disk.reads g.D.Disk.may_leave g.D.Disk.moment g.D.Disk.left_since _ _ _ _ _ _ _ _ _ _ _ _ _ _ _
+    (paced_next g.S.Source.tells p g.D.Disk.tells _ _ _ _ _ _ _ _ _ _ _ _ _ _ _
     (none_pending _ c.requires.start) (c.items.invariant.so_far p stands) (c.items.invariant.paced p stands) c.in-Err-Memory.ensures.needed ([], Appends-nil _))
     (traced_first _ p _ c.items.invariant.masters _ _ _ _ _ _ _ _ (c.items.invariant.traced p stands))
 
@@ -115,12 +115,12 @@ returns-in-Some-clause-machine g c = record {
   call = record {
     same = c.in-Some.ensures.step.call.same ∙ c.items.invariant.same_disk;
     later = omega (arith, c.items.invariant.disk_later, c.in-Some.ensures.step.call.later);
-    disk = λ e. rose_since _ _ _ c.items.invariant.disk_later (c.in-Some.ensures.step.call.disk (ap Some e));
+    rose = λ e. rose_since _ _ _ c.items.invariant.disk_later (c.in-Some.ensures.step.call.rose (ap Some e));
   };
   tag = λ bad e. (
     c.in-Some.ensures.step.tag bad (ap Some e),
     λ p stands.
-        tag_at_none g.D.Disk.reads g.D.Disk.may_leave g.D.Disk.moment g.D.Disk.left_since _ _ _ _ _
+        tag_at_none g.D.Disk.tells _ _ _ _ _
         c.in-Some.stop bad e c.in-Some.ensures.answer (c.items.invariant.kept p stands),
   );
 }
@@ -128,22 +128,22 @@ returns-in-Some-clause-machine g c = record {
 pub returns-in-Ok-BadLine-clause-machine : goal.returns-in-Ok-BadLine-clause-machine
 returns-in-Ok-BadLine-clause-machine g c =
     let inv = c.items.invariant in
-    record { call = record { same = inv.same_disk; later = inv.disk_later; disk = λ e. absurd (cc) }; tag = λ bad e. absurd (cc) }
+    record { call = record { same = inv.same_disk; later = inv.disk_later; rose = λ e. absurd (cc) }; tag = λ bad e. absurd (cc) }
 
 pub returns-in-Ok-Long-clause-machine : goal.returns-in-Ok-Long-clause-machine
 returns-in-Ok-Long-clause-machine g c =
     let inv = c.items.invariant in
-    record { call = record { same = inv.same_disk; later = inv.disk_later; disk = λ e. absurd (cc) }; tag = λ bad e. absurd (cc) }
+    record { call = record { same = inv.same_disk; later = inv.disk_later; rose = λ e. absurd (cc) }; tag = λ bad e. absurd (cc) }
 
 pub returns-in-Err-Read-clause-machine : goal.returns-in-Err-Read-clause-machine
 returns-in-Err-Read-clause-machine g c =
     let inv = c.items.invariant in
-    record { call = record { same = inv.same_disk; later = inv.disk_later; disk = λ e. absurd (cc) }; tag = λ bad e. absurd (cc) }
+    record { call = record { same = inv.same_disk; later = inv.disk_later; rose = λ e. absurd (cc) }; tag = λ bad e. absurd (cc) }
 
 pub returns-in-Err-Memory-clause-machine : goal.returns-in-Err-Memory-clause-machine
 returns-in-Err-Memory-clause-machine g c =
     let inv = c.items.invariant in
-    record { call = record { same = inv.same_disk; later = inv.disk_later; disk = λ e. absurd (cc) }; tag = λ bad e. absurd (cc) }
+    record { call = record { same = inv.same_disk; later = inv.disk_later; rose = λ e. absurd (cc) }; tag = λ bad e. absurd (cc) }
 
 pub returns-in-Some-clause-sinks : goal.returns-in-Some-clause-sinks
 returns-in-Some-clause-sinks g c =
@@ -195,20 +195,20 @@ step-requires-clause-command g c = tt
 
 pub returns-in-Ok-clause-text : goal.returns-in-Ok-clause-text
 returns-in-Ok-clause-text g c = λ p stands.
-    text_stops g.D.Disk.reads g.D.Disk.may_leave g.D.Disk.moment g.D.Disk.left_since g.S.Source.takes g.S.Source.left _ p _ _ _ _ _ _ _ _ _ _
-    (answered_end g.D.Disk.reads g.D.Disk.may_leave g.D.Disk.moment g.D.Disk.left_since _ p _ _ c.items.invariant.masters _ _ _ _ _ _ _ _
+    text_stops g.D.Disk.tells g.S.Source.tells _ p _ _ _ _ _ _ _ _ _ _
+    (answered_end g.D.Disk.tells _ p _ _ c.items.invariant.masters _ _ _ _ _ _ _ _
     (c.items.invariant.so_far p stands) (rw c.in-Ok-End.field-0-is at (c.in-Ok-End.ensures.says c.items.invariant.ended)) c.in-Ok.ensures.steps)
-    (paced_next g.S.Source.takes g.S.Source.left p g.D.Disk.reads g.D.Disk.may_leave g.D.Disk.moment g.D.Disk.left_since _ _ _ _ _ _ _ _ _ _ _ _ _ _ _
+    (paced_next g.S.Source.tells p g.D.Disk.tells _ _ _ _ _ _ _ _ _ _ _ _ _ _ _
     (none_pending _ c.requires.start) (c.items.invariant.so_far p stands) (c.items.invariant.paced p stands) c.in-Ok-End.ensures.needed ([], Appends-nil _))
     (traced_end _ p _ c.items.invariant.masters _ _ _ _ _ _ _ _ _
     (c.items.invariant.traced p stands) (rw c.in-Ok-End.field-0-is at (c.in-Ok-End.ensures.says c.items.invariant.ended)) c.in-Ok.ensures.traced)
 
 pub returns-in-Err-clause-text : goal.returns-in-Err-clause-text
 returns-in-Err-clause-text g c = λ p stands.
-    text_stops g.D.Disk.reads g.D.Disk.may_leave g.D.Disk.moment g.D.Disk.left_since g.S.Source.takes g.S.Source.left _ p _ _ _ _ _ _ _ _ _ _
-    (end_stops g.D.Disk.reads g.D.Disk.may_leave g.D.Disk.moment g.D.Disk.left_since _ p _ _ c.items.invariant.masters _ _ _ _ _ _ _ _ _ c.stop_of.ensures
+    text_stops g.D.Disk.tells g.S.Source.tells _ p _ _ _ _ _ _ _ _ _ _
+    (end_stops g.D.Disk.tells _ p _ _ c.items.invariant.masters _ _ _ _ _ _ _ _ _ c.stop_of.ensures
     (c.items.invariant.so_far p stands) c.in-Err.ensures.steps)
-    (paced_next g.S.Source.takes g.S.Source.left p g.D.Disk.reads g.D.Disk.may_leave g.D.Disk.moment g.D.Disk.left_since _ _ _ _ _ _ _ _ _ _ _ _ _ _ _
+    (paced_next g.S.Source.tells p g.D.Disk.tells _ _ _ _ _ _ _ _ _ _ _ _ _ _ _
     (none_pending _ c.requires.start) (c.items.invariant.so_far p stands) (c.items.invariant.paced p stands) c.in-Ok-End.ensures.needed ([], Appends-nil _))
     (traced_end_stops _ p _ c.items.invariant.masters _ _ _ _ _ _ _ _ _ _ c.stop_of.ensures _
     (c.items.invariant.traced p stands) (rw c.in-Ok-End.field-0-is at (c.in-Ok-End.ensures.says c.items.invariant.ended)) _ c.in-Err.ensures.traced)
@@ -218,7 +218,7 @@ returns-in-Ok-clause-machine g c =
     let inv = c.items.invariant in
     let call = c.in-Ok.ensures.step.call in
     record {
-      call = record { same = call.same ∙ inv.same_disk; later = omega (arith, inv.disk_later, call.later); disk = λ e. absurd (cc) };
+      call = record { same = call.same ∙ inv.same_disk; later = omega (arith, inv.disk_later, call.later); rose = λ e. absurd (cc) };
       tag = λ bad e. absurd (cc);
     }
 
@@ -230,12 +230,12 @@ returns-in-Err-clause-machine g c =
       call = record {
         same = call.same ∙ inv.same_disk;
         later = omega (arith, inv.disk_later, call.later);
-        disk = λ e. rose_since _ _ _ inv.disk_later (call.disk (ap Err (disk_only c.in-Err.fault (sym c.stop_of.ensures ∙ e))));
+        rose = λ e. rose_since _ _ _ inv.disk_later (call.rose (ap Err (disk_only c.in-Err.fault (sym c.stop_of.ensures ∙ e))));
       };
       tag = λ bad e.
           let is = tag_only c.in-Err.fault bad (sym c.stop_of.ensures ∙ e) in (
             c.in-Err.ensures.step.tag bad (ap Err is),
-            λ p stands. end_tag g.D.Disk.reads g.D.Disk.may_leave g.D.Disk.moment g.D.Disk.left_since c.items.machine c.step.new.self c.in-Err.fault bad is c.in-Err.ensures.steps (inv.kept p stands),
+            λ p stands. end_tag g.D.Disk.tells c.items.machine c.step.new.self c.in-Err.fault bad is c.in-Err.ensures.steps (inv.kept p stands),
           );
     }
 

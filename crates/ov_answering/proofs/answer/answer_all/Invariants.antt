@@ -11,27 +11,27 @@ use Rattle.ov_answering.proofs.answer.answer_all.Given as goal
 
 abbrev pub invariant-items : goal.invariant-items
 invariant-items g l = record {
-  so_far : (p : PlainHistory) → StandsFor l.fn.machine.kept p → IfSome (text_left g.S.Source.left l.fn.script) (λ text.
-      SoFar g.D.Disk.reads g.D.Disk.may_leave g.D.Disk.moment g.D.Disk.left_since l.fn.machine.kept.masters p text
-      (text_left g.S.Source.left l.script) l.script.line l.script.room (g.O.Sink.written l.fn.out) (g.O.Sink.written l.out) l.fn.machine l.machine);
-  paced : (p : PlainHistory) → StandsFor l.fn.machine.kept p → IfSome (text_left g.S.Source.left l.fn.script) (λ _.
-      IsPacedSoFar g.S.Source.takes g.S.Source.left p l.fn.script.source l.script.source (g.O.Sink.written l.fn.out) (g.O.Sink.written l.out));
+  so_far : (p : PlainHistory) → StandsFor l.fn.machine.kept p → IfSome (text_left g.S.Source.tells l.fn.script) (λ text.
+      SoFar g.D.Disk.tells l.fn.machine.kept.masters p text
+      (text_left g.S.Source.tells l.script) l.script.line l.script.room (g.O.Sink.tells.written l.fn.out) (g.O.Sink.tells.written l.out) l.fn.machine l.machine);
+  paced : (p : PlainHistory) → StandsFor l.fn.machine.kept p → IfSome (text_left g.S.Source.tells l.fn.script) (λ _.
+      IsPacedSoFar g.S.Source.tells p l.fn.script.source l.script.source (g.O.Sink.tells.written l.fn.out) (g.O.Sink.tells.written l.out));
   kept : (p : PlainHistory) → StandsFor l.fn.machine.kept p
       → (q : PlainHistory) × StandsFor l.machine.kept q;
   masters : l.machine.kept.masters ≡ l.fn.machine.kept.masters;
   healthy : l.machine.failed ≡ false;
-  grew : Grows (g.O.Sink.written l.fn.out) (g.O.Sink.written l.out);
+  grew : Grows (g.O.Sink.tells.written l.fn.out) (g.O.Sink.tells.written l.out);
   ended : l.script.ended ≡ None;
-  same : g.S.Source.borrow l.script.source ≡ g.S.Source.borrow l.fn.script.source;
-  read_later : g.S.Source.faults l.fn.script.source ≤ g.S.Source.faults l.script.source;
-  same_disk : g.D.Disk.borrow l.machine.disk ≡ g.D.Disk.borrow l.fn.machine.disk;
-  disk_later : g.D.Disk.faults l.fn.machine.disk ≤ g.D.Disk.faults l.machine.disk;
-  write_later : g.O.Sink.faults l.fn.out ≤ g.O.Sink.faults l.out;
-  traced : (p : PlainHistory) → StandsFor l.fn.machine.kept p → IfSome (text_left g.S.Source.left l.fn.script) (λ text.
-      TracesSoFar l.fn.machine.kept.masters p text (text_left g.S.Source.left l.script) l.script.line l.script.room l.machine.kept
-      (g.O.Sink.written l.fn.out) (g.O.Sink.written l.out) (g.T.Sink.written l.fn.trace) (g.T.Sink.written l.trace));
-  trace_grew : Grows (g.T.Sink.written l.fn.trace) (g.T.Sink.written l.trace);
-  trace_later : g.T.Sink.faults l.fn.trace ≤ g.T.Sink.faults l.trace;
+  same : g.S.Source.tells.borrow l.script.source ≡ g.S.Source.tells.borrow l.fn.script.source;
+  read_later : g.S.Source.tells.faults l.fn.script.source ≤ g.S.Source.tells.faults l.script.source;
+  same_disk : g.D.Disk.tells.borrow l.machine.disk ≡ g.D.Disk.tells.borrow l.fn.machine.disk;
+  disk_later : g.D.Disk.tells.faults l.fn.machine.disk ≤ g.D.Disk.tells.faults l.machine.disk;
+  write_later : g.O.Sink.tells.faults l.fn.out ≤ g.O.Sink.tells.faults l.out;
+  traced : (p : PlainHistory) → StandsFor l.fn.machine.kept p → IfSome (text_left g.S.Source.tells l.fn.script) (λ text.
+      TracesSoFar l.fn.machine.kept.masters p text (text_left g.S.Source.tells l.script) l.script.line l.script.room l.machine.kept
+      (g.O.Sink.tells.written l.fn.out) (g.O.Sink.tells.written l.out) (g.T.Sink.tells.written l.fn.trace) (g.T.Sink.tells.written l.trace));
+  trace_grew : Grows (g.T.Sink.tells.written l.fn.trace) (g.T.Sink.tells.written l.trace);
+  trace_later : g.T.Sink.tells.faults l.fn.trace ≤ g.T.Sink.tells.faults l.trace;
 }
 
 abbrev pub decreases-items : goal.decreases-items

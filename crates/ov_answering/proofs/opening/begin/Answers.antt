@@ -15,8 +15,7 @@ returns-in-Ok-clause-new g c =
 
 pub returns-in-Ok-clause-found : goal.returns-in-Ok-clause-found
 returns-in-Ok-clause-found g c =
-    (looked g.D.Disk.reads g.D.Disk.may_leave g.D.Disk.moment g.D.Disk.left_since
-    (plain_masters c.args.masters)
+    (looked g.D.Disk.tells (plain_masters c.args.masters)
     (keys c.base_check_of-base_check.result c.args.masters.surface.bytes) c.args.mode c.args.disk
     c.in-Ok.store (ap (λ b. keys b c.args.masters.surface.bytes) c.base_check_of-base_check.ensures)
     c.in-Ok.ensures.begun.new.0 (c.in-Ok.ensures.begun.found, c.in-Ok.ensures.begun.told)
@@ -25,8 +24,7 @@ returns-in-Ok-clause-found g c =
 
 pub returns-in-Ok-clause-fault : goal.returns-in-Ok-clause-fault
 returns-in-Ok-clause-fault g c =
-    (looked g.D.Disk.reads g.D.Disk.may_leave g.D.Disk.moment g.D.Disk.left_since
-    (plain_masters c.args.masters)
+    (looked g.D.Disk.tells (plain_masters c.args.masters)
     (keys c.base_check_of-base_check.result c.args.masters.surface.bytes) c.args.mode c.args.disk
     c.in-Ok.store (ap (λ b. keys b c.args.masters.surface.bytes) c.base_check_of-base_check.ensures)
     c.in-Ok.ensures.begun.new.0 (c.in-Ok.ensures.begun.found, c.in-Ok.ensures.begun.told)
@@ -35,9 +33,7 @@ returns-in-Ok-clause-fault g c =
 
 pub returns-in-Ok-clause-any_moment : goal.returns-in-Ok-clause-any_moment
 returns-in-Ok-clause-any_moment g c =
-    leaves_still g.D.Disk.reads g.D.Disk.may_leave g.D.Disk.moment g.D.Disk.left_since
-    c.args.disk c.in-Ok.store.disk _
-    (g.met.D.Disk.counts_now c.in-Ok.store.disk) c.checked.ensures.untouched
+    leaves_still g.D.Disk.tells c.args.disk c.in-Ok.store.disk _ c.checked.ensures.untouched
     (keys c.base_check_of-base_check.result c.args.masters.surface.bytes)
     (keys_of (plain_masters c.args.masters)) c.args.mode
     (ap (λ b. keys b c.args.masters.surface.bytes) c.base_check_of-base_check.ensures)
@@ -45,14 +41,12 @@ returns-in-Ok-clause-any_moment g c =
 
 pub returns-in-Ok-clause-untouched : goal.returns-in-Ok-clause-untouched
 returns-in-Ok-clause-untouched g c =
-    writes_still g.D.Disk.reads g.D.Disk.may_leave g.D.Disk.moment g.D.Disk.left_since
-    c.args.disk c.in-Ok.store.disk _
-    (g.met.D.Disk.counts_now c.in-Ok.store.disk) c.checked.ensures.untouched
+    writes_still g.D.Disk.tells c.args.disk c.in-Ok.store.disk _ c.checked.ensures.untouched
     c.in-Ok.ensures.untouched
 
 pub returns-in-Ok-clause-call : goal.returns-in-Ok-clause-call
 returns-in-Ok-clause-call g c =
-    call_so g.D.Disk.borrow g.D.Disk.faults c.args.disk c.in-Ok.store.disk _ _ _
+    call_so g.D.Disk.tells c.args.disk c.in-Ok.store.disk _ _ _
     c.in-Ok.ensures.call c.checked.ensures.call
 
 pub returns-in-Err-clause-fault : goal.returns-in-Err-clause-fault
@@ -66,7 +60,6 @@ returns-in-Err-clause-fault g c = λ i read.
 pub returns-in-Err-clause-any_moment : goal.returns-in-Err-clause-any_moment
 returns-in-Err-clause-any_moment g c =
     subst
-    (λ (x : Keys). LeavesHistory g.D.Disk.reads g.D.Disk.may_leave g.D.Disk.moment
-    g.D.Disk.left_since x c.args.mode c.args.disk c.in-Err.refused.disk)
+    (λ (x : Keys). LeavesHistory g.D.Disk.tells x c.args.mode c.args.disk c.in-Err.refused.disk)
     (ap (λ b. keys b c.args.masters.surface.bytes) c.base_check_of-base_check.ensures)
     c.in-Err.ensures.any_moment
