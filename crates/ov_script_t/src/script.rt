@@ -210,17 +210,21 @@ fn bodies_of_many_sizes(rt: HostRuntime) -> Result<(), Fail> {
     Ok(())
 }
 
-// The longest body, and a line that asks for a longer one.
-fn with_longest(alloc: Global) -> Result<Vec<u8>, Fail> {
-    let mut text = b"enrol a\ncreate f a 1048576\n".to_vec(alloc)?;
-    text.extend_from_slice(&vec![in alloc; b'x'; MAX_FILE_BYTES as usize]?)?;
-    text.extend_from_slice(b"\ncreate g a 1048577\n")?;
-    Ok(text)
+// A body of so many bytes between these texts.
+fn with_last(alloc: Global, before: &[u8], size: usize, behind: &[u8]) -> Result<Vec<u8>, Fail> {
+    let mut text = vec![in alloc; b'x'; size]?;
+    text.extend_from_slice(behind)?;
+    let mut all = before.to_vec(alloc)?;
+    all.extend_from_slice(&text)?;
+    Ok(all)
 }
 
 #[test]
 fn the_longest_body(rt: HostRuntime) -> Result<(), Fail> {
-    let mut script = script_of(rt.alloc(), &with_longest(rt.alloc())?, 65_536)?;
+    let before = b"enrol a\ncreate f a 1048576\n";
+    let behind = b"\ncreate g a 1048577\n";
+    let text = with_last(rt.alloc(), before, MAX_FILE_BYTES as usize, behind)?;
+    let mut script = script_of(rt.alloc(), &text, 65_536)?;
     match script.next() {
         Ok(Next::Command(Command::Enrol { .. })) => {}
         _ => return Err(Fail::from("no enrol")),
@@ -264,6 +268,12 @@ fn name(text: &[u8]) -> Result<Name, Fail> {
     Ok(Name::read(text).ok_or("a name")?)
 }
 
+/// Appends the line of a reply. Without a clause no proof reads it byte by byte.
+fn put_line(reply: &Reply, out: &mut Vec<u8>) -> Result<(), Fail> {
+    line(reply, out)?;
+    Ok(())
+}
+
 /// The line of the list of file `f1` with these names.
 fn put_list(texts: &[&[u8]], out: &mut Vec<u8>) -> Result<(), Fail> {
     let mut names = Names::new(*out.allocator());
@@ -271,8 +281,7 @@ fn put_list(texts: &[&[u8]], out: &mut Vec<u8>) -> Result<(), Fail> {
         names.insert(name(text)?)?;
     }
     let file = name(b"f1")?;
-    line(&Reply::List { file, names }, out)?;
-    Ok(())
+    put_line(&Reply::List { file, names }, out)
 }
 
 /// The line of what alice reads of file `f1`.
@@ -282,8 +291,7 @@ fn put_data(bytes: &[u8], out: &mut Vec<u8>) -> Result<(), Fail> {
         file: name(b"f1")?,
         bytes: Octets::copy(*out.allocator(), bytes)?,
     };
-    line(&data, out)?;
-    Ok(())
+    put_line(&data, out)
 }
 
 const LINES: &[u8] =
@@ -293,14 +301,14 @@ const LINES: &[u8] =
 #[test]
 fn reply_lines(rt: HostRuntime) -> Result<(), Fail> {
     let mut out = Vec::new(rt.alloc());
-    line(&Reply::Accepted(4_294_967_295), &mut out)?;
+    put_line(&Reply::Accepted(4_294_967_295), &mut out)?;
     put_data(b"he\nlo", &mut out)?;
     put_list(&[], &mut out)?;
     put_list(&[b"b"], &mut out)?;
     put_list(&[b"b", b"a1", b"c"], &mut out)?;
-    line(&Reply::Epoch(2), &mut out)?;
-    line(&Reply::Refused(Refusal::NoPath), &mut out)?;
-    line(&Reply::End(3), &mut out)?;
+    put_line(&Reply::Epoch(2), &mut out)?;
+    put_line(&Reply::Refused(Refusal::NoPath), &mut out)?;
+    put_line(&Reply::End(3), &mut out)?;
     assert_eq!(rt; out.as_slice(), LINES);
     Ok(())
 }
