@@ -3,6 +3,7 @@ use Rattle.std.specs.Prelude.{◌≡◌, ℕ, List, Option, IfSome, String}
 use Rattle.std.specs.declared.alloc.Global.{Global}
 use Rattle.ov_base.specs.declared.mode.Mode.{Mode}
 use Rattle.ov_disk.specs.Disk.{Image, Told}
+use Rattle.ov_disk.specs.Tells.{DiskTells}
 use Rattle.ov_script.specs.Reading.{AtEnd, BadAt, TooLong}
 use Rattle.ov_history.specs.Masters.{Masters}
 use Rattle.ov_history.specs.Plain.{PlainHistory}
@@ -36,12 +37,11 @@ pub record IsDecided (text : List ℕ) (status : ℕ) (keys input out disk : Typ
 
 -- This holds in the mode of the words, under the masters of the key file, for the script and for
 -- each history as which the disk opens for them.
-abbrev pub FromEach : {D : Type 0} → (reads : D → Option Image) → (may_leave : D → Image → Type 0)
-    → D → List (String Global) → Option (List ℕ) → Option (List ℕ)
-    → (Masters → PlainHistory → List ℕ → Type 0) → Type 0
-FromEach reads may_leave disk words keys input P =
+abbrev pub FromEach : {D : Type 0} → DiskTells D → D → List (String Global)
+    → Option (List ℕ) → Option (List ℕ) → (Masters → PlainHistory → List ℕ → Type 0) → Type 0
+FromEach tells disk words keys input P =
     (mode : Mode) → IsRun mode words → IfSome keys (λ file. IfSome input (λ text.
-    (k : Masters) (p : PlainHistory) → AreMasters file k → OpensAs reads may_leave k mode p disk
+    (k : Masters) (p : PlainHistory) → AreMasters file k → OpensAs tells k mode p disk
     → P k p text))
 
 -- this holds in the mode of the words, under the masters of the key file, for the image that the

@@ -50,16 +50,17 @@ fn answer_script<I: Source, O: Sink, T: Sink, D: Disk>(
 ) -> u8
     requires healthy { machine.old.failed ≡ false }
     ensures text { let k = machine.old.kept.masters in
-        (p : PlainHistory) → StandsFor machine.old.kept p → IfSome (I.left input.old) (λ text.
-        AnswersText D.reads D.may_leave D.moment D.left_since I.takes I.left k p text result
+        (p : PlainHistory) → StandsFor machine.old.kept p → IfSome (I.tells.left input.old) (λ text.
+        AnswersText D.tells I.tells k p text result
         machine.old.disk machine.new.disk input.old input.new
-        (O.written out.old) (O.written out.new) (T.written trace.old) (T.written trace.new)
-        (Holds D.reads D.may_leave k p machine.old.disk)) }
-    ensures causes { EndsFor D.borrow D.faults machine.old.disk machine.new.disk result
-        (Rose (I.faults input.old) (I.faults input.new))
-        (Rose (O.faults out.old) (O.faults out.new)
-        ⊎ Rose (T.faults trace.old) (T.faults trace.new))
-        (SaysTag (O.written out.old) (O.written out.new)
+        (O.tells.written out.old) (O.tells.written out.new)
+        (T.tells.written trace.old) (T.tells.written trace.new)
+        (Holds D.tells k p machine.old.disk)) }
+    ensures causes { EndsFor D.tells machine.old.disk machine.new.disk result
+        (Rose (I.tells.faults input.old) (I.tells.faults input.new))
+        (Rose (O.tells.faults out.old) (O.tells.faults out.new)
+        ⊎ Rose (T.tells.faults trace.old) (T.tells.faults trace.new))
+        (SaysTag (O.tells.written out.old) (O.tells.written out.new)
         × ((p : PlainHistory) → StandsFor machine.old.kept p → ⊥)) }
     ensures status { IsScriptStatus result }
 {
@@ -86,21 +87,21 @@ fn answer_over<I: Source, O: Sink, T: Sink, D: Disk + Drop>(
     trace: &mut T,
 ) -> (u8, D)
     ensures text { let k = plain_masters masters in
-        (p : PlainHistory) → OpensAs D.reads D.may_leave k mode p disk
-        → IfSome (I.left input.old) (λ text.
-        AnswersText D.reads D.may_leave D.moment D.left_since I.takes I.left k p text result.0
-        disk result.1 input.old input.new (O.written out.old) (O.written out.new)
-        (T.written trace.old) (T.written trace.new) (Unit {0})) }
+        (p : PlainHistory) → OpensAs D.tells k mode p disk
+        → IfSome (I.tells.left input.old) (λ text. AnswersText D.tells I.tells k p text result.0
+        disk result.1 input.old input.new (O.tells.written out.old) (O.tells.written out.new)
+        (T.tells.written trace.old) (T.tells.written trace.new) (Unit {0})) }
     ensures image { let k = plain_masters masters in
-        Told (D.reads disk) (λ i. JudgesImage k mode i result.0
-        (O.written out.old) (O.written out.new)
+        Told (D.tells.reads disk) (λ i. JudgesImage k mode i result.0
+        (O.tells.written out.old) (O.tells.written out.new)
         ((input.new ≡ input.old) × (trace.new ≡ trace.old))
-        (LeavesAsAtStart D.reads D.may_leave D.moment D.left_since disk result.1)) }
-    ensures causes { EndsFor D.borrow D.faults disk result.1 result.0
-        (Rose (I.faults input.old) (I.faults input.new))
-        (Rose (O.faults out.old) (O.faults out.new)
-        ⊎ Rose (T.faults trace.old) (T.faults trace.new))
-        (SaysTag (O.written out.old) (O.written out.new) × TellsNothing (D.reads disk)) }
+        (LeavesAsAtStart D.tells disk result.1)) }
+    ensures causes { EndsFor D.tells disk result.1 result.0
+        (Rose (I.tells.faults input.old) (I.tells.faults input.new))
+        (Rose (O.tells.faults out.old) (O.tells.faults out.new)
+        ⊎ Rose (T.tells.faults trace.old) (T.tells.faults trace.new))
+        (SaysTag (O.tells.written out.old) (O.tells.written out.new)
+        × TellsNothing (D.tells.reads disk)) }
     ensures status { IsStoreStatus result.0 }
 {
     match begin(alloc, disk, masters, mode) {
@@ -123,26 +124,27 @@ fn answer_with_keys<K: Source, I: Source, O: Sink, T: Sink, D: Disk + Drop>(
     out: &mut O,
     trace: &mut T,
 ) -> (u8, D)
-    ensures text { IfSome (K.left keys.old) (λ file. IfSome (I.left input.old) (λ text.
+    ensures text { IfSome (K.tells.left keys.old) (λ file. IfSome (I.tells.left input.old) (λ text.
         (k : PlainMasters) (p : PlainHistory) → AreMasters file k
-        → OpensAs D.reads D.may_leave k mode p disk
-        → AnswersText D.reads D.may_leave D.moment D.left_since I.takes I.left k p text result.0
-        disk result.1 input.old input.new (O.written out.old) (O.written out.new)
-        (T.written trace.old) (T.written trace.new) (Unit {0}))) }
-    ensures image { IfSome (K.left keys.old) (λ file. (k : PlainMasters) → AreMasters file k
-        → Told (D.reads disk) (λ i. JudgesImage k mode i result.0
-        (O.written out.old) (O.written out.new)
+        → OpensAs D.tells k mode p disk
+        → AnswersText D.tells I.tells k p text result.0
+        disk result.1 input.old input.new (O.tells.written out.old) (O.tells.written out.new)
+        (T.tells.written trace.old) (T.tells.written trace.new) (Unit {0}))) }
+    ensures image { IfSome (K.tells.left keys.old) (λ file. (k : PlainMasters) → AreMasters file k
+        → Told (D.tells.reads disk) (λ i. JudgesImage k mode i result.0
+        (O.tells.written out.old) (O.tells.written out.new)
         ((input.new ≡ input.old) × (trace.new ≡ trace.old))
-        (LeavesAsAtStart D.reads D.may_leave D.moment D.left_since disk result.1))) }
-    ensures keys { JudgesKeys (Unit {0}) (K.left keys.old) result.0
-        (O.written out.old) (O.written out.new)
+        (LeavesAsAtStart D.tells disk result.1))) }
+    ensures keys { JudgesKeys (Unit {0}) (K.tells.left keys.old) result.0
+        (O.tells.written out.old) (O.tells.written out.new)
         ((input.new ≡ input.old) × (trace.new ≡ trace.old) × (result.1 ≡ disk)) }
-    ensures causes { EndsFor D.borrow D.faults disk result.1 result.0
-        (Rose (K.faults keys.old) (K.faults keys.new)
-        ⊎ Rose (I.faults input.old) (I.faults input.new))
-        (Rose (O.faults out.old) (O.faults out.new)
-        ⊎ Rose (T.faults trace.old) (T.faults trace.new))
-        (SaysTag (O.written out.old) (O.written out.new) × TellsNothing (D.reads disk)) }
+    ensures causes { EndsFor D.tells disk result.1 result.0
+        (Rose (K.tells.faults keys.old) (K.tells.faults keys.new)
+        ⊎ Rose (I.tells.faults input.old) (I.tells.faults input.new))
+        (Rose (O.tells.faults out.old) (O.tells.faults out.new)
+        ⊎ Rose (T.tells.faults trace.old) (T.tells.faults trace.new))
+        (SaysTag (O.tells.written out.old) (O.tells.written out.new)
+        × TellsNothing (D.tells.reads disk)) }
     ensures status { IsKeysStatus result.0 }
 {
     match read_masters(keys) {
@@ -181,31 +183,38 @@ pub fn run<K: Source, I: Source, O: Sink, T: Sink, D: Disk>(
     trace: &mut T,
     disk: &mut D,
 ) -> u8
-    ensures opened { FromEach D.reads D.may_leave disk.old
-        words.now (K.left keys.old) (I.left input.old) (λ k p text. RunsWell
-        (PrintsAs p text result (O.written out.old) (O.written out.new))
-        (IsDecided text result (Rose (K.faults keys.old) (K.faults keys.new))
-        (Rose (I.faults input.old) (I.faults input.new))
-        (OneRose (O.faults out.old) (O.faults out.new) (T.faults trace.old) (T.faults trace.new))
-        (Rose (D.faults disk.old) (D.faults disk.new)))
-        (IsPaced I.takes I.left p input.old input.new (O.written out.old) (O.written out.new))
-        (TracesAs k p text result (O.written out.old) (O.written out.new) (T.written trace.old)
-        (T.written trace.new)) (Endures D.reads D.may_leave D.moment D.left_since k p text result
-        disk.old disk.new (O.written out.old) (O.written out.new))) }
-    ensures image { ForImage (D.reads disk.old) words.now (K.left keys.old) (λ k mode i.
-        JudgesImage k mode i result (O.written out.old) (O.written out.new)
+    ensures opened { FromEach D.tells disk.old words.now
+        (K.tells.left keys.old) (I.tells.left input.old) (λ k p text. RunsWell
+        (PrintsAs p text result (O.tells.written out.old) (O.tells.written out.new))
+        (IsDecided text result (Rose (K.tells.faults keys.old) (K.tells.faults keys.new))
+        (Rose (I.tells.faults input.old) (I.tells.faults input.new))
+        (OneRose (O.tells.faults out.old) (O.tells.faults out.new)
+        (T.tells.faults trace.old) (T.tells.faults trace.new))
+        (Rose (D.tells.faults disk.old) (D.tells.faults disk.new)))
+        (IsPaced I.tells p input.old input.new (O.tells.written out.old) (O.tells.written out.new))
+        (TracesAs k p text result (O.tells.written out.old) (O.tells.written out.new)
+        (T.tells.written trace.old) (T.tells.written trace.new))
+        (Endures D.tells k p text result disk.old disk.new
+        (O.tells.written out.old) (O.tells.written out.new))) }
+    ensures image { ForImage (D.tells.reads disk.old) words.now (K.tells.left keys.old) (λ k mode i.
+        JudgesImage k mode i result (O.tells.written out.old) (O.tells.written out.new)
         ((input.new ≡ input.old) × (trace.new ≡ trace.old))
-        (LeavesAsAtStart D.reads D.may_leave D.moment D.left_since disk.old disk.new)) }
-    ensures keys { JudgesKeys ((mode : Mode) × IsRun mode words.now) (K.left keys.old) result
-        (O.written out.old) (O.written out.new)
+        (LeavesAsAtStart D.tells disk.old disk.new)) }
+    ensures keys { JudgesKeys ((mode : Mode) × IsRun mode words.now) (K.tells.left keys.old) result
+        (O.tells.written out.old) (O.tells.written out.new)
         ((input.new ≡ input.old) × (trace.new ≡ trace.old) × (disk.new ≡ disk.old)) }
-    ensures words { RefusesWords (AreOther words.now) result (O.written out.old) (O.written out.new)
+    ensures words { RefusesWords (AreOther words.now) result
+        (O.tells.written out.old) (O.tells.written out.new)
         ((keys.new ≡ keys.old) × (input.new ≡ input.old) × (trace.new ≡ trace.old)
         × (disk.new ≡ disk.old)) }
-    ensures causes { FailsForFaults result (Rose (D.faults disk.old) (D.faults disk.new))
-        (OneRose (K.faults keys.old) (K.faults keys.new) (I.faults input.old) (I.faults input.new))
-        (OneRose (O.faults out.old) (O.faults out.new) (T.faults trace.old) (T.faults trace.new))
-        (SaysTag (O.written out.old) (O.written out.new) × TellsNothing (D.reads disk.old)) }
+    ensures causes { FailsForFaults result
+        (Rose (D.tells.faults disk.old) (D.tells.faults disk.new))
+        (OneRose (K.tells.faults keys.old) (K.tells.faults keys.new)
+        (I.tells.faults input.old) (I.tells.faults input.new))
+        (OneRose (O.tells.faults out.old) (O.tells.faults out.new)
+        (T.tells.faults trace.old) (T.tells.faults trace.new))
+        (SaysTag (O.tells.written out.old) (O.tells.written out.new)
+        × TellsNothing (D.tells.reads disk.old)) }
 {
     match mode_of(words) {
         Some(mode) => answer_with_keys(alloc, mode, keys, disk, input, out, trace).0,

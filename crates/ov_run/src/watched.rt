@@ -65,13 +65,12 @@ impl<S: Source> Tried<S> {
 }
 
 impl<S: Source> Source for Tried<S> {
-    ghost left = { λ s. S.left s.source };
-
-    ghost faults = { λ s. S.faults s.source };
-
-    ghost borrow = { λ s. S.borrow s.source };
-
-    ghost takes = { λ a b. S.takes a.source b.source };
+    ghost tells = { record {
+      left = λ s. S.tells.left s.source;
+      faults = λ s. S.tells.faults s.source;
+      borrow = λ s. S.tells.borrow s.source;
+      takes = λ a b. S.tells.takes a.source b.source;
+    } };
 
     fn take(&mut self, buf: &mut [u8]) -> Result<usize, Fault> {
         let taken = self.source.take(buf);

@@ -22,43 +22,40 @@ returns-in-Err-clause-status g c =
 
 pub returns-in-Ok-clause-text : goal.returns-in-Ok-clause-text
 returns-in-Ok-clause-text g c = λ p opens.
-    let stands = over_stands g.D.Disk.reads g.D.Disk.may_leave g.D.Disk.moment g.D.Disk.left_since
+    let stands = over_stands g.D.Disk.tells
     (plain_masters c.args.masters) c.args.mode p c.args.disk opens
     c.of-machine.result c.in-Ok.store c.of-machine.ensures.store c.of-machine.ensures.masters
     c.in-Ok.ensures.new c.in-Ok.ensures.found in
-    text_answers g.D.Disk.reads g.D.Disk.may_leave g.D.Disk.moment g.D.Disk.left_since g.I.Source.takes g.I.Source.left (plain_masters c.args.masters) p (g.I.Source.left c.args.input.now) _ _ _ _ _ _ _ _ _ _
-    (over_begun g.D.Disk.reads g.D.Disk.may_leave g.D.Disk.moment g.D.Disk.left_since
-    (plain_masters c.args.masters) c.args.mode p c.args.disk opens
-    (g.I.Source.left c.args.input.now) _ _ _
+    text_answers g.D.Disk.tells g.I.Source.tells (plain_masters c.args.masters) p (g.I.Source.tells.left c.args.input.now) _ _ _ _ _ _ _ _ _ _
+    (over_begun g.D.Disk.tells (plain_masters c.args.masters) c.args.mode p c.args.disk opens
+    (g.I.Source.tells.left c.args.input.now) _ _ _
     c.of-machine.result c.in-Ok.store c.of-machine.ensures.store c.of-machine.ensures.masters
     c.in-Ok.ensures.new c.in-Ok.ensures.found c.in-Ok.ensures.any_moment
     c.into_disk.result
-    (λ q stands. subst (λ (last : g.row.D.Denot). IfSome (g.I.Source.left c.args.input.now)
-    (λ text. EndsAs g.D.Disk.reads g.D.Disk.may_leave g.D.Disk.moment g.D.Disk.left_since
+    (λ q stands. subst (λ (last : g.row.D.Denot). IfSome (g.I.Source.tells.left c.args.input.now)
+    (λ text. EndsAs g.D.Disk.tells
     c.of-machine.result.kept.masters q text c.of-machine.result.disk last
-    (g.O.Sink.written c.args.out.now) (g.O.Sink.written c.answer_script-code.new.out)
-    c.answer_script-code.result (Holds g.D.Disk.reads g.D.Disk.may_leave
+    (g.O.Sink.tells.written c.args.out.now) (g.O.Sink.tells.written c.answer_script-code.new.out)
+    c.answer_script-code.result (Holds g.D.Disk.tells
     c.of-machine.result.kept.masters q c.of-machine.result.disk)))
-    (sym c.into_disk.ensures) (ends_of_run g.D.Disk.reads g.D.Disk.may_leave g.D.Disk.moment g.D.Disk.left_since g.I.Source.takes g.I.Source.left _ q _ _ _ _ _ _ _ _ _ _ _ (c.answer_script-code.ensures.text q stands))))
-    (pace_of_run g.D.Disk.reads g.D.Disk.may_leave g.D.Disk.moment g.D.Disk.left_since g.I.Source.takes g.I.Source.left _ p _ _ _ _ _ _ _ _ _ _ _
+    (sym c.into_disk.ensures) (ends_of_run g.D.Disk.tells g.I.Source.tells _ q _ _ _ _ _ _ _ _ _ _ _ (c.answer_script-code.ensures.text q stands))))
+    (pace_of_run g.D.Disk.tells g.I.Source.tells _ p _ _ _ _ _ _ _ _ _ _ _
     (c.answer_script-code.ensures.text p stands))
-    (subst (λ (k : Masters). IfSome (g.I.Source.left c.args.input.now) (λ text. TracesAs k p text c.answer_script-code.result
-    (g.O.Sink.written c.args.out.now) (g.O.Sink.written c.answer_script-code.new.out)
-    (g.T.Sink.written c.args.trace.now) (g.T.Sink.written c.answer_script-code.new.trace))) c.of-machine.ensures.masters
-    (trace_of_run g.D.Disk.reads g.D.Disk.may_leave g.D.Disk.moment g.D.Disk.left_since g.I.Source.takes g.I.Source.left _ p _ _ _ _ _ _ _ _ _ _ _
+    (subst (λ (k : Masters). IfSome (g.I.Source.tells.left c.args.input.now) (λ text. TracesAs k p text c.answer_script-code.result
+    (g.O.Sink.tells.written c.args.out.now) (g.O.Sink.tells.written c.answer_script-code.new.out)
+    (g.T.Sink.tells.written c.args.trace.now) (g.T.Sink.tells.written c.answer_script-code.new.trace))) c.of-machine.ensures.masters
+    (trace_of_run g.D.Disk.tells g.I.Source.tells _ p _ _ _ _ _ _ _ _ _ _ _
     (c.answer_script-code.ensures.text p stands)))
 
 pub returns-in-Err-clause-text : goal.returns-in-Err-clause-text
 returns-in-Err-clause-text g c = λ p opens.
-    text_answers g.D.Disk.reads g.D.Disk.may_leave g.D.Disk.moment g.D.Disk.left_since g.I.Source.takes g.I.Source.left (plain_masters c.args.masters) p (g.I.Source.left c.args.input.now) _ _ _ _ _ _ _ _ _ _
-    (over_refused g.D.Disk.reads g.D.Disk.may_leave g.D.Disk.moment g.D.Disk.left_since
-    (plain_masters c.args.masters) c.args.mode p c.args.disk opens
-    (g.I.Source.left c.args.input.now) _ _ _
+    text_answers g.D.Disk.tells g.I.Source.tells (plain_masters c.args.masters) p (g.I.Source.tells.left c.args.input.now) _ _ _ _ _ _ _ _ _ _
+    (over_refused g.D.Disk.tells (plain_masters c.args.masters) c.args.mode p c.args.disk opens
+    (g.I.Source.tells.left c.args.input.now) _ _ _
     c.in-Err.refused.disk c.in-Err.refused.fault c.in-Err.ensures.fault c.put_fault.ensures.ends
-    c.in-Err.ensures.any_moment
-    (g.met.D.Disk.counts_now c.in-Err.refused.disk))
-    (untouched g.I.Source.takes g.I.Source.left p _ _ _ _)
-    (untraced_fault (plain_masters c.args.masters) p (g.I.Source.left c.args.input.now) _ _ _ _
+    c.in-Err.ensures.any_moment)
+    (untouched g.I.Source.tells p _ _ _ _)
+    (untraced_fault (plain_masters c.args.masters) p (g.I.Source.tells.left c.args.input.now) _ _ _ _
     (ends_in_fault c.in-Err.refused.fault _ _ _
     ((c.in-Err.ensures.fault opens.image opens.told).opens (p, opens.legal, opens.mode_is, opens.stands))
     c.put_fault.ensures.ends))
@@ -84,14 +81,14 @@ returns-in-Ok-clause-causes g c =
       disk = record {
         same = grind (arith, common_steps);
         later = grind (arith, common_steps);
-        disk = λ e. let rose = answered.disk e in grind (arith, common_steps);
+        rose = λ e. let rose = answered.rose e in grind (arith, common_steps);
       };
       read = causes.read;
       write = causes.write;
       tag = λ e.
           let wrong = causes.tag e in (
             wrong.0,
-            tells_nothing g.D.Disk.reads g.D.Disk.may_leave g.D.Disk.moment g.D.Disk.left_since
+            tells_nothing g.D.Disk.tells
                 (plain_masters c.args.masters) c.args.mode c.args.disk c.of-machine.result c.in-Ok.store
                 c.of-machine.ensures.store c.of-machine.ensures.masters c.in-Ok.ensures.new.1
                 c.in-Ok.ensures.found.0 wrong.1,
@@ -103,9 +100,9 @@ returns-in-Err-clause-causes g c =
     let ends = c.put_fault.ensures.ends in
     record {
       disk = record {
-        same = c.in-Err.ensures.call.0;
-        later = c.in-Err.ensures.call.1;
-        disk = λ e. c.in-Err.ensures.call.2 (disk_said c.in-Err.refused.fault _ _ _ _ ends e);
+        same = c.in-Err.ensures.call.same;
+        later = c.in-Err.ensures.call.later;
+        rose = λ e. c.in-Err.ensures.call.rose (disk_said c.in-Err.refused.fault _ _ _ _ ends e);
       };
       read = λ e. absurd (fault_no_read c.in-Err.refused.fault _ _ _ _ ends e);
       write = λ e. inl (c.put_fault.ensures.put.write e);

@@ -1,4 +1,4 @@
-use Rattle.std.proofs.Common.{MutBor, ℕ, arith, inl, refl, rules}
+use Rattle.std.proofs.Common.{ℕ, arith, inl, refl, rules}
 use Rattle.ov_history.specs.Plain.{PlainHistory}
 use Rattle.ov_machine.specs.Machine.{StandsFor}
 use Rattle.ov_answering.specs.Printing.{IsScriptStatus}
@@ -12,21 +12,21 @@ use Rattle.ov_run.proofs.running.answer_script.Goals as goal
 
 pub returns-clause-text : goal.returns-clause-text
 returns-clause-text g c = λ p stands.
-    text_answers g.D.Disk.reads g.D.Disk.may_leave g.D.Disk.moment g.D.Disk.left_since g.I.Source.takes g.I.Source.left _ p (g.I.Source.left c.args.input.now) _ _ _ _ _ _ _ _ _ _
-    (ends_all g.D.Disk.reads g.D.Disk.may_leave g.D.Disk.moment g.D.Disk.left_since _ p (g.I.Source.left c.args.input.now) _ _ _ _ _ (g.met.D.Disk.reads_one c.answer_all-stop.new.machine.disk) _ _ _
-    (rw c.over-script.ensures at (stop_of_text g.D.Disk.reads g.D.Disk.may_leave g.D.Disk.moment g.D.Disk.left_since _ _ _ p _ _ _ _ _ _ _ _ _ _ (c.answer_all-stop.ensures.text p stands))) c.finish.ensures.finish c.epoch.ensures)
-    (paced_then g.I.Source.takes g.I.Source.left p (g.I.Source.left c.args.input.now) _ _ _ _ _
-    (paced_lent (λ (l : MutBor g.row.I.Denot). l.now) _ g.I.Source.takes g.I.Source.left p (λ a b t. t.1) (g.I.Source.left c.args.input.now) _ c.answer_all-stop.new.script.source _ _ _ (search rules)
-    (rw c.over-script.ensures at (pace_of_text g.D.Disk.reads g.D.Disk.may_leave g.D.Disk.moment g.D.Disk.left_since _ _ _ p _ _ _ _ _ _ _ _ _ _ (c.answer_all-stop.ensures.text p stands)))) (finish_grows _ _ _ _ _ c.finish.ensures.finish))
-    (traced_all _ p (g.I.Source.left c.args.input.now) _ _ _ _ _ c.answer_all-stop.result c.epoch.result _
-    (rw c.over-script.ensures at (trace_of_text g.D.Disk.reads g.D.Disk.may_leave g.D.Disk.moment g.D.Disk.left_since _ _ _ p _ _ _ _ _ _ _ _ _ _ (c.answer_all-stop.ensures.text p stands))) c.finish.ensures.finish)
+    text_answers g.D.Disk.tells g.I.Source.tells _ p (g.I.Source.tells.left c.args.input.now) _ _ _ _ _ _ _ _ _ _
+    (ends_all g.D.Disk.tells _ p (g.I.Source.tells.left c.args.input.now) _ _ _ _ _ _ _ _
+    (rw c.over-script.ensures at (stop_of_text g.D.Disk.tells _ _ p _ _ _ _ _ _ _ _ _ _ (c.answer_all-stop.ensures.text p stands))) c.finish.ensures.finish c.epoch.ensures)
+    (paced_then g.I.Source.tells p (g.I.Source.tells.left c.args.input.now) _ _ _ _ _
+    (paced_lent g.I.Source.tells p (g.I.Source.tells.left c.args.input.now) _ c.answer_all-stop.new.script.source _ _ _ (search rules)
+    (rw c.over-script.ensures at (pace_of_text g.D.Disk.tells _ _ p _ _ _ _ _ _ _ _ _ _ (c.answer_all-stop.ensures.text p stands)))) (finish_grows _ _ _ _ _ c.finish.ensures.finish))
+    (traced_all _ p (g.I.Source.tells.left c.args.input.now) _ _ _ _ _ c.answer_all-stop.result c.epoch.result _
+    (rw c.over-script.ensures at (trace_of_text g.D.Disk.tells _ _ p _ _ _ _ _ _ _ _ _ _ (c.answer_all-stop.ensures.text p stands))) c.finish.ensures.finish)
 
 pub returns-in-Err-clause-text : goal.returns-in-Err-clause-text
 returns-in-Err-clause-text g c = λ p stands.
-    text_answers g.D.Disk.reads g.D.Disk.may_leave g.D.Disk.moment g.D.Disk.left_since g.I.Source.takes g.I.Source.left _ p (g.I.Source.left c.args.input.now) _ _ _ _ _ _ _ _ _ _
-    (ends_unread g.D.Disk.reads g.D.Disk.may_leave g.D.Disk.moment g.D.Disk.left_since _ p (g.I.Source.left c.args.input.now) _ _ _ _ (g.met.D.Disk.only_now c.args.machine.now.disk) c.put_memory.ensures.ends)
-    (untouched g.I.Source.takes g.I.Source.left p _ _ _ _)
-    (untraced_all _ p (g.I.Source.left c.args.input.now) _ _ _ _ Memory (λ text first. first) c.put_memory.ensures.ends)
+    text_answers g.D.Disk.tells g.I.Source.tells _ p (g.I.Source.tells.left c.args.input.now) _ _ _ _ _ _ _ _ _ _
+    (ends_unread g.D.Disk.tells _ p (g.I.Source.tells.left c.args.input.now) _ _ _ _ c.put_memory.ensures.ends)
+    (untouched g.I.Source.tells p _ _ _ _)
+    (untraced_all _ p (g.I.Source.tells.left c.args.input.now) _ _ _ _ Memory (λ text first. first) c.put_memory.ensures.ends)
 
 pub returns-clause-status : goal.returns-clause-status
 returns-clause-status g c = finishes_so _ _ _ _ _ c.finish.ensures.finish
@@ -41,7 +41,7 @@ returns-clause-causes g c =
       disk = record {
         same = stopped.machine.call.same;
         later = stopped.machine.call.later;
-        disk = λ e. stopped.machine.call.disk (finish_disk _ _ _ _ _ c.finish.ensures.finish e);
+        rose = λ e. stopped.machine.call.rose (finish_disk _ _ _ _ _ c.finish.ensures.finish e);
       };
       read = λ e. rose_lent _ _ _ _ (stopped.source.read (finish_read _ _ _ _ _ c.finish.ensures.finish e)) (search rules) (search rules);
       write = λ e. rose_after _ _ _ _ _ _ stopped.sinks.0.later stopped.sinks.0.write stopped.sinks.1.write c.finish.ensures.later (c.finish.ensures.write e);
@@ -53,7 +53,7 @@ pub returns-in-Err-clause-causes : goal.returns-in-Err-clause-causes
 returns-in-Err-clause-causes g c =
     let never = λ (n : ℕ). memory_not n _ _ _ c.put_memory.ensures.ends in
     record {
-      disk = record { same = refl; later = omega arith; disk = λ e. absurd (never 4 (λ z. omega arith) (λ z. omega arith) e) };
+      disk = record { same = refl; later = omega arith; rose = λ e. absurd (never 4 (λ z. omega arith) (λ z. omega arith) e) };
       read = λ e. absurd (never 5 (λ z. omega arith) (λ z. omega arith) e);
       write = λ e. inl (c.put_memory.ensures.put.write e);
       tag = λ e. absurd (never 12 (λ z. omega arith) (λ z. omega arith) e);

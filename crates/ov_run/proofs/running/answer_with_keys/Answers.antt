@@ -27,57 +27,56 @@ returns-in-Err-clause-status g c = ends_so IsKeysStatus _ 5 _ _ _ keys_five keys
 
 pub returns-in-Ok-Some-clause-keys : goal.returns-in-Ok-Some-clause-keys
 returns-in-Ok-Some-clause-keys g c =
-    judged_with _ (g.K.Source.left c.args.keys.now) _ _ _ _ _ _ (rw c.in-Ok-Some.field-0-is at c.in-Ok-Some.ensures.read) (not_keys _ c.answer_over.ensures.status)
+    judged_with _ (g.K.Source.tells.left c.args.keys.now) _ _ _ _ _ _ (rw c.in-Ok-Some.field-0-is at c.in-Ok-Some.ensures.read) (not_keys _ c.answer_over.ensures.status)
 
 pub returns-in-Ok-None-clause-keys : goal.returns-in-Ok-None-clause-keys
 returns-in-Ok-None-clause-keys g c =
-    judged_none _ (g.K.Source.left c.args.keys.now) _ _ _ _ (rw c.in-Ok-None.field-0-is at c.in-Ok-None.ensures.read) c.put_last.ensures.ends (refl, refl, refl)
+    judged_none _ (g.K.Source.tells.left c.args.keys.now) _ _ _ _ (rw c.in-Ok-None.field-0-is at c.in-Ok-None.ensures.read) c.put_last.ensures.ends (refl, refl, refl)
 
 pub returns-in-Err-clause-keys : goal.returns-in-Err-clause-keys
-returns-in-Err-clause-keys g c = judged_failed _ (g.K.Source.left c.args.keys.now) _ _ _ _ c.put_last-in-Err.ensures.ends (refl, refl, refl)
+returns-in-Err-clause-keys g c = judged_failed _ (g.K.Source.tells.left c.args.keys.now) _ _ _ _ c.put_last-in-Err.ensures.ends (refl, refl, refl)
 
 pub returns-in-Ok-Some-clause-text : goal.returns-in-Ok-Some-clause-text
 returns-in-Ok-Some-clause-text g c =
-    from_read (λ (k : Masters) (p : PlainHistory). OpensAs g.D.Disk.reads g.D.Disk.may_leave k c.args.mode p c.args.disk)
-    (λ (k : Masters) (p : PlainHistory) (text : List ℕ). AnswersText g.D.Disk.reads g.D.Disk.may_leave g.D.Disk.moment g.D.Disk.left_since g.I.Source.takes g.I.Source.left k p text c.answer_over.result.0
-    c.args.disk c.answer_over.result.1 c.args.input.now c.answer_over.new.input (g.O.Sink.written c.args.out.now) (g.O.Sink.written c.answer_over.new.out)
-    (g.T.Sink.written c.args.trace.now) (g.T.Sink.written c.answer_over.new.trace) (Unit {0}))
-    (plain_masters c.in-Ok-Some.masters) (g.K.Source.left c.args.keys.now) (g.I.Source.left c.args.input.now) (rw c.in-Ok-Some.field-0-is at c.in-Ok-Some.ensures.read) c.answer_over.ensures.text
+    from_read (λ (k : Masters) (p : PlainHistory). OpensAs g.D.Disk.tells k c.args.mode p c.args.disk)
+    (λ (k : Masters) (p : PlainHistory) (text : List ℕ). AnswersText g.D.Disk.tells g.I.Source.tells k p text c.answer_over.result.0
+    c.args.disk c.answer_over.result.1 c.args.input.now c.answer_over.new.input (g.O.Sink.tells.written c.args.out.now) (g.O.Sink.tells.written c.answer_over.new.out)
+    (g.T.Sink.tells.written c.args.trace.now) (g.T.Sink.tells.written c.answer_over.new.trace) (Unit {0}))
+    (plain_masters c.in-Ok-Some.masters) (g.K.Source.tells.left c.args.keys.now) (g.I.Source.tells.left c.args.input.now) (rw c.in-Ok-Some.field-0-is at c.in-Ok-Some.ensures.read) c.answer_over.ensures.text
 
 pub returns-in-Ok-None-clause-text : goal.returns-in-Ok-None-clause-text
 returns-in-Ok-None-clause-text g c =
-    from_none (λ (k : Masters) (p : PlainHistory) (text : List ℕ). OpensAs g.D.Disk.reads g.D.Disk.may_leave k c.args.mode p c.args.disk
-    → AnswersText g.D.Disk.reads g.D.Disk.may_leave g.D.Disk.moment g.D.Disk.left_since g.I.Source.takes g.I.Source.left k p text c.put_last.result
-    c.args.disk c.args.disk c.args.input.now c.args.input.now (g.O.Sink.written c.args.out.now) (g.O.Sink.written c.put_last.new.out)
-    (g.T.Sink.written c.args.trace.now) (g.T.Sink.written c.args.trace.now) (Unit {0})) (g.K.Source.left c.args.keys.now) (g.I.Source.left c.args.input.now) (rw c.in-Ok-None.field-0-is at c.in-Ok-None.ensures.read)
+    from_none (λ (k : Masters) (p : PlainHistory) (text : List ℕ). OpensAs g.D.Disk.tells k c.args.mode p c.args.disk
+    → AnswersText g.D.Disk.tells g.I.Source.tells k p text c.put_last.result
+    c.args.disk c.args.disk c.args.input.now c.args.input.now (g.O.Sink.tells.written c.args.out.now) (g.O.Sink.tells.written c.put_last.new.out)
+    (g.T.Sink.tells.written c.args.trace.now) (g.T.Sink.tells.written c.args.trace.now) (Unit {0})) (g.K.Source.tells.left c.args.keys.now) (g.I.Source.tells.left c.args.input.now) (rw c.in-Ok-None.field-0-is at c.in-Ok-None.ensures.read)
 
 pub returns-in-Err-clause-text : goal.returns-in-Err-clause-text
 returns-in-Err-clause-text g c =
-    from_all (λ (k : Masters) (p : PlainHistory) (text : List ℕ). OpensAs g.D.Disk.reads g.D.Disk.may_leave k c.args.mode p c.args.disk
-    → AnswersText g.D.Disk.reads g.D.Disk.may_leave g.D.Disk.moment g.D.Disk.left_since g.I.Source.takes g.I.Source.left k p text c.put_last-in-Err.result
-    c.args.disk c.args.disk c.args.input.now c.args.input.now (g.O.Sink.written c.args.out.now) (g.O.Sink.written c.put_last-in-Err.new.out)
-    (g.T.Sink.written c.args.trace.now) (g.T.Sink.written c.args.trace.now) (Unit {0})) (g.K.Source.left c.args.keys.now) (g.I.Source.left c.args.input.now)
+    from_all (λ (k : Masters) (p : PlainHistory) (text : List ℕ). OpensAs g.D.Disk.tells k c.args.mode p c.args.disk
+    → AnswersText g.D.Disk.tells g.I.Source.tells k p text c.put_last-in-Err.result
+    c.args.disk c.args.disk c.args.input.now c.args.input.now (g.O.Sink.tells.written c.args.out.now) (g.O.Sink.tells.written c.put_last-in-Err.new.out)
+    (g.T.Sink.tells.written c.args.trace.now) (g.T.Sink.tells.written c.args.trace.now) (Unit {0})) (g.K.Source.tells.left c.args.keys.now) (g.I.Source.tells.left c.args.input.now)
     (λ k p text opens. record {
-      ends = ends_untouched g.D.Disk.reads g.D.Disk.may_leave g.D.Disk.moment g.D.Disk.left_since k c.args.mode p text c.args.disk _ _ _ c.put_last-in-Err.ensures.ends opens
-          (g.met.D.Disk.only_now c.args.disk) (g.met.D.Disk.counts_now c.args.disk);
-      paced = untaken g.I.Source.takes g.I.Source.left p _ _ _;
+      ends = ends_untouched g.D.Disk.tells k c.args.mode p text c.args.disk _ _ _ c.put_last-in-Err.ensures.ends opens;
+      paced = untaken g.I.Source.tells p _ _ _;
       traced = untraced k p text _ _ _ _ Read (λ first. first) c.put_last-in-Err.ensures.ends;
     })
 
 pub returns-in-Ok-Some-clause-image : goal.returns-in-Ok-Some-clause-image
 returns-in-Ok-Some-clause-image g c =
-    image_read (λ (k : Masters). Told (g.D.Disk.reads c.args.disk) (λ i. JudgesImage k c.args.mode i c.answer_over.result.0 (g.O.Sink.written c.args.out.now) (g.O.Sink.written c.answer_over.new.out) ((c.answer_over.new.input ≡ c.args.input.now) × (c.answer_over.new.trace ≡ c.args.trace.now)) (LeavesAsAtStart g.D.Disk.reads g.D.Disk.may_leave g.D.Disk.moment g.D.Disk.left_since c.args.disk c.answer_over.result.1)))
-    (plain_masters c.in-Ok-Some.masters) (g.K.Source.left c.args.keys.now) (rw c.in-Ok-Some.field-0-is at c.in-Ok-Some.ensures.read) c.answer_over.ensures.image
+    image_read (λ (k : Masters). Told (g.D.Disk.tells.reads c.args.disk) (λ i. JudgesImage k c.args.mode i c.answer_over.result.0 (g.O.Sink.tells.written c.args.out.now) (g.O.Sink.tells.written c.answer_over.new.out) ((c.answer_over.new.input ≡ c.args.input.now) × (c.answer_over.new.trace ≡ c.args.trace.now)) (LeavesAsAtStart g.D.Disk.tells c.args.disk c.answer_over.result.1)))
+    (plain_masters c.in-Ok-Some.masters) (g.K.Source.tells.left c.args.keys.now) (rw c.in-Ok-Some.field-0-is at c.in-Ok-Some.ensures.read) c.answer_over.ensures.image
 
 pub returns-in-Ok-None-clause-image : goal.returns-in-Ok-None-clause-image
 returns-in-Ok-None-clause-image g c =
-    image_none (λ (k : Masters). Told (g.D.Disk.reads c.args.disk) (λ i. JudgesImage k c.args.mode i c.put_last.result (g.O.Sink.written c.args.out.now) (g.O.Sink.written c.put_last.new.out) ((c.args.input.now ≡ c.args.input.now) × (c.args.trace.now ≡ c.args.trace.now)) (LeavesAsAtStart g.D.Disk.reads g.D.Disk.may_leave g.D.Disk.moment g.D.Disk.left_since c.args.disk c.args.disk))) (g.K.Source.left c.args.keys.now) (rw c.in-Ok-None.field-0-is at c.in-Ok-None.ensures.read)
+    image_none (λ (k : Masters). Told (g.D.Disk.tells.reads c.args.disk) (λ i. JudgesImage k c.args.mode i c.put_last.result (g.O.Sink.tells.written c.args.out.now) (g.O.Sink.tells.written c.put_last.new.out) ((c.args.input.now ≡ c.args.input.now) × (c.args.trace.now ≡ c.args.trace.now)) (LeavesAsAtStart g.D.Disk.tells c.args.disk c.args.disk))) (g.K.Source.tells.left c.args.keys.now) (rw c.in-Ok-None.field-0-is at c.in-Ok-None.ensures.read)
 
 pub returns-in-Err-clause-image : goal.returns-in-Err-clause-image
 returns-in-Err-clause-image g c =
-    image_all (λ (k : Masters). Told (g.D.Disk.reads c.args.disk) (λ i. JudgesImage k c.args.mode i c.put_last-in-Err.result (g.O.Sink.written c.args.out.now) (g.O.Sink.written c.put_last-in-Err.new.out) ((c.args.input.now ≡ c.args.input.now) × (c.args.trace.now ≡ c.args.trace.now)) (LeavesAsAtStart g.D.Disk.reads g.D.Disk.may_leave g.D.Disk.moment g.D.Disk.left_since c.args.disk c.args.disk))) (g.K.Source.left c.args.keys.now)
+    image_all (λ (k : Masters). Told (g.D.Disk.tells.reads c.args.disk) (λ i. JudgesImage k c.args.mode i c.put_last-in-Err.result (g.O.Sink.tells.written c.args.out.now) (g.O.Sink.tells.written c.put_last-in-Err.new.out) ((c.args.input.now ≡ c.args.input.now) × (c.args.trace.now ≡ c.args.trace.now)) (LeavesAsAtStart g.D.Disk.tells c.args.disk c.args.disk))) (g.K.Source.tells.left c.args.keys.now)
     (λ k i told. judged_unread k c.args.mode i _ _ _ _ _ c.put_last-in-Err.ensures.ends (refl, refl)
-    (started g.D.Disk.moment g.D.Disk.left_since g.D.Disk.may_leave c.args.disk (g.D.Disk.may_leave c.args.disk) (g.met.D.Disk.only_now c.args.disk) (λ x left. left)))
+    (started g.D.Disk.tells c.args.disk (g.D.Disk.tells.may_leave c.args.disk) (λ x left. left)))
 
 pub returns-in-Ok-Some-clause-causes : goal.returns-in-Ok-Some-clause-causes
 returns-in-Ok-Some-clause-causes g c =
@@ -88,7 +87,7 @@ pub returns-in-Ok-None-clause-causes : goal.returns-in-Ok-None-clause-causes
 returns-in-Ok-None-clause-causes g c =
     let never = λ (n : ℕ). not_code _ 10 n _ _ _ c.put_last.ensures.ends in
     record {
-      disk = record { same = refl; later = omega arith; disk = λ e. absurd (never 4 (λ z. omega arith) (λ z. omega arith) e) };
+      disk = record { same = refl; later = omega arith; rose = λ e. absurd (never 4 (λ z. omega arith) (λ z. omega arith) e) };
       read = λ e. absurd (never 5 (λ z. omega arith) (λ z. omega arith) e);
       write = λ e. inl (c.put_last.ensures.put.write e);
       tag = λ e. absurd (never 12 (λ z. omega arith) (λ z. omega arith) e);
@@ -98,7 +97,7 @@ pub returns-in-Err-clause-causes : goal.returns-in-Err-clause-causes
 returns-in-Err-clause-causes g c =
     let never = λ (n : ℕ). not_code _ 5 n _ _ _ c.put_last-in-Err.ensures.ends in
     record {
-      disk = record { same = refl; later = omega arith; disk = λ e. absurd (never 4 (λ z. omega arith) (λ z. omega arith) e) };
+      disk = record { same = refl; later = omega arith; rose = λ e. absurd (never 4 (λ z. omega arith) (λ z. omega arith) e) };
       read = λ e. inl (search rules);
       write = λ e. inl (c.put_last-in-Err.ensures.put.write e);
       tag = λ e. absurd (never 12 (λ z. omega arith) (λ z. omega arith) e);
