@@ -1,15 +1,16 @@
 -- What a load over a loan of the disk promises is promised of the disk.
-use Rattle.std.proofs.Common.{◌≡◌, ℕ, List, Option, Some, None, subst}
+use Rattle.std.proofs.Common.{MutBor, ◌≡◌, ℕ, List, Option, Some, None, subst}
 use Rattle.std.specs.Prelude.{IfSome, String}
 use Rattle.std.specs.declared.alloc.Global.{Global}
 use Rattle.ov_disk.specs.Disk.{Image, Told}
 use Rattle.ov_disk.specs.Moments.{LeavesOnly}
+use Rattle.ov_disk.specs.Tells.{DiskTells}
 use Rattle.ov_history.specs.Masters.{Masters}
 use Rattle.ov_history.specs.Plain.{PlainHistory}
 use Rattle.ov_machine.specs.Machine.{AreMasters}
 use Rattle.ov_answering.specs.Ending.{JudgesImage, LeavesAsAtStart}
 use Rattle.ov_answering.specs.Lasting.{OpensAs}
-use Rattle.ov_answering.proofs.Loans.{lent_image, lent_leaves, lent_opens}
+use Rattle.ov_answering.proofs.Loans.{lent_disk, lent_image, lent_leaves, lent_opens}
 use Rattle.ov_load.specs.LoadEnding.{LoadEndsAs, LoadTracesAs}
 use Rattle.ov_load.specs.LoadWords.{IsLoad}
 use Rattle.ov_load.specs.Loading.{EndsLoad, ForLoad, ForLoadImage, IsComplete, KeepsSome, LastsAs, LoadsWell, after_load}
@@ -20,21 +21,22 @@ use Rattle.ov_load.proofs.Counting.{adds_up}
 use Rattle.ov_load.proofs.LoadEnds.{completes}
 use Rattle.ov_load.proofs.LoadTracing.{sent_lent}
 
-module _ {L D : Type 0} (now : L → D) (reads : D → Option Image) (may_leave : D → Image → Type 0)
-    (moment : D → ℕ) (left_since : D → ℕ → Image → Type 0) (first last : L) (final : D) (back : now last ≡ final)
-    (words : List (String Global)) (keys old new t_old t_new : Option (List ℕ)) (status : ℕ) (load : Load) (is : IsLoad load words) where
+module _ {D : Type 0} (tells : DiskTells D) (first last : MutBor D) (final : D)
+    (back : last.now ≡ final) (words : List (String Global))
+    (keys old new t_old t_new : Option (List ℕ)) (status : ℕ) (load : Load)
+    (is : IsLoad load words) where
   abbrev E : Masters → PlainHistory → Load → Type 0
   E k h asked =
-      LoadEndsAs (λ l. reads (now l)) (λ l. may_leave (now l)) (λ l. moment (now l)) (λ l. left_since (now l)) k h asked first last old new t_old t_new status (Unit {0})
+      LoadEndsAs (lent_disk tells) k h asked first last old new t_old t_new status (Unit {0})
 
   abbrev W : Type 0 → Type 0 → Type 0 → Masters → PlainHistory → Load → Type 0
   W key_faults out disk k h asked =
       LoadsWell (EndsLoad asked h old new status) (AddsUp asked h) (IsComplete status key_faults out disk)
-      (LoadTracesAs may_leave k h asked final t_old t_new status (Unit {0}))
-      (LeavesOnly moment left_since (now first) final (KeepsSome k h asked))
-      (status ≡ 0 → LastsAs reads may_leave k (after_load h asked) final)
+      (LoadTracesAs tells k h asked final t_old t_new status (Unit {0}))
+      (LeavesOnly tells first.now final (KeepsSome k h asked))
+      (status ≡ 0 → LastsAs tells k (after_load h asked) final)
 
-  lent_lasts_as : (k : Masters) (h : PlainHistory) → LastsAs (λ l. reads (now l)) (λ l. may_leave (now l)) k h last → LastsAs reads may_leave k h (now last)
+  lent_lasts_as : (k : Masters) (h : PlainHistory) → LastsAs (lent_disk tells) k h last → LastsAs tells k h last.now
   lent_lasts_as k h l = record { image = l.image; told = l.told; reads_it = l.reads_it; leaves_it = l.leaves_it; tokens = l.tokens }
 
   well : (key_faults out disk : Type 0) → (status ≡ 4 → disk) → (status ≡ 5 → key_faults) → (status ≡ 6 → out)
@@ -43,41 +45,41 @@ module _ {L D : Type 0} (now : L → D) (reads : D → Option Image) (may_leave 
     printed = e.printed;
     sum = adds_up load h;
     complete = completes load h old new status key_faults out disk call read write e.printed;
-    traced = subst (λ d. LoadTracesAs may_leave k h load d t_old t_new status (Unit {0})) back
-        (sent_lent now may_leave k h load last t_old t_new status (Unit {0}) e.traced);
-    survives = subst (λ d. LeavesOnly moment left_since (now first) d (KeepsSome k h load)) back
-        (lent_leaves now reads may_leave moment left_since first last (KeepsSome k h load) (e.survives tt));
-    lasts = λ zero. subst (λ d. LastsAs reads may_leave k (after_load h load) d) back (lent_lasts_as k (after_load h load) (e.lasts tt zero));
+    traced = subst (λ d. LoadTracesAs tells k h load d t_old t_new status (Unit {0})) back
+        (sent_lent tells k h load last t_old t_new status (Unit {0}) e.traced);
+    survives = subst (λ d. LeavesOnly tells first.now d (KeepsSome k h load)) back
+        (lent_leaves tells first last (KeepsSome k h load) (e.survives tt));
+    lasts = λ zero. subst (λ d. LastsAs tells k (after_load h load) d) back (lent_lasts_as k (after_load h load) (e.lasts tt zero));
   }
 
   pub load_well : (key_faults out disk : Type 0) → (status ≡ 4 → disk) → (status ≡ 5 → key_faults) → (status ≡ 6 → out)
       → IfSome keys (λ file. (k : Masters) (h : PlainHistory) → AreMasters file k
-      → OpensAs (λ l. reads (now l)) (λ l. may_leave (now l)) k load.mode h first → E k h load)
-      → ForLoad reads may_leave (now first) words keys (W key_faults out disk)
+      → OpensAs (lent_disk tells) k load.mode h first → E k h load)
+      → ForLoad tells first.now words keys (W key_faults out disk)
   load_well key_faults out disk call read write holds other asked = by_cases keys holds where
     by_cases : (keys : Option (List ℕ)) → IfSome keys (λ file. (k : Masters) (h : PlainHistory) → AreMasters file k
-        → OpensAs (λ l. reads (now l)) (λ l. may_leave (now l)) k load.mode h first → E k h load)
+        → OpensAs (lent_disk tells) k load.mode h first → E k h load)
         → IfSome keys (λ file. (k : Masters) (h : PlainHistory) → AreMasters file k
-        → OpensAs reads may_leave k other.mode h (now first) → W key_faults out disk k h other)
+        → OpensAs tells k other.mode h first.now → W key_faults out disk k h other)
     by_cases None holds = tt
     by_cases (Some file) holds = λ k h are opens.
-        let opens_lent = lent_opens now reads may_leave moment left_since k load.mode h first
-        (subst (λ (l : Load). OpensAs reads may_leave k l.mode h (now first)) (one_load other load words asked is) opens) in
+        let opens_lent = lent_opens tells k load.mode h first
+        (subst (λ (l : Load). OpensAs tells k l.mode h first.now) (one_load other load words asked is) opens) in
         subst (λ (l : Load). W key_faults out disk k h l) (one_load load other words is asked)
         (well key_faults out disk call read write k h (holds k h are opens_lent))
 
   pub load_image : (image : Option Image) (U : Type 0)
       → IfSome keys (λ file. (k : Masters) → AreMasters file k → Told image (λ i. JudgesImage k load.mode i status old new U
-      (LeavesAsAtStart (λ l. reads (now l)) (λ l. may_leave (now l)) (λ l. moment (now l)) (λ l. left_since (now l)) first last)))
-      → ForLoadImage image words keys (λ k mode i. JudgesImage k mode i status old new U (LeavesAsAtStart reads may_leave moment left_since (now first) final))
+      (LeavesAsAtStart (lent_disk tells) first last)))
+      → ForLoadImage image words keys (λ k mode i. JudgesImage k mode i status old new U (LeavesAsAtStart tells first.now final))
   load_image image U holds other asked = by_cases keys holds where
     by_cases : (keys : Option (List ℕ)) → IfSome keys (λ file. (k : Masters) → AreMasters file k → Told image (λ i. JudgesImage k load.mode i status old new U
-        (LeavesAsAtStart (λ l. reads (now l)) (λ l. may_leave (now l)) (λ l. moment (now l)) (λ l. left_since (now l)) first last)))
+        (LeavesAsAtStart (lent_disk tells) first last)))
         → IfSome keys (λ file. (k : Masters) → AreMasters file k
-        → Told image (λ i. JudgesImage k other.mode i status old new U (LeavesAsAtStart reads may_leave moment left_since (now first) final)))
+        → Told image (λ i. JudgesImage k other.mode i status old new U (LeavesAsAtStart tells first.now final)))
     by_cases None holds = tt
     by_cases (Some file) holds = λ k are i told.
-        subst (λ (l : Load). JudgesImage k l.mode i status old new U (LeavesAsAtStart reads may_leave moment left_since (now first) final))
+        subst (λ (l : Load). JudgesImage k l.mode i status old new U (LeavesAsAtStart tells first.now final))
         (one_load load other words is asked)
-        (subst (λ d. JudgesImage k load.mode i status old new U (LeavesAsAtStart reads may_leave moment left_since (now first) d)) back
-        (lent_image now reads may_leave moment left_since k load.mode i status old new U first last (holds k are i told)))
+        (subst (λ d. JudgesImage k load.mode i status old new U (LeavesAsAtStart tells first.now d)) back
+        (lent_image tells k load.mode i status old new U first last (holds k are i told)))

@@ -1,9 +1,10 @@
 -- How a load ends, by how the answering of its commands did.
-use Rattle.std.proofs.Common.{◌≡◌, ◌⊎◌, inl, inr, ℕ, ◌+◌, List, ◌++◌, refl, sym, ◌∙◌, ap, subst, arith, Option, Some, None, Ok, Err, ◌≤◌}
+use Rattle.std.proofs.Common.{◌≡◌, ◌⊎◌, inl, inr, ℕ, ◌+◌, List, ◌++◌, refl, sym, ◌∙◌, ap, subst, arith, Option, None, Ok, Err}
 use Rattle.sha2.specs.Sha256.{sha256}
-use Rattle.ov_disk.specs.Disk.{Image, Told}
+use Rattle.ov_disk.specs.Disk.{Image, StaysTold, Told}
 use Rattle.ov_disk.specs.Moments.{LeavesOnly}
 use Rattle.ov_disk.proofs.Runs.{started, then_on, weaker}
+use Rattle.ov_disk.specs.Tells.{DiskTells}
 use Rattle.ov_images.specs.Images.{keys_of}
 use Rattle.ov_script.specs.Lines.{reply_line}
 use Rattle.ov_script.specs.Workload.{workload}
@@ -14,7 +15,7 @@ use Rattle.ov_history.specs.Masters.{Masters}
 use Rattle.ov_history.specs.Plain.{PlainHistory, history_of}
 use Rattle.ov_model.specs.Lines.{lines}
 use Rattle.ov_store.specs.Beginning.{IsNew, LeavesHistory}
-use Rattle.ov_store.specs.Opened.{Opened, StaysTold}
+use Rattle.ov_store.specs.Opened.{Opened}
 use Rattle.ov_store.specs.declared.fault.BeginFault.{BeginFault}
 use Rattle.ov_store.specs.declared.fault.BeginFault.TheVariants.{Disk as BeginDisk, NotAStore, Damaged, BaseDiffers, SurfaceDiffers, ModeDiffers, Memory as BeginMemory}
 use Rattle.ov_report.specs.Ends.{EndsIn, EndsOr}
@@ -67,11 +68,10 @@ fault_no_script (Tag bad) epoch old new status f = (
 )
 
 -- a wrong tag is found at no history
-pub no_tag : {D : Type 0} (reads : D → Option Image) (may_leave : D → Image → Type 0)
-    (moment : D → ℕ) (left_since : D → ℕ → Image → Type 0) (k : Masters) (h : PlainHistory) (load : Load) (first last : KeptOn D)
-    (fault : StepFault) (bad : BadTag) → fault ≡ Tag bad → Loads reads may_leave moment left_since k h load first last (Err fault) → ⊥
-no_tag reads may_leave moment left_since k h load first last fault bad is loads =
-    subst (λ (f : StepFault). Loads reads may_leave moment left_since k h load first last (Err f)) is loads
+pub no_tag : {D : Type 0} (tells : DiskTells D) (k : Masters) (h : PlainHistory) (load : Load) (first last : KeptOn D)
+    (fault : StepFault) (bad : BadTag) → fault ≡ Tag bad → Loads tells k h load first last (Err fault) → ⊥
+no_tag tells k h load first last fault bad is loads =
+    subst (λ (f : StepFault). Loads tells k h load first last (Err f)) is loads
 
 -- a write failed: not that of a reply, so that of a frame, or that of the last line
 pub wrote_or : (P Q F L : Type 0) → (P → ⊥) → (Q → F) → (P ⊎ Q) ⊎ L → L ⊎ F
@@ -113,10 +113,11 @@ completes load h old new status keys out disk call read write (inr (inr (inr q))
 
 -- ---- what was put and what lasts
 
-module _ {D : Type 0} (reads : D → Option Image) (may_leave : D → Image → Type 0)
-    (moment : D → ℕ) (left_since : D → ℕ → Image → Type 0) (k : Masters) (h : PlainHistory) (load : Load) (old new t_old t_new : Option (List ℕ)) (status : ℕ) where
+module _ {D : Type 0} (tells : DiskTells D) (k : Masters) (h : PlainHistory) (load : Load)
+    (old new t_old t_new : Option (List ℕ)) (status : ℕ) where
   module _ (first last : KeptOn D) where
-    module _ (tally : Tally) (s : LoadedTo reads may_leave moment left_since k h load (WORKLOAD_USERS + load.count) tally first last) where
+    module _ (tally : Tally)
+        (s : LoadedTo tells k h load (WORKLOAD_USERS + load.count) tally first last) where
       -- the tally's lines are those of the history
       summary_is : (n : ℕ) → n ≡ last.kept.catalogue.epoch
           → seven_lines load tally.counts n (sha256 (lines h (workload load.number load.count) ++ reply_line (EndReply n))) ≡ load_lines load h
@@ -131,40 +132,40 @@ module _ {D : Type 0} (reads : D → Option Image) (may_leave : D → Image → 
           inl (inl (subst (λ l. EndsIn l 0 old new status) (is (lines h (workload load.number load.count)) s.hashed ∙ summary_is n count) e))
       printed_so n count (inr e) = inl (inr e)
 
-      lasts_so : ((i : Image) → reads last.disk ≡ Some i → may_leave last.disk i) → Holds reads may_leave k h first.disk → LastsAs reads may_leave k (after_load h load) last.disk
-      lasts_so reads_one holds =
+      lasts_so : Holds tells k h first.disk → LastsAs tells k (after_load h load) last.disk
+      lasts_so holds =
           let held = s.holds holds in record {
             image = held.told.0;
             told = held.told.1;
-            reads_it = held.each held.told.0 (reads_one held.told.0 held.told.1);
+            reads_it = held.each held.told.0 (tells.reads_one last.disk held.told.0 held.told.1);
             leaves_it = λ c left. held.each c left;
             tokens = publishes_matrix k (after_load h load) s.stands.0.0;
           }
 
-      pub ends_loaded : ((i : Image) → reads last.disk ≡ Some i → may_leave last.disk i) → (n : ℕ) → n ≡ last.kept.catalogue.epoch
-          → PutsSummary load tally n old new status → TracesLoad may_leave k h load last.disk t_old t_new (Holds reads may_leave k h first.disk) (Ok tally)
-          → LoadEndsAs reads may_leave moment left_since k h load first.disk last.disk old new t_old t_new status (Holds reads may_leave k h first.disk)
-      ends_loaded reads_one n count puts sent =
-          record { printed = printed_so n count puts; traced = as_sent may_leave k h load last.disk t_old t_new _ status sent; survives = λ holds. s.moments holds; lasts = λ holds zero. lasts_so reads_one holds }
+      pub ends_loaded : (n : ℕ) → n ≡ last.kept.catalogue.epoch
+          → PutsSummary load tally n old new status → TracesLoad tells k h load last.disk t_old t_new (Holds tells k h first.disk) (Ok tally)
+          → LoadEndsAs tells k h load first.disk last.disk old new t_old t_new status (Holds tells k h first.disk)
+      ends_loaded n count puts sent =
+          record { printed = printed_so n count puts; traced = as_sent tells k h load last.disk t_old t_new _ status sent; survives = λ holds. s.moments holds; lasts = λ holds zero. lasts_so holds }
 
-    pub ends_faulted : (fault : StepFault) (n : ℕ) → Loads reads may_leave moment left_since k h load first last (Err fault) → Finishes (stop_for fault) n old new status
-        → TracedTo may_leave k h load last.disk t_old t_new (Holds reads may_leave k h first.disk)
-        → LoadEndsAs reads may_leave moment left_since k h load first.disk last.disk old new t_old t_new status (Holds reads may_leave k h first.disk)
+    pub ends_faulted : (fault : StepFault) (n : ℕ) → Loads tells k h load first last (Err fault) → Finishes (stop_for fault) n old new status
+        → TracedTo tells k h load last.disk t_old t_new (Holds tells k h first.disk)
+        → LoadEndsAs tells k h load first.disk last.disk old new t_old t_new status (Holds tells k h first.disk)
     ends_faulted Disk n loads f sent = record {
       printed = inr (inl f);
-      traced = as_stopped may_leave k h load last.disk t_old t_new _ status (not_zero disk_line 4 old new status f (λ z. omega arith)) sent;
+      traced = as_stopped tells k h load last.disk t_old t_new _ status (not_zero disk_line 4 old new status f (λ z. omega arith)) sent;
       survives = loads;
       lasts = λ holds zero. absurd (not_zero disk_line 4 old new status f (λ z. omega arith) zero);
     }
     ends_faulted Trace n loads f sent = record {
       printed = inr (inl (inr (f.0, (0, none_put old new f.1))));
-      traced = as_stopped may_leave k h load last.disk t_old t_new _ status (λ zero. let six : status ≡ 6 = f.0 in omega (arith, six, zero)) sent;
+      traced = as_stopped tells k h load last.disk t_old t_new _ status (λ zero. let six : status ≡ 6 = f.0 in omega (arith, six, zero)) sent;
       survives = loads;
       lasts = λ holds zero. absurd (let six : status ≡ 6 = f.0 in omega (arith, six, zero));
     }
     ends_faulted Memory n loads f sent = record {
       printed = inl (inr f);
-      traced = as_stopped may_leave k h load last.disk t_old t_new _ status (not_zero memory_line 7 old new status f (λ z. omega arith)) sent;
+      traced = as_stopped tells k h load last.disk t_old t_new _ status (not_zero memory_line 7 old new status f (λ z. omega arith)) sent;
       survives = loads;
       lasts = λ holds zero. absurd (not_zero memory_line 7 old new status f (λ z. omega arith) zero);
     }
@@ -175,27 +176,26 @@ module _ {D : Type 0} (reads : D → Option Image) (may_leave : D → Image → 
   some_first : (c : Image) → StandsForPlain k h c → KeepsSome k h load c
   some_first c stands = (0, omega arith, stands)
 
-  module _ (first : D) (opens : OpensAs reads may_leave k load.mode h first) where
+  module _ (first : D) (opens : OpensAs tells k load.mode h first) where
     -- the disk didn't open
-    pub load_refused : (last : D) (fault : BeginFault) → Told (reads first) (λ i. Refuses k load.mode i fault)
-        → EndsOr (fault_line fault) (fault_status fault) old new status → LeavesHistory reads may_leave moment left_since (keys_of k) load.mode first last
-        → ((t : ℕ) (c : Image) → t ≤ moment last → may_leave last c → left_since last t c)
-        → LoadEndsAs reads may_leave moment left_since k h load first last old new t_old t_old status (Unit {0})
-    load_refused last fault refuses ends any counts_now = by_line said where
+    pub load_refused : (last : D) (fault : BeginFault) → Told (tells.reads first) (λ i. Refuses k load.mode i fault)
+        → EndsOr (fault_line fault) (fault_status fault) old new status → LeavesHistory tells (keys_of k) load.mode first last
+        → LoadEndsAs tells k h load first last old new t_old t_old status (Unit {0})
+    load_refused last fault refuses ends any = by_line said where
       said : EndsIn disk_line 4 old new status ⊎ EndsIn memory_line 7 old new status
       said = ends_in_fault fault old new status ((refuses opens.image opens.told).opens (h, opens.legal, opens.mode_is, opens.stands)) ends
 
-      plain : LeavesOnly moment left_since first last (StandsForPlain k h)
+      plain : LeavesOnly tells first last (StandsForPlain k h)
       plain = any opens.image opens.told opens.settled (Rattle.ov_history.specs.Sealing.sealed k h) opens.mode_is opens.stands
 
-      moments : LeavesOnly moment left_since first last (KeepsSome k h load)
-      moments = weaker moment left_since may_leave first last (StandsForPlain k h) (KeepsSome k h load) plain some_first
+      moments : LeavesOnly tells first last (KeepsSome k h load)
+      moments = weaker tells first last (StandsForPlain k h) (KeepsSome k h load) plain some_first
 
-      unsent : (status ≡ 0 → ⊥) → LoadTracesAs may_leave k h load last t_old t_old status (Unit {0})
-      unsent never = as_unsent may_leave k h load last t_old (Unit {0}) status never (λ _ c left. plain.each c (counts_now (moment first) c plain.later left))
+      unsent : (status ≡ 0 → ⊥) → LoadTracesAs tells k h load last t_old t_old status (Unit {0})
+      unsent never = as_unsent tells k h load last t_old (Unit {0}) status never (λ _ c left. plain.each c (tells.counts_now last (tells.moment first) c plain.later left))
 
       by_line : EndsIn disk_line 4 old new status ⊎ EndsIn memory_line 7 old new status
-          → LoadEndsAs reads may_leave moment left_since k h load first last old new t_old t_old status (Unit {0})
+          → LoadEndsAs tells k h load first last old new t_old t_old status (Unit {0})
       by_line (inl e) = record {
         printed = inr (inl e);
         traced = unsent (not_zero disk_line 4 old new status e (λ z. omega arith));
@@ -209,42 +209,42 @@ module _ {D : Type 0} (reads : D → Option Image) (may_leave : D → Image → 
         lasts = λ _ zero. absurd (not_zero memory_line 7 old new status e (λ z. omega arith) zero);
       }
 
-    here : (c : Image) → may_leave first c → StandsForPlain k h c
+    here : (c : Image) → tells.may_leave first c → StandsForPlain k h c
     here c left = subst (λ (x : Image). StandsForPlain k h x) (sym (opens.settled c left)) opens.stands
 
     -- the key file couldn't be read
-    pub load_unread : EndsIn read_line 5 old new status → ((c : Image) → left_since first (moment first) c → may_leave first c)
-        → LoadEndsAs reads may_leave moment left_since k h load first first old new t_old t_old status (Unit {0})
-    load_unread e only_now = record {
+    pub load_unread : EndsIn read_line 5 old new status
+        → LoadEndsAs tells k h load first first old new t_old t_old status (Unit {0})
+    load_unread e = record {
       printed = inr (inr e);
-      traced = as_unsent may_leave k h load first t_old (Unit {0}) status (not_zero read_line 5 old new status e (λ z. omega arith)) (λ _. here);
-      survives = λ _. started moment left_since may_leave first (KeepsSome k h load) only_now (λ c left. some_first c (here c left));
+      traced = as_unsent tells k h load first t_old (Unit {0}) status (not_zero read_line 5 old new status e (λ z. omega arith)) (λ _. here);
+      survives = λ _. started tells first (KeepsSome k h load) (λ c left. some_first c (here c left));
       lasts = λ _ zero. absurd (not_zero read_line 5 old new status e (λ z. omega arith) zero);
     }
 
     -- it opened
     module _ (m : KeptOn D) (s : Opened D) (is : opened_of m ≡ s) (masters : m.kept.masters ≡ k) (fresh : IsNew (keys_of k) load.mode s)
-        (found : Told (reads first) (λ i. FindsPlain reads may_leave k load.mode i s) × StaysTold (reads first) (reads s.disk))
-        (any : LeavesHistory reads may_leave moment left_since (keys_of k) load.mode first s.disk) where
-      held : Holds reads may_leave k h m.disk
+        (found : Told (tells.reads first) (λ i. FindsPlain tells k load.mode i s) × StaysTold (tells.reads first) (tells.reads s.disk))
+        (any : LeavesHistory tells (keys_of k) load.mode first s.disk) where
+      held : Holds tells k h m.disk
       held =
-          begun_holds reads may_leave moment left_since k h m masters
-          (sound reads may_leave moment left_since k load.mode h first opens m s is masters fresh found)
-          (serves reads may_leave moment left_since k load.mode h first opens m s is masters fresh found)
-          (told reads may_leave moment left_since k load.mode h first opens None old new status m s is masters fresh found any)
+          begun_holds tells k h m masters
+          (sound tells k load.mode h first opens m s is masters fresh found)
+          (serves tells k load.mode h first opens m s is masters fresh found)
+          (told tells k load.mode h first opens None old new status m s is masters fresh found any)
 
       pub load_begun : (last : D)
-          → ((q : PlainHistory) → StandsFor m.kept q → LoadEndsAs reads may_leave moment left_since m.kept.masters q load m.disk last old new t_old t_new status
-          (Holds reads may_leave m.kept.masters q m.disk))
-          → LoadEndsAs reads may_leave moment left_since k h load first last old new t_old t_new status (Unit {0})
+          → ((q : PlainHistory) → StandsFor m.kept q → LoadEndsAs tells m.kept.masters q load m.disk last old new t_old t_new status
+          (Holds tells m.kept.masters q m.disk))
+          → LoadEndsAs tells k h load first last old new t_old t_new status (Unit {0})
       load_begun last ends =
-          let e = subst (λ (x : Masters). LoadEndsAs reads may_leave moment left_since x h load m.disk last old new t_old t_new status (Holds reads may_leave x h m.disk)) masters
-          (ends h (over_stands reads may_leave moment left_since k load.mode h first opens m s is masters fresh found)) in record {
+          let e = subst (λ (x : Masters). LoadEndsAs tells x h load m.disk last old new t_old t_new status (Holds tells x h m.disk)) masters
+          (ends h (over_stands tells k load.mode h first opens m s is masters fresh found)) in record {
             printed = e.printed;
-            traced = record { whole = e.traced.whole; first = sent_holding may_leave k h load last t_old t_new _ held e.traced.first };
-            survives = λ _. then_on moment left_since may_leave first m.disk last (KeepsSome k h load) (KeepsSome k h load)
-                (weaker moment left_since may_leave first m.disk (StandsForPlain k h) (KeepsSome k h load)
-                (leaves reads may_leave moment left_since k load.mode h first opens None old new status m s is masters fresh found any) some_first)
+            traced = record { whole = e.traced.whole; first = sent_holding tells k h load last t_old t_new _ held e.traced.first };
+            survives = λ _. then_on tells first m.disk last (KeepsSome k h load) (KeepsSome k h load)
+                (weaker tells first m.disk (StandsForPlain k h) (KeepsSome k h load)
+                (leaves tells k load.mode h first opens None old new status m s is masters fresh found any) some_first)
                 (e.survives held) (λ c keeps. keeps);
             lasts = λ _. e.lasts held;
           }

@@ -1,10 +1,11 @@
 -- What a load puts to the sink of frames, command by command.
-use Rattle.std.proofs.Common.{◌≡◌, inl, inr, ℕ, suc, ◌+◌, ◌<◌, ◌≤◌, List, [], ◌∷◌, ◌++◌, refl, sym, ◌∙◌, ap, subst, arith, Option, Some}
+use Rattle.std.proofs.Common.{MutBor, ◌≡◌, inl, inr, ℕ, suc, ◌+◌, ◌<◌, ◌≤◌, List, [], ◌∷◌, ◌++◌, refl, sym, ◌∙◌, ap, subst, arith, Option, Some}
 use Rattle.std.specs.Prelude.{Result, Ok, Err}
 use Rattle.std.specs.Io.KnownBytes.{Appends}
 use Rattle.std.proofs.KnownBytes.{Appends-trans, Appends-nil}
 use Rattle.std.proofs.lemmas.List.{append-nil}
 use Rattle.ov_disk.specs.Disk.{Image}
+use Rattle.ov_disk.specs.Tells.{DiskTells}
 use Rattle.ov_script.specs.declared.command.Command.{Command}
 use Rattle.ov_script.specs.declared.command.Command.TheVariants.{Epoch as AskEpoch}
 use Rattle.ov_script.specs.declared.drawn.TheConstants.{WORKLOAD_USERS}
@@ -23,6 +24,7 @@ use Rattle.ov_machine.specs.declared.fault.StepFault.TheVariants.{Disk, Memory, 
 use Rattle.ov_machine.proofs.PutOn.{transcripts_have_bytes}
 use Rattle.ov_machine.proofs.Transcripts.{whole_is_front}
 use Rattle.ov_answering.specs.Tracing.{TranscribesAll}
+use Rattle.ov_answering.proofs.Loans.{lent_disk}
 use Rattle.ov_answering.proofs.Tracing.{all_more}
 use Rattle.ov_load.specs.LoadEnding.{IsFrontAt, IsMadeAt, KeepsAt, LoadTracesAs, TracedTo, TracesLoad, TracesWhole}
 use Rattle.ov_load.specs.Loading.{LoadedTo, TalliesAt, after_first, after_load}
@@ -53,12 +55,12 @@ nothing_made k h load place c = λ low whole.
 pub none_sent : (k : Masters) (h : PlainHistory) (load : Load) (trace : Option (List ℕ)) → TranscribesAll k h (first_commands load.number 0) trace trace
 none_sent k h load trace = ([], refl, Appends-nil trace)
 
-module _ {D : Type 0} (reads : D → Option Image) (may_leave : D → Image → Type 0)
-    (moment : D → ℕ) (left_since : D → ℕ → Image → Type 0) (k : Masters) (h : PlainHistory) (load : Load) (first : KeptOn D) where
+module _ {D : Type 0} (tells : DiskTells D) (k : Masters) (h : PlainHistory) (load : Load)
+    (first : KeptOn D) where
   -- no more than these
   pub stops_behind : (place : ℕ) → place ≤ WORKLOAD_USERS + load.count → (tally : Tally) (mid : KeptOn D) (old now : Option (List ℕ))
-      → LoadedTo reads may_leave moment left_since k h load place tally first mid → TranscribesAll k h (first_commands load.number place) old now
-      → TracedTo may_leave k h load mid.disk old now (Holds reads may_leave k h first.disk)
+      → LoadedTo tells k h load place tally first mid → TranscribesAll k h (first_commands load.number place) old now
+      → TracedTo tells k h load mid.disk old now (Holds tells k h first.disk)
   stops_behind place low tally mid old now s (bytes, all, put) = record {
     place = place;
     low = low;
@@ -71,8 +73,10 @@ module _ {D : Type 0} (reads : D → Option Image) (may_leave : D → Image → 
     made = λ holds c left. nothing_made k h load place c;
   }
 
-  module _ (place : ℕ) (low : place ≤ WORKLOAD_USERS + load.count) (tally : Tally) (mid last : KeptOn D) (masters : mid.kept.masters ≡ k) (old now new : Option (List ℕ))
-      (s : LoadedTo reads may_leave moment left_since k h load place tally first mid) (sent : TranscribesAll k h (first_commands load.number place) old now) where
+  module _ (place : ℕ) (low : place ≤ WORKLOAD_USERS + load.count) (tally : Tally)
+      (mid last : KeptOn D) (masters : mid.kept.masters ≡ k) (old now new : Option (List ℕ))
+      (s : LoadedTo tells k h load place tally first mid)
+      (sent : TranscribesAll k h (first_commands load.number place) old now) where
     abbrev q : PlainHistory
     q = after_first h load place
 
@@ -85,16 +89,16 @@ module _ {D : Type 0} (reads : D → Option Image) (may_leave : D → Image → 
 
     -- one more wasn't
     stops_in : (command : Command) → ((bytes : List ℕ) → IsTranscriptFront k q command bytes → IsFrontAt k h load place bytes)
-        → ((bytes : List ℕ) → (Transcribed k q command bytes → HasMade reads may_leave k q command mid.disk last.disk)
-        → Holds reads may_leave k q mid.disk → (c : Image) → may_leave last.disk c → IsMadeAt k h load place bytes c)
+        → ((bytes : List ℕ) → (Transcribed k q command bytes → HasMade tells k q command mid.disk last.disk)
+        → Holds tells k q mid.disk → (c : Image) → tells.may_leave last.disk c → IsMadeAt k h load place bytes c)
         → ((j : PlainHistory) → StandsFor mid.kept j
-        → BreaksOff mid.kept.masters j command (HasMade reads may_leave mid.kept.masters j command mid.disk last.disk) now new)
-        → (Holds reads may_leave k q mid.disk → (c : Image) → may_leave last.disk c → KeepsAt k h load place c)
-        → TracedTo may_leave k h load last.disk old new (Holds reads may_leave k h first.disk)
+        → BreaksOff mid.kept.masters j command (HasMade tells mid.kept.masters j command mid.disk last.disk) now new)
+        → (Holds tells k q mid.disk → (c : Image) → tells.may_leave last.disk c → KeepsAt k h load place c)
+        → TracedTo tells k h load last.disk old new (Holds tells k h first.disk)
     stops_in command is_front is_made traces leaves =
         let (bytes, all, put) = sent in
         let (more, front, whole, put_more) =
-        subst (λ (x : Masters). BreaksOff x q command (HasMade reads may_leave x q command mid.disk last.disk) now new) masters (traces q s.stands) in record {
+        subst (λ (x : Masters). BreaksOff x q command (HasMade tells x q command mid.disk last.disk) now new) masters (traces q s.stands) in record {
           place = place;
           low = low;
           bytes = bytes;
@@ -108,9 +112,11 @@ module _ {D : Type 0} (reads : D → Option Image) (may_leave : D → Image → 
 
   -- ---- by what the workload gives
 
-  module _ (w next : Progress) (command : Command) (numbers : w.number ≡ load.number) (counts : w.count ≡ load.count) (gives : Gives w (Some command) next)
-      (before now_tally : Tally) (mid last : KeptOn D) (masters : mid.kept.masters ≡ k) (old now new : Option (List ℕ))
-      (s : LoadedTo reads may_leave moment left_since k h load w.place before first mid) (sent : TranscribesAll k h (first_commands load.number w.place) old now) where
+  module _ (w next : Progress) (command : Command) (numbers : w.number ≡ load.number)
+      (counts : w.count ≡ load.count) (gives : Gives w (Some command) next)
+      (before now_tally : Tally) (mid last : KeptOn D) (masters : mid.kept.masters ≡ k)
+      (old now new : Option (List ℕ)) (s : LoadedTo tells k h load w.place before first mid)
+      (sent : TranscribesAll k h (first_commands load.number w.place) old now) where
     command_is : command ≡ command_at load.number w.place
     command_is = gives.1 ∙ ap (λ n. command_at n w.place) numbers
 
@@ -138,8 +144,8 @@ module _ {D : Type 0} (reads : D → Option Image) (may_leave : D → Image → 
     keeps_at c (inr keeps) = inr (inr (subst (λ x. KeepsPlain k x c) (sym after_is) keeps))
 
     leaves_now : (T : Type 0) (fault : StepFault)
-        → TalliesAt reads may_leave moment left_since {T = T} k (after_first h load w.place) (command_at load.number w.place) before now_tally mid last (Err fault)
-        → Holds reads may_leave k (after_first h load w.place) mid.disk → (c : Image) → may_leave last.disk c → KeepsAt k h load w.place c
+        → TalliesAt tells {T = T} k (after_first h load w.place) (command_at load.number w.place) before now_tally mid last (Err fault)
+        → Holds tells k (after_first h load w.place) mid.disk → (c : Image) → tells.may_leave last.disk c → KeepsAt k h load w.place c
     leaves_now T Disk tallies holds c left = keeps_at c ((tallies holds).now c left)
     leaves_now T Trace tallies holds c left = keeps_at c ((tallies holds).now c left)
     leaves_now T Memory tallies holds c left = keeps_at c ((tallies holds).now c left)
@@ -147,22 +153,22 @@ module _ {D : Type 0} (reads : D → Option Image) (may_leave : D → Image → 
 
     made_at : (bytes : List ℕ)
         → (Transcribed k (after_first h load w.place) command bytes
-        → HasMade reads may_leave k (after_first h load w.place) command mid.disk last.disk)
-        → Holds reads may_leave k (after_first h load w.place) mid.disk → (c : Image) → may_leave last.disk c → IsMadeAt k h load w.place bytes c
+        → HasMade tells k (after_first h load w.place) command mid.disk last.disk)
+        → Holds tells k (after_first h load w.place) mid.disk → (c : Image) → tells.may_leave last.disk c → IsMadeAt k h load w.place bytes c
     made_at bytes has_made holds c left = λ low whole.
         let there = has_made (subst (λ x. Transcribed k (after_first h load w.place) x bytes) (sym command_is) whole) holds c left in
         inr (subst (λ x. KeepsPlain k x c) (ap (after (after_first h load w.place)) command_is ∙ sym after_is) there)
 
     pub sent_stops : {T : Type 0} (r : Result T StepFault) (fault : StepFault) → r ≡ Err fault
-        → ((j : Masters) (q : PlainHistory) → mid.kept.masters ≡ j → StandsFor mid.kept q → TalliesAt reads may_leave moment left_since j q command before now_tally mid last r)
+        → ((j : Masters) (q : PlainHistory) → mid.kept.masters ≡ j → StandsFor mid.kept q → TalliesAt tells j q command before now_tally mid last r)
         → ((j : PlainHistory) → StandsFor mid.kept j
-        → BreaksOff mid.kept.masters j command (HasMade reads may_leave mid.kept.masters j command mid.disk last.disk) now new)
-        → TracedTo may_leave k h load last.disk old new (Holds reads may_leave k h first.disk)
+        → BreaksOff mid.kept.masters j command (HasMade tells mid.kept.masters j command mid.disk last.disk) now new)
+        → TracedTo tells k h load last.disk old new (Holds tells k h first.disk)
     sent_stops {T} r fault at tallies traces =
         stops_in w.place below before mid last masters old now new s sent command
         (λ bytes front. inl (under, subst (λ c. IsTranscriptFront k (after_first h load w.place) c bytes) command_is front)) made_at traces
-        (leaves_now T fault (subst (λ c. TalliesAt reads may_leave moment left_since {T = T} k (after_first h load w.place) c before now_tally mid last (Err fault)) command_is
-        (subst (λ (x : Result T StepFault). TalliesAt reads may_leave moment left_since k (after_first h load w.place) command before now_tally mid last x) at
+        (leaves_now T fault (subst (λ c. TalliesAt tells {T = T} k (after_first h load w.place) c before now_tally mid last (Err fault)) command_is
+        (subst (λ (x : Result T StepFault). TalliesAt tells k (after_first h load w.place) command before now_tally mid last x) at
         (tallies k (after_first h load w.place) masters s.stands))))
 
   -- ---- at the end
@@ -171,18 +177,19 @@ module _ {D : Type 0} (reads : D → Option Image) (may_leave : D → Image → 
       → TranscribesAll k h (first_commands load.number (WORKLOAD_USERS + load.count)) old now
   sent_to_end place is old now sent = subst (λ (n : ℕ). TranscribesAll k h (first_commands load.number n) old now) is sent
 
-  module _ (tally : Tally) (mid last : KeptOn D) (masters : mid.kept.masters ≡ k) (old now new : Option (List ℕ))
-      (s : LoadedTo reads may_leave moment left_since k h load (WORKLOAD_USERS + load.count) tally first mid)
+  module _ (tally : Tally) (mid last : KeptOn D) (masters : mid.kept.masters ≡ k)
+      (old now new : Option (List ℕ))
+      (s : LoadedTo tells k h load (WORKLOAD_USERS + load.count) tally first mid)
       (sent : TranscribesAll k h (first_commands load.number (WORKLOAD_USERS + load.count)) old now) where
     abbrev AreSteps : Result Reply StepFault → Type 0
-    AreSteps r = (j : Masters) (q : PlainHistory) → mid.kept.masters ≡ j → StandsFor mid.kept q → StepsAt reads may_leave moment left_since j q AskEpoch mid last r
+    AreSteps r = (j : Masters) (q : PlainHistory) → mid.kept.masters ≡ j → StandsFor mid.kept q → StepsAt tells j q AskEpoch mid last r
 
     keeps_end : (c : Image) → KeepsStep k (after_load h load) AskEpoch c → KeepsAt k h load (WORKLOAD_USERS + load.count) c
     keeps_end c (inl keeps) = inl (inr keeps)
     keeps_end c (inr keeps) = inl (inr keeps)
 
-    leaves_end : (fault : StepFault) → StepsAt reads may_leave moment left_since k (after_load h load) AskEpoch mid last (Err fault)
-        → Holds reads may_leave k (after_load h load) mid.disk → (c : Image) → may_leave last.disk c → KeepsAt k h load (WORKLOAD_USERS + load.count) c
+    leaves_end : (fault : StepFault) → StepsAt tells k (after_load h load) AskEpoch mid last (Err fault)
+        → Holds tells k (after_load h load) mid.disk → (c : Image) → tells.may_leave last.disk c → KeepsAt k h load (WORKLOAD_USERS + load.count) c
     leaves_end Disk steps holds c left = keeps_end c ((steps holds).now c left)
     leaves_end Trace steps holds c left = keeps_end c ((steps holds).now c left)
     leaves_end Memory steps holds c left = keeps_end c ((steps holds).now c left)
@@ -190,35 +197,35 @@ module _ {D : Type 0} (reads : D → Option Image) (may_leave : D → Image → 
 
     -- behind the last command none is made
     none_made : (bytes : List ℕ)
-        → (Transcribed k (after_load h load) AskEpoch bytes → HasMade reads may_leave k (after_load h load) AskEpoch mid.disk last.disk)
-        → Holds reads may_leave k (after_load h load) mid.disk → (c : Image) → may_leave last.disk c → IsMadeAt k h load (WORKLOAD_USERS + load.count) bytes c
+        → (Transcribed k (after_load h load) AskEpoch bytes → HasMade tells k (after_load h load) AskEpoch mid.disk last.disk)
+        → Holds tells k (after_load h load) mid.disk → (c : Image) → tells.may_leave last.disk c → IsMadeAt k h load (WORKLOAD_USERS + load.count) bytes c
     none_made bytes has_made holds c left = λ low whole. absurd (omega (arith, low))
 
     pub sent_end : (reply : Reply) → AreSteps (Ok reply) → ((j : PlainHistory) → StandsFor mid.kept j → Transcribes mid.kept.masters j AskEpoch now new)
-        → TracesWhole k h load old new × TracedTo may_leave k h load last.disk old new (Holds reads may_leave k h first.disk)
+        → TracesWhole k h load old new × TracedTo tells k h load last.disk old new (Holds tells k h first.disk)
     sent_end reply steps traces = (
       all_on (WORKLOAD_USERS + load.count) (omega arith) tally mid last masters old now new s sent AskEpoch traces,
       stops_in (WORKLOAD_USERS + load.count) (omega arith) tally mid last masters old now new s sent AskEpoch (λ bytes front. inr (refl, front)) none_made
-          (λ j stands. sent_unread mid.kept.masters j AskEpoch (HasMade reads may_leave mid.kept.masters j AskEpoch mid.disk last.disk) now new
+          (λ j stands. sent_unread mid.kept.masters j AskEpoch (HasMade tells mid.kept.masters j AskEpoch mid.disk last.disk) now new
           (λ holds c left. ((steps mid.kept.masters j refl stands).1.holds holds).each c left) (traces j stands))
           (λ holds c left. inl (inr (((steps k (after_load h load) masters s.stands).1.holds holds).each c left))),
     )
 
     pub sent_end_stops : (r : Result Reply StepFault) (fault : StepFault) → r ≡ Err fault → AreSteps r
         → ((j : PlainHistory) → StandsFor mid.kept j
-        → BreaksOff mid.kept.masters j AskEpoch (HasMade reads may_leave mid.kept.masters j AskEpoch mid.disk last.disk) now new)
-        → TracedTo may_leave k h load last.disk old new (Holds reads may_leave k h first.disk)
+        → BreaksOff mid.kept.masters j AskEpoch (HasMade tells mid.kept.masters j AskEpoch mid.disk last.disk) now new)
+        → TracedTo tells k h load last.disk old new (Holds tells k h first.disk)
     sent_end_stops r fault at steps traces =
         stops_in (WORKLOAD_USERS + load.count) (omega arith) tally mid last masters old now new s sent AskEpoch (λ bytes front. inr (refl, front)) none_made traces
-        (leaves_end fault (subst (λ (x : Result Reply StepFault). StepsAt reads may_leave moment left_since k (after_load h load) AskEpoch mid last x) at
+        (leaves_end fault (subst (λ (x : Result Reply StepFault). StepsAt tells k (after_load h load) AskEpoch mid last x) at
         (steps k (after_load h load) masters s.stands)))
 
 -- it ended with this fault
-pub as_fault : {D : Type 0} (may_leave : D → Image → Type 0) (k : Masters) (h : PlainHistory) (load : Load) (last : D) (old new : Option (List ℕ)) (holds : Type 0)
-    (result : Result Tally StepFault) (fault : StepFault) → result ≡ Err fault → TracedTo may_leave k h load last old new holds
-    → TracesLoad may_leave k h load last old new holds result
-as_fault may_leave k h load last old new holds result fault is sent =
-    subst (λ (r : Result Tally StepFault). TracesLoad may_leave k h load last old new holds r) (sym is) sent
+pub as_fault : {D : Type 0} (tells : DiskTells D) (k : Masters) (h : PlainHistory) (load : Load) (last : D) (old new : Option (List ℕ)) (holds : Type 0)
+    (result : Result Tally StepFault) (fault : StepFault) → result ≡ Err fault → TracedTo tells k h load last old new holds
+    → TracesLoad tells k h load last old new holds result
+as_fault tells k h load last old new holds result fault is sent =
+    subst (λ (r : Result Tally StepFault). TracesLoad tells k h load last old new holds r) (sym is) sent
 
 fault_or : {T : Type 0} → Result T StepFault → StepFault → StepFault
 fault_or (Ok done) other = other
@@ -232,17 +239,18 @@ same_fault {S} {T} r s fault at is e =
 
 -- ---- the whole
 
-module _ {D : Type 0} (may_leave : D → Image → Type 0) (k : Masters) (h : PlainHistory) (load : Load) (last : D) (old new : Option (List ℕ)) (holds : Type 0) where
-  pub as_sent : (status : ℕ) → TracesWhole k h load old new × TracedTo may_leave k h load last old new holds → LoadTracesAs may_leave k h load last old new status holds
+module _ {D : Type 0} (tells : DiskTells D) (k : Masters) (h : PlainHistory) (load : Load)
+    (last : D) (old new : Option (List ℕ)) (holds : Type 0) where
+  pub as_sent : (status : ℕ) → TracesWhole k h load old new × TracedTo tells k h load last old new holds → LoadTracesAs tells k h load last old new status holds
   as_sent status sent = record { whole = λ _. sent.0; first = sent.1 }
 
-  pub as_stopped : (status : ℕ) → (status ≡ 0 → ⊥) → TracedTo may_leave k h load last old new holds → LoadTracesAs may_leave k h load last old new status holds
+  pub as_stopped : (status : ℕ) → (status ≡ 0 → ⊥) → TracedTo tells k h load last old new holds → LoadTracesAs tells k h load last old new status holds
   as_stopped status never sent = record { whole = λ zero. absurd (never zero); first = sent }
 
 -- nothing was sent, and the disk stands for the history from before
-pub as_unsent : {D : Type 0} (may_leave : D → Image → Type 0) (k : Masters) (h : PlainHistory) (load : Load) (last : D) (trace : Option (List ℕ)) (holds : Type 0) (status : ℕ)
-    → (status ≡ 0 → ⊥) → (holds → (c : Image) → may_leave last c → StandsForPlain k h c) → LoadTracesAs may_leave k h load last trace trace status holds
-as_unsent may_leave k h load last trace holds status never stands = record {
+pub as_unsent : {D : Type 0} (tells : DiskTells D) (k : Masters) (h : PlainHistory) (load : Load) (last : D) (trace : Option (List ℕ)) (holds : Type 0) (status : ℕ)
+    → (status ≡ 0 → ⊥) → (holds → (c : Image) → tells.may_leave last c → StandsForPlain k h c) → LoadTracesAs tells k h load last trace trace status holds
+as_unsent tells k h load last trace holds status never stands = record {
   whole = λ zero. absurd (never zero);
   first = record {
     place = 0;
@@ -258,9 +266,9 @@ as_unsent may_leave k h load last trace holds status never stands = record {
 }
 
 -- the disk stands for it
-pub sent_holding : {D : Type 0} (may_leave : D → Image → Type 0) (k : Masters) (h : PlainHistory) (load : Load) (last : D) (old new : Option (List ℕ)) (holds : Type 0)
-    → holds → TracedTo may_leave k h load last old new holds → TracedTo may_leave k h load last old new (Unit {0})
-sent_holding may_leave k h load last old new holds held t = record {
+pub sent_holding : {D : Type 0} (tells : DiskTells D) (k : Masters) (h : PlainHistory) (load : Load) (last : D) (old new : Option (List ℕ)) (holds : Type 0)
+    → holds → TracedTo tells k h load last old new holds → TracedTo tells k h load last old new (Unit {0})
+sent_holding tells k h load last old new holds held t = record {
   place = t.place;
   low = t.low;
   bytes = t.bytes;
@@ -273,10 +281,10 @@ sent_holding may_leave k h load last old new holds held t = record {
 }
 
 -- what is said of a disk behind a loan is said of the disk
-pub sent_lent : {L D : Type 0} (now : L → D) (may_leave : D → Image → Type 0) (k : Masters) (h : PlainHistory) (load : Load) (last : L) (old new : Option (List ℕ))
-    (status : ℕ) (holds : Type 0) → LoadTracesAs (λ l. may_leave (now l)) k h load last old new status holds
-    → LoadTracesAs may_leave k h load (now last) old new status holds
-sent_lent now may_leave k h load last old new status holds t = record {
+pub sent_lent : {D : Type 0} (tells : DiskTells D) (k : Masters) (h : PlainHistory) (load : Load) (last : MutBor D) (old new : Option (List ℕ))
+    (status : ℕ) (holds : Type 0) → LoadTracesAs (lent_disk tells) k h load last old new status holds
+    → LoadTracesAs tells k h load last.now old new status holds
+sent_lent tells k h load last old new status holds t = record {
   whole = t.whole;
   first = record {
     place = t.first.place;

@@ -5,6 +5,7 @@ use Rattle.sha2.specs.Hashers.{Holds256}
 use Rattle.ov_disk.specs.Disk.{Image}
 use Rattle.ov_disk.specs.Moments.{LeavesOnly}
 use Rattle.ov_disk.proofs.Runs.{started, then_on}
+use Rattle.ov_disk.specs.Tells.{DiskTells}
 use Rattle.ov_script.specs.declared.command.Command.{Command}
 use Rattle.ov_script.specs.declared.command.Command.TheVariants.{Epoch as AskEpoch}
 use Rattle.ov_script.specs.declared.drawn.TheConstants.{MAX_WORKLOAD, WORKLOAD_USERS}
@@ -81,57 +82,56 @@ pub ended : (w next : Progress) (given : Option Command) (count : ℕ) → Gives
 ended w next (Some command) count gives none same = absurd (none command refl)
 ended w next None count gives none same = gives.0 ∙ ap (λ n. WORKLOAD_USERS + n) same
 
-module _ {D : Type 0} (reads : D → Option Image) (may_leave : D → Image → Type 0)
-    (moment : D → ℕ) (left_since : D → ℕ → Image → Type 0) where
+module _ {D : Type 0} (tells : DiskTells D) where
   -- ---- one command
 
   module _ (k : Masters) (h : PlainHistory) (command : Command) (before now : Tally) (first last : KeptOn D) where
     -- it is answered and its reply tallied
     pub tallied : {T : Type 0} (done : T) (reply : Reply) (line : List ℕ) → line ≡ reply_line reply
-        → StepsAt reads may_leave moment left_since k h command first last (Ok reply) → Takes before reply line now
-        → TalliesAt reads may_leave moment left_since k h command before now first last (Ok done)
+        → StepsAt tells k h command first last (Ok reply) → Takes before reply line now
+        → TalliesAt tells k h command before now first last (Ok done)
     tallied done reply line is (same, goes) takes =
         (subst (λ (r : Reply). Takes before r (reply_line r) now) same (subst (λ (l : List ℕ). Takes before reply l now) is takes), goes)
 
     -- it isn't answered
-    unanswered : (T : Type 0) (fault : StepFault) → StepsAt reads may_leave moment left_since k h command first last (Err fault)
-        → TalliesAt reads may_leave moment left_since {T = T} k h command before now first last (Err fault)
+    unanswered : (T : Type 0) (fault : StepFault) → StepsAt tells k h command first last (Err fault)
+        → TalliesAt tells {T = T} k h command before now first last (Err fault)
     unanswered T Disk steps = steps
     unanswered T Trace steps = steps
     unanswered T Memory steps = steps
     unanswered T (Tag bad) steps = absurd steps
 
     pub unanswered_as : {T : Type 0} (result : Result T StepFault) (fault : StepFault) → result ≡ Err fault
-        → StepsAt reads may_leave moment left_since k h command first last (Err fault)
-        → TalliesAt reads may_leave moment left_since k h command before now first last result
+        → StepsAt tells k h command first last (Err fault)
+        → TalliesAt tells k h command before now first last result
     unanswered_as {T} result fault is steps =
-        subst (λ (r : Result T StepFault). TalliesAt reads may_leave moment left_since k h command before now first last r) (sym is)
+        subst (λ (r : Result T StepFault). TalliesAt tells k h command before now first last r) (sym is)
         (unanswered T fault steps)
 
     -- it is answered, but memory is refused for its line
     pub unlined : {T : Type 0} (result : Result T StepFault) (reply : Reply) → result ≡ Err Memory
-        → StepsAt reads may_leave moment left_since k h command first last (Ok reply)
-        → TalliesAt reads may_leave moment left_since k h command before now first last result
+        → StepsAt tells k h command first last (Ok reply)
+        → TalliesAt tells k h command before now first last result
     unlined {T} result reply is steps =
-        subst (λ (r : Result T StepFault). TalliesAt reads may_leave moment left_since k h command before now first last r) (sym is) steps.1.leaves
+        subst (λ (r : Result T StepFault). TalliesAt tells k h command before now first last r) (sym is) steps.1.leaves
 
   -- ---- the commands so far
 
   module _ (k : Masters) (h : PlainHistory) (load : Load) (first : KeptOn D) where
     pub loads_none : (tally : Tally) → TalliesNothing tally → StandsFor first.kept h
-        → ((c : Image) → left_since first.disk (moment first.disk) c → may_leave first.disk c)
-        → LoadedTo reads may_leave moment left_since k h load 0 tally first first
-    loads_none tally none stands only_now = record {
+        → LoadedTo tells k h load 0 tally first first
+    loads_none tally none stands = record {
       counts = none.0;
       hashed = none.1;
       stands = stands;
       holds = λ holds. holds;
-      moments = λ holds. started moment left_since may_leave first.disk (KeepsSome k h load) only_now
+      moments = λ holds. started tells first.disk (KeepsSome k h load)
           (λ c left. (0, omega arith, inr (holds.each c left)));
     }
 
-    module _ (place next : ℕ) (is : next ≡ place + 1) (low : place < WORKLOAD_USERS + load.count) (before : Tally) (mid last : KeptOn D)
-        (s : LoadedTo reads may_leave moment left_since k h load place before first mid) where
+    module _ (place next : ℕ) (is : next ≡ place + 1) (low : place < WORKLOAD_USERS + load.count)
+        (before : Tally) (mid last : KeptOn D)
+        (s : LoadedTo tells k h load place before first mid) where
       abbrev command : Command
       command = command_at load.number place
 
@@ -145,15 +145,15 @@ module _ {D : Type 0} (reads : D → Option Image) (may_leave : D → Image → 
       step_some c (inl keeps) = (place, omega (arith, low), inr keeps)
       step_some c (inr keeps) = (next, omega (arith, low, is), inr (subst (λ x. KeepsPlain k x c) (sym after_is) keeps))
 
-      moments_so : LeavesStep reads may_leave moment left_since k q command mid.disk last.disk → Holds reads may_leave k h first.disk
-          → LeavesOnly moment left_since first.disk last.disk (KeepsSome k h load)
+      moments_so : LeavesStep tells k q command mid.disk last.disk → Holds tells k h first.disk
+          → LeavesOnly tells first.disk last.disk (KeepsSome k h load)
       moments_so leaves holds =
-          then_on moment left_since may_leave first.disk mid.disk last.disk (KeepsSome k h load) (KeepsStep k q command)
+          then_on tells first.disk mid.disk last.disk (KeepsSome k h load) (KeepsStep k q command)
           (s.moments holds) leaves.moments step_some
 
       -- one more is answered
-      pub loads_more : {T : Type 0} (done : T) (now : Tally) → TalliesAt reads may_leave moment left_since k q command before now mid last (Ok done)
-          → LoadedTo reads may_leave moment left_since k h load next now first last
+      pub loads_more : {T : Type 0} (done : T) (now : Tally) → TalliesAt tells k q command before now mid last (Ok done)
+          → LoadedTo tells k h load next now first last
       loads_more done now (takes, goes) = record {
         counts = takes.0 ∙ ap (λ (n : Counts). counted n (reply_to q command)) s.counts
             ∙ sym (counted_all-more _ h (first_commands load.number place) command)
@@ -162,14 +162,14 @@ module _ {D : Type 0} (reads : D → Option Image) (may_leave : D → Image → 
             (sym (ap (lines h) (first_more load.number place next is) ∙ lines-more h (first_commands load.number place) command))
             (takes.1 (lines h (first_commands load.number place)) s.hashed);
         stands = subst (StandsFor last.kept) (sym after_is) goes.stands;
-        holds = λ holds. subst (λ x. Holds reads may_leave k x last.disk) (sym after_is) (goes.holds (s.holds holds));
+        holds = λ holds. subst (λ x. Holds tells k x last.disk) (sym after_is) (goes.holds (s.holds holds));
         moments = λ holds. moments_so (goes.leaves (s.holds holds)) holds;
       }
 
       -- or it isn't
       loads_stop : (T : Type 0) (now : Tally) (fault : StepFault)
-          → TalliesAt reads may_leave moment left_since {T = T} k q command before now mid last (Err fault)
-          → Loads reads may_leave moment left_since k h load first last (Err fault)
+          → TalliesAt tells {T = T} k q command before now mid last (Err fault)
+          → Loads tells k h load first last (Err fault)
       loads_stop T now Disk stops = λ holds. moments_so (stops (s.holds holds)) holds
       loads_stop T now Trace stops = λ holds. moments_so (stops (s.holds holds)) holds
       loads_stop T now Memory stops = λ holds. moments_so (stops (s.holds holds)) holds
@@ -177,27 +177,27 @@ module _ {D : Type 0} (reads : D → Option Image) (may_leave : D → Image → 
 
     -- ---- at the end the epoch is asked for
 
-    pub to_end : (place : ℕ) → place ≡ WORKLOAD_USERS + load.count → (tally : Tally) (mid : KeptOn D) → LoadedTo reads may_leave moment left_since k h load place tally first mid
-        → LoadedTo reads may_leave moment left_since k h load (WORKLOAD_USERS + load.count) tally first mid
-    to_end place is tally mid s = subst (λ (n : ℕ). LoadedTo reads may_leave moment left_since k h load n tally first mid) is s
+    pub to_end : (place : ℕ) → place ≡ WORKLOAD_USERS + load.count → (tally : Tally) (mid : KeptOn D) → LoadedTo tells k h load place tally first mid
+        → LoadedTo tells k h load (WORKLOAD_USERS + load.count) tally first mid
+    to_end place is tally mid s = subst (λ (n : ℕ). LoadedTo tells k h load n tally first mid) is s
 
     module _ (tally : Tally) (mid last : KeptOn D) (masters : mid.kept.masters ≡ k)
-        (s : LoadedTo reads may_leave moment left_since k h load (WORKLOAD_USERS + load.count) tally first mid) where
+        (s : LoadedTo tells k h load (WORKLOAD_USERS + load.count) tally first mid) where
       abbrev AreSteps : Result Reply StepFault → Type 0
-      AreSteps r = (j : Masters) (q : PlainHistory) → mid.kept.masters ≡ j → StandsFor mid.kept q → StepsAt reads may_leave moment left_since j q AskEpoch mid last r
+      AreSteps r = (j : Masters) (q : PlainHistory) → mid.kept.masters ≡ j → StandsFor mid.kept q → StepsAt tells j q AskEpoch mid last r
 
       epoch_some : (c : Image) → KeepsStep k (after_load h load) AskEpoch c → KeepsSome k h load c
       epoch_some c (inl keeps) = (WORKLOAD_USERS + load.count, omega arith, inr keeps)
       epoch_some c (inr keeps) = (WORKLOAD_USERS + load.count, omega arith, inr keeps)
 
-      moments_at_end : LeavesStep reads may_leave moment left_since k (after_load h load) AskEpoch mid.disk last.disk → Holds reads may_leave k h first.disk
-          → LeavesOnly moment left_since first.disk last.disk (KeepsSome k h load)
+      moments_at_end : LeavesStep tells k (after_load h load) AskEpoch mid.disk last.disk → Holds tells k h first.disk
+          → LeavesOnly tells first.disk last.disk (KeepsSome k h load)
       moments_at_end leaves holds =
-          then_on moment left_since may_leave first.disk mid.disk last.disk (KeepsSome k h load) (KeepsStep k (after_load h load) AskEpoch)
+          then_on tells first.disk mid.disk last.disk (KeepsSome k h load) (KeepsStep k (after_load h load) AskEpoch)
           (s.moments holds) leaves.moments epoch_some
 
       pub ends_asked : (reply : Reply) → AreSteps (Ok reply)
-          → LoadedTo reads may_leave moment left_since k h load (WORKLOAD_USERS + load.count) tally first last
+          → LoadedTo tells k h load (WORKLOAD_USERS + load.count) tally first last
       ends_asked reply steps =
           let goes = (steps k (after_load h load) masters s.stands).1 in record {
             counts = s.counts;
@@ -207,28 +207,30 @@ module _ {D : Type 0} (reads : D → Option Image) (may_leave : D → Image → 
             moments = λ holds. moments_at_end (goes.leaves (s.holds holds)) holds;
           }
 
-      by_fault : (fault : StepFault) → StepsAt reads may_leave moment left_since k (after_load h load) AskEpoch mid last (Err fault)
-          → Loads reads may_leave moment left_since k h load first last (Err fault)
+      by_fault : (fault : StepFault) → StepsAt tells k (after_load h load) AskEpoch mid last (Err fault)
+          → Loads tells k h load first last (Err fault)
       by_fault Disk steps = λ holds. moments_at_end (steps (s.holds holds)) holds
       by_fault Trace steps = λ holds. moments_at_end (steps (s.holds holds)) holds
       by_fault Memory steps = λ holds. moments_at_end (steps (s.holds holds)) holds
       by_fault (Tag bad) steps = absurd steps
 
       pub ends_unasked : (r : Result Reply StepFault) (fault : StepFault) → r ≡ Err fault → AreSteps r
-          → (result : Result Tally StepFault) → result ≡ Err fault → Loads reads may_leave moment left_since k h load first last result
+          → (result : Result Tally StepFault) → result ≡ Err fault → Loads tells k h load first last result
       ends_unasked r fault at steps result is =
-          subst (λ (x : Result Tally StepFault). Loads reads may_leave moment left_since k h load first last x) (sym is)
-          (by_fault fault (subst (λ (x : Result Reply StepFault). StepsAt reads may_leave moment left_since k (after_load h load) AskEpoch mid last x) at
+          subst (λ (x : Result Tally StepFault). Loads tells k h load first last x) (sym is)
+          (by_fault fault (subst (λ (x : Result Reply StepFault). StepsAt tells k (after_load h load) AskEpoch mid last x) at
           (steps k (after_load h load) masters s.stands)))
 
     -- ---- by what the workload gives
 
-    module _ (w next : Progress) (command : Command) (numbers : w.number ≡ load.number) (counts : w.count ≡ load.count) (gives : Gives w (Some command) next)
-        (before now : Tally) (mid last : KeptOn D) (masters : mid.kept.masters ≡ k) (s : LoadedTo reads may_leave moment left_since k h load w.place before first mid) where
+    module _ (w next : Progress) (command : Command) (numbers : w.number ≡ load.number)
+        (counts : w.count ≡ load.count) (gives : Gives w (Some command) next) (before now : Tally)
+        (mid last : KeptOn D) (masters : mid.kept.masters ≡ k)
+        (s : LoadedTo tells k h load w.place before first mid) where
       abbrev AreTallies : {T : Type 0} → Result T StepFault → Type 0
       AreTallies r =
           (j : Masters) (q : PlainHistory) → mid.kept.masters ≡ j → StandsFor mid.kept q
-          → TalliesAt reads may_leave moment left_since j q command before now mid last r
+          → TalliesAt tells j q command before now mid last r
 
       next_is : next.place ≡ w.place + 1
       next_is = ap (λ (x : Progress). x.place) gives.2
@@ -237,18 +239,18 @@ module _ {D : Type 0} (reads : D → Option Image) (may_leave : D → Image → 
       low = omega (arith, gives.0, counts)
 
       tallies_so : {T : Type 0} (r : Result T StepFault) → AreTallies r
-          → TalliesAt reads may_leave moment left_since k (after_first h load w.place) (command_at load.number w.place) before now mid last r
+          → TalliesAt tells k (after_first h load w.place) (command_at load.number w.place) before now mid last r
       tallies_so r tallies =
-          subst (λ c. TalliesAt reads may_leave moment left_since k (after_first h load w.place) c before now mid last r)
+          subst (λ c. TalliesAt tells k (after_first h load w.place) c before now mid last r)
           (gives.1 ∙ ap (λ n. command_at n w.place) numbers) (tallies k (after_first h load w.place) masters s.stands)
 
-      pub goes_on : {T : Type 0} (done : T) → AreTallies (Ok done) → LoadedTo reads may_leave moment left_since k h load next.place now first last
+      pub goes_on : {T : Type 0} (done : T) → AreTallies (Ok done) → LoadedTo tells k h load next.place now first last
       goes_on done tallies = loads_more w.place next.place next_is low before mid last s done now (tallies_so (Ok done) tallies)
 
       pub stops : {T : Type 0} (r : Result T StepFault) (fault : StepFault) → r ≡ Err fault → AreTallies r
-          → (result : Result Tally StepFault) → result ≡ Err fault → Loads reads may_leave moment left_since k h load first last result
+          → (result : Result Tally StepFault) → result ≡ Err fault → Loads tells k h load first last result
       stops {T} r fault at tallies result is =
-          let stopped = subst (λ (x : Result T StepFault). TalliesAt reads may_leave moment left_since k (after_first h load w.place)
+          let stopped = subst (λ (x : Result T StepFault). TalliesAt tells k (after_first h load w.place)
           (command_at load.number w.place) before now mid last x) at (tallies_so r tallies) in
-          subst (λ (x : Result Tally StepFault). Loads reads may_leave moment left_since k h load first last x) (sym is)
+          subst (λ (x : Result Tally StepFault). Loads tells k h load first last x) (sym is)
           (loads_stop w.place next.place next_is low before mid last s T now fault stopped)

@@ -4,6 +4,7 @@ use Rattle.std.specs.Prelude.{Option, Result, Ok, Err}
 use Rattle.std.specs.Io.KnownBytes.{Appends}
 use Rattle.ov_disk.specs.Disk.{Image}
 use Rattle.ov_disk.specs.Moments.{LeavesOnly}
+use Rattle.ov_disk.specs.Tells.{DiskTells}
 use Rattle.ov_script.specs.Workload.{command_at, first_commands, workload}
 use Rattle.ov_script.specs.declared.command.Command.TheVariants.{Epoch as AskEpoch}
 use Rattle.ov_script.specs.declared.drawn.TheConstants.{WORKLOAD_USERS}
@@ -43,7 +44,7 @@ IsMadeAt k h load place bytes c =
 -- where this holds of the disk from before, each image that a crash may leave of it now stands for
 -- the history after these commands, or after one more: after one more, where the front is all of
 -- that one's transcript.
-pub record TracedTo {D : Type 0} (may_leave : D → Image → Type 0) (k : Masters) (h : PlainHistory)
+pub record TracedTo {D : Type 0} (tells : DiskTells D) (k : Masters) (h : PlainHistory)
     (load : Load) (last : D) (old new : Option (List ℕ)) (holds : Type 0) : Type 0 where
   pub place : ℕ
   pub low : place ≤ WORKLOAD_USERS + load.count
@@ -52,8 +53,8 @@ pub record TracedTo {D : Type 0} (may_leave : D → Image → Type 0) (k : Maste
   pub transcripts : Transcripts k h (first_commands load.number place) bytes
   pub front : (more ≡ []) ⊎ IsFrontAt k h load place more
   pub put : Appends old new (bytes ++ more)
-  pub leaves : holds → (c : Image) → may_leave last c → KeepsAt k h load place c
-  pub made : holds → (c : Image) → may_leave last c → IsMadeAt k h load place more c
+  pub leaves : holds → (c : Image) → tells.may_leave last c → KeepsAt k h load place c
+  pub made : holds → (c : Image) → tells.may_leave last c → IsMadeAt k h load place more c
 
 -- all transcripts were put, and that of the end
 abbrev pub TracesWhole : Masters → PlainHistory → Load → Option (List ℕ) → Option (List ℕ) → Type 0
@@ -63,26 +64,25 @@ TracesWhole k h load old new =
 -- With status 0 all transcripts were put. Whatever the status, those of some first commands were,
 -- and a stop leaves the history after these, or after one more: just that one where its transcript
 -- was put whole.
-pub record LoadTracesAs {D : Type 0} (may_leave : D → Image → Type 0) (k : Masters)
-    (h : PlainHistory) (load : Load) (last : D) (old new : Option (List ℕ)) (status : ℕ)
-    (holds : Type 0) : Type 0 where
+pub record LoadTracesAs {D : Type 0} (tells : DiskTells D) (k : Masters) (h : PlainHistory)
+    (load : Load) (last : D) (old new : Option (List ℕ)) (status : ℕ) (holds : Type 0)
+    : Type 0 where
   pub whole : status ≡ 0 → TracesWhole k h load old new
-  pub first : TracedTo may_leave k h load last old new holds
+  pub first : TracedTo tells k h load last old new holds
 
 -- what was put where the answering of the workload ended so
-abbrev pub TracesLoad : {D : Type 0} → (D → Image → Type 0) → Masters → PlainHistory → Load → D
+abbrev pub TracesLoad : {D : Type 0} → DiskTells D → Masters → PlainHistory → Load → D
     → Option (List ℕ) → Option (List ℕ) → Type 0 → Result Tally StepFault → Type 0
-TracesLoad may_leave k h load last old new holds (Ok tally) =
-    TracesWhole k h load old new × TracedTo may_leave k h load last old new holds
-TracesLoad may_leave k h load last old new holds (Err fault) =
-    TracedTo may_leave k h load last old new holds
+TracesLoad tells k h load last old new holds (Ok tally) =
+    TracesWhole k h load old new × TracedTo tells k h load last old new holds
+TracesLoad tells k h load last old new holds (Err fault) =
+    TracedTo tells k h load last old new holds
 
-module _ {D : Type 0} (reads : D → Option Image) (may_leave : D → Image → Type 0)
-    (moment : D → ℕ) (left_since : D → ℕ → Image → Type 0) where
+module _ {D : Type 0} (tells : DiskTells D) where
   -- how a load ends, from a disk that stands for the history where this holds
   pub record LoadEndsAs (k : Masters) (h : PlainHistory) (load : Load) (first last : D)
       (old new t_old t_new : Option (List ℕ)) (status : ℕ) (holds : Type 0) : Type 0 where
     pub printed : EndsLoad load h old new status
-    pub traced : LoadTracesAs may_leave k h load last t_old t_new status holds
-    pub survives : holds → LeavesOnly moment left_since first last (KeepsSome k h load)
-    pub lasts : holds → status ≡ 0 → LastsAs reads may_leave k (after_load h load) last
+    pub traced : LoadTracesAs tells k h load last t_old t_new status holds
+    pub survives : holds → LeavesOnly tells first last (KeepsSome k h load)
+    pub lasts : holds → status ≡ 0 → LastsAs tells k (after_load h load) last

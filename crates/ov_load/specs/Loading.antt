@@ -6,6 +6,7 @@ use Rattle.sha2.specs.Hashers.{Holds256}
 use Rattle.ov_base.specs.declared.mode.Mode.{Mode}
 use Rattle.ov_disk.specs.Disk.{Image, Told}
 use Rattle.ov_disk.specs.Moments.{LeavesOnly}
+use Rattle.ov_disk.specs.Tells.{DiskTells}
 use Rattle.ov_script.specs.Lines.{reply_line}
 use Rattle.ov_script.specs.Workload.{first_commands, workload}
 use Rattle.ov_script.specs.declared.command.Command.{Command}
@@ -48,12 +49,12 @@ KeepsSome k h load c =
 
 -- What lasts of a history on a disk: as it reads, and each image that a stop may leave of it, it
 -- keeps the history, so a store was begun there; and what is published after it is the matrix.
-pub record LastsAs {D : Type 0} (reads : D → Option Image) (may_leave : D → Image → Type 0)
-    (k : Masters) (h : PlainHistory) (disk : D) : Type 0 where
+pub record LastsAs {D : Type 0} (tells : DiskTells D) (k : Masters) (h : PlainHistory) (disk : D)
+    : Type 0 where
   pub image : Image
-  pub told : reads disk ≡ Some image
+  pub told : tells.reads disk ≡ Some image
   pub reads_it : KeepsPlain k h image
-  pub leaves_it : (c : Image) → may_leave disk c → KeepsPlain k h c
+  pub leaves_it : (c : Image) → tells.may_leave disk c → KeepsPlain k h c
   pub tokens : PublishesMatrix k h
 
 -- ---- what is printed
@@ -88,8 +89,7 @@ IsOfNoScript status = (status ≡ 3 → ⊥) × (status ≡ 11 → ⊥)
 abbrev pub OneMore : Counts → Counts → Type 0
 OneMore old new = (reply : Reply) × (new ≡ counted old reply)
 
-module _ {D : Type 0} (reads : D → Option Image) (may_leave : D → Image → Type 0)
-    (moment : D → ℕ) (left_since : D → ℕ → Image → Type 0) where
+module _ {D : Type 0} (tells : DiskTells D) where
   -- One command at a history for which what is kept stands. Its reply was tallied, and all goes on
   -- as the history does. Or it wasn't, and of what a crash leaves it isn't said whether it is from
   -- before the command.
@@ -97,16 +97,13 @@ module _ {D : Type 0} (reads : D → Option Image) (may_leave : D → Image → 
       → KeptOn D → KeptOn D → Result T StepFault → Type 0
   TalliesAt k h command before now first last (Ok done) =
       Takes before (reply_to h command) (reply_line (reply_to h command)) now
-      × GoesOn reads may_leave moment left_since k h command first last
+      × GoesOn tells k h command first last
   TalliesAt k h command before now first last (Err Disk) =
-      Holds reads may_leave k h first.disk
-      → LeavesStep reads may_leave moment left_since k h command first.disk last.disk
+      Holds tells k h first.disk → LeavesStep tells k h command first.disk last.disk
   TalliesAt k h command before now first last (Err Trace) =
-      Holds reads may_leave k h first.disk
-      → LeavesStep reads may_leave moment left_since k h command first.disk last.disk
+      Holds tells k h first.disk → LeavesStep tells k h command first.disk last.disk
   TalliesAt k h command before now first last (Err Memory) =
-      Holds reads may_leave k h first.disk
-      → LeavesStep reads may_leave moment left_since k h command first.disk last.disk
+      Holds tells k h first.disk → LeavesStep tells k h command first.disk last.disk
   TalliesAt k h command before now first last (Err (Tag bad)) = ⊥
 
   -- The first so many commands of the workload were answered, and their replies tallied.
@@ -116,10 +113,9 @@ module _ {D : Type 0} (reads : D → Option Image) (may_leave : D → Image → 
         ≡ counted_all none_counted h (first_commands load.number place)
     pub hashed : Holds256 tally.hasher (lines h (first_commands load.number place))
     pub stands : StandsFor last.kept (after_first h load place)
-    pub holds : Holds reads may_leave k h first.disk
-        → Holds reads may_leave k (after_first h load place) last.disk
-    pub moments : Holds reads may_leave k h first.disk
-        → LeavesOnly moment left_since first.disk last.disk (KeepsSome k h load)
+    pub holds : Holds tells k h first.disk → Holds tells k (after_first h load place) last.disk
+    pub moments : Holds tells k h first.disk
+        → LeavesOnly tells first.disk last.disk (KeepsSome k h load)
 
   -- all of them were; or a crash leaves the history after some of them; a wrong tag is never found
   abbrev pub Loads : Masters → PlainHistory → Load → KeptOn D → KeptOn D
@@ -127,24 +123,20 @@ module _ {D : Type 0} (reads : D → Option Image) (may_leave : D → Image → 
   Loads k h load first last (Ok tally) =
       LoadedTo k h load (WORKLOAD_USERS + load.count) tally first last
   Loads k h load first last (Err Disk) =
-      Holds reads may_leave k h first.disk
-      → LeavesOnly moment left_since first.disk last.disk (KeepsSome k h load)
+      Holds tells k h first.disk → LeavesOnly tells first.disk last.disk (KeepsSome k h load)
   Loads k h load first last (Err Trace) =
-      Holds reads may_leave k h first.disk
-      → LeavesOnly moment left_since first.disk last.disk (KeepsSome k h load)
+      Holds tells k h first.disk → LeavesOnly tells first.disk last.disk (KeepsSome k h load)
   Loads k h load first last (Err Memory) =
-      Holds reads may_leave k h first.disk
-      → LeavesOnly moment left_since first.disk last.disk (KeepsSome k h load)
+      Holds tells k h first.disk → LeavesOnly tells first.disk last.disk (KeepsSome k h load)
   Loads k h load first last (Err (Tag bad)) = ⊥
 
 -- This holds of the load that the words ask for, under the masters of the key file, for each
 -- history as which the disk opens for them.
-abbrev pub ForLoad : {D : Type 0} → (reads : D → Option Image) → (may_leave : D → Image → Type 0)
-    → D → List (String Global) → Option (List ℕ) → (Masters → PlainHistory → Load → Type 0)
-    → Type 0
-ForLoad reads may_leave disk words keys P =
+abbrev pub ForLoad : {D : Type 0} → DiskTells D → D → List (String Global) → Option (List ℕ)
+    → (Masters → PlainHistory → Load → Type 0) → Type 0
+ForLoad tells disk words keys P =
     (load : Load) → IsLoad load words → IfSome keys (λ file. (k : Masters) (h : PlainHistory)
-    → AreMasters file k → OpensAs reads may_leave k load.mode h disk → P k h load)
+    → AreMasters file k → OpensAs tells k load.mode h disk → P k h load)
 
 -- this holds of the load that the words ask for, under the masters of the key file, for the image
 -- that the disk reads

@@ -43,14 +43,14 @@ fn load_machine<O: Sink, T: Sink, D: Disk>(
     requires healthy { machine.old.failed ≡ false }
     ensures ends { let k = machine.old.kept.masters in
         (h : PlainHistory) → StandsFor machine.old.kept h
-        → LoadEndsAs D.reads D.may_leave D.moment D.left_since k h load.now
-        machine.old.disk machine.new.disk (O.written out.old) (O.written out.new)
-        (T.written trace.old) (T.written trace.new) result
-        (Holds D.reads D.may_leave k h machine.old.disk) }
-    ensures causes { EndsFor D.borrow D.faults machine.old.disk machine.new.disk result
-        ⊥ (Rose (O.faults out.old) (O.faults out.new)
-        ⊎ Rose (T.faults trace.old) (T.faults trace.new))
-        (SaysTag (O.written out.old) (O.written out.new)
+        → LoadEndsAs D.tells k h load.now
+        machine.old.disk machine.new.disk (O.tells.written out.old) (O.tells.written out.new)
+        (T.tells.written trace.old) (T.tells.written trace.new) result
+        (Holds D.tells k h machine.old.disk) }
+    ensures causes { EndsFor D.tells machine.old.disk machine.new.disk result
+        ⊥ (Rose (O.tells.faults out.old) (O.tells.faults out.new)
+        ⊎ Rose (T.tells.faults trace.old) (T.tells.faults trace.new))
+        (SaysTag (O.tells.written out.old) (O.tells.written out.new)
         × ((h : PlainHistory) → StandsFor machine.old.kept h → ⊥)) }
     ensures status { IsScriptStatus result × IsOfNoScript result }
 {
@@ -71,18 +71,19 @@ fn load_over<O: Sink, T: Sink, D: Disk + Drop>(
 ) -> (u8, D)
     requires count { load.now.count ≤ MAX_WORKLOAD }
     ensures ends { let k = plain_masters masters in
-        (h : PlainHistory) → OpensAs D.reads D.may_leave k load.now.mode h disk
-        → LoadEndsAs D.reads D.may_leave D.moment D.left_since k h load.now disk result.1
-        (O.written out.old) (O.written out.new) (T.written trace.old) (T.written trace.new)
-        result.0 (Unit {0}) }
+        (h : PlainHistory) → OpensAs D.tells k load.now.mode h disk
+        → LoadEndsAs D.tells k h load.now disk result.1
+        (O.tells.written out.old) (O.tells.written out.new)
+        (T.tells.written trace.old) (T.tells.written trace.new) result.0 (Unit {0}) }
     ensures image { let k = plain_masters masters in
-        Told (D.reads disk) (λ i. JudgesImage k load.now.mode i result.0
-        (O.written out.old) (O.written out.new) (trace.new ≡ trace.old)
-        (LeavesAsAtStart D.reads D.may_leave D.moment D.left_since disk result.1)) }
-    ensures causes { EndsFor D.borrow D.faults disk result.1 result.0
-        ⊥ (Rose (O.faults out.old) (O.faults out.new)
-        ⊎ Rose (T.faults trace.old) (T.faults trace.new))
-        (SaysTag (O.written out.old) (O.written out.new) × TellsNothing (D.reads disk)) }
+        Told (D.tells.reads disk) (λ i. JudgesImage k load.now.mode i result.0
+        (O.tells.written out.old) (O.tells.written out.new) (trace.new ≡ trace.old)
+        (LeavesAsAtStart D.tells disk result.1)) }
+    ensures causes { EndsFor D.tells disk result.1 result.0
+        ⊥ (Rose (O.tells.faults out.old) (O.tells.faults out.new)
+        ⊎ Rose (T.tells.faults trace.old) (T.tells.faults trace.new))
+        (SaysTag (O.tells.written out.old) (O.tells.written out.new)
+        × TellsNothing (D.tells.reads disk)) }
     ensures status { IsStoreStatus result.0 × IsOfNoScript result.0 }
 {
     match begin(alloc, disk, masters, load.mode) {
@@ -105,22 +106,24 @@ fn load_with_keys<K: Source, O: Sink, T: Sink, D: Disk + Drop>(
     trace: &mut T,
 ) -> (u8, D)
     requires count { load.now.count ≤ MAX_WORKLOAD }
-    ensures ends { IfSome (K.left keys.old) (λ file. (k : PlainMasters) (h : PlainHistory)
-        → AreMasters file k → OpensAs D.reads D.may_leave k load.now.mode h disk
-        → LoadEndsAs D.reads D.may_leave D.moment D.left_since k h load.now disk result.1
-        (O.written out.old) (O.written out.new) (T.written trace.old) (T.written trace.new)
-        result.0 (Unit {0})) }
-    ensures image { IfSome (K.left keys.old) (λ file. (k : PlainMasters) → AreMasters file k
-        → Told (D.reads disk) (λ i. JudgesImage k load.now.mode i result.0
-        (O.written out.old) (O.written out.new) (trace.new ≡ trace.old)
-        (LeavesAsAtStart D.reads D.may_leave D.moment D.left_since disk result.1))) }
-    ensures keys { JudgesKeys (Unit {0}) (K.left keys.old) result.0
-        (O.written out.old) (O.written out.new) ((trace.new ≡ trace.old) × (result.1 ≡ disk)) }
-    ensures causes { EndsFor D.borrow D.faults disk result.1 result.0
-        (Rose (K.faults keys.old) (K.faults keys.new))
-        (Rose (O.faults out.old) (O.faults out.new)
-        ⊎ Rose (T.faults trace.old) (T.faults trace.new))
-        (SaysTag (O.written out.old) (O.written out.new) × TellsNothing (D.reads disk)) }
+    ensures ends { IfSome (K.tells.left keys.old) (λ file. (k : PlainMasters) (h : PlainHistory)
+        → AreMasters file k → OpensAs D.tells k load.now.mode h disk
+        → LoadEndsAs D.tells k h load.now disk result.1
+        (O.tells.written out.old) (O.tells.written out.new)
+        (T.tells.written trace.old) (T.tells.written trace.new) result.0 (Unit {0})) }
+    ensures image { IfSome (K.tells.left keys.old) (λ file. (k : PlainMasters) → AreMasters file k
+        → Told (D.tells.reads disk) (λ i. JudgesImage k load.now.mode i result.0
+        (O.tells.written out.old) (O.tells.written out.new) (trace.new ≡ trace.old)
+        (LeavesAsAtStart D.tells disk result.1))) }
+    ensures keys { JudgesKeys (Unit {0}) (K.tells.left keys.old) result.0
+        (O.tells.written out.old) (O.tells.written out.new)
+        ((trace.new ≡ trace.old) × (result.1 ≡ disk)) }
+    ensures causes { EndsFor D.tells disk result.1 result.0
+        (Rose (K.tells.faults keys.old) (K.tells.faults keys.new))
+        (Rose (O.tells.faults out.old) (O.tells.faults out.new)
+        ⊎ Rose (T.tells.faults trace.old) (T.tells.faults trace.new))
+        (SaysTag (O.tells.written out.old) (O.tells.written out.new)
+        × TellsNothing (D.tells.reads disk)) }
     ensures status { IsKeysStatus result.0 × IsOfNoScript result.0 }
 {
     match read_masters(keys) {
@@ -160,30 +163,33 @@ pub fn load<K: Source, O: Sink, T: Sink, D: Disk>(
     trace: &mut T,
     disk: &mut D,
 ) -> u8
-    ensures opened { ForLoad D.reads D.may_leave disk.old words.now (K.left keys.old) (λ k h load.
-        LoadsWell (EndsLoad load h (O.written out.old) (O.written out.new) result)
-        (AddsUp load h) (IsComplete result (Rose (K.faults keys.old) (K.faults keys.new))
-        (Rose (O.faults out.old) (O.faults out.new)
-        ⊎ Rose (T.faults trace.old) (T.faults trace.new))
-        (Rose (D.faults disk.old) (D.faults disk.new)))
-        (LoadTracesAs D.may_leave k h load disk.new
-        (T.written trace.old) (T.written trace.new) result (Unit {0}))
-        (LeavesOnly D.moment D.left_since disk.old disk.new (KeepsSome k h load))
-        (result ≡ 0 → LastsAs D.reads D.may_leave k (after_load h load) disk.new)) }
-    ensures image { ForLoadImage (D.reads disk.old) words.now (K.left keys.old) (λ k mode i.
-        JudgesImage k mode i result (O.written out.old) (O.written out.new) (trace.new ≡ trace.old)
-        (LeavesAsAtStart D.reads D.may_leave D.moment D.left_since disk.old disk.new)) }
-    ensures keys { JudgesKeys ((load : Asked) × IsLoad load words.now) (K.left keys.old) result
-        (O.written out.old) (O.written out.new)
+    ensures opened { ForLoad D.tells disk.old words.now (K.tells.left keys.old) (λ k h load.
+        LoadsWell (EndsLoad load h (O.tells.written out.old) (O.tells.written out.new) result)
+        (AddsUp load h)
+        (IsComplete result (Rose (K.tells.faults keys.old) (K.tells.faults keys.new))
+        (Rose (O.tells.faults out.old) (O.tells.faults out.new)
+        ⊎ Rose (T.tells.faults trace.old) (T.tells.faults trace.new))
+        (Rose (D.tells.faults disk.old) (D.tells.faults disk.new)))
+        (LoadTracesAs D.tells k h load disk.new
+        (T.tells.written trace.old) (T.tells.written trace.new) result (Unit {0}))
+        (LeavesOnly D.tells disk.old disk.new (KeepsSome k h load))
+        (result ≡ 0 → LastsAs D.tells k (after_load h load) disk.new)) }
+    ensures image { ForLoadImage (D.tells.reads disk.old) words.now (K.tells.left keys.old)
+        (λ k mode i. JudgesImage k mode i result
+        (O.tells.written out.old) (O.tells.written out.new) (trace.new ≡ trace.old) (LeavesAsAtStart D.tells disk.old disk.new)) }
+    ensures keys { JudgesKeys ((load : Asked) × IsLoad load words.now)
+        (K.tells.left keys.old) result (O.tells.written out.old) (O.tells.written out.new)
         ((trace.new ≡ trace.old) × (disk.new ≡ disk.old)) }
     ensures words { RefusesWords (AreNoLoad words.now) result
-        (O.written out.old) (O.written out.new)
+        (O.tells.written out.old) (O.tells.written out.new)
         ((keys.new ≡ keys.old) × (trace.new ≡ trace.old) × (disk.new ≡ disk.old)) }
-    ensures causes { FailsForFaults result (Rose (D.faults disk.old) (D.faults disk.new))
-        (Rose (K.faults keys.old) (K.faults keys.new))
-        (Rose (O.faults out.old) (O.faults out.new)
-        ⊎ Rose (T.faults trace.old) (T.faults trace.new))
-        (SaysTag (O.written out.old) (O.written out.new) × TellsNothing (D.reads disk.old)) }
+    ensures causes { FailsForFaults result
+        (Rose (D.tells.faults disk.old) (D.tells.faults disk.new))
+        (Rose (K.tells.faults keys.old) (K.tells.faults keys.new))
+        (Rose (O.tells.faults out.old) (O.tells.faults out.new)
+        ⊎ Rose (T.tells.faults trace.old) (T.tells.faults trace.new))
+        (SaysTag (O.tells.written out.old) (O.tells.written out.new)
+        × TellsNothing (D.tells.reads disk.old)) }
     ensures no_script { IsOfNoScript result }
 {
     match load_of(words) {

@@ -83,8 +83,8 @@ pub fn summary_of(alloc: Global, load: &Load, tally: Tally, epoch: u32) -> Resul
 /// refused for them.
 pub fn put_summary<O: Sink>(alloc: Global, load: &Load, tally: Tally, epoch: u32, out: &mut O) -> u8
     ensures ends { PutsSummary load.now tally epoch
-        (O.written out.old) (O.written out.new) result }
-    ensures put { IsPutTo O.borrow O.faults out.old out.new result }
+        (O.tells.written out.old) (O.tells.written out.new) result }
+    ensures put { IsPutTo O.tells out.old out.new result }
 {
     match summary_of(alloc, load, tally, epoch) {
         Ok(lines) => put_last(out, &lines, Status::Done),

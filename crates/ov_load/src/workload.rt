@@ -33,13 +33,12 @@ fn answer<D: Disk, T: Sink>(
     requires room { AreAtMost tally.old.counts (2 ^ 32 - 2) }
     ensures answer { (k : Masters) (h : PlainHistory) → machine.old.kept.masters ≡ k
         → StandsFor machine.old.kept h
-        → TalliesAt D.reads D.may_leave D.moment D.left_since k h command
-        tally.old tally.new machine.old machine.new result }
+        → TalliesAt D.tells k h command tally.old tally.new machine.old machine.new result }
     ensures counts { OnOk result (OneMore tally.old.counts tally.new.counts) }
-    ensures step { IsStep D.borrow D.faults machine.old machine.new result }
-    ensures traced { Traces D.reads D.may_leave command machine.old machine.new
-        (T.written trace.old) (T.written trace.new) result }
-    ensures trace { PutsTo T.written T.faults (result ≡ Err StepFault.Trace) trace.old trace.new }
+    ensures step { IsStep D.tells machine.old machine.new result }
+    ensures traced { Traces D.tells command machine.old machine.new
+        (T.tells.written trace.old) (T.tells.written trace.new) result }
+    ensures trace { PutsTo T.tells (result ≡ Err StepFault.Trace) trace.old trace.new }
 {
     let alloc = *buffer.allocator();
     let reply = machine.step(alloc, command, trace)?;
@@ -60,14 +59,13 @@ pub fn answer_workload<D: Disk, T: Sink>(
     requires count { load.now.count ≤ MAX_WORKLOAD }
     requires healthy { machine.old.failed ≡ false }
     ensures loads { (h : PlainHistory) → StandsFor machine.old.kept h
-        → Loads D.reads D.may_leave D.moment D.left_since machine.old.kept.masters h load.now
-        machine.old machine.new result }
-    ensures step { IsStep D.borrow D.faults machine.old machine.new result }
+        → Loads D.tells machine.old.kept.masters h load.now machine.old machine.new result }
+    ensures step { IsStep D.tells machine.old machine.new result }
     ensures traced { (h : PlainHistory) → StandsFor machine.old.kept h
-        → TracesLoad D.may_leave machine.old.kept.masters h load.now machine.new.disk
-        (T.written trace.old) (T.written trace.new)
-        (Holds D.reads D.may_leave machine.old.kept.masters h machine.old.disk) result }
-    ensures trace { PutsTo T.written T.faults (result ≡ Err StepFault.Trace) trace.old trace.new }
+        → TracesLoad D.tells machine.old.kept.masters h load.now machine.new.disk
+        (T.tells.written trace.old) (T.tells.written trace.new)
+        (Holds D.tells machine.old.kept.masters h machine.old.disk) result }
+    ensures trace { PutsTo T.tells (result ≡ Err StepFault.Trace) trace.old trace.new }
 {
     let mut workload = Workload::new(alloc, load.number, load.count);
     let mut tally = Tally::new();

@@ -1,4 +1,4 @@
-use Rattle.std.proofs.Common.{MutBor, inr, refl, rules}
+use Rattle.std.proofs.Common.{inr, refl, rules}
 use Rattle.ov_answering.proofs.Statuses.{judged_so, judged_unasked, not_usage, words_known, words_refused}
 use Rattle.ov_load.proofs.LendingLoads.{load_image, load_well}
 use Rattle.ov_load.proofs.loading.load.Goals as goal
@@ -6,20 +6,20 @@ use Rattle.ov_load.proofs.loading.load.Goals as goal
 pub returns-in-Some-clause-opened : goal.returns-in-Some-clause-opened
 returns-in-Some-clause-opened g c =
     let causes = c.load_with_keys.ensures.causes in
-    load_well (λ (l : MutBor g.row.D.Denot). l.now) g.D.Disk.reads g.D.Disk.may_leave g.D.Disk.moment g.D.Disk.left_since
+    load_well g.D.Disk.tells
     (record { ref_ptr = c.args.disk.ref_ptr; ghost_name = _; now = c.args.disk.now }) c.load_with_keys.result.1 _ (search rules)
-    c.args.words.now (g.K.Source.left c.args.keys.now) (g.O.Sink.written c.args.out.now) (g.O.Sink.written c.load_with_keys.new.out)
-    (g.T.Sink.written c.args.trace.now) (g.T.Sink.written c.load_with_keys.new.trace)
+    c.args.words.now (g.K.Source.tells.left c.args.keys.now) (g.O.Sink.tells.written c.args.out.now) (g.O.Sink.tells.written c.load_with_keys.new.out)
+    (g.T.Sink.tells.written c.args.trace.now) (g.T.Sink.tells.written c.load_with_keys.new.trace)
     c.load_with_keys.result.0 c.in-Some.load c.in-Some.ensures.found _ _ _ (search rules) causes.read causes.write
     c.load_with_keys.ensures.ends
 
 pub returns-in-Some-clause-image : goal.returns-in-Some-clause-image
 returns-in-Some-clause-image g c =
-    load_image (λ (l : MutBor g.row.D.Denot). l.now) g.D.Disk.reads g.D.Disk.may_leave g.D.Disk.moment g.D.Disk.left_since
+    load_image g.D.Disk.tells
     (record { ref_ptr = c.args.disk.ref_ptr; ghost_name = _; now = c.args.disk.now }) c.load_with_keys.result.1 _ (search rules)
-    c.args.words.now (g.K.Source.left c.args.keys.now) (g.O.Sink.written c.args.out.now) (g.O.Sink.written c.load_with_keys.new.out)
-    (g.T.Sink.written c.args.trace.now) (g.T.Sink.written c.load_with_keys.new.trace)
-    c.load_with_keys.result.0 c.in-Some.load c.in-Some.ensures.found (g.D.Disk.reads c.args.disk.now) _ c.load_with_keys.ensures.image
+    c.args.words.now (g.K.Source.tells.left c.args.keys.now) (g.O.Sink.tells.written c.args.out.now) (g.O.Sink.tells.written c.load_with_keys.new.out)
+    (g.T.Sink.tells.written c.args.trace.now) (g.T.Sink.tells.written c.load_with_keys.new.trace)
+    c.load_with_keys.result.0 c.in-Some.load c.in-Some.ensures.found (g.D.Disk.tells.reads c.args.disk.now) _ c.load_with_keys.ensures.image
 
 pub returns-in-Some-clause-causes : goal.returns-in-Some-clause-causes
 returns-in-Some-clause-causes g c =

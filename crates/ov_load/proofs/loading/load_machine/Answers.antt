@@ -10,13 +10,13 @@ use Rattle.ov_load.proofs.loading.load_machine.Goals as goal
 
 pub returns-in-Ok-clause-ends : goal.returns-in-Ok-clause-ends
 returns-in-Ok-clause-ends g c = λ h stands.
-    ends_loaded g.D.Disk.reads g.D.Disk.may_leave g.D.Disk.moment g.D.Disk.left_since _ h c.args.load.now _ _ _ _ _
+    ends_loaded g.D.Disk.tells _ h c.args.load.now _ _ _ _ _
     c.args.machine.now c.answer_workload.new.machine c.in-Ok.tally (c.in-Ok.ensures.loads h stands)
-    (g.met.D.Disk.reads_one c.answer_workload.new.machine.disk) _ c.epoch.ensures c.put_summary.ensures.ends (c.in-Ok.ensures.traced h stands)
+    _ c.epoch.ensures c.put_summary.ensures.ends (c.in-Ok.ensures.traced h stands)
 
 pub returns-in-Err-clause-ends : goal.returns-in-Err-clause-ends
 returns-in-Err-clause-ends g c = λ h stands.
-    ends_faulted g.D.Disk.reads g.D.Disk.may_leave g.D.Disk.moment g.D.Disk.left_since _ h c.args.load.now _ _ _ _ _
+    ends_faulted g.D.Disk.tells _ h c.args.load.now _ _ _ _ _
     c.args.machine.now c.answer_workload.new.machine c.in-Err.fault _ (c.in-Err.ensures.loads h stands)
     (rw c.stop_of.ensures at c.finish.ensures.finish) (c.in-Err.ensures.traced h stands)
 
@@ -43,7 +43,7 @@ returns-in-Ok-clause-causes g c =
       disk = record {
         same = call.same;
         later = call.later;
-        disk = λ e. absurd (summary_not 4 _ _ _ _ _ _ ends (λ z. omega arith) (λ z. omega arith) (λ z. omega arith) e);
+        rose = λ e. absurd (summary_not 4 _ _ _ _ _ _ ends (λ z. omega arith) (λ z. omega arith) (λ z. omega arith) e);
       };
       read = λ e. summary_not 5 _ _ _ _ _ _ ends (λ z. omega arith) (λ z. omega arith) (λ z. omega arith) e;
       write = λ e. inl (c.put_summary.ensures.put.write e);
@@ -58,7 +58,7 @@ returns-in-Err-clause-causes g c =
       disk = record {
         same = step.call.same;
         later = step.call.later;
-        disk = λ e. step.call.disk (ap Err (disk_only c.in-Err.fault (finish_disk _ _ _ _ _ finished e)));
+        rose = λ e. step.call.rose (ap Err (disk_only c.in-Err.fault (finish_disk _ _ _ _ _ finished e)));
       };
       read = λ e. no_read c.in-Err.fault (finish_read _ _ _ _ _ finished e);
       write = λ e. wrote_or _ _ _ _ (λ (is : c.stop_of.result ≡ Stop.Write). no_write c.in-Err.fault (sym c.stop_of.ensures ∙ is))
@@ -66,7 +66,7 @@ returns-in-Err-clause-causes g c =
       tag = finish_tag ((h : PlainHistory) → StandsFor c.args.machine.now.kept h → ⊥) _ _ _ _ _ _ finished ([], Appends-nil _)
           (λ bad is. let wrong = tag_only c.in-Err.fault bad is in (
             step.tag bad (ap Err wrong),
-            λ h stands. no_tag g.D.Disk.reads g.D.Disk.may_leave g.D.Disk.moment g.D.Disk.left_since _ h c.args.load.now
+            λ h stands. no_tag g.D.Disk.tells _ h c.args.load.now
                 c.args.machine.now c.answer_workload.new.machine c.in-Err.fault bad wrong (c.in-Err.ensures.loads h stands),
           ));
     }

@@ -22,26 +22,26 @@ returns-in-Err-clause-status g c = (
 
 pub returns-in-Ok-clause-ends : goal.returns-in-Ok-clause-ends
 returns-in-Ok-clause-ends g c = λ h opens.
-    load_begun g.D.Disk.reads g.D.Disk.may_leave g.D.Disk.moment g.D.Disk.left_since
+    load_begun g.D.Disk.tells
     (plain_masters c.args.masters) h c.args.load.now _ _ _ _ _ c.args.disk opens
     c.of-machine.result c.in-Ok.store c.of-machine.ensures.store c.of-machine.ensures.masters
     c.in-Ok.ensures.new c.in-Ok.ensures.found c.in-Ok.ensures.any_moment
     c.into_disk.result
     (λ q stands. subst (λ (last : g.row.D.Denot).
-    LoadEndsAs g.D.Disk.reads g.D.Disk.may_leave g.D.Disk.moment g.D.Disk.left_since
+    LoadEndsAs g.D.Disk.tells
     c.of-machine.result.kept.masters q c.args.load.now c.of-machine.result.disk last
-    (g.O.Sink.written c.args.out.now) (g.O.Sink.written c.load_machine-code.new.out)
-    (g.T.Sink.written c.args.trace.now) (g.T.Sink.written c.load_machine-code.new.trace)
-    c.load_machine-code.result (Holds g.D.Disk.reads g.D.Disk.may_leave
+    (g.O.Sink.tells.written c.args.out.now) (g.O.Sink.tells.written c.load_machine-code.new.out)
+    (g.T.Sink.tells.written c.args.trace.now) (g.T.Sink.tells.written c.load_machine-code.new.trace)
+    c.load_machine-code.result (Holds g.D.Disk.tells
     c.of-machine.result.kept.masters q c.of-machine.result.disk))
     (sym c.into_disk.ensures) (c.load_machine-code.ensures.ends q stands))
 
 pub returns-in-Err-clause-ends : goal.returns-in-Err-clause-ends
 returns-in-Err-clause-ends g c = λ h opens.
-    load_refused g.D.Disk.reads g.D.Disk.may_leave g.D.Disk.moment g.D.Disk.left_since
-    (plain_masters c.args.masters) h c.args.load.now _ _ _ (g.T.Sink.written c.args.trace.now) _ c.args.disk opens
+    load_refused g.D.Disk.tells
+    (plain_masters c.args.masters) h c.args.load.now _ _ _ (g.T.Sink.tells.written c.args.trace.now) _ c.args.disk opens
     c.in-Err.refused.disk c.in-Err.refused.fault c.in-Err.ensures.fault c.put_fault.ensures.ends
-    c.in-Err.ensures.any_moment (g.met.D.Disk.counts_now c.in-Err.refused.disk)
+    c.in-Err.ensures.any_moment
 
 pub returns-in-Ok-clause-image : goal.returns-in-Ok-clause-image
 returns-in-Ok-clause-image g c = λ i told.
@@ -64,14 +64,14 @@ returns-in-Ok-clause-causes g c =
       disk = record {
         same = grind (arith, common_steps);
         later = grind (arith, common_steps);
-        disk = λ e. let rose = answered.disk e in grind (arith, common_steps);
+        rose = λ e. let rose = answered.rose e in grind (arith, common_steps);
       };
       read = causes.read;
       write = causes.write;
       tag = λ e.
           let wrong = causes.tag e in (
             wrong.0,
-            tells_nothing g.D.Disk.reads g.D.Disk.may_leave g.D.Disk.moment g.D.Disk.left_since
+            tells_nothing g.D.Disk.tells
                 (plain_masters c.args.masters) c.args.load.now.mode c.args.disk c.of-machine.result c.in-Ok.store
                 c.of-machine.ensures.store c.of-machine.ensures.masters c.in-Ok.ensures.new.1
                 c.in-Ok.ensures.found.0 wrong.1,
@@ -83,9 +83,9 @@ returns-in-Err-clause-causes g c =
     let ends = c.put_fault.ensures.ends in
     record {
       disk = record {
-        same = c.in-Err.ensures.call.0;
-        later = c.in-Err.ensures.call.1;
-        disk = λ e. c.in-Err.ensures.call.2 (disk_said c.in-Err.refused.fault _ _ _ _ ends e);
+        same = c.in-Err.ensures.call.same;
+        later = c.in-Err.ensures.call.later;
+        rose = λ e. c.in-Err.ensures.call.rose (disk_said c.in-Err.refused.fault _ _ _ _ ends e);
       };
       read = λ e. fault_no_read c.in-Err.refused.fault _ _ _ _ ends e;
       write = λ e. inl (c.put_fault.ensures.put.write e);

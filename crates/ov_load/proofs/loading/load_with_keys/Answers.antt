@@ -27,47 +27,47 @@ returns-in-Err-clause-status g c =
 
 pub returns-in-Ok-Some-clause-keys : goal.returns-in-Ok-Some-clause-keys
 returns-in-Ok-Some-clause-keys g c =
-    judged_with _ (g.K.Source.left c.args.keys.now) _ _ _ _ _ _ (rw c.in-Ok-Some.field-0-is at c.in-Ok-Some.ensures.read) (not_keys _ c.load_over.ensures.status.0)
+    judged_with _ (g.K.Source.tells.left c.args.keys.now) _ _ _ _ _ _ (rw c.in-Ok-Some.field-0-is at c.in-Ok-Some.ensures.read) (not_keys _ c.load_over.ensures.status.0)
 
 pub returns-in-Ok-None-clause-keys : goal.returns-in-Ok-None-clause-keys
 returns-in-Ok-None-clause-keys g c =
-    judged_none _ (g.K.Source.left c.args.keys.now) _ _ _ _ (rw c.in-Ok-None.field-0-is at c.in-Ok-None.ensures.read) c.put_last.ensures.ends (refl, refl)
+    judged_none _ (g.K.Source.tells.left c.args.keys.now) _ _ _ _ (rw c.in-Ok-None.field-0-is at c.in-Ok-None.ensures.read) c.put_last.ensures.ends (refl, refl)
 
 pub returns-in-Err-clause-keys : goal.returns-in-Err-clause-keys
-returns-in-Err-clause-keys g c = judged_failed _ (g.K.Source.left c.args.keys.now) _ _ _ _ c.put_last-in-Err.ensures.ends (refl, refl)
+returns-in-Err-clause-keys g c = judged_failed _ (g.K.Source.tells.left c.args.keys.now) _ _ _ _ c.put_last-in-Err.ensures.ends (refl, refl)
 
 pub returns-in-Ok-Some-clause-ends : goal.returns-in-Ok-Some-clause-ends
 returns-in-Ok-Some-clause-ends g c =
-    from_read (λ (k : Masters) (h : PlainHistory). OpensAs g.D.Disk.reads g.D.Disk.may_leave k c.args.load.now.mode h c.args.disk)
-    (λ (k : Masters) (h : PlainHistory) (text : List ℕ). LoadEndsAs g.D.Disk.reads g.D.Disk.may_leave g.D.Disk.moment g.D.Disk.left_since k h c.args.load.now c.args.disk c.load_over.result.1 (g.O.Sink.written c.args.out.now) (g.O.Sink.written c.load_over.new.out) (g.T.Sink.written c.args.trace.now) (g.T.Sink.written c.load_over.new.trace) c.load_over.result.0 (Unit {0}))
-    (plain_masters c.in-Ok-Some.masters) (g.K.Source.left c.args.keys.now) (Some []) (rw c.in-Ok-Some.field-0-is at c.in-Ok-Some.ensures.read) c.load_over.ensures.ends
+    from_read (λ (k : Masters) (h : PlainHistory). OpensAs g.D.Disk.tells k c.args.load.now.mode h c.args.disk)
+    (λ (k : Masters) (h : PlainHistory) (text : List ℕ). LoadEndsAs g.D.Disk.tells k h c.args.load.now c.args.disk c.load_over.result.1 (g.O.Sink.tells.written c.args.out.now) (g.O.Sink.tells.written c.load_over.new.out) (g.T.Sink.tells.written c.args.trace.now) (g.T.Sink.tells.written c.load_over.new.trace) c.load_over.result.0 (Unit {0}))
+    (plain_masters c.in-Ok-Some.masters) (g.K.Source.tells.left c.args.keys.now) (Some []) (rw c.in-Ok-Some.field-0-is at c.in-Ok-Some.ensures.read) c.load_over.ensures.ends
 
 pub returns-in-Ok-None-clause-ends : goal.returns-in-Ok-None-clause-ends
 returns-in-Ok-None-clause-ends g c =
-    from_none (λ (k : Masters) (h : PlainHistory) (text : List ℕ). OpensAs g.D.Disk.reads g.D.Disk.may_leave k c.args.load.now.mode h c.args.disk
-    → LoadEndsAs g.D.Disk.reads g.D.Disk.may_leave g.D.Disk.moment g.D.Disk.left_since k h c.args.load.now c.args.disk c.args.disk (g.O.Sink.written c.args.out.now) (g.O.Sink.written c.put_last.new.out) (g.T.Sink.written c.args.trace.now) (g.T.Sink.written c.args.trace.now) c.put_last.result (Unit {0})) (g.K.Source.left c.args.keys.now) (Some []) (rw c.in-Ok-None.field-0-is at c.in-Ok-None.ensures.read)
+    from_none (λ (k : Masters) (h : PlainHistory) (text : List ℕ). OpensAs g.D.Disk.tells k c.args.load.now.mode h c.args.disk
+    → LoadEndsAs g.D.Disk.tells k h c.args.load.now c.args.disk c.args.disk (g.O.Sink.tells.written c.args.out.now) (g.O.Sink.tells.written c.put_last.new.out) (g.T.Sink.tells.written c.args.trace.now) (g.T.Sink.tells.written c.args.trace.now) c.put_last.result (Unit {0})) (g.K.Source.tells.left c.args.keys.now) (Some []) (rw c.in-Ok-None.field-0-is at c.in-Ok-None.ensures.read)
 
 pub returns-in-Err-clause-ends : goal.returns-in-Err-clause-ends
 returns-in-Err-clause-ends g c =
-    from_all (λ (k : Masters) (h : PlainHistory) (text : List ℕ). OpensAs g.D.Disk.reads g.D.Disk.may_leave k c.args.load.now.mode h c.args.disk
-    → LoadEndsAs g.D.Disk.reads g.D.Disk.may_leave g.D.Disk.moment g.D.Disk.left_since k h c.args.load.now c.args.disk c.args.disk (g.O.Sink.written c.args.out.now) (g.O.Sink.written c.put_last-in-Err.new.out) (g.T.Sink.written c.args.trace.now) (g.T.Sink.written c.args.trace.now) c.put_last-in-Err.result (Unit {0})) (g.K.Source.left c.args.keys.now) (Some [])
-    (λ k h text opens. load_unread g.D.Disk.reads g.D.Disk.may_leave g.D.Disk.moment g.D.Disk.left_since k h c.args.load.now _ _ _ (g.T.Sink.written c.args.trace.now) _ c.args.disk opens
-    c.put_last-in-Err.ensures.ends (g.met.D.Disk.only_now c.args.disk))
+    from_all (λ (k : Masters) (h : PlainHistory) (text : List ℕ). OpensAs g.D.Disk.tells k c.args.load.now.mode h c.args.disk
+    → LoadEndsAs g.D.Disk.tells k h c.args.load.now c.args.disk c.args.disk (g.O.Sink.tells.written c.args.out.now) (g.O.Sink.tells.written c.put_last-in-Err.new.out) (g.T.Sink.tells.written c.args.trace.now) (g.T.Sink.tells.written c.args.trace.now) c.put_last-in-Err.result (Unit {0})) (g.K.Source.tells.left c.args.keys.now) (Some [])
+    (λ k h text opens. load_unread g.D.Disk.tells k h c.args.load.now _ _ _ (g.T.Sink.tells.written c.args.trace.now) _ c.args.disk opens
+    c.put_last-in-Err.ensures.ends)
 
 pub returns-in-Ok-Some-clause-image : goal.returns-in-Ok-Some-clause-image
 returns-in-Ok-Some-clause-image g c =
-    image_read (λ (k : Masters). Told (g.D.Disk.reads c.args.disk) (λ i. JudgesImage k c.args.load.now.mode i c.load_over.result.0 (g.O.Sink.written c.args.out.now) (g.O.Sink.written c.load_over.new.out) (c.load_over.new.trace ≡ c.args.trace.now) (LeavesAsAtStart g.D.Disk.reads g.D.Disk.may_leave g.D.Disk.moment g.D.Disk.left_since c.args.disk c.load_over.result.1)))
-    (plain_masters c.in-Ok-Some.masters) (g.K.Source.left c.args.keys.now) (rw c.in-Ok-Some.field-0-is at c.in-Ok-Some.ensures.read) c.load_over.ensures.image
+    image_read (λ (k : Masters). Told (g.D.Disk.tells.reads c.args.disk) (λ i. JudgesImage k c.args.load.now.mode i c.load_over.result.0 (g.O.Sink.tells.written c.args.out.now) (g.O.Sink.tells.written c.load_over.new.out) (c.load_over.new.trace ≡ c.args.trace.now) (LeavesAsAtStart g.D.Disk.tells c.args.disk c.load_over.result.1)))
+    (plain_masters c.in-Ok-Some.masters) (g.K.Source.tells.left c.args.keys.now) (rw c.in-Ok-Some.field-0-is at c.in-Ok-Some.ensures.read) c.load_over.ensures.image
 
 pub returns-in-Ok-None-clause-image : goal.returns-in-Ok-None-clause-image
 returns-in-Ok-None-clause-image g c =
-    image_none (λ (k : Masters). Told (g.D.Disk.reads c.args.disk) (λ i. JudgesImage k c.args.load.now.mode i c.put_last.result (g.O.Sink.written c.args.out.now) (g.O.Sink.written c.put_last.new.out) (c.args.trace.now ≡ c.args.trace.now) (LeavesAsAtStart g.D.Disk.reads g.D.Disk.may_leave g.D.Disk.moment g.D.Disk.left_since c.args.disk c.args.disk))) (g.K.Source.left c.args.keys.now) (rw c.in-Ok-None.field-0-is at c.in-Ok-None.ensures.read)
+    image_none (λ (k : Masters). Told (g.D.Disk.tells.reads c.args.disk) (λ i. JudgesImage k c.args.load.now.mode i c.put_last.result (g.O.Sink.tells.written c.args.out.now) (g.O.Sink.tells.written c.put_last.new.out) (c.args.trace.now ≡ c.args.trace.now) (LeavesAsAtStart g.D.Disk.tells c.args.disk c.args.disk))) (g.K.Source.tells.left c.args.keys.now) (rw c.in-Ok-None.field-0-is at c.in-Ok-None.ensures.read)
 
 pub returns-in-Err-clause-image : goal.returns-in-Err-clause-image
 returns-in-Err-clause-image g c =
-    image_all (λ (k : Masters). Told (g.D.Disk.reads c.args.disk) (λ i. JudgesImage k c.args.load.now.mode i c.put_last-in-Err.result (g.O.Sink.written c.args.out.now) (g.O.Sink.written c.put_last-in-Err.new.out) (c.args.trace.now ≡ c.args.trace.now) (LeavesAsAtStart g.D.Disk.reads g.D.Disk.may_leave g.D.Disk.moment g.D.Disk.left_since c.args.disk c.args.disk))) (g.K.Source.left c.args.keys.now)
+    image_all (λ (k : Masters). Told (g.D.Disk.tells.reads c.args.disk) (λ i. JudgesImage k c.args.load.now.mode i c.put_last-in-Err.result (g.O.Sink.tells.written c.args.out.now) (g.O.Sink.tells.written c.put_last-in-Err.new.out) (c.args.trace.now ≡ c.args.trace.now) (LeavesAsAtStart g.D.Disk.tells c.args.disk c.args.disk))) (g.K.Source.tells.left c.args.keys.now)
     (λ k i told. judged_unread k c.args.load.now.mode i _ _ _ _ _ c.put_last-in-Err.ensures.ends refl
-    (started g.D.Disk.moment g.D.Disk.left_since g.D.Disk.may_leave c.args.disk (g.D.Disk.may_leave c.args.disk) (g.met.D.Disk.only_now c.args.disk) (λ x left. left)))
+    (started g.D.Disk.tells c.args.disk (g.D.Disk.tells.may_leave c.args.disk) (λ x left. left)))
 
 pub returns-in-Ok-Some-clause-causes : goal.returns-in-Ok-Some-clause-causes
 returns-in-Ok-Some-clause-causes g c =
@@ -78,7 +78,7 @@ pub returns-in-Ok-None-clause-causes : goal.returns-in-Ok-None-clause-causes
 returns-in-Ok-None-clause-causes g c =
     let never = λ (n : ℕ). not_code _ 10 n _ _ _ c.put_last.ensures.ends in
     record {
-      disk = record { same = refl; later = omega arith; disk = λ e. absurd (never 4 (λ z. omega arith) (λ z. omega arith) e) };
+      disk = record { same = refl; later = omega arith; rose = λ e. absurd (never 4 (λ z. omega arith) (λ z. omega arith) e) };
       read = λ e. absurd (never 5 (λ z. omega arith) (λ z. omega arith) e);
       write = λ e. inl (c.put_last.ensures.put.write e);
       tag = λ e. absurd (never 12 (λ z. omega arith) (λ z. omega arith) e);
@@ -88,7 +88,7 @@ pub returns-in-Err-clause-causes : goal.returns-in-Err-clause-causes
 returns-in-Err-clause-causes g c =
     let never = λ (n : ℕ). not_code _ 5 n _ _ _ c.put_last-in-Err.ensures.ends in
     record {
-      disk = record { same = refl; later = omega arith; disk = λ e. absurd (never 4 (λ z. omega arith) (λ z. omega arith) e) };
+      disk = record { same = refl; later = omega arith; rose = λ e. absurd (never 4 (λ z. omega arith) (λ z. omega arith) e) };
       read = λ e. search rules;
       write = λ e. inl (c.put_last-in-Err.ensures.put.write e);
       tag = λ e. absurd (never 12 (λ z. omega arith) (λ z. omega arith) e);

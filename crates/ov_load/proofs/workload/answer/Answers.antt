@@ -5,18 +5,18 @@ use Rattle.ov_load.proofs.workload.answer.Goals as goal
 
 pub returns-in_err-reply-clause-answer : goal.returns-in_err-reply-clause-answer
 returns-in_err-reply-clause-answer g c = λ k h at stands.
-    unanswered_as g.D.Disk.reads g.D.Disk.may_leave g.D.Disk.moment g.D.Disk.left_since k h c.args.command _ _ _ _ _ c.in_err-reply.field-0.0 (search rules)
+    unanswered_as g.D.Disk.tells k h c.args.command _ _ _ _ _ c.in_err-reply.field-0.0 (search rules)
     (c.in_err-reply.ensures.steps k h at stands)
 
 pub returns-clause-answer : goal.returns-clause-answer
 returns-clause-answer g c = λ k h at stands.
-    tallied g.D.Disk.reads g.D.Disk.may_leave g.D.Disk.moment g.D.Disk.left_since k h c.args.command _ _ _ _ {T = ℕ} 0 c.in_ok-reply.reply c.deref.result.now (search rules)
+    tallied g.D.Disk.tells k h c.args.command _ _ _ _ {T = ℕ} 0 c.in_ok-reply.reply c.deref.result.now (search rules)
     (c.in_ok-reply.ensures.steps k h at stands) c.take.ensures
 
 -- it is answered, and memory is refused for its line
 pub returns-in_err-line-clause-answer : goal.returns-in_err-line-clause-answer
 returns-in_err-line-clause-answer g c = λ k h at stands.
-    unlined g.D.Disk.reads g.D.Disk.may_leave g.D.Disk.moment g.D.Disk.left_since k h c.args.command _ _ _ _ _ c.in_ok-reply.reply (search rules)
+    unlined g.D.Disk.tells k h c.args.command _ _ _ _ _ c.in_ok-reply.reply (search rules)
     (c.in_ok-reply.ensures.steps k h at stands)
 
 pub returns-in_err-line-clause-traced : goal.returns-in_err-line-clause-traced

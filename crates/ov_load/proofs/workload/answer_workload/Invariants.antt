@@ -12,7 +12,7 @@ use Rattle.ov_load.proofs.workload.answer_workload.Given as goal
 abbrev pub invariant-commands : goal.invariant-commands
 invariant-commands g l = record {
   so_far : (h : PlainHistory) → StandsFor l.fn.machine.kept h
-      → LoadedTo g.D.Disk.reads g.D.Disk.may_leave g.D.Disk.moment g.D.Disk.left_since l.fn.machine.kept.masters h l.fn.load l.workload.place
+      → LoadedTo g.D.Disk.tells l.fn.machine.kept.masters h l.fn.load l.workload.place
       l.tally l.fn.machine l.machine;
   number : l.workload.number ≡ l.fn.load.number;
   count : l.workload.count ≡ l.fn.load.count;
@@ -20,12 +20,12 @@ invariant-commands g l = record {
   room : AreAtMost l.tally.counts l.workload.place;
   masters : l.machine.kept.masters ≡ l.fn.machine.kept.masters;
   healthy : l.machine.failed ≡ false;
-  same_disk : g.D.Disk.borrow l.machine.disk ≡ g.D.Disk.borrow l.fn.machine.disk;
-  disk_later : g.D.Disk.faults l.fn.machine.disk ≤ g.D.Disk.faults l.machine.disk;
+  same_disk : g.D.Disk.tells.borrow l.machine.disk ≡ g.D.Disk.tells.borrow l.fn.machine.disk;
+  disk_later : g.D.Disk.tells.faults l.fn.machine.disk ≤ g.D.Disk.tells.faults l.machine.disk;
   sent : (h : PlainHistory) → StandsFor l.fn.machine.kept h
-      → TranscribesAll l.fn.machine.kept.masters h (first_commands l.fn.load.number l.workload.place) (g.T.Sink.written l.fn.trace) (g.T.Sink.written l.trace);
-  trace_grew : Grows (g.T.Sink.written l.fn.trace) (g.T.Sink.written l.trace);
-  trace_later : g.T.Sink.faults l.fn.trace ≤ g.T.Sink.faults l.trace;
+      → TranscribesAll l.fn.machine.kept.masters h (first_commands l.fn.load.number l.workload.place) (g.T.Sink.tells.written l.fn.trace) (g.T.Sink.tells.written l.trace);
+  trace_grew : Grows (g.T.Sink.tells.written l.fn.trace) (g.T.Sink.tells.written l.trace);
+  trace_later : g.T.Sink.tells.faults l.fn.trace ≤ g.T.Sink.tells.faults l.trace;
 }
 
 abbrev pub decreases-commands : goal.decreases-commands
