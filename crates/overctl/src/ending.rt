@@ -1,8 +1,10 @@
 //! What is said on standard error of how a job ended: what went wrong, and what to do.
 
 use crate::asks::Asks;
+use crate::refusals::step_for;
 use crate::texts::{OUT_OF_MEMORY, UNWRITTEN, WRITABLE};
 use ov_acts::Status;
+use ov_base::Refusal;
 use std::fmt;
 use std::fmt::{Display, Formatter, Write};
 use std::io::ErrorKind;
@@ -17,6 +19,7 @@ pub struct Ending<'a> {
     pub file: &'a str,
     pub path: &'a str,
     pub reason: Option<ErrorKind>,
+    pub refusal: Option<Refusal>,
 }
 
 // Says that a file isn't read.
@@ -43,12 +46,24 @@ fn say_unreached<W: Write>(end: &Ending<'_>, f: &mut Formatter<W>) -> fmt::Resul
     }
 }
 
+// Says that a command is refused, and why.
+fn say_refused<W: Write>(end: &Ending<'_>, f: &mut Formatter<W>) -> fmt::Result {
+    let address = end.address;
+    match end.refusal {
+        Some(refusal) => {
+            let (number, word) = (refusal.number(), refusal.word());
+            write!(f, "{address} refuses the command: {number} {word}")
+        }
+        None => write!(f, "{address} refuses the command"),
+    }
+}
+
 impl Display for Ending<'_> {
     fn fmt<W: Write>(&self, f: &mut Formatter<W>) -> fmt::Result {
         let (address, keys, file) = (self.address, self.keys, self.file);
         match self.status {
             Status::Done | Status::Usage => f.write_str("nothing is wrong"),
-            Status::Refused => write!(f, "{address} refuses the command"),
+            Status::Refused => say_refused(self, f),
             Status::Device => write!(f, "the disk of the store at {address} failed"),
             Status::ReadFault => say_unread(self, f),
             Status::WriteFault => f.write_str(UNWRITTEN),
@@ -153,15 +168,21 @@ fn hint_of_output(asks: Asks) -> &'static str {
     }
 }
 
+// What to do where a command is refused.
+fn hint_of_refusal(refusal: Option<Refusal>) -> &'static str {
+    match refusal {
+        Some(refusal) => step_for(refusal),
+        None => "standard output says why, and DIAGNOSTICS of overctl(1) what to do",
+    }
+}
+
 impl Display for Hint<'_> {
     fn fmt<W: Write>(&self, f: &mut Formatter<W>) -> fmt::Result {
         let end = self.0;
         match end.status {
             Status::Done => f.write_str("nothing is to be done"),
             Status::Usage => f.write_str("see `overctl --help`"),
-            Status::Refused => {
-                f.write_str("standard output says why, and DIAGNOSTICS of overctl(1) what to do")
-            }
+            Status::Refused => f.write_str(hint_of_refusal(end.refusal)),
             Status::Device => say_hint_of_disk(end.asks, f),
             Status::ReadFault => f.write_str("see that it is a file that you may read"),
             Status::WriteFault => f.write_str(hint_of_output(end.asks)),

@@ -8,13 +8,16 @@
 //! | module | what it does |
 //! |---|---|
 //! | `real` | the real files and the real stream |
-//! | `ending`, `asks` | what is said of how a job ended, by what its act asks for |
+//! | `ending`, `asks`, `refusals` | what is said of how a job ended, by what its act asks for |
+//! | `heard` | which refusal was put |
 //! | `usage`, `texts` | what is said of wrong words, and where help is asked for |
 #![tactic(auto)]
 
 mod asks;
 mod ending;
+mod heard;
 mod real;
+mod refusals;
 mod texts;
 mod usage;
 

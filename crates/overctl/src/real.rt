@@ -3,20 +3,21 @@ ghost use Rattle.ov_acts.specs.Files.{HasListLimits};
 
 use crate::asks::{asks_of, file_of, stores};
 use crate::ending::{Ending, Hint};
+use crate::heard::Heard;
 use crate::usage::say;
 use ov_acts::{Act, Job, Status, act};
-use ov_base::{Memory, Octets};
-use ov_io::{FileSource, StdSink};
+use ov_base::{Memory, Octets, Refusal};
+use ov_files::is_open_to_others;
+use ov_io::{FileSource, Source, StdSink, StdSource};
 use ov_peer::FixedPeer;
 use ov_session::{NetPeer, TcpLink};
 use std::fs::File;
 use std::io::{ErrorKind, Read};
 use std::net::ToSocketAddrs;
-use std::os::unix::fs::PermissionsExt;
 use std::{env, fs, io};
 
-// What a mode has where others than the file's owner may read it.
-const OTHERS_READ: u32 = 0o044;
+// The path that stands for standard input.
+const STANDARD_INPUT: &str = "-";
 
 /// The words behind the program's name.
 pub fn words_of(rt: &HostRuntime) -> io::Result<Vec<String>> {
@@ -44,13 +45,8 @@ fn text_of(word: &Octets) -> &str {
 
 // Says so where others may read a file of keys.
 fn warn_of_mode(rt: &HostRuntime, path: &str) {
-    match fs::metadata(rt, path) {
-        Ok(about) => {
-            if about.is_file() && about.permissions().mode() & OTHERS_READ != 0 {
-                let _ = eprintln!(rt; "overctl: warning: {path} can be read by others");
-            }
-        }
-        Err(_) => {}
+    if is_open_to_others(rt, path) {
+        let _ = eprintln!(rt; "overctl: warning: {path} can be read by others");
     }
 }
 
@@ -84,6 +80,7 @@ fn fault_of(rt: &HostRuntime, path: &str) -> Option<ErrorKind> {
 fn unread_of<'a>(rt: &HostRuntime, job: &'a Job) -> (&'a str, Option<ErrorKind>) {
     let (keys, path) = (text_of(&job.keys), text_of(&job.path));
     match fault_of(rt, keys) {
+        None if stores(&job.act) && path == STANDARD_INPUT => ("standard input", None),
         None if stores(&job.act) => (path, fault_of(rt, path)),
         reason => (keys, reason),
     }
@@ -100,17 +97,20 @@ fn link_fault(rt: &HostRuntime, address: &str, reason: Option<ErrorKind>) -> Opt
     }
 }
 
-// How a job ended.
-fn ending_of<'a>(
-    rt: &HostRuntime,
-    job: &'a Job,
-    status: Status,
+/// What a job came to: its status, why the stream failed where it did, and which refusal was put.
+#[derive(Drop)]
+struct Outcome {
+    code: u8,
     link: Option<ErrorKind>,
-) -> Ending<'a> {
+    refusal: Option<Refusal>,
+}
+
+// How a job ended.
+fn ending_of<'a>(rt: &HostRuntime, job: &'a Job, status: Status, outcome: &Outcome) -> Ending<'a> {
     let address = text_of(&job.address);
     let (path, reason) = match status {
         Status::ReadFault => unread_of(rt, job),
-        _ => (text_of(&job.path), link_fault(rt, address, link)),
+        _ => (text_of(&job.path), link_fault(rt, address, outcome.link)),
     };
     Ending {
         status,
@@ -120,6 +120,7 @@ fn ending_of<'a>(
         file: file_of(&job.act),
         path,
         reason,
+        refusal: outcome.refusal,
     }
 }
 
@@ -131,23 +132,37 @@ fn explain(rt: &HostRuntime, end: &Ending<'_>) {
     say(rt, end, &Hint(end));
 }
 
-// Does the job over the real files and the real stream; gives the status, and why the stream failed
-// where it did.
-fn do_job(rt: &HostRuntime, job: &Job) -> Result<(u8, Option<ErrorKind>), Memory>
+// Does the job over the real stream, with the bytes to be stored from this source.
+fn do_with<B: Source>(rt: &HostRuntime, job: &Job, body: &mut B) -> Result<Outcome, Memory>
     requires list { HasListLimits job.now.act }
 {
     let alloc = rt.alloc();
     let mut keys = FileSource::new(*rt, text_of(&job.keys))?;
-    let mut body = FileSource::new(*rt, text_of(&job.path))?;
-    let mut out = StdSink::new(rt.stdout());
-    if matches!(&job.act, Act::Check) {
+    let mut out = Heard::new(StdSink::new(rt.stdout()));
+    let (code, link) = if matches!(&job.act, Act::Check) {
         let mut peer = FixedPeer::new(Vec::new(alloc), Octets::new(alloc));
-        let code = act(alloc, job, &mut keys, &mut body, &mut out, &mut peer);
-        return Ok((code, None));
+        let code = act(alloc, job, &mut keys, body, &mut out, &mut peer);
+        (code, None)
+    } else {
+        let mut peer = NetPeer::new(TcpLink::new(*rt, text_of(&job.address))?)?;
+        let code = act(alloc, job, &mut keys, body, &mut out, &mut peer);
+        (code, peer.link().reason())
+    };
+    Ok(Outcome {
+        code,
+        link,
+        refusal: out.refusal(),
+    })
+}
+
+// Does the job over the real files and the real stream.
+fn do_job(rt: &HostRuntime, job: &Job) -> Result<Outcome, Memory>
+    requires list { HasListLimits job.now.act }
+{
+    match text_of(&job.path) {
+        STANDARD_INPUT => do_with(rt, job, &mut StdSource::new(rt.stdin())),
+        path => do_with(rt, job, &mut FileSource::new(*rt, path)?),
     }
-    let mut peer = NetPeer::new(TcpLink::new(*rt, text_of(&job.address))?)?;
-    let code = act(alloc, job, &mut keys, &mut body, &mut out, &mut peer);
-    Ok((code, peer.link().reason()))
 }
 
 /// Does the job, says what went wrong, and gives the status.
@@ -155,13 +170,17 @@ pub fn run_job(rt: &HostRuntime, job: &Job) -> u8
     requires list { HasListLimits job.now.act }
 {
     warn_of_mode(rt, text_of(&job.keys));
-    let (code, reason) = match do_job(rt, job) {
-        Ok(done) => done,
-        Err(Memory) => (Status::OutOfMemory.code(), None),
+    let outcome = match do_job(rt, job) {
+        Ok(outcome) => outcome,
+        Err(Memory) => Outcome {
+            code: Status::OutOfMemory.code(),
+            link: None,
+            refusal: None,
+        },
     };
-    match Status::from_code(code) {
-        Some(status) => explain(rt, &ending_of(rt, job, status, reason)),
+    match Status::from_code(outcome.code) {
+        Some(status) => explain(rt, &ending_of(rt, job, status, &outcome)),
         None => {}
     }
-    code
+    outcome.code
 }

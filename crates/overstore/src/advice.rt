@@ -1,5 +1,7 @@
 //! What is wrong and what to do, for standard error.
+use crate::lacks::Lack;
 use ov_answering::Status;
+use ov_files::FileFault;
 
 /// Where the program was when it ended.
 #[derive(Clone, Copy, Debug, PartialEq, Eq)]
@@ -43,6 +45,19 @@ const DISK: &str = "store.book or store.blobs failed; what was answered lasts; a
 
 const LOAD_DISK: &str = "store.book or store.blobs failed or is in use; what the load did before \
     lasts";
+
+const LOAD_LASTS: &str = "what the load did before lasts";
+
+const NOTHING_LASTS: &str = "nothing was answered";
+
+const ANSWERS_LAST: &str = "what was answered lasts; ask for the epoch, and run the rest";
+
+const NOT_MADE: &str = "it can't be made in this folder; see that you may write here, and that \
+    there is room";
+
+const NO_FILE: &str = "it is no regular file; run in another folder, or take it away";
+
+const NOT_YOURS: &str = "you may not read and write it; run as its owner";
 
 const NO_KEYS: &str = "there is no keys.hex in this folder; no command was read and nothing was \
     answered; bring the store's own, or make one for a new store: (umask 077; set -C; od -An -v \
@@ -135,6 +150,41 @@ fn by_work(
         Stage::Answered => behind_some,
         _ => at_first,
     }
+}
+
+/// What a bad line lacks, and no text where the list of all forms says more.
+pub fn on_lack(lack: Lack) -> Option<&'static str> {
+    match lack {
+        Lack::Text => Some("nothing stands on it"),
+        Lack::LineFeedAlone => Some("a CR stands on it, where an LF alone ends a line"),
+        Lack::Command => None,
+        Lack::Words => Some("it has not just the words of its command, with one space between two"),
+        Lack::Name => Some(
+            "a name has 1 to 64 of a-z, 0-9, `.`, `_` and `-`, and begins with a letter or a digit",
+        ),
+        Lack::List => Some("LIST is `-`, or names with one comma between two, in a line of 20000"),
+        Lack::Length => Some("LENGTH is a decimal number up to 1048576 with no 0 in front"),
+        Lack::End => Some("the script stops before the LF of the line"),
+        Lack::Bytes => Some("not just LENGTH bytes and an LF stand behind it"),
+    }
+}
+
+/// What to do about a bad line.
+pub const AFTER_BAD_LINE: &str = "overstore-script(5) has the forms of lines; what was answered \
+    before lasts; correct it, and run from there on as a script of its own";
+
+/// What to say of a file of this folder that can't be used.
+pub fn on_file(fault: FileFault) -> &'static str {
+    match fault {
+        FileFault::NoFolder | FileFault::NotMade => NOT_MADE,
+        FileFault::NoFile => NO_FILE,
+        FileFault::NotOurs => NOT_YOURS,
+    }
+}
+
+/// What an end leaves that was due to a file which can't be used.
+pub fn what_lasts(stage: Stage) -> &'static str {
+    by_work(stage, LOAD_LASTS, NOTHING_LASTS, ANSWERS_LAST)
 }
 
 /// What to say of an end with this status.

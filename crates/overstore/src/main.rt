@@ -13,38 +13,39 @@
 //! | module | what it does |
 //! |---|---|
 //! | `progress` | the count of replies |
-//! | `texts`, `advice` | what `--help` prints; what standard error is told |
+//! | `recent`, `lacks` | the last lines of the script; what a bad one lacks |
+//! | `told` | what standard error is told beside it |
+//! | `texts`, `advice` | what `--help` prints; how an end is explained |
 #![tactic(auto)]
 
 mod advice;
+mod lacks;
 mod progress;
+mod recent;
 mod texts;
+mod told;
 
-use advice::{Stage, advice_on};
+use advice::Stage;
+use lacks::{Lack, lack_of};
 use ov_answering::Status;
 use ov_base::Memory;
 use ov_disk::FileDisk;
-use ov_io::{FileSink, FileSource, StdSink, StdSource};
+use ov_files::begins;
+use ov_io::{FileSink, FileSource, Source, StdSink, StdSource};
 use ov_load::load;
 use ov_report::put_memory;
 use ov_run::{Tried, Watched, run};
 use progress::Counted;
+use recent::Recent;
+use std::alloc::Global;
 use std::env;
 use std::fs::File;
 use std::io::{self, ErrorKind, IsTerminal, Write};
 use std::process::ExitCode;
 use texts::{HELP, VERSION};
-
-// The file of the two masters, in the folder where the program runs.
-const KEY_FILE: &str = "keys.hex";
-
-// The store's two files, in the same folder.
-const BOOK_FILE: &str = "store.book";
-
-const BLOBS_FILE: &str = "store.blobs";
-
-// The frames between the parties, of the last run.
-const TRACE_FILE: &str = "trace.bin";
+use told::{
+    BLOBS_FILE, BOOK_FILE, KEY_FILE, TRACE_FILE, explain, explain_line, new_store, open_keys,
+};
 
 // The word that a run without a count of replies begins with.
 const QUIET: &str = "--quiet";
@@ -62,25 +63,11 @@ fn words_of(rt: &HostRuntime) -> io::Result<Vec<String>> {
 fn told_by(words: &[String]) -> Option<&'static str> {
     match words {
         [word] => match word.as_str() {
-            "--help" => Some(HELP),
-            "--version" => Some(VERSION),
+            "--help" | "-h" => Some(HELP),
+            "--version" | "-V" => Some(VERSION),
             _ => None,
         },
         _ => None,
-    }
-}
-
-// Says on standard error what is wrong and what to do. Where that fails too, the status has to do.
-fn explain(rt: &HostRuntime, code: u8, stage: Stage, reader_is_gone: bool) {
-    let said = match Status::from_code(code) {
-        Some(status) => advice_on(status, stage, reader_is_gone),
-        None => None,
-    };
-    match said {
-        Some(said) => {
-            let _ = eprintln!(rt; "overstore: error: {said}");
-        }
-        None => {}
     }
 }
 
@@ -140,47 +127,94 @@ fn files_of(
     Ok((keys, disk, trace))
 }
 
+// How the program ended: its status, where it was then, and which line of the script was bad, by
+// its number, and what it lacks, where that is known.
+struct End {
+    code: u8,
+    stage: Stage,
+    bad_line: Option<(u64, Lack)>,
+}
+
+// An end with this status in this place.
+fn end_at(code: u8, stage: Stage) -> End {
+    End {
+        code,
+        stage,
+        bad_line: None,
+    }
+}
+
+// What the line of this number lacks, if one was bad and is remembered.
+fn bad_line_of<S: Source>(
+    alloc: Global,
+    script: &Recent<S>,
+    number: Option<u64>,
+) -> Option<(u64, Lack)> {
+    let number = number?;
+    let mut line = Vec::new(alloc);
+    let has_end = script.line(number, &mut line)?;
+    match lack_of(&line, has_end) {
+        // More of it may come, so that something else is wrong with it.
+        Lack::End if !script.has_ended() => None,
+        lack => Some((number, lack)),
+    }
+}
+
 // Calls `load` or, with all other words, `run`, over the files of the folder.
 fn answer_over_files<W: Write>(
     rt: &HostRuntime,
     words: &[String],
     shows: bool,
     replies: &mut Watched<W>,
-) -> (u8, Stage) {
+) -> End {
     let alloc = rt.alloc();
+    let no_store_before = begins(rt, BOOK_FILE);
     let mut out = Counted::new(StdSink::new(replies), *rt, shows);
     let (mut keys, mut disk, mut trace) = match files_of(*rt) {
         Ok(files) => files,
-        Err(Memory) => return (put_memory(&mut out), stage_by_words(words, false)),
+        Err(Memory) => return end_at(put_memory(&mut out), stage_by_words(words, false)),
     };
-    let code = if is_first("load", words) {
-        load(alloc, words, &mut keys, &mut out, &mut trace, &mut disk)
+    let (code, bad_line) = if is_first("load", words) {
+        let code = load(alloc, words, &mut keys, &mut out, &mut trace, &mut disk);
+        (code, None)
     } else {
-        let mut input = StdSource::new(rt.stdin());
-        run(
-            alloc, words, &mut keys, &mut input, &mut out, &mut trace, &mut disk,
-        )
+        let mut script = Recent::new(alloc, StdSource::new(rt.stdin()));
+        let code = run(
+            alloc,
+            words,
+            &mut keys,
+            &mut script,
+            &mut out,
+            &mut trace,
+            &mut disk,
+        );
+        (code, bad_line_of(alloc, &script, out.bad_line()))
     };
     out.end();
-    if keys.failed() {
-        (code, stage_by_keys(rt))
+    if no_store_before {
+        new_store(rt);
+    }
+    let stage = if keys.failed() {
+        stage_by_keys(rt)
     } else {
-        (code, stage_by_words(words, out.answered()))
+        stage_by_words(words, out.answered())
+    };
+    End {
+        code,
+        stage,
+        bad_line,
     }
 }
 
 // Answers `--help` and `--version`, and all other words over the files of the folder.
-fn answer_words<W: Write>(
-    rt: &HostRuntime,
-    words: &[String],
-    replies: &mut Watched<W>,
-) -> (u8, Stage) {
+fn answer_words<W: Write>(rt: &HostRuntime, words: &[String], replies: &mut Watched<W>) -> End {
     match told_by(words) {
         Some(text) => match replies.write_all(text.as_bytes()) {
-            Ok(()) => (Status::Done.code(), Stage::Telling),
-            Err(_) => (Status::WriteFault.code(), Stage::Telling),
+            Ok(()) => end_at(Status::Done.code(), Stage::Telling),
+            Err(_) => end_at(Status::WriteFault.code(), Stage::Telling),
         },
         None => {
+            open_keys(rt);
             let (quiet, words) = apart_from_quiet(words);
             let shows = !quiet && rt.stderr().is_terminal() && !rt.stdout().is_terminal();
             answer_over_files(rt, words, shows, replies)
@@ -201,15 +235,21 @@ fn held_places(rt: &HostRuntime) -> (io::Result<File>, io::Result<File>, io::Res
 fn main(rt: HostRuntime) -> ExitCode {
     let _held = held_places(&rt);
     let mut replies = Watched::new(rt.stdout());
-    let (code, stage) = match words_of(&rt) {
+    let end = match words_of(&rt) {
         Ok(words) => answer_words(&rt, &words, &mut replies),
         Err(error) if error.kind() == ErrorKind::OutOfMemory => {
             let code = put_memory(&mut StdSink::new(&mut replies));
-            (code, Stage::Unanswered)
+            end_at(code, Stage::Unanswered)
         }
         // A word that is no UTF-8 is no known word.
         Err(_) => answer_words(&rt, &[], &mut replies),
     };
-    explain(&rt, code, stage, replies.reader_is_gone());
-    ExitCode::from(code)
+    let explained = match end.bad_line {
+        Some((number, lack)) => explain_line(&rt, number, lack),
+        None => false,
+    };
+    if !explained {
+        explain(&rt, end.code, end.stage, replies.reader_is_gone());
+    }
+    ExitCode::from(end.code)
 }

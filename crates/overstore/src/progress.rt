@@ -1,5 +1,6 @@
 //! How far a script is, on standard error. A count that can't be written there is passed over.
 use ov_io::{Fault, Sink};
+use std::str;
 
 // The count is shown at each multiple of this.
 const STEP: u64 = 1_000;
@@ -11,6 +12,16 @@ pub struct Counted<S: Sink> {
     rt: HostRuntime,
     shows: bool,
     replies: u64,
+    bad_line: Option<u64>,
+}
+
+// The number in these bytes, where they are the line on a bad item.
+fn bad_line_in(bytes: &[u8]) -> Option<u64> {
+    let line = str::from_utf8(bytes).ok()?;
+    line.strip_prefix("error line ")?
+        .strip_suffix('\n')?
+        .parse()
+        .ok()
 }
 
 impl<S: Sink> Counted<S> {
@@ -21,6 +32,7 @@ impl<S: Sink> Counted<S> {
             rt,
             shows,
             replies: 0,
+            bad_line: None,
         }
     }
 
@@ -36,6 +48,11 @@ impl<S: Sink> Counted<S> {
     /// Whether a reply was put before the last line.
     pub fn answered(&self) -> bool {
         self.replies > 1
+    }
+
+    /// The line of a bad item, where the last line that was put names it.
+    pub fn bad_line(&self) -> Option<u64> {
+        self.bad_line
     }
 
     /// Ends the line of the count, where one was shown.
@@ -60,6 +77,7 @@ impl<S: Sink> Sink for Counted<S> {
         let put = self.sink.put(bytes);
         if put.is_ok() {
             self.replies = self.replies.saturating_add(1);
+            self.bad_line = bad_line_in(bytes);
             self.show();
         }
         put

@@ -4,7 +4,7 @@
 pub const HELP: &str = "\
 Usage: overstore [--quiet] run full|delta < SCRIPT
        overstore load full|delta NUMBER COUNT
-       overstore --help | --version
+       overstore --help | -h | --version | -V
 
 Answers the script on standard input, one reply line for each command. In `full`
 each file has a surface layer; in `delta` only where more users hold its key than

@@ -1,17 +1,20 @@
-//! A door that says on standard error how sessions end.
+//! A door that says on standard error how sessions end, and with whom.
 ghost use Rattle.std.specs.Prelude.{◌≡◌, None, false};
 ghost use Rattle.ov_base.specs.Causes.{Rose};
 
 use crate::texts::on_end;
-use ov_io::Fault;
-use ov_session::{Door, SessionEnd};
+use ov_io::{Fault, StdStream};
+use ov_session::{Door, SessionEnd, TcpDoor};
+use std::fmt;
+use std::fmt::{Display, Formatter, Write};
+use std::net::{Net, SocketAddr};
 
 /// Gives the streams of the door in it, and takes them back itself: it says how each session ended
 /// that didn't end between two frames, and lets its stream go. It counts for itself, and tells
 /// nothing of the streams.
 #[derive(Drop)]
-pub struct SpokenDoor<A, R> {
-    pub door: A,
+pub struct SpokenDoor<N: Net + AllocGlobal + Drop, R> {
+    pub door: TcpDoor<N>,
     /// Whether it listened.
     pub listens: bool,
     given: u64,
@@ -20,9 +23,9 @@ pub struct SpokenDoor<A, R> {
     rt: R,
 }
 
-impl<A, R> SpokenDoor<A, R> {
+impl<N: Net + AllocGlobal + Drop, R> SpokenDoor<N, R> {
     /// This door, which gave nothing yet, with a runtime that prints.
-    pub fn new(door: A, rt: R) -> SpokenDoor<A, R>
+    pub fn new(door: TcpDoor<N>, rt: R) -> SpokenDoor<N, R>
         ensures given { result.given ≡ 0 }
         ensures open_ { result.closed ≡ false }
     {
@@ -47,21 +50,37 @@ impl<A, R> SpokenDoor<A, R> {
     }
 }
 
+// A session, by its number, and the address of its client, where that is known.
+struct Session {
+    number: u32,
+    client: Option<SocketAddr>,
+}
+
+impl Display for Session {
+    fn fmt<W: Write>(&self, f: &mut Formatter<W>) -> fmt::Result {
+        let number = self.number;
+        match self.client {
+            Some(client) => write!(f, "session {number} with {client}"),
+            None => write!(f, "session {number}"),
+        }
+    }
+}
+
 // Says how a session ended, where it didn't end between two frames.
-fn say_end<R: Eprint>(rt: &R, number: u32, end: SessionEnd) {
+fn say_end<R: Eprint>(rt: &R, session: Session, end: SessionEnd) {
     match on_end(end) {
         Some((why, Some(at))) => {
-            let _ = eprintln!(rt; "overstored: warning: session {number}: {why}, at byte {at}");
+            let _ = eprintln!(rt; "overstored: warning: {session}: {why}, at byte {at}");
         }
         Some((why, None)) => {
-            let _ = eprintln!(rt; "overstored: warning: session {number}: {why}");
+            let _ = eprintln!(rt; "overstored: warning: {session}: {why}");
         }
         None => {}
     }
 }
 
-impl<A: Door, R: Eprint> Door for SpokenDoor<A, R> {
-    type Stream = A::Stream;
+impl<N: Net + AllocGlobal + Drop, R: Eprint> Door for SpokenDoor<N, R> {
+    type Stream = StdStream<N::Stream>;
 
     ghost shows = { λ d. record {
       told = None;
@@ -80,7 +99,7 @@ impl<A: Door, R: Eprint> Door for SpokenDoor<A, R> {
         }
     }
 
-    fn accept(&mut self) -> Result<Option<A::Stream>, Fault> {
+    fn accept(&mut self) -> Result<Option<StdStream<N::Stream>>, Fault> {
         // A number of streams past the last one of 64 bits can't be told.
         if self.given == u64::MAX {
             return Err(self.fail());
@@ -98,8 +117,9 @@ impl<A: Door, R: Eprint> Door for SpokenDoor<A, R> {
         }
     }
 
-    fn ended(&mut self, number: u32, stream: A::Stream, end: SessionEnd) {
+    fn ended(&mut self, number: u32, stream: StdStream<N::Stream>, end: SessionEnd) {
         let _ = stream;
-        say_end(&self.rt, number, end);
+        let client = self.door.client();
+        say_end(&self.rt, Session { number, client }, end);
     }
 }

@@ -7,16 +7,16 @@
 //! | module | what it does |
 //! |---|---|
 //! | `told` | says on standard error what is wrong |
-//! | `files` | what the system says of the files that are named |
-//! | `door` | a door that says how sessions end |
+//! | `disk`, `door` | a disk that says when a write failed, and a door that says how sessions end |
 //! | `texts` | all texts |
 #![tactic(auto)]
 
+mod disk;
 mod door;
-mod files;
 mod texts;
 mod told;
 
+use disk::SpokenDisk;
 use door::SpokenDoor;
 use ov_disk::FileDisk;
 use ov_host::host;
@@ -50,8 +50,8 @@ fn words_of(rt: &HostRuntime) -> io::Result<Vec<String>> {
 // What the word asks to be told, if it does.
 fn told_by(word: &str) -> Option<&'static str> {
     match word {
-        "--help" => Some(HELP),
-        "--version" => Some(VERSION),
+        "--help" | "-h" => Some(HELP),
+        "--version" | "-V" => Some(VERSION),
         _ => None,
     }
 }
@@ -94,9 +94,13 @@ fn serve<N: Net + Wait + AllocGlobal + Copy + Drop>(
     let Ok(disk) = FileDisk::new(*rt, book, blobs) else {
         return print(rt, NO_MEMORY, out_of_memory(rt));
     };
+    let Ok(name) = String::from_str(rt.alloc(), book) else {
+        return print(rt, NO_MEMORY, out_of_memory(rt));
+    };
     let Ok(door) = TcpDoor::new(*net, address) else {
         return print(rt, NO_MEMORY, out_of_memory(rt));
     };
+    let disk = SpokenDisk::new(disk, name, *rt);
     let mut door = SpokenDoor::new(door, *rt);
     let mut out = StdSink::new(rt.stdout());
     told::new_store(rt, book, settings.mode);

@@ -1,5 +1,5 @@
 //! All that the program says beside the lines of a server.
-use crate::files::FileFault;
+use ov_files::FileFault;
 use ov_session::SessionEnd;
 use ov_settings::SettingsFault;
 use std::io::ErrorKind;
@@ -7,6 +7,7 @@ use std::io::ErrorKind;
 /// What `--help` prints.
 pub const HELP: &str = "\
 Usage: overstored SETTINGS
+       overstored --help | -h | --version | -V
 
 Serves an over-encryption store over TCP, one session after the other, by the
 settings in a TOML file, which nobody but the server may read:
@@ -146,6 +147,12 @@ pub fn on_file(fault: FileFault) -> (&'static str, &'static str) {
 pub const IN_USE: (&str, &str) = (
     "another process has it or the store's blobs, or one of them failed",
     "stop that process, or see that there is room and that the disk is well",
+);
+
+/// What is wrong with a book where a write to the store's files failed, and what to do.
+pub const FAILED_WRITE: (&str, &str) = (
+    "a write to the store failed, so no update is accepted any more",
+    "see that there is room and that the disk is well, and start the server again",
 );
 
 /// What is wrong with a book where a server ends with this status, and what to do.

@@ -1,11 +1,11 @@
 //! What is wrong and what to do, on standard error. Where that can't be written the status has to
 //! do.
-use crate::files::{FileFault, begins, fault_of, folder_of, is_open_to_others};
 use crate::texts::{
     ACCEPTING, CHANGED, IN_USE, LISTENING, NO_ADDRESS, NO_FILE, NO_LINE, NO_ROOM, WRONG_WORDS,
     error_in, hint_on, hint_on_door, on_file, on_store,
 };
 use ov_base::Mode;
+use ov_files::{FileFault, begins, fault_of, folder_of, is_open_to_others};
 use ov_host::DOOR_FAULT;
 use ov_report::word_of;
 use ov_settings::{SettingsFault, settings_in};

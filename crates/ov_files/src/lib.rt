@@ -1,4 +1,10 @@
-//! What the system says of the files that the settings name, and of the settings file.
+//! What the system says of the files that a program names: why one can't be used as a file of a
+//! store, whether a store was begun in one, and whether others may read it.
+//!
+//! The three programs ask before or after they use a file, to say on standard error what is wrong.
+//! Nothing that they answer or store depends on it, so no function here has a contract.
+#![tactic(auto)]
+
 use std::fs::{File, OpenOptions};
 use std::io::{ErrorKind, Read};
 use std::os::unix::fs::PermissionsExt;
@@ -12,7 +18,7 @@ const OTHERS_READ: u32 = 0o044;
 const STORE_LENGTH: usize = 80;
 
 /// Why a file of a store can't be used.
-#[derive(Clone, Copy)]
+#[derive(Clone, Copy, Debug, PartialEq, Eq)]
 pub enum FileFault {
     /// Its folder isn't there.
     NoFolder,
@@ -63,8 +69,8 @@ fn is_unborn(rt: &HostRuntime, book: &str) -> bool {
     count < 2 || count < STORE_LENGTH && front[0] != 1
 }
 
-/// Whether a server over this book begins a new store: there is no file of that name, but its
-/// folder, or no store was begun in it.
+/// Whether a program that opens this book begins a new store: there is no file of that name, but
+/// its folder, or no store was begun in it.
 pub fn begins(rt: &HostRuntime, book: &str) -> bool {
     match fs::metadata(rt, book) {
         Ok(about) => about.is_file() && is_unborn(rt, book),

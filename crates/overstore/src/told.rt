@@ -1,0 +1,91 @@
+//! What is wrong and what to do, on standard error. Where that can't be written the status has to
+//! do.
+use crate::advice::{AFTER_BAD_LINE, Stage, advice_on, on_file, on_lack, what_lasts};
+use crate::lacks::Lack;
+use ov_answering::Status;
+use ov_files::{begins, fault_of, is_open_to_others};
+
+/// The file of the two masters, in the folder where the program runs.
+pub const KEY_FILE: &str = "keys.hex";
+
+/// The store's two files, in the same folder.
+pub const BOOK_FILE: &str = "store.book";
+
+pub const BLOBS_FILE: &str = "store.blobs";
+
+/// The frames between the parties, of the last run.
+pub const TRACE_FILE: &str = "trace.bin";
+
+// Says what is wrong.
+fn say(rt: &HostRuntime, error: &str) {
+    let _ = eprintln!(rt; "overstore: error: {error}");
+}
+
+// Says which of these files can't be used, and why, where the system says so of one.
+fn say_of_files(rt: &HostRuntime, paths: &[&str], stage: Stage) -> bool {
+    for path in paths {
+        match fault_of(rt, path) {
+            Some(fault) => {
+                let (why, lasts) = (on_file(fault), what_lasts(stage));
+                let _ = eprintln!(rt; "overstore: error: {path}: {why}; {lasts}");
+                return true;
+            }
+            None => {}
+        }
+    }
+    false
+}
+
+// Says which file an end with this status is due to, where the system tells.
+fn names_file(rt: &HostRuntime, status: Status, stage: Stage, reader_is_gone: bool) -> bool {
+    match status {
+        Status::DiskFault => say_of_files(rt, &[BOOK_FILE, BLOBS_FILE], stage),
+        Status::WriteFault if stage != Stage::Telling && !reader_is_gone => {
+            say_of_files(rt, &[TRACE_FILE], stage)
+        }
+        _ => false,
+    }
+}
+
+/// Says what this line of a script lacks, which is bad; false where the list of all forms says more.
+pub fn explain_line(rt: &HostRuntime, number: u64, lack: Lack) -> bool {
+    match on_lack(lack) {
+        Some(why) => {
+            let _ = eprintln!(rt; "overstore: error: line {number}: {why}; {AFTER_BAD_LINE}");
+            true
+        }
+        None => false,
+    }
+}
+
+/// Says why a run ended with this status, and what to do.
+pub fn explain(rt: &HostRuntime, code: u8, stage: Stage, reader_is_gone: bool) {
+    let Some(status) = Status::from_code(code) else {
+        return;
+    };
+    if names_file(rt, status, stage, reader_is_gone) {
+        return;
+    }
+    match advice_on(status, stage, reader_is_gone) {
+        Some(said) => say(rt, said),
+        None => {}
+    }
+}
+
+/// Says so where others than their owner may read the masters.
+pub fn open_keys(rt: &HostRuntime) {
+    if is_open_to_others(rt, KEY_FILE) {
+        let _ = eprintln!(rt;
+            "overstore: warning: {KEY_FILE} can be read by others, and has both masters"
+        );
+    }
+}
+
+/// Says so where the book, in which no store was begun before, has one now.
+pub fn new_store(rt: &HostRuntime) {
+    if !begins(rt, BOOK_FILE) {
+        let _ = eprintln!(rt;
+            "overstore: note: there was no store in this folder, so a new one was begun"
+        );
+    }
+}
