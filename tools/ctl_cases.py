@@ -182,7 +182,8 @@ FILE_IN_DOUBT = (
 NEW_USER = "it may be done: repeat it, and `refused 1 Taken` says that it was"
 AS_IT_WAS = "the store is as it was: try again"
 NO_OUTPUT = "cannot write standard output"
-WHY = "standard output says why, and DIAGNOSTICS of overctl(1) what to do"
+TAKEN = "it is there: nothing is to be done where the command was a repeated one; else take another name"
+NO_PATH = "the owner puts the reader on the file's list with `overctl grant`"
 CUT_OFF = "no reply from @: what came is cut off, or no frame"
 OTHER_PROGRAM = "another program may listen there: check the port; if it is overstored, "
 
@@ -202,8 +203,8 @@ def commands():
 
 
 def refusals_and_disks():
-    case(ENROL, ["WELCOME", "REFUSED"], 3, b"refused 1 Taken\n", "@ refuses the command", WHY)
-    case(READ, [b"\x88\x04"], 3, b"refused 4 NoPath\n", "@ refuses the command", WHY)
+    case(ENROL, ["WELCOME", "REFUSED"], 3, b"refused 1 Taken\n", "@ refuses the command: 1 Taken", TAKEN)
+    case(READ, [b"\x88\x04"], 3, b"refused 4 NoPath\n", "@ refuses the command: 4 NoPath", NO_PATH)
     failed = "the disk of the store at @ failed"
     again = "have the server started again; "
     case(ENROL, ["WELCOME", "KNOWN", "DEVICE_FAULT"], 4, b"", failed, again + NEW_USER)

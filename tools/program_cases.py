@@ -27,7 +27,16 @@ def store_folder(keys=True):
     folder = new_folder()
     if keys:
         shutil.copy(KEYS, folder / "keys.hex")
+        (folder / "keys.hex").chmod(0o600)
     return folder
+
+
+NEW_STORE = b"overstore: note: there was no store in this folder, so a new one was begun\n"
+
+
+def errors_of(said):
+    """What standard error was told beside the note on a new store."""
+    return said.replace(NEW_STORE, b"")
 
 
 def run(folder, script=b"", mode="delta", **streams):
@@ -38,8 +47,9 @@ def run(folder, script=b"", mode="delta", **streams):
     streams.setdefault("stderr", subprocess.PIPE)
     done = subprocess.run([PROGRAM, "run", mode], cwd=folder, **streams)
     if done.returncode != 0 and done.stderr is not None:
-        assert done.stderr.startswith(b"overstore: error: "), done.stderr
-        assert done.stderr.count(b"\n") == 1, done.stderr
+        errors = errors_of(done.stderr)
+        assert errors.startswith(b"overstore: error: "), done.stderr
+        assert errors.count(b"\n") == 1, done.stderr
     return done.returncode, done.stdout
 
 
@@ -52,8 +62,9 @@ def load(folder, *words):
 def told(folder, *words, script=b""):
     """The status of a call, what it put, and what it said on standard error."""
     done = subprocess.run([PROGRAM, *words], cwd=folder, input=script, capture_output=True)
-    assert done.stderr.count(b"\n") == (done.returncode != 0), done.stderr
-    return done.returncode, done.stdout, done.stderr.decode()
+    errors = errors_of(done.stderr)
+    assert errors.count(b"\n") == (done.returncode != 0), done.stderr
+    return done.returncode, done.stdout, errors.decode()
 
 
 def expect(found, status, lines):
@@ -106,6 +117,40 @@ def lines_that_are_bad():
     status, lines, said = told(store_folder(), "run", "full", script=b"enrol a\nenroll b\n")
     assert (status, lines) == (3, b"ok 1\nerror line 2\n"), (status, lines)
     assert "`enrol USER`" in said and "overstore-script(5)" in said and "what was answered before lasts" in said, said
+    lacking = [
+        (b"\n", "nothing stands on it"),
+        (b"enrol b\r\n", "a CR stands on it"),
+        (b"grant a  f\n", "just the words of its command"),
+        (b"grant a\n", "just the words of its command"),
+        (b"enrol Bob\n", "a name has 1 to 64"),
+        (b"create f a,,b 3\nxyz\n", "LIST is `-`, or names"),
+        (b"create f a 03\nxyz\n", "LENGTH is a decimal number"),
+        (b"create f a 1048577\n", "LENGTH is a decimal number"),
+        (b"create f a 3\nxyz", "not just LENGTH bytes and an LF"),
+        (b"create f a 3\nxyzw\n", "not just LENGTH bytes and an LF"),
+        (b"enrol b", "stops before the LF"),
+    ]
+    for line, part in lacking:
+        status, lines, said = told(store_folder(), "run", "full", script=b"enrol a\n" + line)
+        assert (status, lines) == (3, b"ok 1\nerror line 2\n"), (line, status, lines)
+        assert said.startswith("overstore: error: line 2: ") and part in said, (line, said)
+    # A line far behind in a long script, and one that more bytes may follow.
+    many = b"".join(b"enrol u%d\n" % number for number in range(20000))
+    status, lines, said = told(store_folder(), "run", "full", script=many + b"enrol Bob\n" + many)
+    assert status == 3 and said.startswith("overstore: error: line 20001: a name"), said
+
+
+def key_files_that_others_read_and_new_stores():
+    """Both are said of on standard error, whatever the status is."""
+    folder = store_folder()
+    done = subprocess.run([PROGRAM, "run", "full"], cwd=folder, input=b"", capture_output=True)
+    assert (done.returncode, done.stderr) == (0, NEW_STORE), done
+    for name in ("store.book", "store.blobs", "trace.bin"):
+        assert (folder / name).stat().st_mode & 0o777 == 0o600, name
+    (folder / "keys.hex").chmod(0o644)
+    done = subprocess.run([PROGRAM, "run", "full"], cwd=folder, input=b"", capture_output=True)
+    warned = b"overstore: warning: keys.hex can be read by others, and has both masters\n"
+    assert (done.returncode, done.stderr) == (0, warned), done
 
 
 def a_key_file_that_is_not_there():
@@ -397,6 +442,7 @@ cases = [
     good_and_bad_scripts,
     words_that_are_not_known,
     lines_that_are_bad,
+    key_files_that_others_read_and_new_stores,
     a_key_file_that_is_not_there,
     loads,
     a_script_that_is_too_long,
