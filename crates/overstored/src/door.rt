@@ -51,6 +51,7 @@ impl<N: Net + AllocGlobal + Drop, R> SpokenDoor<N, R> {
 }
 
 // A session, by its number, and the address of its client, where that is known.
+#[derive(Drop)]
 struct Session {
     number: u32,
     client: Option<SocketAddr>,
