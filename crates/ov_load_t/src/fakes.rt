@@ -49,13 +49,12 @@ impl<'a> Pieces<'a> {
 }
 
 impl Source for Pieces<'_> {
-    ghost left = { λ _. None };
-
-    ghost faults = { λ s. s.calls };
-
-    ghost borrow = { λ _. 0 };
-
-    ghost takes = { λ _ _. Unit {0} };
+    ghost tells = { record {
+      left = λ _. None;
+      faults = λ s. s.calls;
+      borrow = λ _. 0;
+      takes = λ _ _. Unit {0};
+    } };
 
     fn take(&mut self, buf: &mut [u8]) -> Result<usize, Fault> {
         self.calls = self.calls.saturating_add(1);
@@ -82,13 +81,12 @@ impl<'a> Wants<'a> {
 }
 
 impl Sink for Wants<'_> {
-    ghost written = { λ _. None };
-
-    ghost faults = { λ s. s.puts };
-
-    ghost borrow = { λ _. 0 };
-
-    ghost puts = { λ _ _. Unit {0} };
+    ghost tells = { record {
+      written = λ _. None;
+      faults = λ s. s.puts;
+      borrow = λ _. 0;
+      puts = λ _ _. Unit {0};
+    } };
 
     fn put(&mut self, bytes: &[u8]) -> Result<(), Fault> {
         self.puts = self.puts.saturating_add(1);
@@ -109,13 +107,12 @@ struct Frames {
 }
 
 impl Sink for Frames {
-    ghost written = { λ _. None };
-
-    ghost faults = { λ s. s.puts };
-
-    ghost borrow = { λ _. 0 };
-
-    ghost puts = { λ _ _. Unit {0} };
+    ghost tells = { record {
+      written = λ _. None;
+      faults = λ s. s.puts;
+      borrow = λ _. 0;
+      puts = λ _ _. Unit {0};
+    } };
 
     fn put(&mut self, _bytes: &[u8]) -> Result<(), Fault> {
         Ok(())

@@ -20,13 +20,12 @@ struct Hashes {
 }
 
 impl Sink for Hashes {
-    ghost written = { λ _. None };
-
-    ghost faults = { λ s. s.puts };
-
-    ghost borrow = { λ _. 0 };
-
-    ghost puts = { λ _ _. Unit {0} };
+    ghost tells = { record {
+      written = λ _. None;
+      faults = λ s. s.puts;
+      borrow = λ _. 0;
+      puts = λ _ _. Unit {0};
+    } };
 
     fn put(&mut self, bytes: &[u8]) -> Result<(), Fault> {
         let put = self.puts;

@@ -55,13 +55,12 @@ impl<'a> Pieces<'a> {
 }
 
 impl Source for Pieces<'_> {
-    ghost left = { λ _. None };
-
-    ghost faults = { λ s. s.calls };
-
-    ghost borrow = { λ _. 0 };
-
-    ghost takes = { λ _ _. Unit {0} };
+    ghost tells = { record {
+      left = λ _. None;
+      faults = λ s. s.calls;
+      borrow = λ _. 0;
+      takes = λ _ _. Unit {0};
+    } };
 
     fn take(&mut self, buf: &mut [u8]) -> Result<usize, Fault> {
         let call = self.calls;
@@ -101,13 +100,12 @@ impl<'a> Wants<'a> {
 }
 
 impl Sink for Wants<'_> {
-    ghost written = { λ _. None };
-
-    ghost faults = { λ s. s.puts };
-
-    ghost borrow = { λ _. 0 };
-
-    ghost puts = { λ _ _. Unit {0} };
+    ghost tells = { record {
+      written = λ _. None;
+      faults = λ s. s.puts;
+      borrow = λ _. 0;
+      puts = λ _ _. Unit {0};
+    } };
 
     fn put(&mut self, bytes: &[u8]) -> Result<(), Fault> {
         self.puts = self.puts.saturating_add(1);
@@ -144,13 +142,12 @@ impl<'a> Frames<'a> {
 }
 
 impl Sink for Frames<'_> {
-    ghost written = { λ _. None };
-
-    ghost faults = { λ s. s.puts };
-
-    ghost borrow = { λ _. 0 };
-
-    ghost puts = { λ _ _. Unit {0} };
+    ghost tells = { record {
+      written = λ _. None;
+      faults = λ s. s.puts;
+      borrow = λ _. 0;
+      puts = λ _ _. Unit {0};
+    } };
 
     fn put(&mut self, bytes: &[u8]) -> Result<(), Fault> {
         let put = self.puts;

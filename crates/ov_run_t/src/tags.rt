@@ -45,23 +45,17 @@ impl Flips<'_> {
 }
 
 impl Disk for Flips<'_> {
-    ghost reads = { λ _. None };
-
-    ghost may_leave = { λ _ (c : Image). None ≡ Some c };
-
-    ghost moment = { λ _. 0 };
-
-    ghost left_since = { λ _ _ (c : Image). None ≡ Some c };
-
-    ghost faults = { λ d. d.calls };
-
-    ghost borrow = { λ _. 0 };
-
-    ghost counts_now = { λ d t c le left. left };
-
-    ghost only_now = { λ d c left. left };
-
-    ghost reads_one = { λ d i is. is };
+    ghost tells = { record {
+      reads = λ _. None;
+      may_leave = λ _ (c : Image). None ≡ Some c;
+      moment = λ _. 0;
+      left_since = λ _ _ (c : Image). None ≡ Some c;
+      faults = λ d. d.calls;
+      borrow = λ _. 0;
+      counts_now = λ d t c le left. left;
+      only_now = λ d c left. left;
+      reads_one = λ d i is. is;
+    } };
 
     fn len(&mut self, area: Area) -> Result<u64, DiskFault> {
         self.calls = self.calls.saturating_add(1);

@@ -65,13 +65,12 @@ impl<S: Sink> Counted<S> {
 }
 
 impl<S: Sink> Sink for Counted<S> {
-    ghost written = { λ s. S.written s.sink };
-
-    ghost faults = { λ s. S.faults s.sink };
-
-    ghost borrow = { λ s. S.borrow s.sink };
-
-    ghost puts = { λ a b. S.puts a.sink b.sink };
+    ghost tells = { record {
+      written = λ s. S.tells.written s.sink;
+      faults = λ s. S.tells.faults s.sink;
+      borrow = λ s. S.tells.borrow s.sink;
+      puts = λ a b. S.tells.puts a.sink b.sink;
+    } };
 
     fn put(&mut self, bytes: &[u8]) -> Result<(), Fault> {
         let put = self.sink.put(bytes);

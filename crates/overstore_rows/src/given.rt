@@ -31,13 +31,12 @@ impl<'a> Given<'a> {
 }
 
 impl Source for Given<'_> {
-    ghost left = { λ _. None };
-
-    ghost faults = { λ s. s.takes };
-
-    ghost borrow = { λ _. 0 };
-
-    ghost takes = { λ _ _. Unit {0} };
+    ghost tells = { record {
+      left = λ _. None;
+      faults = λ s. s.takes;
+      borrow = λ _. 0;
+      takes = λ _ _. Unit {0};
+    } };
 
     fn take(&mut self, buf: &mut [u8]) -> Result<usize, Fault> {
         self.takes = self.takes.saturating_add(1);

@@ -54,13 +54,12 @@ impl Told {
 }
 
 impl Sink for Told {
-    ghost written = { λ _. None };
-
-    ghost faults = { λ s. s.puts };
-
-    ghost borrow = { λ _. 0 };
-
-    ghost puts = { λ _ _. Unit {0} };
+    ghost tells = { record {
+      written = λ _. None;
+      faults = λ s. s.puts;
+      borrow = λ _. 0;
+      puts = λ _ _. Unit {0};
+    } };
 
     fn put(&mut self, bytes: &[u8]) -> Result<(), Fault> {
         self.puts = self.puts.saturating_add(1);
@@ -91,13 +90,12 @@ impl Kept {
 }
 
 impl Sink for Kept {
-    ghost written = { λ _. None };
-
-    ghost faults = { λ s. s.puts };
-
-    ghost borrow = { λ _. 0 };
-
-    ghost puts = { λ _ _. Unit {0} };
+    ghost tells = { record {
+      written = λ _. None;
+      faults = λ s. s.puts;
+      borrow = λ _. 0;
+      puts = λ _ _. Unit {0};
+    } };
 
     fn put(&mut self, bytes: &[u8]) -> Result<(), Fault> {
         self.puts = self.puts.saturating_add(1);
@@ -122,13 +120,12 @@ impl Untold {
 }
 
 impl Sink for Untold {
-    ghost written = { λ _. None };
-
-    ghost faults = { λ s. s.puts };
-
-    ghost borrow = { λ _. 0 };
-
-    ghost puts = { λ _ _. Unit {0} };
+    ghost tells = { record {
+      written = λ _. None;
+      faults = λ s. s.puts;
+      borrow = λ _. 0;
+      puts = λ _ _. Unit {0};
+    } };
 
     fn put(&mut self, bytes: &[u8]) -> Result<(), Fault> {
         self.puts = self.puts.saturating_add(1);
