@@ -129,6 +129,7 @@ fn files_of(
 
 // How the program ended: its status, where it was then, and which line of the script was bad, by
 // its number, and what it lacks, where that is known.
+#[derive(Drop)]
 struct End {
     code: u8,
     stage: Stage,
