@@ -275,6 +275,7 @@ def replies_that_are_counted():
         os.close(terminal)
         os.close(master)
         assert done.returncode == 0 and done.stdout.endswith(b"end epoch 1\n"), done.returncode
+        said = errors_of(said.replace(b"\r\n", b"\n"))
         assert (shown in said) if shown else said == b"", said
 
 
