@@ -1,4 +1,6 @@
 //! A disk that says on standard error when a write failed.
+ghost use Rattle.std.specs.Prelude.{◌≡◌};
+
 use crate::texts::FAILED_WRITE;
 use ov_disk::{Area, Disk, DiskFault};
 
