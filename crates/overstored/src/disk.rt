@@ -4,13 +4,15 @@ ghost use Rattle.std.specs.Prelude.{◌≡◌};
 use crate::texts::FAILED_WRITE;
 use ov_disk::{Area, Disk, DiskFault};
 
-/// The disk in it, which says so once where a write or a sync of it fails: the store over it then
-/// refuses every update.
+/// The disk in it, which says so once where a write or a sync of it fails behind one that didn't: the
+/// store over it then refuses every update. Of a disk that fails from the first call on, the end of
+/// the server says more.
 #[derive(Drop)]
 pub struct SpokenDisk<D, R> {
     disk: D,
     book: String,
     rt: R,
+    worked: bool,
     said: bool,
 }
 
@@ -21,15 +23,18 @@ impl<D, R: Eprint> SpokenDisk<D, R> {
             disk,
             book,
             rt,
+            worked: false,
             said: false,
         }
     }
 
-    // Says that a write failed, where nothing was said before.
-    fn say(&mut self)
+    // Notes whether a write or a sync failed, and says so of the first one behind one that didn't.
+    fn note(&mut self, failed: bool)
         ensures { self.new.disk ≡ self.old.disk }
     {
-        if !self.said {
+        if !failed {
+            self.worked = true;
+        } else if self.worked && !self.said {
             self.said = true;
             let book = self.book.as_str();
             let (error, hint) = FAILED_WRITE;
@@ -62,17 +67,13 @@ impl<D: Disk, R: Eprint> Disk for SpokenDisk<D, R> {
 
     fn write_at(&mut self, area: Area, at: u64, bytes: &[u8]) -> Result<(), DiskFault> {
         let written = self.disk.write_at(area, at, bytes);
-        if written.is_err() {
-            self.say();
-        }
+        self.note(written.is_err());
         written
     }
 
     fn sync(&mut self) -> Result<(), DiskFault> {
         let synced = self.disk.sync();
-        if synced.is_err() {
-            self.say();
-        }
+        self.note(synced.is_err());
         synced
     }
 }
