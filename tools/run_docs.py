@@ -5,6 +5,7 @@ what they print with what stands on the page or beside the script.
     python3 tools/run_docs.py PROGRAM..       # and what needs these, as crates/overstore/out/overstore
     python3 tools/run_docs.py PROGRAM.. kit   # and what calls the kit, which proves nothing here
 
+The line on standard error that says that a new store was begun is left out on the pages, and here.
 A program is known by its name, which ends in overstore, overstored or overctl.
 
 A block of a page is run where a comment stands above it:
@@ -43,6 +44,7 @@ MARK = re.compile(r"<!-- (run|file|not run|before)(?:: (.*?))? -->")
 MAN_MARK = re.compile(r'\.\\" (run|file|not run|before)(?:: (.*))?')
 MAN_SIGNS = {r"\e": "\\", r"\&": "", r"\-": "-", r"\(aq": "'"}
 NEEDS = {"program", "network", "kit"}
+NEW_STORE = "overstore: note: there was no store in this folder, so a new one was begun\n"
 PROGRAMS = ("overstored", "overstore", "overctl")
 
 
@@ -147,7 +149,7 @@ def shell(command, folder, place, status):
         stderr=subprocess.STDOUT,
     )
     status, _, place = last.read_text().strip().partition(" ")
-    return done.stdout.decode(), pathlib.Path(place), status
+    return done.stdout.decode().replace(NEW_STORE, ""), pathlib.Path(place), status
 
 
 def without_kit(text):
