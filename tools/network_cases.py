@@ -13,6 +13,7 @@ import random
 import re
 import resource
 import shutil
+import signal
 import socket
 import struct
 import subprocess
@@ -66,9 +67,9 @@ def start(folder, text, **streams):
 class Server:
     """A server that listens."""
 
-    def __init__(self, folder, sessions, **other):
+    def __init__(self, folder, sessions, preexec_fn=None, **other):
         self.begins = not (folder / "store.book").exists()
-        self.process = start(folder, settings(sessions, **other))
+        self.process = start(folder, settings(sessions, **other), preexec_fn=preexec_fn)
         line = self.process.stdout.readline().decode()
         assert line.startswith("listening 127.0.0.1:"), (line, self.process.stderr.read())
         self.address = line.split()[1]
@@ -401,6 +402,26 @@ def a_file_over_the_network():
     assert server.end(4) == []
 
 
+def a_write_that_fails():
+    """Under a limit on the size of files: the server says so once, and makes no update from then on."""
+    folder = new_folder()
+    shutil.copy(KEYS, folder / "keys.hex")
+    limit = lambda: (
+        signal.signal(signal.SIGXFSZ, signal.SIG_IGN),
+        resource.setrlimit(resource.RLIMIT_FSIZE, (95, 95)),
+    )
+    server = Server(folder, 4, preexec_fn=limit)
+    found = [
+        subprocess.run([CLIENT, "enrol", server.address, "keys.hex", name], cwd=folder, capture_output=True, timeout=SECONDS)
+        for name in ("alice", "bob", "carol", "alice")
+    ]
+    assert [done.returncode for done in found] == [0, 4, 4, 3], found
+    assert server.end(4) == [
+        "overstored: error: store.book: a write to the store failed, so no update is accepted any more",
+        "overstored: hint: see that there is room and that the disk is well, and start the server again",
+    ]
+
+
 CASES = [
     right_sessions,
     broken_sessions,
@@ -415,7 +436,7 @@ CASES = [
 ]
 
 if __name__ == "__main__":
-    for case in CASES + ([a_file_over_the_network] if CLIENT else []):
+    for case in CASES + ([a_file_over_the_network, a_write_that_fails] if CLIENT else []):
         began = time.monotonic()
         case()
         print("%-28s %5.1f s" % (case.__name__, time.monotonic() - began), flush=True)
