@@ -109,6 +109,7 @@ module _ {D : Type 0} (tells : DiskTells D) where
   begins s reaches = record {
     reaches = reaches;
     keys = refl;
+    same = refl;
     later = omega arith;
     cause = λ sound failed. absurd (true≢false (sym failed ∙ sound));
     endures = λ g serves sound i told.
@@ -238,6 +239,7 @@ module _ {D : Type 0} (tells : DiskTells D) where
     goes_on_after = record {
       reaches = reached_after tells old new request reply answered (serving_of start) list before.reaches;
       keys = call.0 ∙ before.keys;
+      same = call.1 ∙ before.same;
       later = omega (arith, before.later, call.2);
       cause = cause_after;
       endures = λ g serves sound i told.

@@ -1,6 +1,6 @@
 -- What a server does from its beginning to its last line.
 use Rattle.std.specs.Prelude.{◌≡◌, ◌≢◌, ◌⊎◌, ℕ, List, [], ◌∷◌, ◌++◌, codes, take}
-use Rattle.std.specs.Prelude.{Bool, true, false, Option, Some, None, Result, Ok, Err, IfErr, IfOk}
+use Rattle.std.specs.Prelude.{Bool, true, false, Option, Result, Ok, Err, IfErr, IfOk}
 use Rattle.std.proofs.Common.{inl, inr}
 use Rattle.std.specs.Fmt.{decimal}
 use Rattle.std.specs.Io.KnownBytes.{Appends}
@@ -118,7 +118,8 @@ pub record Begins {D : Type 0} (tells : DiskTells D) (k : Keys) (mode : Mode) (d
 -- A store wasn't begun: the disk is handed back, the door isn't touched, and the line says why.
 pub record HandsBack {D S : Type 0} (refused : BeginRefused D) (old new : Doorway S)
     (before after : Option (List ℕ)) (hosted : Hosted D) : Type 0 where
-  pub disk : hosted.disk ≡ Some refused.disk
+  pub begun : hosted.begun ≡ false
+  pub disk : hosted.disk ≡ refused.disk
   pub door : new ≡ old
   pub ends : EndsOr (fault_line refused.fault) (fault_status refused.fault)
       before after hosted.status
@@ -140,13 +141,14 @@ module _ {D S : Type 0} (disk_tells : DiskTells D) (source : SourceTells S)
       accepted_in (store_tells disk_tells) source sink v tells.serves.sessions.sessions w []
       tells.serves.sessions.follows
 
-  -- The server of a store that was begun served, and the disk isn't handed back. The store went on
-  -- by the updates that were accepted, and by nothing else; and so did the disk, from one that had
+  -- The server of a store that was begun served. The store went on by the updates that were
+  -- accepted, and by nothing else; and so did the disk that is handed back, from one that had
   -- nothing pending and whose image stood for a history of the mode.
   pub record ServesStore (k : Keys) (mode : Mode) (disk : D) (s : Opened D) (old new : Doorway S)
       (wanted : ℕ) (before after : Option (List ℕ)) (hosted : Hosted D) : Type 0 where
-    pub back : hosted.disk ≡ None
+    pub begun : hosted.begun ≡ true
     pub last : Opened D
+    pub left : hosted.disk ≡ last.disk
     pub serves : Serves serves_store s last old new wanted before after hosted.status
     pub goes_on : GoesOn disk_tells s
         (accepted s last old new wanted before after hosted.status serves) last
@@ -154,7 +156,7 @@ module _ {D S : Type 0} (disk_tells : DiskTells D) (source : SourceTells S)
         → (g : SealedHistory) → g.mode ≡ mode → IsImageOf k g i
         → Survives disk_tells k g
         (updates_of (accepted s last old new wanted before after hosted.status serves))
-        last.failed disk last.disk)
+        last.failed disk hosted.disk)
 
   -- what is done with a store that was begun on this disk, or wasn't
   abbrev pub Hosts : Keys → Mode → D → Result (Opened D) (BeginRefused D) → Doorway S → Doorway S
@@ -164,11 +166,11 @@ module _ {D S : Type 0} (disk_tells : DiskTells D) (source : SourceTells S)
   Hosts k mode disk (Err refused) old new wanted before after hosted =
       HandsBack refused old new before after hosted
 
--- the status is 4 only where a disk is handed back whose count of faults rose
-abbrev pub SaysDisk : {D : Type 0} → DiskTells D → D → Hosted D → Type 0
-SaysDisk {D} tells disk hosted =
-    hosted.status ≡ 4
-    → (left : D) × (hosted.disk ≡ Some left) × Rose (tells.faults disk) (tells.faults left)
+-- The disk that is handed back is the same loan. Its count of faults didn't fall, and at 4 it rose
+-- and no store was begun.
+pub record SaysDisk {D : Type 0} (tells : DiskTells D) (disk : D) (hosted : Hosted D) : Type 0 where
+  pub call : IsDiskCall tells (hosted.status ≡ 4) disk hosted.disk
+  pub refused : hosted.status ≡ 4 → hosted.begun ≡ false
 
 -- one of the statuses of a server whose disk has its store, or none yet
 abbrev pub IsOpenStatus : ℕ → Type 0

@@ -50,11 +50,12 @@ module _ {D : Type 0} (tells : DiskTells D) where
     pub told : now.failed ≡ false → (i : Image) × (tells.reads now.disk ≡ Some i)
 
   -- From one store the updates with these spellings lead to another: what is served goes on by
-  -- them, the keys stay, and, where the disk tells its bytes and hadn't failed, it endures. The
-  -- disk failed in an update only where its count of faults rose.
+  -- them, the keys and the disk's loan stay, and, where the disk tells its bytes and hadn't failed,
+  -- it endures. The disk failed in an update only where its count of faults rose.
   pub record GoesOn (start : Opened D) (list : List (List ℕ)) (now : Opened D) : Type 0 where
     pub reaches : Reaches (serving_of start) list (serving_of now)
     pub keys : now.keys ≡ start.keys
+    pub same : tells.borrow now.disk ≡ tells.borrow start.disk
     pub later : tells.faults start.disk ≤ tells.faults now.disk
     pub cause : start.failed ≡ false → now.failed ≡ true
         → Rose (tells.faults start.disk) (tells.faults now.disk)

@@ -32,6 +32,14 @@ impl<D: Disk> DiskServer<D> {
         server.known();
         DiskServer { server }
     }
+
+    /// Gives the disk back.
+    pub fn close(self) -> D
+        ensures { result ≡ self.disk }
+    {
+        let DiskServer { server } = self;
+        server.into_store().close()
+    }
 }
 
 impl<D: Disk> Answerer for DiskServer<D> {

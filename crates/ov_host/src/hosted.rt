@@ -1,8 +1,9 @@
 //! How a server ended.
 
-/// How a server ended: its exit status, and its disk, where no store was begun on that.
+/// How a server ended: its exit status, whether its store was begun, and its disk.
 #[derive(Drop)]
 pub struct Hosted<D> {
     pub status: u8,
-    pub disk: Option<D>,
+    pub begun: bool,
+    pub disk: D,
 }

@@ -1,5 +1,5 @@
 //! A server over its disk and its door.
-ghost use Rattle.std.specs.Prelude.{◌≡◌, Result, Some};
+ghost use Rattle.std.specs.Prelude.{◌≡◌, Result, false};
 ghost use Rattle.ov_disk.specs.Disk.{Told};
 ghost use Rattle.ov_images.specs.Images.{StandsIn, keys};
 ghost use Rattle.ov_store.specs.Opened.{Opened};
@@ -46,7 +46,8 @@ fn hand_back<D: Disk + Drop, O: Sink>(
     refused: BeginRefused<D>,
     out: &mut O,
 ) -> Hosted<D>
-    ensures disk { result.disk ≡ Some refused.disk }
+    ensures begun { result.begun ≡ false }
+    ensures disk { result.disk ≡ refused.disk }
     ensures known { HasValues refused.fault }
     ensures ends { EndsOr (fault_line refused.fault) (fault_status refused.fault)
         (O.tells.written out.old) (O.tells.written out.new) result.status }
@@ -56,13 +57,14 @@ fn hand_back<D: Disk + Drop, O: Sink>(
     values_are_known(fault);
     Hosted {
         status: put_fault(alloc, out, fault),
-        disk: Some(disk),
+        begun: false,
+        disk,
     }
 }
 
 /// Begins the store on the disk by these settings, and serves it at the door: says where it
 /// listens, serves the sessions one after the other, and says how many there were. Where no store
-/// is begun the line says why, and the disk is handed back.
+/// is begun the line says why. The disk is handed back as the sessions left it.
 pub fn host<R: Wait, D: Disk + Drop, A: Door, O: Sink>(
     rt: &R,
     alloc: Global,
@@ -91,7 +93,12 @@ pub fn host<R: Wait, D: Disk + Drop, A: Door, O: Sink>(
         Ok(store) => {
             let mut server = DiskServer::new(Server::new(store, settings.surface));
             let status = serve_door(rt, alloc, door, &mut server, settings.sessions, out);
-            Hosted { status, disk: None }
+            let disk = server.close();
+            Hosted {
+                status,
+                begun: true,
+                disk,
+            }
         }
         Err(refused) => hand_back(alloc, refused, out),
     }

@@ -14,7 +14,8 @@
 //! | 9 | `error key ..`, `error mode ..` | the store is of other keys or the other mode |
 //! | 13 | `error door` | the door failed |
 //!
-//! At 4, 8 and 9, and at 6 and 7 in their place, no store was begun, and [`Hosted`] has the disk.
+//! At 4, 8 and 9, and at 6 and 7 in their place, no store was begun, and [`Hosted`] says so. It has
+//! the disk, as the server left it.
 //! `specs/Hosting` says it all: what is put in which order, that the sessions are those of a server
 //! of just the store that was begun, and which status has which cause.
 #![tactic(auto)]

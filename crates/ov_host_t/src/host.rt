@@ -30,7 +30,7 @@ struct Case {
     out_fails: &'static [u8],
     disk_fails: Option<u64>,
     status: u8,
-    /// Whether the disk is handed back.
+    /// Whether no store is begun.
     back: bool,
     out: &'static [u8],
 }
@@ -194,7 +194,7 @@ fn assert_case<R: Abort + Wait>(rt: &R, alloc: Global, case: &Case) {
     let hosted: Hosted<MemDisk> = host(rt, alloc, &settings, disk, &mut door, &mut out);
     assert_eq!(rt; out.written(), case.out);
     assert_eq!(rt; hosted.status, case.status);
-    assert_eq!(rt; hosted.disk.is_some(), case.back);
+    assert_eq!(rt; !hosted.begun, case.back);
 }
 
 #[test]

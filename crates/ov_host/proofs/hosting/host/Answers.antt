@@ -1,9 +1,9 @@
-use Rattle.std.proofs.Common.{Ok, Err, None, refl, ◌∙◌}
+use Rattle.std.proofs.Common.{Ok, Err, true, refl, ◌∙◌}
 use Rattle.ov_images.specs.Images.{keys}
 use Rattle.ov_report.proofs.Opening.{faulted_so}
 use Rattle.ov_host.specs.Hosting.{serves_store}
-use Rattle.ov_host.proofs.Endings.{faulted_open, serves_not_4, serves_open}
-use Rattle.ov_host.proofs.Served.{store_served}
+use Rattle.ov_host.proofs.Endings.{faulted_open, serves_open}
+use Rattle.ov_host.proofs.Served.{served_disk, store_served}
 use Rattle.ov_host.proofs.hosting.host.Goals as goal
 
 pub returns-in-Ok-clause-hosts : goal.returns-in-Ok-clause-hosts
@@ -16,14 +16,23 @@ returns-in-Ok-clause-hosts g c =
           c.args.disk c.in-Ok.store c.serve_door-status.new.value (g.A.Door.shows c.args.door.now)
           (g.A.Door.shows c.serve_door-status.new.door) c.args.settings.now.sessions
           (g.O.Sink.tells.written c.args.out.now) (g.O.Sink.tells.written c.serve_door-status.new.out)
-          (record { status = c.serve_door-status.result; disk = None }) begun.opened begun.any_moment refl
-          c.new-server.result (c.new-server.ensures.same ∙ c.new.ensures) c.new-server.ensures.begins
+          (record { status = c.serve_door-status.result; begun = true; disk = c.close-disk.result }) begun.opened begun.any_moment
+          refl c.close-disk.ensures c.new-server.result (c.new-server.ensures.same ∙ c.new.ensures) c.new-server.ensures.begins
           c.serve_door-status.ensures.serves,
     )
 
 pub returns-in-Ok-clause-disk : goal.returns-in-Ok-clause-disk
-returns-in-Ok-clause-disk g c = λ four.
-    absurd (serves_not_4 (serves_store g.D.Disk.tells g.A.Stream.Source.tells g.A.Stream.Sink.tells) _ _ _ _ _ _ _ _ c.serve_door-status.ensures.serves four)
+returns-in-Ok-clause-disk g c =
+    let begun = c.in-Ok.ensures in
+    let served = store_served g.D.Disk.tells g.A.Stream.Source.tells g.A.Stream.Sink.tells
+    (keys c.args.settings.now.base_check c.args.settings.now.surface.bytes) c.args.settings.now.mode
+    c.args.disk c.in-Ok.store c.serve_door-status.new.value (g.A.Door.shows c.args.door.now)
+    (g.A.Door.shows c.serve_door-status.new.door) c.args.settings.now.sessions
+    (g.O.Sink.tells.written c.args.out.now) (g.O.Sink.tells.written c.serve_door-status.new.out)
+    (record { status = c.serve_door-status.result; begun = true; disk = c.close-disk.result }) begun.opened begun.any_moment
+    refl c.close-disk.ensures c.new-server.result (c.new-server.ensures.same ∙ c.new.ensures) c.new-server.ensures.begins
+    c.serve_door-status.ensures.serves in
+    served_disk g.D.Disk.tells g.A.Stream.Source.tells g.A.Stream.Sink.tells _ _ _ _ _ _ _ _ _ _ _ served begun.call
 
 pub returns-in-Ok-clause-opens : goal.returns-in-Ok-clause-opens
 returns-in-Ok-clause-opens g c = λ i told stands.
@@ -34,7 +43,7 @@ returns-in-Err-clause-hosts g c =
     let handed = c.hand_back.ensures in (
       Err c.in-Err.refused,
       c.in-Err.ensures,
-      record { disk = handed.disk; door = refl; ends = handed.ends },
+      record { begun = handed.begun; disk = handed.disk; door = refl; ends = handed.ends },
     )
 
 pub returns-in-Err-clause-opens : goal.returns-in-Err-clause-opens
