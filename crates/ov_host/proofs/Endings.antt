@@ -40,24 +40,24 @@ served_ends false served old new status ends = by_line (ended_or (served_line se
   by_line (inr (inl is)) = inr (inl is)
   by_line (inr (inr is)) = inr (inr (inl is))
 
-module _ {V S : Type 0} (one : OneSession V S) (v w : V) (old new : Doorway S) (wanted : ℕ) (before after : Option (List ℕ)) (status : ℕ) where
-  serves_ends : Serves one v w old new wanted before after status → Ended status
+module _ {V S : Type 0} (one : OneSession V S) (v w : V) (old new : Doorway S) (wanted : ℕ) (before after : Option (List ℕ)) (status : ℕ) (gave : List ℕ → Type 0) where
+  serves_ends : Serves one v w old new wanted before after status gave → Ended status
   unfolding Ended
   serves_ends (inl fails) = by_line (ended_in door_line 13 before after status fails.ends) where
     by_line : (status ≡ 13) ⊎ (status ≡ 6) → (status ≡ 0) ⊎ ((status ≡ 6) ⊎ ((status ≡ 7) ⊎ (status ≡ 13)))
     by_line (inl is) = inr (inr (inr is))
     by_line (inr is) = inr (inl is)
-  serves_ends (inr (address, inl fails)) = by_end fails.ends where
+  serves_ends (inr (address, given, inl fails)) = by_end fails.ends where
     by_end : ((status ≡ 6) × ((n : ℕ) × Appends before after (take n (listening_line address)))) ⊎ EndsIn memory_line 7 before after status
         → (status ≡ 0) ⊎ ((status ≡ 6) ⊎ ((status ≡ 7) ⊎ (status ≡ 13)))
     by_end (inl (is, put)) = inr (inl is)
     by_end (inr (inl (is, put))) = inr (inr (inl is))
     by_end (inr (inr (is, put))) = inr (inl is)
-  serves_ends (inr (address, inr tells)) =
+  serves_ends (inr (address, given, inr tells)) =
       served_ends tells.serves.failed tells.serves.served tells.between after status tells.serves.ends
 
   -- it isn't 4
-  pub serves_not_4 : Serves one v w old new wanted before after status → status ≡ 4 → ⊥
+  pub serves_not_4 : Serves one v w old new wanted before after status gave → status ≡ 4 → ⊥
   unfolding Ended
   serves_not_4 serves four = not_4 status (serves_ends serves) four where
     not_4 : (n : ℕ) → (n ≡ 0) ⊎ ((n ≡ 6) ⊎ ((n ≡ 7) ⊎ (n ≡ 13))) → n ≡ 4 → ⊥
@@ -67,7 +67,7 @@ module _ {V S : Type 0} (one : OneSession V S) (v w : V) (old new : Doorway S) (
     not_4 n (inr (inr (inr is))) four = omega (arith, is, four)
 
   -- and is one of a server whose disk has its store
-  pub serves_open : Serves one v w old new wanted before after status → IsOpenStatus status
+  pub serves_open : Serves one v w old new wanted before after status gave → IsOpenStatus status
   unfolding Ended
   serves_open serves = as_open (serves_ends serves) where
     as_open : (status ≡ 0) ⊎ ((status ≡ 6) ⊎ ((status ≡ 7) ⊎ (status ≡ 13))) → IsOpenStatus status

@@ -21,24 +21,24 @@ module _ {D S : Type 0} (disk_tells : DiskTells D) (source : SourceTells S) (sin
   abbrev Reached : Opened D → List (List ℕ) → Opened D → Type 0
   Reached v list w = GoesOn disk_tells v list w
 
-  pub served_reach : (v w : Opened D) (old new : Doorway S) (wanted : ℕ) (before after : Option (List ℕ)) (status : ℕ) → Reached v [] v
-      → (serves : Serves (serves_store disk_tells source sink) v w old new wanted before after status)
-      → Reached v (accepted disk_tells source sink v w old new wanted before after status serves) w
-  served_reach v w old new wanted before after status here (inl fails) = subst (Reached v []) (sym fails.same) here
-  served_reach v w old new wanted before after status here (inr (address, inl fails)) = subst (Reached v []) (sym fails.same) here
-  served_reach v w old new wanted before after status here (inr (address, inr tells)) =
+  pub served_reach : (v w : Opened D) (old new : Doorway S) (wanted : ℕ) (before after : Option (List ℕ)) (status : ℕ) (gave : List ℕ → Type 0) → Reached v [] v
+      → (serves : Serves (serves_store disk_tells source sink) v w old new wanted before after status gave)
+      → Reached v (accepted disk_tells source sink v w old new wanted before after status gave serves) w
+  served_reach v w old new wanted before after status gave here (inl fails) = subst (Reached v []) (sym fails.same) here
+  served_reach v w old new wanted before after status gave here (inr (address, given, inl fails)) = subst (Reached v []) (sym fails.same) here
+  served_reach v w old new wanted before after status gave here (inr (address, given, inr tells)) =
       sessions_reach (store_tells disk_tells) source sink v v tells.serves.sessions.sessions w [] here tells.serves.sessions.follows
 
   -- the server of a store that was just begun on this disk served
-  pub store_served : (k : Keys) (mode : Mode) (disk : D) (s last : Opened D) (old new : Doorway S) (wanted : ℕ) (before after : Option (List ℕ)) (hosted : Hosted D)
+  pub store_served : (k : Keys) (mode : Mode) (disk : D) (s last : Opened D) (old new : Doorway S) (wanted : ℕ) (before after : Option (List ℕ)) (gave : List ℕ → Type 0) (hosted : Hosted D)
       → IsBegun disk_tells k mode (disk_tells.reads disk) s → LeavesHistory disk_tells k mode disk s.disk
       → hosted.begun ≡ true → hosted.disk ≡ last.disk → (v : Opened D) → v ≡ s → Reached v [] v
-      → Serves (serves_store disk_tells source sink) v last old new wanted before after hosted.status
-      → ServesStore disk_tells source sink k mode disk s old new wanted before after hosted
-  store_served k mode disk s last old new wanted before after hosted begun first was left v same here serves =
-      let from : Serves (serves_store disk_tells source sink) s last old new wanted before after hosted.status =
-      subst (λ (m : Opened D). Serves (serves_store disk_tells source sink) m last old new wanted before after hosted.status) same serves in
-      let on = served_reach s last old new wanted before after hosted.status (subst (λ (m : Opened D). Reached m [] m) same here) from in
+      → Serves (serves_store disk_tells source sink) v last old new wanted before after hosted.status gave
+      → ServesStore disk_tells source sink k mode disk s old new wanted before after gave hosted
+  store_served k mode disk s last old new wanted before after gave hosted begun first was left v same here serves =
+      let from : Serves (serves_store disk_tells source sink) s last old new wanted before after hosted.status gave =
+      subst (λ (m : Opened D). Serves (serves_store disk_tells source sink) m last old new wanted before after hosted.status gave) same serves in
+      let on = served_reach s last old new wanted before after hosted.status gave (subst (λ (m : Opened D). Reached m [] m) same here) from in
       record {
         begun = was;
         last = last;
@@ -46,17 +46,17 @@ module _ {D S : Type 0} (disk_tells : DiskTells D) (source : SourceTells S) (sin
         serves = from;
         goes_on = on;
         survives = λ i told only g mode_is stands.
-            let list = accepted disk_tells source sink s last old new wanted before after hosted.status from in
+            let list = accepted disk_tells source sink s last old new wanted before after hosted.status gave from in
             subst (λ (d : D). Survives disk_tells k g (updates_of list) last.failed disk d) (sym left)
             (survives_from disk_tells k mode disk s last list begun first on i told only g mode_is stands);
       }
 
   -- and hands its disk back
-  pub served_disk : (k : Keys) (mode : Mode) (disk : D) (s : Opened D) (old new : Doorway S) (wanted : ℕ) (before after : Option (List ℕ)) (hosted : Hosted D) (F : Type 0)
-      → ServesStore disk_tells source sink k mode disk s old new wanted before after hosted → IsDiskCall disk_tells F disk s.disk
+  pub served_disk : (k : Keys) (mode : Mode) (disk : D) (s : Opened D) (old new : Doorway S) (wanted : ℕ) (before after : Option (List ℕ)) (gave : List ℕ → Type 0) (hosted : Hosted D) (F : Type 0)
+      → ServesStore disk_tells source sink k mode disk s old new wanted before after gave hosted → IsDiskCall disk_tells F disk s.disk
       → SaysDisk disk_tells disk hosted
-  served_disk k mode disk s old new wanted before after hosted F served call =
-      let never = serves_not_4 (serves_store disk_tells source sink) s served.last old new wanted before after hosted.status served.serves in
+  served_disk k mode disk s old new wanted before after gave hosted F served call =
+      let never = serves_not_4 (serves_store disk_tells source sink) s served.last old new wanted before after hosted.status gave served.serves in
       record {
         call = record {
           same = ap disk_tells.borrow served.left ∙ served.goes_on.same ∙ call.same;

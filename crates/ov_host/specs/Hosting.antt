@@ -89,11 +89,15 @@ module _ {V S : Type 0} (one : OneSession V S) (v w : V) (old new : Doorway S) (
   Tells address =
       FailsToTell one v w old new wanted before after status address ⊎ TellsAndServes address
 
-  -- what comes of a door: it doesn't listen, or it does at some address
-  abbrev pub Serves : Type 0
-  Serves =
+  -- what comes of a door: it doesn't listen, or it does at an address that it gave
+  abbrev pub Serves : (List ℕ → Type 0) → Type 0
+  Serves gave =
       FailsToListen one v w old new wanted before after status
-      ⊎ ((address : List ℕ) × Tells address)
+      ⊎ ((address : List ℕ) × gave address × Tells address)
+
+-- one listen of this door gave the address
+abbrev pub GaveAddress : {A : Type 0} → (A → List ℕ → A → Type 0) → A → List ℕ → Type 0
+GaveAddress {A} listens door address = (then : A) × listens door address then
 
 -- The count of the door rose, and the status is 13, or 6 where the line couldn't be put; or it
 -- didn't, and the status is another one than 13.
@@ -134,10 +138,11 @@ module _ {D S : Type 0} (disk_tells : DiskTells D) (source : SourceTells S)
   -- the spellings of the updates that were accepted in all sessions, in order
   abbrev pub accepted : (v w : Opened D) (old new : Doorway S) (wanted : ℕ)
       (before after : Option (List ℕ)) (status : ℕ)
-      → Serves serves_store v w old new wanted before after status → List (List ℕ)
-  accepted v w old new wanted before after status (inl fails) = []
-  accepted v w old new wanted before after status (inr (address, inl fails)) = []
-  accepted v w old new wanted before after status (inr (address, inr tells)) =
+      (gave : List ℕ → Type 0)
+      → Serves serves_store v w old new wanted before after status gave → List (List ℕ)
+  accepted v w old new wanted before after status gave (inl fails) = []
+  accepted v w old new wanted before after status gave (inr (address, given, inl fails)) = []
+  accepted v w old new wanted before after status gave (inr (address, given, inr tells)) =
       accepted_in (store_tells disk_tells) source sink v tells.serves.sessions.sessions w []
       tells.serves.sessions.follows
 
@@ -145,25 +150,26 @@ module _ {D S : Type 0} (disk_tells : DiskTells D) (source : SourceTells S)
   -- accepted, and by nothing else; and so did the disk that is handed back, from one that had
   -- nothing pending and whose image stood for a history of the mode.
   pub record ServesStore (k : Keys) (mode : Mode) (disk : D) (s : Opened D) (old new : Doorway S)
-      (wanted : ℕ) (before after : Option (List ℕ)) (hosted : Hosted D) : Type 0 where
+      (wanted : ℕ) (before after : Option (List ℕ)) (gave : List ℕ → Type 0) (hosted : Hosted D)
+      : Type 0 where
     pub begun : hosted.begun ≡ true
     pub last : Opened D
     pub left : hosted.disk ≡ last.disk
-    pub serves : Serves serves_store s last old new wanted before after hosted.status
+    pub serves : Serves serves_store s last old new wanted before after hosted.status gave
     pub goes_on : GoesOn disk_tells s
-        (accepted s last old new wanted before after hosted.status serves) last
+        (accepted s last old new wanted before after hosted.status gave serves) last
     pub survives : Told (disk_tells.reads disk) (λ i. Only i (disk_tells.may_leave disk)
         → (g : SealedHistory) → g.mode ≡ mode → IsImageOf k g i
         → Survives disk_tells k g
-        (updates_of (accepted s last old new wanted before after hosted.status serves))
+        (updates_of (accepted s last old new wanted before after hosted.status gave serves))
         last.failed disk hosted.disk)
 
   -- what is done with a store that was begun on this disk, or wasn't
   abbrev pub Hosts : Keys → Mode → D → Result (Opened D) (BeginRefused D) → Doorway S → Doorway S
-      → ℕ → Option (List ℕ) → Option (List ℕ) → Hosted D → Type 0
-  Hosts k mode disk (Ok s) old new wanted before after hosted =
-      ServesStore k mode disk s old new wanted before after hosted
-  Hosts k mode disk (Err refused) old new wanted before after hosted =
+      → ℕ → Option (List ℕ) → Option (List ℕ) → (List ℕ → Type 0) → Hosted D → Type 0
+  Hosts k mode disk (Ok s) old new wanted before after gave hosted =
+      ServesStore k mode disk s old new wanted before after gave hosted
+  Hosts k mode disk (Err refused) old new wanted before after gave hosted =
       HandsBack refused old new before after hosted
 
 -- The disk that is handed back is the same loan. Its count of faults didn't fall, and at 4 it rose

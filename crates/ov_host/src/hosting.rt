@@ -7,7 +7,7 @@ ghost use Rattle.ov_store.specs.declared.begin.BeginRefused.{BeginRefused};
 ghost use Rattle.ov_session.specs.Doors.{IsUnused};
 ghost use Rattle.ov_report.specs.Ends.{EndsOr, IsPutTo};
 ghost use Rattle.ov_report.specs.Faults.{HasValues, fault_line, fault_status};
-ghost use Rattle.ov_host.specs.Hosting.{Begins, Hosts, IsOpenStatus, SaysDisk, SaysDoor};
+ghost use Rattle.ov_host.specs.Hosting.{Begins, GaveAddress, Hosts, IsOpenStatus, SaysDisk, SaysDoor};
 
 use crate::disk_server::DiskServer;
 use crate::hosted::Hosted;
@@ -80,7 +80,8 @@ pub fn host<R: Wait, D: Disk + Drop, A: Door, O: Sink>(
         × Hosts D.tells A.Stream.Source.tells A.Stream.Sink.tells
         (keys settings.now.base_check settings.now.surface.bytes) settings.now.mode disk begun
         (A.shows door.old) (A.shows door.new) settings.now.sessions
-        (O.tells.written out.old) (O.tells.written out.new) result }
+        (O.tells.written out.old) (O.tells.written out.new) (GaveAddress A.listens door.old)
+        result }
     ensures disk { SaysDisk D.tells disk result }
     ensures door { SaysDoor (A.shows door.old).faults (A.shows door.new).faults result.status }
     ensures put { IsPutTo O.tells out.old out.new result.status }

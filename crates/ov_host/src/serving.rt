@@ -4,7 +4,7 @@ ghost use Rattle.std.specs.Io.KnownBytes.{Appends};
 ghost use Rattle.ov_session.specs.Doors.{IsUnused};
 ghost use Rattle.ov_session.specs.Serving.{serves_alone};
 ghost use Rattle.ov_report.specs.Ends.{EndsIn, EndsOr, IsPutTo};
-ghost use Rattle.ov_host.specs.Hosting.{EndsServing, IsUntold, SaysDoor, Serves};
+ghost use Rattle.ov_host.specs.Hosting.{EndsServing, GaveAddress, IsUntold, SaysDoor, Serves};
 ghost use Rattle.ov_host.specs.Hosting.{door_line, listening_line, served_line};
 
 use ov_base::Memory;
@@ -93,7 +93,8 @@ pub fn serve_door<R: Wait, A: Door, V: Answerer, O: Sink>(
     requires { IsUnused (A.shows door.old) }
     ensures serves { Serves (serves_alone V.tells A.Stream.Source.tells A.Stream.Sink.tells)
         value.old value.new (A.shows door.old) (A.shows door.new) sessions
-        (O.tells.written out.old) (O.tells.written out.new) result }
+        (O.tells.written out.old) (O.tells.written out.new) result
+        (GaveAddress A.listens door.old) }
     ensures door { SaysDoor (A.shows door.old).faults (A.shows door.new).faults result }
     ensures put { IsPutTo O.tells out.old out.new result }
 {

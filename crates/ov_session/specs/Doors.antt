@@ -38,12 +38,12 @@ abbrev pub FailsExactly : {T E : Type 0} → ℕ → ℕ → Result T E → Type
 FailsExactly before now result =
     MatchResult result (λ _. now ≡ before) (λ _. Rose before now)
 
--- it listens: nothing is given by that, and at Ok its address was appended
-pub record Listens {S E : Type 0} (old new : Doorway S) (before after : List ℕ)
-    (result : Result (Unit {0}) E) : Type 0 where
+-- it listens: nothing is given by that, and at Ok the address that it gave was appended
+pub record Listens {S E : Type 0} (gave : List ℕ → Type 0) (old new : Doorway S)
+    (before after : List ℕ) (result : Result (Unit {0}) E) : Type 0 where
   pub same : new ≡ record old { faults = new.faults }
   pub cause : FailsExactly old.faults new.faults result
-  pub address : OnOk result ((text : List ℕ) × (after ≡ before ++ text))
+  pub address : OnOk result ((text : List ℕ) × (after ≡ before ++ text) × gave text)
 
 -- the streams that are told, and one more
 abbrev pub and_one : {S : Type 0} → Option (List (Given S)) → S → Option (List (Given S))

@@ -1,5 +1,5 @@
 //! Where sessions come from.
-ghost use Rattle.std.specs.Prelude.{◌≡◌};
+ghost use Rattle.std.specs.Prelude.{◌≡◌, ℕ, List};
 ghost use Rattle.ov_session.specs.Doors.{Accepts, Doorway, IsOut, Listens, taken_back};
 
 use crate::SessionEnd;
@@ -14,10 +14,14 @@ pub trait Door {
     /// number; whether it has answered that there are no more; and how often it has failed.
     ghost shows: { Self → Doorway Self.Stream };
 
+    /// That one listen, which gave this address, leads from the first value to the second. Code
+    /// over any door can show it of the address that a call of `listen` gave, and of no other.
+    ghost listens: { Self → List ℕ → Self → Type 0 };
+
     /// Begins to listen, and appends the address at which it listens.
     fn listen(&mut self, address: &mut Vec<u8>) -> Result<(), Fault>
-        ensures { Listens (shows self.old) (shows self.new) address.old.items address.new.items
-            result };
+        ensures { Listens (λ text. listens self.old text self.new) (shows self.old) (shows self.new)
+            address.old.items address.new.items result };
 
     /// Gives the next stream; None where there are no more.
     fn accept(&mut self) -> Result<Option<Self::Stream>, Fault>

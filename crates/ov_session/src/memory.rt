@@ -1,5 +1,5 @@
 //! A door in memory, which fails at the calls that it is told to.
-ghost use Rattle.std.specs.Prelude.{◌≡◌, ◌↔◌, [], length, IsTrue, Contains, IfSome, false, Some};
+ghost use Rattle.std.specs.Prelude.{◌≡◌, ◌↔◌, [], codes, length, IsTrue, Contains, IfSome, false, Some};
 ghost use Rattle.ov_io.specs.Memory.{one_call};
 ghost use Rattle.ov_session.specs.Memory.{IsBackAt, seen_back};
 ghost use Rattle.ov_session.specs.Doors.{Accepts, Doorway, IsOut, Listens, taken_back};
@@ -119,6 +119,8 @@ impl Door for MemDoor {
       closed = d.closed;
       faults = d.faults;
     } };
+
+    ghost listens = { λ _ text _. text ≡ codes "memory" };
 
     fn listen(&mut self, address: &mut Vec<u8>) -> Result<(), Fault> {
         if self.fails_now() || address.extend_from_slice(b"memory").is_err() {

@@ -1,5 +1,5 @@
 //! A door at a TCP port. What the system's sockets give and take is trusted.
-ghost use Rattle.std.specs.Prelude.{◌≡◌, ◌++◌, None, false, List, ℕ, OnOk};
+ghost use Rattle.std.specs.Prelude.{◌≡◌, ◌++◌, ⊤, None, false, List, ℕ, OnOk};
 ghost use Rattle.ov_base.specs.Causes.{Rose};
 
 use crate::{Door, SessionEnd};
@@ -111,6 +111,8 @@ impl<R: Net + AllocGlobal + Drop> Door for TcpDoor<R> {
       closed = false;
       faults = d.faults;
     } };
+
+    ghost listens = { λ _ _ _. ⊤ };
 
     fn listen(&mut self, address: &mut Vec<u8>) -> Result<(), Fault> {
         match self.open(address) {

@@ -70,6 +70,8 @@ impl<A: Door, R: Eprint> Door for SpokenDoor<A, R> {
       faults = d.faults;
     } };
 
+    ghost listens = { λ a text b. A.listens a.door text b.door };
+
     fn listen(&mut self, address: &mut Vec<u8>) -> Result<(), Fault> {
         match self.door.listen(address) {
             Ok(()) => {
