@@ -1,12 +1,15 @@
--- Rows of images: headers and bodies of small histories, and an unfit record.
+-- Rows of images: headers and bodies of small histories, what an image stands for, and an unfit
+-- record.
 use Rattle.std.specs.Prelude.{◌≡◌, ℕ, List, [], ◌∷◌}
 use Rattle.ov_base.specs.declared.mode.Mode.TheVariants.{Full}
 use Rattle.ov_tokens.specs.Keys.{check_value_of}
 use Rattle.ov_record.specs.Spelling.{spelling}
 use Rattle.ov_record.specs.Updates.{SealedUpdate, SealedEnrol, SealedRevoke}
+use Rattle.ov_history.specs.Masters.{Masters}
 use Rattle.ov_history.specs.Sealed.{SealedHistory, IsSealed, blank, with_sealed}
+use Rattle.ov_disk.specs.Disk.{Image}
 use Rattle.ov_images.specs.Damage.{IsUnfit}
-use Rattle.ov_images.specs.Images.{bodies_of, header_of, keys}
+use Rattle.ov_images.specs.Images.{IsImageOf, Keeps, KeepsEither, Keys, bodies_of, header_of, keys, keys_of}
 
 -- The bodies of an enrolment and of a revocation after it are the bytes of both. If an update were
 -- left out, there would be one body less.
@@ -28,6 +31,27 @@ abbrev pub HeaderHasSurfaceCheck : Type 0
 HeaderHasSurfaceCheck =
     (base_check surface : List ℕ)
     → (header_of (keys base_check surface) (blank Full 0)).surface_check ≡ check_value_of surface
+
+-- The holder of both masters opens a store with the check value of the base master, and the surface
+-- master. With that of the surface master no store would open that was begun with the base one's.
+abbrev pub KeysHaveBaseCheck : Type 0
+KeysHaveBaseCheck =
+    (k : Masters) → keys_of k ≡ keys (check_value_of k.base) k.surface
+
+-- What an image stands for and doesn't keep begins at epoch 0. If an unborn image stood for the
+-- histories without updates from each epoch on, a store begun there would have to stand for all of
+-- them.
+abbrev pub UnbornBeginsAtZero : Type 0
+UnbornBeginsAtZero =
+    (k : Keys) (g : SealedHistory) (i : Image) → (Keeps k g i → ⊥) → IsImageOf k g i
+    → g.first ≡ 0
+
+-- An image with the history or it with this update, and not the history, has this update. If some
+-- one more update would do, a crash in a call might leave another.
+abbrev pub EitherIsThisUpdate : Type 0
+EitherIsThisUpdate =
+    (k : Keys) (g : SealedHistory) (u : SealedUpdate) (i : Image) → (Keeps k g i → ⊥)
+    → KeepsEither k g u i → Keeps k (with_sealed g u) i
 
 -- A record is unfit where it spells an update, and no history is sealed that goes on with that. If
 -- it might be the next one, a whole store would be called damaged.

@@ -1,6 +1,6 @@
 //! Rows of what is written of a history, and of what is wrong with an image.
 ghost use Rattle.ov_protocol_t.specs.Images.{BookHasUpdates, HeaderHasFirst, HeaderHasSurfaceCheck};
-ghost use Rattle.ov_protocol_t.specs.Images.{UnfitIsNotNext};
+ghost use Rattle.ov_protocol_t.specs.Images.{EitherIsThisUpdate, KeysHaveBaseCheck, UnbornBeginsAtZero, UnfitIsNotNext};
 
 /// The bodies of a book are the spellings of all updates, with the last.
 pub fn a_book_keeps_its_last_update()
@@ -20,4 +20,19 @@ pub fn a_header_has_the_first_epoch()
 /// The header of a store has the check value of the surface master.
 pub fn a_header_has_the_check_of_the_surface_master()
     ensures { HeaderHasSurfaceCheck }
+{}
+
+/// The holder of both masters opens a store with the check value of the base master.
+pub fn keys_have_the_check_of_the_base_master()
+    ensures { KeysHaveBaseCheck }
+{}
+
+/// What an image stands for and doesn't keep begins at epoch 0.
+pub fn an_unborn_image_begins_at_epoch_zero()
+    ensures { UnbornBeginsAtZero }
+{}
+
+/// An image that has the history or it with an update, and not the history, has that update.
+pub fn one_of_two_histories_is_left()
+    ensures { EitherIsThisUpdate }
 {}

@@ -11,7 +11,9 @@ mod replies;
 
 pub use images::{
     a_book_keeps_its_last_update, a_header_has_the_check_of_the_surface_master,
-    a_header_has_the_first_epoch, an_unfit_record_is_not_the_next_one,
+    a_header_has_the_first_epoch, an_unborn_image_begins_at_epoch_zero,
+    an_unfit_record_is_not_the_next_one, keys_have_the_check_of_the_base_master,
+    one_of_two_histories_is_left,
 };
 pub use replies::{
     a_chunk_is_of_the_generation_asked, a_refused_update_is_not_made, a_reply_has_a_form,
