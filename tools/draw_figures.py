@@ -58,7 +58,7 @@ class Figure:
         for value, word in below:
             self.text(self.x(value), HEIGHT - FOOT + 18, word, anchor="middle")
         self.text((LEFT + WIDTH - RIGHT) / 2, HEIGHT - 12, names[0], anchor="middle")
-        self.text(8, TOP - 8, names[1])
+        self.text(8, TOP - 14, names[1])
 
     def line(self, points, colour, word):
         path = "L".join(f"{self.x(a):.1f} {self.y(b):.1f}" for a, b in points)
@@ -91,7 +91,7 @@ def revocation():
     figure.axes(
         [(size, f"{size // MIB} MiB") for size in sizes],
         [(10.0**power, f"{10**power:,}") for power in range(4, 10)],
-        ("bytes of the archive", "bytes that move"),
+        ("bytes of the archive", "bytes that move, each line ten times the one below"),
     )
     moved = [(size, sum(1000 * age_size(size // 1000, readers) for readers in (8, 7))) for size in sizes]
     figure.line(moved, ORANGE, "age: fetched and sent again")
@@ -101,7 +101,7 @@ def revocation():
 
 def files():
     rows = [(number(row[0]), number(row[1])) for row in table_of("Files of a script", "| files |")]
-    figure = Figure("Creating and reading files of 1 MiB", (0, rows[-1][0], float), (0, 1.8, float))
+    figure = Figure("Creating and reading files of 1 MiB, user and system time", (0, rows[-1][0], float), (0, 1.8, float))
     figure.axes(
         [(count, f"{count:.0f}") for count, _ in rows],
         [(value / 10, f"{value / 10:.1f} s") for value in range(0, 19, 3)],
@@ -124,7 +124,7 @@ def requests():
     figure.axes(
         [(at + 0.5, row[0]) for at, row in enumerate(rows)],
         [(value, f"{value:,}") for value in range(0, 45_001, 15_000)],
-        ("left: overstored; right: an echo in plain Rust by as many writes", "a second"),
+        ("left: overstored; right: an echo in plain Rust by two writes", "a second"),
     )
     for at, (_, served, echoed) in enumerate(rows):
         figure.bar(figure.x(at + 0.12), 48, served, BLUE, f"{served:,.0f}")

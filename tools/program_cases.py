@@ -120,6 +120,8 @@ def lines_that_are_bad():
     lacking = [
         (b"\n", "nothing stands on it"),
         (b"enrol b\r\n", "a CR stands on it"),
+        (b"create f " + b",".join(b"u%06d" % number for number in range(2600)) + b" 1\nx\n", "more than 20000 bytes"),
+        (b"enroll b\n", "begins with none of"),
         (b"grant a  f\n", "just the words of its command"),
         (b"grant a\n", "just the words of its command"),
         (b"enrol Bob\n", "a name has 1 to 64"),
@@ -138,6 +140,13 @@ def lines_that_are_bad():
     many = b"".join(b"enrol u%d\n" % number for number in range(20000))
     status, lines, said = told(store_folder(), "run", "full", script=many + b"enrol Bob\n" + many)
     assert status == 3 and said.startswith("overstore: error: line 20001: a name"), said
+    # One whose beginning is forgotten, since what was taken behind it is long: nothing wrong is said of it.
+    for start in range(98_270, 98_300):
+        before = b"epoch\n" * ((start - 40) // 6)
+        before += b"list " + b"a" * (start - len(before) - 6) + b"\n"
+        script = before + b"create epoch - 300000\n" + b"x" * 100_000
+        status, lines, said = told(store_folder(), "run", "full", script=script)
+        assert status == 3 and ("LENGTH bytes" in said or "names a bad line" in said), (start, said)
 
 
 def key_files_that_others_read_and_new_stores():

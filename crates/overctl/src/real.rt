@@ -16,8 +16,10 @@ use std::io::{ErrorKind, Read};
 use std::net::ToSocketAddrs;
 use std::{env, fs, io};
 
-// The path that stands for standard input.
+// The path that stands for standard input, and what texts call it.
 const STANDARD_INPUT: &str = "-";
+
+const INPUT_NAME: &str = "standard input";
 
 /// The words behind the program's name.
 pub fn words_of(rt: &HostRuntime) -> io::Result<Vec<String>> {
@@ -80,9 +82,17 @@ fn fault_of(rt: &HostRuntime, path: &str) -> Option<ErrorKind> {
 fn unread_of<'a>(rt: &HostRuntime, job: &'a Job) -> (&'a str, Option<ErrorKind>) {
     let (keys, path) = (text_of(&job.keys), text_of(&job.path));
     match fault_of(rt, keys) {
-        None if stores(&job.act) && path == STANDARD_INPUT => ("standard input", None),
+        None if stores(&job.act) && path == STANDARD_INPUT => (INPUT_NAME, None),
         None if stores(&job.act) => (path, fault_of(rt, path)),
         reason => (keys, reason),
+    }
+}
+
+// What texts call the file that a job stores.
+fn path_of(job: &Job) -> &str {
+    match text_of(&job.path) {
+        STANDARD_INPUT => INPUT_NAME,
+        path => path,
     }
 }
 
@@ -110,7 +120,7 @@ fn ending_of<'a>(rt: &HostRuntime, job: &'a Job, status: Status, outcome: &Outco
     let address = text_of(&job.address);
     let (path, reason) = match status {
         Status::ReadFault => unread_of(rt, job),
-        _ => (text_of(&job.path), link_fault(rt, address, outcome.link)),
+        _ => (path_of(job), link_fault(rt, address, outcome.link)),
     };
     Ending {
         status,

@@ -17,12 +17,16 @@ pub fn step_for(refusal: Refusal) -> &'static str {
             "the user isn't on the file's list: nothing is to be done, ",
             "unless `overctl list` shows that another name or another file was meant"
         ),
-        Refusal::UsersFull | Refusal::FilesFull | Refusal::BytesFull => {
-            "the store is full: begin another store, with keys and a server of its own"
+        Refusal::UsersFull | Refusal::FilesFull => {
+            "no more fit into the store: begin another, with keys and a server of its own"
         }
+        Refusal::BytesFull => concat!(
+            "so many bytes don't fit into the store: store fewer, ",
+            "or begin another, with keys and a server of its own"
+        ),
         Refusal::NodesFull => concat!(
             "the store has no room for another list: a list that was there before needs none; ",
-            "where a revocation is refused so the user stays on the list, ",
+            "a revocation that is refused leaves the user on the list, ",
             "so create the file in another store for those who are left"
         ),
         Refusal::Spent => "the store's last epoch is reached: begin another store",

@@ -55,7 +55,7 @@ const ANSWERS_LAST: &str = "what was answered lasts; ask for the epoch, and run 
 const NOT_MADE: &str = "it can't be made in this folder; see that you may write here, and that \
     there is room";
 
-const NO_FILE: &str = "it is no regular file; run in another folder, or take it away";
+const NO_FILE: &str = "it is no regular file; take it away, and run again";
 
 const NOT_YOURS: &str = "you may not read and write it; run as its owner";
 
@@ -93,8 +93,7 @@ const MEMORY: &str = "the system refused memory; what was answered lasts; free s
 
 const LOAD_MEMORY: &str = "the system refused memory; what the load did before lasts; free some";
 
-const NOT_A_STORE: &str = "store.book is damaged or no store; put a good copy in its place or run \
-    elsewhere";
+const NOT_A_STORE: &str = "store.book is damaged or no store; put a good copy in its place";
 
 const OTHER_STORE: &str = "store.book is of other keys or the other mode; use its keys.hex and \
     its mode";
@@ -152,20 +151,24 @@ fn by_work(
     }
 }
 
-/// What a bad line lacks, and no text where the list of all forms says more.
-pub fn on_lack(lack: Lack) -> Option<&'static str> {
+/// What a bad line lacks.
+pub fn on_lack(lack: Lack) -> &'static str {
     match lack {
-        Lack::Text => Some("nothing stands on it"),
-        Lack::LineFeedAlone => Some("a CR stands on it, where an LF alone ends a line"),
-        Lack::Command => None,
-        Lack::Words => Some("it has not just the words of its command, with one space between two"),
-        Lack::Name => Some(
-            "a name has 1 to 64 of a-z, 0-9, `.`, `_` and `-`, and begins with a letter or a digit",
+        Lack::Text => "nothing stands on it",
+        Lack::Short => "it has more than 20000 bytes",
+        Lack::LineFeedAlone => "a CR stands on it, where an LF alone ends a line",
+        Lack::Command => concat!(
+            "it begins with none of `enrol USER`, `list FILE`, `read USER FILE`, ",
+            "`grant USER FILE`, `revoke USER FILE`, `epoch` and `create FILE LIST LENGTH`"
         ),
-        Lack::List => Some("LIST is `-`, or names with one comma between two, in a line of 20000"),
-        Lack::Length => Some("LENGTH is a decimal number up to 1048576 with no 0 in front"),
-        Lack::End => Some("the script stops before the LF of the line"),
-        Lack::Bytes => Some("not just LENGTH bytes and an LF stand behind it"),
+        Lack::Words => "it doesn't have just the words of its command, with one space between two",
+        Lack::Name => {
+            "a name has 1 to 64 of a-z, 0-9, `.`, `_` and `-`, and begins with a letter or a digit"
+        }
+        Lack::List => "LIST is `-`, or names with one comma between two",
+        Lack::Length => "LENGTH is a decimal number up to 1048576 with no 0 in front",
+        Lack::End => "the script stops before the LF of the line",
+        Lack::Bytes => "not just LENGTH bytes and an LF stand behind it",
     }
 }
 

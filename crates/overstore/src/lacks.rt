@@ -1,12 +1,14 @@
 //! What a line of a script lacks.
 use ov_base::Name;
-use ov_base::limits::MAX_FILE_BYTES;
+use ov_base::limits::{MAX_FILE_BYTES, MAX_LINE_BYTES};
 
 /// What a bad line lacks, the first thing that is seen of these.
 #[derive(Clone, Copy, Debug, PartialEq, Eq)]
 pub enum Lack {
     /// Nothing stands on it.
     Text,
+    /// With its LF it has too many bytes.
+    Short,
     /// A CR stands on it.
     LineFeedAlone,
     /// It begins with no command.
@@ -98,6 +100,9 @@ fn lack_in_words(forms: &[Form], words: &str) -> Option<Lack> {
 pub fn lack_of(line: &[u8], has_end: bool) -> Lack {
     if line.is_empty() {
         return Lack::Text;
+    }
+    if line.len() >= MAX_LINE_BYTES {
+        return Lack::Short;
     }
     if line.contains(&b'\r') {
         return Lack::LineFeedAlone;

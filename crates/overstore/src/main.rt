@@ -127,12 +127,13 @@ fn files_of(
     Ok((keys, disk, trace))
 }
 
-// How the program ended: its status, where it was then, and which line of the script was bad, by
-// its number, and what it lacks, where that is known.
+/// How the program ended: its status, where it was then, whether a reply couldn't be put, and which
+/// line of the script was bad, by its number, and what it lacks, where that is known.
 #[derive(Drop)]
-struct End {
-    code: u8,
-    stage: Stage,
+pub struct End {
+    pub code: u8,
+    pub stage: Stage,
+    pub replies_failed: bool,
     bad_line: Option<(u64, Lack)>,
 }
 
@@ -141,6 +142,7 @@ fn end_at(code: u8, stage: Stage) -> End {
     End {
         code,
         stage,
+        replies_failed: false,
         bad_line: None,
     }
 }
@@ -203,6 +205,7 @@ fn answer_over_files<W: Write>(
     End {
         code,
         stage,
+        replies_failed: out.failed(),
         bad_line,
     }
 }
@@ -245,12 +248,9 @@ fn main(rt: HostRuntime) -> ExitCode {
         // A word that is no UTF-8 is no known word.
         Err(_) => answer_words(&rt, &[], &mut replies),
     };
-    let explained = match end.bad_line {
+    match end.bad_line {
         Some((number, lack)) => explain_line(&rt, number, lack),
-        None => false,
-    };
-    if !explained {
-        explain(&rt, end.code, end.stage, replies.reader_is_gone());
+        None => explain(&rt, &end, replies.reader_is_gone()),
     }
     ExitCode::from(end.code)
 }

@@ -13,6 +13,7 @@ pub struct Counted<S: Sink> {
     shows: bool,
     replies: u64,
     bad_line: Option<u64>,
+    failed: bool,
 }
 
 // The number in these bytes, where they are the line on a bad item.
@@ -33,6 +34,7 @@ impl<S: Sink> Counted<S> {
             shows,
             replies: 0,
             bad_line: None,
+            failed: false,
         }
     }
 
@@ -53,6 +55,11 @@ impl<S: Sink> Counted<S> {
     /// The line of a bad item, where the last line that was put names it.
     pub fn bad_line(&self) -> Option<u64> {
         self.bad_line
+    }
+
+    /// Whether a put failed.
+    pub fn failed(&self) -> bool {
+        self.failed
     }
 
     /// Ends the line of the count, where one was shown.
@@ -78,6 +85,8 @@ impl<S: Sink> Sink for Counted<S> {
             self.replies = self.replies.saturating_add(1);
             self.bad_line = bad_line_in(bytes);
             self.show();
+        } else {
+            self.failed = true;
         }
         put
     }

@@ -7,7 +7,8 @@ use std::alloc::Global;
 // As much as is kept at least, where so much was taken: two buffers of a script.
 const KEPT: usize = 65_536;
 
-/// A source that remembers the last bytes that were taken, and how many lines ended before them.
+/// A source that remembers the last bytes that were taken, how many lines ended before them, and
+/// whether they begin inside a line, which isn't remembered then.
 /// Where memory is refused for that it remembers none.
 #[derive(Drop)]
 pub struct Recent<S: Source> {
@@ -15,6 +16,7 @@ pub struct Recent<S: Source> {
     before: Vec<u8>,
     now: Vec<u8>,
     lines: u64,
+    cut: bool,
     ended: bool,
     lost: bool,
 }
@@ -32,6 +34,7 @@ impl<S: Source> Recent<S> {
             before: Vec::new(alloc),
             now: Vec::new(alloc),
             lines: 0,
+            cut: false,
             ended: false,
             lost: false,
         }
@@ -43,6 +46,9 @@ impl<S: Source> Recent<S> {
     {
         if self.now.len() >= KEPT {
             self.lines = self.lines.saturating_add(lines_in(&self.before));
+            if let Some(last) = self.before.last() {
+                self.cut = *last != b'\n';
+            }
             std::mem::swap(&mut self.before, &mut self.now);
             self.now.clear();
         }
@@ -54,10 +60,10 @@ impl<S: Source> Recent<S> {
     /// The bytes of line `number`, counted from 1, and whether its end is among them or the script
     /// ends there; none where it isn't remembered.
     pub fn line(&self, number: u64, into: &mut Vec<u8>) -> Option<bool> {
-        if self.lost {
+        let mut line = self.lines.saturating_add(1);
+        if self.lost || self.cut && line == number {
             return None;
         }
-        let mut line = self.lines.saturating_add(1);
         for byte in self.before.iter().chain(self.now.iter()) {
             if line == number {
                 if *byte == b'\n' {

@@ -1,5 +1,6 @@
 //! What is wrong and what to do, on standard error. Where that can't be written the status has to
 //! do.
+use crate::End;
 use crate::advice::{AFTER_BAD_LINE, Stage, advice_on, on_file, on_lack, what_lasts};
 use crate::lacks::Lack;
 use ov_answering::Status;
@@ -37,33 +38,29 @@ fn say_of_files(rt: &HostRuntime, paths: &[&str], stage: Stage) -> bool {
 }
 
 // Says which file an end with this status is due to, where the system tells.
-fn names_file(rt: &HostRuntime, status: Status, stage: Stage, reader_is_gone: bool) -> bool {
+fn names_file(rt: &HostRuntime, status: Status, stage: Stage, replies_failed: bool) -> bool {
     match status {
         Status::DiskFault => say_of_files(rt, &[BOOK_FILE, BLOBS_FILE], stage),
-        Status::WriteFault if stage != Stage::Telling && !reader_is_gone => {
+        Status::WriteFault if stage != Stage::Telling && !replies_failed => {
             say_of_files(rt, &[TRACE_FILE], stage)
         }
         _ => false,
     }
 }
 
-/// Says what this line of a script lacks, which is bad; false where the list of all forms says more.
-pub fn explain_line(rt: &HostRuntime, number: u64, lack: Lack) -> bool {
-    match on_lack(lack) {
-        Some(why) => {
-            let _ = eprintln!(rt; "overstore: error: line {number}: {why}; {AFTER_BAD_LINE}");
-            true
-        }
-        None => false,
-    }
+/// Says what this line of a script lacks, which is bad.
+pub fn explain_line(rt: &HostRuntime, number: u64, lack: Lack) {
+    let why = on_lack(lack);
+    let _ = eprintln!(rt; "overstore: error: line {number}: {why}; {AFTER_BAD_LINE}");
 }
 
 /// Says why a run ended with this status, and what to do.
-pub fn explain(rt: &HostRuntime, code: u8, stage: Stage, reader_is_gone: bool) {
+pub fn explain(rt: &HostRuntime, end: &End, reader_is_gone: bool) {
+    let (code, stage) = (end.code, end.stage);
     let Some(status) = Status::from_code(code) else {
         return;
     };
-    if names_file(rt, status, stage, reader_is_gone) {
+    if names_file(rt, status, stage, end.replies_failed) {
         return;
     }
     match advice_on(status, stage, reader_is_gone) {

@@ -103,7 +103,7 @@ fn serve<N: Net + Wait + AllocGlobal + Copy + Drop>(
     let disk = SpokenDisk::new(disk, name, *rt);
     let mut door = SpokenDoor::new(door, *rt);
     let mut out = StdSink::new(rt.stdout());
-    told::new_store(rt, book, settings.mode);
+    told::new_store(rt, book, blobs, settings.mode);
     let status = host(net, rt.alloc(), settings, disk, &mut door, &mut out).status;
     told::end(rt, status, book, blobs);
     told::door(rt, status, address, door.listens, door.door.reason());

@@ -134,7 +134,7 @@ pub fn on_file(fault: FileFault) -> (&'static str, &'static str) {
         ),
         FileFault::NoFile => (
             "it is no regular file",
-            "give `book` and `blobs` other names in the settings",
+            "take it away, or correct `book` and `blobs` in the settings",
         ),
         FileFault::NotOurs => (
             "the server may not read and write it",

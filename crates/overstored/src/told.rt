@@ -154,9 +154,10 @@ pub fn open_settings(rt: &HostRuntime, path: &str) {
     }
 }
 
-/// Says so where a server over this book finds no store, and begins one in this mode.
-pub fn new_store(rt: &HostRuntime, book: &str, mode: Mode) {
-    if begins(rt, book) {
+/// Says so where a server over these files finds no store, and begins one in this mode.
+pub fn new_store(rt: &HostRuntime, book: &str, blobs: &str, mode: Mode) {
+    let may_begin = matches!(fault_of(rt, blobs), None | Some(FileFault::NotMade));
+    if may_begin && begins(rt, book) {
         let mode = word_of(mode);
         let _ = eprintln!(rt;
             "overstored: note: there is no store at {book}, so a new one is begun, in mode {mode}"
