@@ -9,7 +9,7 @@ use std::test::Fail;
 
 mod rows;
 
-use rows::rows;
+use rows::ROWS;
 
 const BASE_CHECK: [u8; 32] = [0x33; 32];
 
@@ -41,7 +41,7 @@ fn agreed<P: Peer>(alloc: Global, peer: &mut P, rows: &[(&[u8], &[u8])]) -> Resu
 fn it_answers_as_another_program_does(rt: HostRuntime) -> Result<(), Fail> {
     let alloc = rt.alloc();
     let mut peer = LocalPeer::new(server_on(alloc, MemDisk::new(alloc))?);
-    assert_eq!(rt; agreed(alloc, &mut peer, rows())?, rows().len());
+    assert_eq!(rt; agreed(alloc, &mut peer, ROWS)?, ROWS.len());
     assert_eq!(rt; peer.server().store().state().epoch(), 9);
     let store = peer.into_server().into_store();
     assert_eq!(rt; store.base_check(), BASE_CHECK);
@@ -71,9 +71,7 @@ fn a_disk_that_fails_is_told_to_each_later_update(rt: HostRuntime) -> Result<(),
     let mut disk = MemDisk::new(alloc);
     disk.fail_at(begun.calls())?;
     let mut server = server_on(alloc, disk)?;
-    let Some((update, _)) = rows().first() else {
-        return Err("a row")?;
-    };
+    let (update, _) = ROWS[0];
     for _ in 0..2 {
         assert!(rt; replies(alloc, &mut server, update, b"\x8d")?);
         assert!(rt; replies(alloc, &mut server, b"\x02\x05\x01a", b"\x88\x02")?);

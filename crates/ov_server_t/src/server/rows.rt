@@ -2,8 +2,8 @@
 //! without their length fields. The base master is 32 bytes 0x11, the surface master 32 bytes 0x22,
 //! and the check value that it was given 32 bytes 0x33.
 
-// Each request with its reply.
-static ROWS: [(&[u8], &[u8]); 49] = [
+/// Each request with its reply.
+pub const ROWS: &[(&[u8], &[u8])] = &[
     // Three users and two files of the first two, of which the first is granted to the third.
     (
         b"\
@@ -237,8 +237,3 @@ static ROWS: [(&[u8], &[u8]); 49] = [
     ),
     (b"\x06\0\0\0\0\0\0\0\x08\0\0\0\0\0\x01\0\0", b"\x86h\xdc"),
 ];
-
-/// Each request with its reply. No proof computes anything of them.
-pub fn rows() -> &'static [(&'static [u8], &'static [u8])] {
-    &ROWS
-}
