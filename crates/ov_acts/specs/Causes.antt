@@ -31,9 +31,9 @@ pub record StopsFor {T : Type 0} (reads links no_keys too_long : Type 0) (result
   pub keys : result ≡ Err stops.BadKeys → no_keys
   pub long : result ≡ Err stops.TooLong → too_long
 
--- The same of statuses: 5 comes only where the count of one of the two files rose, 6 where that of
--- standard output did, 8 where the peer's did, 10 where the file of keys isn't of its form, and 14
--- where the file to be stored has too many bytes.
+-- The causes of a status: 5 comes only where the count of one of the two files rose, 6 where that
+-- of standard output did, 8 where the peer's did, 10 where the file of keys isn't of its form, and
+-- 14 where the file to be stored has too many bytes.
 pub record EndsFor (status : ℕ) (reads writes links no_keys too_long : Type 0) : Type 0 where
   pub read : status ≡ 5 → reads
   pub write : status ≡ 6 → writes

@@ -92,9 +92,9 @@ abbrev pub IsAnswered : Type 0 → ℕ → Type 0
 IsAnswered disk status =
     (status ≡ 0) ⊎ (status ≡ 3) ⊎ ((status ≡ 4) × disk) ⊎ ((5 ≤ status) × (status ≤ 8))
 
--- So every act ends over a server that nobody else updates, with right files: its keys are those of
--- the store, each reply is an answer, no file is damaged, and one try is enough. The check value
--- needs the key file alone.
+-- Every act is answered by a server that nobody else updates, where its files are right: its keys
+-- are those of the store, each reply is an answer, no file is damaged, and one try is enough. The
+-- check value needs the key file alone.
 pub record IsComplete {P : Type 0} (peer : PeerTells P) (act : Act)
     (keys body : Option (List ℕ)) (p q : P) (status : ℕ) : Type 0 where
   pub over_server : (k : Masters) (h : PlainHistory) (v : Service)
@@ -104,7 +104,8 @@ pub record IsComplete {P : Type 0} (peer : PeerTells P) (act : Act)
 
 -- ---- inner: no public contract needs the rest
 
--- the same of what comes of an act
+-- The outcome of an act that is answered: bytes, or a refusal, a failed read, refused memory, a
+-- fault of the link, or one of the server's disk where there was such a one.
 abbrev pub IsAnsweredOr : Type 0 → Outcome → Type 0
 IsAnsweredOr disk (Ok bytes) = Unit {0}
 IsAnsweredOr disk (Err (stops.Refused why)) = Unit {0}

@@ -72,7 +72,7 @@ abbrev pub HasLimits : List (List ℕ) → Type 0
 HasLimits names =
     (length names ≤ MAX_LIST_NAMES) × (length (flat_map name_field names) ≤ MAX_LIST_BYTES)
 
--- so it is with the list of a creation
+-- an owner can send the list of a file that the act creates
 abbrev pub HasListLimits : Act → Type 0
 HasListLimits (Create file list) = HasLimits list
 HasListLimits act = Unit {0}

@@ -44,8 +44,8 @@ ListsAsMachine v Then file (Err (Refused why)) =
     RepliesThere v Then (commands.List file) (replies.Refused why)
 ListsAsMachine v Then file (Err stop) = Unit {0}
 
--- the key line that is printed holds just this user's two root keys at what is served, and who is
--- refused isn't there
+-- the key line that is printed holds just this user's two root keys at what is served, and a user
+-- who is refused isn't there
 abbrev pub HandsKeys : Masters → Service → (Service → Type 0) → List ℕ → Outcome → Type 0
 HandsKeys k v Then user (Ok line) =
     (r : Reader) × (line ≡ key_line r) × IsSoThere k v Then (λ p. IsReaderAt k p user r)
@@ -53,7 +53,7 @@ HandsKeys k v Then user (Err (Refused why)) =
     IsSoThere k v Then (λ p. (why ≡ NoUser) × (HasUser p user → ⊥))
 HandsKeys k v Then user (Err stop) = Unit {0}
 
--- so it is with what an owner does, where these bytes are stored
+-- what an owner's act at a server comes to is the machine's, where these bytes are stored
 abbrev pub CommandsAsMachine : Masters → Act → List ℕ → Service → (Service → Type 0) → Outcome
     → Type 0
 CommandsAsMachine k (Enrol user) bytes v Then outcome =
@@ -68,7 +68,8 @@ CommandsAsMachine k (ListNames file) bytes v Then outcome = ListsAsMachine v The
 CommandsAsMachine k (Key user) bytes v Then outcome = HandsKeys k v Then user outcome
 CommandsAsMachine k act bytes v Then outcome = Unit {0}
 
--- the same after the server was asked for its check value, with what others made meanwhile
+-- What an owner's act comes to is the machine's, after the server was asked for its check value and
+-- others made updates meanwhile. Other faults than a refusal say nothing.
 abbrev pub OwnsAsMachine : Masters → Act → List ℕ → Service → (Service → Type 0) → Outcome → Type 0
 OwnsAsMachine k act bytes v Then (Ok line) =
     (others : List SealedUpdate) × CommandsAsMachine k act bytes (later v others) Then (Ok line)
@@ -98,8 +99,8 @@ abbrev pub StoresBytes : Act → Option (List ℕ) → List ℕ → Type 0
 StoresBytes (Create file list) body bytes = body ≡ Some bytes
 StoresBytes act body bytes = bytes ≡ []
 
--- so it is with an owner's act whose files tell their bytes, where the key file has the surface
--- master that is served under
+-- What an owner's act comes to is the machine's, where its files tell their bytes and the key file
+-- has the surface master that is served under.
 abbrev pub OwnersAsMachine : Act → Option (List ℕ) → Option (List ℕ) → Service
     → (Service → Type 0) → Outcome → Type 0
 OwnersAsMachine act keys body v Then outcome =
@@ -107,15 +108,16 @@ OwnersAsMachine act keys body v Then outcome =
     → StoresBytes act body bytes → v.surface ≡ k.surface
     → OwnsAsMachine k act bytes v Then outcome
 
--- and with a reader's, where the file tells its key line, and the keys are those of its roots under
--- masters of which the surface master is the one that is served under
+-- What a reader's act comes to is the machine's, where the file tells the reader's key line, and
+-- the keys are those of the reader's roots under masters of which the surface master is the one
+-- that is served under.
 abbrev pub ReadersAsMachine : List ℕ → Option (List ℕ) → Service → (Service → Type 0) → Outcome
     → Type 0
 ReadersAsMachine file keys v Then outcome =
     (line : List ℕ) (r : Reader) (k : Masters) → keys ≡ Some line → IsLineOf line r
     → HoldsRootKeys k r → v.surface ≡ k.surface → ReadsAsMachine k r file v Then outcome
 
--- so it is with every act; the check value comes of the key file alone
+-- what an act comes to is the machine's; the check value comes of the key file alone
 abbrev pub ActsAsMachine : Act → Option (List ℕ) → Option (List ℕ) → Service → (Service → Type 0)
     → Outcome → Type 0
 ActsAsMachine (Read file) keys body v Then outcome = ReadersAsMachine file keys v Then outcome

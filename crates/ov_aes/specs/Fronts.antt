@@ -59,6 +59,6 @@ pub record IsFront (front : Front) (w : List (List ℕ)) (block : List ℕ) : Ty
       ≡ bit_xor (byte_in (rounds w block 2) r c)
       (weighed (weight r (row_for c)) (byte_in (rounds w block 1) (row_for c) 0))
 
--- the same, under a key
+-- the front of blocks that are this one but for the last byte, under a key
 abbrev pub IsFrontOf : Front → List ℕ → List ℕ → Type 0
 IsFrontOf front key block = IsFront front (key_expansion key) block

@@ -46,7 +46,8 @@ fourth_of y = bit_xor (entry_at INV (second_of y)) (high_of y)
 abbrev pub out_of_tower : ℕ → ℕ
 out_of_tower y = bit_xor (entry_at OUT_A (third_of y)) (entry_at OUT_B (fourth_of y))
 
--- the same in the basis over the field of 16
+-- the S-box of such a byte, in the basis over the field of 16, but for the constant of the affine
+-- map
 abbrev pub one_of : ℕ → ℕ
 one_of y = bit_xor (entry_at ONE_A (third_of y)) (entry_at ONE_B (fourth_of y))
 

@@ -132,8 +132,9 @@ module _ {D : Type 0} (tells : DiskTells D) where
     pub holds : Holds tells k q last
     pub moments : LeavesOnly tells first last (KeepsFirst k p text)
 
-  -- The same where the answering stopped behind these commands, of which the next one may have been
-  -- made.
+  -- The answering of a script stopped behind these commands, of which the next one may have been
+  -- made. A crash at any moment leaves the history after some first commands; at the end it leaves
+  -- the one after these commands or after the next.
   pub record Stopped (k : Masters) (p : PlainHistory) (text : List ℕ) (commands : List Command)
       (first last : D) : Type 0 where
     pub now : (c : Image) → tells.may_leave last c → KeepsNext k p text commands c
@@ -183,7 +184,7 @@ module _ {D : Type 0} (tells : DiskTells D) where
   Stops k p text Write old new first last = AnsweredPart k p text old new first last
   Stops k p text (Tag bad) old new first last = ⊥
 
-  -- So far these commands were read and answered; this line, room and rest are left.
+  -- Up to here these commands were read and answered; this line, room and rest are left.
   pub record AnsweredSoFar (k : Masters) (p : PlainHistory) (text rest : List ℕ) (line room : ℕ)
       (old now : Option (List ℕ)) (first last : KeptOn D) : Type 0 where
     pub commands : List Command
@@ -193,7 +194,7 @@ module _ {D : Type 0} (tells : DiskTells D) where
     pub reaches : Holds tells k p first.disk
         → Reaches k p (after_all p commands) text first.disk last.disk
 
-  -- so it is where what is left is told
+  -- some first commands were read and answered, and the rest that is left is told
   abbrev pub SoFar : Masters → PlainHistory → List ℕ → Option (List ℕ) → ℕ → ℕ
       → Option (List ℕ) → Option (List ℕ) → KeptOn D → KeptOn D → Type 0
   SoFar k p text None line room old now first last = ⊥

@@ -75,9 +75,10 @@ pub record EndsFor {D : Type 0} (tells : DiskTells D) (old new : D) (status : �
 -- ---- the disk
 
 -- What a run under these masters makes of the image that its disk reads. With 8 and 9 it says why
--- the image doesn't open, and it ends so on no image that opens. Where the image doesn't open, so
--- it says, or that a call of the disk failed or memory was refused, or a failed read of the key
--- file; the script isn't read, and a crash leaves what it might have left at the start.
+-- the image doesn't open, and it never ends with them on an image that opens. Where the image
+-- doesn't open, the run says so, or that a call of the disk failed or memory was refused, or it
+-- ends with a failed read of the key file; the script isn't read, and a crash leaves what it might
+-- have left at the start.
 pub record JudgesImage (k : Masters) (mode : Mode) (i : Image) (status : ℕ)
     (old new : Option (List ℕ)) (script_unread nothing_written : Type 0) : Type 0 where
   pub refused : IsRefused status → (fault : BeginFault) × IsRefusal k mode i fault

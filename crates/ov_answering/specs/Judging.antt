@@ -41,7 +41,7 @@ IsRefusal k mode i fault =
 
 -- ---- how a store is begun
 
--- Why no store was begun. On an image that opens it is a fault of the disk or want of memory.
+-- Why no store was begun. On an image that opens, the disk failed or memory was refused.
 pub record Refuses (k : Masters) (mode : Mode) (i : Image) (fault : BeginFault) : Type 0 where
   pub why : IsRefusal k mode i fault
   pub opens : Opens k mode i → (fault ≡ Disk) ⊎ (fault ≡ Memory)

@@ -56,7 +56,7 @@ abbrev pub published : Masters → PlainHistory → Catalogue
 published k p = catalogue_of k.surface (sealed k p)
 
 -- The tokens that are published after this history lead to the keys of their labels under the two
--- masters. Over them a user derives exactly the keys of the labels in the user's closure. And this
+-- masters. Over them a user derives exactly the keys of the labels in the user's closure. This
 -- closure has all the labels that protect a file exactly where the matrix lists the user.
 pub record PublishesMatrix (k : Masters) (p : PlainHistory) : Type 0 where
   pub tokens : AreTrueTokens k (published k p)

@@ -104,7 +104,8 @@ pub record TracedFirst (k : Masters) (p : PlainHistory) (text : List ℕ)
   pub put : Appends old new (lines p commands)
   pub traced : TranscribesFirst k p text commands t_old t_new
 
--- the same, where the transcript of the next command and a front of its line were put
+-- The lines and transcripts of the first commands were put, then the transcript of the next command
+-- and a front of its line.
 pub record TracedPart (k : Masters) (p : PlainHistory) (text : List ℕ)
     (old new t_old t_new : Option (List ℕ)) : Type 0 where
   pub commands : List Command
@@ -129,8 +130,8 @@ TracesTo k p text Trace old new t_old t_new = TracedFirst k p text old new t_old
 TracesTo k p text Memory old new t_old t_new = TracedFirst k p text old new t_old t_new
 TracesTo k p text (Tag bad) old new t_old t_new = TracedFirst k p text old new t_old t_new
 
--- So far these commands were read and answered, and what is kept stands for the history after them;
--- this line, room and rest are left.
+-- Up to here these commands were read and answered, and what is kept stands for the history after
+-- them; this line, room and rest are left.
 pub record TracedSoFar (k : Masters) (p : PlainHistory) (text rest : List ℕ) (line room : ℕ)
     (kept : Kept) (old now t_old t_now : Option (List ℕ)) : Type 0 where
   pub commands : List Command
@@ -139,7 +140,7 @@ pub record TracedSoFar (k : Masters) (p : PlainHistory) (text rest : List ℕ) (
   pub put : Appends old now (lines p commands)
   pub traced : TranscribesAll k p commands t_old t_now
 
--- so it is where what is left is told
+-- some first commands were read, answered and put to the trace, and the rest that is left is told
 abbrev pub TracesSoFar : Masters → PlainHistory → List ℕ → Option (List ℕ) → ℕ → ℕ → Kept
     → Option (List ℕ) → Option (List ℕ) → Option (List ℕ) → Option (List ℕ) → Type 0
 TracesSoFar k p text None line room kept old now t_old t_now = ⊥

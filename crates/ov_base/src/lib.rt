@@ -1,7 +1,7 @@
 //! The words that every other crate of the store speaks: names, bytes, sets of users, refusals,
-//! keys and want of memory.
+//! keys and the fault that memory was refused.
 //!
-//! A [`Name`] is a user's or a file's name and holds only bytes that may stand in one; [`Names`] is
+//! A [`Name`] is a user's or a file's name and holds only bytes that a name may have; [`Names`] is
 //! a list of distinct names; [`Octets`] is a list of bytes on the heap; a [`UserSet`] is a set of
 //! users, of any width; a [`Mode`] says when a file has a surface layer; a [`Refusal`] says by
 //! number and word why the access-matrix machine refuses a command; a [`Key`] is 32 bytes that no
@@ -11,7 +11,7 @@
 //! Contracts see a name and octets as the list of their bytes, so a clause compares them with `≡`
 //! and knows nothing of how they are kept. They see a set of users as the number whose bits are its
 //! members, behind the words of `specs/Sets`, and with no width: two sets with the same members are
-//! equal. Its laws stand in `proofs/`: `SetLaws` on members, `SetSizes` on sizes, `SetBytes` on the
+//! equal. Its laws are in `proofs/`: `SetLaws` on members, `SetSizes` on sizes, `SetBytes` on the
 //! written form and `SetOrder` on the order of the bytes. `specs/Names` says which bytes are a
 //! name, `specs/Refusals` gives each refusal its number and its word, and `specs/Causes` says what
 //! it is that a count of faults rose, which every contract of a fault rests on.

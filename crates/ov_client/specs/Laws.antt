@@ -96,8 +96,8 @@ abbrev pub AllAre : SealedHistory → List SealedHistory → Type 0
 AllAre g [] = Unit {0}
 AllAre g (other ∷ histories) = (other ≡ g) × AllAre g histories
 
--- the read gave bytes or a refusal, or was cut off: by the link, the server's disk, or want of
--- memory
+-- the read gave bytes or a refusal, or was cut off: by the link, by the server's disk, or because
+-- memory was refused
 abbrev pub IsAnsweredOrCut : Result (List ℕ) ClientFault → Type 0
 IsAnsweredOrCut (Err (BadReply place)) = ⊥
 IsAnsweredOrCut (Err (Damaged stored computed)) = ⊥

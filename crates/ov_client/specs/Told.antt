@@ -19,7 +19,9 @@ ReadsAlong k r file v Then result =
     × Along v asks histories last × Then last
     × (AreRight k histories → IsAsMachine k (last_chain None asks histories) r.name file result)
 
--- so it is with bytes, and with a refusal; and damaged bytes never come there
+-- Bytes, a refusal and damage are the machine's at the history of the last Chain, where the
+-- histories along which the asks were answered are right. Damaged bytes never come there. Other
+-- faults say nothing.
 abbrev pub ReadsAsMachine : Masters → Reader → List ℕ → Service → (Service → Type 0)
     → Result (List ℕ) ClientFault → Type 0
 ReadsAsMachine k r file v Then (Ok bytes) = ReadsAlong k r file v Then (Ok bytes)
@@ -28,14 +30,14 @@ ReadsAsMachine k r file v Then (Err (Damaged stored computed)) =
     ReadsAlong k r file v Then (Err (Damaged stored computed))
 ReadsAsMachine k r file v Then (Err fault) = Unit {0}
 
--- so it is with a reader whose keys are those of its roots, under masters of which the surface
--- master is the one that is served under
+-- What a read gives is the machine's, for a reader whose keys are those of its roots, under masters
+-- of which the surface master is the one that is served under.
 abbrev pub IsReadersReply : Reader → List ℕ → Service → (Service → Type 0)
     → Result (List ℕ) ClientFault → Type 0
 IsReadersReply r file v Then result =
     (k : Masters) → HoldsRootKeys k r → v.surface ≡ k.surface → ReadsAsMachine k r file v Then result
 
--- and with bytes that are appended
+-- what a read that appends its bytes gives is the machine's, as for a read of the bytes alone
 abbrev pub IsReadersReplyInto : Reader → List ℕ → Service → (Service → Type 0) → List ℕ → List ℕ
     → Result (Unit {0}) ClientFault → Type 0
 IsReadersReplyInto r file v Then old new (Ok done) =

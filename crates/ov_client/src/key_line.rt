@@ -68,7 +68,7 @@ fn root_of(word: &str) -> Option<u32>
     }
 }
 
-/// The same of bytes.
+/// A root's number from the bytes of a word, if they are the digits of one.
 fn root_of_bytes(word: &[u8]) -> Option<u32>
     ensures found { IfSome result (λ root. (root < MAX_LAYER_NODES) × (word.now ≡ decimal root)) }
     ensures none { IfNone result ((root : ℕ)

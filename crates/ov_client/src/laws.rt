@@ -14,8 +14,8 @@ pub fn reads_are_the_machines()
 {}
 
 /// Where besides nobody changes the history meanwhile, and the root keys are of the user's roots in
-/// it, a read gives bytes or a refusal, or is cut off by the link, the server's disk or want of
-/// memory: no reply is bad, and no read is unsettled.
+/// it, a read gives bytes or a refusal, or is cut off by the link, by the server's disk or because
+/// memory was refused: no reply is bad, and no read is unsettled.
 pub fn reads_are_answered()
     ensures { ReadsAreAnswered }
 {}

@@ -104,7 +104,7 @@ fn a_flipped_bit_is_damage(rt: HostRuntime) -> Result<(), Fail> {
     let (result, into) = read_of(rt.alloc(), &reader_c()?, b"f1", &replies)?;
     assert!(rt; is_damaged(&result, &CHAINED_C_F1[17..49]));
     assert_eq!(rt; into.as_slice(), b">".as_slice());
-    // The same of the access token.
+    // A flipped bit of the access token is damage too.
     let mut chained = CHAINED_C_F1;
     chained[60] ^= 1;
     let replies = [chained.as_slice(), BYTES_F1.as_slice()];

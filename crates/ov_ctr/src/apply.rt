@@ -22,8 +22,8 @@ fn add_pad(pad: &[u8; 16], skip: usize, piece: &mut [u8])
     }
 }
 
-// Adds a block of the pad to the first of these bytes, which stand from `place` on: to those within
-// the block. It gives how many.
+// Adds a block of the pad to the first of these bytes, those that lie within the block; the first
+// of them is at `place`. Gives how many it added to.
 fn add_within(pad: &[u8; 16], place: u64, rest: &mut [u8]) -> usize
     requires { 0 < length rest.old }
     ensures count { (0 < result) × (result ≤ length rest.old) × (result ≤ 16 - place % 16) }
@@ -37,9 +37,10 @@ fn add_within(pad: &[u8; 16], place: u64, rest: &mut [u8]) -> usize
     count
 }
 
-// The pad over the first of these bytes, which stand from `place` on: where a block begins there,
-// those of whole groups of four blocks up to the next multiple of 4,096, where more than the last
-// byte of a counter block changes; and else those of one block. It gives how many.
+// Adds the pad to the first of these bytes, which begin at `place`. Where a block begins there,
+// these are the bytes of whole groups of four blocks up to the next multiple of 4,096, where more
+// than the last byte of a counter block changes; otherwise they are those of one block. Gives how
+// many it added to.
 fn apply_some(aes: &LaneAes256, tag: u8, file: u32, place: u64, rest: &mut [u8]) -> usize
     requires some { 0 < length rest.old }
     requires place { place + length rest.old ≤ 4294967296 }
@@ -56,7 +57,8 @@ fn apply_some(aes: &LaneAes256, tag: u8, file: u32, place: u64, rest: &mut [u8])
     }
 }
 
-// The same by one block, always.
+// Adds the pad of one block to the first of these bytes, which begin at `place`. Gives how many it
+// added to.
 fn apply_one(aes: &Aes256, tag: u8, file: u32, place: u64, rest: &mut [u8]) -> usize
     requires some { 0 < length rest.old }
     requires place { place + length rest.old ≤ 4294967296 }

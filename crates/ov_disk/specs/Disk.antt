@@ -21,7 +21,7 @@ bytes_of Blobs i = i.blobs
 abbrev pub overwritten : ℕ → List ℕ → List ℕ → List ℕ
 overwritten at bytes old = take at old ++ bytes ++ drop (at + length bytes) old
 
--- the same in one area, while the other stays
+-- these bytes written at this place in one area, while the other area stays
 abbrev pub written : Area → ℕ → List ℕ → Image → Image
 written Book at bytes i = record { book = overwritten at bytes i.book; blobs = i.blobs }
 written Blobs at bytes i = record { book = i.book; blobs = overwritten at bytes i.blobs }
@@ -34,7 +34,7 @@ pub record Torn (at n : ℕ) (old new : List ℕ) : Type 0 where
   pub no_shorter : length old ≤ length new
   pub no_longer : length new ≤ max (length old) (at + n)
 
--- the same in one area, while the other stays
+-- after a write of n bytes in one area that a crash cut short; the other area stays
 abbrev pub TornIn : Area → ℕ → ℕ → Image → Image → Type 0
 TornIn Book at n old new = Torn at n old.book new.book × (new.blobs ≡ old.blobs)
 TornIn Blobs at n old new = Torn at n old.blobs new.blobs × (new.book ≡ old.book)
@@ -51,7 +51,7 @@ Narrows old new = (c : Image) → new c → old c
 abbrev pub Only : Image → (Image → Type 0) → Type 0
 Only i outcomes = (c : Image) → outcomes c → c ≡ i
 
--- the same of Book alone
+-- a crash leaves these bytes of Book and no others: nothing is pending in it
 abbrev pub OnlyBook : List ℕ → (Image → Type 0) → Type 0
 OnlyBook book outcomes = (c : Image) → outcomes c → c.book ≡ book
 

@@ -73,7 +73,7 @@ LeftBy P i (Sync call ∷ xs) c = LeftBy (λ c. c ≡ i) i xs c
 abbrev pub Leaves : Image → List Change → Image → Type 0
 Leaves i xs c = LeftBy (λ c. c ≡ i) i xs c
 
--- the same after at least t of the changes
+-- what a crash after at least t of these changes may leave, where nothing was pending before them
 abbrev pub LeftSince : Image → List Change → ℕ → Image → Type 0
 LeftSince i xs t c = (k : ℕ) × (t ≤ k) × (k ≤ length xs) × Leaves i (take k xs) c
 

@@ -36,7 +36,7 @@ torn_done at bytes old le =
       no_longer = omega (arith, all, length-drop (at + length bytes) old);
     }
 
--- the same in one area
+-- a crash may leave the whole of a write in one area
 pub torn_in_done : (area : Area) (at : ℕ) (bytes : List ℕ) (i : Image)
     → at ≤ length (bytes_of area i) → TornIn area at (length bytes) i (written area at bytes i)
 torn_in_done Book at bytes i le = (torn_done at bytes i.book le, refl)
@@ -70,7 +70,7 @@ now_counts t m c le left =
     let all = sym (take_all (length t.changes) t.changes (omega arith)) in
     (length t.changes, le, omega arith, subst (λ (l : List Change). Leaves t.first l c) all left)
 
--- and nothing else counts since now
+-- what counts since the present moment is only what a crash now may leave
 pub only_last : (t : Tape) (c : Image) → left_since_of t (moment_of t) c → may_leave_of t c
 only_last t c left =
     subst (λ (l : List Change). Leaves t.first l c) (take_all left.0 t.changes left.1) left.3

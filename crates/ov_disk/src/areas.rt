@@ -58,7 +58,7 @@ impl Areas {
         }
     }
 
-    /// The same bytes, as if they had been there at first.
+    /// Areas with the present bytes, as if they had been there at first.
     pub fn settled(&self, alloc: Global) -> Result<Areas, Memory>
         ensures { IfOk result (λ a.
             a ≡ record { start = self.now.current; current = self.now.current }) }

@@ -147,7 +147,7 @@ impl MemDisk {
         Ok(call)
     }
 
-    // A call that was counted fails for want of memory.
+    // A call that was counted fails, since memory was refused.
     fn fault(&mut self) -> Result<(), DiskFault>
         ensures err { IsErr result }
         ensures count { self.new ≡ record self.old { faults = risen self.old.faults } }

@@ -78,7 +78,7 @@ fn write<D: Disk>(alloc: Global, disk: &mut D) -> Result<(), CheckFault>
     put(&mut journal, disk, b"\x01\x03bob")
 }
 
-// The same on an empty disk that fails at one call, and how it ended.
+// The birth and the two records on an empty disk that fails at one call, and whether all went well.
 fn written(alloc: Global, fail: u64) -> Result<(MemDisk, bool), Fail> {
     let mut disk = MemDisk::new(alloc);
     disk.fail_at(fail)?;

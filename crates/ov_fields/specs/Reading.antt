@@ -102,7 +102,7 @@ flag_at = one_of_at flag (false ∷ true ∷ [])
 abbrev pub nothing_at : List ℕ → Read (Unit {0})
 nothing_at bytes = Ok (tt, bytes)
 
--- so many bytes
+-- a field of `count` bytes
 unfoldable pub bytes_at : ℕ → List ℕ → Read (List ℕ)
 bytes_at count bytes =
     if nat_lt (length bytes) count then Err 0 else Ok (take count bytes, drop count bytes)
@@ -139,7 +139,7 @@ set_at count bytes = made set_of_bytes (bytes_at count bytes)
 
 -- ---- lists
 
--- so many values, each as this reads it
+-- `count` values, each as this reads it
 unfoldable pub many_at : {A : Type 0} → (List ℕ → Read A) → ℕ → List ℕ → Read (List A)
 many_at field zero bytes = Ok ([], bytes)
 many_at field (suc count) bytes = do

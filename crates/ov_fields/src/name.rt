@@ -43,7 +43,7 @@ fn take_other(bytes: &[u8]) -> Result<(u8, &[u8]), FieldFault>
     }
 }
 
-/// So many bytes that may stand in a name, and the bytes after them.
+/// Takes `count` bytes that a name may have, and gives them and the bytes after them.
 fn take_others(count: u8, bytes: &[u8]) -> Result<(&[u8], &[u8]), FieldFault>
     ensures { GivesField (λ b. b.now) result (many_at (byte_at is_name_byte) count bytes.now) }
 {

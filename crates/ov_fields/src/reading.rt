@@ -38,7 +38,7 @@ pub fn take_byte(least: u8, most: u8, bytes: &[u8]) -> Result<(u8, &[u8]), Field
     }
 }
 
-/// So many bytes.
+/// Takes `count` bytes, and gives them and the bytes after them.
 #[tactic(auto, unfolding(crate::specs::Reading::bytes_at))]
 pub fn take_bytes(count: usize, bytes: &[u8]) -> Result<(&[u8], &[u8]), FieldFault>
     ensures read { GivesField (λ b. b.now) result (bytes_at count bytes.now) }

@@ -12,7 +12,7 @@ starts sets node = cover_of (take node sets) (slice_index sets node)
 abbrev pub IsEdge : List ℕ → ℕ → ℕ → Type 0
 IsEdge sets from to = (to < length sets) × Contains (starts sets to) from
 
--- so many edges, one after the other, lead from the one node to the other
+-- this many edges, one after the other, lead from the one node to the other
 abbrev pub Walk : List ℕ → ℕ → ℕ → ℕ → Type 0
 Walk sets from to zero = from ≡ to
 Walk sets from to (suc edges) = (near : ℕ) × Walk sets from near edges × IsEdge sets near to

@@ -93,7 +93,7 @@ outline c = record {
 abbrev pub file_shown : Layers → Filed → File
 file_shown y f = record { name = f.name; length = f.length; list = list_at y (place_of_file f) }
 
--- so each of the files
+-- the files of the matrix, whose lists are read off the layers
 abbrev pub files_shown : Layers → List Filed → List File
 files_shown y [] = []
 files_shown y (f ∷ files) = file_shown y f ∷ files_shown y files
@@ -177,7 +177,7 @@ abbrev pub settled_file : ℕ → List ℕ → Option ℕ → Filed → Filed
 settled_file epoch sets want f =
     refiled (same_surface f.surface (surface_at sets want)) epoch (surface_at sets want) f
 
--- so is each of the files
+-- each of the files under the surface of its wanted set
 abbrev pub settled_files : ℕ → List ℕ → List (Option ℕ) → List Filed → List Filed
 settled_files epoch sets [] files = files
 settled_files epoch sets (want ∷ wants) [] = []

@@ -121,7 +121,7 @@ TokensAreTrue =
 -- ---- bytes
 
 -- after every sealed history what is stored of a file is its text as it was sent, under the coat of
--- its surface, and has as many bytes as the catalogue says; so it is under any surface master,
+-- its surface, and has as many bytes as the catalogue says; this holds under any surface master,
 -- whoever sent it
 abbrev pub StoredIsCoated : Type 0
 StoredIsCoated =

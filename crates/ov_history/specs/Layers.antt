@@ -168,7 +168,7 @@ abbrev pub settled_at : ℕ → List ℕ → Option ℕ → Place → Place
 settled_at epoch sets want p =
     moved (same_surface p.surface (surface_at sets want)) epoch (surface_at sets want) p
 
--- so each of the places
+-- each of the places with the surface of its wanted set
 abbrev pub settled_all : ℕ → List ℕ → List (Option ℕ) → List Place → List Place
 settled_all epoch sets [] places = places
 settled_all epoch sets (want ∷ wants) [] = []

@@ -117,17 +117,17 @@ IsLowest applies None = (why : Refusal) → applies why → ⊥
 IsLowest applies (Some why) =
     applies why × ((other : Refusal) → applies other → refusal_number why ≤ refusal_number other)
 
--- so it is for each update after each history
+-- each update after each history has the lowest refusal of those that apply to it
 abbrev pub UpdatesAreRefused : Type 0
 UpdatesAreRefused = (h : History) (u : Update) → IsLowest (Applies h u) (refusal_of h u)
 
--- .. and for each read
+-- each read has the lowest refusal of those that apply to it
 abbrev pub ReadsAreRefused : Type 0
 ReadsAreRefused =
     (m : Matrix) (user file : ℕ)
     → IsLowest (AppliesToRead m user file) (read_refusal m user file)
 
--- .. and for each question for a list
+-- each question for a list has the lowest refusal of those that apply to it
 abbrev pub ListsAreRefused : Type 0
 ListsAreRefused =
     (m : Matrix) (file : ℕ) → IsLowest (AppliesToList m file) (list_refusal m file)

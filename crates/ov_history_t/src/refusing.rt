@@ -8,7 +8,8 @@ pub fn an_update_has_the_lowest_refusal()
     ensures { UpdatesAreRefused }
 {}
 
-/// So it is of a read, and of a question for a list.
+/// To a read and to a question for a list is answered the refusal of the lowest number among those
+/// that apply, each by its words, and none where none applies.
 pub fn a_question_has_the_lowest_refusal()
     ensures reads { ReadsAreRefused }
     ensures lists { ListsAreRefused }

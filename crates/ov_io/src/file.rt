@@ -78,10 +78,10 @@ impl<R: Files + Alloc + Drop> Source for FileSource<R> {
     }
 }
 
-/// The file at a path, which is made anew at the first call and from then on tells of its bytes what
-/// the files of the runtime tell. What stood there before is gone then, and not earlier. A file that
-/// is new may be read and written by its owner alone. A file that can't be made is a fault of that
-/// call; the next one tries again.
+/// The file at a path, which the first call makes empty. From then on it tells of its bytes what
+/// the files of the runtime tell. What was there before is lost at that call, and not earlier. A
+/// file that is new may be read and written by its owner alone. A file that can't be made is a
+/// fault of that call; the next one tries again.
 #[derive(Drop)]
 pub struct FileSink<R: Files + Alloc + Drop> {
     rt: R,

@@ -18,7 +18,7 @@ abbrev pub header_bytes : Header → List ℕ
 header_bytes h =
     magic ++ mode_byte h.mode ∷ to_be_bytes w32 h.first ++ h.base_check ++ h.surface_check
 
--- the same with its gate open, 78 bytes
+-- a whole header with its gate open, 78 bytes
 abbrev pub spelled : Header → List ℕ
 spelled h = 1 ∷ header_bytes h
 

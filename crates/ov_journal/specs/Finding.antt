@@ -31,7 +31,7 @@ pub record IsStore (log : Log) (header : Header) (bad : Option ℕ) (book : List
   pub records : IsLogOf log (contents_of book).records
   pub place : bad ≡ place_if log.bad log.end
 
--- the answer is this Book's; want of memory and a fault of the disk say nothing of it
+-- the answer is this Book's; refused memory and a fault of the disk say nothing of it
 abbrev pub Finds : List ℕ → Result Found JournalFault → Type 0
 Finds book (Ok Unborn) = IsUnborn book
 Finds book (Ok (Born log header bad)) = IsStore log header bad book
@@ -46,7 +46,7 @@ UnlessDisk (Ok x) P = P
 UnlessDisk (Err DiskFailed) P = ⊤
 UnlessDisk (Err NoMemory) P = P
 
--- the same of an opening
+-- this holds of an opening, if no call of the disk failed
 abbrev pub UnlessFaulty : {T : Type 0} → Result T JournalFault → Type 0 → Type 0
 UnlessFaulty (Ok x) P = P
 UnlessFaulty (Err Disk) P = ⊤

@@ -13,7 +13,8 @@ pub record Lasts {D : Type 0} (tells : DiskTells D) (old new : D) (contents : Im
   pub kept : Told (tells.reads old) (λ i. IsKept tells new (contents i) i.blobs)
   pub told_before : Told (tells.reads new) (λ _. (i : Image) × (tells.reads old ≡ Some i))
 
--- the same, and this journal stands for it
+-- These contents of Book last, with the Blobs that were read before, and this journal stands for
+-- what the disk reads and for each image that a crash may leave.
 pub record IsAcknowledged {D : Type 0} (tells : DiskTells D) (log : Log) (old new : D)
     (contents : Image → Contents) : Type 0 where
   pub written : Lasts tells old new contents

@@ -111,7 +111,7 @@ pub record IsRecord (gate : ℕ) (body book : List ℕ) : Type 0 where
   pub field : length_in (drop (gate + 1) book) ≡ length body
   pub bytes : take (length body) (drop (gate + 5) book) ≡ body
 
--- the same of record i of a journal, which the journal's next gate ends
+-- a Book has this body in record i of a journal, and the journal's next gate ends the record
 abbrev pub HasRecord : Log → ℕ → List ℕ → List ℕ → Type 0
 HasRecord log i body book =
     IsRecord (slice_index log.offsets i) body book

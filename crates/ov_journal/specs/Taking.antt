@@ -17,7 +17,8 @@ pub record MayTake (body : List ℕ) (log : Log) : Type 0 where
   pub can_be : IsBody body
   pub longest : length body ≤ log.longest
 
--- the same for several records, for which room is made one after the other
+-- What a journal needs so that records with these bodies may be added, one after the other: room is
+-- made for each before it is added.
 pub record MayTakeAll (bodies : List (List ℕ)) (log : Log) : Type 0 where
   pub whole : log.bad ≡ false
   pub count : length log.offsets + length bodies < 2 ^ 40

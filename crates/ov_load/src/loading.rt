@@ -140,12 +140,12 @@ fn load_with_keys<K: Source, O: Sink, T: Sink, D: Disk + Drop>(
 ///
 /// * `opened`: with a disk that opens, the lines tell of the access-matrix machine's replies to
 ///   just these commands, from the history for which the disk stands: their counts, which add up to
-///   the commands, the epoch and the hash of all their lines; or an error line stands alone. But
-///   for faults and want of memory the status is 0. Put to `trace` is each command's transcript in
-///   turn, then that of the end. At any moment a stop leaves the history after some first commands;
-///   at the exit it is that after commands whose transcripts were put, or after the one more of
-///   which a front was put, and just that one where the front is all of it; at status 0 the disk
-///   has it all, and the published tokens are the matrix.
+///   the commands, the epoch and the hash of all their lines; or an error line is the only one. The
+///   status is 0 unless a fault came or memory was refused. Put to `trace` is each command's
+///   transcript in turn, then that of the end. At any moment a stop leaves the history after some
+///   first commands; at the exit it is that after commands whose transcripts were put, or after the
+///   one more of which a front was put, and just that one where the front is all of it; at status 0
+///   the disk has it all, and the published tokens are the matrix.
 /// * `image`: a disk that doesn't open for these masters and this mode is refused, and nothing is
 ///   sent or written.
 /// * `keys`: without a key file the disk is left as it is, and nothing is sent.

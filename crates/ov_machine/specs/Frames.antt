@@ -38,8 +38,9 @@ abbrev pub TracesAt : {T : Type 0} → Masters → PlainHistory → Command → 
 TracesAt k p command Made old new (Ok answered) = Transcribes k p command old new
 TracesAt k p command Made old new (Err fault) = BreaksOff k p command Made old new
 
--- So it is at whatever history is kept; and where the transcript was put whole the disk has the
--- command made.
+-- What was put to the trace, at whatever history is kept: the transcript of the command, or a front
+-- of it where a fault ended the command. Where such a front is the whole transcript, the disk has
+-- the command made.
 abbrev pub Traces : {D T : Type 0} → DiskTells D → Command → KeptOn D → KeptOn D
     → Option (List ℕ) → Option (List ℕ) → Result T StepFault → Type 0
 Traces tells command old new t_old t_new result =

@@ -97,7 +97,7 @@ pub record IsSentAt (old : Kept) (p : PlainHistory) (command : Command) (sent : 
   pub sealed : refusal_of (history_of p) (measured plain) ≡ None
       → sent ≡ sealed_update old.masters (layers_of (history_of p)) plain
 
--- so it is at whatever history is kept
+-- at whatever history is kept, the sent update is the one that the command asks for
 abbrev pub Sends : Kept → Command → SealedUpdate → Type 0
 Sends old command sent = (p : PlainHistory) → StandsFor old p → IsSentAt old p command sent
 
@@ -109,7 +109,7 @@ AreOtherTags bad = bad.computed ≢ bad.stored
 
 module _ {D : Type 0} (tells : DiskTells D) where
   -- From a disk that holds the history, a crash at any moment leaves the history from before the
-  -- command or that after it; and so it is at the end.
+  -- command or that after it, and so does a crash at the end.
   pub record LeavesStep (k : Masters) (p : PlainHistory) (command : Command) (old new : D)
       : Type 0 where
     pub moments : LeavesOnly tells old new (KeepsStep k p command)
@@ -138,7 +138,7 @@ module _ {D : Type 0} (tells : DiskTells D) where
       Holds tells k p old.disk → LeavesStep k p command old.disk new.disk
   StepsAt k p command old new (Err (Tag bad)) = ⊥
 
-  -- so it is at whatever history is kept
+  -- a step of the command, at whatever history is kept
   abbrev pub Steps : Command → KeptOn D → KeptOn D → Result Reply StepFault → Type 0
   Steps command old new result =
       (k : Masters) (p : PlainHistory) → old.kept.masters ≡ k → StandsFor old.kept p

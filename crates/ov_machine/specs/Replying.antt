@@ -22,7 +22,8 @@ MayCome owner.BadTag = ⊥
 MayCome (owner.Unsettled epochs) = ⊥
 MayCome fault = Unit {0}
 
--- the same of a reader's
+-- a fault of a reader that comes of a server in this process: none that says that the server is
+-- wrong, or that others update it
 abbrev pub MayEnd : ClientFault → Type 0
 MayEnd (client.BadReply place) = ⊥
 MayEnd (client.Unsettled generations) = ⊥
@@ -45,8 +46,8 @@ HasFoundFault (Read found) = HasReadFault found
 
 -- ---- replies
 
--- to a command for which an owner got no answer but this; a fault that never comes is like want of
--- memory here
+-- The reply to a command whose owner was given this fault and no answer. A fault that never comes
+-- counts as refused memory here.
 abbrev pub fault_reply : OwnerFault → Result Reply StepFault
 fault_reply (owner.Refused why) = Ok (replies.Refused why)
 fault_reply owner.Link = Err Trace

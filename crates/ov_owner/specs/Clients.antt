@@ -29,7 +29,7 @@ reader_of k user known = record {
   surface = node_key Surface k.surface known.surface_root;
 }
 
--- the same, where numbers were told
+-- the reader of this name by the numbers that were told, or why the call ends
 abbrev pub reader_by : Masters → List ℕ → Result Known OwnerFault → Result Reader OwnerFault
 reader_by k user (Ok known) = Ok (reader_of k user known)
 reader_by k user (Err fault) = Err fault
@@ -58,7 +58,8 @@ IsSoThere k v Then IsSo =
     × ((p : PlainHistory) → v.surface ≡ k.surface → IsLegal (history_of p)
     → (later v others).history ≡ sealed k p → IsSo p)
 
--- the reader holds just this user's two root keys at what is served, and who is refused isn't there
+-- the reader holds just this user's two root keys at what is served, and a user who is refused
+-- isn't there
 abbrev pub IsReaderOf : Masters → Service → (Service → Type 0) → List ℕ → Result Reader OwnerFault
     → Type 0
 IsReaderOf k v Then user (Ok r) = IsSoThere k v Then (λ p. IsReaderAt k p user r)

@@ -39,7 +39,8 @@ known_of (answers.Refused why) = Err (faults.Refused why)
 known_of answers.NoMemory = Err faults.Memory
 known_of answer = Err (faults.BadReply 0)
 
--- the same of the plan of a list
+-- the plan of a list that is told, or why the call ends: a kind of answer that isn't allowed is
+-- wrong at its first byte
 abbrev pub plan_of : Answer → Result Plan OwnerFault
 plan_of (answers.Plan plan) = Ok plan
 plan_of (answers.Refused why) = Err (faults.Refused why)

@@ -40,8 +40,8 @@ StaleEpochsRise =
     → (length epochs ≡ MAX_TRIES) × Rises epochs
 
 -- Of a server under the owner's surface master that nobody else updates meanwhile, and whose
--- history is right, a call leaves that history, or that with the update of its command. So it does
--- after want of memory and after a fault.
+-- history is right, a call leaves that history, or that with the update of its command. It does so
+-- after memory was refused and after a fault too.
 abbrev pub OneUpdateAtMost : Type 0
 OneUpdateAtMost =
     (k : Masters) (command : Command) (e : Errand) (asks : List Ask) (unanswered : Option (List ℕ))

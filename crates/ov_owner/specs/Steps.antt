@@ -34,7 +34,8 @@ pub record IsStep (k : Masters) (command : Command) (reply : Reply)
   pub replied : reply_to before command ≡ reply
   pub next : last ≡ sealed k (after before command)
 
--- the same of the last of these histories
+-- The machine replies so to the command at the last of these histories, and what is served then is
+-- that of the history after it.
 abbrev pub IsLastStep : Masters → Command → Reply → List SealedHistory → SealedHistory → Type 0
 IsLastStep k command reply [] last = ⊥
 IsLastStep k command reply (answered ∷ []) last = IsStep k command reply answered last
@@ -58,7 +59,8 @@ AnswersAsMachine k command v Then reply =
     × Along v asks histories last × Then last
     × (AreRight k histories → IsLastStep k command reply histories last.history)
 
--- so it is with an Accepted and a Refused, where the owner's surface master is the one served under
+-- An Accepted and a Refused are the machine's replies at the history of the last ask, where the
+-- owner's surface master is the one served under. Other faults say nothing.
 abbrev pub IsOwnersReply : Masters → Command → Service → (Service → Type 0) → Result ℕ OwnerFault
     → Type 0
 IsOwnersReply k command v Then (Ok epoch) =

@@ -58,7 +58,7 @@ abbrev pub after_first : List ℕ → ℕ → Result (ℕ × SealedUpdate) Owner
 after_first tries least (Ok (epoch, u)) = sends_if (nat_lt epoch least) tries epoch u
 after_first tries least (Err fault) = Ends (Err fault)
 
--- so many tries and no more
+-- where the test says so the tries are used up and the call ends unsettled; otherwise it asks again
 abbrev pub again_if : Bool → List ℕ → ℕ → Stage
 again_if true tries least = Ends (Err (faults.Unsettled tries))
 again_if false tries least = Asks tries least

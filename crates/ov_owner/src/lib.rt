@@ -1,4 +1,4 @@
-//! The owner of a store: who holds both masters, and makes updates over any peer.
+//! The owner of a store: it holds both masters, and makes updates over any peer.
 //!
 //! An [`Owner`] asks a server for the numbers that an update needs, seals the update under the base
 //! master, and sends it at the epoch that it was told, with a tag under the surface master. Where
@@ -17,7 +17,7 @@
 //! |---|---|
 //! | `Errands` | what each command asks first, and what is sealed of the answer |
 //! | `Talks` | which asks come one after the other, and with which result they end |
-//! | `Calls`, `Causes` | the same of a peer; why a call ends with a fault of the link |
+//! | `Calls`, `Causes` | what asks of a peer come to; why a call ends with a fault of the link |
 //! | `Questions` | one question and what comes of it |
 //! | `Clients` | the reader that an owner makes for a user |
 //! | `Steps` | a result is the machine's, at the history of the last ask |

@@ -58,7 +58,7 @@ Along v (a ∷ asks) (at_one ∷ more) last =
 abbrev pub IsRight : Masters → SealedHistory → Type 0
 IsRight k g = (p : PlainHistory) × IsLegal (history_of p) × (g ≡ sealed k p)
 
--- so is each of these histories
+-- each of these histories is right under these masters: it is the sealed form of a legal one
 abbrev pub AreRight : Masters → List SealedHistory → Type 0
 AreRight k [] = Unit {0}
 AreRight k (g ∷ more) = IsRight k g × AreRight k more

@@ -45,7 +45,7 @@ pub record IsDiskFault (s : Serving) (request reply : List ℕ) (made : List Sea
     pub makes : MayMake request made
     pub needs : NeedsDisk s request
 
--- the same of the kinds of request: an Update and a Chunk may need the disk
+-- the kinds of request that may need the disk: an Update and a Chunk
 abbrev pub MayNeedDisk : Request → Type 0
 MayNeedDisk (requests.Update epoch spelling tag) = Unit {0}
 MayNeedDisk (requests.Chunk file generation start count) = Unit {0}

@@ -26,7 +26,7 @@ AnswersChain c user file (answers.Chained chained) =
 AnswersChain c user file (answers.Refused why) = read_refusal (matrix_shown c) user file ≡ Some why
 AnswersChain c user file answer = ⊥
 
--- so many stored bytes of a file from a place on, as far as it has them, where the file is of the
+-- this many stored bytes of a file from a place on, as far as it has them, where the file is of the
 -- generation that was asked for
 abbrev pub AnswersChunk : Option Filed → List ℕ → ℕ → ℕ → ℕ → Answer → Type 0
 AnswersChunk None stored generation start count answer = answer ≡ answers.Refused NoFile

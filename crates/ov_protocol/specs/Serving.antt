@@ -47,6 +47,6 @@ serving_after s updates = record s {
 abbrev pub followed : SealedHistory → List SealedUpdate → SealedHistory
 followed g updates = record g { updates = g.updates ++ updates }
 
--- the same keys, and the history with these updates behind its own
+-- the service with the same keys, and with these updates behind those of its history
 abbrev pub later : Service → List SealedUpdate → Service
 later v updates = record v { history = followed v.history updates }

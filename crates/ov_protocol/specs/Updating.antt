@@ -31,7 +31,8 @@ AnswersSealed c u (answers.BadRequest place) =
     × (place ≡ spelling_place + part_place 4 (brief u))
 AnswersSealed c u answer = ⊥
 
--- the same of a spelling, as a record's reader reads it
+-- The answer to an update of which the spelling was read by a record's reader: a wrong spelling is
+-- named at its place in the frame, and an update that was read is refused or made.
 abbrev pub AnswersSpelled : Catalogue → Result SealedUpdate ℕ → Answer → Type 0
 AnswersSpelled c (Ok u) answer = AnswersSealed c u answer
 AnswersSpelled c (Err place) answer = answer ≡ answers.BadRequest (spelling_place + place)
@@ -50,7 +51,7 @@ abbrev pub spelled_by : Result SealedUpdate ℕ → List SealedUpdate
 spelled_by (Ok u) = u ∷ []
 spelled_by (Err place) = []
 
--- the same, from the bytes
+-- the update that these bytes spell, as a record's reader reads them, where they spell one
 abbrev pub updates_in : List ℕ → List SealedUpdate
 updates_in spelling = spelled_by (update_of 32 spelling)
 

@@ -12,8 +12,8 @@
 //! with no store, no disk and no network in sight, and a caller that is told which history is served
 //! knows the answers.
 //!
-//! Want of memory and a fault of a disk are no answers by what a server shows: who sends `NoMemory` or
-//! `DeviceFault` says why (`MayMake` is what is left of such an ask).
+//! Refused memory and a fault of a disk are no answers by what a server shows: the crate that sends
+//! `NoMemory` or `DeviceFault` says why (`MayMake` is what is left of such an ask).
 //!
 //! | file in `specs/` | says |
 //! |---|---|
@@ -23,7 +23,7 @@
 //! | `Reading` | the chains to a file, its stored bytes, the names in its list |
 //! | `Pages` | the entries of the public catalogue |
 //! | `Answers` | the answer to each request, and the updates that it makes |
-//! | `Replies` | the same of frames |
+//! | `Replies` | the reply to each frame, and the updates that it makes |
 //! | `Laws` | the laws |
 //!
 //! A law stands as a public function with an empty body, whose contract is the law.

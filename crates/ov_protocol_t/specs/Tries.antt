@@ -15,7 +15,8 @@ pub record ReadsHaveNineTries : Type 0 where
   pub eighth : again eight 9 ≡ AsksChain eight 9
   pub ninth : again (0 ∷ eight) 9 ≡ Ends (Err (Unsettled (0 ∷ eight)))
 
--- So does an owner with an update, after tries that were answered Stale.
+-- After eight tries that were answered Stale an owner asks again with an update, and after nine it
+-- doesn't.
 pub record UpdatesHaveNineTries : Type 0 where
   pub eighth : owners.again eight 9 ≡ owners.Asks eight 9
   pub ninth : owners.again (0 ∷ eight) 9 ≡ owners.Ends (Err (faults.Unsettled (0 ∷ eight)))

@@ -88,7 +88,7 @@ pub fn write<const W: usize>(update: &Update<W>, out: &mut Vec<u8>) -> Result<()
     ensures ok { OnOk result (out.new.items
         ≡ out.old.items ++ spelling (8 * W) (sealed_update update.now)) }
     ensures err { OnErr result (out.new.items ≡ out.old.items) }
-    // So what is written is read again.
+    // What is written can be read again.
     ensures form { HasForm (8 * W) (sealed_update update.now) }
 {
     has_form(update);

@@ -11,7 +11,7 @@ EndsIn last code old new status =
     ((status ≡ code) × Appends old new last)
     ⊎ ((status ≡ 6) × ((n : ℕ) × Appends old new (take n last)))
 
--- so it is, or so it is of the line that says that memory was refused for this one
+-- The program ends with this last line, or with the line that says that memory was refused for it.
 abbrev pub EndsOr : List ℕ → ℕ → Option (List ℕ) → Option (List ℕ) → ℕ → Type 0
 EndsOr last code old new status =
     EndsIn last code old new status ⊎ EndsIn memory_line 7 old new status

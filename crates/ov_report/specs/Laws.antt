@@ -8,8 +8,8 @@ use Rattle.ov_store.specs.declared.fault.BeginFault.{BeginFault}
 use Rattle.ov_store.specs.declared.fault.BeginFault.TheVariants.{Disk, Memory}
 use Rattle.ov_report.specs.Faults.{HasValues}
 
--- no image that stands for a history of these keys and this mode is refused, but for a fault of the
--- disk or want of memory
+-- no image that stands for a history of these keys and this mode is refused, unless the disk failed
+-- or memory was refused
 abbrev pub StandingImagesOpen : Type 0
 StandingImagesOpen =
     (k : Keys) (mode : Mode) (i : Image) (fault : BeginFault)

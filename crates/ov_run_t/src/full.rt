@@ -73,7 +73,7 @@ fn files_are_full(rt: HostRuntime) -> Result<(), Fail> {
     Ok(())
 }
 
-// So many bytes, from 1 up, between two texts.
+// A text with the size on its line, this many bytes from 1 up, and another text.
 fn filled(alloc: Global, head: &str, size: u32, end: &[u8]) -> Result<Vec<u8>, AllocError> {
     let mut text = Vec::new(alloc);
     push(alloc, &mut text, head, size, "\n")?;

@@ -182,7 +182,7 @@ pub fn ran_traced(
     run(alloc, words, &mut keys, &mut input, out, trace, disk)
 }
 
-/// The same with any frames.
+/// A run whose frames may be any.
 pub fn ran(
     alloc: Global,
     words: &[String],
@@ -244,7 +244,8 @@ pub fn assert_row(
     assert_ended(rt, code, &out, row.status);
 }
 
-/// The same over a disk on which no store was begun.
+/// Asserts that a run over a disk on which no store was begun answers a script, which comes in
+/// pieces, as the row says.
 pub fn assert_anew(rt: &impl Abort, alloc: Global, words: &[String], piece: usize, row: &Row<'_>) {
     let mut disk = MemDisk::new(alloc);
     assert_row(rt, alloc, words, piece, row, &mut disk);

@@ -9,8 +9,8 @@ use Rattle.ov_script.specs.declared.next.Next.{Next}
 use Rattle.ov_script.specs.declared.next.ScriptFault.{ScriptFault}
 use Rattle.ov_script.specs.declared.next.ScriptFault.TheVariants.{Read}
 
--- So many bytes may be read of the text, and it isn't known before more of it is whether an item
--- stands here.
+-- The text has no more bytes than may be read, and more of it must be known to tell whether an item
+-- is here.
 pub record IsUnsettled (room : ℕ) (text : List ℕ) : Type 0 where
   pub within : length text ≤ room
   pub can : CanBegin text

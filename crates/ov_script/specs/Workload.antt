@@ -65,7 +65,7 @@ abbrev pub users_in : ℕ → ℕ → List (List ℕ)
 users_in who zero = []
 users_in who (suc k) = and_if (has who k) (users_in who k) (user k)
 
--- So many bytes of command i: byte j is i + j modulo 256.
+-- This many bytes of command i: byte j is i + j modulo 256.
 abbrev pub body : ℕ → ℕ → List ℕ
 body i zero = []
 body i (suc j) = body i j ++ (i + j) % 256 ∷ []

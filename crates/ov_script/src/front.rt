@@ -49,9 +49,9 @@ pub enum Front {
     Start,
     /// What several words begin with came.
     InStem(Stem),
-    /// So many bytes of the first word came.
+    /// This many bytes of the first word came.
     InWord { word: Word, count: usize },
-    /// So many bytes of a name came.
+    /// This many bytes of a name came.
     InName { next: Then, count: usize },
     /// A list of readers stands here, of which nothing came yet.
     AtReaders,

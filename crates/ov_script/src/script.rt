@@ -52,7 +52,7 @@ impl<S: Source + Drop> Script<S> {
         Ok(Script::over(Buffer::new(alloc)?, source))
     }
 
-    /// The same with room that was made before.
+    /// A script that begins with what this source has left, with room that was made before.
     pub fn over(buffer: Buffer, source: S) -> Script<S>
         ensures { result ≡ start source }
     {

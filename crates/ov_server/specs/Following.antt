@@ -22,7 +22,8 @@ RepliesAt s request reply =
     ((made : List SealedUpdate) × Replies s request reply made)
     ⊎ ((reply ≡ answer_bytes DeviceFault) × NeedsDisk s request)
 
--- so it is at each history that was served at the start, with the updates of these spellings
+-- The reply is right at each history that was served at the start, with the updates of these
+-- spellings: it is the one by what is served, or says that the disk failed, where that is needed.
 abbrev pub RepliesAfter : Serving → List (List ℕ) → List ℕ → List ℕ → Type 0
 RepliesAfter start list request reply =
     (v : Service) → IsService start v

@@ -17,13 +17,13 @@ use Rattle.ov_server.specs.Answering.{AnswersOrFails, FailsUpdate, IsAnswered, I
 abbrev pub IsServedBy : {D : Type 0} → Opened D → Service → Type 0
 IsServedBy s v = IsService (serving_of s) v
 
--- Asked this, who serves that history replies by just this one, and then serves it with what the
+-- Asked this, a server of that history replies by just this one, and then serves it with what the
 -- request made: nobody else updates it.
 abbrev pub AnswersAlone : Service → List ℕ → List ℕ → (Service → Type 0) → Type 0
 AnswersAlone v request reply Then =
     (made : List SealedUpdate) × IsReplyAt v request reply made × Then (later v made)
 
--- so is each ask answered
+-- Each ask is answered by just the history that is served, and nobody else updates it.
 abbrev pub AreAlone : {D : Type 0} → Asked (Opened D) → Type 0
 AreAlone {D} asked =
     (p q : Opened D) (request reply : List ℕ) (v : Service)
@@ -80,7 +80,7 @@ answers_alone tells p q request reply v (inr is) serves =
 nobody_else : (P : Service → Type 0) (v : Service) → P v → P (later v [])
 nobody_else P v is = subst P (sym (later-nil v)) is
 
--- so it is answered by what is served
+-- an answer by what is shown, or by a fault of the disk, is told as one at what is served
 pub answers_told : {D : Type 0} (tells : DiskTells D) (p q : Opened D) (request reply : List ℕ)
     (v : Service)
     → AnswersOrFails tells p q request reply → IsServedBy p v → Told v request reply (IsServedBy q)

@@ -24,7 +24,7 @@ fn are_each_names(names: &[Name])
     }
 }
 
-/// So have names, none of which comes twice.
+/// Names have the bytes of names, and none of them comes twice.
 pub fn are_names(names: &Names)
     ensures { AreNames names.now }
 {
@@ -38,14 +38,14 @@ pub fn is_tag(tag: &[u8; 32])
     let _tag = *tag;
 }
 
-/// So has a token.
+/// A token has 32 bytes.
 pub fn is_token(token: &Token)
     ensures { IsToken token.now }
 {
     is_tag(&token.bytes);
 }
 
-/// So has the token of each step.
+/// The token of each step has 32 bytes.
 pub fn steps_have_tokens(steps: &[Step])
     ensures { HaveTokens steps.now }
 {
@@ -54,7 +54,7 @@ pub fn steps_have_tokens(steps: &[Step])
     }
 }
 
-/// And that of each edge.
+/// The token of each edge has 32 bytes.
 pub fn edges_have_tokens(edges: &[Edge])
     ensures { LeadByTokens edges.now }
 {

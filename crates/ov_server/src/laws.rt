@@ -6,7 +6,8 @@ ghost use Rattle.ov_server.specs.Locally.{AreAlone};
 use ov_disk::Disk;
 
 /// Nobody else updates what a server in this process serves: by what it tells of an ask, it answers
-/// at just the history that it serves. And that its disk failed it answers only to what needs it.
+/// at just the history that it serves. It answers that its disk failed only to a request that needs
+/// the disk.
 pub fn asks_are_alone<D: Disk>()
     ensures { AreAlone (λ p request reply q.
         AsksServer D.tells p q request reply (Ok tt)) }

@@ -7,8 +7,8 @@ use ov_disk::Disk;
 use ov_peer::{Peer, PeerFault};
 use std::marker::Model;
 
-/// A server that is asked with no link between: nobody else asks it, and it never fails but for
-/// want of memory. It tells which history it serves.
+/// A server that is asked with no link between: nobody else asks it, and it fails only where memory
+/// is refused. It tells which history it serves.
 #[derive(Drop)]
 pub struct LocalPeer<D: Disk> {
     server: Server<D>,

@@ -75,7 +75,8 @@ back_at [] number back = []
 back_at (given ∷ more) zero back = record given { back = Some back } ∷ more
 back_at (given ∷ more) (suc number) back = given ∷ back_at more number back
 
--- the same of the streams that are told
+-- the streams that are told, of which the one of this number was taken back; none where none are
+-- told
 abbrev pub told_back : {S : Type 0} → Option (List (Given S)) → ℕ → Back S
     → Option (List (Given S))
 told_back None number back = None

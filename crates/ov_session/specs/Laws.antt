@@ -8,8 +8,8 @@ abbrev pub IsTail : List ℕ → Type 0
 IsTail rest = (rest ≡ []) ⊎ (IsUnfinished rest ⊎ IsBadLength rest)
 
 -- Bytes are frames with such a tail in one way at most, and no tail is of two kinds but the empty
--- one, which is a part of a frame too. So where the same bytes come, a session ends in the same way
--- and at the same place, unless a fault or want of memory comes before.
+-- one, which is a part of a frame too. Where the same bytes come, a session therefore ends in the
+-- same way and at the same place, unless a fault comes or memory is refused before.
 pub record InputsEndOneWay : Type 0 where
   pub one_cut : (text : List ℕ) (fs gs : List (List ℕ)) (rest other : List ℕ)
       → IsCut text fs rest → IsCut text gs other → IsTail rest → IsTail other

@@ -30,6 +30,6 @@ IsBackAt gave number back =
     (stream : MemStream)
     × (slice_get gave number ≡ Some (record { stream = stream; back = Some back }))
 
--- so these streams
+-- the streams that were given, as contracts see them
 abbrev pub all_seen : List Gave → List (Given MemStream)
 all_seen gave = map seen gave

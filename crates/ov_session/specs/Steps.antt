@@ -97,7 +97,7 @@ AnswersFrames tells a b old new frames (Err stops.Spent) =
 abbrev pub fresh : Decoding
 fresh = record { start = 0; rest = []; bad = false }
 
--- so far a session has answered all frames that it read, and its decoder has taken all bytes
+-- Up to here a session has answered all frames that it read, and its decoder has taken all bytes.
 pub record Going {A : Type 0} (tells : AskerTells A) (a b : A) (old new : Link)
     (decoding : Decoding) (count : ℕ) : Type 0 where
   pub exchanges : List Exchange

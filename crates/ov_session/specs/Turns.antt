@@ -6,7 +6,7 @@ use Rattle.ov_session.specs.declared.each.Next.TheVariants as nexts
 use Rattle.ov_session.specs.Doors.{Doorway, Given}
 use Rattle.ov_session.specs.Serving.{Follows, OneSession, Session, and_all}
 
--- so many streams are told, or none
+-- this many streams are told, or none are told at all
 abbrev pub TellsMany : {S : Type 0} → Option (List (Given S)) → ℕ → Type 0
 TellsMany None number = Unit {0}
 TellsMany (Some streams) number = length streams ≡ number
@@ -31,7 +31,7 @@ ServesNext one v w old new nexts.Closed = (w ≡ v) × (new ≡ record old { clo
 ServesNext one v w old new nexts.Failed =
     (w ≡ v) × (new ≡ record old { faults = new.faults }) × Rose old.faults new.faults
 
--- so many sessions were served so far, and the door may have more
+-- this many sessions were served up to here, and the door may have more
 pub record ServesSome {V S : Type 0} (one : OneSession V S) (v w : V) (old new : Doorway S)
     (number : ℕ) : Type 0 where
   pub sessions : List (Session S)

@@ -85,7 +85,7 @@ fn text_with(alloc: Global, key: &str, line: &str) -> Result<Vec<u8>, AllocError
     Ok(text)
 }
 
-// So many words.
+// A list of `count` words.
 fn words_of(alloc: Global, count: usize) -> Result<Vec<String>, AllocError> {
     let mut words = Vec::new(alloc);
     for _ in 0..count {

@@ -4,8 +4,9 @@
 //! more than the longest may have. `specs/Settings` says which bytes are a settings file, and of
 //! which [`Settings`]: a record with a line for each key. The document is the one that the kit's
 //! crate `toml` reads of the bytes, and the digits of a key are those of a key file (ov_keyfile).
-//! Other keys are passed over. [`settings_in`] reads the same of bytes, and says why there are no
-//! settings ([`SettingsFault`]). That a file has one reading is the law [`settings_are_one`].
+//! Other keys are passed over. [`settings_in`] reads the settings from bytes, and says why there
+//! are no settings ([`SettingsFault`]). That a file has one reading is the law
+//! [`settings_are_one`].
 #![tactic(auto)]
 
 mod fault;

@@ -25,7 +25,8 @@ pub record IsChained (s : Catalogue) (user number : ℕ) (c : Chained) : Type 0 
   pub base : IsBaseChain s.base s.grants user (filed_at s number).node c.base
   pub surface : IsSurfaceChain s.surface user (filed_at s number).surface c.surface
 
--- so it is where the user may read the file, and otherwise it says why not; memory is free
+-- The answer has both chains where the user may read the file, and otherwise says why not. Memory
+-- may be refused in either case.
 abbrev pub AnswersChain : Catalogue → ℕ → ℕ → Result Chained ChainFault → Type 0
 AnswersChain s user file (Ok c) =
     (read_refusal (matrix_shown s) user file ≡ None) × IsChained s user file c

@@ -93,7 +93,7 @@ abbrev pub AreNewNodes : {W : ℕ} → List ℕ → List (NewNode W) → Type 0
 AreNewNodes sets [] = Unit {0}
 AreNewNodes sets (new ∷ more) = IsNewNode sets new × AreNewNodes (sets ++ new.set ∷ []) more
 
--- so is the node, where there is one
+-- the node, where there is one, is planned for these sets, which leave room for it
 abbrev pub IsNewNodeIf : {W : ℕ} → List ℕ → Option (NewNode W) → Type 0
 IsNewNodeIf sets None = Unit {0}
 IsNewNodeIf sets (Some new) = IsNewNode sets new

@@ -66,8 +66,8 @@ pub record IsWell (limit : ℕ) (c : Catalogue) : Type 0 where
   pub each : (file : ℕ) (f : Filed) → slice_get c.files file ≡ Some f → f.length ≤ MAX_FILE_BYTES
   pub epoch : c.epoch ≤ LAST_EPOCH
 
--- so it is of a state with this catalogue, which keeps count of the bytes, and remembers no cover
--- but that of a list in this base layer
+-- What holds of every state with this catalogue: the catalogue is sound and within its limits, and
+-- the state keeps count of the bytes, and remembers no cover but that of a list in this base layer.
 abbrev pub IsWhole : {W : ℕ} → ℕ → Catalogue → ℕ → Option (Planned W) → Type 0
 IsWhole limit c size remembered =
     IsWell limit c × (size ≡ byte_sum (matrix_shown c).files)

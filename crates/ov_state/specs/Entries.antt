@@ -17,7 +17,7 @@ plain_file f = record {
   length = f.length;
 }
 
--- so each of the files
+-- the files as the catalogue has them
 abbrev pub plain_files : List FileEntry → List Filed
 plain_files [] = []
 plain_files (f ∷ files) = plain_file f ∷ plain_files files
@@ -26,7 +26,7 @@ plain_files (f ∷ files) = plain_file f ∷ plain_files files
 abbrev pub plain_rewrite : Rewrite → PlainRewrite
 plain_rewrite r = record { file = r.file; length = r.length; old = r.old; new = r.new }
 
--- so each of the rewrites
+-- the rewrites in the words of histories
 abbrev pub plain_rewrites : List Rewrite → List PlainRewrite
 plain_rewrites [] = []
 plain_rewrites (r ∷ rewrites) = plain_rewrite r ∷ plain_rewrites rewrites

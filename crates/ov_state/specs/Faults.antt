@@ -13,7 +13,7 @@ abbrev pub fault_of : GraphRefusal → PrepareFault
 fault_of NodesFull = Refused Full
 fault_of GraphMemory = Memory
 
--- and a question about one
+-- a graph that is full refuses a question about chains
 abbrev pub chain_fault_of : GraphRefusal → ChainFault
 chain_fault_of NodesFull = NoChain Full
 chain_fault_of GraphMemory = NoChainMemory

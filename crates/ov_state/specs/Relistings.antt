@@ -99,7 +99,7 @@ want_if false y r number p = wanted_surface y.mode (list_at y p) (holders y p.no
 abbrev pub want_after : {W : ℕ} → Layers → Relisting W → ℕ → Place → Option ℕ
 want_after y r number p = want_if (p.node == r.node) y r number p
 
--- so for each of the files, of which the first has this number
+-- the wanted surface sets of the files at these places, of which the first has this number
 abbrev pub wants_after : {W : ℕ} → Layers → Relisting W → ℕ → List Place → List (Option ℕ)
 wants_after y r number [] = []
 wants_after y r number (p ∷ places) = want_after y r number p ∷ wants_after y r (number + 1) places

@@ -53,7 +53,7 @@ IsAnswerAt g b (Err (BadPlan place)) =
     (refusal_of (outer_of g) (outer b) ≡ None) × (HasParts (layers_of (outer_of g)) b → ⊥)
 IsAnswerAt g b (Err Memory) = Unit {0}
 
--- so it is for every history for which the catalogue stands
+-- What is answered to an update is what every history says of it for which the catalogue stands.
 abbrev pub IsAnsweredAsItsHistory : {W : ℕ} → Catalogue → PlainBrief
     → Result (Change W) PrepareFault → Type 0
 IsAnsweredAsItsHistory c b result =

@@ -37,7 +37,7 @@ fn set_of(rt: &impl Abort, users: &[u32]) -> UserSet<WIDTH> {
     set
 }
 
-/// So many tokens.
+/// A list of `count` tokens.
 fn tokens(rt: &impl Abort, alloc: Global, count: usize) -> Tokens {
     let mut tokens = Tokens::new(alloc);
     for _ in 0..count {

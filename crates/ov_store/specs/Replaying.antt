@@ -39,7 +39,8 @@ abbrev pub StopsAt : Catalogue → List ℕ → ℕ → ℕ → Type 0
 StopsAt c body gate place =
     (gate + 5 + length body < 2 ^ 64 → IsMisspelled body gate place) ⊎ IsUntaken c body gate place
 
--- the same of each answer
+-- The answer is right about the body of a record whose gate is at this place: damage is in Book, at
+-- the place where the record can't be taken. Of the other faults only refused memory comes.
 abbrev pub IsBodyFault : Catalogue → List ℕ → ℕ → BeginFault → Type 0
 IsBodyFault c body gate DiskFailed = ⊥
 IsBodyFault c body gate NotAStore = ⊥

@@ -14,7 +14,7 @@ IsAlike (PlainGrant user file) (PlainGrant other item) = (user ≡ other) × (fi
 IsAlike (PlainRevoke user file) (PlainRevoke other item) = (user ≡ other) × (file ≡ item)
 IsAlike one other = ⊥
 
--- so each of these updates and of those, in order
+-- two lists of as many updates, which in order are the same but for the bytes of files
 abbrev pub AreAlike : List PlainUpdate → List PlainUpdate → Type 0
 AreAlike [] [] = Unit {0}
 AreAlike (u ∷ updates) (v ∷ others) = IsAlike u v × AreAlike updates others

@@ -37,7 +37,7 @@ TalksAreTranscripts =
     → IsLegal (history_of p) → AnsweredAlone (service_of k p) asks m → IsAnswered result
     → IsTranscript k p command asks
 
--- and what was put of a call, however it ended, is a front of what is sent for its command
+-- what was put of an owner's call, however it ended, is a front of what is sent for its command
 abbrev pub TalksAreFronts : Type 0
 TalksAreFronts =
     (k : Masters) (p : PlainHistory) (command : Command) (e : Errand) (asks : List Ask)
@@ -54,7 +54,7 @@ QuestionsAreTranscripts =
     (k : Masters) (p : PlainHistory) (command : Command) (a : Ask)
     → IsOneQuestion command → IsFirstAsk k p command a → IsTranscript k p command (a ∷ [])
 
--- and of any command that is refused with its first reply
+-- the first ask of a command that is refused with its reply is the transcript of the command
 abbrev pub RefusalsAreTranscripts : Type 0
 RefusalsAreTranscripts =
     (k : Masters) (p : PlainHistory) (command : Command) (a : Ask) (why : Refusal)
@@ -69,7 +69,7 @@ FirstAsksAreFronts =
     → IsPut (service_of k p) (request_bytes (first_request command)) put
     → IsTranscriptFront k p command put
 
--- and so it is where that was answered
+-- the frames of the first ask of a command, where that was answered, are a front
 abbrev pub FirstAnswersAreFronts : Type 0
 FirstAnswersAreFronts =
     (k : Masters) (p : PlainHistory) (command : Command) (a : Ask)
@@ -90,7 +90,8 @@ ReadsAreTranscripts =
     → AnsweredAlone (service_of k p) asks m → IsReadAnswered result
     → IsTranscript k p (Read user file) (key ∷ asks)
 
--- and what was put of them, however the read ended, is a front of what is sent for it
+-- what was put of the question for a user's keys and of a read with them, however the read ended,
+-- is a front of what is sent for the read
 abbrev pub ReadsAreFronts : Type 0
 ReadsAreFronts =
     (k : Masters) (p : PlainHistory) (user file : List ℕ) (key : Ask) (known : Known) (r : Reader)
@@ -111,7 +112,7 @@ TranscriptsAreUnique =
     → IsLegal (history_of p) → IsTranscript k p command asks → IsTranscript k p command others
     → asks ≡ others
 
--- so have some commands, as bytes
+-- some commands, one after the other, have one transcript at a history, as bytes
 abbrev pub RunsHaveOneTranscript : Type 0
 RunsHaveOneTranscript =
     (k : Masters) (p : PlainHistory) (commands : List Command) (one other : List ℕ)

@@ -28,7 +28,7 @@ IsPut v request bytes =
     ⊎ ((reply : List ℕ) × (made : List SealedUpdate) × (n : ℕ)
     × IsReplyAt v request reply made × (bytes ≡ framed request ++ take n (framed reply)))
 
--- so it is with the ask that failed, if one did
+-- what was put of the ask that failed, if one did; nothing where none did
 abbrev pub ArePut : Service → Option (List ℕ) → List ℕ → Type 0
 ArePut v None bytes = bytes ≡ []
 ArePut v (Some request) bytes = IsPut v request bytes

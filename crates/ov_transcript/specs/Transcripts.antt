@@ -94,7 +94,7 @@ later_requests k h m commands.Epoch = []
 abbrev pub requests_at : Masters → History → Command → List Request
 requests_at k h command = first_request command ∷ later_requests k h (matrix_of h) command
 
--- the same at a history with bytes
+-- all that is asked for a command, at a history with the bytes of its files
 abbrev pub requests_of : Masters → PlainHistory → Command → List Request
 requests_of k p command = requests_at k (history_of p) command
 
@@ -138,7 +138,8 @@ abbrev pub Transcribed : Masters → PlainHistory → Command → List ℕ → T
 Transcribed k p command bytes =
     (asks : List Ask) × IsTranscript k p command asks × (bytes ≡ frames asks)
 
--- the same of some commands, one after the other, each at the history that the ones before leave
+-- the bytes are the frames of the transcripts of these commands, one after the other, each at the
+-- history that the ones before leave
 abbrev pub Transcripts : Masters → PlainHistory → List Command → List ℕ → Type 0
 Transcripts k p [] bytes = bytes ≡ []
 Transcripts k p (command ∷ commands) bytes =

@@ -42,8 +42,9 @@ HasEachAnswer (requests.Update epoch spelling tag) =
 HasEachAnswer (requests.Chunk file generation start count) = generation < 4294967295
 HasEachAnswer request = Unit {0}
 
--- The same of answers to a request: the place is that of the first field that no answer to it goes
--- on with, or the end. Just the names of a Listed mustn't come twice.
+-- Where bytes that a frame has room for are no answer to a request that can have each kind of
+-- answer, the place that is named is that of the first field that no answer to it goes on with, or
+-- the end. Just the names of a Listed mustn't come twice.
 abbrev pub BadAnswersArePlaced : Type 0
 BadAnswersArePlaced =
     (request : Request) (bytes : List ℕ) (place : ℕ)

@@ -11,11 +11,11 @@ use Rattle.ov_wire.specs.declared.request.Request.TheVariants as requests
 use Rattle.ov_wire.specs.Updates.{fields_at}
 use Rattle.ov_wire.specs.Places.{in_frame}
 
--- the command of these names, by its verb
+-- the question before a grant, with its two names
 abbrev pub grant : List ℕ × List ℕ → Question
 grant (user, file) = questions.Grant user file
 
--- the same of a revocation
+-- the question before a revocation, with its two names
 abbrev pub revoke : List ℕ × List ℕ → Question
 revoke (user, file) = questions.Revoke user file
 
@@ -28,7 +28,7 @@ question_at (suc (suc (suc (suc zero))) ∷ bytes) = made revoke ((name_at >> na
 question_at (suc (suc (suc (suc (suc zero)))) ∷ bytes) = made questions.Key (name_at bytes)
 question_at (verb ∷ bytes) = Err (length (verb ∷ bytes))
 
--- So many names of which none is among the ones that were seen or comes twice. One that does is
+-- `count` names of which none is among the ones that were seen or comes twice. One that does is
 -- wrong at its length byte.
 unfoldable pub new_names_at : ℕ → List (List ℕ) → List ℕ → Read (List (List ℕ))
 new_names_at zero seen bytes = Ok ([], bytes)

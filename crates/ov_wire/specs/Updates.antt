@@ -13,7 +13,7 @@ pub data Fields : Type 0 where
   Grant : (user file : ℕ) → (token : Option (List ℕ)) → Fields
   Revocation : (user file : ℕ) → Fields
 
--- so many bytes as they stand
+-- bytes as they are
 abbrev pub plain : List ℕ → List ℕ
 plain bytes = bytes
 
@@ -25,7 +25,7 @@ Has32 bytes = length bytes ≡ 32
 abbrev pub token_fields : List ℕ → List ℕ
 token_fields tokens = u16 (length tokens / 32) ++ tokens
 
--- so many whole tokens
+-- whole tokens, at most this many
 abbrev pub AreTokens : ℕ → List ℕ → Type 0
 AreTokens most tokens =
     (length tokens ≡ 32 * (length tokens / 32)) × (length tokens / 32 ≤ most)

@@ -123,7 +123,7 @@ pub fn take_known<'a>(
     Ok((Answer::Known(known), rest))
 }
 
-/// So many nodes, one after the other.
+/// Takes `count` nodes, one after the other.
 fn take_each_node(alloc: Global, count: u16, bytes: &[u8]) -> Result<(Numbers, &[u8]), FieldFault>
     ensures { GivesField (λ n. n) result (many_at node_at count bytes.now) }
 {

@@ -47,7 +47,7 @@ fn take_step(side: Side, count: u16, bytes: &[u8]) -> Result<(Step, &[u8]), Fiel
     Ok((Step { to, token }, rest))
 }
 
-/// So many steps, one after the other.
+/// Takes `count` steps, one after the other.
 fn take_each_step(
     alloc: Global,
     side: Side,

@@ -79,7 +79,7 @@ impl Decoder {
     }
 
     /// Takes a piece of the stream, and appends the frames that are whole now, each without its
-    /// length field. After want of memory nothing was taken.
+    /// length field. Where memory was refused nothing was taken.
     pub fn feed(&mut self, piece: &[u8], frames: &mut Vec<Octets>) -> Result<(), FeedFault>
         ensures { Feeds self.old self.new piece.now frames.old.items frames.new.items result }
     {

@@ -20,7 +20,7 @@ pub fn take_names(alloc: Global, most: u16, bytes: &[u8]) -> Result<(Names, &[u8
     Ok((names, rest))
 }
 
-/// So many names, one after the other.
+/// Takes `count` names, one after the other.
 fn take_each_name(alloc: Global, count: u16, bytes: &[u8]) -> Result<(Names, &[u8]), FieldFault>
     ensures { GivesField (λ n. n) result (new_names_at count [] bytes.now) }
 {

@@ -119,7 +119,7 @@ pub fn write_request(request: &Request, out: &mut Vec<u8>) -> Result<(), Memory>
     requires { HasRequestLimits request.now }
     ensures ok { OnOk result (out.new.items ≡ out.old.items ++ request_bytes request.now) }
     ensures err { OnErr result (out.new.items ≡ out.old.items) }
-    // So what is written is read again.
+    // What is written can be read again.
     ensures form { HasRequestForm request.now }
 {
     has_request_form(request);

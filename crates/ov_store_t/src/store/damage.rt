@@ -6,7 +6,7 @@ use ov_store::{BeginFault, Store};
 use std::alloc::Global;
 use std::process::Abort;
 
-/// So many bytes has the book of the small store. The gates of its records stand at 78, 90, 100,
+/// The number of bytes in the book of the small store. The gates of its records are at 78, 90, 100,
 /// 247, 259 and 306, and the last gate at 320.
 const ALL: usize = 321;
 
