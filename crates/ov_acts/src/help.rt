@@ -96,7 +96,7 @@ pub const ABOUT: &str = "Owner and reader of an over-encrypted store on a server
 /// The words of the whole program.
 pub const USAGE: &str = "overctl COMMAND ADDRESS KEYS WORDS";
 
-/// What stands below the help of the whole program.
+/// What is below the help of the whole program.
 pub const AFTER: &str = after!("enrol", "127.0.0.1:7400 keys.hex alice");
 
 /// The version.

@@ -1,4 +1,4 @@
-//! Tests of `ov_acts`. Nothing stands here but tests: the contracts of what they call are proved
+//! Tests of `ov_acts`. There is nothing here but tests: the contracts of what they call are proved
 //! in that crate.
 #![tactic(auto)]
 

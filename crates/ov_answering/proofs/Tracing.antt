@@ -369,7 +369,7 @@ pub traced_all : (k : Masters) (p : PlainHistory) (input : Option (List ℕ)) (o
 traced_all k p None old mid new t_old t_new stop n status a f = tt
 traced_all k p (Some text) old mid new t_old t_new stop n status a f = traced_at k p text old mid new t_old t_new status stop n a f
 
--- the disk didn't open, for a fault of its or for want of memory
+-- the disk didn't open, for a fault of its or for lack of memory
 pub untraced_fault : (k : Masters) (p : PlainHistory) (input : Option (List ℕ)) (old new trace : Option (List ℕ)) (status : ℕ)
     → EndsIn disk_line 4 old new status ⊎ EndsIn memory_line 7 old new status → IfSome input (λ text. TracesAs k p text status old new trace trace)
 untraced_fault k p input old new trace status (inl e) = untraced_all k p input old new trace status Disk (λ text first. first) e

@@ -11,7 +11,7 @@ use Rattle.ov_history.specs.Plain.{PlainHistory}
 use Rattle.ov_model.specs.Lines.{lines}
 
 -- These bytes of a script are commands whose reply lines were all put, and behind them bytes that
--- leave it unsettled what item stands there: no whole command is among them that wasn't answered.
+-- leave it unsettled what item is there: no whole command is among them that wasn't answered.
 pub record AwaitsMore (p : PlainHistory) (seen : List ℕ) (old new : Option (List ℕ))
     : Type 0 where
   pub commands : List Command

@@ -1,7 +1,7 @@
 -- Counts of faults.
 use Rattle.std.specs.Prelude.{◌≡◌, ℕ, ◌+◌, ◌-◌, ◌^◌, ◌≤◌, Result, OnErr, MatchResult, min}
 
--- A count rose. One that stands at its last value can't, and is then said to have risen. A sum of
+-- A count rose. One that is at its last value can't, and is then said to have risen. A sum of
 -- counts rises where one of them does, and one that stands at this value or above is said to have
 -- risen too.
 abbrev pub Rose : ℕ → ℕ → Type 0

@@ -17,7 +17,7 @@ refusal_number BytesFull = 9
 refusal_number NodesFull = 10
 refusal_number Spent = 11
 
--- the word that stands behind the number in a reply line
+-- the word that follows the number in a reply line
 abbrev pub refusal_word : Refusal → List ℕ
 refusal_word Taken = codes "Taken"
 refusal_word NoUser = codes "NoUser"

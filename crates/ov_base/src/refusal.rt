@@ -26,7 +26,7 @@ pub enum Refusal {
     BytesFull,
     /// A layer would have more nodes than a store holds.
     NodesFull,
-    /// The epoch stands at its last value.
+    /// The epoch is at its last value.
     Spent,
 }
 

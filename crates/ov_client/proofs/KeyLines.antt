@@ -117,7 +117,7 @@ words_then : (root : ℕ) (digits rest : List ℕ)
     → root_words root digits ++ rest ≡ 32 ∷ (decimal root ++ 32 ∷ (digits ++ rest))
 words_then root digits rest = ap (λ l. 32 ∷ l) (append_assoc (decimal root) (32 ∷ digits) rest)
 
--- what stands behind a root's number and the space before it
+-- what follows a root's number and the space before it
 abbrev behind_root : ℕ → List ℕ → List ℕ → List ℕ
 behind_root root digits rest = decimal root ++ 32 ∷ (digits ++ rest)
 

@@ -58,7 +58,7 @@ first_word (a ∷ xs) (b ∷ ys) x y p q e =
     let same : xs ≡ ys = first_word xs ys x y p.1 q.1 tail in
     let head : a ≡ b = cc in cc
 
--- and so is what stands behind it
+-- and so is what follows it
 pub split_once : (text xs ys x y : List ℕ) → HasNoSpace xs → HasNoSpace ys
     → text ≡ xs ++ 32 ∷ x → text ≡ ys ++ 32 ∷ y → (xs ≡ ys) × (x ≡ y)
 split_once text xs ys x y p q one two =
@@ -123,7 +123,7 @@ nowhere (b ∷ bytes) none =
     λ e. none 0 (omega arith) (omega arith) (grind (arith, nat_tests)) in
     (first, nowhere bytes (passes_later b bytes (length bytes) none))
 
--- the first one, with what stands before and behind it
+-- the first one, with what is before and behind it
 pub parts_at : (bytes front back behind : List ℕ) (n : ℕ) → n < length bytes
     → Nowhere (Passes (is_byte 32) bytes) 0 n → Passes (is_byte 32) bytes n
     → front ≡ take n bytes → back ≡ drop n bytes → behind ≡ drop 1 back

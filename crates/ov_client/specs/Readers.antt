@@ -34,7 +34,7 @@ keys_along r c = record {
   surface = surface_along r.surface c.surface;
 }
 
--- what is under both coats of stored bytes, the first of which stands at this place of the file
+-- what is under both coats of stored bytes, the first of which is at this place of the file
 abbrev pub uncovered : FileKeys → ℕ → ℕ → List ℕ → List ℕ
 uncovered keys file start bytes =
     base_coat keys.access file start (coated keys.surface file start bytes)

@@ -20,7 +20,7 @@ use std::alloc::Global;
 // The digits of a key.
 const DIGITS: usize = 64;
 
-/// What stands before the first space, and behind it.
+/// What is before the first space, and behind it.
 fn split(text: &[u8]) -> Option<(&[u8], &[u8])>
     ensures found { IfSome result (λ p. HasNoSpace p.0.now
         × (text.now ≡ p.0.now ++ 32 ∷ p.1.now)) }
@@ -36,7 +36,7 @@ fn split(text: &[u8]) -> Option<(&[u8], &[u8])>
     }
 }
 
-/// What stands behind a space.
+/// What follows a space.
 fn behind_space(text: &[u8]) -> Option<&[u8]>
     ensures found { IfSome result (λ rest. text.now ≡ 32 ∷ rest.now) }
     ensures none { IfNone result ((rest : List ℕ) → text.now ≡ 32 ∷ rest → ⊥) }
@@ -80,7 +80,7 @@ fn root_of_bytes(word: &[u8]) -> Option<u32>
     }
 }
 
-/// A root's number and key, and what stands behind them.
+/// A root's number and key, and what follows them.
 fn root_and_key(text: &[u8]) -> Option<(u32, Key, &[u8])>
     ensures found { IfSome result (λ p. IsRoot text.now p.0 p.1.bytes p.2.now) }
     ensures none { IfNone result ((root : ℕ) (key rest : List ℕ)

@@ -50,7 +50,7 @@ impl Keys {
         }
     }
 
-    /// Takes both coats off stored bytes, the first of which stands at the place `start` of the
+    /// Takes both coats off stored bytes, the first of which is at the place `start` of the
     /// file.
     fn uncover(&self, file: u32, start: u64, bytes: &mut [u8])
         requires { start + length bytes.old ≤ 4294967296 }

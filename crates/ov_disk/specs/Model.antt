@@ -9,7 +9,7 @@ pub record Range : Type 0 where
   pub at : ℕ
   pub count : ℕ
 
--- a write since the last sync. In a list of them the last one stands first.
+-- a write since the last sync. In a list of them the last one is first.
 pub record Put : Type 0 where
   pub area : Area
   pub range : Range

@@ -11,7 +11,7 @@ pub record DiskTells (D : Type 0) : Type 1 where
   pub moment : D → ℕ
   -- what a crash at some moment from that one on might have left, during a call or between two
   pub left_since : D → ℕ → Image → Type 0
-  -- how often it has failed; the count stands still at 18,446,744,073,709,551,615
+  -- how often it has failed; the count stays at 18,446,744,073,709,551,615
   pub faults : D → ℕ
   -- which loan it is, for a disk that is itself behind a `&mut`, and 0 for any other
   pub borrow : D → ℕ

@@ -92,7 +92,7 @@ impl MemDisk {
         Ok(())
     }
 
-    /// How many calls there were. The number stands still at 18,446,744,073,709,551,615.
+    /// How many calls there were. The number stays at 18,446,744,073,709,551,615.
     pub fn calls(&self) -> u64
         ensures { result ≡ self.now.calls }
     {

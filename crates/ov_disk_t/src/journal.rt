@@ -38,7 +38,7 @@ fn bodies<D: Disk>(alloc: Global, disk: &mut D, journal: &Journal) -> Result<Vec
     Ok(all)
 }
 
-// What stands on a disk: u for unborn, f for another file, m for no mode, b for a length that can't
+// What is on a disk: u for unborn, f for another file, m for no mode, b for a length that can't
 // be, and else the number of records.
 fn standing(alloc: Global, disk: &mut MemDisk) -> u8 {
     match Journal::begin(alloc, disk) {
@@ -136,7 +136,7 @@ fn a_stop_after_each_call(rt: HostRuntime) -> Result<(), Fail> {
     Ok(())
 }
 
-// What stands on a disk where one call failed, if nothing since the last sync is kept, or all is.
+// What is on a disk where one call failed, if nothing since the last sync is kept, or all is.
 fn left_by_fault(rt: &impl Abort, alloc: Global, call: u64, tear: Tear) -> Result<u8, Fail> {
     let (disk, done) = written(alloc, call)?;
     assert!(rt; !done);
@@ -178,7 +178,7 @@ fn book(
     ))
 }
 
-// The length, the place and the value of the byte, what is behind it, and what stands there.
+// The length, the place and the value of the byte, what is behind it, and what is there.
 const BOOKS: [(usize, usize, u8, &[u8], u8); 18] = [
     // By length, with the first gate open and closed; then one byte longer.
     (0, 0, 1, b"", b'u'),

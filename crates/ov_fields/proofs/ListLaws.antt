@@ -101,7 +101,7 @@ sized_reads most =
       short = λ bytes fits. omega (arith, fits.1, le_of most n h.1);
     })
 
--- ---- what stands behind a flag
+-- ---- what follows a flag
 
 some_takes : {A : Type 0} (r : List ℕ → Read A) (s : A → List ℕ) (F : A → Type 0) (m : ℕ) → Reads r s F m
     → (b : Bool) (bytes : List ℕ) (x : Option A × List ℕ) → AreBytes bytes → some_at b r bytes ≡ Ok x → IfSome x.0 F × (flag b ∷ bytes ≡ optional s x.0 ++ x.1)

@@ -64,7 +64,7 @@ sized_places most small limited =
     (u32_places (at_most most) 0 most limited (at_most_limits most (2 ^ 32) small))
     (λ n h. refit_places (sized_by (λ bytes. Unit {0}) length n) (bytes_places n) (λ bytes is. (tt, is)))
 
--- ---- what stands behind a flag
+-- ---- what follows a flag
 
 front_some : {A : Type 0} {s : A → List ℕ} {F : A → Type 0} (w : List ℕ) → IsFront s F w → IsFront (optional s) (λ o. IfSome o F) (1 ∷ w)
 front_some w f = record { value = Some f.value; more = f.more; form = f.form; spelled = ap (λ (t : List ℕ). 1 ∷ t) f.spelled; bytes = f.bytes }

@@ -87,7 +87,7 @@ whole_fault {Once = Once} {Limited = Limited} {r = r} {s = s} {F = F} {m = m} R 
 
 -- ---- tables
 
--- what stands behind a kind byte in the spelling of a value
+-- what follows a kind byte in the spelling of a value
 abbrev pub tail_of : {U : Type 0} → U × List ℕ → List ℕ
 tail_of x = x.1
 

@@ -54,13 +54,13 @@ all_of read = do
 abbrev pub making : {A B : Type 0} → (A → B) → (List ℕ → Read A) → List ℕ → Read B
 making make read bytes = made make (read bytes)
 
--- what stands behind a kind byte, by the rows of a table: a kind, and how the bytes behind it are
+-- what follows a kind byte, by the rows of a table: a kind, and how the bytes behind it are
 -- read
 abbrev pub by_kind : {A : Type 0} → List (ℕ × (List ℕ → Read A)) → ℕ → List ℕ → Read A
 by_kind [] kind bytes = Err (length (kind ∷ bytes))
 by_kind (row ∷ rows) kind bytes = if kind == row.0 then row.1 bytes else by_kind rows kind bytes
 
--- a kind byte, and what stands behind it
+-- a kind byte, and what follows it
 abbrev pub by_rows : {A : Type 0} → List (ℕ × (List ℕ → Read A)) → List ℕ → Read A
 by_rows rows [] = Err 0
 by_rows rows (kind ∷ bytes) = by_kind rows kind bytes
@@ -164,7 +164,7 @@ abbrev pub some_at : {A : Type 0} → Bool → (List ℕ → Read A) → List �
 some_at true field bytes = made Some (field bytes)
 some_at false field bytes = Ok (None, bytes)
 
--- what stands behind a flag
+-- what follows a flag
 unfoldable pub optional_at : {A : Type 0} → (List ℕ → Read A) → List ℕ → Read (Option A)
 optional_at field bytes = do
   there ← flag_at bytes

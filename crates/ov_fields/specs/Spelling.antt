@@ -28,7 +28,7 @@ token_field token = token.bytes
 abbrev pub sized : List ℕ → List ℕ
 sized bytes = u32 (length bytes) ++ bytes
 
--- what stands behind a flag: 0, or 1 and the value
+-- what follows a flag: 0, or 1 and the value
 abbrev pub optional : {A : Type 0} → (A → List ℕ) → Option A → List ℕ
 optional field None = 0 ∷ []
 optional field (Some value) = 1 ∷ field value

@@ -66,7 +66,7 @@ bodies_once (u ∷ us) (v ∷ vs) fu fv same =
     let others = bodies_once us vs fu.1 fv.1 rest in
     λ i. first i ∷ others i
 
--- what stands behind the magic of a header
+-- what follows the magic of a header
 abbrev behind : Header → List ℕ
 behind h = to_be_bytes w32 h.first ++ h.base_check ++ h.surface_check
 

@@ -27,7 +27,7 @@ pub record IsFor (k : Keys) (mode : Mode) (h : Header) : Type 0 where
 
 -- ---- one record
 
--- The body of a record whose gate stands here is no update's spelling. The place is that at which
+-- The body of a record whose gate is here is no update's spelling. The place is that at which
 -- reading it ends: of the first field that no spelling goes on with, or of the body's end.
 pub record IsMisspelled (body : List ℕ) (gate place : ℕ) : Type 0 where
   pub at_byte : ℕ
@@ -56,7 +56,7 @@ pub record CanBeKept (mode : Mode) (first : ℕ) (g : SealedHistory) : Type 0 wh
   pub form : AllHaveForm g.updates
 
 -- The first bodies of a store of this mode and first epoch keep a history, and with the next one
--- this place is wrong. The first gate stands at place 78.
+-- this place is wrong. The first gate is at place 78.
 pub record HasBadRecord (mode : Mode) (first : ℕ) (bodies : List (List ℕ)) (place : ℕ) : Type 0
   where
     pub history : SealedHistory

@@ -13,7 +13,7 @@
 //! | `Damage` | a record that goes on with no history, a length that can't be, and the place |
 //! | `Laws` | the laws |
 //!
-//! A law stands as a public function with an empty body, whose contract is the law.
+//! A law is a public function with an empty body, whose contract is the law.
 //!
 //! | law | function |
 //! |---|---|

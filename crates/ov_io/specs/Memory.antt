@@ -19,7 +19,7 @@ pub record Writes : Type 0 where
   pub calls : ℕ
   pub faults : ℕ
 
--- The number of calls after one call more, which stands still at its last value.
+-- The number of calls after one call more, which stays at its last value.
 abbrev pub one_call : ℕ → ℕ
 one_call calls = min (calls + 1) (2 ^ 64 - 1)
 

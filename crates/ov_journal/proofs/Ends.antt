@@ -80,7 +80,7 @@ module _ (end : ℕ) (book : List ℕ) (ends : EndsAt end book) where
   pub parts : book ≡ front ++ gate ∷ rest
   parts = sym (take-append-drop end book) ∙ ap (λ (l : List ℕ). front ++ l) (drop_more book end 0 is_front.inside)
 
-  -- what stands at the end decides the rest
+  -- what is at the end decides the rest
   on_front : (t : List ℕ) (r : Records) → 1 ≤ length t → records_after 0 t ≡ r → contents_of (front ++ t) ≡ record { head = take 78 book; records = prepended bodies r }
   on_front t r some is =
       let records : records_after 78 (front ++ t) ≡ prepended bodies r = is_front.reads t some ∙ ap (prepended bodies) is in

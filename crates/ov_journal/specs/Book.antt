@@ -1,6 +1,6 @@
 -- What a Book says, read from the whole of it: a header of 78 bytes, and then records. A record is
 -- a gate of one byte, the length of its body in four bytes, and the body. The first gate that isn't
--- open ends the records, and what stands behind it doesn't count.
+-- open ends the records, and what follows it doesn't count.
 use Rattle.std.specs.Prelude.{◌≡◌, ◌<◌, ◌^◌, ℕ, zero, suc, ◌+◌, List, [], ◌∷◌, ◌++◌, length, take, drop}
 use Rattle.std.specs.Prelude.{Bool, true, false, ◌==◌, ◌&&◌, leb, codes}
 use Rattle.ov_base.specs.declared.limits.TheConstants.{MAX_RECORD_BYTES}

@@ -18,7 +18,7 @@ pub record Log : Type 0 where
   pub room : ℕ
   pub longest : ℕ
 
--- where the gates of these bodies stand, the first at this place
+-- where the gates of these bodies are, the first at this place
 abbrev pub gates_from : ℕ → List (List ℕ) → List ℕ
 gates_from place [] = []
 gates_from place (body ∷ bodies) = place ∷ gates_from (place + 5 + length body) bodies
@@ -28,7 +28,7 @@ abbrev pub end_from : ℕ → List (List ℕ) → ℕ
 end_from place [] = place
 end_from place (body ∷ bodies) = end_from (place + 5 + length body) bodies
 
--- Where a gate stands at the latest, if so many records stand before it: behind the header, and
+-- Where a gate is at the latest, if so many records stand before it: behind the header, and
 -- behind as many records with the longest bodies.
 abbrev pub latest_gate : ℕ → ℕ
 latest_gate before = HEADER + (RECORD_HEAD + MAX_RECORD_BYTES) * before
@@ -104,7 +104,7 @@ HasFront i bodies c =
 abbrev pub IsUnbornOrEmpty : Header → Image → Type 0
 IsUnbornOrEmpty header c = IsUnborn c.book ⊎ (contents_of c.book ≡ born header [])
 
--- a Book has this body in a record whose gate stands at this place
+-- a Book has this body in a record whose gate is at this place
 pub record IsRecord (gate : ℕ) (body book : List ℕ) : Type 0 where
   pub inside : gate + 5 + length body < length book
   pub open_gate : slice_index book gate ≡ 1

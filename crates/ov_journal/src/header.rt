@@ -23,7 +23,7 @@ pub struct Header {
 /// How many bytes a header has, its gate among them.
 pub(crate) const HEADER: u64 = 78;
 
-// What stands behind the header's gate.
+// What follows the header's gate.
 const MAGIC: [u8; 8] = *b"OVERENC0";
 
 // The header behind its gate, and the closed gate of a record that isn't there.

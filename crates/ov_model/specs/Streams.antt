@@ -2,7 +2,7 @@
 use Rattle.std.specs.Prelude.{ℕ, ◌≡◌, ◌⊎◌, List}
 use Rattle.ov_wire.specs.Frames.{IsCut, IsUnfinished, IsBadLength}
 
--- no whole frame stands at the front of these bytes
+-- no whole frame is at the front of these bytes
 abbrev pub IsEnd : List ℕ → Type 0
 IsEnd rest = IsUnfinished rest ⊎ IsBadLength rest
 

@@ -2,7 +2,7 @@
 //! to records.
 //!
 //! This crate has no code. Histories and the matrix that they make are those of ov_history. A law
-//! stands as a public function with an empty body, whose contract is the law.
+//! is a public function with an empty body, whose contract is the law.
 //!
 //! | file in `specs/` | says |
 //! |---|---|

@@ -12,7 +12,7 @@ pub record Playing : Type 0 where
   pub asks : ℕ
   pub faults : ℕ
 
--- a count after one more, which stands still at its last value
+-- a count after one more, which stays at its last value
 abbrev pub one_more : ℕ → ℕ
 one_more count = min (count + 1) (2 ^ 64 - 1)
 

@@ -37,7 +37,7 @@ pub record PeerTells (P : Type 0) : Type 1 where
   pub failed : P → List ℕ → P → Type 0
   -- it serves this sealed history under these keys; a peer that tells none serves none
   pub serves : P → Service → Type 0
-  -- how often it has failed; the count stands still at 18,446,744,073,709,551,615
+  -- how often it has failed; the count stays at 18,446,744,073,709,551,615
   pub faults : P → ℕ
   -- which loan it is, for a peer that is itself behind a `&mut`, and 0 for any other; each call
   -- keeps it

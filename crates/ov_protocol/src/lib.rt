@@ -26,7 +26,7 @@
 //! | `Replies` | the reply to each frame, and the updates that it makes |
 //! | `Laws` | the laws |
 //!
-//! A law stands as a public function with an empty body, whose contract is the law.
+//! A law is a public function with an empty body, whose contract is the law.
 //!
 //! | law | function |
 //! |---|---|

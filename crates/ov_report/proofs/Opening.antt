@@ -37,7 +37,7 @@ has_mode book h head (has, no_mode) =
     let past : 1 < get_or book 9 0 = no_mode in
     omega (arith, byte, past, byte_low h.mode)
 
--- what stands behind the first epoch of a header
+-- what follows the first epoch of a header
 behind_once : (g h : Header) → spelled g ≡ spelled h → g.base_check ++ g.surface_check ≡ h.base_check ++ h.surface_check
 behind_once g h same =
     let from : to_be_bytes w32 g.first ++ g.base_check ++ g.surface_check ≡ to_be_bytes w32 h.first ++ h.base_check ++ h.surface_check =

@@ -1,4 +1,4 @@
--- What stands behind the line of a body, once its bytes were gathered.
+-- What follows the line of a body, once its bytes were gathered.
 use Rattle.std.proofs.Common.{◌≡◌, ◌≢◌, ℕ, suc, ◌+◌, ◌<◌, ◌≤◌, List, [], ◌∷◌, ◌++◌, length, ap, length-append, arith, Option, Some, None, min}
 use Rattle.std.specs.Prelude.{IfSome}
 use Rattle.ov_io.specs.Calls.{TakesPieces}

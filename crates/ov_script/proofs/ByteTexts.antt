@@ -1,4 +1,4 @@
--- Texts that lack a byte, and where it stands first in others.
+-- Texts that lack a byte, and where it is first in others.
 use Rattle.std.proofs.Common.{◌≡◌, ℕ, zero, suc, ◌+◌, ◌≤◌, Bool, true, false, List, [], ◌∷◌, ◌++◌, length, take, drop, refl, sym, ◌∙◌, ap, subst, append_assoc, zero-add, arith, ◌==◌, take-append-drop}
 use Rattle.std.specs.Prelude.{not, if◌then◌else◌}
 use Rattle.std.specs.List.{list_all}
@@ -57,7 +57,7 @@ past_front c (a ∷ xs) (b ∷ ys) x y q e =
     let rest : length ys ≤ length xs = past_front c xs ys x y q.1 tail in
     omega arith
 
--- and that front begins what stands before it
+-- and that front begins what is before it
 pub front_before : (c : ℕ) (xs ys x y : List ℕ) → Lacks c xs → xs ++ x ≡ ys ++ c ∷ y → (z : List ℕ) × (ys ≡ xs ++ z)
 front_before c [] ys x y p e = (ys, refl)
 front_before c (a ∷ xs) [] x y p e = absurd (p.0 (cc))
@@ -94,6 +94,6 @@ lf_count-within (x ∷ xs) =
     let rest : lf_count xs ≤ length xs = lf_count-within xs in
     elim (x == 10) as (λ (t : Bool). (if t then 1 else 0) + lf_count xs ≤ suc (length xs)) [ true ↦ omega arith | false ↦ omega arith ]
 
--- a line with its LF counts as one more than what stands behind it
+-- a line with its LF counts as one more than what follows it
 pub lf_count-line : (line tail : List ℕ) → NoLf line → lf_count (line ++ 10 ∷ tail) ≡ 1 + lf_count tail
 lf_count-line line tail p = rw (lf_count-append line (10 ∷ tail), lf_count-NoLf line p) (omega arith)

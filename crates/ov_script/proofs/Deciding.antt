@@ -1,4 +1,4 @@
--- Every text has a reading: what stands at its front can be decided.
+-- Every text has a reading: what is at its front can be decided.
 use Rattle.std.proofs.Common.{◌≡◌, inl, inr, ℕ, zero, suc, ◌+◌, ◌-◌, ◌<◌, ◌≤◌, Bool, true, false, List, [], ◌∷◌, ◌++◌, length, take, drop, refl, sym, ◌∙◌, ap, subst, append_assoc, length-append, arith, take-append-drop}
 use Rattle.std.proofs.lemmas.Bool.{cases_lt}
 use Rattle.std.proofs.lemmas.List.{length-take-le, length-drop}
@@ -65,7 +65,7 @@ cut_at size text = elim (cases_lt size (length text)) as (λ _. Cut size text) [
       absurd (omega arith)
   further (b ∷ rest) e past = longer (take size text) rest b (length-take-le size text (omega arith)) (sym (take-append-drop size text) ∙ ap (λ t. take size text ++ t) (sym e))
 
--- whether an item stands there, or could
+-- whether an item is there, or could
 pub record AtBody (line text : List ℕ) : Type 0 where
   pub item : Decided (BeginsWithItem (line ++ 10 ∷ text))
   pub can : Decided (CanBegin (line ++ 10 ∷ text))
@@ -113,7 +113,7 @@ at_line line text lacks =
       }
     ]
 
--- whether an item stands at the front of a text
+-- whether an item is at the front of a text
 pub item_or_none : (text : List ℕ) → Decided (BeginsWithItem text)
 item_or_none text =
     elim (split_first text) as (λ _. Decided (BeginsWithItem text)) [

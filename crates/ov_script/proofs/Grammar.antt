@@ -71,7 +71,7 @@ item_from line tail (WithBody file names size) command p (body, count, t, c) =
     let item = create_item line file body names (subst (SaysCreate line file names) (sym count) p) in
     subst (λ z. IsItem (line ++ 10 ∷ z) command) (sym t) (subst (IsItem (line ++ 10 ∷ (body ++ 10 ∷ []))) (sym c) item)
 
--- of what stands behind the line of an item, its tail is the front
+-- of what follows the line of an item, its tail is the front
 pub record Behind (line z whole rest : List ℕ) (said : FirstLine) (command : Command) : Type 0 where
   pub tail : List ℕ
   pub completes : Completes said tail command

@@ -84,7 +84,7 @@ module _ {S : Type 0} (tells : SourceTells S) where
   below_wider few many E F pending old new h (last_gave_none mid seen t small step c end) =
       last_gave_none mid seen (pieces_as tells (λ seen. length (pending ++ seen) < few) (λ seen. length (pending ++ seen) < many) old mid seen (λ seen small. omega arith) t) (omega arith) step c end
 
-  -- takes for what stands behind the bytes that were used
+  -- takes for what follows the bytes that were used
   pub below_behind : (all few many : ℕ) (E F : Type 0) (a b : Fed S) (used : List ℕ) (new : S) → length used + few ≤ many → all ≤ many
       → UsesBelow tells all a b used → TakesBelow tells few b.pending E F b.source new → TakesBelow tells many a.pending E F a.source new
   below_behind all few many E F a b used new h whole (u, before) after' =
@@ -96,7 +96,7 @@ module _ {S : Type 0} (tells : SourceTells S) where
             let size : length (a.pending ++ (u.more ++ seen)) ≡ length used + length (b.pending ++ seen) = ap length joined ∙ length-append used (b.pending ++ seen) in
             omega arith
 
-  -- ---- while it is unsettled what item stands there
+  -- ---- while it is unsettled what item is there
 
   -- one more piece
   pub needs_more : (room : ℕ) (a b c : Fed S) (xs ys : List ℕ) → Takes tells a b xs → NeedsPieces tells room a b xs → IsUnsettled room b.pending

@@ -1,4 +1,4 @@
--- Where a byte stands first, as a search for it says.
+-- Where a byte is first, as a search for it says.
 use Rattle.std.proofs.Common.{◌≡◌, ℕ, zero, suc, ◌+◌, ◌<◌, ◌≤◌, List, [], ◌∷◌, ◌++◌, length, take, drop, refl, sym, ◌∙◌, ap, subst, append_assoc, length-append, arith, Some, None, take-append-drop}
 use Rattle.std.proofs.lemmas.Bool.Decides.{nat_tests}
 use Rattle.std.proofs.lemmas.List.{length-take-le, take_at}
@@ -36,7 +36,7 @@ nowhere_lacks c (b ∷ bytes) none =
     let first : (b ≡ c) → ⊥ = λ e. none 0 (omega arith) (omega arith) (grind (arith, nat_tests)) in
     (first, nowhere_lacks c bytes (Passes-later c b bytes (length bytes) none))
 
--- the first one, with what stands before and behind it
+-- the first one, with what is before and behind it
 pub parts_at : (c : ℕ) (bytes front back behind : List ℕ) (n : ℕ) → SplitsAt c bytes n → front ≡ take n bytes → back ≡ drop n bytes → behind ≡ drop 1 back → Lacks c front × (bytes ≡ front ++ c ∷ behind)
 parts_at c bytes front back behind n s f b t =
     let line : front ≡ s.line = f ∙ ap (take n) s.whole ∙ take_at s.line (c ∷ s.rest) n s.count in

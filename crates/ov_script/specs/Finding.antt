@@ -1,4 +1,4 @@
--- Inner: no public contract needs this. What stands at the front of a text, and what of it is used.
+-- Inner: no public contract needs this. What is at the front of a text, and what of it is used.
 use Rattle.std.specs.Prelude.{◌≡◌, ◌≢◌, ℕ, ◌+◌, ◌-◌, ◌<◌, ◌≤◌, List, [], ◌∷◌, ◌++◌, length, vec_len, Option, Result, Ok, Err, IfSome, ⊤, Vec}
 use Rattle.std.specs.Io.KnownBytes.{prepend_known}
 use Rattle.std.specs.declared.alloc.Global.{Global}
@@ -41,15 +41,15 @@ pub record IsOpen (room : ℕ) (bytes : List ℕ) : Type 0 where
   pub short : length bytes < MAX_LINE_BYTES
   pub unsettled : IsUnsettled room bytes
 
--- It is known what stands there whatever is left behind the bytes, or their line may go on.
+-- It is known what is there whatever is left behind the bytes, or their line may go on.
 abbrev pub IsSettled : ℕ → List ℕ → Result Seen Ended → Type 0
 IsSettled room bytes (Ok (Whole line)) = (left : Option (List ℕ)) → Finds room bytes left (Ok line)
 IsSettled room bytes (Ok (Open front)) = (front ≡ run Start bytes) × IsOpen room bytes
 IsSettled room bytes (Err ended) =
     (left : Option (List ℕ)) → IsWhyNone room (prepend_known bytes left) ended
 
--- What stands behind a line that has a body of so many bytes is no body and LF: the input ends
--- inside it, or no LF stands behind it.
+-- What follows a line that has a body of so many bytes is no body and LF: the input ends
+-- inside it, or no LF follows it.
 pub data IsBadBody (room size : ℕ) (text : List ℕ) : Type 0 where
   cut : length text ≤ room → length text ≤ size → IsBadBody room size text
   no_lf : (body rest : List ℕ) (b : ℕ) → length body ≡ size → size < room → b ≢ 10
@@ -63,7 +63,7 @@ IsWhyNoBody room size text Bad = IfSome text (IsBadBody room size)
 IsWhyNoBody room size text Long = IfSome text (λ t. (room < length t) × (room ≤ size))
 IsWhyNoBody room size text (Fault fault) = ⊤
 
--- These bytes were taken in pieces, while it was unsettled what item stands there.
+-- These bytes were taken in pieces, while it was unsettled what item was there.
 abbrev pub NeedsPieces : {S : Type 0} → SourceTells S → ℕ → Fed S → Fed S → List ℕ → Type 0
 NeedsPieces tells room old new more =
     TakesPieces tells (λ seen. IsUnsettled room (old.pending ++ seen))
@@ -83,7 +83,7 @@ TakesBelow tells count pending ended failed old new =
     TakesWhile tells (λ seen. length (pending ++ seen) < count) ended failed old new
 
 -- These bytes were used, and those of them that weren't pending were taken in pieces, while fewer
--- than so many stood there.
+-- than so many were there.
 abbrev pub UsesBelow : {S : Type 0} → SourceTells S → ℕ → Fed S → Fed S → List ℕ → Type 0
 UsesBelow tells count old new used =
     (uses : Uses tells old new used)
@@ -97,7 +97,7 @@ TakesLf tells old new Other =
     IfSome (text_of tells old) (λ text. (b : ℕ) × (rest : List ℕ) × (b ≢ 10) × (text ≡ b ∷ rest))
 TakesLf tells old new Nothing = IfSome (text_of tells old) (λ text. text ≡ [])
 
--- What stands behind the line of a `create`, of so many bytes, makes an item, or there is none.
+-- What follows the line of a `create`, of so many bytes, makes an item, or there is none.
 abbrev pub Creates : {S : Type 0} → SourceTells S → ℕ → List ℕ × List (List ℕ) → ℕ → ℕ → Fed S
     → Fed S → Result Item Ended → Type 0
 Creates tells room names line size old new (Ok item) =

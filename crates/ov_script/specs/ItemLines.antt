@@ -35,7 +35,7 @@ abbrev pub SaysLine : List ℕ → FirstLine → Type 0
 SaysLine line (Whole command) = SaysWhole line command
 SaysLine line (WithBody file names size) = SaysCreate line file names size
 
--- What stands behind the line's LF makes it this command.
+-- What follows the line's LF makes it this command.
 abbrev pub Completes : FirstLine → List ℕ → Command → Type 0
 Completes (Whole said) tail command = (tail ≡ []) × (command ≡ said)
 Completes (WithBody file names size) tail command =

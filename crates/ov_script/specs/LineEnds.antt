@@ -12,14 +12,14 @@ use Rattle.ov_script.specs.declared.front.Then.TheVariants.{End, LastName, Reade
 use Rattle.ov_script.specs.declared.front.Front.{Front}
 use Rattle.ov_script.specs.declared.front.Front.TheVariants.{Start, InStem, InWord, InName, AtReaders, Nobody, InSize, Done, Never}
 
--- The fewest bytes that may stand behind a name.
+-- The fewest bytes that may follow a name.
 abbrev pub fewest_after : Then → ℕ
 fewest_after End = 0
 fewest_after LastName = 2
 fewest_after Readers = 4
 fewest_after NextReader = 2
 
--- The fewest bytes that may stand behind a word.
+-- The fewest bytes that may follow a word.
 abbrev pub fewest_behind : Word → ℕ
 fewest_behind Enrol = 1
 fewest_behind Create = 5
@@ -29,7 +29,7 @@ fewest_behind Read = 3
 fewest_behind Word-List = 1
 fewest_behind Epoch = 0
 
--- The fewest bytes that may stand behind what several words begin with.
+-- The fewest bytes that may follow what several words begin with.
 abbrev pub fewest_from : Stem → ℕ
 fewest_from E = 4
 fewest_from R = 7

@@ -14,7 +14,7 @@ use Rattle.ov_script.specs.declared.front.Front.TheVariants.{Start, InStem, InWo
 
 -- ---- the word
 
--- A word, and a space where more stands behind it.
+-- A word, and a space where more follows it.
 abbrev pub spelling : Word → List ℕ
 spelling Enrol = codes "enrol "
 spelling Create = codes "create "

@@ -10,7 +10,7 @@ use Rattle.ov_script.specs.declared.next.Next.TheVariants.{Command, End, BadLine
 use Rattle.ov_script.specs.declared.next.ScriptFault.{ScriptFault}
 
 -- The source, the bytes that were taken from it and not yet used, the line on which the next item's
--- first byte stands, how many bytes of the script may still be read, and how the reading ended, if
+-- first byte is, how many bytes of the script may still be read, and how the reading ended, if
 -- it has.
 pub record Place (S : Type 0) : Type 0 where
   pub source : S

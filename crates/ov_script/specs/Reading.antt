@@ -12,7 +12,7 @@ pub data Ending : Type 0 where
   BadAt : (line : ℕ) → Ending
   TooLong : Ending
 
--- What stands here is a bad item, where so many bytes more may be read: the input ends inside it,
+-- What is here is a bad item, where so many bytes more may be read: the input ends inside it,
 -- or what may be read of it can't begin an item.
 pub data IsBad (room : ℕ) (text : List ℕ) : Type 0 where
   cut : 0 < length text → length text ≤ room → (BeginsWithItem text → ⊥) → IsBad room text

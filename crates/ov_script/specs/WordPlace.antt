@@ -8,6 +8,6 @@ pub record WordPlace : Type 0 where
   pub number : ℕ
   pub drawn : ℕ
 
--- The generator of a number whose next word stands at this place.
+-- The generator of a number whose next word is at this place.
 abbrev pub generator : ℕ → ℕ → ChaCha
 generator number place = record { key = key number; stream = 0; word_pos = place }

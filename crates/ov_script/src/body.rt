@@ -11,7 +11,7 @@ use crate::next::ScriptFault;
 use ov_base::Memory;
 use ov_io::Source;
 
-/// What stands behind a body.
+/// What follows a body.
 #[derive(Drop)]
 pub enum Behind {
     /// An LF.

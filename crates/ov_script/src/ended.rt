@@ -13,7 +13,7 @@ use ov_io::Fault;
 pub enum Ended {
     /// The text ends.
     End,
-    /// A bad item stands there.
+    /// A bad item is there.
     Bad,
     /// The text goes on past what may be read, which is no bad item.
     Long,

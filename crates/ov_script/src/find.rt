@@ -1,4 +1,4 @@
-//! What line stands at the front of a text, found over pieces of any size.
+//! What line is at the front of a text, found over pieces of any size.
 ghost use Rattle.std.specs.Prelude.{◌≡◌, ◌≢◌, ℕ, List, Option, ◌∷◌, ◌++◌, ◌<◌, ◌≤◌, length, take, Ok, Err, IfOk, IsErr, IfSome, IfNone, MatchBool};
 ghost use Rattle.std.specs.Io.KnownBytes.{IsAtEnd, prepend_known};
 ghost use Rattle.ov_io.specs.Calls.{IsCallOf};
@@ -72,7 +72,7 @@ fn line_at(bytes: &[u8], end: usize, alloc: Global) -> Result<Line, Ended>
     }
 }
 
-// What stands at the front of more than may be read, where no LF is among the bytes that may.
+// What is at the front of more than may be read, where no LF is among the bytes that may.
 fn front_of(bytes: &[u8], room: usize) -> Ended
     requires past { room < length bytes.now }
     requires no_lf { NoLf (take room bytes.now) }
@@ -135,7 +135,7 @@ fn settled(
     }
 }
 
-// What stands at the front where the text ends inside an item, or at once.
+// What is at the front where the text ends inside an item, or at once.
 fn at_end(count: usize) -> Ended
     ensures no_fault { result ≢ Ended.Fault ScriptFault.Read }
     ensures found { (room : ℕ) (bytes : List ℕ) (left : Option (List ℕ))
@@ -145,7 +145,7 @@ fn at_end(count: usize) -> Ended
     if count == 0 { Ended::End } else { Ended::Bad }
 }
 
-/// Takes bytes until it is known what stands at the front of the text, of which `room` bytes may be
+/// Takes bytes until it is known what is at the front of the text, of which `room` bytes may be
 /// read.
 pub fn find<S: Source + Drop>(feed: &mut Feed<S>, room: usize) -> Result<Line, Ended>
     ensures found { Finds room feed.new.pending (S.tells.left feed.new.source) result }

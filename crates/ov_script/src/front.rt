@@ -29,7 +29,7 @@ pub enum Stem {
     Re,
 }
 
-/// What stands behind a name.
+/// What follows a name.
 #[derive(Clone, Copy)]
 pub enum Then {
     /// The end of the line.
@@ -65,7 +65,7 @@ pub enum Front {
     Never,
 }
 
-/// The word, and a space where more stands behind it.
+/// The word, and a space where more follows it.
 pub fn spelling(word: Word) -> &'static [u8]
     ensures { result.now ≡ spelling word }
 {

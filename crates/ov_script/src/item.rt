@@ -1,4 +1,4 @@
-//! What item stands at the front of a text.
+//! What item is at the front of a text.
 ghost use Rattle.std.specs.Prelude.{◌≡◌, ◌+◌, ◌-◌, min, ◌≤◌, ◌<◌, length, IfOk, IsErr};
 ghost use Rattle.ov_io.specs.Calls.{IsCallOf};
 ghost use Rattle.ov_script.specs.Finding.{Tells, Creates, TakesBelow};
@@ -68,7 +68,7 @@ fn create<S: Source + Drop>(
     })
 }
 
-/// Uses the item that stands at the front of the text, of which `room` bytes may be read.
+/// Uses the item that is at the front of the text, of which `room` bytes may be read.
 pub fn item_of<S: Source + Drop>(feed: &mut Feed<S>, room: usize) -> Result<Item, Ended>
     ensures found { Tells S.tells room feed.old feed.new result }
     ensures size { IfOk result (λ item. (0 < item.size) × (item.lines ≤ item.size)) }

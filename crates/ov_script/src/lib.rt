@@ -22,7 +22,7 @@
 //! `create` are names, distinct and few, and that its bytes are no more than a file may have.
 //!
 //! Inside, a `Feed` is the source with the bytes that were taken and not yet used; `find` takes
-//! bytes until it knows what line stands at the front, by a `Front` that reads them one by one and
+//! bytes until it knows what line is at the front, by a `Front` that reads them one by one and
 //! by the fewest bytes that its line still needs; `read_line` says what a whole line says;
 //! `item_of` uses the line and the body behind it; and `Script` counts lines and room. All of them
 //! answer `Ended` where no item is read, which `Script` keeps.

@@ -5,7 +5,7 @@ ghost use Rattle.ov_script.specs.LineEnds.{fewest_after, fewest_behind, fewest_f
 use crate::front::{Front, Stem, Then, Word, spelling};
 use ov_base::limits::MAX_LINE_BYTES;
 
-// The fewest bytes that may stand behind a name.
+// The fewest bytes that may follow a name.
 fn fewest_after(next: Then) -> usize
     ensures { result ≡ fewest_after next }
 {
@@ -16,7 +16,7 @@ fn fewest_after(next: Then) -> usize
     }
 }
 
-// The fewest bytes that may stand behind a word.
+// The fewest bytes that may follow a word.
 fn fewest_behind(word: Word) -> usize
     ensures { result ≡ fewest_behind word }
 {
@@ -28,7 +28,7 @@ fn fewest_behind(word: Word) -> usize
     }
 }
 
-// The fewest bytes that may stand behind what several words begin with.
+// The fewest bytes that may follow what several words begin with.
 fn fewest_from(stem: Stem) -> usize
     ensures { result ≡ fewest_from stem }
 {

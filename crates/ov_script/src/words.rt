@@ -9,7 +9,7 @@ use crate::front::Front;
 use memchr::memchr;
 use ov_base::Name;
 
-/// What stands behind the word.
+/// What follows the word.
 pub fn behind<'a>(line: &'a [u8], word: &[u8]) -> Option<&'a [u8]>
     ensures found { IfSome result (λ rest. line.now ≡ word.now ++ rest.now) }
     ensures none { IfNone result ((rest : List ℕ) → line.now ≡ word.now ++ rest → ⊥) }
@@ -17,7 +17,7 @@ pub fn behind<'a>(line: &'a [u8], word: &[u8]) -> Option<&'a [u8]>
     line.strip_prefix(word)
 }
 
-/// What stands before the first such byte, and behind it.
+/// What is before the first such byte, and behind it.
 pub fn split(text: &[u8], byte: u8) -> Option<(&[u8], &[u8])>
     ensures found { IfSome result (λ p. Lacks byte p.0.now
         × (text.now ≡ p.0.now ++ byte ∷ p.1.now)) }

@@ -27,7 +27,7 @@ use Rattle.ov_session.proofs.Answering.{answered_both, cut_both, leads_both}
 requests_both : (es fs : List Exchange) → requests (es ++ fs) ≡ requests es ++ requests fs
 requests_both es fs = map-append (λ (e : Exchange). e.request) es fs
 
--- it appends to whatever frames stood there
+-- it appends to whatever frames were there
 takes_behind : (d d' : Decoding) (piece : List ℕ) (before frames : List (List ℕ))
     → Takes d d' piece [] frames → Takes d d' piece before (before ++ frames)
 takes_behind d d' piece before frames t = record {

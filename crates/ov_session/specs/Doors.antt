@@ -33,7 +33,7 @@ pub record IsUnused {S : Type 0} (d : Doorway S) : Type 0 where
   pub given : d.given ≡ 0
   pub open_ : d.closed ≡ false
 
--- the count rises exactly at an error; one that stands at its last value is said to have risen
+-- the count rises exactly at an error; one that is at its last value is said to have risen
 abbrev pub FailsExactly : {T E : Type 0} → ℕ → ℕ → Result T E → Type 0
 FailsExactly before now result =
     MatchResult result (λ _. now ≡ before) (λ _. Rose before now)

@@ -2,7 +2,7 @@
 use Rattle.std.specs.Prelude.{◌≡◌, ◌≢◌, ◌⊎◌, ℕ, List, []}
 use Rattle.ov_wire.specs.Frames.{IsBadLength, IsCut, IsUnfinished}
 
--- what may stand behind the frames of an input: nothing, a part of a frame, or a length field
+-- what may follow the frames of an input: nothing, a part of a frame, or a length field
 -- outside its limits
 abbrev pub IsTail : List ℕ → Type 0
 IsTail rest = (rest ≡ []) ⊎ (IsUnfinished rest ⊎ IsBadLength rest)

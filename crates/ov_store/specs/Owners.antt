@@ -52,7 +52,7 @@ Checks k g (Some place) = HasFalseUpdate k g place
 
 -- ---- one record after the other
 
--- The first records of Book are those of the history's updates. Others may stand behind them.
+-- The first records of Book are those of the history's updates. Others may follow them.
 pub record BeginsWith (g : SealedHistory) (i : Image) : Type 0 where
   pub sealed : IsSealed g
   pub form : AllHaveForm g.updates

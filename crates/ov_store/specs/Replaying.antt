@@ -25,7 +25,7 @@ pub record TakesBody (master : List ℕ) (old : Store) (body : List ℕ) (new : 
   pub rewritten : new.stored
       ≡ stored_after master (rewrites_of old.catalogue (brief update)) (text_of update) old.stored
 
--- The body of a record whose gate stands here spells an update that a store with this catalogue
+-- The body of a record whose gate is here spells an update that a store with this catalogue
 -- doesn't take. The place is that of the gate.
 pub record IsUntaken (c : Catalogue) (body : List ℕ) (gate place : ℕ) : Type 0 where
   pub update : SealedUpdate

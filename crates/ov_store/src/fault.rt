@@ -17,7 +17,7 @@ pub enum StoreFault {
     /// this is the place of that number or flag in the update's spelling.
     #[error("the update's tokens are not those of the plan (byte {at})")]
     BadPlan { at: u32 },
-    /// A call of the disk failed. What stands on the disk is known once the store is opened again.
+    /// A call of the disk failed. What is on the disk is known once the store is opened again.
     #[error("the disk failed")]
     Disk,
     /// Since this store was opened, an update answered `Disk`.

@@ -18,7 +18,7 @@ use ov_tokens::Master;
 use ov_vault::{CatalogueVault, Vault};
 use std::alloc::Global;
 
-// Takes the record with this body, whose gate stands at this place.
+// Takes the record with this body, whose gate is at this place.
 fn take_record(
     alloc: Global,
     vault: &mut CatalogueVault,

@@ -35,7 +35,7 @@ fn coat(key: Option<&Key>, file: u32, start: u64, bytes: &mut [u8])
 }
 
 /// Turns a file's stored bytes under its old surface into those under its new one; without a key it
-/// has no surface. The first of the bytes stands at the place `start` of the file. It takes no
+/// has no surface. The first of the bytes is at the place `start` of the file. It takes no
 /// memory.
 pub fn reencrypt(old: Option<&Key>, new: Option<&Key>, file: u32, start: u64, bytes: &mut [u8])
     requires { start + length bytes.old ≤ 4294967296 }

@@ -21,7 +21,7 @@ use Rattle.ov_transcript.specs.Talking.{IsPut}
 use Rattle.ov_transcript.specs.Transcripts.{IsFrontFrom, broken_off, failed_reply, frames}
 use Rattle.ov_transcript.specs.Transcripts.{frames_of, left_unless, says_refused}
 
--- a front of bytes, from some of what stands behind other bytes on
+-- a front of bytes, from some of what follows other bytes on
 front_within : (n : ℕ) (xs ys : List ℕ) → (m : ℕ) × (take n xs ≡ take m (xs ++ ys))
 front_within n xs ys =
     let short : min n (length xs) ≤ length xs = omega arith in

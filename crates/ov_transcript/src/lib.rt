@@ -15,7 +15,7 @@
 //! | `Bytes` | histories that differ in the bytes of their files alone |
 //! | `Laws` | the laws |
 //!
-//! A law stands as a public function with an empty body, whose contract is the law.
+//! A law is a public function with an empty body, whose contract is the law.
 //!
 //! | law | function |
 //! |---|---|

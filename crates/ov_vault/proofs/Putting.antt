@@ -28,7 +28,7 @@ change-behind : (f : List ℕ → List ℕ) (xs : List (List ℕ)) (y : List ℕ
 change-behind f [] y = refl
 change-behind f (x ∷ xs) y = ap (λ zs. x ∷ zs) (change-behind f xs y)
 
--- what stands at another place stays
+-- what is at another place stays
 change-other : (f : List ℕ → List ℕ) (n m : ℕ) (xs : List (List ℕ)) → n < m
     → slice_index_or (change_at f n xs) m [] ≡ slice_index_or xs m []
 change-other f n m [] low = refl

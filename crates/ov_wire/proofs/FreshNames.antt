@@ -11,7 +11,7 @@ use Rattle.ov_fields.proofs.ReadingLaws.{AreBytes}
 use Rattle.ov_fields.proofs.PlaceLaws.{AreBytes-nil, AreBytes-cons, AreBytes-both}
 use Rattle.ov_wire.proofs.NamesLaws.{AreNew}
 
--- what stands behind this byte in the names that begin with it
+-- what follows this byte in the names that begin with it
 behind_byte : ℕ → List (List ℕ) → List (List ℕ)
 behind_byte b [] = []
 behind_byte b ([] ∷ names) = behind_byte b names

@@ -22,7 +22,7 @@ use Rattle.ov_wire.specs.RequestReading.{names_at}
 use Rattle.ov_wire.specs.AnswersTo.{create_refusals, read_refusals, ask_refusals, update_refusals, files_of, nodes_of, most_chunk, wants_of}
 use Rattle.ov_wire.specs.Places.{in_frame}
 
--- a row of a table: a kind byte, and how what stands behind it is read
+-- a row of a table: a kind byte, and how what follows it is read
 abbrev pub Row : Type 0
 Row = ℕ × (List ℕ → Read Answer)
 
@@ -127,7 +127,7 @@ greater_at n = number_that w32 (between (n + 1) 4294967295)
 abbrev pub next_at : ℕ → List ℕ → Read ℕ
 next_at n = number_that w32 (between (n + 1) (n + 1))
 
--- ---- each kind byte that may come, and how what stands behind it is read
+-- ---- each kind byte that may come, and how what follows it is read
 
 -- of an answer to Hello
 abbrev pub hello_rows : List Row

@@ -8,7 +8,7 @@ use Rattle.ov_wire.specs.declared.state.State.{State}
 use Rattle.ov_wire.specs.declared.state.State.TheVariants as states
 use Rattle.ov_wire.specs.Frames.{framed, IsFrame, IsFrameLength, IsCut, IsBadLength, state_rest, is_bad, IsState}
 
--- what stands at the front of these bytes
+-- what is at the front of these bytes
 abbrev pub IsFound : List ℕ → Found → Type 0
 IsFound bytes (found.InLength head filled) =
     (bytes ≡ take filled head) × (length head ≡ 4) × (filled < 4)

@@ -90,7 +90,7 @@ page_at = byte_at any >> number_at w32
 abbrev pub page : ℕ × ℕ → Request
 page (part, number) = requests.Page part number
 
--- each kind byte, and how what stands behind it is read
+-- each kind byte, and how what follows it is read
 abbrev pub request_rows : List (ℕ × (List ℕ → Read Request))
 request_rows =
     (1, making (λ f. requests.Hello) nothing_at)

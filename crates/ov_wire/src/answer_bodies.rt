@@ -1,4 +1,4 @@
-//! What stands behind the kind byte of each answer.
+//! What follows the kind byte of each answer.
 
 ghost use Rattle.std.specs.Prelude.{◌≡◌, false, true, [], ◌∷◌};
 ghost use Rattle.ov_base.specs.Modes.{mode_byte};

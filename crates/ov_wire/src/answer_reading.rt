@@ -31,7 +31,7 @@ fn no_answer(body: &[u8]) -> FieldFault
     }
 }
 
-/// The answer to Hello that stands behind this kind byte.
+/// The answer to Hello that follows this kind byte.
 fn to_hello(kind: u8, body: &[u8]) -> Result<(Answer, &[u8]), FieldFault>
     ensures { GivesField (λ a. a) result (by_kind hello_rows kind body.now) }
 {
@@ -42,7 +42,7 @@ fn to_hello(kind: u8, body: &[u8]) -> Result<(Answer, &[u8]), FieldFault>
     }
 }
 
-/// The answer to Ask that stands behind this kind byte.
+/// The answer to Ask that follows this kind byte.
 fn to_ask<'a>(
     question: &Question,
     kind: u8,
@@ -58,7 +58,7 @@ fn to_ask<'a>(
     }
 }
 
-/// The answer to Cover that stands behind this kind byte.
+/// The answer to Cover that follows this kind byte.
 fn to_cover(alloc: Global, kind: u8, body: &[u8]) -> Result<(Answer, &[u8]), FieldFault>
     ensures { GivesField (λ a. a) result (by_kind cover_rows kind body.now) }
 {
@@ -70,7 +70,7 @@ fn to_cover(alloc: Global, kind: u8, body: &[u8]) -> Result<(Answer, &[u8]), Fie
     }
 }
 
-/// The answer to Update that stands behind this kind byte.
+/// The answer to Update that follows this kind byte.
 fn to_update<'a>(
     made_at: u32,
     spelling: &[u8],
@@ -91,7 +91,7 @@ fn to_update<'a>(
     }
 }
 
-/// The answer to Chain that stands behind this kind byte.
+/// The answer to Chain that follows this kind byte.
 fn to_chain(alloc: Global, kind: u8, body: &[u8]) -> Result<(Answer, &[u8]), FieldFault>
     ensures { GivesField (λ a. a) result (by_kind chain_rows kind body.now) }
 {
@@ -103,7 +103,7 @@ fn to_chain(alloc: Global, kind: u8, body: &[u8]) -> Result<(Answer, &[u8]), Fie
     }
 }
 
-/// The answer to Chunk that stands behind this kind byte.
+/// The answer to Chunk that follows this kind byte.
 fn to_chunk(
     alloc: Global,
     asked: u32,
@@ -123,7 +123,7 @@ fn to_chunk(
     }
 }
 
-/// The answer to Page that stands behind this kind byte.
+/// The answer to Page that follows this kind byte.
 fn to_page(alloc: Global, part: u8, kind: u8, body: &[u8]) -> Result<(Answer, &[u8]), FieldFault>
     ensures { GivesField (λ a. a) result (by_kind (page_rows part) kind body.now) }
 {
@@ -134,7 +134,7 @@ fn to_page(alloc: Global, part: u8, kind: u8, body: &[u8]) -> Result<(Answer, &[
     }
 }
 
-/// The answer to List that stands behind this kind byte.
+/// The answer to List that follows this kind byte.
 fn to_list(alloc: Global, kind: u8, body: &[u8]) -> Result<(Answer, &[u8]), FieldFault>
     ensures { GivesField (λ a. a) result (by_kind list_rows kind body.now) }
 {
@@ -160,7 +160,7 @@ fn take_answer<'a>(
     }
 }
 
-/// The answer to this request that stands behind this kind byte.
+/// The answer to this request that follows this kind byte.
 fn answer_to<'a>(
     alloc: Global,
     request: &Request,

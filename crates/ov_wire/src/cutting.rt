@@ -8,7 +8,7 @@ use ov_base::limits::MAX_FRAME_BYTES;
 use ov_base::{Memory, Octets};
 use std::alloc::Global;
 
-/// What stands at the front of bytes.
+/// What is at the front of bytes.
 pub enum Found<'a> {
     /// A part of a length field.
     InLength { head: [u8; 4], filled: usize },
@@ -30,7 +30,7 @@ fn filled_with(head: [u8; 4], filled: usize, front: &[u8]) -> [u8; 4]
     bytes
 }
 
-/// What stands at the front of the bytes, of which so many of a length field came before.
+/// What is at the front of the bytes, of which so many of a length field came before.
 pub fn find(head: [u8; 4], filled: usize, bytes: &[u8]) -> Found<'_>
     requires { filled < 4 }
     ensures { IsFound (take filled head ++ bytes.now) result }
@@ -46,7 +46,7 @@ pub fn find(head: [u8; 4], filled: usize, bytes: &[u8]) -> Found<'_>
     find_behind(filled_with(head, filled, front), rest)
 }
 
-/// What stands behind a whole length field.
+/// What follows a whole length field.
 fn find_behind(head: [u8; 4], bytes: &[u8]) -> Found<'_>
     ensures { IsFound (head ++ bytes.now) result }
 {

@@ -54,7 +54,7 @@ fn take_question(bytes: &[u8]) -> Result<(Question, &[u8]), FieldFault>
     }
 }
 
-/// What stands behind the kind byte of an Ask.
+/// What follows the kind byte of an Ask.
 fn take_ask(bytes: &[u8]) -> Result<(Request, &[u8]), FieldFault>
     ensures { GivesField (λ r. r) result (making requests.Ask question_at bytes.now) }
 {
@@ -62,7 +62,7 @@ fn take_ask(bytes: &[u8]) -> Result<(Request, &[u8]), FieldFault>
     Ok((Request::Ask { question }, rest))
 }
 
-/// What stands behind the kind byte of a Cover.
+/// What follows the kind byte of a Cover.
 fn take_cover(alloc: Global, bytes: &[u8]) -> Result<(Request, &[u8]), FieldFault>
     ensures { GivesField (λ r. r) result (making cover cover_at bytes.now) }
 {
@@ -77,7 +77,7 @@ fn take_cover(alloc: Global, bytes: &[u8]) -> Result<(Request, &[u8]), FieldFaul
     Ok((request, rest))
 }
 
-/// What stands behind the kind byte of an Update.
+/// What follows the kind byte of an Update.
 fn take_update(alloc: Global, bytes: &[u8]) -> Result<(Request, &[u8]), FieldFault>
     ensures { GivesField (λ r. r) result (making update update_at bytes.now) }
 {
@@ -92,7 +92,7 @@ fn take_update(alloc: Global, bytes: &[u8]) -> Result<(Request, &[u8]), FieldFau
     Ok((request, rest))
 }
 
-/// What stands behind the kind byte of a Chain.
+/// What follows the kind byte of a Chain.
 fn take_chain(bytes: &[u8]) -> Result<(Request, &[u8]), FieldFault>
     ensures { GivesField (λ r. r) result (making chain chain_at bytes.now) }
 {
@@ -101,7 +101,7 @@ fn take_chain(bytes: &[u8]) -> Result<(Request, &[u8]), FieldFault>
     Ok((Request::Chain { user, file }, rest))
 }
 
-/// What stands behind the kind byte of a Chunk.
+/// What follows the kind byte of a Chunk.
 fn take_chunk(bytes: &[u8]) -> Result<(Request, &[u8]), FieldFault>
     ensures { GivesField (λ r. r) result (making chunk chunk_at bytes.now) }
 {
@@ -118,7 +118,7 @@ fn take_chunk(bytes: &[u8]) -> Result<(Request, &[u8]), FieldFault>
     Ok((request, rest))
 }
 
-/// What stands behind the kind byte of a Page.
+/// What follows the kind byte of a Page.
 fn take_page(bytes: &[u8]) -> Result<(Request, &[u8]), FieldFault>
     ensures { GivesField (λ r. r) result (making page page_at bytes.now) }
 {
@@ -127,7 +127,7 @@ fn take_page(bytes: &[u8]) -> Result<(Request, &[u8]), FieldFault>
     Ok((Request::Page { part, number }, rest))
 }
 
-/// What stands behind the kind byte of a List.
+/// What follows the kind byte of a List.
 fn take_list(bytes: &[u8]) -> Result<(Request, &[u8]), FieldFault>
     ensures { GivesField (λ r. r) result (making requests.List name_at bytes.now) }
 {

@@ -30,7 +30,7 @@ pub fn words_of(rt: &HostRuntime) -> io::Result<Vec<String>> {
     Ok(words)
 }
 
-/// Takes the places of standard streams that are closed, so that no other file comes to stand
+/// Takes the places of standard streams that are closed, so that no other file ends up
 /// there. Where they are open it takes three places that nobody uses.
 pub fn held_places(rt: &HostRuntime) -> (io::Result<File>, io::Result<File>, io::Result<File>) {
     (

@@ -226,7 +226,7 @@ fn answer_words<W: Write>(rt: &HostRuntime, words: &[String], replies: &mut Watc
     }
 }
 
-// Takes the places of standard streams that are closed, so that no file of the store comes to stand
+// Takes the places of standard streams that are closed, so that no file of the store ends up
 // there. Where they are open it takes three places that nobody uses.
 fn held_places(rt: &HostRuntime) -> (io::Result<File>, io::Result<File>, io::Result<File>) {
     (

@@ -153,7 +153,7 @@ fn answer_words<N: Net + Wait + AllocGlobal + Copy + Drop>(
     }
 }
 
-// Takes the places of standard streams that are closed, so that no file of the store comes to stand
+// Takes the places of standard streams that are closed, so that no file of the store ends up
 // there. Where they are open it takes three places that nobody uses.
 fn held_places(rt: &HostRuntime) -> (io::Result<File>, io::Result<File>, io::Result<File>) {
     (

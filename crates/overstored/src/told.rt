@@ -56,7 +56,7 @@ pub fn no_line(rt: &HostRuntime) {
     advise(rt, NO_LINE.1);
 }
 
-// The line of a text on which this byte stands, counted from 1.
+// The line of a text on which this byte is, counted from 1.
 fn line_of(bytes: &[u8], at: usize) -> usize {
     1 + bytes.iter().take(at).filter(|byte| **byte == b'\n').count()
 }

@@ -128,7 +128,7 @@ fn damage_and_where_it_is(rt: HostRuntime) {
     }
 }
 
-/// With all else wrong too, what stands first is told.
+/// With all else wrong too, the first wrong place is told.
 #[test]
 fn causes_in_their_order(rt: HostRuntime) {
     let alloc = rt.alloc();
