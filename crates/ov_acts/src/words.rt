@@ -87,7 +87,7 @@ struct Taken<'a> {
     path: &'a str,
 }
 
-/// The act of the words that stand behind an address and keys.
+/// The act of the words behind an address and keys.
 fn act_of<'a>(
     alloc: Global,
     command: &str,

@@ -1,7 +1,7 @@
 //! How acts end: each status by a row of its own, over peers that give fixed replies.
 //!
-//! A test function is proved too, so the rows stand in statics, of which no proof computes
-//! anything, and one helper calls `act`.
+//! A test function is proved too, so the rows are in statics, of which no proof computes anything,
+//! and one helper calls `act`.
 mod replies;
 mod rows;
 

@@ -46,7 +46,7 @@ front_rows front = front.row_0 ∷ front.row_1 ∷ front.row_2 ∷ front.row_3 �
 
 -- of blocks that are this one but for the last byte: the last byte's key; column 0 after round 1
 -- without the terms of the last byte; and all of round 2 without the terms of that column. Column 0
--- stands by the columns to which round 2 moves its bytes
+-- is arranged by the columns to which round 2 moves its bytes
 pub record IsFront (front : Front) (w : List (List ℕ)) (block : List ℕ) : Type 0 where
   pub last : (b c : ℕ) → b < 4 → c < 4
       → from_tower (slice_index front.last (4 * b + c)) ≡ slice_index (word_in w 3) 3

@@ -49,7 +49,7 @@ pub fn last_terms(last: u8x16) -> u8x16
     )
 }
 
-/// The terms of a round that come from the bytes of the first column, which stand by the columns to
+/// The terms of a round that come from the bytes of the first column, arranged by the columns to
 /// which the round moves them.
 #[inline(always)]
 pub fn column_terms(column: u8x16) -> Rows

@@ -23,7 +23,7 @@ use std::alloc::Global;
 pub enum Stop {
     /// The script ended.
     End,
-    /// A bad item stands at this line.
+    /// A bad item is at this line.
     BadLine(u64),
     /// The script is too long.
     Long,

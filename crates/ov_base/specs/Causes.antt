@@ -2,8 +2,8 @@
 use Rattle.std.specs.Prelude.{◌≡◌, ℕ, ◌+◌, ◌-◌, ◌^◌, ◌≤◌, Result, OnErr, MatchResult, min}
 
 -- A count rose. One that is at its last value can't, and is then said to have risen. A sum of
--- counts rises where one of them does, and one that stands at this value or above is said to have
--- risen too.
+-- counts rises where one of them does, and one that is at this value or above is said to have risen
+-- too.
 abbrev pub Rose : ℕ → ℕ → Type 0
 Rose before now = min (before + 1) (2 ^ 64 - 1) ≤ now
 
@@ -12,7 +12,7 @@ pub record HasCause {T E : Type 0} (before now : ℕ) (result : Result T E) : Ty
   pub later : before ≤ now
   pub failed : OnErr result (Rose before now)
 
--- the count stays at Ok, and rises by one at an error; at its last value it stands still
+-- the count stays at Ok, and rises by one at an error; at its last value it stays
 abbrev pub Counts : {T E : Type 0} → ℕ → ℕ → Result T E → Type 0
 Counts before now result =
     MatchResult result (λ _. now ≡ before) (λ _. now ≡ min (before + 1) (2 ^ 64 - 1))

@@ -11,7 +11,7 @@ is_letter_or_digit b = (nat_le 97 b && nat_le b 122) || (nat_le 48 b && nat_le b
 abbrev pub is_name_byte : ℕ → Bool
 is_name_byte b = is_letter_or_digit b || b == 46 || b == 95 || b == 45
 
--- a letter or a digit, and then fewer than MAX_NAME_BYTES bytes that may stand in a name
+-- a letter or a digit, and then fewer than MAX_NAME_BYTES bytes that a name may have
 abbrev pub is_name : List ℕ → Bool
 is_name [] = false
 is_name (first ∷ rest) =

@@ -3,8 +3,8 @@ ghost use Rattle.ov_base_layer.specs.Laws.{AccessAddsItsUser, AgainChangesNothin
 ghost use Rattle.ov_base_layer.specs.Laws.{SetsChangeNoHolders, AccessesLead, CoversAreSealed};
 ghost use Rattle.ov_base_layer.specs.Laws.{EdgesLead};
 
-/// How holders change: not by a set that is added, nor by access for who is a holder; access for
-/// another user makes that user a holder of that node alone.
+/// How holders change: not by a set that is added, nor by access for a user who is a holder; access
+/// for another user makes that user a holder of that node alone.
 pub fn holders_grow()
     ensures sets { SetsChangeNoHolders }
     ensures access { AccessAddsItsUser }

@@ -4,9 +4,9 @@
 //! A file that is created for a list of users is encrypted under the access key of the node whose
 //! set is the list. Each user of the set reaches the node over the edges. A user who is granted the
 //! file later, and doesn't hold the node, gets an access token: it leads from the derivation key of
-//! the user's own root to the access key of the node, and so to nothing else. The *holders* of a
-//! node are its set's users and all to whom an access token to the node was published; who became a
-//! holder stays one.
+//! the user's own root to the access key of the node, and to nothing else. The *holders* of a node
+//! are its set's users and all to whom an access token to the node was published; a user who became
+//! a holder stays one.
 //!
 //! A [`BaseLayer`] keeps both over any [`ov_graph::Graph`]. A set is added as to a graph: planned
 //! by [`BaseLayer::plan_create`], sealed by [`seal_cover`], with room from [`BaseLayer::reserve`].

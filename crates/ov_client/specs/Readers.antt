@@ -1,4 +1,4 @@
--- Who reads a file, and the keys that follow from the chains that the reader is told.
+-- The reader of a file, and the keys that follow from the chains that the reader is told.
 use Rattle.std.specs.Prelude.{ℕ, List, Option, Some, None, Result, Ok, Err, bytes_eq}
 use Rattle.std.specs.Prelude.{if◌then◌else◌}
 use Rattle.ov_tokens.specs.declared.chain.Chain.{Chain}

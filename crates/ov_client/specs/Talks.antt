@@ -19,7 +19,7 @@ use Rattle.ov_client.specs.declared.telling.Fetched.{Fetched}
 use Rattle.ov_client.specs.declared.telling.Fetched.TheVariants.{Bytes, Moved}
 use Rattle.ov_client.specs.declared.reading.TheConstants.{TRIES}
 
--- Where a reader stands. It asks Chain, after tries at these generations that were all answered
+-- The stages of a reader. It asks Chain, after tries at these generations that were all answered
 -- Moved, the last of which told the least generation that may come; or it asks the next Chunk of a
 -- file to which these chains lead, after these stored bytes came; or the read is done.
 pub data Stage : Type 0 where

@@ -1,4 +1,4 @@
-//! Who reads.
+//! The reader of a store.
 ghost use Rattle.std.specs.Prelude.{◌≡◌, ◌<◌};
 ghost use Rattle.ov_base.specs.declared.limits.TheConstants.{MAX_LAYER_NODES};
 

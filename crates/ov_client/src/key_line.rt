@@ -152,7 +152,7 @@ impl Client {
         Ok(out.extend_from_slice(&text)?)
     }
 
-    /// The reader whose keys stand in a line. The line may lack its LF.
+    /// The reader whose keys are in a line. The line may lack its LF.
     pub fn from_line(text: &[u8]) -> Option<Client>
         ensures found { IfSome result (IsLineOf text.now) }
         ensures none { IfNone result ((r : Reader) → IsLineOf text.now r → ⊥) }

@@ -44,8 +44,8 @@
 //! | `Laws` | the laws |
 //! | `Told` | what a read gives over a peer that tells its history |
 //!
-//! Nothing is claimed of secrecy, nor of a peer that tells nothing beyond what its replies say: who
-//! holds the file's access key can make bytes that have its tag.
+//! Nothing is claimed of secrecy, nor of a peer that tells nothing beyond what its replies say:
+//! anyone who holds the file's access key can make bytes that have its tag.
 #![tactic(auto)]
 
 mod asking;

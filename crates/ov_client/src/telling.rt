@@ -20,7 +20,7 @@ pub enum Fetched {
     Moved(u32),
 }
 
-// Where the fields of a Chained stand in its frame, and how many bytes a step has.
+// Where the fields of a Chained are in its frame, and how many bytes a step has.
 const GENERATION: u32 = 13;
 
 const BASE_ROOT: u32 = 49;

@@ -1,5 +1,5 @@
--- Inner: no public contract needs this. The laws of a disk in memory, which stand here since an
--- impl cites its laws from specs alone, and specs cite no proofs.
+-- Inner: no public contract needs this. The laws of a disk in memory, which are here since an impl
+-- cites its laws from specs alone, and specs cite no proofs.
 use Rattle.std.proofs.Common.{◌≡◌, ℕ, ◌+◌, ◌≤◌, List, [], ◌∷◌, ◌++◌, length, take, drop, Option, Some, None, Bool, true, false, if◌then◌else◌, leb, refl, sym, ◌∙◌, ap, subst, arith, append_assoc, length-append, length-drop}
 use Rattle.std.proofs.lemmas.List.{take_at, drop_at, take_all, length-take-le}
 use Rattle.std.proofs.lemmas.Bool.{leb-true}

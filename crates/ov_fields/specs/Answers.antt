@@ -1,4 +1,4 @@
--- How what a call returned stands to what is read.
+-- How what a call returned agrees with what is read.
 use Rattle.std.specs.Prelude.{◌≡◌, ℕ, List, Option, Some, None, Result, Ok, Err, IfSome}
 use Rattle.std.specs.Borrow.{Bor}
 use Rattle.ov_fields.specs.declared.fault.FieldFault.{FieldFault}

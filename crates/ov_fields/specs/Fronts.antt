@@ -17,7 +17,7 @@ pub record IsFront {A : Type 0} (spell : A → List ℕ) (Form : A → Type 0) (
   pub spelled : spell value ≡ front ++ more
   pub bytes : AreAllBytes more
 
--- What of a field may stand right before a place, where the bytes from the place on are these:
+-- What of a field may come right before a place, where the bytes from the place on are these:
 -- nothing; the first bytes of a name, where `Once` says that names mustn't come twice; and the
 -- first bytes of a number, where the bytes end.
 pub data IsBegun (Once : Type 0) (begun rest : List ℕ) : Type 0 where

@@ -32,7 +32,7 @@ made make read = do
   a ← read
   Ok (make a.0, a.1)
 
--- the bytes that are read, as they stand
+-- the bytes that are read, as they are
 abbrev pub spanned : {A : Type 0} → (List ℕ → Read A) → List ℕ → Read (List ℕ)
 spanned read bytes = do
   a ← read bytes
@@ -172,7 +172,7 @@ optional_at field bytes = do
 
 -- ---- names and tokens
 
--- a letter or a digit, and then so many bytes that may stand in a name
+-- a letter or a digit, and then this many bytes that a name may have
 abbrev pub text_at : ℕ → List ℕ → Read (List ℕ)
 text_at more bytes = do
   first ← byte_at is_letter_or_digit bytes

@@ -1,4 +1,4 @@
--- How fields stand in bytes. Numbers have their high byte first.
+-- How fields are spelled in bytes. Numbers have their high byte first.
 use Rattle.std.specs.Prelude.{ℕ, ◌≡◌, ◌⊎◌, Bool, true, false, List, [], ◌∷◌, ◌++◌, length, Option, Some, None}
 use Rattle.std.specs.Int.{w16, w32, to_be_bytes}
 use Rattle.std.specs.List.{flat_map}

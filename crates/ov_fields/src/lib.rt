@@ -1,11 +1,11 @@
 //! Fields of records and of frames: numbers, names, tokens, tags, sets, and lists of them.
 //!
-//! `specs/Spelling` says how each stands in bytes, and `specs/Reading` how it is read from the left: a
-//! reader gives a value and the bytes after it, or how many bytes are left at the first wrong one, so
-//! that it needn't know where it began. A number is wrong at its first byte, and bytes that end inside
-//! a field are wrong at their end. Each `take_..` of this crate gives what its reader reads, by `Gives`
-//! of `specs/Answers`; each `put_..` appends a spelling, to a list of its caller's own; [`append`] then
-//! adds three lists to another, or nothing.
+//! `specs/Spelling` says how each is spelled in bytes, and `specs/Reading` how it is read from the
+//! left: a reader gives a value and the bytes after it, or how many bytes are left at the first
+//! wrong one, so that it needn't know where it began. A number is wrong at its first byte, and
+//! bytes that end inside a field are wrong at their end. Each `take_..` of this crate gives what
+//! its reader reads, by `Gives` of `specs/Answers`; each `put_..` appends a spelling, to a list of
+//! its caller's own; [`append`] then adds three lists to another, or nothing.
 //!
 //! `proofs/ReadingLaws` has what each reader keeps (`Reads`): it reads exactly the spellings of its
 //! values, and a wrong byte is near. Laws put readers together: one after another, behind a number,

@@ -78,7 +78,7 @@ pub fn begins(rt: &HostRuntime, book: &str) -> bool {
     }
 }
 
-// Whether the service manager handed this file over, and looked itself to who may read it.
+// Whether the service manager handed this file over, and itself saw to who may read it.
 fn is_handed_over(rt: &HostRuntime, path: &str) -> bool {
     match env::var(rt, "CREDENTIALS_DIRECTORY") {
         Ok(folder) => path.starts_with(folder.as_str()),

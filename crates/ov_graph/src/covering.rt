@@ -70,7 +70,7 @@ fn candidates<const W: usize>(
 }
 
 /// Puts candidates in the order in which they are gone through: larger sets first, and those of one
-/// size as they stood.
+/// size as they were.
 pub fn sort(candidates: &mut Vec<Candidate>) -> Result<(), AllocError>
     ensures same { OnOk result (IsPermutation candidates.old.items candidates.new.items) }
     ensures sorted { OnOk result (IsNonDecreasingBy (λ c. c.lacks) candidates.new.items) }

@@ -21,8 +21,8 @@ pub record Nodes : Type 0 where
   pub sets : List ℕ
   pub edges : List (List Edge)
 
--- a file as the catalogue has it: where it stands in the layers, how many bytes it has, and the
--- tag of its plaintext
+-- a file as the catalogue has it: where it is in the layers, how many bytes it has, and the tag of
+-- its plaintext
 pub record Filed : Type 0 where
   pub name : List ℕ
   pub node : ℕ
@@ -68,11 +68,11 @@ filed_at c file = slice_index_or c.files file no_filed
 
 -- ---- what it says of layers and matrix
 
--- where the file stands in the layers
+-- where the file is in the layers
 abbrev pub place_of_file : Filed → Place
 place_of_file f = record { node = f.node; surface = f.surface; generation = f.generation }
 
--- where each of the files stands
+-- where each of the files is in the layers
 abbrev pub places : List Filed → List Place
 places [] = []
 places (f ∷ files) = place_of_file f ∷ places files

@@ -94,7 +94,7 @@ LowestIsAnswered =
     → Contains (tests_of (matrix_of h) (layers_of h) (epoch_of h) u) (other, true)
     → refusal_number why ≤ refusal_number other
 
--- .. and where several apply to a read
+-- of several refusals that apply to a read, that with the lowest number is the answer
 abbrev pub LowestIsAnsweredToReads : Type 0
 LowestIsAnsweredToReads =
     (m : Matrix) (user file : ℕ) (why other : Refusal)
@@ -155,7 +155,7 @@ RewritesAreExact =
     (c : Catalogue) (b : Brief) (r : Rewrite)
     → Contains (rewrites_of c b) r ↔ (IsResurfaced c b r ⊎ IsNewFile c b r)
 
--- they stand in the order of the files' numbers, and each file has one at most
+-- the rewrites of an update are in the order of the files' numbers, and each file has one at most
 abbrev pub RewritesAreInOrder : Type 0
 RewritesAreInOrder =
     (c : Catalogue) (b : Brief) (m n : ℕ) (r other : Rewrite)

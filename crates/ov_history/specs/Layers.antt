@@ -1,4 +1,4 @@
--- The two layers of sets that a history makes, and where each file stands in them.
+-- The two layers of sets that a history makes, and where each file is in them.
 use Rattle.std.specs.Prelude.{ℕ, ◌+◌, ◌==◌, Bool, true, false, List, [], ◌∷◌, ◌++◌, slice_index}
 use Rattle.std.specs.Prelude.{slice_index_or, Option, Some, None}
 use Rattle.ov_base.specs.Sets.{single, has, with, without}
@@ -30,8 +30,8 @@ with_set sets set = appended (plan_of sets set).fresh sets set
 
 -- ---- layers
 
--- where a file stands: its base node, its surface node where it has one, and the epoch of the last
--- change of its surface, or else of its creation
+-- where a file is in the layers: its base node, its surface node where it has one, and the epoch of
+-- the last change of its surface, or else of its creation
 pub record Place : Type 0 where
   pub node : ℕ
   pub surface : Option ℕ
@@ -79,11 +79,11 @@ abbrev pub set_or : List ℕ → Option ℕ → ℕ → ℕ
 set_or sets None held = held
 set_or sets (Some node) held = slice_index sets node
 
--- the list of a file that stands so: it isn't kept besides
+-- the list of a file at this place in the layers: it isn't kept besides
 abbrev pub list_at : Layers → Place → ℕ
 list_at y p = set_or y.surface p.surface (holders y p.node)
 
--- the lists of the files that stand so
+-- the lists of the files at these places in the layers
 abbrev pub lists_at : Layers → List Place → List ℕ
 lists_at y [] = []
 lists_at y (p ∷ places) = list_at y p ∷ lists_at y places

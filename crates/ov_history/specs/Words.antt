@@ -39,7 +39,7 @@ WasGranted h node user =
 abbrev pub HasFile : History → ℕ → Type 0
 HasFile h file = file < length (matrix_of h).files
 
--- where a file stands after the history
+-- where a file is in the layers after the history
 abbrev pub place_in : History → ℕ → Place
 place_in h file = slice_index_or (layers_of h).files file no_place
 

@@ -29,7 +29,7 @@ NewSetsAreWanted =
     (h : History) (u : Update) (node set : ℕ)
     → first_new h u ≤ node → HasSet h u node set → (file : ℕ) × Wants h u file set
 
--- .. which no node before it has
+-- a surface node that an update adds has a set that no node before it has
 abbrev pub NewSetsAreNew : Type 0
 NewSetsAreNew =
     (h : History) (u : Update) (node other set old : ℕ)

@@ -1,4 +1,4 @@
-//! Rows of layers, and of the keys and the coats that stand on them.
+//! Rows of layers, and of the keys and the coats that rest on them.
 ghost use Rattle.ov_history_t.specs.Layers.{AccessesCount, CoatsAreTakenOff, CoatsAreUnderAccessKeys};
 ghost use Rattle.ov_history_t.specs.Layers.{HoldersDecide, ListsHaveNodes, NodesHaveKeys};
 ghost use Rattle.ov_history_t.specs.Layers.{SurfacesInOrder};

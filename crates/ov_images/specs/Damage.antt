@@ -66,8 +66,8 @@ pub record HasBadRecord (mode : Mode) (first : ℕ) (bodies : List (List ℕ)) (
     pub split : bodies ≡ bodies_of history.updates ++ body ∷ rest
     pub bad : IsBadBody history body (end_from 78 (bodies_of history.updates)) place
 
--- All bodies keep a history, and behind the last of them stands an open gate with a length that
--- can't be. The place is that of the length, one behind the gate.
+-- All bodies keep a history, and behind the last of them is an open gate with a length that can't
+-- be. The place is that of the length, one behind the gate.
 pub record HasBadLength (mode : Mode) (first : ℕ) (records : Records) (place : ℕ) : Type 0 where
   pub history : SealedHistory
   pub kept : CanBeKept mode first history
@@ -75,7 +75,7 @@ pub record HasBadLength (mode : Mode) (first : ℕ) (records : Records) (place :
   pub bad : records.bad ≡ true
   pub place_is : place ≡ end_from 78 records.bodies + 1
 
--- where the first record is wrong, or the length that stands in place of one
+-- where the first record is wrong, or the length in place of one
 abbrev pub HasBadRecords : Header → Image → ℕ → Type 0
 HasBadRecords h i place =
     HasBadRecord h.mode h.first (contents_of i.book).records.bodies place

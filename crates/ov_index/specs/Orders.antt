@@ -19,7 +19,7 @@ IsLarger sets node later =
     let users = size (slice_index sets node) in let fewer = size (slice_index sets later) in
     (fewer ≤ users) × (users ≤ fewer → node < later)
 
--- each node is so to those that stand later
+-- each node of the list is ordered so to the nodes that come later
 abbrev pub Ascends : (ℕ → ℕ → Type 0) → List ℕ → Type 0
 Ascends IsTo order =
     (i j : ℕ) → i < j → j < length order → IsTo (slice_index order i) (slice_index order j)

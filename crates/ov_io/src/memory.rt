@@ -43,7 +43,7 @@ fn is_failing(fails: &Octets, call: u64) -> bool
     fails.as_slice().iter().any(|n| u64::from(*n) == call)
 }
 
-// Copies as many bytes as stand in `from`, fit into `to` and are at most `most`, and says how many.
+// Copies as many bytes as are in `from`, fit into `to` and are at most `most`, and says how many.
 fn give(from: &[u8], to: &mut [u8], most: usize) -> usize
     ensures count { result ≡ min (min (length from.now) (length to.old)) most }
     ensures bytes { take result to.new ≡ take result from.now }

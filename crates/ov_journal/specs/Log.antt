@@ -23,13 +23,13 @@ abbrev pub gates_from : ℕ → List (List ℕ) → List ℕ
 gates_from place [] = []
 gates_from place (body ∷ bodies) = place ∷ gates_from (place + 5 + length body) bodies
 
--- where the gate behind the last of them stands
+-- where the gate behind the last of them is
 abbrev pub end_from : ℕ → List (List ℕ) → ℕ
 end_from place [] = place
 end_from place (body ∷ bodies) = end_from (place + 5 + length body) bodies
 
--- Where a gate is at the latest, if so many records stand before it: behind the header, and
--- behind as many records with the longest bodies.
+-- Where a gate is at the latest, if this many records come before it: behind the header, and behind
+-- as many records with the longest bodies.
 abbrev pub latest_gate : ℕ → ℕ
 latest_gate before = HEADER + (RECORD_HEAD + MAX_RECORD_BYTES) * before
 
@@ -43,7 +43,7 @@ pub record IsLogOf (log : Log) (records : Records) : Type 0 where
   pub end : log.end ≡ end_from 78 records.bodies
   pub bad : log.bad ≡ records.bad
 
--- the journal of the first of these records, behind which others may stand
+-- the journal of the first of these records, which others may follow
 pub record IsLogOfFirst (log : Log) (records : Records) : Type 0 where
   pub front : List (List ℕ)
   pub rest : List (List ℕ)

@@ -40,7 +40,7 @@ pub(crate) fn frame_of(alloc: Global, header: &Header) -> Result<Vec<u8>, Memory
     Ok(frame)
 }
 
-// Whether the magic stands behind the gate.
+// Whether the magic follows the gate.
 pub(crate) fn is_magic(front: &[u8]) -> bool
     requires { 9 ≤ length front.now }
     ensures { IsTrue result ↔ (take 8 (drop 1 front.now) ≡ magic) }

@@ -60,7 +60,7 @@ pub record LastsAs {D : Type 0} (tells : DiskTells D) (k : Masters) (h : PlainHi
 -- ---- what is printed
 
 -- How a load from this history on ends: its seven lines were put and the status is 0; or the error
--- line is alone, on memory that was refused, the disk or the key file, with its status; or a
+-- line is the only one, on memory that was refused, the disk or the key file, with its status; or a
 -- front of one of these was put, or a frame wasn't, and the status is 6.
 abbrev pub EndsLoad : Load → PlainHistory → Option (List ℕ) → Option (List ℕ) → ℕ → Type 0
 EndsLoad load h old new status =

@@ -1,4 +1,4 @@
-//! The access-matrix machine over frames, for who has both masters.
+//! The access-matrix machine over frames, for a caller that has both masters.
 ghost use Rattle.std.specs.Prelude.{◌≡◌, false};
 ghost use Rattle.ov_images.specs.Images.{keys_of};
 ghost use Rattle.ov_script.specs.declared.command.Command.{Command};

@@ -1,4 +1,4 @@
--- How the reader of a frame stands to the reader of updates.
+-- How the reader of a frame agrees with the reader of updates.
 use Rattle.std.specs.Prelude.{ℕ, ◌≡◌, List}
 use Rattle.ov_fields.specs.Reading.{spanned}
 use Rattle.ov_record.specs.Reading.{update_at}

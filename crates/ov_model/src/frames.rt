@@ -3,7 +3,7 @@ ghost use Rattle.ov_model.specs.Agreement.{FramesHoldSpellings, FramesTakeUpdate
 ghost use Rattle.ov_model.specs.Streams.{StreamsAreCutOneWay};
 
 /// The law of spellings in frames: from any bytes, a frame's reader takes just the bytes that the
-/// reader of updates reads, or names the same wrong one. The two crates don't stand on each other.
+/// reader of updates reads, or names the same wrong one. Neither crate depends on the other.
 pub fn frames_hold_spellings()
     ensures { FramesHoldSpellings }
 {}

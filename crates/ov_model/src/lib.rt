@@ -1,5 +1,5 @@
-//! Definitions and laws that join crates: the access-matrix machine over scripts, and how frames stand
-//! to records.
+//! Definitions and laws that join crates: the access-matrix machine over scripts, and how frames
+//! relate to records.
 //!
 //! This crate has no code. Histories and the matrix that they make are those of ov_history. A law
 //! is a public function with an empty body, whose contract is the law.

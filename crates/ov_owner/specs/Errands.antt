@@ -62,7 +62,7 @@ enrolling user = record {
   sealed = λ answer. sealed_by (λ (k : Known). (k.epoch, SealedEnrol user)) (known_of answer);
 }
 
--- where a list stands in the base layer, or would stand
+-- where a list is in the base layer, or would be
 abbrev pub cover_in : Plan → Cover
 cover_in plan = record { node = plan.node; fresh = plan.fresh; from = plan.from }
 

@@ -17,7 +17,7 @@ use Rattle.ov_owner.specs.declared.limits.TheConstants.{MAX_TRIES}
 use Rattle.ov_owner.specs.declared.fault.OwnerFault.{OwnerFault}
 use Rattle.ov_owner.specs.declared.fault.OwnerFault.TheVariants as faults
 
--- Where an owner stands: it asks first, after tries at these epochs that were all stale, the last
+-- The stages of an owner: it asks first, after tries at these epochs that were all stale, the last
 -- of which told the least epoch that may come now; it sends an update; or it is done.
 pub data Stage : Type 0 where
   Asks : (tries : List ℕ) → (least : ℕ) → Stage

@@ -1,4 +1,4 @@
-//! The owner of a store: it holds both masters, and makes updates over any peer.
+//! The owner of a store, which holds both masters and makes updates over any peer.
 //!
 //! An [`Owner`] asks a server for the numbers that an update needs, seals the update under the base
 //! master, and sends it at the epoch that it was told, with a tag under the surface master. Where

@@ -1,4 +1,4 @@
-//! Who holds both masters, and changes the store.
+//! The owner, who holds both masters and changes the store.
 ghost use Rattle.std.specs.Prelude.{◌≡◌};
 ghost use Rattle.ov_protocol.specs.Serving.{Service};
 ghost use Rattle.ov_script.specs.declared.command.Command.TheVariants.{Create, Enrol};

@@ -37,7 +37,7 @@ fn ask<P: Peer>(
         Err(fault) => return Err(fault_of(fault)),
     };
     let sealed = seal(alloc, base, task, answer)?;
-    // The epoch stands right behind the kind byte.
+    // The epoch follows the kind byte at once.
     if sealed.epoch < least {
         return Err(OwnerFault::BadReply { at: 1 });
     }

@@ -46,8 +46,8 @@ IsAnswerAt v request answer made =
     ⊎ ((answer ≡ DeviceFault) × MayMake (request_bytes request) made
     × NeedsDisk (served v) (request_bytes request))
 
--- asked this request, who serves that history answers so, and then serves a history that goes on by
--- what others did and by what the request made
+-- asked this request, a peer that serves that history answers so, and then serves a history that
+-- goes on by what others did and by what the request made
 abbrev pub Tells : Service → Request → Answer → (Service → Type 0) → Type 0
 Tells v request answer Then =
     (others : List SealedUpdate) × (made : List SealedUpdate)

@@ -14,8 +14,8 @@ abbrev pub IsReplyAt : Service → List ℕ → List ℕ → List SealedUpdate �
 IsReplyAt v request reply made =
     Replies (served v) request reply made ⊎ IsDiskFault (served v) request reply made
 
--- Asked this, who serves that history replies so: the reply is the one at a history that goes on
--- from it by what others did, and what is served then goes on by what this request made.
+-- Asked this, a peer that serves that history replies so: the reply is the one at a history that
+-- goes on from it by what others did, and what is served then goes on by what this request made.
 abbrev pub Told : Service → List ℕ → List ℕ → (Service → Type 0) → Type 0
 Told v request reply Then =
     (others : List SealedUpdate) × (made : List SealedUpdate)
@@ -70,5 +70,5 @@ pub record AnswererTells (A : Type 0) : Type 1 where
   pub reached : A → List (List ℕ) → A → Type 0
   -- after this start and these accepted updates a request gets this reply
   pub replies : A → List (List ℕ) → List ℕ → List ℕ → Type 0
-  -- the epoch at which a value stands
+  -- the epoch of a value
   pub epoch_of : A → ℕ

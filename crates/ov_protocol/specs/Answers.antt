@@ -22,7 +22,7 @@ welcome_of s = record {
   base_check = s.base_check;
 }
 
--- The answer of a server to a request. Want of memory and a fault of its disk stand beside this:
+-- The answer of a server to a request. Refused memory and a fault of its disk are apart from this:
 -- they are no answers by what it shows.
 abbrev pub Answers : Serving → Request → Answer → Type 0
 Answers s requests.Hello answer = answer ≡ answers.Welcome (welcome_of s)

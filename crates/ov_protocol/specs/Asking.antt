@@ -52,8 +52,8 @@ AnswersAsk c question answer = ⊥
 
 -- ---- Cover
 
--- where a list stands in the base layer, or would stand: its node, and where the edges into a new
--- one start
+-- where a list is in the base layer, or would be: its node, and where the edges into a new one
+-- start
 abbrev pub plan_for : Catalogue → ℕ → Plan
 plan_for c list = record {
   epoch = c.epoch;

@@ -15,7 +15,7 @@
 //! | `Words` | the words that ask for a run |
 //! | `Counts` | one of two counts rose |
 //!
-//! What the parts of the promise are stands in ov_answering.
+//! The parts of the promise are defined in ov_answering.
 #![tactic(auto)]
 
 mod running;

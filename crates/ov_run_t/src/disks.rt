@@ -193,8 +193,8 @@ fn books_of_a_file(rt: HostRuntime) -> Result<(), Fail> {
     Ok(())
 }
 
-// Asserts that where this byte of that Book is another, the record of the creation, whose gate
-// stands at 86, isn't taken for the owner's.
+// Asserts that where this byte of that Book is another, the record of the creation, whose gate is
+// at 86, isn't taken for the owner's.
 fn assert_false(rt: &impl Abort, alloc: Global, place: usize, byte: u8) -> Result<(), Fail> {
     let book = one_file(alloc, 1)?;
     let damaged = changed(alloc, &book, place, byte)?;

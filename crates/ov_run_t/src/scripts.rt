@@ -1,7 +1,7 @@
 //! What the program prints and how it ends: scripts of all kinds, words and key files.
 //!
-//! Each test function is proved too. So tables stand behind functions whose contracts say nothing
-//! of them, one helper calls `run`, and what has to be dropped is made last.
+//! Each test function is proved too. Tables are therefore behind functions whose contracts say
+//! nothing of them, one helper calls `run`, and what has to be dropped is made last.
 use crate::running::{
     NOTHING, ONE_USER, Pieces, Row, Wants, assert_anew, assert_ended, assert_row, key_bytes, ran,
     words,

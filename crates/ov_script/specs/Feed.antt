@@ -21,7 +21,7 @@ pub record Uses {S : Type 0} (tells : SourceTells S) (old new : Fed S) (used : L
   pub source : Consumes (tells.left old.source) (tells.left new.source) more
   pub pending : old.pending ++ more ≡ used ++ new.pending
 
--- These bytes were taken from the source, and stand behind those that were pending.
+-- These bytes were taken from the source, and follow those that were pending.
 pub record Takes {S : Type 0} (tells : SourceTells S) (old new : Fed S) (more : List ℕ)
     : Type 0 where
   pub pending : new.pending ≡ old.pending ++ more

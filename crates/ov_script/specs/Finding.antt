@@ -28,7 +28,7 @@ use Rattle.ov_script.specs.declared.item.Item.{Item}
 use Rattle.ov_script.specs.declared.next.Next.TheVariants.{Command as Command-Next}
 
 -- The text is these bytes and then what is left behind them, where that is told, and so many bytes
--- of it may be read. At its front stands this line; or no item is read from it.
+-- of it may be read. This line is at its front; or no item is read from it.
 abbrev pub Finds : ℕ → List ℕ → Option (List ℕ) → Result Line Ended → Type 0
 Finds room bytes left (Ok found) =
     (line rest : List ℕ) × NoLf line × SaysLine line found.said
@@ -76,14 +76,14 @@ Gathers tells room size old new (Ok bytes) =
     (vec_len bytes ≡ size) × (size < room) × Uses tells old new (bytes.items ++ 10 ∷ [])
 Gathers tells room size old new (Err ended) = IsWhyNoBody room size (text_of tells old) ended
 
--- Bytes are taken only while fewer than so many stand there, and a take that gives none is the
+-- Bytes are taken only while fewer than this many are there, and a take that gives none is the
 -- last.
 abbrev pub TakesBelow : {S : Type 0} → SourceTells S → ℕ → List ℕ → Type 0 → Type 0 → S → S → Type 0
 TakesBelow tells count pending ended failed old new =
     TakesWhile tells (λ seen. length (pending ++ seen) < count) ended failed old new
 
 -- These bytes were used, and those of them that weren't pending were taken in pieces, while fewer
--- than so many were there.
+-- than this many were there.
 abbrev pub UsesBelow : {S : Type 0} → SourceTells S → ℕ → Fed S → Fed S → List ℕ → Type 0
 UsesBelow tells count old new used =
     (uses : Uses tells old new used)

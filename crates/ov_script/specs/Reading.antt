@@ -5,8 +5,8 @@ use Rattle.ov_script.specs.declared.command.Command.{Command}
 use Rattle.ov_script.specs.Items.{IsItem, BeginsWithItem, CanBegin}
 use Rattle.ov_script.specs.LineFeeds.{lf_count}
 
--- How the reading of a script ends: at the end of the input, at a bad item, which stands at this
--- line, or at the limit.
+-- How the reading of a script ends: at the end of the input, at a bad item on this line, or at the
+-- limit.
 pub data Ending : Type 0 where
   AtEnd : Ending
   BadAt : (line : ℕ) → Ending

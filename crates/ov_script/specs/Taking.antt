@@ -16,7 +16,7 @@ pub record IsUnsettled (room : ℕ) (text : List ℕ) : Type 0 where
   pub can : CanBegin text
   pub none : BeginsWithItem text → ⊥
 
--- Bytes are taken only while the pending bytes and those taken leave it unsettled what item stands
+-- Bytes are taken only while the pending bytes and those taken leave it unsettled what item is
 -- there, and a take that gives none is the last. At a fault of the source nothing is lost, and it
 -- is unsettled still.
 abbrev pub TakesWhatItNeeds : {S : Type 0} → SourceTells S → ℕ → List ℕ → Type 0 → Type 0 → S → S

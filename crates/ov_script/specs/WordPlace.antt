@@ -1,4 +1,4 @@
--- Inner: where the drawing of a number's words stands.
+-- Inner: how far the drawing of a number's words is.
 use Rattle.std.specs.Prelude.{ℕ}
 use Rattle.rand_chacha.specs.ChaCha.{ChaCha}
 use Rattle.ov_script.specs.Workload.{key}

@@ -27,7 +27,7 @@ with_names names (name ∷ others) = with_names (with_name names name) others
 abbrev pub without_repeats : List (List ℕ) → List (List ℕ)
 without_repeats names = with_names [] names
 
--- The text is a list of names, in any order; a name may stand in it more than once.
+-- The text is a list of names, in any order; it may have a name more than once.
 abbrev pub IsList : List ℕ → List (List ℕ) → Type 0
 IsList text names =
     (said : List (List ℕ)) × AreNames said × (text ≡ list_text said)

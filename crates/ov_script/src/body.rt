@@ -84,7 +84,7 @@ fn gather<S: Source + Drop>(
     }
 }
 
-// Uses an LF, if one stands there.
+// Uses an LF, if one is there.
 fn take_lf<S: Source + Drop>(feed: &mut Feed<S>) -> Result<Behind, ScriptFault>
     ensures found { IfOk result (TakesLf S.tells feed.old feed.new) }
     ensures needed { TakesBelow S.tells 1 feed.old.pending

@@ -22,7 +22,7 @@ pub enum Ended {
 }
 
 impl Ended {
-    /// What is answered from then on, where the next item would stand on this line.
+    /// What is answered from then on, where the next item would be on this line.
     pub fn answer(self, line: u64) -> Result<Next, ScriptFault>
         ensures { result ≡ answer_of line self }
     {

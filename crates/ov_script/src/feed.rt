@@ -27,7 +27,7 @@ impl Model for Buffer {
 }
 
 impl Buffer {
-    /// Room in which nothing stands yet.
+    /// Room that holds nothing yet.
     pub fn new(alloc: Global) -> Result<Buffer, Memory> {
         Ok(Buffer {
             bytes: vec![in alloc; 0; CAPACITY]?,
@@ -56,7 +56,7 @@ impl<S> Model for Feed<S> {
         × (vec_len f.buffer ≡ 32768) };
 }
 
-// Moves what stands from `start` to `end` to the front, and says where it ends there.
+// Moves the bytes from `start` to `end` to the front, and says where it ends there.
 fn move_to_front(buffer: &mut Vec<u8>, start: usize, end: usize) -> usize
     requires order { start ≤ end }
     requires within { end ≤ vec_len buffer.old }

@@ -39,7 +39,7 @@ pub enum Seen {
     Open(Front),
 }
 
-// Where the first LF stands, of which none is among the first `seen` bytes.
+// Where the first LF is, of which none is among the first `seen` bytes.
 fn first_lf(bytes: &[u8], seen: usize) -> Option<usize>
     requires within { seen ≤ length bytes.now }
     requires seen { NoLf (take seen bytes.now) }

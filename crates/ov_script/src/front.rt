@@ -53,7 +53,7 @@ pub enum Front {
     InWord { word: Word, count: usize },
     /// This many bytes of a name came.
     InName { next: Then, count: usize },
-    /// A list of readers stands here, of which nothing came yet.
+    /// A list of readers comes next, and none of it came yet.
     AtReaders,
     /// The `-` of a list without names came.
     Nobody,

@@ -10,7 +10,7 @@
 //! * `Reading` says what the commands of a text are and how its reading ends; that each text has a
 //!   reading, and only one, are the laws [`every_text_has_a_reading`] and [`one_reading`];
 //! * `Saying` says what one call of `next` tells of the text, and `Taking` what it may take from
-//!   the source: bytes are taken only while it isn't settled what stands next, a source that gave
+//!   the source: bytes are taken only while it isn't settled what comes next, a source that gave
 //!   none isn't asked again, and none are lost at a fault;
 //! * `Lines` gives the reply lines, which [`line`] appends;
 //! * `Workload` says which commands the stated workload of a number is: [`Workload`] gives them one

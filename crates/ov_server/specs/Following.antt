@@ -1,4 +1,4 @@
--- How a server stands to the one that it began as, and what it answers by that.
+-- How a server relates to the one that it began as, and what it answers by that.
 use Rattle.std.specs.Prelude.{◌≡◌, ◌⊎◌, ℕ, List, length}
 use Rattle.ov_record.specs.Updates.{SealedUpdate}
 use Rattle.ov_wire.specs.declared.answer.Answer.TheVariants.{DeviceFault}

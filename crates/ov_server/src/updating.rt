@@ -45,8 +45,8 @@ impl<D: Disk> Server<D> {
             → HasUpdate (serving_of self.old) request (sealed_update update)
             → AsksServer D.tells self.old self.new request reply.new.items result }
     {
-        // The reply stands before the first write of the disk, so that what comes after it takes no
-        // memory. At the last epoch the update is refused.
+        // The reply is made before the first write of the disk, so that what comes after it takes
+        // no memory. At the last epoch the update is refused.
         let epoch = self.store.state().epoch().saturating_add(1);
         reply_with(Ok(Answer::Accepted { epoch }), reply)?;
         match self.store.update(alloc, update) {

@@ -1,4 +1,4 @@
-//! Who asks for a session.
+//! The asker of a session.
 ghost use Rattle.std.specs.Prelude.{◌≡◌, ◌↔◌, Err, OnOk};
 ghost use Rattle.ov_session.specs.Asking.{TellsAsk};
 ghost use Rattle.ov_session.specs.Tells.{AskerTells};

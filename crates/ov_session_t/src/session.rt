@@ -153,7 +153,7 @@ fn a_fault_at_each_call(rt: HostRuntime) -> Result<(), Fail> {
     let alloc = rt.alloc();
     let input: [u8; 11] = [0, 0, 0, 1, 7, 0, 0, 0, 2, 8, 9];
     let whole: [u8; 13] = [0, 0, 0, 2, 0x86, 7, 0, 0, 0, 3, 0x86, 8, 9];
-    // What is before each of the four calls that write.
+    // How many bytes were written before each of the four calls that write.
     let fronts: [usize; 4] = [0, 4, 6, 10];
     for call in 0..3u8 {
         let mut stream = stream(alloc, &input, 6, &[call], &[])?;

@@ -23,7 +23,7 @@ static LINES: [(&str, &str); 7] = [
     ("sessions", "sessions = 1000000\n"),
 ];
 
-// A line that stands in place of the one with this key, and the status.
+// A line in place of the one with this key, and the status.
 static ROWS: [(&str, &str, u8); 27] = [
     ("", "", 0),
     (

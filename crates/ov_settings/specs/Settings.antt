@@ -30,7 +30,7 @@ text_at document key = option_and_then as_str (get_member key document)
 abbrev pub integer_at : Members → List ℕ → Option ℤ
 integer_at document key = option_and_then as_integer (get_member key document)
 
--- at the key stands this text
+-- the key has this text
 abbrev pub HoldsText : Members → List ℕ → List ℕ → Type 0
 HoldsText document key text = text_at document key ≡ Some text
 
@@ -38,7 +38,7 @@ HoldsText document key text = text_at document key ≡ Some text
 abbrev pub HoldsMode : Members → Mode → Type 0
 HoldsMode document mode = HoldsText document (codes "mode") (mode_word mode)
 
--- at the key stand 64 hexadecimal digits, in either case, which are these bytes
+-- the key has 64 hexadecimal digits, in either case, which are these bytes
 abbrev pub HoldsDigits : Members → List ℕ → List ℕ → Type 0
 HoldsDigits document key bytes =
     (text : List ℕ) × HoldsText document key text × IsKeyLine text bytes

@@ -47,7 +47,7 @@ catalogue_by mode epoch users base surface files = record {
   files = files;
 }
 
--- a file that stands so has the surface that it should have, in its layers
+-- a file at this place has the surface that it should have, in its layers
 abbrev pub HasItsSurface : Layers → Place → Type 0
 HasItsSurface y p =
     let want = wanted_surface y.mode (list_at y p) (holders y p.node) in

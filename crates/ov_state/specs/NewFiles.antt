@@ -1,5 +1,4 @@
--- Inner: no public contract needs this. Where a new file stands, and why there may be no room
--- for it.
+-- Inner: no public contract needs this. Where a new file goes, and why there may be no room for it.
 use Rattle.std.specs.Prelude.{◌≡◌, ℕ, ◌+◌, Bool, true, false, not, ◌||◌, nat_le, nat_lt, List, []}
 use Rattle.std.specs.Prelude.{◌∷◌, length, Option, Some, None}
 use Rattle.ov_base.specs.Sets.{within}
@@ -48,7 +47,7 @@ is_past_then c list =
     nat_lt MAX_LAYER_NODES (length (with_set c.base.sets list))
     || nat_lt MAX_LAYER_NODES (length (with_wants c.surface.sets (want_then c list ∷ [])))
 
--- where a new file for these users stands
+-- where a new file for these users goes
 pub record IsSite {W : ℕ} (master : List ℕ) (c : Catalogue) (list : ℕ)
     (site : Site W) : Type 0 where
   pub cover : site.cover ≡ plan_of c.base.sets list

@@ -1,4 +1,4 @@
--- Where the parts of an update stand in its spelling.
+-- Where the parts of an update are in its spelling.
 use Rattle.std.specs.Prelude.{◌≡◌, ℕ, ◌*◌, List, [], ◌++◌, length}
 use Rattle.ov_fields.specs.Spelling.{counted, optional, token_field}
 use Rattle.ov_record.specs.Spelling.{spelling}
@@ -15,7 +15,7 @@ parts_spelled (SealedCreate name list tokens tag bytes) = counted token_field to
 parts_spelled (SealedGrant user file token) = optional token_field token
 parts_spelled (SealedRevoke user file) = []
 
--- the parts stand there in the spelling of their update, whose set has so many words
+-- the parts are at these places in the spelling of their update, whose set has this many words
 abbrev pub PartsStandAtTheirPlace : Type 0
 PartsStandAtTheirPlace =
     (words : ℕ) (u : SealedUpdate)

@@ -86,7 +86,7 @@ abbrev pub list_if : Bool → ℕ → ℕ → ℕ
 list_if true new old = new
 list_if false new old = old
 
--- the list of the file of this number, which stands so
+-- the list of the file of this number, which is at this place in the layers
 abbrev pub list_after : {W : ℕ} → Layers → Relisting W → ℕ → Place → ℕ
 list_after y r number p = list_if (number == r.file) r.list (list_at y p)
 
@@ -95,7 +95,7 @@ abbrev pub want_if : {W : ℕ} → Bool → Layers → Relisting W → ℕ → P
 want_if true y r number p = wanted_surface y.mode (list_after y r number p) r.after
 want_if false y r number p = wanted_surface y.mode (list_at y p) (holders y p.node)
 
--- the wanted surface set of the file of this number, which stands so
+-- the wanted surface set of the file of this number, which is at this place in the layers
 abbrev pub want_after : {W : ℕ} → Layers → Relisting W → ℕ → Place → Option ℕ
 want_after y r number p = want_if (p.node == r.node) y r number p
 

@@ -13,8 +13,8 @@ use ov_base::{Memory, Name};
 use std::alloc::Global;
 use std::marker::Model;
 
-/// A file as the catalogue has it: its name, where it stands in the layers, the tag of its
-/// plaintext, and how many bytes it has.
+/// A file as the catalogue has it: its name, where it is in the layers, the tag of its plaintext,
+/// and how many bytes it has.
 #[derive(Drop)]
 pub struct FileEntry {
     pub name: Name,

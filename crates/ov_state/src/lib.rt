@@ -58,7 +58,7 @@
 //! | `Entries` | files and rewrites of the code in the words of histories |
 //! | `Contents` | `Held`, and what holds of every state |
 //! | `Plans` | briefs, and what `prepare` answers |
-//! | `Places` | where an update's parts stand in its spelling |
+//! | `Places` | where an update's parts are in its spelling |
 //! | `Changes` | what a change makes, where it suits, and the room that it takes |
 //! | `Standing` | what a catalogue stands for, before and after a change |
 //! | `Queries` | numbers, sizes and lists |

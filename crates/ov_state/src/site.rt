@@ -1,4 +1,4 @@
-//! Where a new file stands.
+//! Where a new file goes in the layers.
 ghost use Rattle.std.specs.Prelude.{◌≡◌, length, IfErr, IfOk};
 ghost use Rattle.ov_base.specs.Sets.{IsBelow};
 ghost use Rattle.ov_graph.specs.Contents.{plan_of};
@@ -14,7 +14,7 @@ use ov_surface::wanted;
 use ov_tokens::{Base, Master, Surface, Tokens};
 use std::alloc::Global;
 
-/// Where a new file stands: its base node as it is planned, its surface, and the nodes that the
+/// Where a new file goes: its base node as it is planned, its surface, and the nodes that the
 /// surface layer gets for that.
 #[derive(Drop)]
 pub struct Site<const W: usize> {
@@ -49,7 +49,7 @@ impl<B: Graph<Base, W>, S: Graph<Surface, W>, const W: usize> State<B, S, W> {
         }
     }
 
-    /// Where a new file for these users is to stand.
+    /// Where a new file for these users is to go.
     pub(crate) fn site(
         &self,
         alloc: Global,

@@ -5,8 +5,8 @@ use Rattle.std.specs.Option.{option_map}
 use Rattle.ov_base.specs.declared.key.Key.{Key}
 use Rattle.ov_ctr.specs.Ctr.{xor_pad}
 
--- the coat of the base layer under an access key, over bytes that stand in the file from a place
--- on: tag byte `B`
+-- the coat of the base layer under an access key, over bytes of the file from a place on: tag byte
+-- `B`
 abbrev pub base_coat : List ℕ → ℕ → ℕ → List ℕ → List ℕ
 base_coat access file start bytes = xor_pad access 0x42 file start bytes
 

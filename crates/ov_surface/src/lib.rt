@@ -13,7 +13,7 @@
 //! `specs/Laws` are that coats come off, commute, keep the length and may be laid in parts; each is
 //! the contract of a function that does nothing.
 //!
-//! Nothing is claimed of secrecy, and the two coats hide nothing from who holds both keys.
+//! Nothing is claimed of secrecy, and the two coats hide nothing from anyone who holds both keys.
 #![tactic(auto)]
 
 mod coats;

@@ -15,8 +15,9 @@
 //! What else is derived from a key has a function each: [`access_key`], [`tag_key`], and of a master
 //! [`update_key`] and [`check_value`]. Those that are keyed hashes have tag bytes of their own.
 //!
-//! [`Edge`], [`Step`], [`Chain`] and the lists [`Tokens`], [`Numbers`] and [`Steps`] are what graphs of
-//! keys are made of, and stand here so that a record or a message can hold them without a graph.
+//! [`Edge`], [`Step`], [`Chain`] and the lists [`Tokens`], [`Numbers`] and [`Steps`] are what
+//! graphs of keys are made of, and are here so that a record or a message can hold them without a
+//! graph.
 //!
 //! Nothing is claimed of secrecy: not that a key can't be found without the token, nor that two labels
 //! have different keys. That rests on the keyed hash, and no proof speaks of it.

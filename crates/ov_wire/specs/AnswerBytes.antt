@@ -62,7 +62,7 @@ HasAnswerCounts (answers.Chained chained) =
 HasAnswerCounts (answers.Listed names) = length names ≤ 65535
 HasAnswerCounts answer = Unit {0}
 
--- the bytes as they stand with which an answer ends
+-- the bytes with which an answer ends, as they are
 abbrev pub answer_body : Answer → List ℕ
 answer_body (answers.Bytes bytes) = bytes
 answer_body (answers.PageOf (Some entry)) = entry

@@ -1,4 +1,4 @@
--- Streams of frames, and how a decoder stands in one.
+-- Streams of frames, and the state of a decoder in one.
 use Rattle.std.specs.Prelude.{ℕ, ◌≡◌, ◌+◌, ◌≤◌, ◌<◌, ◌^◌, ◌⊎◌, Bool, true, false, List, [], ◌++◌, length, take, Result, Ok, Err, min}
 use Rattle.std.specs.List.{flat_map, AllByRecursion}
 use Rattle.ov_base.specs.declared.limits.TheConstants.{MAX_FRAME_BYTES}
@@ -39,7 +39,7 @@ pub record IsBadLength (rest : List ℕ) : Type 0 where
   pub outside : (n ≡ 0) ⊎ (MAX_FRAME_BYTES < n)
   pub begins : rest ≡ u32 n ++ more
 
--- how a decoder stands: how many bytes of the stream were before the frame that isn't whole, what
+-- the state of a decoder: how many bytes of the stream were before the frame that isn't whole, what
 -- came of it, and whether its length field is outside the limits
 pub record Decoding : Type 0 where
   pub start : ℕ
@@ -134,6 +134,6 @@ abbrev pub verdict_at : Bool → ℕ → Result (Unit {0}) FeedFault
 verdict_at true place = Err (BadFrame place)
 verdict_at false place = Ok tt
 
--- what a decoder answers that stands so
+-- what a decoder in this state answers
 abbrev pub verdict : Decoding → Result (Unit {0}) FeedFault
 verdict d = verdict_at d.bad d.start

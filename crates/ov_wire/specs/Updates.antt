@@ -6,7 +6,7 @@ use Rattle.ov_base.specs.Names.{IsName}
 use Rattle.ov_fields.specs.Spelling.{u16, u32, name_field, sized, optional}
 use Rattle.ov_fields.specs.Reading.{Read, ◌>>=◌, ◌>>◌, made, at_most, bytes_at, number_at, number_that, sized_at, optional_at, name_at}
 
--- an update's fields: names, numbers, and bytes as they stand
+-- an update's fields: names, numbers, and bytes as they are
 pub data Fields : Type 0 where
   Enrolment : (name : List ℕ) → Fields
   Creation : (name list tokens tag bytes : List ℕ) → Fields
@@ -21,7 +21,7 @@ plain bytes = bytes
 abbrev pub Has32 : List ℕ → Type 0
 Has32 bytes = length bytes ≡ 32
 
--- tokens as they stand, 32 bytes each, behind their number
+-- tokens as they are, 32 bytes each, behind their number
 abbrev pub token_fields : List ℕ → List ℕ
 token_fields tokens = u16 (length tokens / 32) ++ tokens
 

@@ -107,7 +107,7 @@ fn put_chained(chained: &Chained, out: &mut Vec<u8>) -> Result<(), Memory>
     put_chain_or_none(&chained.surface, out)
 }
 
-/// The bytes as they stand with which the answer ends.
+/// The bytes with which the answer ends, as they are.
 fn body(answer: &Answer) -> &[u8]
     ensures { result.now ≡ answer_body answer.now }
 {

@@ -16,8 +16,8 @@
 //! `specs/AnswerForm`) fits a frame, and is read as itself or not at all, whatever was asked
 //! ([`answers_are_read_alike`]).
 //!
-//! An update's spelling and a catalogue entry stand in frames as they are. Where they end, or what
-//! is wrong with them, is found by the definitions of `specs/Updates` and `specs/Entries`; the law
+//! An update's spelling and a catalogue entry are in frames as they are. Where they end, or what is
+//! wrong with them, is found by the definitions of `specs/Updates` and `specs/Entries`; the law
 //! that the former agree with ov_record's is ov_model's.
 #![tactic(auto)]
 

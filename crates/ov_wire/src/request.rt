@@ -24,7 +24,7 @@ pub enum Request {
     Ask {
         question: Question,
     },
-    /// Asks where the list of a file of this length would stand in the base layer.
+    /// Asks where the list of a file of this length would be in the base layer.
     Cover {
         file: Name,
         length: u32,

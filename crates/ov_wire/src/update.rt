@@ -12,7 +12,7 @@ use ov_fields::{
     FieldFault, take_bytes, take_bytes_or_none, take_name, take_sized, take_u16_at_most, take_u32,
 };
 
-/// Tokens behind their number, as they stand.
+/// Tokens behind their number, as they are.
 #[tactic(auto, unfolding(crate::specs::Updates::tokens_at))]
 fn take_tokens(bytes: &[u8]) -> Result<(&[u8], &[u8]), FieldFault>
     ensures { GivesField (λ t. t.now) result (tokens_at MAX_USERS bytes.now) }

@@ -96,7 +96,8 @@ fn path_of(job: &Job) -> &str {
     }
 }
 
-// Why a stream failed. A host that isn't found has no kind of its own, so it is looked up again.
+// Why a stream failed. A host that isn't found has no kind of its own, so its name is looked up
+// again.
 fn link_fault(rt: &HostRuntime, address: &str, reason: Option<ErrorKind>) -> Option<ErrorKind> {
     match reason {
         Some(ErrorKind::Uncategorized) => match address.to_socket_addrs(rt) {

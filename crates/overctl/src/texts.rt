@@ -66,7 +66,7 @@ impl Display for Usage {
     }
 }
 
-/// That of the command that the words begin with.
+/// The usage of the command that the words begin with.
 pub fn usage_of(command: Option<&str>) -> Usage {
     match line_of(command.unwrap_or("")) {
         Some(line) => Usage(line.usage),

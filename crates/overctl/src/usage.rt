@@ -29,7 +29,7 @@ fn wrong_words<'a>(error: &Error, words: &'a [String]) -> WrongWords<'a> {
     }
 }
 
-/// What is wrong with a word that stands where the line has this one.
+/// What is wrong with a word where the line has this one.
 fn wrong_word<'a>(alloc: Global, label: &str, word: &'a str) -> Option<WrongWords<'a>> {
     match label {
         "USER" | "FILE" => match Name::read(word.as_bytes()) {

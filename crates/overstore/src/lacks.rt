@@ -5,11 +5,11 @@ use ov_base::limits::{MAX_FILE_BYTES, MAX_LINE_BYTES};
 /// What a bad line lacks, the first thing that is seen of these.
 #[derive(Clone, Copy, Debug, PartialEq, Eq)]
 pub enum Lack {
-    /// Nothing stands on it.
+    /// The line is empty.
     Text,
     /// With its LF it has too many bytes.
     Short,
-    /// A CR stands on it.
+    /// The line has a CR.
     LineFeedAlone,
     /// It begins with no command.
     Command,
