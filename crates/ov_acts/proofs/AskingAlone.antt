@@ -56,7 +56,7 @@ reply_makes : (v : Service) (request reply : List ℕ) (made : List SealedUpdate
 reply_makes v request reply made (inl is) = replies_may_make _ request reply made is
 reply_makes v request reply made (inr failed) = failed.makes
 
--- so it is with a request that is sent
+-- a request that is sent makes nothing, where it asks for no update
 sent_makes : (request : Request) (made : List SealedUpdate) → HasRequestForm request
     → updates_asked (Ok request) ≡ [] → MayMake (request_bytes request) made → made ≡ []
 sent_makes request made form none (inl is) = is

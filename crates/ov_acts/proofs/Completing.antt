@@ -58,7 +58,8 @@ reader_found disk line r (Err stops.Read) p q outcome Next key is then goes =
     subst (IsAnsweredOr disk) (sym goes.1) tt
 reader_found disk line r (Err stop) p q outcome Next key is then goes = absurd is
 
--- and one of bytes to be stored, which are no more than a file may have
+-- an act is answered that goes on from the bytes to be stored, which are no more than a file may
+-- have
 bytes_taken : {P : Type 0} (disk : Type 0) (body : List ℕ) (found : Result (List ℕ) Stop)
     (p q : P) (outcome : Outcome) (Next : List ℕ → Type 0)
     → length body ≤ MAX_FILE_BYTES → FindsBytes (Some body) found

@@ -44,7 +44,7 @@ abbrev IsOther : Stage → Type 0
 IsOther (Ends (Err faults.Device)) = ⊥
 IsOther stage = Unit {0}
 
--- so it is with what is sealed
+-- what is sealed isn't a fault of the disk
 abbrev IsOtherSealed : Result (ℕ × SealedUpdate) OwnerFault → Type 0
 IsOtherSealed (Err faults.Device) = ⊥
 IsOtherSealed told = Unit {0}

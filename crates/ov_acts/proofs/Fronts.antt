@@ -103,7 +103,7 @@ no_reader_found (Some file) (Some rest) front count long had (inr end) none =
     let same : file ≡ front = had ∙ ap (λ x. front ++ x) end ∙ append-nil front in
     none r (subst (λ f. IsLineOf f r) same is)
 
--- then it is none of any reader
+-- keys that are a line of no reader are a line of none
 pub no_line : (keys : Option (List ℕ)) → IfSome keys (λ line. (r : Reader) → IsLineOf line r → ⊥)
     → IfSome keys (λ line. ((r : Reader) × IsLineOf line r) → ⊥)
 no_line None none = tt
@@ -157,7 +157,7 @@ filled_all old new buffer bytes size count big long within few had (inr none) e 
     (body_found old new (take count buffer) count (length-take-le count buffer (omega arith)) few had
     (inr none))
 
--- and where more was taken than a file has, the file is too long
+-- where more was taken than a file may have, the file is too long
 pub filled_more : (old new : Option (List ℕ)) (buffer : List ℕ) (size count : ℕ)
     → length buffer ≡ size → count ≤ size → MAX_FILE_BYTES < count
     → Consumes old new (take count buffer) → IfSome old (λ file. MAX_FILE_BYTES < length file)

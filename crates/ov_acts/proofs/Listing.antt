@@ -71,7 +71,7 @@ list_is_few text names (said, are, e, once) few =
     let count : length names ≤ size names = count_size names in
     (omega arith, omega arith)
 
--- so is the list of a job that a line of words says
+-- the list of a job that a line of words says is few and short
 pub line_limits : (act : Act) (address keys path : List ℕ) (words : List (List ℕ))
     → IsLine act address keys path words → HasListLimits act
 line_limits (acts.Create file list) address keys path words (command, rest, e, (text, is, w, named, written)) =

@@ -33,7 +33,7 @@ same_reader : (keys : Option (List ℕ)) (line : List ℕ) (r client : Reader)
 same_reader keys line r client once found told is =
     once line client r (subst (λ known. FindsReader known (Ok client)) told found) is
 
--- so it is with a read by the line that was found
+-- what a read by the line that was found gives is the machine's, for each reader of that line
 pub reader_told : ((text : List ℕ) (r s : Reader) → IsLineOf text r → IsLineOf text s → r ≡ s)
     → (client : Reader) (file : List ℕ) (keys : Option (List ℕ))
     (result : Result (List ℕ) ClientFault) (outcome : Outcome) (v : Service)

@@ -12,7 +12,7 @@ use Rattle.ov_acts.specs.Machine.{HandsKeys}
 use Rattle.ov_acts.specs.Stops.{Outcome}
 
 module _ (k : Masters) (v : Service) (Then : Service → Type 0) (user : List ℕ) where
-  -- so a line holds the user's two root keys, and a refusal is the call's
+  -- a line that is printed holds the user's two root keys, and a refusal is the call's
   pub keys_told : (result : Result Reader OwnerFault) (outcome : Outcome)
       → IsReaderOf k v Then user result → Says key_line result outcome
       → HandsKeys k v Then user outcome

@@ -123,7 +123,8 @@ round_of_column s t w n same =
     (first_changes 1 1 2 3 _ _ _ q11 q22 q33) (fourth_changes 1 1 2 3 _ _ _ q01 q12 q23) (third_changes 1 1 2 3 _ _ _ q02 q13 q31) (second_changes 1 1 2 3 _ _ _ q03 q21 q32)
     (first_changes 3 1 1 2 _ _ _ q11 q22 q33) (fourth_changes 3 1 1 2 _ _ _ q01 q12 q23) (third_changes 3 1 1 2 _ _ _ q02 q13 q31) (second_changes 3 1 1 2 _ _ _ q03 q21 q32)
 
--- the same, where the states before it differ in the byte of row 3 and column 3 alone
+-- a byte of the state after a round, where the states before it differ in the byte of row 3 and
+-- column 3 alone
 pub round_of_byte : (s t : List ℕ) (w : List (List ℕ)) (n : ℕ)
     → ((r c : ℕ) → r < 4 → c < 4 → r + c < 6 → byte_in t r c ≡ byte_in s r c) → (r : ℕ) → r < 4
     → byte_in (full_round t w n) r 0

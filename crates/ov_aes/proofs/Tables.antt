@@ -16,7 +16,7 @@ at_each {A} n f g e b lt =
     ∙ ap (λ (t : List A). get_or t b (f 0)) e
     ∙ get_or-map-range_with_len g 0 n b b (f 0) lt (zero-add b)
 
--- the same of all bytes
+-- two functions that agree on the bytes agree at each byte
 pub at_byte : (f g : ℕ → ℕ) → map f (range_with_len 0 256) ≡ map g (range_with_len 0 256) → (b : ℕ) → b < 256 → f b ≡ g b
 at_byte = at_each 256
 

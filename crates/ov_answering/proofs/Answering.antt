@@ -418,7 +418,7 @@ module _ {D : Type 0} (tells : DiskTells D) (mid last : KeptOn D) (command : Com
       (λ (s : Stop). Answers tells mid.kept.masters q command (Some s)
       old new mid last) is (answers mid.kept.masters q refl stands)
 
--- so it is at the end of a script
+-- no tag is found to be another one at the end of a script
 pub end_tag : {D : Type 0} (tells : DiskTells D) (mid last : KeptOn D) (fault : StepFault) (bad : BadTag) → fault ≡ WrongTag bad
     → ((k : Masters) (p : PlainHistory) → mid.kept.masters ≡ k → StandsFor mid.kept p → StepsAt tells k p AskEpoch mid last (Err fault))
     → (q : PlainHistory) × StandsFor mid.kept q → ⊥

@@ -246,7 +246,8 @@ module _ {D : Type 0} (tells : DiskTells D) where
     false_refused (Err refused) owners = λ i read.
         by_fault i refused.fault (found.0 i read).some (seen (Err refused) owners i read)
 
-  -- so it is under the keys with which it was begun
+  -- what is found of a store's image, under the keys with which the store was begun, by what is
+  -- found of its updates
   pub looked : (k : Masters) (ks : Keys) (mode : Mode) (first : D) (s : Opened D)
       → ks ≡ keys_of k → s.keys ≡ ks
       → Told (tells.reads first) (λ i. FindsHistory tells ks mode i s)

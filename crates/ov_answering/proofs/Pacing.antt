@@ -50,7 +50,7 @@ begins_behind line room text (command ∷ commands) line' room' rest more b = (
   begins_behind (line + lf_count b.0) (room - length b.0) b.1 commands line' room' rest more b.5,
 )
 
--- and those that follow may be left out
+-- bytes that follow may be left out
 begins_before : (line room : ℕ) (text front behind : List ℕ) (commands : List Command) (line' room' : ℕ) (rest pending : List ℕ)
     → text ≡ front ++ behind → rest ≡ pending ++ behind → BeginsWith line room text commands line' room' rest
     → BeginsWith line room front commands line' room' pending

@@ -73,7 +73,7 @@ module _ (k : Masters) (p : PlainHistory) (text : List ℕ) (commands : List Com
   first_none : (old new : Option (List ℕ)) → TranscribesAll k p commands old new → TranscribesFirst k p text commands old new
   first_none old new (bytes, all, put) = (bytes, [], all, inl refl, subst (Appends old new) (sym (append-nil bytes)) put)
 
-  -- and a front of what comes next
+  -- the transcripts of these commands were put, and a front of what comes next
   first_more : (next : Command) → BeginsScript text (commands ++ next ∷ []) ⊎ ((next ≡ AskEpoch) × IsScript text commands AtEnd) → (old mid new : Option (List ℕ))
       → TranscribesAll k p commands old mid → TranscribesFront k (after_all p commands) next mid new → TranscribesFirst k p text commands old new
   first_more next comes old mid new (bytes, all, put) (front, is, more) =

@@ -46,7 +46,7 @@ set_of_bytes-bytes_of (suc count) set h =
     let e = set_of_bytes-bytes_of count (set / 256) less in
     omega arith
 
--- and the other way round
+-- the set of some bytes has them as its bytes again
 pub bytes_of-set_of_bytes : (bytes : List ℕ) (count : ℕ) → length bytes ≡ count → ((i : ℕ) → get_or bytes i 0 < 256) → bytes_of count (set_of_bytes bytes) ≡ bytes
 unfolding bytes_of set_of_bytes
 bytes_of-set_of_bytes [] zero e fit = refl

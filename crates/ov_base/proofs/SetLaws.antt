@@ -14,7 +14,7 @@ Has-bit s n h = eqb-true _ _ h
 pub bit-Has : (s n : ℕ) → bit_at s n ≡ 1 → Has s n
 bit-Has s n h = eq-eqb _ _ h
 
--- and another user's is zero
+-- the bit of a user who is no member is zero
 pub none-has : (s n : ℕ) → bit_at s n ≡ 0 → has s n ≡ false
 none-has s n h = ne_eqb _ _ (omega arith)
 
@@ -135,7 +135,7 @@ same_bit (suc zero) (suc (suc y)) p q e = absurd (omega arith)
 pub same_members : (a b : ℕ) → ((n : ℕ) → has a n ≡ has b n) → a ≡ b
 same_members a b same = same_from_bits a b (λ i. same_bit (bit_at a i) (bit_at b i) (bit_at-lt a i) (bit_at-lt b i) (same i))
 
--- and so are two sets that lie within one another
+-- two sets that lie within one another are equal
 pub each_within : (a b : ℕ) → Within a b → Within b a → a ≡ b
 each_within a b p q = same_members a b (λ n. both_ways (has a n) (has b n) (p n) (q n))
 
@@ -214,7 +214,7 @@ small-IsBelow limit s h n one = elim (cases_lt n limit) [
   | inr above ↦ absurd (omega (arith, bit_at_above s limit n h above, Has-bit s n one))
 ]
 
--- and the other way round
+-- a set of users below the limit is a number below 2 ^ limit
 pub IsBelow-small : (limit s : ℕ) → IsBelow limit s → s < 2 ^ limit
 IsBelow-small limit s below =
     let low : s % 2 ^ limit < 2 ^ limit = mod_below s (2 ^ limit) (pow_pos limit) in

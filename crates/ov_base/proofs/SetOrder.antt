@@ -66,7 +66,7 @@ pub set_cmp-same : (a b : ℕ) → set_cmp a b ≡ Equal → a ≡ b
 unfolding set_cmp
 set_cmp-same a b e = same_bytes (max a b) a b (own_bytes a (max a b) (omega arith)) (own_bytes b (max a b) (omega arith)) e
 
--- and they are in a total order
+-- sets are in a total order
 pub set_cmp-total : IsTotalOrder set_cmp
 set_cmp-total = record {
   antisymm = λ a b.

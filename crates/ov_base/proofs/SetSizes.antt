@@ -78,11 +78,11 @@ strict_up_to (suc w) a b h all other = elim (cases_eq b 0) [
       ]
 ]
 
--- and a strict one has fewer
+-- a strict subset has fewer users
 pub size-strict : (a b : ℕ) → Within a b → a ≢ b → size a < size b
 size-strict a b all other = strict_up_to b a b (omega arith) all other
 
--- so a subset of the same size is the set
+-- a subset of the same size is the set
 pub same_size : (a b : ℕ) → Within a b → size a ≡ size b → a ≡ b
 same_size a b all e = elim (cases_eq a b) [ inl same ↦ same | inr other ↦ let less = size-strict a b all other in absurd (omega arith) ]
 

@@ -144,7 +144,7 @@ within_words ws vs fw fv each n h =
 within_bit : (a b c p q : ℕ) → c ≡ min a b → a < 2 → b < 2 → p ≡ a → q ≡ b → (p ≡ 1 → q ≡ 1) → c ≡ a
 within_bit a b c p q x y z e f h = elim (cases_eq a 1) [ inl one ↦ let g = h (e ∙ one) in omega arith | inr none ↦ omega arith ]
 
--- and the other way round
+-- where the set of the one words lies within that of the others, each word does too
 pub words_within : (ws vs : List ℕ) → AllFit ws → AllFit vs → Within (set_of_words ws) (set_of_words vs) → (k : ℕ) → bit_and (get_or ws k 0) (get_or vs k 0) ≡ get_or ws k 0
 words_within ws vs fw fv all k =
     let a : ℕ = get_or ws k 0 in let b : ℕ = get_or vs k 0 in

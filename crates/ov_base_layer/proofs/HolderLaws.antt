@@ -125,7 +125,7 @@ holders_are sets accesses node user = (
   ],
 )
 
--- the same of a set and accesses that are found to be the node's
+-- the holders by a set and accesses that are found to be the node's, in one sentence
 pub found_holders : (layer : BaseContents) (sets : List ℕ) (grants found : List Grant) (node set held user : ℕ)
     → held ≡ with_accesses (accesses_of found) node set
     → found ≡ grants

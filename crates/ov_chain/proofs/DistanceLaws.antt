@@ -47,7 +47,7 @@ least_bound ds best (e ∷ es) c j h found = elim (Contains-cases e.from (starts
   | inr later ↦ least_bound ds (smaller best (distance_at ds e.from)) es c j later found
 ]
 
--- and it is one of these
+-- the least distance is the best from before or that of a start
 least_from : (ds : List (Option ℕ)) (best : Option ℕ) (es : List Edge) (k : ℕ) → least_start ds best es ≡ Some k
     → (best ≡ Some k) ⊎ ((c : ℕ) × Contains (starts_of es) c × (distance_at ds c ≡ Some k))
 least_from ds best [] k h = inl h

@@ -33,7 +33,7 @@ unless_form : (o : Option ℕ) (c : Chained) → IsChained c → IfOk (chained_u
 unless_form None c is = is
 unless_form (Some place) c is = tt
 
--- and the form of one
+-- a Chained that is told has the form of one
 pub chained_form : (r : Reader) (least : ℕ) (user file : List ℕ) (a : Answer)
     → IsAnswer (requests.Chain user file) a → IfOk (chained_in r least a) IsChained
 chained_form r least user file (answers.Chained c) is = unless_form (wrong_field r least c) c is

@@ -89,7 +89,7 @@ abbrev pub BeginsAt : ℕ → Option Chain → Type 0
 BeginsAt root None = Unit {0}
 BeginsAt root (Some chain) = chain.root ≡ root
 
--- and the surface chain to the key of the surface, where the file has one
+-- the surface chain leads to the key of the surface, where the file has one
 pub surface_chain_leads : (k : Masters) (c : Catalogue) (user root : ℕ) (surface : Option ℕ)
     (chain : Option Chain)
     → AreTrueTokens k c → BeginsAt root chain → IsSurfaceChain c.surface user surface chain

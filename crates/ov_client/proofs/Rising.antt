@@ -32,7 +32,7 @@ rises_up [] n m rises le = tt
 rises_up (x ∷ []) n m (lt, rises) le = (omega arith, tt)
 rises_up (x ∷ (y ∷ xs)) n m (lt, rises) le = (lt, rises_up (y ∷ xs) n m rises le)
 
--- and a higher one behind it
+-- a higher number behind numbers that rise
 pub rises_more : (xs : List ℕ) (n m : ℕ) → Rises (xs ++ n ∷ []) → n < m
     → Rises ((xs ++ n ∷ []) ++ m ∷ [])
 rises_more [] n m rises lt = (lt, tt)

@@ -58,7 +58,7 @@ first_word (a ∷ xs) (b ∷ ys) x y p q e =
     let same : xs ≡ ys = first_word xs ys x y p.1 q.1 tail in
     let head : a ≡ b = cc in cc
 
--- and so is what follows it
+-- the words before a space and what follows it are the same in two ways to cut a text there
 pub split_once : (text xs ys x y : List ℕ) → HasNoSpace xs → HasNoSpace ys
     → text ≡ xs ++ 32 ∷ x → text ≡ ys ++ 32 ∷ y → (xs ≡ ys) × (x ≡ y)
 split_once text xs ys x y p q one two =

@@ -69,7 +69,7 @@ module _ {P : Type 0} (peer : PeerTells P) (r : Reader) (file : List ℕ) where
   pub forgot : (p : P) (stage : Stage) → ReadsFrom peer p p r file stage (Err client.Memory)
   forgot p stage = ([], None, (p, refl, refl), (stage, refl, inr refl))
 
-  -- and after a read that is done
+  -- memory runs out after a read that is done
   pub forgot_bytes : (p q : P) (stage : Stage) (bytes : List ℕ)
       → ReadsFrom peer p q r file stage (Ok bytes)
       → ReadsFrom peer p q r file stage (Err client.Memory)

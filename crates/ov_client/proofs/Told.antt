@@ -43,7 +43,7 @@ module _ {P : Type 0} (peer : PeerTells P) (p q : P) (r : Reader) (file : List �
             (stage, goes, closes) told.2,
       )
 
-  -- so it is with every read
+  -- what every read gives is the machine's
   pub read_told : (result : Result (List ℕ) ClientFault) (v : Service)
       → Reads peer p q r file result → peer.serves p v
       → IsReadersReply r file v (peer.serves q) result

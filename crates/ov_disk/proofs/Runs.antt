@@ -56,7 +56,8 @@ module _ {D : Type 0} (tells : DiskTells D) where
     any_moment = goes_on old mid new (tells.may_leave old) so_far.any_moment time (λ c left. so_far.no_more c (crash c left));
   }
 
-  -- the same after a call that may have failed to tell what it reads, as a sync that failed
+  -- the moments of a run that writes nothing, after one call more that may have failed to tell what
+  -- it reads, as a sync that failed
   pub looked_moments : (old mid new : D) → IsUntouched tells old mid → Narrows (tells.may_leave mid) (tells.may_leave new)
       → Elapses tells mid new → LeavesOnly tells old new (tells.may_leave old)
   looked_moments old mid new so_far crash time = goes_on old mid new (tells.may_leave old) so_far.any_moment time (λ c left. so_far.no_more c (crash c left))

@@ -119,7 +119,7 @@ torn_after tear i xs s call is =
     let left : Leaves i (take front.0 xs) (torn tear i (take front.0 xs)) = torn_left tear (λ c. c ≡ i) i i (take front.0 xs) read.0 read.1 refl (keeps_same tear i) in
     subst (λ (l : List Change). Leaves i l (torn tear i l)) (sym front.2) left
 
--- and so may one at some moment
+-- a crash at some moment may leave what a stop leaves
 pub torn_possible : (tear : Tear) (i : Image) (xs : List Change) (s : Image) (call : ℕ) → replayed i xs ≡ Some s → LeftSince i xs 0 (torn tear i (before call xs))
 torn_possible tear i xs s call is =
     let front = before_front call xs in

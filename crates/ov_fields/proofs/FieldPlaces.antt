@@ -14,7 +14,7 @@ use Rattle.ov_fields.proofs.PlaceLaws.{AreBytes-nil, AreBytes-cons, AreBytes-bot
 
 -- ---- bytes that fill a field
 
--- so many zeros
+-- this many zeros
 pub zeros : ℕ → List ℕ
 zeros zero = []
 zeros (suc n) = 0 ∷ zeros n

@@ -97,7 +97,7 @@ u16_places test least most limited limits = record {
   fault = that_fault wide16 test least most limits limited (omega arith) u16-bytes (λ bytes o. at_u16 limited o);
 }
 
--- the same of four
+-- a number of four bytes that passes a test
 pub u32_places : {Once Limited : Type 0} (test : ℕ → Bool) (least most : ℕ) → Limited → IsLimits test least most (2 ^ 32) → HasPlaces Once Limited (number_that w32 test) u32 (λ n. (n < 2 ^ 32) × IsTrue (test n))
 u32_places test least most limited limits = record {
   value = least;

@@ -71,7 +71,7 @@ many_reads {r = r} {s = s} {F = F} {m = m} R n = record {
   short = λ values fits. subst (λ (k : ℕ). length (flat_map s values) ≤ k * m) fits.1 (many_short r s F m R values fits.0);
 }
 
--- the same with a bound that doesn't depend on the number
+-- a reader with a larger bound on the bytes, one that doesn't depend on the number of values
 pub Reads-more : {A : Type 0} {r : List ℕ → Read A} {s : A → List ℕ} {F : A → Type 0} {m : ℕ} → Reads r s F m → (most : ℕ) → m ≤ most → Reads r s F most
 Reads-more R most le = record {
   takes = R.takes;

@@ -128,7 +128,7 @@ front_step zero (x ∷ bytes) b after e = let same : x ≡ b = cc in let rest : 
 front_step (suc i) (x ∷ bytes) b after e =
     let t = front_step i bytes b after e in (ap (λ (l : List ℕ). x ∷ l) t.0, t.1, omega (arith, t.2))
 
--- so many of the bytes were read
+-- this many of the bytes were read
 pub record Passes (count i : ℕ) (bytes rest : List ℕ) : Type 0 where
   pub read : with_front (take i bytes) (many_at (byte_at is_name_byte) (count - i) rest) ≡ many_at (byte_at is_name_byte) count bytes
   pub is_rest : rest ≡ drop i bytes

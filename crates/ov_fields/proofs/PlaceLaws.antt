@@ -53,7 +53,7 @@ pub data Stops {A : Type 0} (Once Limited : Type 0) (Taken : List ℕ → Type 0
   at_name : Once → (name after : List ℕ) → IsName name → rest ≡ name_field name ++ after → ((more : List ℕ) → Taken ((front ++ name_field name) ++ more) → ⊥)
       → Stops Once Limited Taken spell Form front rest
 
--- so many bytes are left at the wrong place
+-- this many bytes are left at the wrong place
 pub record Fault {A : Type 0} (Once Limited : Type 0) (Taken : List ℕ → Type 0) (spell : A → List ℕ) (Form : A → Type 0) (bytes : List ℕ) (left : ℕ) : Type 0 where
   pub front : List ℕ
   pub rest : List ℕ

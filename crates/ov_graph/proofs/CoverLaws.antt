@@ -84,7 +84,7 @@ cover-few sets set =
     rw here (candidate-is set (slice_index sets r.0) r.3).inside) in
     omega arith
 
--- and none to the empty set and to a user's alone
+-- the empty set and a set of one user have no cover
 pub cover-none : (sets : List ℕ) (set : ℕ) → size set ≤ 1 → cover_of sets set ≡ []
 cover-none sets set small = nothing_in _ (λ c h.
     let is = (cover-Contains sets set c h).1 in

@@ -22,7 +22,7 @@ module _ (all : List ℕ) (set node earlier : ℕ) (found more : List Candidate)
       → more ++ entries all set (candidates_from set (node + 1) (drop (node + 1) all)) ≡ found ++ entries all set (candidates_from set node (drop node all))
   found_step lacks test size_is new = rw (ahead true test, new, size_is, is) (append_assoc found _ _)
 
-  -- or it isn't one
+  -- a node is passed that isn't a candidate
   pub passed_step : is_candidate set earlier ≡ false → more ≡ found
       → more ++ entries all set (candidates_from set (node + 1) (drop (node + 1) all)) ≡ found ++ entries all set (candidates_from set node (drop node all))
   passed_step test same = rw (ahead false test, same) refl
@@ -37,7 +37,7 @@ module _ (all : List ℕ) (cs : List Candidate) (i : ℕ) (d c : Candidate) (ear
       → from2 ++ kept all covered2 (nodes_of (drop (i + 1) cs)) ≡ from ++ kept all covered (nodes_of (drop i cs))
   kept_step test new more = rw (next, ← is, test, new, more) (append_assoc from _ _)
 
-  -- or it adds no user
+  -- a node is skipped that adds no user
   pub skipped_step : within earlier covered ≡ true → from2 ≡ from → covered2 ≡ covered
       → from2 ++ kept all covered2 (nodes_of (drop (i + 1) cs)) ≡ from ++ kept all covered (nodes_of (drop i cs))
   skipped_step test same still =

@@ -97,7 +97,7 @@ node_none sets set new = first_node sets set (elim (nat_lt (position_or_len (λ 
   | false ↦ λ t e. grind (arith, nat_tests)
 ] refl new)
 
--- and a node that has the set is one
+-- a node that is found for a set is there, and has the set
 pub node_some : (sets : List ℕ) (set node : ℕ) → node_of sets set ≡ Some node
     → (node < length sets) × (get_or sets node 0 ≡ set)
 node_some sets set node e =

@@ -52,7 +52,7 @@ Walk-Has sets from to zero u w one = subst (λ n. Has (slice_index sets n) u) w 
 Walk-Has sets from to (suc edges) u w one =
     (starts-Contains sets to w.0 w.2.1).1.inside u (Walk-Has sets from w.0 edges u w.1 one)
 
--- and from the node of a user alone there is one to each set that has the user
+-- from the node of a user alone edges lead to each set that has the user
 Has-Leads : (bound : ℕ) (sets : List ℕ) (root n u : ℕ) → n < bound → IsGrown sets → root < length sets
     → slice_index sets root ≡ single u → n < length sets → Has (slice_index sets n) u
     → Leads sets root n

@@ -95,7 +95,7 @@ module _ (sets : List ℕ) (edges : List Edge) (spans : List Span) (set : ℕ) (
         few = omega (arith, length-append sets (set ∷ []), h.few);
       }
 
-  -- the same, where the lists are given by equations
+  -- a list graph and its rows after a set was added, where the lists are given by equations
   pub added : (sets2 : List ℕ) (edges2 : List Edge) (spans2 : List Span) → sets2 ≡ sets ++ set ∷ []
       → edges2 ≡ edges ++ joined cover.from tokens → spans2 ≡ spans ++ span ∷ []
       → IsAdded sets edges spans set cover tokens span

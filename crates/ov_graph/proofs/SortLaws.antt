@@ -166,6 +166,6 @@ module _ (sets : List ℕ) (set : ℕ) (found sorted : List Candidate) (is : fou
       ap (kept sets empty) (sorted_larger_first sets set (candidates_from set 0 sets) sorted (are_candidates sets set)
       (subst (λ xs. IsPermutation xs sorted) is same) order (subst (λ xs. IsStableByKey (λ (c : Candidate). c.lacks) nat_cmp xs sorted) is stable))
 
-  -- and each is a node
+  -- each of the sorted candidates is a node
   pub sorted_inside : All (λ (c : Candidate). c.node < length sets) sorted
   sorted_inside = sorted_nodes sets set (length sets) (candidates_from set 0 sets) sorted (λ n h. let r = from_candidates set 0 sets n h in omega (arith, r.1, r.2)) (subst (λ xs. IsPermutation xs sorted) is same)

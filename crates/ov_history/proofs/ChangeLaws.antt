@@ -25,7 +25,7 @@ change_at-here f place [] d same = sym same
 change_at-here f zero (x ∷ xs) d same = refl
 change_at-here f (suc place) (x ∷ xs) d same = change_at-here f place xs d same
 
--- and each other one isn't
+-- an item at another place isn't changed
 pub change_at-other : {A : Type 0} (f : A → A) (place n : ℕ) (xs : List A) (d : A) → n ≢ place
     → slice_index_or (change_at f place xs) n d ≡ slice_index_or xs n d
 change_at-other f place n [] d other = refl

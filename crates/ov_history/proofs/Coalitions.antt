@@ -13,7 +13,7 @@ use Rattle.ov_history.specs.Sound.{IsSound}
 use Rattle.ov_history.proofs.ClosureHolds.{holds_what_is_due}
 use Rattle.ov_history.proofs.HeldFiles.{held_where_listed}
 
--- each step has one label before it, so it is one member's
+-- each step has one label before it, and is therefore one member's
 one_reaches : (c : Catalogue) (users : List ℕ) (label : Label)
     → Reaches c (IsRootOfSome c users) label
     → (user : ℕ) × Contains users user × Reaches c (IsRootOf c user) label

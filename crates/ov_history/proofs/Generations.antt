@@ -31,7 +31,7 @@ abbrev pub KeepsNodes : List ℕ → List ℕ → Type 0
 KeepsNodes sets more = (n : ℕ) → n < length sets
     → (n < length more) × (slice_index more n ≡ slice_index sets n)
 
--- so a set that is there keeps its first node
+-- a set that is there keeps its first node
 node_stays : (sets more : List ℕ) (set : ℕ) → KeepsNodes sets more → Contains sets set
     → node_for more set ≡ node_for sets set
 node_stays sets more set keeps there = by_node (node_of sets set) refl where
@@ -50,7 +50,7 @@ node_stays sets more set keeps there = by_node (node_of sets set) refl where
       absurd (grind (arith, nat_tests))) in
       ap (λ (o : Option ℕ). (planned o more set).node) first
 
--- and its surface
+-- a wanted set that is there keeps its surface
 surface_stays : (sets more : List ℕ) (want : Option ℕ) → KeepsNodes sets more
     → ((set : ℕ) → want ≡ Some set → Contains sets set)
     → surface_at more want ≡ surface_at sets want

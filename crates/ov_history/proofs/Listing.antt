@@ -29,7 +29,7 @@ pub same_surface-refl : (surface : Option ℕ) → same_surface surface surface 
 same_surface-refl None = refl
 same_surface-refl (Some node) = eq-eqb node node refl
 
--- and two that aren't
+-- two surfaces that aren't the same
 pub same_surface-not : (one other : Option ℕ) → same_surface one other ≡ false → one ≢ other
 same_surface-not one other e same =
     absurd
@@ -49,7 +49,7 @@ settled_at-surface epoch sets want p =
     moved_surface (same_surface p.surface (surface_at sets want)) epoch (surface_at sets want) p
     refl
 
--- and its base node stays
+-- the base node of a place that was settled stays
 moved_node : (b : Bool) (epoch : ℕ) (surface : Option ℕ) (p : Place)
     → (moved b epoch surface p).node ≡ p.node
 moved_node true epoch surface p = refl

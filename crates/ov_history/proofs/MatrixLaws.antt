@@ -51,7 +51,7 @@ lists_of-layers_of =
     ∙ ap (λ lists. lists_after lists u) same ∙ sym (file_lists-changed (matrix_of h) u)
     ∙ ap (λ (m : Matrix). file_lists m.files) (sym (matrix_of-push h u)))
 
--- and as many files
+-- the layers of a history have as many files as its matrix
 pub files_of-layers_of : (h : History) → length (layers_of h).files ≡ length (matrix_of h).files
 files_of-layers_of h =
     sym (length-lists_of (layers_of h)) ∙ ap length (lists_of-layers_of h)

@@ -155,7 +155,7 @@ outline-after master c b parts =
     outline-under master next (wants_of (outline next) lists)
     ∙ ap (λ (y : Layers). settled y lists) (outline-grown c b parts)
 
--- so it is after an update that fits a history whose layers these are
+-- the outline after an update that fits a history whose layers these are is the layers after it
 pub outline-next : (master : List ℕ) (c : Catalogue) (h : History) (b : Brief)
     → outline c ≡ layers_of h
     → HasParts (layers_of h) b
@@ -165,7 +165,7 @@ outline-next master c h b is parts =
     ∙ ap (λ (y : Layers). layers_after y (outer b)) is
     ∙ sym (layers_of-push h (outer b))
 
--- and after all updates that fit it
+-- the outline after all updates that fit a history whose layers these are is the layers after them
 pub outline-all : (master : List ℕ) (c : Catalogue) (h : History) (updates : List SealedUpdate)
     → outline c ≡ layers_of h → AllFit h updates
     → outline (catalogue_all master c updates) ≡ layers_of (with_updates h (outer_all updates))

@@ -22,7 +22,7 @@ abbrev moved_to : ℕ → Filed → Filed → Rewrite
 moved_to number f now =
     record { file = number; length = now.length; old = f.surface; new = now.surface }
 
--- and of a new one
+-- the rewrite of a new file
 abbrev new_at : ℕ → Filed → Rewrite
 new_at number now = record { file = number; length = now.length; old = None; new = now.surface }
 

@@ -35,7 +35,7 @@ restored-same : (master : List ℕ) (surface : Option ℕ) (number : ℕ) (bytes
 restored-same master surface number bytes =
     coated-coated (surface_key master surface) number 0 bytes
 
--- and text under the coat of the old surface comes under that of the new one
+-- text under the coat of the old surface comes under that of the new one
 pub restored-under : (master : List ℕ) (from to : Option ℕ) (number : ℕ) (text : List ℕ)
     → restored master from to number (stored_under (surface_key master from) number text)
     ≡ stored_under (surface_key master to) number text

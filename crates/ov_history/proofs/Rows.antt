@@ -43,7 +43,7 @@ granted = refl
 revoked : in_delta (shared ++ Revoked 2 0 ∷ []) ≡ three_users 7 (under 3 3 7 ∷ under 3 3 6 ∷ [])
 revoked = refl
 
--- and the grant again takes it off, without another access token
+-- the grant again takes the surface off the first file, without another access token
 granted_again : in_delta (shared ++ Revoked 2 0 ∷ Granted 2 0 ∷ [])
     ≡ three_users 8 (bare 3 8 ∷ under 3 3 6 ∷ [])
 granted_again = refl

@@ -29,7 +29,7 @@ use Rattle.ov_history.proofs.Pushing.{matrix_of-push, with_updates, with_updates
 abbrev row : Filed → ℕ → File
 row f list = record { name = f.name; length = f.length; list = list }
 
--- so each of the files
+-- the files of the matrix, each with its list
 abbrev rows : List Filed → List ℕ → List File
 rows [] lists = []
 rows (f ∷ files) [] = []
@@ -164,7 +164,7 @@ matrix-shown master g fit =
     fit
     ∙ ap (λ (h : History). matrix_of h) (with_updates-all (outer_of g))
 
--- and its epoch is the history's
+-- the epoch of the catalogue after a sealed history is the history's
 pub epoch-shown : (master : List ℕ) (g : SealedHistory) → IsSealed g
     → (catalogue_of master g).epoch ≡ epoch_of (outer_of g)
 epoch-shown master g fit =
@@ -182,7 +182,7 @@ history_is_shown master c g (fit, is) = record {
       ∙ mode_of-layers_of (outer_of g);
 }
 
--- so a store refuses what its history refuses
+-- a store refuses what its history refuses
 pub refusals_shown : RefusalsAreShown
 refusals_shown master c g b stands =
     let h : History = outer_of g in

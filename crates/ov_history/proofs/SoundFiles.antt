@@ -28,7 +28,7 @@ module _ (c : Catalogue) (f : Filed) (there : f.node < length c.base.sets) where
         (holders (outline c) f.node)) (sym e) (λ user one. one);
   }
 
-  -- and one whose surface has a set within the holders
+  -- a file is placed whose surface has a set within the holders
   coated : (node set : ℕ) → f.surface ≡ Some node → node < length c.surface.sets
       → get_or c.surface.sets node 0 ≡ set → Within set (holders (outline c) f.node) → IsPlaced c f
   coated node set e below is held = record {
@@ -86,7 +86,7 @@ module _ (epoch : ℕ) (c : Catalogue) where
         coated c settled node_there (node_for c.surface.sets set) set (now (Some set) e) own.0 own.1
         (subst (λ n. Within set (holders (outline c) n)) (sym stays) inside)
 
-  -- so it is with all of the files
+  -- all of the files are placed
   pub all_placed : (y : Layers) (lists : List ℕ) (files : List Filed)
       → AreHeld (outline c) lists (places files)
       → ((set : ℕ) → Contains (wants_at y lists (places files)) (Some set)

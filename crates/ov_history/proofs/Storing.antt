@@ -160,7 +160,7 @@ settled_coats master old files texts stored epoch sets wants has =
       coats = λ n below. has.coats n (omega (arith, many));
     }
 
--- and all bytes come under the coats of these
+-- after the rewrites all bytes are under the coats of the files' new surfaces
 rewritten_coats : (master : List ℕ) (old now : List Filed) (texts stored : List (List ℕ))
     → HasCoats master old now texts stored
     → HasCoats master now now texts (rewritten_all master (rewrites_from 0 old now) stored)

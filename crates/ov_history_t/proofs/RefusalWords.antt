@@ -123,7 +123,7 @@ length-names : (files : List File) → length (file_names files) ≡ length file
 length-names [] = refl
 length-names (file ∷ files) = ap suc (length-names files)
 
--- so has a file's
+-- the name of a file has a number exactly where it is there
 file_among : (m : Matrix) (name : List ℕ)
     → Decides (is_file m (file_number m name)) (Contains (file_names m.files) name)
 file_among m name =

@@ -109,7 +109,7 @@ IsBefore wants set later =
     (i : ℕ) × (slice_get wants i ≡ Some (Some set))
     × ((j : ℕ) → slice_get wants j ≡ Some (Some later) → i < j)
 
--- so it is behind another wanted set
+-- a wanted set comes before another one behind one more wanted set too
 behind : (want : Option ℕ) (wants : List (Option ℕ)) (set later : ℕ) → want ≢ Some later
     → IsBefore wants set later → IsBefore (want ∷ wants) set later
 behind want wants set later other (i, is, least) = (suc i, is, after) where

@@ -14,7 +14,7 @@ ended_in : (last : List ℕ) (code : ℕ) (old new : Option (List ℕ)) (status 
 ended_in last code old new status (inl (is, put)) = inl is
 ended_in last code old new status (inr (is, put)) = inr is
 
--- the same where memory may have been refused for it
+-- the status of a line that was put, or couldn't be, or for which memory may have been refused
 ended_or : (last : List ℕ) (code : ℕ) (old new : Option (List ℕ)) (status : ℕ) → EndsOr last code old new status
     → (status ≡ code) ⊎ ((status ≡ 6) ⊎ (status ≡ 7))
 ended_or last code old new status (inl (inl (is, put))) = inl is
@@ -66,7 +66,7 @@ module _ {V S : Type 0} (one : OneSession V S) (v w : V) (old new : Doorway S) (
     not_4 n (inr (inr (inl is))) four = omega (arith, is, four)
     not_4 n (inr (inr (inr is))) four = omega (arith, is, four)
 
-  -- and is one of a server whose disk has its store
+  -- the status is one of a server whose disk has its store
   pub serves_open : Serves one v w old new wanted before after status → IsOpenStatus status
   unfolding Ended
   serves_open serves = as_open (serves_ends serves) where
@@ -79,7 +79,7 @@ module _ {V S : Type 0} (one : OneSession V S) (v w : V) (old new : Doorway S) (
 -- ---- the status where no store was begun
 
 module _ (f : BeginFault) (old new : Option (List ℕ)) (status : ℕ) (ends : EndsOr (fault_line f) (fault_status f) old new status) where
-  -- a fault of the disk or want of memory
+  -- the status after a fault of the disk or refused memory is one of a disk that may have its store
   pub faulted_open : (f ≡ Disk) ⊎ (f ≡ Memory) → IsOpenStatus status
   faulted_open why = by_line (ended_or (fault_line f) (fault_status f) old new status ends) why where
     by_line : (status ≡ fault_status f) ⊎ ((status ≡ 6) ⊎ (status ≡ 7)) → (f ≡ Disk) ⊎ (f ≡ Memory) → IsOpenStatus status

@@ -78,7 +78,7 @@ module _ (k : Keys) (g : SealedHistory) (us : List SealedUpdate) (i : Image) whe
       followed-append g us asked ∙ ap (λ (l : List SealedUpdate). followed g (us ++ l)) same in
       inr (inl (subst (λ (h : SealedHistory). Keeps k h i) whole after))
 
-  -- and of one in which the disk failed
+  -- what a crash leaves of an update in which the disk failed
   asked_all : (asked : List SealedUpdate) (u : SealedUpdate) (now : Bool) → asked ≡ u ∷ [] → now ≡ true → KeepsWith k (followed g us) asked i
       → KeepsAll k g us now i
   asked_all asked u now same failed (inl before) = inl before
@@ -246,7 +246,7 @@ module _ {D : Type 0} (tells : DiskTells D) where
           lasts_after (says_accepted reply) refl answered g (before.endures g serves sound i told);
     }
 
-  -- ---- the same of each result of a call
+  -- ---- what each result of a call leaves
 
   module _ (old new : Opened D) (request reply : List ℕ) where
     pub goes_on_ok : (r : Result (Unit {0}) NoRoom) → OnOk r (AnswersOrFails tells old new request reply)
@@ -262,7 +262,7 @@ module _ {D : Type 0} (tells : DiskTells D) where
     goes_on_err (Ok done) same start list before = tt
     goes_on_err (Err why) (same, none) start list before = subst (GoesOn tells start list) (sym same) before
 
-  -- and of the replies
+  -- the replies after each result of a call
   pub replies_after : (old new : Opened D) (request reply : List ℕ) (r : Result (Unit {0}) NoRoom) → OnOk r (AnswersOrFails tells old new request reply)
       → (start : Opened D) (list : List (List ℕ)) → GoesOn tells start list old
       → OnOk r (RepliesAfter (serving_of start) list request reply)

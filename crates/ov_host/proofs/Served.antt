@@ -51,7 +51,7 @@ module _ {D S : Type 0} (disk_tells : DiskTells D) (source : SourceTells S) (sin
             (survives_from disk_tells k mode disk s last list begun first on i told only g mode_is stands);
       }
 
-  -- and hands its disk back
+  -- the server of a store that was just begun on this disk hands the disk back
   pub served_disk : (k : Keys) (mode : Mode) (disk : D) (s : Opened D) (old new : Doorway S) (wanted : ℕ) (before after : Option (List ℕ)) (hosted : Hosted D) (F : Type 0)
       → ServesStore disk_tells source sink k mode disk s old new wanted before after hosted → IsDiskCall disk_tells F disk s.disk
       → SaysDisk disk_tells disk hosted

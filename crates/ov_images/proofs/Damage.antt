@@ -42,7 +42,7 @@ record Cut (all front : List SealedUpdate) (body : List ℕ) : Type 0 where
   form : HasForm 32 next
   bytes : body ≡ spelling 32 next
 
--- the same behind one update more
+-- some updates, then one whose body is this, and others, behind one update more
 cut_behind : (u v : SealedUpdate) (all front : List SealedUpdate) (body : List ℕ) → u ≡ v
     → Cut all front body → Cut (u ∷ all) (v ∷ front) body
 cut_behind u v all front body first later = record {

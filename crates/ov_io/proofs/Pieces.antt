@@ -72,7 +72,7 @@ pieces_lent {L} {S} now lent tells P is first _ _ (no_piece last e) = no_piece (
 pieces_lent {L} {S} now lent tells P is first _ _ (one_more mid last seen piece before u t c some) =
     one_more (now mid) (now last) seen piece (pieces_lent now lent tells P is first mid seen before) u (is.takes mid last t) (consumed_lent now lent tells is mid last piece c) some
 
--- and so it is with takes
+-- takes of a source behind a loan are takes of the source
 pub while_lent : {L S : Type 0} (now : L → S) (lent : SourceTells L) (tells : SourceTells S) (P : List ℕ → Type 0) (E F : Type 0)
     → IsLent now lent tells → (first last : L)
     → TakesWhile lent P E F first last → TakesWhile tells P E F (now first) (now last)

@@ -70,7 +70,8 @@ pub record IsFront (skip end : ℕ) (bytes : List ℕ) : Type 0 where
   pub closed : get_or bytes end 0 ≢ 1
   pub reads : (t : List ℕ) → 1 ≤ length t → records_after skip (take end bytes ++ t) ≡ prepended (records_after skip bytes).bodies (records_after 0 t)
 
--- the same of the bytes from a gate on
+-- Whole records are the front of the bytes from a gate on: at their end is a gate that isn't open,
+-- and whatever comes instead of it, these bodies are read before it.
 record IsFrontOf (end : ℕ) (bytes : List ℕ) (bodies : List (List ℕ)) : Type 0 where
   inside : end < length bytes
   closed : get_or bytes end 0 ≢ 1

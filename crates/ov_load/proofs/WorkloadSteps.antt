@@ -166,7 +166,7 @@ module _ {D : Type 0} (tells : DiskTells D) where
         moments = λ holds. moments_so (goes.leaves (s.holds holds)) holds;
       }
 
-      -- or it isn't
+      -- the next command isn't answered
       loads_stop : (T : Type 0) (now : Tally) (fault : StepFault)
           → TalliesAt tells {T = T} k q command before now mid last (Err fault)
           → Loads tells k h load first last (Err fault)

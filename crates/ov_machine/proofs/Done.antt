@@ -45,7 +45,7 @@ use Rattle.ov_machine.proofs.Stepping.{changes_step, has_made, serves_at}
 use Rattle.ov_machine.proofs.Transcripts.{traced_with}
 use Rattle.ov_machine.proofs.Updating.{still_made}
 
--- a list ends so, and so is its fault caused
+-- how a list ends
 abbrev ListEnds : List ℕ → PlainHistory → Result (List (List ℕ)) OwnerFault → Type 0
 ListEnds file p x = EndsThere p (commands.List file) (names_reply file x)
 

@@ -62,7 +62,7 @@ end_proper count (Err client.Device) is = tt
 end_proper count (Err (client.Unsettled generations)) is = is
 end_proper count (Err client.Memory) is = tt
 
--- and its reply has its cause
+-- the reply of a read that ends has its cause
 end_cause : (count : ℕ) (user file : List ℕ) (found : Result (List ℕ) ClientFault)
     → IsReadEnd count found → HasOwnCause count (read_reply user file found)
 end_cause count user file (Ok bytes) is = tt

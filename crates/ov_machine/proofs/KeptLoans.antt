@@ -25,7 +25,7 @@ module _ {P : Type 0} (peer : PeerTells P) (loan : P → ℕ)
       → AreAsks peer p list o q → loan q ≡ loan p
   asks_keep list o p q (m, leads, ends) = ends_keep o m q ends ∙ leads_keep list p m leads
 
-  -- and through one question
+  -- one question keeps the loan
   pub once_keeps : {T : Type 0} (request : Request) (take : Answer → Result T OwnerFault)
       (result : Result T OwnerFault) (p q : P) → AsksOnce peer p q request take result
       → loan q ≡ loan p

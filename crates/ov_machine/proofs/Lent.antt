@@ -145,7 +145,7 @@ module _ {D T : Type 0} (tells : DiskTells D) (sink : SinkTells T) where
               (subst (λ (x : T). PutsTo sink (change_reply made ≡ Err Trace) x b.sink.now) put_a puts);
         })
 
-    -- the same of a machine that is seen so
+    -- a change by a machine that is seen so is a whole call of it
     pub change_all : (old : KeptOn D) → machine_of k s ≡ old → old.failed ≡ false
         → (t_old t_new : T) (r : Result Reply StepFault)
         → b.peer.now ≡ t → a.sink.now ≡ t_old → b.sink.now ≡ t_new

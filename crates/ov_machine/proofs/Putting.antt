@@ -77,7 +77,7 @@ answered_so (Err faults.Device) reply is = absurd cc
 answered_so (Err (faults.Unsettled epochs)) reply is = absurd cc
 answered_so (Err faults.Memory) reply is = absurd cc
 
--- and no ask of it failed
+-- no ask of a call that was answered failed
 none_failed : (made : Result ℕ OwnerFault) → IsAnswered made → (made ≡ Err faults.Link) ⊎ (made ≡ Err faults.Memory) → ⊥
 none_failed made answered (inl is) = subst IsAnswered is answered
 none_failed made answered (inr is) = subst IsAnswered is answered

@@ -104,7 +104,7 @@ module _ {D : Type 0} (tells : DiskTells D) (s : Opened D) (v : Service)
           needs = subst (λ (x : Serving). NeedsDisk x request) is_shown (needs s t request reply is);
         })
 
-  -- so asks that leave all as it was are answered along it
+  -- asks that leave all as it was are answered along the history that is served
   pub along_so : (asks : List Ask)
       → AllStay tells s asks
       → (histories : List SealedHistory) × (last : Service) × Along v asks histories last

@@ -84,7 +84,7 @@ serves_at m p stands = record {
   base_check = refl;
 }
 
--- and who serves its sealed form stands for it
+-- a machine that serves the sealed form of a legal history stands for it
 pub stands_at : {D : Type 0} (m : KeptOn D) (p : PlainHistory) (v : Service)
     → IsLegal (history_of p) → v.surface ≡ m.kept.masters.surface → v.history ≡ sealed m.kept.masters p
     → IsService (serving_of (opened_of m)) v → StandsFor m.kept p

@@ -84,7 +84,7 @@ module _ (k : Masters) (command : Command) (e : Errand) (d : Does k command e) (
   stays g made same none =
       (λ i. followed (same i) (none i)) ∙ followed-nil (sealed k p)
 
-  -- and an update makes nothing, or the plain update
+  -- an update makes nothing, or the plain update
   update_makes : (g : SealedHistory) (epoch : ℕ) (u : SealedUpdate) (made : List SealedUpdate)
       → g ≡ sealed k p → IsReady epoch u → HasForm 32 u
       → HasRequestForm (update_request k.surface epoch u)

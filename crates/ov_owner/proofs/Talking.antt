@@ -124,7 +124,7 @@ module _ {P : Type 0} (peer : PeerTells P) (surface : List ℕ) (e : Errand) whe
       );
     }
 
-    -- or it has no answer, and the call ends
+    -- the ask has no answer, and the call ends
     pub exchange_fails : (p q : P) (fault : ExchangeFault)
         → ((place : ℕ) → after e from (Err place) ≡ Ends (Err (faults.BadReply place)))
         → Exchanges peer p q request (Err fault)

@@ -105,7 +105,7 @@ module _ (k : Masters) (p : PlainHistory) (legal : IsLegal (history_of p)) where
       let s = shows in
       λ i. first_of_tests (tests_of (s.matrix i) (s.layers i) (s.epoch i) (named (s.matrix i)))
 
-  -- and sealed as the owner seals it there
+  -- an update by names is sealed as the owner seals it at the history
   pub sealed_as : (named : Matrix → PlainUpdate)
       → sealed_update k (outline c) (named (matrix_shown c))
       ≡ sealed_update k (layers_of (history_of p)) (named m)

@@ -121,14 +121,14 @@ module _ {P : Type 0} (peer : PeerTells P) (surface : List ℕ) (e : Errand) (ep
     sends_now =
         passes_on peer surface e start (Asks (take i epochs) least) (Sends (take i epochs) epoch u) p m n asks_now one
 
-    -- or at the update
+    -- the call ends at the update
     pub ends_sending : (q : P) (result : Result ℕ OwnerFault)
         → Concludes peer surface e (Sends (take i epochs) epoch u) n q result
         → Concludes peer surface e start p q result
     ends_sending q result ends =
         concludes_on peer surface e start (Sends (take i epochs) epoch u) p n q result sends_now ends
 
-    -- or it goes on
+    -- the call goes on with another try
     pub goes_on : (q : P) (now : ℕ)
         → Passes peer surface e (Sends (take i epochs) epoch u) n (again (take i epochs ++ epoch ∷ []) now) q
         → Passes peer surface e start p (again (take (i + 1) (slice_set epochs i epoch)) now) q

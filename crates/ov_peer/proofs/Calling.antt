@@ -34,7 +34,8 @@ epoch_told peer q v answer w (others, made, at_it, then) is =
     ∙ later-nil (later v others) in
     (others, subst (peer.serves q) none then, here.0)
 
--- the same of what is made of the answer
+-- what a caller makes of a told Welcome: the epoch at a history that goes on from the one that was
+-- served
 pub told_by : {P : Type 0} (peer : PeerTells P) (q : P) (v : Service) (answer : Answer)
     (result : Result ℕ ExchangeFault)
     → Tells v Hello answer (peer.serves q)

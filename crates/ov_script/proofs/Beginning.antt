@@ -126,7 +126,7 @@ alive_can front alive =
     let line = fits_said (front ++ more.0) more.2 more.1 in
     can_by_line front more.0 line.0 line.1
 
--- and is shorter than the longest line
+-- what may go on is shorter than the longest line
 pub alive_short : (front : List ℕ) → may_go_on (run Start front) (length front) ≡ true → length front < MAX_LINE_BYTES
 alive_short front alive =
     let more = alive_fits front alive in

@@ -34,7 +34,8 @@ first_of c (a ∷ xs) (b ∷ ys) x y p q e =
     let head : a ≡ b = cc in
     cc
 
--- and those behind it
+-- the bytes before the first such byte and those behind it are the same in two ways to cut a text
+-- there
 pub split_once : (c : ℕ) (xs ys x y : List ℕ) → Lacks c xs → Lacks c ys → xs ++ c ∷ x ≡ ys ++ c ∷ y → (xs ≡ ys) × (x ≡ y)
 split_once c xs ys x y p q e =
     let same : xs ≡ ys = first_of c xs ys x y p q e in
@@ -57,7 +58,7 @@ past_front c (a ∷ xs) (b ∷ ys) x y q e =
     let rest : length ys ≤ length xs = past_front c xs ys x y q.1 tail in
     omega arith
 
--- and that front begins what is before it
+-- a front that lacks the byte begins what is before the byte
 pub front_before : (c : ℕ) (xs ys x y : List ℕ) → Lacks c xs → xs ++ x ≡ ys ++ c ∷ y → (z : List ℕ) × (ys ≡ xs ++ z)
 front_before c [] ys x y p e = (ys, refl)
 front_before c (a ∷ xs) [] x y p e = absurd (p.0 (cc))

@@ -44,7 +44,7 @@ Follows LastName = SpaceThen (NameThen IsNothing 0)
 Follows Readers = SpaceThen AreReaders
 Follows NextReader = AreMoreReaders
 
--- and a word with its space
+-- what follows a word with its space
 abbrev pub Behind : Word → List ℕ → Type 0
 Behind Enrol = NameThen (Follows End) 0
 Behind Create = NameThen (Follows Readers) 0

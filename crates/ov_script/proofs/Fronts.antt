@@ -110,7 +110,7 @@ take_more room bytes more past =
     let size : length (take room bytes) ≡ room = length-take-le room bytes (omega arith) in
     ap (take room) whole ∙ take_at (take room bytes) (drop room bytes ++ more) room size
 
--- so many bytes as may be read
+-- whether a line may go on behind as many bytes as may be read, by their number
 full_front : (room : ℕ) (bytes : List ℕ) → room < length bytes → (alive : Bool) → may_go_on (run Start (take room bytes)) room ≡ alive
     → may_go_on (run Start (take room bytes)) (length (take room bytes)) ≡ alive
 full_front room bytes past alive e = ap (may_go_on (run Start (take room bytes))) (length-take-le room bytes (omega arith)) ∙ e

@@ -146,7 +146,7 @@ no_room : (count more : ℕ) (fewest : Option ℕ) → AtLeast fewest more → h
 no_room count more None needs full less = needs
 no_room count more (Some n) needs full less = grind (arith, nat_tests)
 
--- and where it may not, none does
+-- where the line may not go on, no text makes it whole
 pub dead_fits : (bytes text : List ℕ) → may_go_on (run Start bytes) (length bytes) ≡ false → Fits Start (bytes ++ text) → length (bytes ++ text) < MAX_LINE_BYTES → ⊥
 dead_fits bytes text dead p short =
     let size : length (bytes ++ text) ≡ length bytes + length text = length-append bytes text in

@@ -55,7 +55,8 @@ module _ {S : Type 0} (tells : SourceTells S) where
       } in
       (uses, pieces_same tells (λ seen. length (a.pending ++ seen) < count) a.source b.source c.source u.more same before)
 
-  -- and those used so far are fewer than are wanted still
+  -- pending bytes that are used join those used before, and with what is still pending they are
+  -- fewer than are wanted
   pub moved_below : (a b m : Fed S) (old new : List ℕ) (count n k : ℕ) → length old ≡ n → length new ≡ k → UsesBelow tells count a b old → m.source ≡ b.source
       → (piece : List ℕ) × (new ≡ old ++ piece) × (b.pending ≡ piece ++ m.pending) × (length new ≡ min count (n + length b.pending)) → (k ≡ count → ⊥)
       → UsesBelow tells count a m new × (k ≤ count) × (length new + length m.pending < count)

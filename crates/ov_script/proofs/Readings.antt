@@ -38,7 +38,7 @@ not_bad room text item more command e fits is (wrong past never) =
     let kept = front_kept item more room fits in
     never ([], (item, kept.0, command, append-nil (take room text) ∙ ap (take room) e ∙ kept.1, is))
 
--- and the reading does not end
+-- where an item is there that there is room for, the reading doesn't end
 pub goes_on : (line room : ℕ) (text item more : List ℕ) (command : Command) (ending : Ending)
     → text ≡ item ++ more → length item ≤ room → IsItem item command → Reads line room text [] ending → ⊥
 goes_on line room text item more command AtEnd e fits is end =

@@ -41,7 +41,7 @@ fault_answered line Bad fault e = absurd (cc)
 fault_answered line Long fault e = absurd (cc)
 fault_answered line (Fault other) fault e = cc
 
--- and no way that the reading ended is a command
+-- no way that the reading ended is a command
 pub ends_reading : (line : ℕ) (ended : Ended) → EndsReading (answer_of line ended)
 ends_reading line End = tt
 ends_reading line Bad = tt

@@ -75,7 +75,7 @@ reads size (b ∷ digits) n s e =
       | stops never ↦ let none : None ≡ Some n = ap size_read (sym (run_never digits)) ∙ ap (λ f. size_read (run f digits)) (sym never) ∙ e in absurd (cc)
     ]
 
--- and it is read
+-- the digits of a number that isn't too large are read
 steps_on : (size : Option ℕ) (b : ℕ) (digits : List ℕ) (n : ℕ) → SoFar size → n ≤ MAX_FILE_BYTES → digits_so_far size ++ b ∷ digits ≡ decimal n → Stepped size b
 steps_on None b digits n s low e = let f = first_digit b n digits low e in stepped_first b f.0 f.1
 steps_on (Some m) b digits n s low e = let f = one_more m b n digits s low e in stepped_more m b f.digit f.some f.within f.number

@@ -72,6 +72,6 @@ one_more who k names new name small known is_user wanted put =
     let e : users_in who k ++ user k ∷ [] ≡ users_in who (suc k) = ap (λ (b : Bool). and_if b (users_in who k) (user k)) (sym wanted) in
     rw add-one (put ∙ before ∙ with_user who k small ∙ e)
 
--- and one who isn't
+-- a list with one more user looked at, who isn't in it
 pub no_more : (who k : ℕ) (names : List (List ℕ)) → names ≡ users_in who k → has who k ≡ false → names ≡ users_in who (k + 1)
 no_more who k names known unwanted = rw add-one (known ∙ ap (λ (b : Bool). and_if b (users_in who k) (user k)) (sym unwanted))

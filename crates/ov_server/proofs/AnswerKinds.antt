@@ -137,7 +137,7 @@ says_so answers.DeviceFault so = absurd (true≢false (sym so))
 says_so answers.NoMemory so = absurd (true≢false (sym so))
 says_so (answers.Listed names) so = absurd (true≢false (sym so))
 
--- and by any other nothing is made
+-- by an answer that isn't an Accepted nothing is made
 pub nothing_made : (read : Result Request ℕ) (a : Answer)
     → says_accepted (answer_bytes a) ≡ false → made_of read a ≡ []
 nothing_made (Ok (requests.Update epoch spelling tag)) (answers.Accepted n) so =

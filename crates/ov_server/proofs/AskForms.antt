@@ -59,7 +59,7 @@ pub filed_there : (c : Catalogue) (file : ℕ) → file < length c.files
     → slice_get c.files file ≡ Some (filed_at c file)
 filed_there c file there = slice_get-get_or c.files file _ there
 
--- and it has a base node
+-- a file that is there has a base node
 pub node_low : (limit : ℕ) (c : Catalogue) (file : ℕ) → IsWell limit c → file < length c.files
     → IsNode (node_of (outline c) file)
 node_low limit c file well there =

@@ -199,7 +199,7 @@ module _ {D : Type 0} (tells : DiskTells D) (old new : Opened D) (request reply 
     pub reached_after : Reaches start (with_accepted list request reply) (serving_of new)
     reached_after = next (says_accepted reply) refl answered
 
--- ---- the same of each result of a call
+-- ---- frames and updates, by the result of a call
 
 module _ {D : Type 0} (tells : DiskTells D) (old new : Opened D) (request reply : List ℕ) where
   pub frame_ok : (r : Result (Unit {0}) Memory)

@@ -68,7 +68,7 @@ gathered set users n name names new distinct at_n so_far there is =
     is ∙ was_appended names name free ∙ ap (λ l. l ++ name ∷ []) so_far
     ∙ sym (next_names set users n name true at_n there)
 
--- and where it isn't in the set nothing is gathered
+-- the name of a user who isn't in the set isn't gathered
 pub passed : (set : ℕ) (users : List (List ℕ)) (n : ℕ) (name : List ℕ) (names : List (List ℕ))
     → slice_get users n ≡ Some name → names ≡ names_in set (take n users) → has set n ≡ false
     → names ≡ names_in set (take (n + 1) users)

@@ -61,7 +61,7 @@ plan_form limit c name list len well none =
           (λ n there. starts_there (node_of c.base.sets list) c.base.sets list n there),
     )
 
--- and the answer that tells it
+-- the answer that tells the plan for a creation that isn't refused has form
 pub planned_form : {W : ℕ} (limit : ℕ) (c : Catalogue) (name : List ℕ) (list len epoch : ℕ)
     (planned : Planned W) → IsWell limit c → epoch ≡ c.epoch
     → refusal_at c (Created name list len) ≡ None → planned.file ≡ length c.files

@@ -85,7 +85,7 @@ module _ {D : Type 0} (tells : DiskTells D) where
       started tells s.disk (KeepsWith s.keys g (updates_asked (request_of request)))
       (λ x left. inl (serves.disk sound i read x left))
 
-  -- and nothing else changes
+  -- a call that changes nothing is a call of the disk without a fault
   pub still_call : (s : Opened D) (F : Type 0) → (F → ⊥) → IsCallOf tells s s F
   still_call s F never = (refl, refl, omega arith, λ fault. absurd (never fault))
 

@@ -45,7 +45,7 @@ module _ {S : Type 0} where
       ap (λ (m : List (Given S)). Some m)
       (ap (λ (n : ℕ). back_at (l ++ g ∷ []) n b) (sym many) ∙ back_last l g b)
 
-  -- and then it was taken back
+  -- the stream that was just given was served and taken back
   pub served_one : (old mid new : Doorway S) (number : ℕ) (s : Session S) → IsAt old number
       → mid ≡ record old { told = and_one old.told s.given; given = old.given + 1 }
       → new ≡ taken_back mid number s.left s.ending

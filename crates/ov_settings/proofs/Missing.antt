@@ -11,7 +11,7 @@ module _ {T : Type 0} {U : Type 0} (IsPart : T → Type 0) (IsWhole : U → Type
   missing fault (inl memory) = inl memory
   missing fault (inr (code, none)) = inr (code, λ whole is. none (part whole) (has whole is))
 
-  -- and so it is where the fault is handed on
+  -- a fault for no such part that is handed on is one for no such whole
   pub missing_on : (fault : SettingsFault) (result : Result U SettingsFault) → IsErrAnd result (λ handed. handed ≡ fault)
       → FindsOr {T = T} IsPart (Err fault) → FindsOr {T = U} IsWhole result
   missing_on fault (Ok whole) same none = elim same [ ]

@@ -73,7 +73,7 @@ read_as (Some all) (Some rest) front (Err fault) taken (inl long) (inr (code, no
 read_as (Some all) (Some rest) front (Err fault) taken (inr end) (inr (code, none)) = λ same s is.
     none s (subst (λ (bytes : List ℕ). IsSettingsFile bytes s) (whole all front rest taken end) is)
 
--- so it is read by way of a buffer that was filled
+-- settings are read by way of a buffer that was filled
 pub read_of : (old new : Option (List ℕ)) (front buffer : List ℕ) (count size : ℕ) (result : Result Settings SettingsFault)
     → front ≡ take count buffer → length buffer ≡ size → size ≡ ENOUGH → count ≤ size
     → Consumes old new (take count buffer) → (count ≡ size) ⊎ IsAtEnd new

@@ -26,7 +26,7 @@ abbrev count_at : ℕ → List Access → ℕ
 count_at node [] = 0
 count_at node (access ∷ accesses) = one_if (access.node == node) + count_at node accesses
 
--- and how many to the nodes below it
+-- how many of the accesses are to nodes below the node
 abbrev count_below : ℕ → List Access → ℕ
 count_below zero accesses = 0
 count_below (suc node) accesses = count_below node accesses + count_at node accesses

@@ -6,7 +6,8 @@ use Rattle.ov_state.specs.Contents.{nodes_of}
 use Rattle.ov_state.specs.Changes.{nodes_added, edges_in, AreNewNodes}
 use Rattle.ov_state.specs.declared.change.NewNode.{NewNode}
 
--- what holds while nodes are added: what is left makes the same of the graph, is planned for it, and has room in it
+-- what holds while nodes are added: what is left turns the graph into what all of it made of the first one, is
+-- planned for it, and has room in it
 pub record IsLeft {W : ℕ} (first now : Contents) (all left : List (NewNode W)) (many : ℕ) : Type 0 where
   pub nodes : nodes_added (nodes_of now) left ≡ nodes_added (nodes_of first) all
   pub planned : AreNewNodes now.sets left

@@ -145,7 +145,7 @@ pub access_leads_by : (root_key : List ℕ) (chain : Chain) (key : List ℕ) →
 access_leads_by root_key chain key same k s user node tokens is root =
     same ∙ ap (λ r. access_along r chain) root ∙ base_chain_leads k s user node chain tokens is
 
--- and every surface chain to the key of its node
+-- over true tokens every surface chain leads to the key of its node
 pub surface_chain_leads : (k : Masters) (s : Catalogue) (user : ℕ) (surface : Option ℕ) (chain : Option Chain)
     → AreTrueTokens k s → IsSurfaceChain s.surface user surface chain → LeadsToSurface k.surface surface chain
 surface_chain_leads k s user None chain tokens is = tt

@@ -111,7 +111,8 @@ module _ {W : ℕ} (s : Catalogue) (r : Relisting W) (file : ℕ) (f : FileEntry
       ap (λ b. want_if b (outline s) r file own) test in
       subst (λ (o : Option ℕ). same_surface f.surface (surface_at s.surface.sets o) ≡ true) (sym is) (well.settled file _ here)
 
-  -- or has a surface of its own, and isn't the file whose list changed
+  -- the file stays as it is where it has a surface of its own, and isn't the file whose list
+  -- changed
   pub surface-stays : (limit : ℕ) → IsWell limit s → IsRelisting s r → f.node ≡ r.node → file ≢ r.file → is_some f.surface ≡ true
       → MayMove false s r file f
   surface-stays limit well relisting same other there =
@@ -144,7 +145,7 @@ module _ {W : ℕ} (s : Catalogue) (r : Relisting W) (file : ℕ) (f : FileEntry
         (settled-same_file master s (take file wants) want file f many here old done (well.sound.files file _ here).surface stays)
 
     module _ (same : f.node ≡ r.node) (wanted : Option ℕ) (is : wanted ≡ want_if true (outline s) r file own) where
-      -- or it may move, and is settled
+      -- a file that may move is settled
       pub same-node : (new : Rewrites W) → IsSettled master s.surface file f wanted old new
           → AreSettled master s (take (file + 1) wants) new
       same-node new settled =

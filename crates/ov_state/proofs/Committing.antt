@@ -36,7 +36,7 @@ made_is_applied {W} old c mode epoch users new_users base new_base surface new_s
     })
     ∙ ap (λ (x : Catalogue). applied x c) view
 
--- so the state that is made is whole
+-- the state that is made is whole
 pub made_is_whole : {W : ℕ} (limit : ℕ) (old new : Catalogue) (c : Change W) → new ≡ applied old c → Suits limit old c → IsWhole {W = W} limit new c.size None
 made_is_whole {W} limit old new c is suits = subst (λ (s : Catalogue). IsWhole {W = W} limit s c.size None) (sym is) (suits.well, suits.size, tt)
 

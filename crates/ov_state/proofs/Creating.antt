@@ -186,7 +186,7 @@ module _ (limit : ℕ) (master : List ℕ) (s : Catalogue) (name : List ℕ) (li
     refused_site words (BadPlan place) none = absurd none
     refused_site words Memory none = tt
 
-    -- and so is a question
+    -- a question about a creation is refused too, since there is no place for the file
     pub asked_site : (why : GraphRefusal) → HasNoSite s list (fault_of why) → IsRefusedFor (refusal_shown s update) (chain_fault_of why)
     asked_site GraphFull none = refused_site 0 (Refused NodesFull) none
     asked_site GraphMemory none = tt

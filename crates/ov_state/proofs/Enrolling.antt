@@ -63,7 +63,7 @@ module _ (limit : ℕ) (s : Catalogue) (name : List ℕ) (well : IsWell limit s)
   pub enrolled_is : (master : List ℕ) → catalogue_after master s (BriefEnrol name) ≡ next
   enrolled_is master = settled_stays master next (wants_of (outline next) (lists_of (outline s))) next_kept
 
-  -- so none is rewritten
+  -- an enrolment rewrites no file
   pub rewrites_enrolled : rewrites_of s (BriefEnrol name) ≡ []
   rewrites_enrolled =
       ap (λ (c : Catalogue). rewrites_from 0 s.files c.files) (enrolled_is []) ∙ rewrites-none 0 s.files

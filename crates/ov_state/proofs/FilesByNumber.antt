@@ -73,7 +73,7 @@ numbered-inserted number (first ∷ files) f absent =
     ∙ ap (λ n. (first.name, number) ∷ insert_entry bytes_eq (numbered (number + 1) files) f.name n) n
     ∙ ap (λ (rest : List (List ℕ × ℕ)). (first.name, number) ∷ rest) (numbered-inserted (number + 1) files f parts.1)
 
--- so it is of the names that are kept
+-- a new name that is kept with the others leads to the number behind the last
 pub numbered_then : (list : List FileEntry) (f : FileEntry) (entries new : List (List ℕ × ℕ)) (name : List ℕ) (number : ℕ)
     → entries ≡ numbered 0 (plain_files list) → name ≡ f.name → number ≡ length list
     → (files : List Filed) → plain_files list ≡ files → is_among f.name (filed_names files) ≡ false

@@ -86,7 +86,7 @@ module _ (limit : ℕ) (s : Catalogue) (user file : ℕ) (token : Option Token) 
       wants_are : wants_after (outline s) next 0 (places s.files) ≡ wants
       wants_are = ap (λ (n : Relisting W). wants_after (outline s) n 0 (places s.files)) is ∙ wants-granted s user file r listing
 
-      -- then it is refused where there is no room
+      -- a grant to a user who isn't listed is refused where there is no room
       pub grant-room : refusal_shown s update ≡ room_refusal (with_wants s.surface.sets (wants_after (outline s) next 0 (places s.files))) s.epoch
       grant-room =
           grant_tests s well.sound.base.few user file token

@@ -98,7 +98,7 @@ module _ (s : Catalogue) (user file : ℕ) (enrolled : user < length s.users) (t
   list-passed listed is =
       both_there listed ∙ ap (λ b. first_of_tests ((why, b) ∷ (NodesFull, nat_lt MAX_LAYER_NODES nodes) ∷ (Spent, is_last s.epoch) ∷ [])) is
 
-  -- and there is room
+  -- no test of the list applies, and there is room
   pub none-first : (listed : Bool) → listed ≡ false → nodes ≤ MAX_LAYER_NODES → is_last s.epoch ≡ false → first_of_tests (all listed) ≡ None
   none-first listed is few more =
       list-passed listed is

@@ -26,7 +26,7 @@ no_access (access ∷ accesses) nodes node set past there =
           let low : access.node < nodes = there access (Contains-first access accesses) in
           absurd (omega arith)
 
--- so the holders of a fresh node are its users
+-- the holders of a fresh node are its users
 pub fresh_holders : (limit : ℕ) (s : Catalogue) (list : ℕ) → IsWell limit s → (plan_of s.base.sets list).fresh ≡ true
     → holders_then s list ≡ list
 fresh_holders limit s list well fresh =

@@ -112,7 +112,7 @@ module _ {W : ℕ} (s : Catalogue) (r : Relisting W) (file : ℕ) (f : FileEntry
         few = omega (arith, ap length (added ∙ all_next), length-append s.surface.sets new, few);
       }
 
-      -- or there is no room for it
+      -- there is no room for the wanted set
       pub new-full : (fault : PrepareFault) → IsFull (with_wants (s.surface.sets ++ old) (wanted ∷ [])) fault
           → IsFull (with_wants s.surface.sets (take (file + 1) wants)) fault
       new-full fault full = subst (λ (sets : List ℕ). IsFull sets fault) all_next full

@@ -90,7 +90,7 @@ module _ {W : ℕ} (master : List ℕ) (layer : Nodes) (old : NewNodes W) (set :
     surface = ap (λ (c : Cover). Some c.node) (is ∙ ap (λ sets. plan_of sets set) (sym sets_are));
   }
 
-  -- or it is new
+  -- the wanted set has no node yet, and gets one
   pub new_target : (new : NewNodes W) (cover : Cover) → cover ≡ plan_of before set → cover.fresh ≡ true
       → length before < MAX_LAYER_NODES → IsRooted layer.sets set
       → new.nodes.items ≡ old.nodes.items ++ record { set = set; cover = cover; tokens = cover_tokens SurfaceLabels master cover } ∷ []
@@ -126,7 +126,7 @@ module _ {W : ℕ} (master : List ℕ) (layer : Nodes) (old : NewNodes W) (set :
     added : nodes_planned layer new ≡ node_added (nodes_planned layer old) one
     added = ap (λ (f : List (NewNode W)). nodes_added layer f) pushed ∙ nodes_added-append layer old.nodes.items one
 
-  -- or there is no room for it
+  -- there is no room for a node of the wanted set
   pub too_many : (cover : Cover) → cover ≡ plan_of before set → cover.fresh ≡ true → length before ≡ MAX_LAYER_NODES
       → MAX_LAYER_NODES < length (with_want master (nodes_planned layer old) (Some set)).sets
   too_many cover is fresh full =

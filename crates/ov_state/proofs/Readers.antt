@@ -27,7 +27,7 @@ pub record IsReader (limit : ℕ) (s : Catalogue) (user : ℕ) (f : FileEntry) :
   pub covered : ForSome f.surface (λ n. n < length s.surface.sets)
   pub member : ForSome f.surface (λ n. Has (slice_index s.surface.sets n) user)
 
--- so it is of each user who is in the list
+-- each user who is in the list is a reader of the file
 pub listed_reads : (limit : ℕ) (s : Catalogue) (user file : ℕ) (f : FileEntry) → IsWell limit s → slice_get s.files file ≡ Some (plain_file f)
     → user < length s.users → Has (list_at (outline s) (place_of_file (filed_at s file))) user → IsReader limit s user f
 listed_reads limit s user file f well kept there listed =
@@ -61,7 +61,7 @@ chained_of s user file f c kept epoch number long generation tag base surface =
       surface = subst (λ (g : Filed). IsSurfaceChain s.surface user g.surface c.surface) at surface;
     }
 
--- and over true tokens they lead to its keys
+-- over true tokens the chains to a file lead to its keys
 pub chained_leads : (k : Masters) (s : Catalogue) (user file : ℕ) (c : Chained) → AreTrueTokens k s → IsChained s user file c
     → LeadsToKeys k (filed_at s c.file) c
 chained_leads k s user file c tokens is =

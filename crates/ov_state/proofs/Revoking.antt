@@ -50,7 +50,7 @@ module _ (limit : ℕ) (s : Catalogue) (user file : ℕ) (well : IsWell limit s)
       wants_are : wants_after (outline s) next 0 (places s.files) ≡ wants
       wants_are = ap (λ (n : Relisting W). wants_after (outline s) n 0 (places s.files)) is ∙ wants-revoked s user file r listing
 
-      -- then it is refused where there is no room
+      -- a revocation from a user who is listed is refused where there is no room
       pub revoke-room : refusal_shown s update ≡ room_refusal (with_wants s.surface.sets (wants_after (outline s) next 0 (places s.files))) s.epoch
       revoke-room =
           revoke_tests s well.sound.base.few user file

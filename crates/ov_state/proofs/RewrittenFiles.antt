@@ -6,7 +6,8 @@ use Rattle.ov_history.proofs.ChangeLaws.{length-change_at}
 use Rattle.ov_state.specs.Changes.{all_rewritten, rewritten, AreOfFiles}
 use Rattle.ov_state.specs.declared.change.Rewrite.{Rewrite}
 
--- what holds while rewrites are made: what is left makes the same of the files, and is for files that are there
+-- what holds while rewrites are made: what is left turns the files into what all of it made of the first ones,
+-- and is for files that are there
 pub record AreLeft (epoch : ℕ) (first now : List Filed) (all left : List Rewrite) (many : ℕ) : Type 0 where
   pub files : all_rewritten epoch left now ≡ all_rewritten epoch all first
   pub there : AreOfFiles (length now) left

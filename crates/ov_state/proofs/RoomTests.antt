@@ -19,7 +19,7 @@ spent-room sets epoch few last =
     ap (λ b. first_of_tests ((NodesFull, b) ∷ (Spent, is_last epoch) ∷ [])) (lt_is_false MAX_LAYER_NODES (length sets) few)
     ∙ ap (λ b. first_of_tests ((Spent, b) ∷ [])) last
 
--- and neither do too many nodes
+-- too many nodes leave no room
 pub full-room : (sets : List ℕ) (epoch : ℕ) (fault : PrepareFault) → IsFull sets fault → IsNoRoom sets epoch fault
 full-room sets epoch (Refused why) (is, many) =
     ap (λ b. first_of_tests ((NodesFull, b) ∷ (Spent, is_last epoch) ∷ [])) (lt_is_true MAX_LAYER_NODES (length sets) many) ∙ ap Some (sym is)

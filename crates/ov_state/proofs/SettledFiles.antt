@@ -44,7 +44,7 @@ with_want-there master nodes (Some set) there =
     let plan = plan_of nodes.sets set in
     ap (λ b. added_if b nodes set (joined plan.from (cover_tokens SurfaceLabels master plan))) (plan-there nodes.sets set (there set refl))
 
--- and its node stays
+-- the node of a wanted set that is there stays
 pub surface_at-there : (sets : List ℕ) (wants : List (Option ℕ)) (want : Option ℕ) → ((set : ℕ) → want ≡ Some set → Contains sets set)
     → surface_at (with_wants sets wants) want ≡ surface_at sets want
 surface_at-there sets wants None there = refl

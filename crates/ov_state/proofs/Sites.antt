@@ -67,7 +67,7 @@ module _ (s : Catalogue) (list : ℕ) where
       (lt_is_false MAX_LAYER_NODES _ (few_if (plan_of s.base.sets list).fresh s.base.sets list few room))
       ∙ lt_is_false MAX_LAYER_NODES (length sets_then) few_surface
 
-  -- or the surface layer is
+  -- the surface layer is full
   pub full_then : (fault : PrepareFault) → IsFull sets_then fault → HasNoSite s list fault
   full_then Memory full = tt
   full_then (BadPlan place) full = full

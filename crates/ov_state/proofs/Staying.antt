@@ -53,7 +53,7 @@ kept-with_set sets set wants files kept = by_test (plan_of sets set).fresh where
   by_test true = kept-more sets (set ∷ []) wants files kept
   by_test false = kept
 
--- so it is with the wanted sets that come after theirs
+-- files keep their wanted surfaces behind wanted sets that come after theirs
 pub kept-with_wants : (sets : List ℕ) (more wants : List (Option ℕ)) (files : List Filed) → AreKept sets wants files
     → AreKept (with_wants sets more) wants files
 kept-with_wants sets [] wants files kept = kept

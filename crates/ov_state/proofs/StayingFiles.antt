@@ -67,7 +67,7 @@ wants-stay y z mode same (list ∷ lists) (f ∷ files) (low, rest) =
     ∙ ap (λ held. wanted_surface y.mode list held ∷ wants_at z lists (places files)) (same f.node low)
     ∙ ap (λ wants. wanted_surface y.mode list (holders y f.node) ∷ wants) (wants-stay y z mode same lists files rest)
 
--- and so with one file more
+-- the wanted sets with one file more
 pub wants-append : (z : Layers) (lists : List ℕ) (files : List Filed) (list : ℕ) (f : Filed)
     → length lists ≡ length files
     → wants_at z (lists ++ list ∷ []) (places (files ++ f ∷ []))

@@ -73,7 +73,8 @@ pub record FollowedTo (k : Masters) (g : SealedHistory) (i : ℕ) (c : Catalogue
   pub stands : StandsFor k.surface c (with_first g (take i g.updates))
   pub owners : AllAreOwners k (start_of (outer_of g)) (take i g.updates)
 
--- so it is of each history whose records are the journal's, which are the first of the image's
+-- the catalogue is that of each history whose records are the journal's, which are the first of the
+-- image's
 abbrev pub FollowsImage : Masters → Log → Mode → ℕ → ℕ → Catalogue → Image → Type 0
 FollowsImage k log mode first i c d =
     (g : SealedHistory) → IsHistoryOf log mode first g d → FollowedTo k g i c

@@ -32,7 +32,7 @@ fault_found k mode i NotAStore finds = finds
 fault_found k mode i (Damaged offset) finds = (refl, inl (finds.0, finds.1))
 fault_found k mode i Memory finds = tt
 
--- want of memory and a fault of the disk say nothing of the image
+-- refused memory and a fault of the disk say nothing of the image
 pub fault_checked : (k : Keys) (mode : Mode) (i : Image) (why : CheckFault)
     → IsBeginFault k mode i (begin_fault_of why)
 fault_checked k mode i CheckDisk = tt
@@ -50,7 +50,8 @@ pub memory_checked : (why : CheckFault) (P : Type 0) → (why ≡ CheckMemory �
 memory_checked CheckDisk P holds is = absurd (cc is)
 memory_checked CheckMemory P holds is = holds refl
 
--- the same of its journal, which was opened with no fault of the disk
+-- where a store isn't begun for lack of memory, memory was refused for its journal, which was
+-- opened with no fault of the disk
 pub memory_found : (why : JournalFault) (r : Result Found JournalFault) (P : Type 0)
     → r ≡ Err why → UnlessFaulty r P → opening_fault_of why ≡ NoMemory → P
 memory_found Disk r P was holds is = absurd (cc is)

@@ -157,7 +157,7 @@ module _ (master : List ℕ) (mode : Mode) (first : ℕ) (reads : Option Image) 
         (omega (arith, last, as_many log (contents_of d.book).records (is d at))),
   )
 
-  -- want of memory and a fault of the disk say nothing of the records
+  -- refused memory and a fault of the disk say nothing of the records
   pub fault_of_read : (why : CheckFault) (bodies : List (List ℕ))
       → IsReplayFault mode first bodies (begin_fault_of why)
   fault_of_read CheckDisk bodies = tt

@@ -153,7 +153,7 @@ module _ (p q : PlainHistory) (d : DifferInBytes p q) where
       is_listed-list m user file ∙ ap (λ (l : List ℕ). has (slice_index l file) user) matches.lists
       ∙ sym (is_listed-list n user file)
 
-  -- so a grant and a revocation are refused alike
+  -- a grant and a revocation are refused alike at two histories that differ in bytes alone
   pub same_grant : (y : Layers) (epoch user file : ℕ)
       → tests_of m y epoch (Granted user file) ≡ tests_of n y epoch (Granted user file)
   same_grant y epoch user file =

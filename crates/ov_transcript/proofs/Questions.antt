@@ -44,7 +44,7 @@ no_update commands.Epoch = refl
 
 module _ (k : Masters) (p : PlainHistory) (command : Command) (a : Ask)
     (f : IsFirstAsk k p command a) where
-  -- so the reply is a server's
+  -- the reply to the first ask is a server's
   pub first_replies : Replies (served (service_of k p))
       (request_bytes (first_request command)) a.reply f.made
   first_replies =
@@ -63,7 +63,7 @@ module _ (k : Masters) (p : PlainHistory) (command : Command) (a : Ask)
       subst (λ (x : List ℕ). Replies (served (service_of k p)) x a.reply f.made)
       (sym f.asked) first_replies
 
-  -- and the same is served after it
+  -- what is served stays the same after the first ask
   pub first_stays : later (service_of k p) f.made ≡ service_of k p
   first_stays =
       still_served (service_of k p) (first_request command) a.reply f.made f.form

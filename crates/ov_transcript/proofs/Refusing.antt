@@ -37,7 +37,7 @@ is_read s request reply made a frame replies bytes reads =
     ∙ ap answer_bytes (read_alike request reply replies.answer a bytes replies.form replies.spelled
     reads)
 
--- the same is served after a request that is no update
+-- what is served stays the same after a request that is no update
 pub still_served : (v : Service) (request : Request) (reply : List ℕ) (made : List SealedUpdate)
     → HasRequestForm request → updates_asked (Ok request) ≡ []
     → Replies (served v) (request_bytes request) reply made → later v made ≡ v

@@ -33,7 +33,7 @@ rewritten-push master stored (s ∷ rewrites) [] r w done file bytes = absurd do
 rewritten-push master stored (s ∷ rewrites) (x ∷ made) r w done file bytes =
     (done.0, done.1, rewritten-push master stored rewrites made r w done.2 file bytes)
 
--- so it is with the next of them
+-- the next rewrite is made, of a list of which the first ones were made
 pub made-next : (master : List ℕ) (stored : List (List ℕ)) (rewrites : List Rewrite) (n : ℕ) (d : Rewrite)
     (made all : List Rewritten) (w : Rewritten) (text : List ℕ) → n < length rewrites
     → AreRewritten master stored (plain_rewrites (take n rewrites)) made
@@ -58,7 +58,8 @@ of_files-push files (x ∷ made) w there low = (there.0, of_files-push files mad
 
 -- ---- putting
 
--- what holds while bytes are put: what is left makes the same of what is stored, and is of files that are there
+-- what holds while bytes are put: what is left turns what is stored into what all of it made of what was first
+-- stored, and is of files that are there
 pub record AreLeft (first now : List (List ℕ)) (all left : List Rewritten) (many : ℕ) : Type 0 where
   pub stored : put_all now left ≡ put_all first all
   pub there : AreOfFiles (length now) left

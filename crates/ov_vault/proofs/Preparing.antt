@@ -63,7 +63,7 @@ more_stored (g ∷ files) (x ∷ stored) f text many lengths size zero = lengths
 more_stored (g ∷ files) (x ∷ stored) f text many lengths size (suc n) =
     more_stored files stored f text (omega (arith, many)) (λ m. lengths (suc m)) size n
 
--- so it is with an update, before its rewrites
+-- there are stored bytes for each file after an update, before its rewrites
 grown_stored : (c : Catalogue) (u : SealedUpdate) (stored : List (List ℕ)) → AreStored c.files stored
     → AreStored (grown_catalogue c (brief u)).files (with_text stored (text_of u))
 grown_stored c (SealedEnrol user) stored has = has
@@ -83,7 +83,7 @@ grown_stored c (SealedCreate file list tokens tag text) stored has = record {
 grown_stored c (SealedGrant user file token) stored has = has
 grown_stored c (SealedRevoke user file) stored has = has
 
--- and after them
+-- there are stored bytes for each file after an update and its rewrites
 pub stored_after-lengths : (master : List ℕ) (c : Catalogue) (u : SealedUpdate) (stored : List (List ℕ)) → AreStored c.files stored
     → AreStored (files_after c (brief u)) (stored_after master (rewrites_of c (brief u)) (text_of u) stored)
 stored_after-lengths master c u stored has =

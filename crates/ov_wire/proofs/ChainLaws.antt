@@ -22,7 +22,7 @@ step_reads kinds =
     (made_reads step step_parts (λ f. refl) (λ s. refl) (then_reads (then_reads (kind_reads kinds) node_reads) token_reads))
     (λ s fits. (fits.0.0, fits.0.1, fits.1)) (λ s fits. ((fits.0, fits.1), fits.2))
 
--- so many steps
+-- `n` steps are read as they are spelled
 some_reads : (kinds : ℕ → List Kind) (n : ℕ) → n < 2 ^ 16
     → Reads (many_at (step_at (kinds n)) n) (flat_map step_field) (sized_by (λ steps. AllByRecursion (IsStep (kinds (length steps))) steps) length n) (65535 * 37)
 some_reads kinds n small =

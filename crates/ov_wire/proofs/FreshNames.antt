@@ -51,7 +51,7 @@ doubled : ℕ → ℕ
 doubled zero = 1
 doubled (suc n) = doubled n + doubled n
 
--- so many bytes that may stand in a name, which are none of these
+-- a name of this many bytes that is none of these
 pub record Other (n : ℕ) (names : List (List ℕ)) : Type 0 where
   pub name : List ℕ
   pub size : length name ≡ n
@@ -104,7 +104,7 @@ fresh_name seen few =
       bytes = AreBytes-cons 97 o.name (omega arith) o.bytes;
     }
 
--- so many names that are new after these
+-- this many names that are new after these
 pub record FreshNames (count : ℕ) (seen : List (List ℕ)) : Type 0 where
   pub names : List (List ℕ)
   pub new : AreNew seen names

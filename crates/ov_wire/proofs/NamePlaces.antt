@@ -19,7 +19,7 @@ use Rattle.ov_wire.specs.RequestReading.{new_names_at, names_at}
 use Rattle.ov_wire.proofs.NamesLaws.{AreNew, behind, others_at, seen_ok, new_are, AreFewNames}
 use Rattle.ov_wire.proofs.FreshNames.{fresh_names}
 
--- so many names that are new after these
+-- this many names that are new after these
 abbrev AreSoMany : ℕ → List (List ℕ) → List (List ℕ) → Type 0
 AreSoMany count seen names = AreNew seen names × (length names ≡ count)
 

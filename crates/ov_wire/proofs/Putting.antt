@@ -11,6 +11,6 @@ four_put old one two three a b c d kind p q r = append-nil three ∙ r ∙ rw (q
 pub two_put : (old one two fields others : List ℕ) (kind : ℕ) → one ≡ old ++ (kind ∷ fields) → two ≡ one ++ others → two ++ [] ≡ old ++ ((kind ∷ fields) ++ others)
 two_put old one two fields others kind p q = append-nil two ∙ q ∙ rw p (append_assoc old (kind ∷ fields) others)
 
--- the same with three others
+-- a kind byte with fields, and three others
 pub three_put : (old one two fields a b c : List ℕ) (kind : ℕ) → one ≡ old ++ (kind ∷ fields) → two ≡ one ++ (a ++ (b ++ c)) → two ++ [] ≡ old ++ ((kind ∷ fields) ++ a ++ b ++ c)
 three_put old one two fields a b c kind p q = append-nil two ∙ q ∙ rw p (simp append_assoc)

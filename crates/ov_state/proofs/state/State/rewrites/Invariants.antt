@@ -3,7 +3,7 @@ use Rattle.ov_history.specs.Catalogue.{outline}
 use Rattle.ov_state.specs.Relistings.{wants_after, AreSettled}
 use Rattle.ov_state.proofs.state.State.rewrites.Given as goal
 
--- so many files have what is planned for them
+-- this many files have what is planned for them
 abbrev pub invariant-loop-file : goal.invariant-loop-file
 invariant-loop-file g l =
     let y = outline l.fn.self.catalogue in
