@@ -35,8 +35,8 @@ GoesOn (Err stop) p q outcome Next = (q ≡ p) × (outcome ≡ Err stop)
 
 -- ---- what a call gave
 
--- This line is said of what an owner's call gave, or its fault is the reason. Memory may be refused
--- for the line.
+-- The outcome is the line on what an owner's call gave, or the call's fault as its reason. Memory
+-- may be refused for the line.
 abbrev pub Says : {T : Type 0} → (T → List ℕ) → Result T OwnerFault → Outcome → Type 0
 Says line (Ok value) outcome = (outcome ≡ Ok (line value)) ⊎ (outcome ≡ Err Memory)
 Says line (Err fault) outcome = outcome ≡ Err (stop_of_owner fault)

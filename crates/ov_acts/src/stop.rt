@@ -36,7 +36,7 @@ pub enum Stop {
 }
 
 impl Stop {
-    /// Its status.
+    /// The exit status of a reason to stop.
     pub fn status(self) -> Status
         ensures { status_code result ≡ stop_code self }
     {

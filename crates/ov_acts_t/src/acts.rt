@@ -23,7 +23,7 @@ fn strings(alloc: Global, words: &[&str]) -> Result<Vec<String>, Fail> {
     Ok(all)
 }
 
-/// These bytes, which fail at these calls.
+/// A source of these bytes, which fails at these calls.
 fn source(alloc: Global, bytes: &[u8], fails: &[u8]) -> Result<MemSource, Fail> {
     let bytes = Octets::copy(alloc, bytes)?;
     Ok(MemSource::new(bytes, 100_000, Octets::copy(alloc, fails)?))

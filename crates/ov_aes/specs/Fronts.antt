@@ -22,7 +22,7 @@ matrix =
     ∷ (3 ∷ 1 ∷ 1 ∷ 2 ∷ [])
     ∷ []
 
--- its entry in a row and a column
+-- the entry of the fixed matrix in a row and a column
 abbrev pub weight : ℕ → ℕ → ℕ
 weight r i = slice_index (slice_index_or matrix r []) i
 

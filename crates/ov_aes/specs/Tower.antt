@@ -18,11 +18,11 @@ into_tower x = bit_xor (entry_at LOW (bit_and x 15)) (entry_at HIGH (x / 2 ^ 4))
 abbrev pub low_of : ℕ → ℕ
 low_of y = bit_and y 15
 
--- the high one
+-- the high one of the two elements of the field of 16 that a byte is
 abbrev pub high_of : ℕ → ℕ
 high_of y = y / 2 ^ 4
 
--- their sum
+-- the sum of the high and the low element of a byte
 abbrev pub both_of : ℕ → ℕ
 both_of y = bit_xor (high_of y) (low_of y)
 
@@ -51,7 +51,7 @@ out_of_tower y = bit_xor (entry_at OUT_A (third_of y)) (entry_at OUT_B (fourth_o
 abbrev pub one_of : ℕ → ℕ
 one_of y = bit_xor (entry_at ONE_A (third_of y)) (entry_at ONE_B (fourth_of y))
 
--- its product with 2, in that basis
+-- the product of the S-box of such a byte with 2, in the basis over the field of 16
 abbrev pub two_of : ℕ → ℕ
 two_of y = bit_xor (entry_at TWO_A (third_of y)) (entry_at TWO_B (fourth_of y))
 

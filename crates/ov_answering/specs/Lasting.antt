@@ -26,13 +26,13 @@ use Rattle.ov_machine.specs.Disks.{KeepsPlain, StandsForPlain}
 
 -- ---- images
 
--- it stands for the history after some first commands of the script
+-- the image stands for the history after some first commands of the script
 abbrev pub KeepsFirst : Masters → PlainHistory → List ℕ → Image → Type 0
 KeepsFirst k p text c =
     (commands : List Command) × BeginsScript text commands
     × StandsForPlain k (after_all p commands) c
 
--- it stands for the history after just these commands, or after these and the next one
+-- the image stands for the history after just these commands, or after these and the next one
 abbrev pub KeepsNext : Masters → PlainHistory → List ℕ → List Command → Image → Type 0
 KeepsNext k p text commands c =
     StandsForPlain k (after_all p commands) c

@@ -3,7 +3,7 @@ use Rattle.std.specs.Prelude.{ℕ, List, codes}
 use Rattle.ov_base.specs.declared.refusal.Refusal.{Refusal}
 use Rattle.ov_base.specs.declared.refusal.Refusal.TheVariants.{Taken, NoUser, NoFile, NoPath, Listed, NotListed, UsersFull, FilesFull, BytesFull, NodesFull, Spent}
 
--- its number: where several refusals apply, the lowest is answered
+-- the number of a refusal: where several refusals apply, the lowest is answered
 abbrev pub refusal_number : Refusal → ℕ
 refusal_number Taken = 1
 refusal_number NoUser = 2

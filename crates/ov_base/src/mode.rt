@@ -12,7 +12,7 @@ pub enum Mode {
 }
 
 impl Mode {
-    /// Its byte: 0 or 1.
+    /// The byte of a mode: 0 or 1.
     pub fn byte(&self) -> u8
         ensures { result ≡ mode_byte self.now }
     {

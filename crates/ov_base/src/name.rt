@@ -76,7 +76,7 @@ impl Name {
         Some(Name { bytes, len })
     }
 
-    /// Its bytes.
+    /// The bytes of a name.
     pub fn as_bytes(&self) -> &[u8]
         ensures bytes { result.now ≡ self.now }
         ensures form { IsName self.now }

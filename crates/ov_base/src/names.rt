@@ -45,7 +45,7 @@ impl Names {
         Ok(self.names.insert(name)?)
     }
 
-    /// Its names, in order.
+    /// The names, in order.
     pub fn as_slice(&self) -> &[Name]
         ensures names { result.now ≡ self.now }
         ensures distinct { AreDistinct self.now }

@@ -51,7 +51,7 @@ impl Octets {
         bytes
     }
 
-    /// Its bytes.
+    /// The bytes as a slice.
     pub fn as_slice(&self) -> &[u8]
         ensures { result.now ≡ self.now }
     {

@@ -31,7 +31,7 @@ pub enum Refusal {
 }
 
 impl Refusal {
-    /// Its number, from 1 to 11.
+    /// The number of a refusal, from 1 to 11.
     pub fn number(&self) -> u8
         ensures { result ≡ refusal_number self.now }
     {
@@ -59,7 +59,7 @@ impl Refusal {
         }
     }
 
-    /// Its word in a reply line.
+    /// The word of a refusal in a reply line.
     pub fn word(&self) -> &str
         ensures { result.now ≡ refusal_word self.now }
     {

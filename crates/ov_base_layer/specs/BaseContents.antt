@@ -4,14 +4,14 @@ use Rattle.ov_graph.specs.Contents.{Contents}
 use Rattle.ov_base_layer.specs.declared.grant.Grant.{Grant}
 use Rattle.ov_base_layer.specs.Holders.{accesses_of, holders_in}
 
--- its graph, the access tokens in the order in which they were published, and for how many more of
--- them there is room
+-- the graph of a base layer, the access tokens in the order in which they were published, and for
+-- how many more of them there is room
 pub record BaseContents : Type 0 where
   pub graph : Contents
   pub grants : List Grant
   pub spare_grants : ℕ
 
--- there is room for so many more access tokens
+-- there is room for this many more access tokens
 abbrev pub HasAccessRoom : BaseContents → ℕ → Type 0
 HasAccessRoom layer grants = grants ≤ layer.spare_grants
 

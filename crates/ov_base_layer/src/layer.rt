@@ -55,7 +55,7 @@ impl<G: Graph<Base, W>, const W: usize> BaseLayer<G, W> {
         })
     }
 
-    /// Its graph.
+    /// The graph of a base layer.
     pub fn graph(&self) -> &G
         ensures { G.contents result.now ≡ self.now.graph }
     {

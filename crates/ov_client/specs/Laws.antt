@@ -54,7 +54,7 @@ IsReadAt p user file (Err (Refused why)) =
     read_refusal m (user_number m user) (file_number m file) ≡ Some why
 IsReadAt p user file (Err fault) = ⊥
 
--- this is the sealed form of a legal history, at which the machine answers so
+-- the history is the sealed form of a legal one, at which the machine answers so to a read
 abbrev pub MachineAnswers : Masters → Option SealedHistory → List ℕ → List ℕ
     → Result (List ℕ) ClientFault → Type 0
 MachineAnswers k at_one user file result =

@@ -107,7 +107,7 @@ fn put_root(text: &mut Vec<u8>, alloc: Global, root: u32, key: &Key) -> Result<(
     Ok(())
 }
 
-/// These are bytes. The function does nothing.
+/// The items of a slice of bytes are bytes. The function does nothing.
 fn known_bytes(bytes: &[u8])
     ensures { IsBytes bytes.now }
 {}

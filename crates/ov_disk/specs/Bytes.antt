@@ -8,12 +8,12 @@ pub record Grown : Type 0 where
   pub start : List ℕ
   pub current : List ℕ
 
--- it is as at first until it is copied to be changed
+-- the bytes of an area: those from the start until they are copied to be changed
 abbrev pub current_or : List ℕ → Option (Vec ℕ Global) → List ℕ
 current_or start None = start
 current_or start (Some v) = v.items
 
--- both areas
+-- both areas, as they were at first and as they are
 pub record Held : Type 0 where
   pub start : Image
   pub current : Image

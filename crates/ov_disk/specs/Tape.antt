@@ -85,7 +85,7 @@ reads_of t = replayed t.first t.changes
 abbrev pub may_leave_of : Tape → Image → Type 0
 may_leave_of t = Leaves t.first t.changes
 
--- its clock: how many changes there were
+-- the clock of a disk in memory: how many changes there were
 abbrev pub moment_of : Tape → ℕ
 moment_of t = length t.changes
 

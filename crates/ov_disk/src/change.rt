@@ -19,10 +19,10 @@ pub enum Change {
 /// What a stop makes of the ranges that were written since the last sync.
 #[derive(Clone, Copy, Debug, PartialEq, Eq)]
 pub enum Tear {
-    /// They are as they were then, and so are the lengths.
+    /// The ranges are as they were then, and so are the lengths.
     Old,
-    /// They are as written.
+    /// The ranges are as written.
     New,
-    /// They hold this byte over and over.
+    /// The ranges hold this byte over and over.
     Fill(u8),
 }

@@ -59,7 +59,7 @@ fn give(from: &[u8], at: u64, buf: &mut [u8])
 }
 
 impl MemDisk {
-    /// Both areas empty, and nothing pending.
+    /// A disk in memory with both areas empty, and nothing pending.
     pub fn new(alloc: Global) -> MemDisk
         ensures { result ≡ fresh (image [] []) }
     {
@@ -68,7 +68,7 @@ impl MemDisk {
         MemDisk::of(alloc, book, blobs)
     }
 
-    /// These contents, synced.
+    /// A disk in memory with these contents, synced.
     pub fn of(alloc: Global, book: Octets, blobs: Octets) -> MemDisk
         ensures { result ≡ fresh (image book blobs) }
     {

@@ -20,13 +20,13 @@ const STORE_LENGTH: usize = 80;
 /// Why a file of a store can't be used.
 #[derive(Clone, Copy, Debug, PartialEq, Eq)]
 pub enum FileFault {
-    /// Its folder isn't there.
+    /// The file's folder isn't there.
     NoFolder,
-    /// It isn't there, and can't be made in its folder.
+    /// The file isn't there, and can't be made in its folder.
     NotMade,
-    /// It is a folder, or another thing that holds no bytes.
+    /// The path is a folder, or another thing that holds no bytes.
     NoFile,
-    /// It may not be read and written.
+    /// The file may not be read and written.
     NotOurs,
 }
 

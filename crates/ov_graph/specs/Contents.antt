@@ -19,7 +19,7 @@ pub record Contents : Type 0 where
 abbrev pub HasNode : Contents → ℕ → Type 0
 HasNode graph node = node < length graph.sets
 
--- there is room for so many more sets and so many more edges
+-- there is room for this many more sets and this many more edges
 abbrev pub HasRoom : Contents → ℕ → ℕ → Type 0
 HasRoom graph sets edges = (sets ≤ graph.spare_sets) × (edges ≤ graph.spare_edges)
 

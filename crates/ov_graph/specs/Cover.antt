@@ -23,8 +23,8 @@ candidates_from set node (earlier ∷ sets) =
 abbrev pub has_size : List ℕ → ℕ → ℕ → Bool
 has_size sets users node = size (slice_index sets node) == users
 
--- those of the nodes whose sets have fewer than so many users: larger sets first, then in the order
--- of the list
+-- the nodes whose sets have fewer than this many users: larger sets first, then in the order of the
+-- list
 abbrev pub larger_first : List ℕ → ℕ → List ℕ → List ℕ
 larger_first sets zero nodes = []
 larger_first sets (suc users) nodes =

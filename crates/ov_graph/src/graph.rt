@@ -15,7 +15,7 @@ use std::alloc::Global;
 /// A graph of the keys of a layer: nodes, numbered from 0, each with a set of users of its own, and
 /// the edges that lead into each node.
 pub trait Graph<L: Layer, const W: usize>: Drop {
-    /// Its sets, its edges, and for how many more of both there is room.
+    /// The sets and the edges of a graph, and for how many more of both there is room.
     ghost contents: { Self → Contents };
 
     /// A graph without nodes.

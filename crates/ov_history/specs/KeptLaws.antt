@@ -67,7 +67,8 @@ NothingIsKept =
     → IsKept k (empty_plain mode first) (empty_catalogue mode first)
     × AreKept k (empty_plain mode first) []
 
--- it goes on with each update that the history doesn't refuse, in both halves
+-- a store that keeps a history goes on with each update that the history doesn't refuse, in both
+-- halves
 abbrev pub KeepingGoesOn : Type 0
 KeepingGoesOn =
     (k : Masters) (p : PlainHistory) (c : Catalogue) (stored : List (List ℕ)) (u : PlainUpdate)
@@ -77,8 +78,8 @@ KeepingGoesOn =
     × AreKept k (with_plain p u)
     (stored_after k.surface (rewrites_of c (brief sent)) (text_of sent) stored)
 
--- it refuses a sealed update as the history refuses the plain one, and a sealed update has its
--- parts
+-- a store that keeps a history refuses a sealed update as the history refuses the plain one, and a
+-- sealed update has its parts
 abbrev pub KeptRefusals : Type 0
 KeptRefusals =
     (k : Masters) (p : PlainHistory) (c : Catalogue) (u : PlainUpdate)

@@ -55,8 +55,8 @@ SurfaceKeysStay =
 abbrev pub ClosureIsClosed : Type 0
 ClosureIsClosed = (c : Catalogue) (user : ℕ) → IsClosed c (Holds c user)
 
--- it is the least such set: every closed set of labels, given by its test, that has the labels of
--- the user's roots has all of the closure
+-- a closure is the least closed set: every closed set of labels, given by its test, that has the
+-- labels of the user's roots has all of the closure
 abbrev pub ClosureIsLeast : Type 0
 ClosureIsLeast =
     (c : Catalogue) (user : ℕ) (test : Label → Bool)

@@ -70,7 +70,7 @@ module _ {V S : Type 0} (one : OneSession V S) (v w : V) (old new : Doorway S) (
     pub rose : Rose old.faults new.faults
     pub ends : EndsIn door_line 13 before after status
 
-  -- It listens, and can't say where: no session is served.
+  -- The door listens, and the program can't say where: no session is served.
   pub record FailsToTell (address : List ℕ) : Type 0 where
     pub same : w ≡ v
     pub door : new ≡ old
@@ -78,7 +78,7 @@ module _ {V S : Type 0} (one : OneSession V S) (v w : V) (old new : Doorway S) (
 
 module _ {V S : Type 0} (one : OneSession V S) (v w : V) (old new : Doorway S) (wanted : ℕ)
     (before after : Option (List ℕ)) (status : ℕ) where
-  -- The line that says where it listens is put, and then it serves.
+  -- The line that says where the door listens is put, and then sessions are served.
   pub record TellsAndServes (address : List ℕ) : Type 0 where
     pub between : Option (List ℕ)
     pub told : Appends before between (listening_line address)

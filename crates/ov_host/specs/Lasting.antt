@@ -30,8 +30,8 @@ KeepsFirst k g updates i =
     (first : List SealedUpdate) × ((more : List SealedUpdate) × (updates ≡ first ++ more))
     × Keeps k (followed g first) i
 
--- it keeps the history with some first ones of them, or with all of them and the one in which the
--- disk failed
+-- the image keeps the history with some first ones of these updates, or with all of them and the
+-- one in which the disk failed
 abbrev pub KeepsSome : Keys → SealedHistory → List SealedUpdate → Bool → Image → Type 0
 KeepsSome k g updates failed i = KeepsFirst k g updates i ⊎ KeepsAll k g updates failed i
 

@@ -89,7 +89,7 @@ DamagedKeepsNone =
     (k : Keys) (g : SealedHistory) (h : Header) (i : Image) (place : ℕ)
     → HasHeader h i → HasBadRecords h i place → Keeps k g i → ⊥
 
--- it has one at no more than one place
+-- an image has a bad record or a bad length at no more than one place
 abbrev pub DamageHasOnePlace : Type 0
 DamageHasOnePlace =
     (h other : Header) (i : Image) (one two : ℕ)

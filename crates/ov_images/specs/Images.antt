@@ -21,11 +21,11 @@ pub record Keys : Type 0 where
   pub base_check : List ℕ
   pub surface : List ℕ
 
--- these two
+-- the keys with this check value of the base master and this surface master
 abbrev pub keys : List ℕ → List ℕ → Keys
 keys base_check surface = record { base_check = base_check; surface = surface }
 
--- with what the holder of both masters opens it
+-- with what the holder of both masters opens a store
 abbrev pub keys_of : Masters → Keys
 keys_of k = record { base_check = check_value_of k.base; surface = k.surface }
 

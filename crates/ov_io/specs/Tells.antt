@@ -10,7 +10,8 @@ pub record SourceTells (S : Type 0) : Type 1 where
   -- keeps it.
   pub borrow : S → ℕ
   -- That one take leads from the first value to the second. Code over any source can show it of
-  -- exactly one call of `take`, not of none and not of two: so its contracts count takes by it.
+  -- exactly one call of `take`, not of none and not of two, so its contracts count takes by this
+  -- relation.
   pub takes : S → S → Type 0
 
 pub record SinkTells (S : Type 0) : Type 1 where

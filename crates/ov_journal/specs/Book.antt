@@ -81,14 +81,14 @@ contents_of book = record { head = take 78 book; records = records_after 78 book
 abbrev pub born : Header → List (List ℕ) → Contents
 born h bodies = record { head = spelled h; records = record { bodies = bodies; bad = false } }
 
--- one body more, behind the others
+-- a store with one body more, behind the others
 abbrev pub with_body : List ℕ → Contents → Contents
 with_body body c = record {
   head = c.head;
   records = record { bodies = c.records.bodies ++ body ∷ []; bad = c.records.bad };
 }
 
--- these bodies more, in this order
+-- a store with these bodies behind its own, in this order
 abbrev pub with_bodies : List (List ℕ) → Contents → Contents
 with_bodies bodies c = record {
   head = c.head;

@@ -40,7 +40,7 @@ Finds book (Err (Damaged offset)) = (offset ≡ 9) × HasNoMode book
 Finds book (Err Disk) = ⊤
 Finds book (Err Memory) = ⊤
 
--- this holds, if no call of the disk failed
+-- this holds of a check, if no call of the disk failed
 abbrev pub UnlessDisk : {T : Type 0} → Result T CheckFault → Type 0 → Type 0
 UnlessDisk (Ok x) P = P
 UnlessDisk (Err DiskFailed) P = ⊤

@@ -13,7 +13,7 @@ pub record HasMagic (book : List ℕ) : Type 0 where
   pub open_gate : slice_index book 0 ≡ 1
   pub magic_bytes : take 8 (drop 1 book) ≡ magic
 
--- neither
+-- a Book that is neither unborn nor a store of this format
 abbrev pub IsForeign : List ℕ → Type 0
 IsForeign book = (IsUnborn book → ⊥) × (HasMagic book → ⊥)
 

@@ -6,7 +6,8 @@ use Rattle.sha2.specs.Sha256.{sha256}
 abbrev pub block_key : List ℕ → List ℕ
 block_key key = key ++ replicate (64 - length key) 0
 
--- that block XORed with one byte repeated: 0x36 is ipad, 0x5c is opad (section 2, steps 2 and 5)
+-- the block of the key XORed with one byte repeated: 0x36 is ipad, 0x5c is opad (section 2, steps 2
+-- and 5)
 abbrev pub pad : ℕ → List ℕ → List ℕ
 pad byte key = map (λ b. bit_xor b byte) (block_key key)
 

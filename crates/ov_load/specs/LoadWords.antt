@@ -11,7 +11,7 @@ use Rattle.ov_load.specs.declared.load_words.Load.{Load}
 abbrev pub IsWorkload : Load → Type 0
 IsWorkload load = (load.number < 2 ^ 64) × (1 ≤ load.count) × (load.count ≤ MAX_WORKLOAD)
 
--- these words are its mode, and its number and its count in decimal without leading zeros
+-- these words are the load's mode, and its number and its count in decimal without leading zeros
 abbrev pub IsAsked : Load → List ℕ → List ℕ → List ℕ → Type 0
 IsAsked load mode number count =
     IsWorkload load

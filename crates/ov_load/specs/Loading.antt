@@ -117,7 +117,8 @@ module _ {D : Type 0} (tells : DiskTells D) where
     pub moments : Holds tells k h first.disk
         → LeavesOnly tells first.disk last.disk (KeepsSome k h load)
 
-  -- all of them were; or a crash leaves the history after some of them; a wrong tag is never found
+  -- all commands of the workload were answered and their replies tallied; or a crash leaves the
+  -- history after some of them; a wrong tag is never found
   abbrev pub Loads : Masters → PlainHistory → Load → KeptOn D → KeptOn D
       → Result Tally StepFault → Type 0
   Loads k h load first last (Ok tally) =

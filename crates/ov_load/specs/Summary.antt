@@ -49,7 +49,7 @@ IsSummary load t epoch text =
 abbrev pub load_counts : Load → PlainHistory → Counts
 load_counts load h = counted_all none_counted h (workload load.number load.count)
 
--- they add up to the commands, each of which is counted once
+-- the counts of the replies add up to the commands, each of which is counted once
 abbrev pub AddsUp : Load → PlainHistory → Type 0
 AddsUp load h = total (load_counts load h) ≡ WORKLOAD_USERS + load.count
 

@@ -38,7 +38,7 @@ pub struct Pieces<'a> {
 pub const NEVER: u64 = 1_000_000_000_000;
 
 impl<'a> Pieces<'a> {
-    /// These bytes, once, without a fault.
+    /// A source that gives these bytes once, without a fault.
     pub fn of(bytes: &'a [u8], piece: usize) -> Pieces<'a> {
         Pieces {
             rest: bytes,
@@ -74,7 +74,7 @@ pub struct Wants<'a> {
 }
 
 impl<'a> Wants<'a> {
-    /// These lines.
+    /// A sink that wants these lines.
     pub fn of(lines: &'a [u8]) -> Wants<'a> {
         Wants { lines, puts: 0 }
     }

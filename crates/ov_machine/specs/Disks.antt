@@ -16,7 +16,7 @@ use Rattle.ov_model.specs.Step.{after}
 abbrev pub KeepsPlain : Masters → PlainHistory → Image → Type 0
 KeepsPlain k p c = Keeps (keys_of k) (sealed k p) c
 
--- it stands for the history as it is sealed under them
+-- the image stands for the history as it is sealed under the two masters
 abbrev pub StandsForPlain : Masters → PlainHistory → Image → Type 0
 StandsForPlain k p c = IsImageOf (keys_of k) (sealed k p) c
 

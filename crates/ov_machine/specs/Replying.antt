@@ -29,17 +29,17 @@ MayEnd (client.BadReply place) = ⊥
 MayEnd (client.Unsettled generations) = ⊥
 MayEnd fault = Unit {0}
 
--- no other fault came
+-- the fault of a call, if one came, is one of an owner that comes of a server in this process
 abbrev pub HasOwnFault : {T : Type 0} → Result T OwnerFault → Type 0
 HasOwnFault (Ok value) = Unit {0}
 HasOwnFault (Err fault) = MayCome fault
 
--- nor in a read
+-- the fault of a read, if one came, is one of a reader that comes of a server in this process
 abbrev pub HasReadFault : Result (List ℕ) ClientFault → Type 0
 HasReadFault (Ok bytes) = Unit {0}
 HasReadFault (Err fault) = MayEnd fault
 
--- nor in what came of a read
+-- the fault of what came of a read, if one came, is one that comes of a server in this process
 abbrev pub HasFoundFault : Found → Type 0
 HasFoundFault (Unread fault) = MayCome fault
 HasFoundFault (Read found) = HasReadFault found
@@ -54,22 +54,22 @@ fault_reply owner.Link = Err Trace
 fault_reply owner.Device = Err Disk
 fault_reply fault = Err Memory
 
--- to a change
+-- the reply to a change
 abbrev pub change_reply : Result ℕ OwnerFault → Result Reply StepFault
 change_reply (Ok epoch) = Ok (replies.Accepted epoch)
 change_reply (Err fault) = fault_reply fault
 
--- to a question for the epoch
+-- the reply to a question for the epoch
 abbrev pub epoch_reply : Result Welcome OwnerFault → Result Reply StepFault
 epoch_reply (Ok welcome) = Ok (replies.Epoch welcome.epoch)
 epoch_reply (Err fault) = fault_reply fault
 
--- to a question for the names in a file's list
+-- the reply to a question for the names in a file's list
 abbrev pub names_reply : List ℕ → Result (List (List ℕ)) OwnerFault → Result Reply StepFault
 names_reply file (Ok names) = Ok (replies.List file names)
 names_reply file (Err fault) = fault_reply fault
 
--- to a read that ends with a fault
+-- the reply to a read that ends with a fault
 abbrev pub read_fault_reply : List ℕ → ClientFault → Result Reply StepFault
 read_fault_reply file (client.Refused why) = Ok (replies.Refused why)
 read_fault_reply file (client.Damaged stored computed) =
@@ -78,7 +78,7 @@ read_fault_reply file client.Link = Err Trace
 read_fault_reply file client.Device = Err Disk
 read_fault_reply file fault = Err Memory
 
--- to a read
+-- the reply to a read
 abbrev pub read_reply : List ℕ → List ℕ → Result (List ℕ) ClientFault → Result Reply StepFault
 read_reply user file (Ok bytes) = Ok (replies.Bytes user file bytes)
 read_reply user file (Err fault) = read_fault_reply file fault

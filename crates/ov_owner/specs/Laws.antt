@@ -70,7 +70,7 @@ TalksAreShort =
     → v.surface ≡ k.surface → IsLegal (history_of p) → v.history ≡ sealed k p
     → AskedAlone v asks unanswered last → frame_bytes asks ≤ most_bytes command
 
--- neither a wrong reply, nor a wrong tag, nor tries that were all stale
+-- the result is neither a wrong reply, nor a wrong tag, nor tries that were all stale
 abbrev pub IsProper : Result ℕ OwnerFault → Type 0
 IsProper (Err (BadReply place)) = ⊥
 IsProper (Err BadTag) = ⊥

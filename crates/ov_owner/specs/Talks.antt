@@ -24,7 +24,7 @@ pub data Stage : Type 0 where
   Sends : (tries : List ℕ) → (epoch : ℕ) → (update : SealedUpdate) → Stage
   Ends : (result : Result ℕ OwnerFault) → Stage
 
--- where it begins
+-- the stage at which an owner begins
 abbrev pub start : Stage
 start = Asks [] 0
 
@@ -63,7 +63,8 @@ abbrev pub again_if : Bool → List ℕ → ℕ → Stage
 again_if true tries least = Ends (Err (faults.Unsettled tries))
 again_if false tries least = Asks tries least
 
--- it asks again, after tries at these epochs that were all stale
+-- the owner asks again, after tries at these epochs that were all stale, unless these are all its
+-- tries
 abbrev pub again : List ℕ → ℕ → Stage
 again tries least = again_if (length tries == MAX_TRIES) tries least
 
@@ -99,7 +100,7 @@ IsAfter e stage request reply next =
     (AreAllBytes reply × (next ≡ after e stage (answer_of request reply)))
     ⊎ (next ≡ Ends (Err faults.Memory))
 
--- this was asked at a stage, and it replied so, after which the stage is that one
+-- this was asked at a stage, and the peer replied so, after which the stage is that one
 pub record Moves (surface : List ℕ) (e : Errand) (stage : Stage) (a : Ask) (next : Stage)
     : Type 0 where
   pub asked : IsDue surface e stage a.request

@@ -21,7 +21,7 @@ use std::alloc::Global;
 /// What came of an Update that was sent.
 #[derive(Clone, Copy, Debug, PartialEq, Eq)]
 pub enum Sent {
-    /// It was accepted, and made this epoch.
+    /// The update was accepted, and made this epoch.
     Accepted(u32),
     /// The server is at this epoch.
     Stale(u32),

@@ -35,14 +35,14 @@ pub record PeerTells (P : Type 0) : Type 1 where
   pub asked : P → List ℕ → List ℕ → P → Type 0
   -- an ask that failed: the peer before it, the request, and the peer after it
   pub failed : P → List ℕ → P → Type 0
-  -- it serves this sealed history under these keys; a peer that tells none serves none
+  -- the peer serves this sealed history under these keys; a peer that tells none serves none
   pub serves : P → Service → Type 0
   -- how often it has failed; the count stays at 18,446,744,073,709,551,615
   pub faults : P → ℕ
   -- which loan it is, for a peer that is itself behind a `&mut`, and 0 for any other; each call
   -- keeps it
   pub borrow : P → ℕ
-  -- what it serves is what it answers by, whatever others do meanwhile
+  -- what a peer serves is what it answers by, whatever others do meanwhile
   pub told : (p q : P) (request reply : List ℕ) (v : Service)
       → asked p request reply q → serves p v → Told v request reply (serves q)
   -- after an ask that failed it serves what others made of its history, and perhaps what the

@@ -34,7 +34,7 @@ ServersGoOn =
     (answers : AnswersFrame old new request reply)
     → IsService old v → IsService new (later v answers.made)
 
--- its epoch is then as much higher as it made updates
+-- after a reply the epoch of a server is as much higher as the server made updates
 abbrev pub EpochsGoOn : Type 0
 EpochsGoOn =
     (old new : Serving) (request reply : List ℕ) (answers : AnswersFrame old new request reply)

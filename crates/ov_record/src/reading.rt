@@ -117,7 +117,7 @@ pub fn read<const W: usize>(alloc: Global, bytes: &[u8]) -> Result<Update<W>, Re
     // What is read is spelled so.
     ensures found { IfOk result (λ u. HasForm (8 * W) (sealed_update u)
         × (bytes.now ≡ spelling (8 * W) (sealed_update u))) }
-    // It can be written again.
+    // What is read can be written again.
     ensures limits { IfOk result (λ u. IsWithinLimits (sealed_update u)) }
     // What is spelled so is read, unless memory runs out.
     ensures only { (u : SealedUpdate) → HasForm (8 * W) u → bytes.now ≡ spelling (8 * W) u

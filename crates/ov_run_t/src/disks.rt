@@ -101,7 +101,7 @@ fn books_of_a_run(rt: HostRuntime) -> Result<(), Fail> {
     Ok(())
 }
 
-/// These bytes with one of them changed.
+/// A copy of these bytes with one of them changed.
 pub fn changed(alloc: Global, bytes: &[u8], place: usize, byte: u8) -> Result<Vec<u8>, AllocError> {
     let mut bytes = bytes.to_vec(alloc)?;
     if place < bytes.len() {
@@ -168,7 +168,7 @@ const ONE_FILE: &[u8] = b"\x01OVERENC0\0\0\0\0\0\
     \xbf\x77\xf6\x38\xe6\x49\x97\xf3\x42\x6e\x66\xa1\x9e\x85\x5d\xe7\
     \0\0\0\x01\x7f\0";
 
-/// That Book, in a mode of this byte.
+/// The Book of one file, in a mode of this byte.
 pub fn one_file(alloc: Global, mode: u8) -> Result<Vec<u8>, AllocError> {
     changed(alloc, ONE_FILE, 9, mode)
 }

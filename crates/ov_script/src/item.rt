@@ -18,7 +18,7 @@ use ov_io::Source;
 /// A whole item, which was used.
 #[derive(Drop)]
 pub struct Item {
-    /// Its command.
+    /// The command of the item.
     pub command: Command,
     /// How many bytes it has.
     pub size: usize,

@@ -87,8 +87,8 @@ impl<D: Disk> Server<D> {
         // A crash at any moment of the call leaves the history from before, or it with the
         // request's update.
         ensures any_moment { LeavesAsked D.tells request.now self.old self.new }
-        // That the disk failed is answered only where its count of faults rose in this call, or to
-        // an update after one that was answered so.
+        // It is answered that the disk failed only where the disk's count of faults rose in this
+        // call, or to an update after one that was answered so.
         ensures call { IsCallOf D.tells self.old self.new
             (IsNewFault self.old request.now reply.new.items) }
     {

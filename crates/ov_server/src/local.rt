@@ -30,7 +30,7 @@ impl<D: Disk> LocalPeer<D> {
         LocalPeer { server }
     }
 
-    /// Its server.
+    /// The server that is asked.
     pub fn server(&self) -> &Server<D>
         ensures { result.now ≡ self.now }
     {

@@ -41,7 +41,7 @@ impl<D: Disk> Server<D> {
         }
     }
 
-    /// Its store.
+    /// The store of a server.
     pub fn store(&self) -> &Store<D>
         ensures { result.now ≡ self.now }
     {

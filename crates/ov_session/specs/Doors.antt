@@ -38,7 +38,7 @@ abbrev pub FailsExactly : {T E : Type 0} → ℕ → ℕ → Result T E → Type
 FailsExactly before now result =
     MatchResult result (λ _. now ≡ before) (λ _. Rose before now)
 
--- it listens: nothing is given by that, and at Ok its address was appended
+-- the door listens: nothing is given by that, and at Ok its address was appended
 pub record Listens {S E : Type 0} (old new : Doorway S) (before after : List ℕ)
     (result : Result (Unit {0}) E) : Type 0 where
   pub same : new ≡ record old { faults = new.faults }

@@ -109,7 +109,7 @@ pub record Going {A : Type 0} (tells : AskerTells A) (a b : A) (old new : Link)
   pub counted : count ≡ min (length taken) 18446744073709551615
   pub later : IsLater old new
 
--- it goes on, or it ended
+-- the session goes on, or it ended
 abbrev pub GoesOn : {A : Type 0} → AskerTells A → A → A → Link → Link → Decoding → ℕ
     → Result (Unit {0}) SessionEnd → Type 0
 GoesOn tells a b old new decoding count (Ok done) = Going tells a b old new decoding count

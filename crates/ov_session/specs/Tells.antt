@@ -7,9 +7,9 @@ abbrev pub Asks : Type 0 → Type 1
 Asks A = A → List ℕ → Option (List ℕ) → A → Type 0
 
 pub record AskerTells (A : Type 0) : Type 1 where
-  -- what it asks
+  -- what an asker asks
   pub asks : Asks A
-  -- it has asked as often as it may
+  -- the asker has asked as often as it may
   pub spent : A → Type 0
   -- which loan it asks by, for an asker that holds a `&mut`, and 0 for any other; each ask keeps it
   pub borrow : A → ℕ

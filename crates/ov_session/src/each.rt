@@ -12,9 +12,9 @@ use std::sync::Wait;
 
 /// What came of a door's next stream.
 enum Next {
-    /// It was served.
+    /// The stream was served.
     Served,
-    /// There are no more.
+    /// There are no more streams.
     Closed,
     /// The door failed.
     Failed,

@@ -73,7 +73,7 @@ pub record IsSettingsFile (bytes : List ℕ) (s : Settings) : Type 0 where
   pub is : IsDocument bytes document
   pub values : AreSettings document s
 
--- they are one of no settings
+-- the bytes are the text of no settings
 abbrev pub IsNoSettingsFile : List ℕ → Type 0
 IsNoSettingsFile bytes = (s : Settings) → IsSettingsFile bytes s → ⊥
 

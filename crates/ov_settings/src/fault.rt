@@ -15,7 +15,7 @@ pub enum SettingsFault {
     Memory,
     /// The file has more than 65,536 bytes.
     TooLong,
-    /// It isn't UTF-8, or no TOML document.
+    /// The file isn't UTF-8, or no TOML document.
     NotToml,
     Address,
     Mode,

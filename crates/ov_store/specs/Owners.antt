@@ -16,7 +16,7 @@ use Rattle.ov_journal.specs.Book.{contents_of}
 use Rattle.ov_journal.specs.Log.{Log, end_from}
 use Rattle.ov_images.specs.Images.{AllHaveForm, bodies_of}
 
--- these two
+-- the two masters of these bytes
 abbrev pub masters : List ℕ → List ℕ → Masters
 masters base surface = record { base = base; surface = surface }
 

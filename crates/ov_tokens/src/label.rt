@@ -37,7 +37,7 @@ pub struct Label {
 }
 
 impl Label {
-    /// Its five bytes: the tag of its kind, and its number with the high byte first.
+    /// The five bytes of a label: the tag of its kind, and its number with the high byte first.
     pub fn bytes(&self) -> [u8; 5]
         ensures { result ≡ label_bytes self.now }
     {

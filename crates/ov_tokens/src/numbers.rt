@@ -52,7 +52,7 @@ impl Numbers {
         Ok(())
     }
 
-    /// Its items.
+    /// The items as a slice.
     pub fn as_slice(&self) -> &[u32]
         ensures { result.now ≡ self.now }
     {

@@ -54,7 +54,7 @@ impl Steps {
         Ok(())
     }
 
-    /// Its items.
+    /// The items as a slice.
     pub fn as_slice(&self) -> &[Step]
         ensures { result.now ≡ self.now }
     {

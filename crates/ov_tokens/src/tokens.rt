@@ -54,7 +54,7 @@ impl Tokens {
         Ok(())
     }
 
-    /// Its items.
+    /// The items as a slice.
     pub fn as_slice(&self) -> &[Token]
         ensures { result.now ≡ self.now }
     {

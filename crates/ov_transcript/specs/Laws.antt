@@ -119,7 +119,8 @@ RunsHaveOneTranscript =
     → IsLegal (history_of p) → Transcripts k p commands one → Transcripts k p commands other
     → one ≡ other
 
--- that of a grant or a revocation is the same at histories that differ in their files' bytes alone
+-- the transcript of a grant or a revocation is the same at histories that differ in their files'
+-- bytes alone
 abbrev pub GrantsSendNoBytes : Type 0
 GrantsSendNoBytes =
     (k : Masters) (p q : PlainHistory) (command : Command) (asks : List Ask)
@@ -127,7 +128,7 @@ GrantsSendNoBytes =
     → IsLegal (history_of q) → DifferInBytes p q → IsTranscript k p command asks
     → IsTranscript k q command asks
 
--- that of an update is short: only a creation's is as long as its list and its file
+-- the transcript of an update is short: only a creation's is as long as its list and its file
 abbrev pub TranscriptsAreShort : Type 0
 TranscriptsAreShort =
     (k : Masters) (p : PlainHistory) (command : Command) (asks : List Ask)

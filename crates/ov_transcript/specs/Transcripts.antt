@@ -32,7 +32,7 @@ use Rattle.ov_owner.specs.Talks.{update_request}
 abbrev pub frames_of : Ask → List ℕ
 frames_of a = framed a.request ++ framed a.reply
 
--- those of each ask, in turn
+-- the frames of each ask, in turn
 abbrev pub frames : List Ask → List ℕ
 frames [] = []
 frames (a ∷ asks) = frames_of a ++ frames asks

@@ -15,7 +15,8 @@ use Rattle.ov_vault.specs.declared.prepared.Prepared.{Prepared}
 abbrev pub stored_with : {W : ℕ} → List (List ℕ) → Prepared W → List (List ℕ)
 stored_with stored p = with_text (put_all stored p.rewritten.items) p.new
 
--- it is this change, with what its rewrites make of what is stored and of the text of a new file
+-- what is prepared is this change, with what its rewrites make of what is stored and of the text of
+-- a new file
 pub record IsMadeBy {W : ℕ} (master : List ℕ) (stored : List (List ℕ)) (text : Option (List ℕ))
     (made : Change W) (p : Prepared W) : Type 0 where
   pub change : p.change ≡ made
@@ -30,8 +31,8 @@ pub record MayBeMade {W : ℕ} (limit : ℕ) (s : Store) (p : Prepared W) : Type
   pub space : HasRoomForNew s.spare p.new
   pub whole : AreStored (applied s.catalogue p.change).files (stored_with s.stored p)
 
--- it is what this update makes of both halves, under the surface master: new stored bytes are of
--- just the files whose bytes the update rewrites, so that no other file is copied
+-- what is prepared is what this update makes of both halves, under the surface master: new stored
+-- bytes are of just the files whose bytes the update rewrites, so that no other file is copied
 pub record IsPreparedFor {W : ℕ} (limit : ℕ) (master : List ℕ) (s : Store) (u : SealedUpdate)
     (p : Prepared W) : Type 0 where
   pub change : IsChange limit master s.catalogue (brief u) p.change

@@ -23,27 +23,27 @@ use Rattle.ov_wire.specs.Updates.{Has32}
 
 -- ---- the refusals that a command can have
 
--- of an enrolment
+-- the refusals of an enrolment
 abbrev pub enrol_refusals : List Refusal
 enrol_refusals = Taken ∷ UsersFull ∷ NodesFull ∷ Spent ∷ []
 
--- of a creation
+-- the refusals of a creation
 abbrev pub create_refusals : List Refusal
 create_refusals = Taken ∷ NoUser ∷ FilesFull ∷ BytesFull ∷ NodesFull ∷ Spent ∷ []
 
--- of a grant
+-- the refusals of a grant
 abbrev pub grant_refusals : List Refusal
 grant_refusals = NoUser ∷ NoFile ∷ Listed ∷ NodesFull ∷ Spent ∷ []
 
--- of a revocation
+-- the refusals of a revocation
 abbrev pub revoke_refusals : List Refusal
 revoke_refusals = NoUser ∷ NoFile ∷ NotListed ∷ NodesFull ∷ Spent ∷ []
 
--- of a reading
+-- the refusals of a reading
 abbrev pub read_refusals : List Refusal
 read_refusals = NoUser ∷ NoFile ∷ NoPath ∷ []
 
--- of a command whose numbers are asked for
+-- the refusals of a command whose numbers are asked for
 abbrev pub ask_refusals : Question → List Refusal
 ask_refusals (questions.Enrol user) = enrol_refusals
 ask_refusals (questions.Grant user file) = grant_refusals

@@ -205,7 +205,7 @@ fn read_all(alloc: Global, request: &Request, bytes: &[u8]) -> Result<Answer, Fi
 pub fn read_answer(alloc: Global, request: &Request, frame: &[u8]) -> Result<Answer, WireFault>
     // What is read is an answer to this request, and spelled so.
     ensures found { IfOk result (λ a. IsAnswer request.now a × (frame.now ≡ answer_bytes a)) }
-    // It can be written again.
+    // What is read can be written again.
     ensures counts { IfOk result HasAnswerCounts }
     // An answer that is spelled so is read, unless memory runs out.
     ensures only { (a : Answer) → IsAnswer request.now a → length frame.now ≤ MAX_FRAME_BYTES

@@ -171,7 +171,7 @@ fn read_all(alloc: Global, bytes: &[u8]) -> Result<Request, FieldFault>
 pub fn read_request(alloc: Global, frame: &[u8]) -> Result<Request, WireFault>
     // What is read is spelled so.
     ensures found { IfOk result (λ r. HasRequestForm r × (frame.now ≡ request_bytes r)) }
-    // It can be written again.
+    // What is read can be written again.
     ensures limits { IfOk result HasRequestLimits }
     // What is spelled so is read, unless memory runs out.
     ensures only { (r : Request) → HasRequestForm r → frame.now ≡ request_bytes r

@@ -19,19 +19,19 @@ pub const WRITABLE: &str = "see that it is open, and that there is room";
 /// Why the words are no line of a command.
 #[derive(Drop)]
 pub enum WrongWords<'a> {
-    /// There are none.
+    /// There are no words.
     None,
     /// One is no text.
     NoText,
     /// The first is no command.
     Command(&'a str),
-    /// There are fewer than the command takes.
+    /// There are fewer words than the command takes.
     TooFew,
-    /// There are more than the command takes, or one is an option.
+    /// There are more words than the command takes, or one is an option.
     Others,
-    /// This is no name.
+    /// This word is no name.
     Name(&'a str),
-    /// This is no list.
+    /// This word is no list.
     List(&'a str),
 }
 

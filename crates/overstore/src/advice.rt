@@ -6,19 +6,19 @@ use ov_files::FileFault;
 /// Where the program was when it ended.
 #[derive(Clone, Copy, Debug, PartialEq, Eq)]
 pub enum Stage {
-    /// It was printing a text about itself.
+    /// The program was printing a text about itself.
     Telling,
-    /// There was a `--quiet` among its words that doesn't belong there.
+    /// There was a `--quiet` among the program's words that doesn't belong there.
     Quiet,
     /// There was no key file.
     NoKeys,
     /// The key file couldn't be read.
     UnreadKeys,
-    /// It was asked for a load.
+    /// The program was asked for a load.
     Load,
-    /// It had put no reply.
+    /// The program had put no reply.
     Unanswered,
-    /// It had put replies.
+    /// The program had put replies.
     Answered,
 }
 

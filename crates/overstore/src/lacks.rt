@@ -11,9 +11,9 @@ pub enum Lack {
     Short,
     /// The line has a CR.
     LineFeedAlone,
-    /// It begins with no command.
+    /// The line begins with no command.
     Command,
-    /// It has other words than the command takes.
+    /// The line has other words than the command takes.
     Words,
     /// A word that is to be a name is none.
     Name,
@@ -23,7 +23,7 @@ pub enum Lack {
     Length,
     /// The script stops before its LF.
     End,
-    /// Its file's bytes and an LF don't follow.
+    /// The file's bytes and an LF don't follow the line.
     Bytes,
 }
 

@@ -14,12 +14,12 @@ pub struct Given<'a> {
 }
 
 impl<'a> Given<'a> {
-    /// These bytes once.
+    /// A source that gives these bytes once.
     pub fn once(bytes: &'a [u8]) -> Given<'a> {
         Given::again(bytes, 0)
     }
 
-    /// These bytes once and so many more times.
+    /// A source that gives these bytes once and this many more times.
     pub fn again(bytes: &'a [u8], again: u32) -> Given<'a> {
         Given {
             bytes,

@@ -81,7 +81,7 @@ fn plain_pad(key: &[u8; 32], tag: u8, file: u8) -> [u8; 4608] {
     pad
 }
 
-/// That pad: the first bytes of its digest.
+/// The first bytes of the digest of the pad by the plain cipher.
 pub fn plain() -> usize {
     let pad = plain_pad(&[7; 32], b'B', 2);
     let mut hasher = Sha256::new();

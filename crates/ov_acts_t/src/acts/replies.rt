@@ -74,7 +74,7 @@ macro_rules! known_at {
     };
 }
 
-// That an update isn't made, since the epoch is this one.
+// What a stale update is answered, at this epoch.
 macro_rules! stale_at {
     ($epoch:literal) => {
         &[0x89, 0, 0, 0, $epoch]

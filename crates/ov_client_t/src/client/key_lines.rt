@@ -11,7 +11,7 @@ const CAPITAL: &[u8] = b"6829D4D2E470DEBD34BF50F13047DB4DCF730CBFE88E9986E6FE30D
 /// A digit too few.
 const SHORT: &[u8] = b"829d4d2e470debd34bf50f13047db4dcf730cbfe88e9986e6fe30dd7d674731";
 
-/// These parts, joined.
+/// Joins these parts.
 fn joined(alloc: Global, parts: &[&[u8]]) -> Result<Vec<u8>, Fail> {
     let mut text = Vec::new(alloc);
     for part in parts {
