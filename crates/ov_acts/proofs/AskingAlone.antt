@@ -138,7 +138,8 @@ module _ {P : Type 0} (peer : PeerTells P)
 
   module _ {T : Type 0} (request : Request) (take : Answer → Result T OwnerFault)
       (question : IsPlainQuestion request) where
-    -- this is taken of an answer by what is served, and the same is served then; or it was cut off
+    -- this is taken of an answer by what is served, and what is served stays the same; or the
+    -- question was cut off
     abbrev pub IsTakenOf : P → P → Service → Result T OwnerFault → Type 0
     IsTakenOf p q v result =
         ((a : Answer) × (reply : List ℕ)

@@ -114,7 +114,7 @@ update_other s surface tries epoch u answers.DeviceFault (tagged, now, is) =
 update_other s surface tries epoch u answers.NoMemory is = tt
 update_other s surface tries epoch u a is = tt
 
--- it is so from earlier on
+-- a disk that fails from a later peer on fails from an earlier one on too
 pub fails_later : {P : Type 0} (peer : PeerTells P) (p m q : P)
     (request reply : List ℕ)
     → peer.asked p request reply m → FailsDisk peer m q → FailsDisk peer p q

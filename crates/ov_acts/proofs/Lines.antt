@@ -81,7 +81,7 @@ three_words (acts.Key user) command first second third path (c, w, p, named) = a
 three_words (acts.Read file) command first second third path (c, w, p, named) = absurd (cc)
 three_words acts.Check command first second third path is = absurd is
 
--- there are one, two or three
+-- an act's line has one, two or three words
 pub few_words : (act : Act) (command path : List ℕ) (words : List (List ℕ))
     → IsActLine act command words path
     → (1 ≤ length words) × (length words ≤ 3)

@@ -15,7 +15,7 @@ module _ {T : Type 0} (reads links keys long : Type 0) (result : Result T Stop) 
   stops_unkeyed e why =
       record { read = λ x. cc; link = λ x. cc; keys = λ x. why; long = λ x. cc }
 
-  -- it has too many bytes
+  -- the file has too many bytes
   pub stops_long : result ≡ Err stops.TooLong → long → StopsFor reads links keys long result
   stops_long e why =
       record { read = λ x. cc; link = λ x. cc; keys = λ x. cc; long = λ x. why }

@@ -138,7 +138,8 @@ round_of_byte s t w n same =
     ≡ bit_xor (bit_xor (byte_in (full_round s w n) r 0) (weighed (weight r 3) (byte_in s 3 3))) (weighed (weight r 3) (byte_in t 3 3)))
     (fourth_changes 2 3 1 1 _ _ _ q00 q11 q22) (fourth_changes 1 2 3 1 _ _ _ q00 q11 q22) (fourth_changes 1 1 2 3 _ _ _ q00 q11 q22) (fourth_changes 3 1 1 2 _ _ _ q00 q11 q22)
 
--- the other columns are then the same
+-- the bytes of the other columns after a round are the same, where the states before it differ in
+-- the byte of row 3 and column 3 alone
 pub round_beside : (s t : List ℕ) (w : List (List ℕ)) (n : ℕ)
     → ((r c : ℕ) → r < 4 → c < 4 → r + c < 6 → byte_in t r c ≡ byte_in s r c) → (r c : ℕ) → r < 4 → 1 ≤ c → c < 4
     → byte_in (full_round t w n) r c ≡ byte_in (full_round s w n) r c

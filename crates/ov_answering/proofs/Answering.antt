@@ -115,16 +115,16 @@ never_write fault stop is e = no_write fault (sym is ∙ one stop Write e)
 pub never_read : (fault : StepFault) (stop : Stop) → stop ≡ stop_for fault → Some stop ≡ Some Read → ⊥
 never_read fault stop is e = no_read fault (sym is ∙ one stop Read e)
 
--- it stops for a tag only where that is wrong
+-- a step that isn't answered stops for a tag only where that is wrong
 pub tag_so : (fault : StepFault) (stop : Stop) (bad : BadTag) → stop ≡ stop_for fault → ((bad : BadTag) → fault ≡ WrongTag bad → AreOtherTags bad)
     → Some stop ≡ Some (Tag bad) → AreOtherTags bad
 tag_so fault stop bad is tag e = tag bad (tag_only fault bad (sym is ∙ one stop (Tag bad) e))
 
--- it stops at a call of the disk only where that failed
+-- a step that isn't answered stops at a call of the disk only where that failed
 pub disk_so : (fault : StepFault) (stop : Stop) (R : Type 0) → stop ≡ stop_for fault → (fault ≡ NoDisk → R) → Some stop ≡ Some Disk → R
 disk_so fault stop R is failed e = failed (disk_only fault (sym is ∙ one stop Disk e))
 
--- it stops at the sink of frames only where that failed
+-- a step that isn't answered stops at the sink of frames only where that failed
 pub trace_so : (fault : StepFault) (stop : Stop) (R : Type 0) → stop ≡ stop_for fault → (fault ≡ NoTrace → R) → Some stop ≡ Some Trace → R
 trace_so fault stop R is failed e = failed (trace_only fault (sym is ∙ one stop Trace e))
 
@@ -142,7 +142,7 @@ put_never r old new bytes puts = (
 )
 
 module _ {D : Type 0} (tells : DiskTells D) where
-  -- it was answered, and then its line was put or not
+  -- the command was answered, and then its line was put or not
   pub put_so : (k : Masters) (p : PlainHistory) (command : Command) (first last : KeptOn D) (reply : Reply) (r : Option Stop) (old new : Option (List ℕ))
       → PutsOr r old new (reply_line reply) → StepsAt tells k p command first last (Ok reply)
       → Answers tells k p command r old new first last
@@ -158,7 +158,7 @@ module _ {D : Type 0} (tells : DiskTells D) where
   put_so k p command first last reply (Some Read) old new puts steps = absurd puts
   put_so k p command first last reply (Some (Tag bad)) old new puts steps = absurd puts
 
-  -- it wasn't
+  -- the command wasn't answered
   pub unanswered_so : (k : Masters) (p : PlainHistory) (command : Command) (first last : KeptOn D) (fault : StepFault) (out : Option (List ℕ))
       → StepsAt tells k p command first last (Err fault)
       → Answers tells k p command (Some (stop_for fault)) out out first last
@@ -240,7 +240,7 @@ module _ {D : Type 0} (tells : DiskTells D) where
             };
           }
 
-      -- that isn't answered
+      -- the question for the epoch isn't answered
       end_first : (text t : List ℕ) (s : AnsweredSoFar tells k p text t line room old now first mid)
           → (Holds tells k (after_all p s.commands) mid.disk → LeavesStep tells k (after_all p s.commands) AskEpoch mid.disk last.disk)
           → AnsweredFirst tells k p text old now first last

@@ -92,7 +92,7 @@ module _ {D : Type 0} (tells : DiskTells D) (k : Masters) (p : PlainHistory) whe
     lasts = λ _ zero. absurd (not_zero memory_line 7 old new status e (λ z. omega arith) zero);
   }
 
-  -- it opened, and the script was answered over it
+  -- the disk opened, and the script was answered over it
   module _ (m : KeptOn D) (masters : m.kept.masters ≡ k) (sound : m.failed ≡ false)
       (serves : Serves tells (sealed k p) (opened_of m)) where
     begun_stands : IsLegal (history_of p) → StandsFor m.kept p

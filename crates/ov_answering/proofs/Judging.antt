@@ -290,7 +290,7 @@ in_low line code old new status low (inr q) is = refused_low status 6 is q.0 (om
 
 module _ (k : Masters) (mode : Mode) (i : Image) (status : ℕ) (old new : Option (List ℕ))
     (script_unread nothing_written : Type 0) where
-  -- it opened
+  -- the image opened
   pub judged_open : Opens k mode i → (IsRefused status → ⊥)
       → JudgesImage k mode i status old new script_unread nothing_written
   judged_open opens other = record {
@@ -314,7 +314,7 @@ module _ (k : Masters) (mode : Mode) (i : Image) (status : ℕ) (old new : Optio
   never (inl e) is = in_low disk_line 4 old new status (omega arith) e is
   never (inr e) is = in_low memory_line 7 old new status (omega arith) e is
 
-  -- it didn't
+  -- the image was refused
   pub judged_refused : (fault : BeginFault) → Refuses k mode i fault
       → EndsOr (fault_line fault) (fault_status fault) old new status
       → script_unread → ((IsUnborn i.book → ⊥) → nothing_written)
@@ -327,7 +327,7 @@ module _ (k : Masters) (mode : Mode) (i : Image) (status : ℕ) (old new : Optio
     unwritten = λ none. written (λ unborn. none (opens_unborn k mode i unborn));
   }
 
-  -- it wasn't read
+  -- the key file wasn't read
   pub judged_unread : EndsIn read_line 5 old new status → script_unread → nothing_written
       → JudgesImage k mode i status old new script_unread nothing_written
   judged_unread ends unread written = record {

@@ -246,7 +246,7 @@ judged_none asked keys status old new untouched none ends left = record {
   line_put (inl q) e = q.1
   line_put (inr q) e = let six : status ≡ 6 = q.0 in absurd (omega arith)
 
--- its read failed
+-- a read of the key file failed
 pub judged_failed : (asked : Type 0) (keys : Option (List ℕ)) (status : ℕ) (old new : Option (List ℕ)) (untouched : Type 0)
     → EndsIn read_line 5 old new status → untouched → JudgesKeys asked keys status old new untouched
 judged_failed asked keys status old new untouched ends left = record {
@@ -265,7 +265,7 @@ judged_failed asked keys status old new untouched ends left = record {
   not_ten (inl q) e = let five : status ≡ 5 = q.0 in omega arith
   not_ten (inr q) e = let six : status ≡ 6 = q.0 in omega arith
 
--- it isn't looked at, for other words
+-- the key file isn't looked at, for other words
 pub judged_unasked : (asked : Type 0) (keys : Option (List ℕ)) (status : ℕ) (old new : Option (List ℕ)) (untouched : Type 0)
     → (asked → ⊥) → EndsIn usage_line 2 old new status → untouched → JudgesKeys asked keys status old new untouched
 judged_unasked asked keys status old new untouched not_asked ends left = record {

@@ -69,7 +69,7 @@ module _ (k : Masters) (p : PlainHistory) (text : List ℕ) (commands : List Com
   all_more command old mid new (bytes, all, put) (one, traced, more) =
       (bytes ++ one, one_more k p commands command bytes one all traced, Appends-trans old mid new bytes one put more)
 
-  -- no more than these
+  -- the transcripts of these commands were put, and no more
   first_none : (old new : Option (List ℕ)) → TranscribesAll k p commands old new → TranscribesFirst k p text commands old new
   first_none old new (bytes, all, put) = (bytes, [], all, inl refl, subst (Appends old new) (sym (append-nil bytes)) put)
 
@@ -79,7 +79,7 @@ module _ (k : Masters) (p : PlainHistory) (text : List ℕ) (commands : List Com
   first_more next comes old mid new (bytes, all, put) (front, is, more) =
       (bytes, front, all, inr (next, comes, is), Appends-trans old mid new bytes front put more)
 
-  -- these, and the next one, of which this speaks as of a front
+  -- the transcripts of these commands and of the next one were put, the last of them as a front
   first_of_more : (next : Command) → BeginsScript text (commands ++ next ∷ []) ⊎ ((next ≡ AskEpoch) × IsScript text commands AtEnd) → (old new : Option (List ℕ))
       → TranscribesAll k p (commands ++ next ∷ []) old new → TranscribesFirst k p text commands old new
   first_of_more next comes old new (bytes, all, put) =
@@ -89,7 +89,7 @@ module _ (k : Masters) (p : PlainHistory) (text : List ℕ) (commands : List Com
 -- ---- one command
 
 module _ (k : Masters) (p : PlainHistory) (command : Command) (old new t_old t_new : Option (List ℕ)) where
-  -- it was answered, and its line was put or not
+  -- the command was answered, and its line was put or not
   pub line_traced : (r : Option Stop) (reply : Reply) → PutsOr r old new (reply_line reply) → reply ≡ reply_to p command → Transcribes k p command t_old t_new
       → TracesLine k p command r old new t_old t_new
   line_traced None reply puts is traced = (subst (λ (r : Reply). Appends old new (reply_line r)) is puts, traced)
@@ -103,7 +103,7 @@ module _ (k : Masters) (p : PlainHistory) (command : Command) (old new t_old t_n
   line_traced (Some Read) reply puts is traced = absurd puts
   line_traced (Some (Tag bad)) reply puts is traced = absurd puts
 
--- it wasn't
+-- the command wasn't answered
 pub fault_traced : (k : Masters) (p : PlainHistory) (command : Command) (Made : Type 0) (fault : StepFault) (out t_old t_new : Option (List ℕ))
     → BreaksOff k p command Made t_old t_new → TracesLine k p command (Some (stop_for fault)) out out t_old t_new
 fault_traced k p command Made NoDisk out t_old t_new traced = (kept out, front_of k p command Made t_old t_new traced)

@@ -35,7 +35,7 @@ least_keeps ds b (e ∷ es) =
     let r = least_keeps ds s.0 es in
     (r.0, ap (λ o. least_start ds o es) s.1 ∙ r.1, omega (arith, r.2, s.2))
 
--- nor than the distance of a start
+-- the least is no larger than the distance of a start
 least_bound : (ds : List (Option ℕ)) (best : Option ℕ) (es : List Edge) (c j : ℕ) → Contains (starts_of es) c
     → distance_at ds c ≡ Some j → (k : ℕ) × (least_start ds best es ≡ Some k) × (k ≤ j)
 least_bound ds best [] c j h found = absurd (Contains-none c h)

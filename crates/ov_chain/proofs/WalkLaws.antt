@@ -40,7 +40,7 @@ walked-path kind master graph from to (step ∷ steps) whole (near, first, path)
 
 -- ---- the last label
 
--- that of the last step
+-- the last label is that of the last step
 pub last_is : (from : Label) (steps : List Step) (n : ℕ) (d : Step) → n + 1 ≡ length steps
     → (get_or steps n d).to ≡ last_label from steps
 last_is from [] n d e = absurd (omega arith)

@@ -67,7 +67,7 @@ module _ {P : Type 0} (peer : PeerTells P) (r : Reader) (file : List ℕ) where
         (asks_more r tries c so_far.stored (omega (arith, size_is))) so_far.reaches)
         on
 
-    -- its bytes came
+    -- the bytes of the chunk that was asked for came
     pub gathers_more : (chunk next : List ℕ)
         → Reaches peer p q r file (goes_on r tries c [])
         (goes_on r tries c (so_far.stored ++ chunk))

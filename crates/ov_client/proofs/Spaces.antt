@@ -123,7 +123,7 @@ nowhere (b ∷ bytes) none =
     λ e. none 0 (omega arith) (omega arith) (grind (arith, nat_tests)) in
     (first, nowhere bytes (passes_later b bytes (length bytes) none))
 
--- the first one, with what is before and behind it
+-- the first space, with what is before and behind it
 pub parts_at : (bytes front back behind : List ℕ) (n : ℕ) → n < length bytes
     → Nowhere (Passes (is_byte 32) bytes) 0 n → Passes (is_byte 32) bytes n
     → front ≡ take n bytes → back ≡ drop n bytes → behind ≡ drop 1 back

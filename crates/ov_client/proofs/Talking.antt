@@ -86,7 +86,7 @@ module _ {P : Type 0} (peer : PeerTells P) (r : Reader) (file : List ℕ) where
     abbrev asked_so : IsAskedAt r file stage (request_bytes request)
     asked_so = record { request = request; is_asked = at_stage; form = form; spelled = refl }
 
-    -- its reply was read
+    -- the reply of an ask was read
     pub answered : (p q : P) (read : Result Answer ℕ) → Answered peer p q request read
         → Reaches peer p q r file stage (after r stage read)
     answered p q read a = (
@@ -122,7 +122,7 @@ module _ {P : Type 0} (peer : PeerTells P) (r : Reader) (file : List ℕ) where
     fails p q result f why =
         ([], Some (request_bytes request), (p, refl, f), (stage, refl, (asked_so, why)))
 
-    -- it has no answer
+    -- an ask has no answer
     pub unanswered : (p q : P) (fault : ExchangeFault)
         → ((place : ℕ) → after r stage (Err place) ≡ Ends (Err (client.BadReply place)))
         → Exchanges peer p q request (Err fault)
@@ -140,7 +140,7 @@ module _ {P : Type 0} (peer : PeerTells P) (r : Reader) (file : List ℕ) where
 
   -- ---- parts of a read
 
-  -- it came to the stage after what was told
+  -- a part of a read came to the stage after what was told
   pub told : {T : Type 0} (p q : P) (stage : Stage) (next : T → Stage)
       (result : Result T ClientFault)
       → Reaches peer p q r file stage (then_or next result)
@@ -148,7 +148,7 @@ module _ {P : Type 0} (peer : PeerTells P) (r : Reader) (file : List ℕ) where
   told p q stage next (Ok t) reaches = reaches
   told p q stage next (Err fault) reaches = ended p q stage (Err fault) reaches
 
-  -- it began at a stage to which asks led
+  -- a part of a read began at a stage to which asks led
   pub behind : {T : Type 0} (p m q : P) (stage mid : Stage) (next : T → Stage)
       (result : Result T ClientFault)
       → Reaches peer p m r file stage mid → GoesOn peer m q r file mid next result

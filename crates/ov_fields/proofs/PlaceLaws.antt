@@ -70,7 +70,8 @@ pub record Fault {A : Type 0} (Once Limited : Type 0) (Taken : List ℕ → Type
 abbrev pub Takes : {A : Type 0} → (List ℕ → Read A) → List ℕ → Type 0
 Takes {A = A} read bytes = (x : A × List ℕ) × (read bytes ≡ Ok x)
 
--- it has a value, and where it fails the place is that of a wrong field, or the end
+-- a reader of values with a spelling: there is such a value, and where the reader fails the place
+-- is that of a wrong field, or the end
 pub record HasPlaces {A : Type 0} (Once Limited : Type 0) (read : List ℕ → Read A) (spell : A → List ℕ) (Form : A → Type 0) : Type 0 where
   pub value : A
   pub form : Form value
@@ -167,7 +168,7 @@ fault_cut bytes front = record {
   stops = at_end refl;
 }
 
--- they end inside a number
+-- the bytes end inside a number
 pub fault_in_number : {A Once Limited : Type 0} {Taken : List ℕ → Type 0} {s : A → List ℕ} {F : A → Type 0} (bytes : List ℕ)
     → Limited → IsFront s F [] → length bytes < 4 → Fault Once Limited Taken s F bytes 0
 fault_in_number bytes limited none few = record {

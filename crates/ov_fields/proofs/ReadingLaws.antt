@@ -40,8 +40,8 @@ done x = Ok x
 pub ok_is : {A : Type 0} (x y : A) → done x ≡ done y → x ≡ y
 ok_is x y e = cc
 
--- it gives a value that has a spelling exactly where the bytes begin with it, and a wrong byte is
--- one of the next so many, or comes right after them
+-- a reader gives a value that has a spelling exactly where the bytes begin with the spelling, and a
+-- wrong byte is one of the next `most`, or comes right after them
 pub record Reads {A : Type 0} (read : List ℕ → Read A) (spell : A → List ℕ) (Fits : A → Type 0) (most : ℕ) : Type 0 where
   pub takes : (bytes : List ℕ) (x : A × List ℕ) → AreBytes bytes → read bytes ≡ Ok x → Fits x.0 × (bytes ≡ spell x.0 ++ x.1)
   pub again : (a : A) (rest : List ℕ) → Fits a → read (spell a ++ rest) ≡ Ok (a, rest)

@@ -47,7 +47,7 @@ pub inside_is : (set earlier : ℕ) → size earlier ≢ 0 → within earlier se
     → is_candidate set earlier ≡ not (earlier == set)
 inside_is set earlier some h = rw (ne_eqb earlier empty (λ none. some (ap size none ∙ size-empty)), h) refl
 
--- it has fewer users
+-- a candidate has fewer users than the set
 pub candidate-size : (set earlier : ℕ) → is_candidate set earlier ≡ true → size earlier < size set
 candidate-size set earlier h = let c = candidate-is set earlier h in size-strict earlier set c.inside c.strict
 

@@ -75,7 +75,7 @@ cover-has sets set n u inside is one =
     let there = to_larger sets (size set) _ n (to_candidates set 0 sets n n inside (omega arith) test) (candidate-size set (slice_index sets n) test) in
     elim (kept-has sets empty _ n u there one) [ inl none ↦ absurd (empty-Has u none) | inr found ↦ found ]
 
--- there are no more starts than the set has users
+-- a cover has no more starts than the set has users
 pub cover-few : (sets : List ℕ) (set : ℕ) → length (cover_of sets set) ≤ size set
 cover-few sets set =
     let bound = kept-few sets empty set (larger_first sets (size set) (candidates_from set 0 sets)) (empty_within set) (λ n h.

@@ -57,7 +57,7 @@ fresh_plan sets set cover is fresh =
     ] (subst (λ (c : Cover). IsTrue c.fresh) is fresh) in
     (by_node.0, ap (λ (c : Cover). c.from) is ∙ by_node.1)
 
--- it has no more starts than the set has users
+-- a plan has no more starts than the set has users
 pub plan-few : (sets : List ℕ) (set : ℕ) → length (plan_of sets set).from ≤ size set
 plan-few sets set = elim (node_of sets set) as (λ o. length (planned o sets set).from ≤ size set) [ Some node ↦ omega arith | None ↦ cover-few sets set ]
 

@@ -17,7 +17,7 @@ use Rattle.ov_graph.proofs.CandidateLaws.{candidate-size, from_candidates}
 abbrev lacks_just : ℕ → Candidate → Bool
 lacks_just users c = c.lacks == users
 
--- those that lack from so many users on, over so many numbers, the fewest first
+-- the candidates that lack from this many users on, over this many numbers, the fewest first
 abbrev grouped : ℕ → ℕ → List Candidate → List Candidate
 grouped from zero cs = []
 grouped from (suc count) cs = filter (lacks_just from) cs ++ grouped (from + 1) count cs
@@ -159,7 +159,7 @@ are_candidates sets set n h =
     rw here r.3
 
 module _ (sets : List ℕ) (set : ℕ) (found sorted : List Candidate) (is : found ≡ entries sets set (candidates_from set 0 sets)) (same : IsPermutation found sorted) where
-  -- those that are kept of them, once they are sorted, are the cover
+  -- the sorted candidates that are kept are the cover
   pub sorted_cover : InOrder sorted → IsStableByKey (λ (c : Candidate). c.lacks) nat_cmp found sorted
       → kept sets empty (nodes_of sorted) ≡ cover_of sets set
   sorted_cover order stable =

@@ -130,7 +130,7 @@ module _ (y : Layers) (u : Update) (file : ℕ) (settled : IsSettled y)
   abbrev place : Place
   place = place_at y.files file
 
-  -- where it stands after the update, from where it stood before
+  -- the place of the file after the update, from its place before
   place_after : place_at later.files file
       ≡ settled_at later.epoch later.surface (wanted_in later file) place
   place_after =

@@ -26,19 +26,19 @@ moved_to number f now =
 abbrev new_at : ℕ → Filed → Rewrite
 new_at number now = record { file = number; length = now.length; old = None; new = now.surface }
 
--- it is of the file at this place, which has another surface afterwards
+-- the rewrite is of the file at this place, which has another surface afterwards
 abbrev IsMoved : List Filed → List Filed → ℕ → Rewrite → Type 0
 IsMoved files after place r =
     (f now : Filed) × (slice_get files place ≡ Some f) × (slice_get after place ≡ Some now)
     × (f.surface ≢ now.surface) × (r ≡ moved_to r.file f now)
 
--- it is of the new file at this place
+-- the rewrite is of the new file at this place
 abbrev IsAdded : List Filed → List Filed → ℕ → Rewrite → Type 0
 IsAdded files after place r =
     (now : Filed) × (length files ≤ place) × (slice_get after place ≡ Some now)
     × (r ≡ new_at r.file now)
 
--- it is of some file of these, of which the first has this number
+-- the rewrite is of some file of these, of which the first has this number
 abbrev IsOfSome : ℕ → List Filed → List Filed → Rewrite → Type 0
 IsOfSome first files after r =
     (place : ℕ) × (r.file ≡ first + place)

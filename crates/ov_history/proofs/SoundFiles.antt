@@ -17,7 +17,7 @@ use Rattle.ov_history.proofs.SoundLists.{AreHeld, wanted-is}
 -- ---- where a file stands
 
 module _ (c : Catalogue) (f : Filed) (there : f.node < length c.base.sets) where
-  -- one without a surface
+  -- a file without a surface is placed
   bare : f.surface ≡ None → IsPlaced c f
   bare e = record {
     base = there;
@@ -58,7 +58,7 @@ module _ (epoch : ℕ) (sets : List ℕ) (want : Option ℕ) (f : Filed) where
     by_test false e = refl
 
 module _ (epoch : ℕ) (c : Catalogue) where
-  -- its surface has its list, and else it has none
+  -- a file that is settled is placed: its surface has its list, and else it has no surface
   settled_placed : (want : Option ℕ) (list : ℕ) (f : Filed)
       → f.node < length c.base.sets → Within list (holders (outline c) f.node)
       → ((set : ℕ) → want ≡ Some set → (list ≡ set) × Contains c.surface.sets set)

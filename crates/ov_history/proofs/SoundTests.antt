@@ -15,7 +15,7 @@ use Rattle.ov_history.specs.Briefs.{Brief, BriefCreate, BriefEnrol, BriefGrant, 
 use Rattle.ov_history.specs.Catalogue.{Catalogue, Filed, files_shown, matrix_shown, outline}
 use Rattle.ov_history.specs.Sealed.{refusal_shown}
 
--- its users and its file are there
+-- the users and the file of the update are there
 abbrev pub IsFine : Catalogue → Brief → Type 0
 IsFine c (BriefEnrol user) = Unit {0}
 IsFine c (BriefCreate file list tokens tag size) = IsBelow (length c.users) list

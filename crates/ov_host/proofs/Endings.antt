@@ -56,7 +56,7 @@ module _ {V S : Type 0} (one : OneSession V S) (v w : V) (old new : Doorway S) (
   serves_ends (inr (address, inr tells)) =
       served_ends tells.serves.failed tells.serves.served tells.between after status tells.serves.ends
 
-  -- it isn't 4
+  -- the status isn't 4
   pub serves_not_4 : Serves one v w old new wanted before after status → status ≡ 4 → ⊥
   unfolding Ended
   serves_not_4 serves four = not_4 status (serves_ends serves) four where

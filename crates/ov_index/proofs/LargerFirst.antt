@@ -46,7 +46,7 @@ module _ (sets : List ℕ) where
     same_size users nodes up.1 (λ n there. all n (Contains-later node nodes n there)),
   )
 
-  -- those that come later are smaller
+  -- nodes that come later have smaller sets
   larger-size : (users : ℕ) (nodes : List ℕ) (x : ℕ) → Contains (larger_first sets users nodes) x
       → size (get_or sets x 0) < users
   larger-size zero nodes x h = absurd (Contains-none x h)

@@ -59,7 +59,7 @@ pub record IsLent {L S : Type 0} (now : L → S) (lent : SourceTells L) (tells :
   pub left : (l : L) → lent.left l ≡ tells.left (now l)
   pub takes : (a b : L) → lent.takes a b → tells.takes (now a) (now b)
 
--- what it loses, the source loses
+-- what a source behind a loan loses, the source loses
 pub consumed_lent : {L S : Type 0} (now : L → S) (lent : SourceTells L) (tells : SourceTells S) → IsLent now lent tells → (a b : L) (bytes : List ℕ)
     → Consumes (lent.left a) (lent.left b) bytes → Consumes (tells.left (now a)) (tells.left (now b)) bytes
 consumed_lent {L} {S} now lent tells is a b bytes c = rw (← is.left a, ← is.left b) c

@@ -79,7 +79,7 @@ wrote_or P Q F L never frame (inl (inl p)) = absurd (never p)
 wrote_or P Q F L never frame (inl (inr q)) = inr (frame q)
 wrote_or P Q F L never frame (inr line) = inl line
 
--- nor does a disk that doesn't open
+-- a disk that doesn't open ends with neither 3 nor 11
 begin_not : (fault : BeginFault) → (fault_status fault ≡ 3 → ⊥) × (fault_status fault ≡ 11 → ⊥)
 begin_not BeginDisk = (λ e. omega arith, λ e. omega arith)
 begin_not BeginMemory = (λ e. omega arith, λ e. omega arith)
@@ -222,7 +222,7 @@ module _ {D : Type 0} (tells : DiskTells D) (k : Masters) (h : PlainHistory) (lo
       lasts = λ _ zero. absurd (not_zero read_line 5 old new status e (λ z. omega arith) zero);
     }
 
-    -- it opened
+    -- the disk opened
     module _ (m : KeptOn D) (s : Opened D) (is : opened_of m ≡ s) (masters : m.kept.masters ≡ k) (fresh : IsNew (keys_of k) load.mode s)
         (found : Told (tells.reads first) (λ i. FindsPlain tells k load.mode i s) × StaysTold (tells.reads first) (tells.reads s.disk))
         (any : LeavesHistory tells (keys_of k) load.mode first s.disk) where

@@ -51,13 +51,13 @@ nothing_made : (k : Masters) (h : PlainHistory) (load : Load) (place : ℕ) (c :
 nothing_made k h load place c = λ low whole.
     absurd (transcripts_have_bytes k (after_first h load place) (command_at load.number place) [] refl whole)
 
--- nothing yet
+-- no transcript was put yet
 pub none_sent : (k : Masters) (h : PlainHistory) (load : Load) (trace : Option (List ℕ)) → TranscribesAll k h (first_commands load.number 0) trace trace
 none_sent k h load trace = ([], refl, Appends-nil trace)
 
 module _ {D : Type 0} (tells : DiskTells D) (k : Masters) (h : PlainHistory) (load : Load)
     (first : KeptOn D) where
-  -- no more than these
+  -- the transcripts of these commands were put, and no more
   pub stops_behind : (place : ℕ) → place ≤ WORKLOAD_USERS + load.count → (tally : Tally) (mid : KeptOn D) (old now : Option (List ℕ))
       → LoadedTo tells k h load place tally first mid → TranscribesAll k h (first_commands load.number place) old now
       → TracedTo tells k h load mid.disk old now (Holds tells k h first.disk)
@@ -220,7 +220,7 @@ module _ {D : Type 0} (tells : DiskTells D) (k : Masters) (h : PlainHistory) (lo
         (leaves_end fault (subst (λ (x : Result Reply StepFault). StepsAt tells k (after_load h load) AskEpoch mid last x) at
         (steps k (after_load h load) masters s.stands)))
 
--- it ended with this fault
+-- the load ended with this fault
 pub as_fault : {D : Type 0} (tells : DiskTells D) (k : Masters) (h : PlainHistory) (load : Load) (last : D) (old new : Option (List ℕ)) (holds : Type 0)
     (result : Result Tally StepFault) (fault : StepFault) → result ≡ Err fault → TracedTo tells k h load last old new holds
     → TracesLoad tells k h load last old new holds result

@@ -86,14 +86,14 @@ module _ {D : Type 0} (tells : DiskTells D) where
   -- ---- one command
 
   module _ (k : Masters) (h : PlainHistory) (command : Command) (before now : Tally) (first last : KeptOn D) where
-    -- it is answered and its reply tallied
+    -- the command is answered and its reply tallied
     pub tallied : {T : Type 0} (done : T) (reply : Reply) (line : List ℕ) → line ≡ reply_line reply
         → StepsAt tells k h command first last (Ok reply) → Takes before reply line now
         → TalliesAt tells k h command before now first last (Ok done)
     tallied done reply line is (same, goes) takes =
         (subst (λ (r : Reply). Takes before r (reply_line r) now) same (subst (λ (l : List ℕ). Takes before reply l now) is takes), goes)
 
-    -- it isn't answered
+    -- the command isn't answered
     unanswered : (T : Type 0) (fault : StepFault) → StepsAt tells k h command first last (Err fault)
         → TalliesAt tells {T = T} k h command before now first last (Err fault)
     unanswered T Disk steps = steps
@@ -108,7 +108,7 @@ module _ {D : Type 0} (tells : DiskTells D) where
         subst (λ (r : Result T StepFault). TalliesAt tells k h command before now first last r) (sym is)
         (unanswered T fault steps)
 
-    -- it is answered, but memory is refused for its line
+    -- the command is answered, but memory is refused for its line
     pub unlined : {T : Type 0} (result : Result T StepFault) (reply : Reply) → result ≡ Err Memory
         → StepsAt tells k h command first last (Ok reply)
         → TalliesAt tells k h command before now first last result

@@ -33,7 +33,7 @@ use Rattle.ov_machine.proofs.Quiet.{Says, quiet_asked, says}
 
 -- ---- an update that is sent
 
--- it is accepted where it is one that the store makes
+-- a sealed update is accepted where it is one that the store makes
 taken : (c : Catalogue) (epoch : ℕ) (u : SealedUpdate) (a : Answer) → IsMakeable c epoch u
     → AnswersSealed c u a → HasAnswerForm a
     → (n : ℕ) × (a ≡ answers.Accepted n) × (n ≡ epoch + 1) × (n < 2 ^ 32)
@@ -134,7 +134,7 @@ module _ {D : Type 0} (tells : DiskTells D) (surface : List ℕ) (e : Errand)
   module _ (s t : Opened D) (same : s.keys.surface ≡ surface) (epoch : ℕ) (u : SealedUpdate)
       (ready : IsMakeable s.catalogue epoch u) (form : CanSend surface e (Sends [] epoch u))
       (reply : List ℕ) where
-    -- where it is answered it is accepted
+    -- an update that is answered is accepted
     accepted : (is : IsAnswered tells s t (frame_of epoch u) reply)
         → (is.frame.made ≡ u ∷ []) × (answer_of (update_request surface epoch u) reply ≡ Ok (answers.Accepted (epoch + 1)))
     accepted is =

@@ -74,7 +74,7 @@ end_cause count user file (Err client.Device) is = is
 end_cause count user file (Err (client.Unsettled generations)) is = tt
 end_cause count user file (Err client.Memory) is = tt
 
--- where it is the machine's, so is the reply
+-- where the end of a read is the machine's, so is the reply
 end_there : (p : PlainHistory) (user file : List ℕ) (found : Result (List ℕ) ClientFault)
     → IsReadThere p user file found → EndsThere p (Read user file) (read_reply user file found)
 end_there p user file (Ok bytes) is = bytes_are p user file bytes is

@@ -231,7 +231,7 @@ module _ {D : Type 0} (tells : DiskTells D) (s : Opened D) (sizes : HasLengths s
     chunk_stands (answers.Refused why) is form = absurd is
     chunk_stands a is form = absurd is
 
-    -- it is asked of the store
+    -- a Chunk is asked of the store
     chunk_asked : (t : Opened D) (reply : List ℕ) → HasRequestForm chunk
         → asked s (request_bytes chunk) reply t
         → (t ≡ s) × Stands (after r (AsksChunk tries told stored) (answer_of chunk reply))

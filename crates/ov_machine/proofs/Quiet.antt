@@ -48,7 +48,7 @@ quiet_makes (requests.Update epoch spelling tag) quiet a = absurd (quiet tt)
 quiet_makes request quiet a = refl
 
 module _ {D : Type 0} (tells : DiskTells D) where
-  -- it is answered, and all stays
+  -- a request that needs no disk is answered, and all stays
   pub quiet_asked : (s t : Opened D) (request : Request) (reply : List ℕ)
       → HasRequestForm request → (MayNeedDisk request → ⊥)
       → served tells s (request_bytes request) reply t

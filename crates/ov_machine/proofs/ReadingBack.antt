@@ -50,7 +50,7 @@ use Rattle.ov_machine.proofs.Stepping.{serves_at, service_at, shows}
 
 -- ---- the reader that the owner made
 
--- its roots are those of the user, and it holds their keys
+-- the roots of the reader are those of the user, and the reader holds their keys
 pub record IsReader (k : Masters) (c : Catalogue) (user : List ℕ) (r : Reader) : Type 0 where
   pub name : r.name ≡ user
   pub roots : HasRootsAt c r

@@ -78,7 +78,7 @@ module _ {D : Type 0} (tells : DiskTells D) {P : Type 0} (peer : PeerTells P)
       Appends-trans (put p) (put n) (put m) _ _ (seat.asks p n a.request a.reply first).0.put
       (frames_put asks n m leads)
 
-  -- those of the one that failed, as far as they were put, and what is served then
+  -- the frames of the ask that failed, as far as they were put, and what is served then
   pub end_on : (o : Option (List ℕ)) (m q : P) (w : Service) → IsServedBy (server m) w
       → EndsAt peer m o q
       → (bytes : List ℕ) × (last : Service) × Appends (put m) (put q) bytes × IsPutOn w o bytes last

@@ -77,7 +77,7 @@ module _ (k : Masters) (command : Command) (e : Errand) (d : Does k command e) (
               let exact = five form in
               absurd (omega (arith, short, all, long, size, one, exact))
 
-    -- it was replied to, and nothing was put behind that
+    -- the update was replied to, and nothing was put behind that
     replied_put : (a : Ask) (made : List SealedUpdate) (asks : List Ask) (put : List ℕ) → AsSent
         → a.request ≡ request_bytes request → frames asks ++ put ≡ [] → later here made ≡ last_served
         → length (frames (a ∷ asks) ++ put) ≡ 8 + length (request_bytes request) + n

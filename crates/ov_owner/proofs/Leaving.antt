@@ -49,7 +49,7 @@ reply_makes : (v : Service) (request reply : List ℕ) (made : List SealedUpdate
 reply_makes v request reply made (inl is) = replies_may_make _ request reply made is
 reply_makes v request reply made (inr failed) = failed.makes
 
--- of a request that is sent
+-- what the reply to a request that is sent made is nothing, or what was asked for
 may_make : (request : Request) (made : List SealedUpdate) → HasRequestForm request
     → MayMake (request_bytes request) made → (made ≡ []) ⊎ (made ≡ updates_asked (Ok request))
 may_make request made form (inl none) = inl none

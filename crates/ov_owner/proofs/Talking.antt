@@ -78,7 +78,7 @@ module _ {P : Type 0} (peer : PeerTells P) (surface : List ℕ) (e : Errand) whe
 
   -- ---- what is due at a stage is asked
   module _ (from : Stage) (request : Request) (is_due : asked_at surface e from ≡ Some request) (form : CanSend surface e from) where
-    -- it was answered
+    -- the ask was answered
     pub answered_so : (p q : P) (read : Result Answer ℕ) (next : Stage)
         → Answered peer p q request read → after e from read ≡ next
         → Passes peer surface e from p next q

@@ -47,7 +47,7 @@ module _ {P : Type 0} (peer : PeerTells P) (surface : List ℕ) (e : Errand) (tr
       ends_so peer surface e (Asks tries least) p q (Err fault)
       (by_first (Ends (Err fault)) (ap (after_first tries least) is))
 
-  -- its epoch is too low
+  -- the epoch that is told is too low
   pub too_low : (epoch : ℕ) (u : SealedUpdate) → e.sealed a ≡ Ok (epoch, u) → epoch < least
       → Concludes peer surface e (Asks tries least) p q (Err (faults.BadReply 1))
   too_low epoch u is low =

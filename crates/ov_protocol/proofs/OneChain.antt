@@ -44,7 +44,7 @@ given_at [] n grant inside is = absurd (omega arith)
 given_at (first ∷ grants) zero grant inside is = ap (λ g. Some (access_of g)) is
 given_at (first ∷ grants) (suc n) grant inside is = given_at grants n grant (omega arith) is
 
--- it is among those before a later place
+-- the access of a grant is among those before a later place
 given_before : (grants : List Grant) (m n : ℕ) (grant : Grant) → m < n → m < length grants
     → get_or grants m grant ≡ grant → Contains (take n (accesses_of grants)) (access_of grant)
 given_before [] m n grant before inside is = absurd (omega arith)

@@ -74,7 +74,7 @@ fourth_node : entry_of after.catalogue 2 3 ≡ Some (Node 3 (from_node 0 ∷ fro
 unfolding lib.Count.ones
 fourth_node = refl
 
--- its entry has 106 bytes, behind a kind byte and a flag
+-- the entry of this node has 106 bytes, behind a kind byte and a flag
 fourth_length : length (answer_bytes (answers.PageOf (page_of (entry_of after.catalogue 2 3)))) ≡ 108
 unfolding lib.Count.ones bytes_of
 fourth_length = refl

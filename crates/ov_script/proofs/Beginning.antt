@@ -183,7 +183,7 @@ none_in_body line text file names size p within (item, rest, command, e, is) =
     let whole : length text ≡ length b.0 + suc (length rest) = ap length b.2 ∙ length-append b.0 (10 ∷ rest) in
     absurd (omega arith)
 
--- another byte in the place of the LF can't be gone on with
+-- no item goes on with another byte in the place of the LF behind its body
 pub wrong_behind_body : (line body more file : List ℕ) (names : List (List ℕ)) (size b : ℕ) → SaysLine line (WithBody file names size) → length body ≡ size → b ≢ 10
     → BeginsWithItem (line ++ 10 ∷ (body ++ b ∷ more)) → ⊥
 wrong_behind_body line body more file names size b p count differs (item, rest, command, e, is) =

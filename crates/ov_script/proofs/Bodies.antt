@@ -23,14 +23,14 @@ module _ {S : Type 0} (tells : SourceTells S) (room size : ℕ) (a b : Fed S) (b
         always None = tt
         always (Some x) = tt
 
-  -- another byte behind it, where no more may be read
+  -- another byte behind the body, where no more may be read
   pub other_past : room ≤ size → IfSome (text_of tells b) (λ text. (c : ℕ) × (rest : List ℕ) × (c ≢ 10) × (text ≡ c ∷ rest)) → IfSome (text_of tells a) (λ text. (room < length text) × (room ≤ size))
   other_past full other = past full (not_empty (text_of tells b) other) where
     not_empty : (x : Option (List ℕ)) → IfSome x (λ text. (c : ℕ) × (rest : List ℕ) × (c ≢ 10) × (text ≡ c ∷ rest)) → IfSome x (λ t. 0 < length t)
     not_empty None p = tt
     not_empty (Some x) (c, rest, differs, e) = let n : length x ≡ suc (length rest) = ap length e in omega arith
 
-  -- another byte in the place of the LF
+  -- another byte in the place of the LF behind the body
   pub other_behind : size < room → IfSome (text_of tells b) (λ text. (c : ℕ) × (rest : List ℕ) × (c ≢ 10) × (text ≡ c ∷ rest)) → IfSome (text_of tells a) (IsBadBody room size)
   other_behind fits other = fact_behind (IsBadBody room size) (λ text. (c : ℕ) × (rest : List ℕ) × (c ≢ 10) × (text ≡ c ∷ rest)) (text_of tells a) (text_of tells b) body
       (λ text (c, rest, differs, e). no_lf body rest c count fits differs (ap (λ t. body ++ t) e)) (text_used tells a b body used) other

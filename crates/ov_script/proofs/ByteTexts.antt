@@ -49,7 +49,7 @@ lacks_not c [] (x ∷ xs) ys p e = absurd (cc)
 lacks_not c (b ∷ text) [] ys p e = p.0 (cc)
 lacks_not c (b ∷ text) (x ∷ xs) ys p e = let tail : text ≡ xs ++ c ∷ ys = cc in lacks_not c text xs ys p.1 tail
 
--- it stands past any front that lacks it
+-- a byte comes past any front that lacks it
 pub past_front : (c : ℕ) (xs ys x y : List ℕ) → Lacks c ys → xs ++ c ∷ x ≡ ys ++ y → length ys ≤ length xs
 past_front c xs [] x y q e = omega arith
 past_front c [] (b ∷ ys) x y q e = absurd (q.0 (cc))

@@ -28,7 +28,7 @@ names_once text first second a b lacks e named f = split_once 32 first a second 
 abbrev pub create_text : List ℕ → List ℕ → ℕ → List ℕ
 create_text file list size = spaced (codes "create" ∷ file ∷ list ∷ decimal size ∷ [])
 
--- those behind the first word
+-- the words of a `create` behind the first word
 pub behind_create : (line text file list : List ℕ) (size : ℕ) → line ≡ codes "create " ++ text → line ≡ create_text file list size → text ≡ file ++ 32 ∷ (list ++ 32 ∷ decimal size)
 behind_create line text file list size e p = append_cancel_left (codes "create ") text (file ++ 32 ∷ (list ++ 32 ∷ decimal size)) (sym e ∙ p)
 

@@ -36,7 +36,7 @@ nowhere_lacks c (b ∷ bytes) none =
     let first : (b ≡ c) → ⊥ = λ e. none 0 (omega arith) (omega arith) (grind (arith, nat_tests)) in
     (first, nowhere_lacks c bytes (Passes-later c b bytes (length bytes) none))
 
--- the first one, with what is before and behind it
+-- the first such byte, with what is before and behind it
 pub parts_at : (c : ℕ) (bytes front back behind : List ℕ) (n : ℕ) → SplitsAt c bytes n → front ≡ take n bytes → back ≡ drop n bytes → behind ≡ drop 1 back → Lacks c front × (bytes ≡ front ++ c ∷ behind)
 parts_at c bytes front back behind n s f b t =
     let line : front ≡ s.line = f ∙ ap (take n) s.whole ∙ take_at s.line (c ∷ s.rest) n s.count in
@@ -44,7 +44,7 @@ parts_at c bytes front back behind n s f b t =
     let rest : behind ≡ s.rest = t ∙ ap (drop 1) tail in
     (subst (Lacks c) (sym line) s.lacks, s.whole ∙ ap (λ l. l ++ c ∷ s.rest) (sym line) ∙ ap (λ l. front ++ c ∷ l) (sym rest))
 
--- the first one, of which none is among the first bytes
+-- the first such byte, of which none is among the first bytes
 pub first_behind : (c : ℕ) (bytes fresh : List ℕ) (seen index : ℕ) → fresh ≡ drop seen bytes → seen ≤ length bytes → Lacks c (take seen bytes)
     → IsFirstByte (is_byte c) fresh (Some index) → SplitsAt c bytes (seen + index)
 first_behind c bytes fresh seen index e within none (before, is) =

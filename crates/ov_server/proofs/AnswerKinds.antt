@@ -47,7 +47,7 @@ is_fault : List ℕ → Bool
 is_fault [] = false
 is_fault (kind ∷ bytes) = kind == 0x8d
 
--- nor are its bytes those of one
+-- the bytes of an answer by what is shown aren't those of a fault of the disk
 pub other_bytes : (s : Serving) (read : Result Request ℕ) (a : Answer) → AnswersRead s read a
     → answer_bytes a ≡ answer_bytes answers.DeviceFault → ⊥
 unfolding is_fault
@@ -67,7 +67,7 @@ other_bytes s read answers.DeviceFault is same = no_fault s read is
 other_bytes s read answers.NoMemory is same = true≢false (sym (ap is_fault same))
 other_bytes s read (answers.Listed names) is same = true≢false (sym (ap is_fault same))
 
--- nor are those of an Accepted
+-- the bytes of an Accepted aren't those of a fault of the disk
 pub accepted_apart : (n : ℕ) → answer_bytes (answers.Accepted n) ≡ answer_bytes answers.DeviceFault
     → ⊥
 unfolding is_fault

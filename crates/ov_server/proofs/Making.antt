@@ -201,7 +201,7 @@ module _ {D : Type 0} (tells : DiskTells D)
     before = λ failed. let wrong : Err DiskFailed ≡ Err Failed = state.failed.1 failed in absurd (cc);
   }
 
-  -- it had failed before
+  -- the disk had failed before
   pub had_failed : (reply : List ℕ) → reply ≡ answer_bytes answers.DeviceFault
       → GoesOnAfter (Err Failed) old new → IsFaulted old new request reply
   had_failed reply spelled state = record {

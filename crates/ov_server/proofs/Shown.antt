@@ -60,7 +60,7 @@ no_update s request u has asked is other =
       ok_same : (r : Result Request ℕ) (a b : Request) → r ≡ Ok a → r ≡ Ok b → a ≡ b
       ok_same r a b one two = cc
 
--- nor has a frame that is no request
+-- a frame that is no request has no update
 pub no_frame : {D : Type 0} (s : Opened D) (request : List ℕ) (u : SealedUpdate)
     → HasUpdate (serving_of s) request u → (place : ℕ) → request_of request ≡ Err place → ⊥
 no_frame s request u has place is =

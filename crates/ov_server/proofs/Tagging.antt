@@ -29,18 +29,18 @@ module _ (s : Serving) (request : List ℕ) (u : SealedUpdate) (has : HasUpdate 
       same_parts (request_of request) epoch spelling tag s.catalogue.epoch has.spelling has.tag is
       has.is
 
-  -- one with another tag isn't the owner's
+  -- an Update with another tag isn't the owner's
   pub other_tag : tag ≢ owner_tag s.surface epoch spelling → ⊥
   other_tag wrong =
       wrong
       (same.tags ∙ has.right
       ∙ (λ i. owner_tag s.surface (sym same.epochs i) (sym same.spellings i)))
 
-  -- nor is one at another epoch made now
+  -- an Update at another epoch isn't made
   pub other_epoch : epoch ≢ s.catalogue.epoch → ⊥
   other_epoch wrong = wrong same.epochs
 
-  -- nor does one spell an update whose spelling is wrong
+  -- an Update with a wrong spelling spells no update
   pub spells_none : (place : ℕ) → update_of 32 spelling ≡ Err place → ⊥
   spells_none place wrong =
       let both : Err place ≡ Ok u = sym wrong ∙ ap (update_of 32) same.spellings ∙ has.spells in cc

@@ -27,7 +27,7 @@ use Rattle.ov_session.proofs.Answering.{answered_both, cut_both, leads_both}
 requests_both : (es fs : List Exchange) → requests (es ++ fs) ≡ requests es ++ requests fs
 requests_both es fs = map-append (λ (e : Exchange). e.request) es fs
 
--- it appends to whatever frames were there
+-- a decoder appends to whatever frames were there
 takes_behind : (d d' : Decoding) (piece : List ℕ) (before frames : List (List ℕ))
     → Takes d d' piece [] frames → Takes d d' piece before (before ++ frames)
 takes_behind d d' piece before frames t = record {
@@ -108,7 +108,7 @@ module _ {A : Type 0} (tells : AskerTells A) (a b : A) (old mid : Link)
   ends_at_end new reads at_end ends.Spent none = absurd none
   ends_at_end new reads at_end ends.Memory none = absurd none
 
-  -- it couldn't be read
+  -- the input couldn't be read
   pub ends_reading : (new : Link) → Reads mid new [] → Rose mid.read_faults new.read_faults
       → Serves tells a b old new ends.LinkFault
   ends_reading new reads rose = inl (record {
@@ -176,7 +176,7 @@ module _ {A : Type 0} (tells : AskerTells A) (a b : A) (old mid : Link)
           (cut_behind so_far.taken piece (requests so_far.exchanges) d.rest cut_so_far),
     )
 
-    -- all of them were answered
+    -- all of these frames were answered
     module _ (them : AnswersThem tells b c took new frames) where
       abbrev exchanges : List Exchange
       exchanges = so_far.exchanges ++ them.exchanges
@@ -236,7 +236,7 @@ module _ {A : Type 0} (tells : AskerTells A) (a b : A) (old mid : Link)
           let (rest, cut) = cut_of (Err feeds.Memory) same in
           record { taken = bytes; rest = rest; all = all_with rest cut }
 
-    -- the last one that was asked wasn't answered whole
+    -- the last of these frames that was asked wasn't answered whole
     ends_writing : (fed : Result (Unit {0}) FeedFault) → Feeds d d' piece [] frames fed
         → StopsWriting tells b c took new frames → EndsWriting tells a c old new
     ends_writing fed f s =
@@ -302,7 +302,7 @@ module _ {A : Type 0} (tells : AskerTells A) (a b : A) (old mid : Link)
           no_more = s.no_more;
         }
 
-    -- they weren't all answered
+    -- these frames weren't all answered
     pub stops_so : (fed : Result (Unit {0}) FeedFault) → Feeds d d' piece [] frames fed → (stop : Stop)
         → AnswersFrames tells b c took new frames (Err stop)
         → Serves tells a c old new (end_of stop)

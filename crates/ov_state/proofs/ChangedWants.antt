@@ -138,7 +138,7 @@ module _ {W : ℕ} (s : Catalogue) (r : Relisting W) (file : ℕ) (f : FileEntry
   moves-by limit well relisting same other false is = surface-stays limit well relisting same other is
 
   module _ (master : List ℕ) (old : Rewrites W) (done : AreSettled master s (take file wants) old) where
-    -- it has its wanted surface
+    -- a file that stays as it is has its wanted surface
     pub file-stays : (limit : ℕ) → IsWell limit s → MayMove false s r file f → AreSettled master s (take (file + 1) wants) old
     file-stays limit well stays =
         subst (λ (ws : List (Option ℕ)). AreSettled master s ws old) (sym next)

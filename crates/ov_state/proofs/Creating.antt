@@ -137,7 +137,7 @@ module _ (limit : ℕ) (master : List ℕ) (s : Catalogue) (name : List ℕ) (li
       ∙ ap (λ (files : List Filed). record next { surface = surface_then master s list; files = files }) files_are
       ∙ ap (λ o. created o) (ap (λ sets. surface_at sets (want_then s list)) sets_then-is ∙ sym is)
 
-  -- its files, and the rewrite of the new one
+  -- the files after a creation, and the rewrite of the new one
   pub files_created : files_after s update ≡ s.files ++ filed_then (surface_at (surface_then master s list).sets (want_then s list)) ∷ []
   files_created =
       ap (λ sets. settled_files (s.epoch + 1) sets wants next.files) sets_are

@@ -65,7 +65,7 @@ module _ {W : ℕ} (limit : ℕ) (master : List ℕ) (s : Catalogue) (name : Lis
     length = size;
   }
 
-  -- its rewrite
+  -- the rewrite of the new file
   abbrev rewrite : Rewrite
   rewrite = record { file = length s.files; length = size; old = None; new = site.to }
 

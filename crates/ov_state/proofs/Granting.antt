@@ -123,7 +123,7 @@ module _ (limit : ℕ) (s : Catalogue) (user file : ℕ) (token : Option Token) 
           λ held. true≢false (new ∙ ap not held),
         )
 
-        -- it is planned
+        -- the grant is planned
         pub grant-change : user < limit → (is_some token ≡ has r.before user → ⊥)
             → IsChange limit master s update (change_with (byte_sum (matrix_shown s).files) (access_of user r.node token) plan)
         grant-change below apart =

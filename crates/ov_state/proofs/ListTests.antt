@@ -87,12 +87,12 @@ module _ (s : Catalogue) (user file : ℕ) (enrolled : user < length s.users) (t
       ∙ ap (λ b. first_of_tests ((NoFile, b) ∷ (why, listed) ∷ (NodesFull, nat_lt MAX_LAYER_NODES nodes) ∷ (Spent, is_last s.epoch) ∷ []))
       (below_passes file (length s.files) there)
 
-  -- the list refuses it
+  -- the list refuses the update
   pub list-first : (listed : Bool) → listed ≡ true → first_of_tests (all listed) ≡ Some why
   list-first listed is =
       both_there listed ∙ ap (λ b. first_of_tests ((why, b) ∷ (NodesFull, nat_lt MAX_LAYER_NODES nodes) ∷ (Spent, is_last s.epoch) ∷ [])) is
 
-  -- it doesn't
+  -- the list doesn't refuse the update
   pub list-passed : (listed : Bool) → listed ≡ false
       → first_of_tests (all listed) ≡ first_of_tests ((NodesFull, nat_lt MAX_LAYER_NODES nodes) ∷ (Spent, is_last s.epoch) ∷ [])
   list-passed listed is =

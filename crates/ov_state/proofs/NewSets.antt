@@ -50,7 +50,7 @@ want-few sets old new want wanted none is added few =
     let all = added ∙ (λ i. with_wants (sets ++ none i) (is i ∷ [])) ∙ ap (λ sets. with_wants sets (wanted ∷ [])) (append-nil sets) in
     omega (arith, ap length all, length-append sets new, few)
 
--- there is none, so there is none for it after sets that are no others
+-- there is no room for a wanted set, so there is none for it after sets that are no others
 pub want-full : (sets old : List ℕ) (want wanted : Option ℕ) (fault : PrepareFault) → old ≡ [] → want ≡ wanted
     → IsFull (with_wants (sets ++ old) (want ∷ [])) fault → IsFull (with_wants sets (wanted ∷ [])) fault
 want-full sets old want wanted fault none is full =
@@ -67,7 +67,7 @@ ok-both P Q (Err e) p q = tt
 pub new-none : (sets new : List ℕ) → length sets ≤ MAX_LAYER_NODES → new ≡ [] → AreNew sets [] new
 new-none sets new few none = record { all = ap (λ new. sets ++ new) none ∙ append-nil sets; few = few }
 
--- there is room for those so far
+-- there is room for the sets so far
 pub new-few : (sets new : List ℕ) (wants : List (Option ℕ)) → AreNew sets wants new → length sets + length new ≤ MAX_LAYER_NODES
 new-few sets new wants h = omega (arith, ap length h.all, length-append sets new, h.few)
 
@@ -104,7 +104,7 @@ module _ {W : ℕ} (s : Catalogue) (r : Relisting W) (file : ℕ) (f : FileEntry
           ap (λ (w : Option ℕ). with_wants (s.surface.sets ++ old) (w ∷ [])) (wanted_is s r file f here moves wanted is)
           ∙ ap (λ (sets : List ℕ). with_wants sets (want ∷ [])) h.all ∙ sym sets-next
 
-      -- its wanted set is added, or is there
+      -- the wanted set of the file is added, or is there
       pub new-next : (new : List ℕ) → s.surface.sets ++ new ≡ with_wants (s.surface.sets ++ old) (wanted ∷ [])
           → length s.surface.sets + length new ≤ MAX_LAYER_NODES → AreNew s.surface.sets (take (file + 1) wants) new
       new-next new added few = record {

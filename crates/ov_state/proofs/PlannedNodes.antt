@@ -81,7 +81,7 @@ module _ {W : ℕ} (master : List ℕ) (layer : Nodes) (old : NewNodes W) (set :
   wanted cover is =
       ap (λ (c : Cover). want_by c.fresh c) (ap (λ sets. plan_of sets set) sets_are ∙ sym is)
 
-  -- it is there already
+  -- the wanted set has a node already
   pub found_target : (cover : Cover) → cover ≡ plan_of before set → cover.fresh ≡ false
       → IsSurfaceFor master layer (Some set) old old (Some cover.node)
   found_target cover is there = record {

@@ -62,7 +62,7 @@ module _ (limit : ℕ) (s : Catalogue) (user file : ℕ) (well : IsWell limit s)
       revoke-full fault found =
           room-fault W s update (with_wants s.surface.sets (wants_after (outline s) next 0 (places s.files))) fault revoke-room found
 
-      -- it is planned
+      -- the revocation is planned
       pub revoke-change : (master : List ℕ) (plan : Rewrites W)
           → AreSettled master s (wants_after (outline s) next 0 (places s.files)) plan → is_last s.epoch ≡ false
           → IsChange limit master s update (change_with (byte_sum (matrix_shown s).files) Nothing plan)

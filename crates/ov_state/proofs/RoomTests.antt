@@ -26,7 +26,7 @@ full-room sets epoch (Refused why) (is, many) =
 full-room sets epoch (BadPlan place) full = full
 full-room sets epoch Memory full = full
 
--- else there is room
+-- fewer nodes and an earlier epoch leave room
 pub some-room : (sets : List ℕ) (epoch : ℕ) → length sets ≤ MAX_LAYER_NODES → is_last epoch ≡ false → room_refusal sets epoch ≡ None
 some-room sets epoch few more =
     ap (λ b. first_of_tests ((NodesFull, b) ∷ (Spent, is_last epoch) ∷ [])) (lt_is_false MAX_LAYER_NODES (length sets) few)

@@ -36,7 +36,7 @@ wanted_there sets surface want low same set is =
     (subst (λ (o : Option ℕ). IfSome o (λ node. node < length sets))
     (same_surface-is surface (surface_at sets want) same ∙ ap (surface_at sets) is) low)
 
--- it makes no node
+-- a wanted set that is there makes no node
 pub with_want-there : (master : List ℕ) (nodes : Nodes) (want : Option ℕ) → ((set : ℕ) → want ≡ Some set → Contains nodes.sets set)
     → with_want master nodes want ≡ nodes
 with_want-there master nodes None there = refl
@@ -104,7 +104,7 @@ module _ (master : List ℕ) (s : Catalogue) (ws : List (Option ℕ)) (want : Op
     rewrites : plain_rewrites list ≡ rewrites_from 0 s.files (settled_files (s.epoch + 1) after next_wants s.files)
     there : AreOfFiles (length s.files) list
 
-  -- its surface is the same
+  -- the surface of the file is the same
   same_list : {W : ℕ} (old : Rewrites W) → AreSettled master s ws old → same_surface f.surface (surface_at after want) ≡ true
       → AreRewritten old.list.items
   same_list old h same =
@@ -119,7 +119,7 @@ module _ (master : List ℕ) (s : Catalogue) (ws : List (Option ℕ)) (want : Op
         there = h.there;
       }
 
-  -- it gets another surface
+  -- the file gets another surface
   more_list : {W : ℕ} (old : Rewrites W) (r : Rewrite) → AreSettled master s ws old
       → same_surface f.surface (surface_at after want) ≡ false
       → r ≡ record { file = file; length = f.length; old = f.surface; new = surface_at after want }
@@ -141,7 +141,7 @@ module _ (master : List ℕ) (s : Catalogue) (ws : List (Option ℕ)) (want : Op
         there = AreOfFiles-append (length s.files) old.list.items own_rewrite h.there (slice_get_within s.files file own here);
       })
 
-  -- it gets its wanted surface, which is another or the same
+  -- the file gets its wanted surface, which is another or the same
   pub settled-next_file : {W : ℕ} (old new : Rewrites W) → AreSettled master s ws old → IsSettled master s.surface file f want old new
       → AreSettled master s next_wants new
   settled-next_file old new h t = record {
@@ -167,7 +167,7 @@ module _ (master : List ℕ) (s : Catalogue) (ws : List (Option ℕ)) (want : Op
     list : AreRewritten new.list.items
     list = by_same (same_surface f.surface t.to) refl t.rewrites
 
-  -- it has its wanted surface already
+  -- the file has its wanted surface already
   pub settled-same_file : {W : ℕ} (old : Rewrites W) → AreSettled master s ws old
       → IfSome f.surface (λ node. node < length s.surface.sets)
       → same_surface f.surface (surface_at s.surface.sets want) ≡ true
@@ -189,7 +189,7 @@ module _ (master : List ℕ) (s : Catalogue) (ws : List (Option ℕ)) (want : Op
     list : AreRewritten old.list.items
     list = same_list old h (ap (same_surface f.surface) (surface_at-there s.surface.sets next_wants want there) ∙ same)
 
-  -- there is no room for its set
+  -- there is no room for the wanted set of the file
   pub full-next_file : {W : ℕ} (old : Rewrites W) (fault : PrepareFault) → AreSettled master s ws old
       → IsFull (with_want master (nodes_planned s.surface old.nodes) want).sets fault → IsFull after fault
   full-next_file old fault h full = subst (λ (sets : List ℕ). IsFull sets fault) (sets_after old h) full

@@ -99,7 +99,7 @@ module _ {W : ℕ} (master : List ℕ) (s : Catalogue) (list : ℕ) where
     few_surface =
         omega (arith, sym (ap length sets), length-added s.surface new.nodes.items, target.planned.few)
 
-  -- there is none where the surface layer is full
+  -- a new file has no site where the surface layer is full
   pub surface_full : (want : Option ℕ) (old : NewNodes W) (fault : PrepareFault) → old.nodes.items ≡ [] → want ≡ want_then s list
       → IsFull (with_want master (nodes_planned s.surface old) want).sets fault → HasNoSite s list fault
   surface_full want old fault none wanted full =

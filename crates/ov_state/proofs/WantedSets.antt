@@ -18,7 +18,7 @@ list_below s f sound placed =
     IsBelow-Within (length s.users) (list_at (outline s) (place_of_file f)) (holders (outline s) f.node) placed.list
     (holders_below (length s.users) (outline s) sound.base.below sound.accesses f.node placed.base)
 
--- each of them has a surface node alone
+-- each user of a set of users who are there has a surface node alone
 pub rooted_below : (s : Catalogue) (set : ℕ) → IsSound s → IsBelow (length s.users) set → IsRooted s.surface.sets set
 rooted_below s set sound below large user member = sound.surface.rooted user (below user member)
 

@@ -23,7 +23,7 @@ use Rattle.ov_transcript.specs.Transcripts.{left_unless, says_refused, service_o
 use Rattle.ov_transcript.proofs.Fronts.{front_one, front_put}
 use Rattle.ov_transcript.proofs.Refusing.{is_read, left_none, still_served}
 
--- it needs no disk, and is no update
+-- the first ask of a command needs no disk, and is no update
 no_disk : (command : Command) → MayNeedDisk (first_request command) → ⊥
 no_disk (commands.Enrol user) needs = needs
 no_disk (commands.Create file names bytes) needs = needs

@@ -149,7 +149,7 @@ weaker : (n : ℕ) (rewrites : List Rewrite) → AreAbove (n + 1) rewrites → A
 weaker n [] above = tt
 weaker n (r ∷ rewrites) above = (omega (arith, above.0), above.1)
 
--- they ascend
+-- the rewrites of an update ascend
 pub rewrites-above : (number : ℕ) (files after : List Filed) → AreAbove number (rewrites_from number files after)
 rewrites-above number files [] = tt
 rewrites-above number [] (now ∷ after) = (omega arith, rewrites-above (number + 1) [] after)

@@ -120,7 +120,7 @@ request_fits (requests.Chunk file generation start count) is within = omega arit
 request_fits (requests.Page part number) is within = omega arith
 request_fits (requests.List file) is within = omega (arith, name_reads.short file is)
 
--- it has a byte at least
+-- a request has a byte at least
 some_bytes : (request : Request) → 1 ≤ length (request_bytes request)
 some_bytes requests.Hello = omega arith
 some_bytes (requests.Ask question) = omega arith

@@ -13,7 +13,7 @@ returns-clause-answer g c = λ k h at stands.
     tallied g.D.Disk.tells k h c.args.command _ _ _ _ {T = ℕ} 0 c.in_ok-reply.reply c.deref.result.now (search rules)
     (c.in_ok-reply.ensures.steps k h at stands) c.take.ensures
 
--- it is answered, and memory is refused for its line
+-- the command is answered, and memory is refused for its line
 pub returns-in_err-line-clause-answer : goal.returns-in_err-line-clause-answer
 returns-in_err-line-clause-answer g c = λ k h at stands.
     unlined g.D.Disk.tells k h c.args.command _ _ _ _ _ c.in_ok-reply.reply (search rules)
