@@ -63,7 +63,7 @@ sent_makes request made form none (inl is) = is
 sent_makes request made form none (inr is) =
     is ∙ ap updates_asked (request_back request form) ∙ none
 
--- where nothing is made the same is served
+-- where nothing is made, what is served stays the same
 same_left : (v : Service) (made : List SealedUpdate) → made ≡ [] → later v made ≡ v
 same_left v made none = ap (later v) none ∙ later-nil v
 

@@ -35,7 +35,7 @@
 //! |---|---|
 //! | `Acts` | what an act asks, in which order, and what comes of it |
 //! | `Files` | what is found in the files, or why the act stops there |
-//! | `Machine` | the same by the access-matrix machine, over a peer that tells its history |
+//! | `Machine` | what acts come to by the machine, over a peer that tells its history |
 //! | `Completeness` | over which servers, and with which files, an act is answered |
 //! | `Printing`, `Endings` | what is put of it, and the status |
 //! | `Words` | which words are the line of a job |

@@ -29,7 +29,7 @@ use Rattle.ov_answering.proofs.Surviving.{some_put}
 
 -- ---- commands at the front
 
--- what is left stands at the end
+-- what is left is at the end
 begins_front : (line room : ℕ) (text : List ℕ) (commands : List Command) (line' room' : ℕ) (rest : List ℕ)
     → BeginsWith line room text commands line' room' rest → (used : List ℕ) × (text ≡ used ++ rest)
 begins_front line room text [] line' room' rest (l, r, t) = ([], t)
@@ -164,7 +164,7 @@ module _ {S : Type 0} (source : SourceTells S) (p : PlainHistory) where
     step_on E F goes (last_gave_none at seen t unsettled step c end) = absurd (goes end)
 
   module _ {D : Type 0} (tells : DiskTells D) (k : Masters) (first_kept mid_kept : KeptOn D) where
-    -- what was answered so far stands in what was taken
+    -- what was answered so far is in what was taken
     so_taken : (front pending : List ℕ) (line room : ℕ) (a b old now : Option (List ℕ)) → front ≡ []
         → IfSome (prepend_known front a) (λ text. SoFar tells k p text (prepend_known pending b) line room old now first_kept mid_kept)
         → IfSome (prepend_known front a) (λ _. (seen : List ℕ) → Consumes a b seen → Taken p seen pending line room old now)

@@ -64,7 +64,7 @@ fault_for (Err NoDisk) = Some Disk
 fault_for (Err NoMemory) = Some Memory
 
 -- Why a store that stands for this history isn't begun: the first update that isn't as its owner
--- seals it has its gate at this place. Want of memory and a fault of the disk say nothing of it.
+-- seals it has its gate at this place. Refused memory and a fault of the disk say nothing of it.
 abbrev pub IsCheckFault : Masters → SealedHistory → BeginFault → Type 0
 IsCheckFault k g Disk = ⊤
 IsCheckFault k g NotAStore = ⊥

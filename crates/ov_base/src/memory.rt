@@ -1,4 +1,4 @@
-//! Want of memory.
+//! The fault that memory was refused.
 use std::alloc::{AllocError, AllocFailed};
 
 /// Memory was refused. Any call that allocates may answer it, and the value that was being changed

@@ -143,7 +143,7 @@ still_if : (b : Bool) (set user : ℕ) → (b ≡ true → Has set user) → wit
 still_if true set user held = with_member set user (held refl)
 still_if false set user held = refl
 
--- access for who holds the node changes nothing
+-- access for a user who holds the node changes nothing
 pub again_held : (sets : List ℕ) (accesses : List Access) (access : Access) (node : ℕ)
     → Has (holders_in sets accesses access.node) access.user
     → holders_in sets (accesses ++ access ∷ []) node ≡ holders_in sets accesses node

@@ -1,4 +1,4 @@
--- Where a read stands at histories that are right.
+-- The stages of a read at histories that are right.
 use Rattle.std.proofs.Common.{◌≡◌, ◌∙◌, ◌<◌, ◌≤◌, ℕ, Bool, true, false}
 use Rattle.std.proofs.Common.{List, [], ◌∷◌, ◌++◌, length, take, drop, Option, Some, None}
 use Rattle.std.proofs.Common.{Ok, Err, refl, sym, ap, subst, arith, append_assoc}
@@ -59,7 +59,7 @@ module _ (k : Masters) (r : Reader) (file : List ℕ) (holds : HoldsRootKeys k r
     pub rest : List ℕ
     pub front : slice_index_or (stored_of k.surface (sealed k plain)) c.file [] ≡ stored ++ rest
 
-  -- how a stage stands, by the history of the last Chain
+  -- what holds of a stage, by the history of the last Chain
   unfoldable pub StandsAt : Service → Stage → Option SealedHistory → Type 0
   StandsAt v (AsksChain tries least) at_one = Unit {0}
   StandsAt v (AsksChunk tries c stored) at_one = IsFetching v c stored at_one

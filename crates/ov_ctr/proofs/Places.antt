@@ -1,4 +1,4 @@
--- Where a place of the file stands in its block.
+-- Where a place of the file is in its block.
 use Rattle.std.proofs.Common.{◌≡◌, ℕ, ◌+◌, ◌-◌, ◌*◌, ◌/◌, ◌%◌, ◌<◌, List, arith, refl, get_or, ap, sym, ◌^◌, [], ◌∷◌, ◌++◌}
 use Rattle.std.specs.Int.{byte_at, to_be_bytes, w32}
 use Rattle.ov_aes.specs.Aes.{aes256}

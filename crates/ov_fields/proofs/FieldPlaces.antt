@@ -189,7 +189,7 @@ nothing_places = record {
   fault = λ bytes left fits e. absurd cc;
 }
 
--- ---- bytes as they stand
+-- ---- bytes as they are
 
 front_spanned : {A : Type 0} {s : A → List ℕ} {F : A → Type 0} (Form : List ℕ → Type 0) → ((a : A) → F a → Form (s a)) → (w : List ℕ) → IsFront s F w → IsFront (λ text. text) Form w
 front_spanned {s = s} Form form w f = record { value = s f.value; more = f.more; form = form f.value f.form; spelled = f.spelled; bytes = f.bytes }

@@ -128,7 +128,7 @@ lead_fault lead bytes left f on taken = record {
   stops = lead_stops lead f.front f.rest on taken f.stops;
 }
 
--- no byte of a spelling stands before the wrong field
+-- no byte of a spelling comes before the wrong field
 pub none_before : {A : Type 0} {s : A → List ℕ} {F : A → Type 0} (a : A) → F a → AreBytes (s a) → IsFront s F []
 none_before {s = s} a form bytes = record { value = a; more = s a; form = form; spelled = refl; bytes = bytes.each }
 

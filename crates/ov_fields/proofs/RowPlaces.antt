@@ -53,7 +53,7 @@ ended_not a b rest u e =
     let t = test_ok (eqb (length (b ∷ rest)) 0) (length (b ∷ rest)) a u e in
     let none : length (b ∷ rest) ≡ 0 = eqb-true _ _ t.0 in absurd (omega (arith, none))
 
--- bytes stand behind a whole spelling
+-- bytes follow a whole spelling
 behind_whole : {A Once Limited : Type 0} (r : List ℕ → Read A) (s : A → List ℕ) (F : A → Type 0) (m : ℕ) → Reads r s F m
     → (a : A) → F a → (rest : List ℕ) (left : ℕ) → ended (a, rest) ≡ Err left → Fault Once Limited (IsWhole r) s F (s a ++ rest) left
 behind_whole r s F m R a form [] left e = absurd cc

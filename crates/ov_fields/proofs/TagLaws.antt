@@ -1,4 +1,4 @@
--- Values that a tag byte tells, nothing, and bytes as they stand.
+-- Values that a tag byte tells, nothing, and bytes as they are.
 use Rattle.std.proofs.Common.{◌≡◌, ℕ, ◌+◌, ◌-◌, ◌≤◌, Bool, true, false, cond, eqb, List, [], ◌∷◌, ◌++◌, length, take, drop, Option, Some, None, Ok, Err, ◌⊎◌, inl, inr, refl, sym, ap, subst, ◌∙◌, length-append, eq-eqb, arith}
 use Rattle.std.proofs.lemmas.Bool.{eqb-true}
 use Rattle.std.proofs.lemmas.List.{take_at, drop_at}
@@ -106,7 +106,7 @@ nothing_reads = record {
   short = λ n fits. omega arith;
 }
 
--- ---- bytes as they stand
+-- ---- bytes as they are
 
 spanned_takes : {A : Type 0} (r : List ℕ → Read A) (s : A → List ℕ) (F : A → Type 0) (m : ℕ) → Reads r s F m
     → (bytes : List ℕ) (x : List ℕ × List ℕ) → AreBytes bytes → spanned r bytes ≡ Ok x → ((a : A) × F a × (x.0 ≡ s a)) × (bytes ≡ x.0 ++ x.1)

@@ -27,7 +27,7 @@ pub nothing_in : (xs : List ℕ) → ((x : ℕ) → Contains xs x → ⊥) → x
 nothing_in [] h = refl
 nothing_in (x ∷ xs) h = absurd (h x (Contains-first x xs))
 
--- an item of a list of numbers stands somewhere
+-- an item of a list of numbers is at some place
 pub Contains-place : (xs : List ℕ) (x : ℕ) → Contains xs x
     → (k : ℕ) × (k < length xs) × (get_or xs k 0 ≡ x)
 Contains-place [] x h = absurd (Contains-none x h)

@@ -45,7 +45,7 @@ starts-has sets n u grown inside one several =
     let earlier = (starts-Contains sets n found.0 found.1).0 in
     (found.0, (inside, found.1), subst (λ s. Has s u) (set_before sets n found.0 earlier) found.2)
 
--- who is in the set of the start of a walk is in the set of its end
+-- a user who is in the set of the start of a walk is in the set of its end
 pub Walk-Has : (sets : List ℕ) (from to edges u : ℕ) → Walk sets from to edges
     → Has (slice_index sets from) u → Has (slice_index sets to) u
 Walk-Has sets from to zero u w one = subst (λ n. Has (slice_index sets n) u) w one

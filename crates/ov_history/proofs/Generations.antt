@@ -94,7 +94,7 @@ surface_keeps y u n below =
     one.0 in
     (all.0, all.1 ∙ one.1)
 
--- a file that was there stands as before until the surfaces are settled
+-- the place of a file that was there is as before until the surfaces are settled
 pub grown_file : (y : Layers) (u : Update) (file : ℕ) → file < length y.files
     → (file < length (grown y u).files) × (place_at (grown y u).files file ≡ place_at y.files file)
 grown_file y (Enrolled name) file below = (below, refl)

@@ -70,7 +70,7 @@ places-at [] file = refl
 places-at (f ∷ files) zero = refl
 places-at (f ∷ files) (suc file) = places-at files file
 
--- a file stands in the outline where the catalogue has it
+-- a file is in the outline where the catalogue has it
 pub node-shown : (c : Catalogue) (file : ℕ) → (filed_at c file).node ≡ node_of (outline c) file
 node-shown c file = ap (λ (p : Place). p.node) (sym (places-at c.files file))
 

@@ -164,7 +164,7 @@ rewrites_are_exact c b r =
 
 -- ---- their order
 
--- each stands before those of higher numbers
+-- each rewrite comes before those of higher numbers
 abbrev AreOrdered : List Rewrite → Type 0
 AreOrdered rewrites =
     (m n : ℕ) (r other : Rewrite)

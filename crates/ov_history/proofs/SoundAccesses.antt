@@ -1,4 +1,4 @@
--- Each access was given to who was no holder.
+-- Each access was given to a user who was no holder.
 use Rattle.std.proofs.Common.{◌≡◌, ℕ, ◌+◌, ◌<◌, Bool, true, false, List, [], ◌∷◌, ◌++◌, length}
 use Rattle.std.proofs.Common.{refl, sym, ◌∙◌, subst, arith, true≢false}
 use Rattle.std.proofs.lemmas.Option.{slice_get-get_or}

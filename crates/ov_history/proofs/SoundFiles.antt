@@ -14,7 +14,7 @@ use Rattle.ov_history.proofs.Listing.{same_surface-is}
 use Rattle.ov_history.proofs.PlanLaws.{node_for-there}
 use Rattle.ov_history.proofs.SoundLists.{AreHeld, wanted-is}
 
--- ---- where a file stands
+-- ---- where a file is in the layers
 
 module _ (c : Catalogue) (f : Filed) (there : f.node < length c.base.sets) where
   -- a file without a surface is placed

@@ -142,7 +142,7 @@ file_stays h more file there =
 
 -- ---- the node of a list
 
--- a new file stands at the node of its list
+-- a new file is at the node of its list
 created_at : (y : Layers) (name : List ℕ) (list size : ℕ)
     → (place_at (layers_after y (Created name list size)).files (length y.files)).node
     ≡ node_for y.base list

@@ -103,7 +103,7 @@ first_is_other wants sets one next later past at same =
     no_repeat wants (with_set sets one) next (node_for sets one) later past at
     (omega (arith, has.0)) (kept.1 ∙ has.1 ∙ same)
 
--- the wanted sets stand in such an order
+-- the wanted sets are in such an order
 abbrev IsBefore : List (Option ℕ) → ℕ → ℕ → Type 0
 IsBefore wants set later =
     (i : ℕ) × (slice_get wants i ≡ Some (Some set))
@@ -205,7 +205,7 @@ module _ (h : History) (u : Update) where
   many : length lists ≡ length (grown y u).files
   many = length-lists_after y u
 
-  -- a wanted set that stands in the list is that of its file
+  -- a wanted set that is in the list is that of its file
   to_file : (i set : ℕ) → slice_get wants i ≡ Some (Some set) → Wants h u i set
   to_file i set is =
       let below : i < length (grown y u).files =

@@ -93,7 +93,7 @@ in_cover_order sets set order below =
     let test : candidate_at sets set n ≡ true = subst (λ m. candidate_at sets set m ≡ true) (sym here) r.3 in
     filter-Contains (candidate_at sets set) order n (below.whole n (omega (arith, r.1)) test) test)
 
--- what stands from the place of a size on has all candidates of a set of the size
+-- what comes from the place of a size on has all candidates of a set of the size
 pub order_below : (sets : List ℕ) (set : ℕ) (order : List ℕ) (first : ℕ)
     → IsOrder (IsLarger sets) (length sets) order → IsSizePlace sets order (size set) first
     → IsOrderBelow sets set (drop first order)

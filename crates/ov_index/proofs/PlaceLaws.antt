@@ -92,7 +92,7 @@ inserted_by_size sets order node place old at = inserted (IsLarger sets) order n
 -- ---- the node that has a set
 
 module _ (sets order : List ℕ) (set first : ℕ) (old : IsOrder (IsBefore sets) (length sets) order) (at : IsSetPlace sets order set first) where
-  -- a set that a node has stands at the place, or behind a set that doesn't come before it
+  -- a set that a node has is at the place, or behind a set that doesn't come before it
   has_place : (node : ℕ) → node < length sets → get_or sets node 0 ≡ set
       → (k : ℕ) × (first ≤ k) × (k < length order) × (get_or order k 0 ≡ node)
   has_place node there has =

@@ -33,7 +33,7 @@ module _ (front : List ℕ) (p : ℕ) (size : length front ≡ p) where
   pub long : (g : ℕ) (rest : List ℕ) → length (front ++ g ∷ rest) ≡ p + 1 + length rest
   long g rest = omega (arith, size, length-append front (g ∷ rest))
 
-  -- the gate stands in each outcome of a write behind it
+  -- the gate stays in each outcome of a write behind it
   pub torn_behind : (g n : ℕ) (rest c : List ℕ) → Torn (p + 1) n (front ++ g ∷ rest) c → c ≡ front ++ g ∷ drop (p + 1) c
   torn_behind g n rest c torn =
       sym (take-append-drop (p + 1) c) ∙ ap (λ (l : List ℕ). l ++ drop (p + 1) c) (torn.before ∙ with_gate g rest) ∙ append_assoc front (g ∷ []) (drop (p + 1) c)
@@ -44,7 +44,7 @@ module _ (front : List ℕ) (p : ℕ) (size : length front ≡ p) where
       ∙ append_assoc (front ++ g ∷ []) frame (drop (length frame) rest)
       ∙ append_assoc front (g ∷ []) (frame ++ drop (length frame) rest)
 
-  -- what is behind the gate stands in each outcome of a write of the gate
+  -- what is behind the gate stays in each outcome of a write of the gate
   pub torn_gate : (g : ℕ) (more c : List ℕ) → Torn p 1 (front ++ g ∷ more) c → c ≡ front ++ get_or c p 0 ∷ more
   torn_gate g more c torn =
       let before : take p c ≡ front = torn.before ∙ take_at front (g ∷ more) p size in

@@ -42,7 +42,7 @@ stands_appended tells disk log later i k body is kept same read =
 pub reach_none : AreInReach []
 reach_none i lt = absurd (omega (arith, lt))
 
--- one gate more, which stands where it can
+-- one gate more, which is where it can be
 pub reach_push : (offsets : List ℕ) (end : ℕ) → AreInReach offsets → end ≤ latest_gate (length offsets) → AreInReach (offsets ++ end ∷ [])
 reach_push offsets end reach le i lt = elim (leb_tells (length offsets) i) [
   | inl past ↦

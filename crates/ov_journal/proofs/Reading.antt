@@ -63,8 +63,8 @@ is_closed gate shut = grind (arith, nat_tests)
 pub closed_reads : (gate : ℕ) (rest : List ℕ) → gate ≢ 1 → records_after 0 (gate ∷ rest) ≡ record { bodies = []; bad = false }
 closed_reads gate rest shut = ap (λ (b : Bool). past_gate b (is_length rest) (body_in rest) (records_after (length_in rest + 4) rest)) (is_closed gate shut)
 
--- Whole records are the front of a Book: at their end stands a gate that isn't open, and whatever stands
--- there instead, they are read before it.
+-- Whole records are the front of a Book: at their end is a gate that isn't open, and whatever is there
+-- instead, they are read before it.
 pub record IsFront (skip end : ℕ) (bytes : List ℕ) : Type 0 where
   pub inside : end < length bytes
   pub closed : get_or bytes end 0 ≢ 1

@@ -1,4 +1,4 @@
--- A record of a journal, where it stands in Book, and as it is read.
+-- A record of a journal, where it is in Book, and as it is read.
 use Rattle.std.proofs.Common.{◌≡◌, ℕ, zero, suc, ◌+◌, ◌≤◌, ◌<◌, List, [], ◌∷◌, ◌++◌, length, take, drop, get_or, Bool, true, false, ◌==◌, refl, sym, ◌∙◌, ap, subst, arith, length-append}
 use Rattle.std.proofs.lemmas.List.{take_at, take_all, append-nil, get_or_append_left}
 use Rattle.std.proofs.lemmas.Bool.Decides.{nat_tests}
@@ -17,7 +17,7 @@ old_front front slice items out zeros old size is same grown is_old le =
     let whole : take size out ≡ out = take_all size out (omega (arith, is_old, le)) in
     is ∙ ap (λ (l : List ℕ). take old l) (same ∙ grown ∙ ap (λ (l : List ℕ). l ++ zeros) whole) ∙ take_at out zeros old (sym is_old)
 
--- where a record of a list stands: its gate, and the next one
+-- where a record of a list is: its gate, and the next one
 gates_next : (place : ℕ) (bodies : List (List ℕ)) (i : ℕ) → i < length bodies
     → get_or (gates_from place bodies ++ end_from place bodies ∷ []) (i + 1) 0 ≡ get_or (gates_from place bodies) i 0 + 5 + length (get_or bodies i [])
 gates_next place [] i lt = absurd (omega (arith, lt))
@@ -50,7 +50,7 @@ record_later gate later body byte rest is r =
       bytes = ap (λ (n : ℕ). take (length body) (drop n (byte ∷ rest))) five ∙ r.bytes;
     }
 
--- each of these records stands at its gate
+-- each of these records is at its gate
 Stand : ℕ → Records → List ℕ → Type 0
 Stand place r bytes = (i : ℕ) → i < length r.bodies → IsRecord (get_or (gates_from place r.bodies) i 0) (get_or r.bodies i []) bytes
 

@@ -6,7 +6,7 @@ use Rattle.ov_wire.specs.Frames.{framed, IsFrame, IsCut, in_length, in_frame}
 use Rattle.ov_wire.proofs.StreamLaws.{numbers, two_frames}
 use Rattle.ov_model.specs.Streams.{IsEnd}
 
--- no frame stands at an end
+-- no frame is at an end
 no_frame : (rest g more : List ℕ) → IsEnd rest → IsFrame g → rest ≡ framed g ++ more → ⊥
 no_frame rest g more (inl (in_length few)) is e = omega (arith, few, ap length e, length-append (framed g) more)
 no_frame rest g more (inl (in_frame n front fits begins short)) is e =

@@ -96,7 +96,7 @@ fits_said line short (Word-Create, rest, e, (file, tail, f, n, (more, g, (said, 
 
 -- ---- what completes a line
 
--- the body, or nothing, of a line behind which stands nothing yet
+-- the body, or nothing, of a line that nothing follows yet
 some_tail : (said : FirstLine) (line : List ℕ) → SaysLine line said → (tail : List ℕ) × (command : Command) × Completes said tail command
 some_tail (Whole command) line p = ([], command, (refl, refl))
 some_tail (WithBody file names size) line p = (replicate size 0 ++ 10 ∷ [], Create file names (replicate size 0), (replicate size 0, length-replicate size 0, refl, refl))

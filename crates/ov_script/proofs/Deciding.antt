@@ -134,7 +134,7 @@ can_or_not text =
       | no_lf p ↦ begins_or_not text (may_go_on (run Start text) (length text)) refl p
     ]
 
--- where no item that fits stands here, the reading ends
+-- where no item that fits is here, the reading ends
 ends_here : (line room : ℕ) (text : List ℕ) → ((item rest : List ℕ) (command : Command) → text ≡ item ++ rest → IsItem item command → room < length item)
     → 0 < length text → (ending : Ending) × Reads line room text [] ending
 ends_here line room text none some =

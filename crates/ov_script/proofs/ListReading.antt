@@ -60,7 +60,7 @@ last_read text rest names new r named is = (
 
 -- ---- no list
 
--- behind names with commas stands the rest of the list
+-- the rest of the list follows names with commas
 pub record Rest (rest : List ℕ) : Type 0 where
   pub name : List ℕ
   pub names : List (List ℕ)

@@ -13,7 +13,7 @@ use Rattle.ov_script.proofs.NameFronts.{rest_of_name, name_of_rest, space_ends_n
 
 -- ---- behind a name
 
--- a space stands there, or a comma
+-- a space is there, or a comma
 abbrev Ends : Then → ℕ → List ℕ → Type 0
 Ends next b text = ((b ≡ 32) × Fits (after_name next) text) ⊎ ((b ≡ 44) × Fits (after_comma next) text)
 

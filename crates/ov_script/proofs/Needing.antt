@@ -15,7 +15,7 @@ pub none_given : (before after' : Option (List ℕ)) (more : List ℕ) → Consu
 none_given before after' more c e = subst (Consumes before after') e c
 
 module _ {S : Type 0} (tells : SourceTells S) where
-  -- ---- while fewer bytes than so many stand there
+  -- ---- while fewer than this many bytes are there
 
   below_at : (count : ℕ) (a b : Fed S) (used : List ℕ) (u : Uses tells a b used) → length used + length b.pending < count → length (a.pending ++ u.more) < count
   below_at count a b used u small =
@@ -111,14 +111,14 @@ module _ {S : Type 0} (tells : SourceTells S) where
   needs_none room E F a b c xs p before unsettled step q end =
       last_gave_none b.source xs before (subst (IsUnsettled room) p.pending unsettled) step q end
 
--- bytes stand there where none did
+-- bytes are there where none were
 pub some_given : (old new more : List ℕ) → length old < 1 → new ≡ old ++ more → 0 < length new → more ≢ []
 some_given old new more none e some empty =
     let size : length new ≡ length old + length more = ap length e ∙ length-append old more in
     let zero : length more ≡ 0 = ap length empty in
     absurd (omega arith)
 
--- none stands there still
+-- no bytes are there, as before
 pub none_more : (old new more : List ℕ) → new ≡ old ++ more → length new ≡ 0 → more ≡ []
 none_more old new more e none =
     let size : length new ≡ length old + length more = ap length e ∙ length-append old more in

@@ -31,7 +31,7 @@ front_kept xs ys room h =
     let split : room ≡ length xs + (room - length xs) = omega arith in
     (take (room - length xs) ys, ap (λ n. take n (xs ++ ys)) split ∙ take-append-add xs ys (room - length xs))
 
--- where an item stands that there is room for, nothing is bad
+-- where there is an item that there is room for, nothing is bad
 not_bad : (room : ℕ) (text item more : List ℕ) (command : Command) → text ≡ item ++ more → length item ≤ room → IsItem item command → IsBad room text → ⊥
 not_bad room text item more command e fits is (cut some whole none) = none (item, more, command, e, is)
 not_bad room text item more command e fits is (wrong past never) =

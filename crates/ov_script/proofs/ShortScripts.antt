@@ -20,7 +20,7 @@ empty_text = refl
 one_user : IsScript (codes "enrol a" ++ 10 ∷ []) (Enrol (codes "a") ∷ []) AtEnd
 one_user = (codes "enrol a" ++ 10 ∷ [], [], refl, omega arith, (refl, refl), refl)
 
--- a file of five bytes, two of which are LF, and who reads it
+-- a file of five bytes, two of which are LF, and a user who reads it
 abbrev body : List ℕ
 body = 104 ∷ 10 ∷ 108 ∷ 108 ∷ 10 ∷ []
 
@@ -40,7 +40,7 @@ five_bytes = (codes "alice", refl, alice, omega arith, omega arith, refl)
 a_file : IsScript (file_item ++ read_item) (Create (codes "f1") (codes "alice" ∷ []) body ∷ Read (codes "alice") (codes "f1") ∷ []) AtEnd
 a_file = (file_item, read_item, refl, omega arith, five_bytes, (read_item, [], refl, omega arith, (refl, refl, refl), refl))
 
--- a bad line behind it stands on line 5
+-- the line `quit` is bad
 bad_line : (room : ℕ) → 4 ≤ room → IsBad room (codes "quit" ++ 10 ∷ [])
 bad_line room h = bad_front room (codes "quit") (10 ∷ []) h (dead_cannot (codes "quit") (lacks_by_test 10 (codes "quit") refl) refl)
 

@@ -8,7 +8,7 @@ use Rattle.std.proofs.lemmas.Fmt.{decimal_by_steps, decimal_step, decimal_digit,
 use Rattle.ov_base.specs.declared.limits.TheConstants.{MAX_FILE_BYTES}
 use Rattle.ov_script.specs.LineFronts.{is_digit}
 
--- the last byte of a text that is cut in two stands in the second part, or this is empty
+-- the last byte of a text that is cut in two is in the second part, or this is empty
 last_of : (xs ys zs : List ℕ) (c : ℕ) → xs ++ ys ≡ zs ++ c ∷ [] → ((ys ≡ []) × (xs ≡ zs ++ c ∷ [])) ⊎ ((front : List ℕ) × (xs ++ front ≡ zs) × (ys ≡ front ++ c ∷ []))
 last_of [] ys zs c e = inr (zs, refl, e)
 last_of (x ∷ xs) ys [] c e =

@@ -53,7 +53,7 @@ needs p q request reply is = by_need is.needs where
   by_need (inl fails) = inl (fails.update, fails.has)
   by_need (inr (asks, same)) = inr asks
 
--- where the disk failed the same is served
+-- where the disk failed, what is served stays the same
 faulted : {D : Type 0} (p q : Opened D) (request reply : List ℕ) (v : Service)
     → IsFaulted p q request reply → IsServedBy p v → AnswersAlone v request reply (IsServedBy q)
 faulted p q request reply v is serves =
@@ -92,7 +92,7 @@ answers_told tells p q request reply v is serves =
       nobody_else (λ w. IsServedBy q (later w made)) v goes_on,
     )
 
--- where nothing changed the same is served
+-- where nothing changed, what is served stays the same
 pub same_left : {D : Type 0} (p q : Opened D) (request : List ℕ) (v : Service) → q ≡ p
     → IsServedBy p v → LeavesTold v request (IsServedBy q)
 same_left p q request v same serves =

@@ -18,7 +18,7 @@ use Rattle.ov_session.specs.Reading.{ExchangesOrFails, FailsReading, Fills, IsRe
 use Rattle.ov_session.specs.Replies.{Breaks, LinkFails}
 use Rattle.ov_session.specs.Steps.{PutsFrame}
 
--- what was put into the middle of a list stands behind its front
+-- what was put into the middle of a list follows its front
 pub take_put : (a k n : ℕ) (xs ys : List ℕ) → a ≤ length xs → n ≤ length ys
     → take (a + n) (put_mid a k xs ys) ≡ take a xs ++ take n ys
 take_put a k n xs ys within fits =

@@ -20,7 +20,7 @@ const PIECE: usize = 8_192;
 /// The frame that says that there was no memory for an answer.
 const NO_MEMORY: [u8; 1] = [0x8e];
 
-/// Who is told of a request before it is asked, and where it may wait.
+/// What is told of a request before it is asked, and where it may wait.
 #[derive(Drop)]
 struct Desk<'a, R, G> {
     rt: &'a R,

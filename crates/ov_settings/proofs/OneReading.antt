@@ -10,7 +10,7 @@ use Rattle.ov_keyfile.specs.KeyFile.{IsKeyLine}
 use Rattle.ov_settings.specs.Settings.{AreSettings, HoldsDigits, HoldsSessions, HoldsText, IsSettingsFile}
 use Rattle.ov_settings.specs.declared.settings.Settings.{Settings}
 
--- one text stands at a key
+-- a key has one text
 text_once : (m : Members) (key one two : List ℕ) → HoldsText m key one → HoldsText m key two → one ≡ two
 text_once m key one two a b = same_Some one two (sym a ∙ b)
 

@@ -44,7 +44,7 @@ none_applies true false c e = absurd (cc)
 none_applies true true false e = absurd (cc)
 none_applies true true true e = (refl, refl, refl)
 
--- who may read a file is a user in its list
+-- anyone who may read a file is a user in its list
 pub may_read : (s : Catalogue) (user file : ℕ) → read_refusal (matrix_shown s) user file ≡ None
     → (user < length s.users) × (file < length s.files) × Has (list_at (outline s) (place_of_file (filed_at s file))) user
 may_read s user file read =

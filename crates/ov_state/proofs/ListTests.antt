@@ -105,7 +105,7 @@ module _ (s : Catalogue) (user file : ℕ) (enrolled : user < length s.users) (t
       ∙ ap (λ b. first_of_tests ((NodesFull, b) ∷ (Spent, is_last s.epoch) ∷ [])) (lt_is_false MAX_LAYER_NODES nodes few)
       ∙ ap (λ b. first_of_tests ((Spent, b) ∷ [])) more
 
--- a fault for want of room, where the list lets the update pass
+-- a fault for lack of room, where the list lets the update pass
 pub room-fault : (words : ℕ) (s : Catalogue) (u : Brief) (sets : List ℕ) (fault : PrepareFault)
     → refusal_shown s u ≡ first_of_tests ((NodesFull, nat_lt MAX_LAYER_NODES (length sets)) ∷ (Spent, is_last s.epoch) ∷ [])
     → IsNoRoom sets s.epoch fault → IsFaultOf words s u fault

@@ -1,4 +1,4 @@
--- Where a new file stands in the layers.
+-- Where a new file goes in the layers.
 use Rattle.std.proofs.Common.{◌≡◌, ℕ, ◌<◌, ◌≤◌, ◌==◌, Bool, true, false, List, [], ◌∷◌, length, refl, ◌∙◌, ap, arith, eqb-true}
 use Rattle.std.specs.Prelude.{Contains}
 use Rattle.ov_graph.specs.Contents.{plan_of}

@@ -1,4 +1,4 @@
--- The parts of an update stand at their place in its spelling.
+-- The parts of an update are at their place in its spelling.
 use Rattle.std.proofs.Common.{ℕ, ◌*◌, List, [], ◌∷◌, ◌++◌, refl, sym, arith}
 use Rattle.std.proofs.Common.{append-nil, append_assoc, length-append}
 use Rattle.ov_base.specs.Sets.{bytes_of}

@@ -32,7 +32,7 @@ some-room sets epoch few more =
     ap (λ b. first_of_tests ((NodesFull, b) ∷ (Spent, is_last epoch) ∷ [])) (lt_is_false MAX_LAYER_NODES (length sets) few)
     ∙ ap (λ b. first_of_tests ((Spent, b) ∷ [])) more
 
--- a question is refused for want of nodes as the update is
+-- a question is refused for lack of nodes as the update is
 pub asked-room : (sets : List ℕ) (epoch : ℕ) (why : GraphRefusal) → IsFull sets (fault_of why)
     → IsRefusedFor (room_refusal sets epoch) (chain_fault_of why)
 asked-room sets epoch GraphFull full = full-room sets epoch (Refused NodesFull) full

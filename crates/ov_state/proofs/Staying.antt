@@ -1,4 +1,4 @@
--- Sets that stand among those of a layer, and files that have their wanted surfaces: they stay.
+-- Sets that are among those of a layer, and files that have their wanted surfaces: they stay.
 use Rattle.std.proofs.Common.{◌≡◌, ℕ, Bool, true, false, List, [], ◌∷◌, ◌++◌, refl, sym, ◌∙◌, ap}
 use Rattle.std.specs.Prelude.{Contains, Option, Some, None}
 use Rattle.std.proofs.lemmas.List.{append-nil}

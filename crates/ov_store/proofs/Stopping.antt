@@ -16,7 +16,7 @@ use Rattle.ov_store.specs.declared.fault.BeginFault.{BeginFault}
 use Rattle.ov_store.specs.declared.fault.BeginFault.TheVariants.{Disk as DiskFailed, NotAStore, Damaged, BaseDiffers, SurfaceDiffers, ModeDiffers, Memory}
 use Rattle.ov_store.proofs.Replays.{IsNext, ReplayedTo, goes_taken}
 
--- ---- where gates stand
+-- ---- where gates are
 
 pub gate-end : (place : ℕ) (bodies : List (List ℕ)) (i : ℕ) → i < length bodies
     → get_or (gates_from place bodies) i 0 ≡ end_from place (take i bodies)

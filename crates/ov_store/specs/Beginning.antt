@@ -20,7 +20,7 @@ use Rattle.ov_store.specs.declared.fault.BeginFault.TheVariants.{Disk as DiskFai
 
 -- Why no store is begun on this image. The causes are tried in this order: another file, no mode,
 -- the base master, the surface master, the mode, the records. Of damage the place of Book is said.
--- Want of memory and a fault of the disk say nothing of the image.
+-- Refused memory and a fault of the disk say nothing of the image.
 abbrev pub IsBeginFault : Keys → Mode → Image → BeginFault → Type 0
 IsBeginFault k mode i DiskFailed = ⊤
 IsBeginFault k mode i NotAStore = IsForeign i.book

@@ -82,7 +82,8 @@ impl<D: Disk> Store<D> {
         ensures any_moment { LeavesHistory D.tells
             (keys base_check surface.bytes) mode disk (disk_left result) }
         ensures untouched { WritesNoBorn D.tells disk (disk_left result) }
-        // All memory is wanted before anything is written, so want of it leaves the disk as it was.
+        // All memory is asked for before anything is written, so a refusal of it leaves the disk as
+        // it was.
         ensures memory { IfErr result (λ refused. refused.fault ≡ NoMemory
             → IsUntouched D.tells disk refused.disk) }
 

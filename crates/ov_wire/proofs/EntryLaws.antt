@@ -250,6 +250,6 @@ twice : (set : ℕ) (read : Read (List Edge)) → rest_of (made node (read >>= �
 twice set (Ok x) = refl
 twice set (Err left) = refl
 
--- a node's edges stand behind its set
+-- a node's edges follow its set
 pub rest-node : (bytes rest : List ℕ) (text : List ℕ) → bytes_at 32 bytes ≡ Ok (text, rest) → rest_of (making node node_entry_at bytes) ≡ rest_of (counted_at MAX_USERS edge_at rest)
 rest-node bytes rest text e = rw e (twice (set_of_bytes text) (counted_at MAX_USERS edge_at rest))

@@ -99,7 +99,7 @@ pub record TakesSome (old new : Decoding) (pieces before after : List (List ℕ)
   pub takes : Takes old new (joined taken) before after
 
 -- What a decoder does with pieces of a stream, one after the other: what it does with them joined.
--- Want of memory comes before all of them, or behind the first of them.
+-- Memory is refused before all of them, or behind the first of them.
 abbrev pub FeedsAll : Decoding → Decoding → List (List ℕ) → List (List ℕ) → List (List ℕ)
     → Result (Unit {0}) FeedFault → Type 0
 FeedsAll old new pieces before after (Ok done) =

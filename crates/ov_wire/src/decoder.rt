@@ -97,7 +97,7 @@ impl Decoder {
             }
         }
     }
-    /// Takes pieces of the stream, one after the other. Want of memory comes between two of them:
+    /// Takes pieces of the stream, one after the other. Memory is refused between two of them:
     /// those before it were taken.
     pub fn feed_all(&mut self, pieces: &[Octets], frames: &mut Vec<Octets>) -> Result<(), FeedFault>
         ensures { FeedsAll self.old self.new pieces.now frames.old.items frames.new.items result }

@@ -9,7 +9,7 @@ use Rattle.ov_vault.proofs.rewritten.rewrite_copies.Goals as goal
 pub bounds-stored-rewrite : goal.bounds-stored-rewrite
 bounds-stored-rewrite c = rewrite_there _ c.args.rewrites.now c.loop-rewrite.rewrite-index _ c.requires.files c.loop-rewrite-test.true
 
--- what is read where something stands doesn't depend on what is read elsewhere
+-- what is read at one place doesn't depend on what is read elsewhere
 any_default : (xs : List (List ℕ)) (n : ℕ) (d e : List ℕ) → n < length xs → slice_index_or xs n d ≡ slice_index_or xs n e
 any_default [] n d e low = absurd (omega arith)
 any_default (x ∷ xs) zero d e low = refl
