@@ -61,7 +61,8 @@ most_keys act = 131
 abbrev pub most_bytes : ℕ
 most_bytes = MAX_FILE_BYTES + 1
 
--- a source is taken from only while so many bytes haven't come, and not again once it gave nothing
+-- a source is taken from only while this many bytes haven't come, and not again once it gave
+-- nothing
 abbrev pub TakesUpTo : {S : Type 0} → SourceTells S → ℕ → S → S → Type 0
 TakesUpTo tells most old new = TakesWhile tells (λ seen. length seen < most) ⊤ ⊥ old new
 

@@ -1,4 +1,5 @@
--- Sets compare as their bytes do, so many as hold both, and that is a total order.
+-- Sets compare as their bytes do, of which there are as many as hold both, and that is a total
+-- order.
 use Rattle.std.proofs.Common.{ℕ, suc, zero, ◌≡◌, ◌<◌, ◌≤◌, ◌+◌, ◌/◌, ◌%◌, ◌^◌, refl, sym, ◌∙◌, ap, arith, true≢false}
 use Rattle.std.specs.Prelude.{max}
 use Rattle.std.proofs.Math.Nat.{pow-suc}
@@ -21,7 +22,7 @@ wider (suc count) more a b low_a low_b =
     let width : suc count + more ≡ suc (count + more) = omega arith in
     rw width (ap (ordering_then (nat_cmp (a % 256) (b % 256))) (wider count more (a / 256) (b / 256) (omega arith) (omega arith)))
 
--- a set is below so many bytes as its own number
+-- a set is below this many bytes as its own number
 own_bytes : (set more : ℕ) → set ≤ more → set < 256 ^ more
 own_bytes zero zero h = omega arith
 own_bytes (suc set) zero h = absurd (omega arith)

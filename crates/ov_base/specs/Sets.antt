@@ -52,7 +52,7 @@ size set = count_ones set
 abbrev pub IsBelow : ℕ → ℕ → Type 0
 IsBelow limit set = (user : ℕ) → Has set user → user < limit
 
--- the set as so many bytes, each with eight users and the lowest of them in its lowest bit
+-- the set as this many bytes, each with eight users and the lowest of them in its lowest bit
 unfoldable pub bytes_of : ℕ → ℕ → List ℕ
 bytes_of zero set = []
 bytes_of (suc count) set = set % 256 ∷ bytes_of count (set / 256)
@@ -62,10 +62,11 @@ unfoldable pub set_of_bytes : List ℕ → ℕ
 set_of_bytes [] = empty
 set_of_bytes (byte ∷ bytes) = set_of_bytes bytes * 256 + byte
 
--- how two sets compare as so many bytes, from the first on
+-- how two sets compare as this many bytes, from the first on
 abbrev pub bytes_cmp : ℕ → ℕ → ℕ → Ordering
 bytes_cmp count a b = slice_cmp nat_cmp (bytes_of count a) (bytes_of count b)
 
--- how two sets compare: as their bytes, so many that neither has a user in a later one
+-- how two sets compare: as their bytes, of which there are enough that neither has a user in a
+-- later one
 unfoldable pub set_cmp : ℕ → ℕ → Ordering
 set_cmp a b = bytes_cmp (max a b) a b

@@ -69,8 +69,8 @@ impl<G: Graph<Base, W>, const W: usize> BaseLayer<G, W> {
         &self.grants
     }
 
-    /// Makes room for so many more sets and so many more edges. No room is lost by it; where memory
-    /// is refused, some may have been gained.
+    /// Makes room for this many more sets and this many more edges. No room is lost by it; where
+    /// memory is refused, some may have been gained.
     pub fn reserve(&mut self, sets: u32, edges: u32) -> Result<(), Memory>
         ensures sets { self.new.graph.sets ≡ self.old.graph.sets }
         ensures edges { self.new.graph.edges ≡ self.old.graph.edges }

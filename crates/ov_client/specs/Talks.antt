@@ -36,7 +36,7 @@ asked_at r file (Ends result) = None
 
 -- ---- the stage after an answer
 
--- the next try, after so many that were answered Moved; there are nine and no more
+-- the next try, after this many that were answered Moved; there are nine and no more
 abbrev pub again : List ℕ → ℕ → Stage
 again tries least =
     if length tries == TRIES then Ends (Err (Unsettled tries)) else AsksChain tries least

@@ -33,7 +33,7 @@ generation_place = 13
 abbrev pub base_root_place : ℕ
 base_root_place = 49
 
--- the place of the surface root in that frame, behind so many base steps and the flag
+-- the place of the surface root in that frame, behind this many base steps and the flag
 abbrev pub surface_root_place : ℕ → ℕ
 surface_root_place steps = 56 + 37 * steps
 
@@ -65,17 +65,17 @@ chained_in r least answer = Err (BadReply 0)
 
 -- ---- chunks
 
--- how many bytes the next chunk of a file has, of which so many came
+-- how many bytes the next chunk of a file has, of which this many came
 abbrev pub chunk_bytes : ℕ → ℕ → ℕ
 chunk_bytes size start = min MAX_CHUNK_BYTES (size - start)
 
--- the bytes of a chunk, where there are so many
+-- the bytes of a chunk, where there are this many
 abbrev pub sized : ℕ → List ℕ → Result Fetched ClientFault
 sized count bytes =
     if length bytes == count then Ok (Bytes bytes)
     else Err (BadReply (1 + min (length bytes) count))
 
--- the bytes in an answer to Chunk, of which there must be so many, or the file's new generation
+-- the bytes in an answer to Chunk, of which there must be this many, or the file's new generation
 abbrev pub fetched_in : ℕ → Answer → Result Fetched ClientFault
 fetched_in count (answers.Bytes bytes) = sized count bytes
 fetched_in count (answers.Moved now) = Ok (Moved now)

@@ -30,7 +30,7 @@ const SURFACE_ROOT: u32 = 56;
 const STEP: u32 = 37;
 
 impl Client {
-    /// The place of a surface root that isn't the reader's, behind so many base steps.
+    /// The place of a surface root that isn't the reader's, behind this many base steps.
     fn wrong_surface(&self, steps: u32, surface: &Option<Chain>) -> Option<u32>
         requires { steps < 2 ^ 16 }
         ensures { result ≡ wrong_surface self.now steps surface.now }
@@ -83,7 +83,7 @@ impl Client {
     }
 }
 
-/// The bytes of a chunk, where there are so many.
+/// The bytes of a chunk, where there are this many.
 fn sized(count: u32, bytes: Octets) -> Result<Fetched, ClientFault>
     requires { count ≤ MAX_CHUNK_BYTES }
     ensures told { result ≡ sized count bytes }
@@ -99,7 +99,7 @@ fn sized(count: u32, bytes: Octets) -> Result<Fetched, ClientFault>
     }
 }
 
-/// What is fetched by an answer to Chunk, which must have so many bytes.
+/// What is fetched by an answer to Chunk, which must have this many bytes.
 pub fn fetched_in(count: u32, answer: Answer) -> Result<Fetched, ClientFault>
     requires { count ≤ MAX_CHUNK_BYTES }
     ensures told { result ≡ fetched_in count answer }

@@ -102,8 +102,9 @@ fn apply_blocks(key: &[u8; 32], tag: u8, file: u32, start: u64, buf: &mut [u8])
 /// the number `file` in 4 bytes and the block's number from 0 in 8, the highest byte first.
 ///
 /// A text of fewer than 256 bytes goes a block at a time, by the cipher of tables, and a longer one
-/// four whole blocks at a time, where so many lie before the next multiple of 4,096. That the key
-/// is expanded once a call and each block of the pad computed once is speed, which no clause states.
+/// four whole blocks at a time, where this many lie before the next multiple of 4,096. That the key
+/// is expanded once a call and each block of the pad computed once is speed, which no clause
+/// states.
 pub fn apply_at(key: &[u8; 32], tag: u8, file: u32, start: u64, buf: &mut [u8])
     requires { start + length buf.old ≤ 4294967296 }
     ensures { buf.new ≡ xor_pad key.now tag file start buf.old }

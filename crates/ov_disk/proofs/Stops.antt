@@ -111,7 +111,7 @@ front_replays i (Write call area at bytes ∷ xs) s (suc k) is =
     (rest.0, ap (λ (b : Bool). if b then replayed (written area at bytes i) (take k xs) else None) both.0 ∙ rest.1)
 front_replays i (Sync call ∷ xs) s (suc k) is = front_replays i xs s k is
 
--- what a stop leaves after so many calls, a crash after them may leave
+-- what a stop leaves after this many calls, a crash after them may leave
 pub torn_after : (tear : Tear) (i : Image) (xs : List Change) (s : Image) (call : ℕ) → replayed i xs ≡ Some s → Leaves i (before call xs) (torn tear i (before call xs))
 torn_after tear i xs s call is =
     let front = before_front call xs in

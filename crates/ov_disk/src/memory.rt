@@ -113,12 +113,12 @@ impl MemDisk {
         self.areas.get(Area::Blobs)
     }
 
-    /// The disk as a stop after so many calls may leave it, with nothing pending.
+    /// The disk as a stop after this many calls may leave it, with nothing pending.
     pub fn image(&self, call: u64, tear: Tear) -> Result<MemDisk, Memory>
         requires { call ≤ self.now.calls }
         ensures exact { IfOk result (λ disk.
             disk ≡ fresh (torn tear self.now.first (before call self.now.changes))) }
-        // A crash after so many calls may leave it, and so may one at some moment up to now.
+        // A crash after this many calls may leave it, and so may one at some moment up to now.
         ensures after { IfOk result (λ disk.
             Leaves self.now.first (before call self.now.changes) disk.first) }
         ensures possible { IfOk result (λ disk. left_since_of self.now 0 disk.first) }

@@ -19,7 +19,7 @@ fn written(rt: &impl Abort, alloc: Global) -> Result<MemDisk, Fail> {
     Ok(disk)
 }
 
-// What a stop after so many calls leaves.
+// What a stop after this many calls leaves.
 const LEFT: [(u64, Tear, &[u8]); 6] = [
     (0, Tear::New, b"abc"),
     (1, Tear::Old, b"abc"),

@@ -86,7 +86,8 @@ fn written(alloc: Global, fail: u64) -> Result<(MemDisk, bool), Fail> {
     Ok((disk, done))
 }
 
-// Whether a stop after so many calls, of which nothing is torn, leaves these bytes from a place on.
+// Whether a stop after this many calls, of which nothing is torn, leaves these bytes from a place
+// on.
 fn leaves(disk: &MemDisk, call: u64, place: usize, want: &[u8]) -> Result<bool, Fail> {
     if call > disk.calls() {
         return Ok(false);

@@ -48,7 +48,7 @@ byte_reads test = record {
   short = λ b h. omega arith;
 }
 
--- ---- so many bytes
+-- ---- a number of bytes
 
 long_ok : {A : Type 0} (b : Bool) (left : ℕ) (x y : A) → cond b (Err left) (done x) ≡ Ok y → (b ≡ false) × (x ≡ y)
 long_ok true left x y e = absurd cc

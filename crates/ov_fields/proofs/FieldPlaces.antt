@@ -76,7 +76,7 @@ byte_places test b lt is =
       fault = λ bytes left fits e. byte_fault test (none_before b is one) bytes left e;
     }
 
--- ---- so many bytes
+-- ---- a number of bytes
 
 few_bytes : (count : ℕ) (bytes : List ℕ) (left : ℕ) → bytes_at count bytes ≡ Err left → (length bytes < count) × (0 ≡ left)
 unfolding bytes_at

@@ -9,7 +9,7 @@ use Rattle.ov_fields.proofs.FieldLaws.{bytes_reads, wide16, wide32, that_reads}
 use Rattle.ov_fields.proofs.TagLaws.{flag_reads}
 use Rattle.ov_fields.proofs.TestLaws.{le_of}
 
--- ---- so many values
+-- ---- a number of values
 
 abbrev behind : {A : Type 0} → A → List A × List ℕ → List A × List ℕ
 behind a others = (a ∷ others.0, others.1)

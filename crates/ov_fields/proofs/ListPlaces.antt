@@ -17,7 +17,7 @@ use Rattle.ov_fields.proofs.JoinPlaces.{then_places, given_places, made_places, 
 use Rattle.ov_fields.proofs.FieldPlaces.{byte_places, bytes_places, one_of_places}
 use Rattle.ov_fields.proofs.LimitPlaces.{u16_places, u32_places, at_most_limits}
 
--- ---- so many values
+-- ---- a number of values
 
 abbrev pub joined : {A : Type 0} → A × List A → List A
 joined x = x.0 ∷ x.1

@@ -1,4 +1,4 @@
--- The entries of the public catalogue, with sets in so many bytes.
+-- The entries of the public catalogue, with sets in a given number of bytes.
 use Rattle.std.specs.Prelude.{ℕ, List, ◌++◌, Option}
 use Rattle.ov_base.specs.Sets.{bytes_of}
 use Rattle.ov_tokens.specs.declared.token.Token.{Token}

@@ -65,7 +65,7 @@ abbrev pub by_rows : {A : Type 0} → List (ℕ × (List ℕ → Read A)) → Li
 by_rows rows [] = Err 0
 by_rows rows (kind ∷ bytes) = by_kind rows kind bytes
 
--- the place of a wrong byte, counted from the first of so many
+-- the place of a wrong byte, counted from the first of this many
 abbrev pub placed : {A : Type 0} → ℕ → Result A ℕ → Result A ℕ
 placed count (Ok value) = Ok value
 placed count (Err left) = Err (count - left)
@@ -133,7 +133,7 @@ below limit n = nat_lt n limit
 abbrev pub between : ℕ → ℕ → ℕ → Bool
 between least most n = nat_le least n && nat_le n most
 
--- a set of users in so many bytes
+-- a set of users in this many bytes
 abbrev pub set_at : ℕ → List ℕ → Read ℕ
 set_at count bytes = made set_of_bytes (bytes_at count bytes)
 
@@ -147,13 +147,13 @@ many_at field (suc count) bytes = do
   others ← many_at field count first.1
   Ok (first.0 ∷ others.0, others.1)
 
--- at most so many values behind their number
+-- at most this many values behind their number
 unfoldable pub counted_at : {A : Type 0} → ℕ → (List ℕ → Read A) → List ℕ → Read (List A)
 counted_at most field bytes = do
   count ← number_that w16 (at_most most) bytes
   many_at field count.0 count.1
 
--- at most so many bytes behind their number
+-- at most this many bytes behind their number
 unfoldable pub sized_at : ℕ → List ℕ → Read (List ℕ)
 sized_at most bytes = do
   count ← number_that w32 (at_most most) bytes

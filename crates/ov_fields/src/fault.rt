@@ -9,7 +9,7 @@ use std::alloc::{AllocError, AllocFailed};
 /// Why a field can't be read.
 #[derive(Clone, Copy, Debug, PartialEq, Eq)]
 pub enum FieldFault {
-    /// The bytes are no such field: so many are left at the first one that is wrong, its own
+    /// The bytes are no such field: this many are left at the first one that is wrong, its own
     /// included, and none where they end too early.
     Bad { left: usize },
     /// Memory was refused.

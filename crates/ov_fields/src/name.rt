@@ -56,7 +56,7 @@ fn take_others(count: u8, bytes: &[u8]) -> Result<(&[u8], &[u8]), FieldFault>
     Ok((text, after))
 }
 
-/// A name of so many bytes and one more.
+/// A name of this many bytes and one more.
 fn take_text(more: u8, bytes: &[u8]) -> Result<(Name, &[u8]), FieldFault>
     requires { more < MAX_NAME_BYTES }
     ensures { GivesField (λ n. n) result (text_at more bytes.now) }

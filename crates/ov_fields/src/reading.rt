@@ -140,7 +140,7 @@ pub fn take_token(bytes: &[u8]) -> Result<(Token, &[u8]), FieldFault>
     Ok((Token { bytes }, rest))
 }
 
-/// At most so many bytes behind their number.
+/// At most this many bytes behind their number.
 #[tactic(auto, unfolding(crate::specs::Reading::sized_at))]
 pub fn take_sized(most: u32, bytes: &[u8]) -> Result<(&[u8], &[u8]), FieldFault>
     ensures { GivesField (λ b. b.now) result (sized_at most bytes.now) }
@@ -176,7 +176,7 @@ pub fn take_token_or_none(bytes: &[u8]) -> Result<(Option<Token>, &[u8]), FieldF
     }
 }
 
-/// A flag, and so many bytes where it is 1.
+/// A flag, and this many bytes where it is 1.
 #[tactic(auto, unfolding(crate::specs::Reading::optional_at))]
 pub fn take_bytes_or_none(count: usize, bytes: &[u8]) -> Result<(Option<&[u8]>, &[u8]), FieldFault>
     ensures { GivesField (λ o. option_map (λ (b : Bor (List ℕ)). b.now) o) result

@@ -22,7 +22,7 @@ abbrev grouped : ℕ → ℕ → List Candidate → List Candidate
 grouped from zero cs = []
 grouped from (suc count) cs = filter (lacks_just from) cs ++ grouped (from + 1) count cs
 
--- each candidate lacks at least so many
+-- each candidate lacks at least this many users
 abbrev AllLack : ℕ → List Candidate → Type 0
 AllLack from cs = (k : ℕ) (d : Candidate) → k < length cs → from ≤ (get_or cs k d).lacks
 

@@ -7,20 +7,20 @@ use Rattle.ov_tokens.specs.Labels.{label_of}
 use Rattle.ov_graph.specs.Reach.{Walk}
 use Rattle.ov_graph.specs.Contents.{Contents, edges_to}
 
--- the node lies so many edges from the root, and no fewer
+-- the node lies this many edges from the root, and no fewer
 pub record IsDistance (sets : List ℕ) (root node edges : ℕ) : Type 0 where
   pub walk : Walk sets root node edges
   pub least : (fewer : ℕ) → Walk sets root node fewer → edges ≤ fewer
 
--- the edge is the first of these whose start lies so many edges from the root
+-- the edge is the first of these whose start lies this many edges from the root
 abbrev pub IsFirst : List ℕ → ℕ → ℕ → List Edge → Edge → Type 0
 IsFirst sets root distance [] edge = ⊥
 IsFirst sets root distance (first ∷ others) edge =
     (IsDistance sets root first.from distance × (edge ≡ first))
     ⊎ (¬ IsDistance sets root first.from distance × IsFirst sets root distance others edge)
 
--- The steps to a node that lies so many edges from the root. Going back from its end, each step is
--- the first of the edges into its node whose start lies one edge nearer to the root.
+-- The steps to a node that lies this many edges from the root. Going back from its end, each step
+-- is the first of the edges into its node whose start lies one edge nearer to the root.
 abbrev pub IsChosen : Kind → Contents → ℕ → ℕ → ℕ → List Step → Type 0
 IsChosen kind graph root node zero steps = (root ≡ node) × (steps ≡ [])
 IsChosen kind graph root node (suc distance) steps =

@@ -19,7 +19,7 @@ candidates_from set node [] = []
 candidates_from set node (earlier ∷ sets) =
     put_if (is_candidate set earlier) node (candidates_from set (node + 1) sets)
 
--- whether a node's set has just so many users
+-- whether a node's set has just this many users
 abbrev pub has_size : List ℕ → ℕ → ℕ → Bool
 has_size sets users node = size (slice_index sets node) == users
 

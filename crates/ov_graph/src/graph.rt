@@ -59,8 +59,8 @@ pub trait Graph<L: Layer, const W: usize>: Drop {
         ensures few { IfOk result (λ cover. length cover.from ≤ size set.now) }
         ensures none { size set.now ≤ 1 → IfOk result (λ cover. cover.from ≡ []) };
 
-    /// Makes room for so many more sets and so many more edges. No room is lost by it; where memory
-    /// is refused, some may have been gained.
+    /// Makes room for this many more sets and this many more edges. No room is lost by it; where
+    /// memory is refused, some may have been gained.
     fn reserve(&mut self, sets: u32, edges: u32) -> Result<(), Memory>
         ensures sets { (contents self.new).sets ≡ (contents self.old).sets }
         ensures edges { (contents self.new).edges ≡ (contents self.old).edges }

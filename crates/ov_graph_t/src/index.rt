@@ -147,7 +147,7 @@ const ADDED: [(u32, usize); 17] = [
 
 const AFTER: [u32; 4] = [0x003, 0x806, 0x804, 0x113];
 
-/// A call that adds a set with so many tokens, all of the same bytes: no graph looks into them.
+/// A call that adds a set with this many tokens, all of the same bytes: no graph looks into them.
 fn addition<const W: usize>(alloc: Global, bits: u32, many: usize) -> Result<Call<W>, Fail>
     requires { (1 ≤ W) × (W ≤ MAX_SET_WORDS) }
 {

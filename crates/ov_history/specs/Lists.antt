@@ -38,7 +38,7 @@ file_at m file = slice_index_or m.files file no_file
 abbrev pub is_listed : Matrix → ℕ → ℕ → Bool
 is_listed m user file = has (file_at m file).list user
 
--- The set of so many users, numbered from 0. A set that has another number isn't within it.
+-- The set of this many users, numbered from 0. A set that has another number isn't within it.
 abbrev pub everyone : ℕ → ℕ
 everyone users = (2 ^ users) - 1
 

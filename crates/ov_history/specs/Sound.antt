@@ -7,8 +7,8 @@ use Rattle.ov_graph.specs.Contents.{IsGraph}
 use Rattle.ov_history.specs.Layers.{holders, list_at}
 use Rattle.ov_history.specs.Catalogue.{Nodes, Filed, Catalogue, outline, place_of_file}
 
--- The nodes of a layer that has so many users: a graph, in which each user has a node alone and no
--- one else is in any set.
+-- The nodes of a layer that has this many users: a graph, in which each user has a node alone and
+-- no one else is in any set.
 pub record IsLayer (users : ℕ) (nodes : Nodes) : Type 0 where
   pub graph : IsGraph nodes.sets nodes.edges
   pub rooted : (user : ℕ) → user < users → Contains nodes.sets (single user)

@@ -56,7 +56,7 @@ EndsServing false served old new status = EndsOr (served_line served) 0 old new 
 
 module _ {V S : Type 0} (one : OneSession V S) (v w : V) (old new : Doorway S) (wanted : ℕ)
     (before after : Option (List ℕ)) (status : ℕ) where
-  -- At most so many sessions are served, and then the last line is put.
+  -- At most this many sessions are served, and then the last line is put.
   pub record ServesAll : Type 0 where
     pub served : ℕ
     pub failed : Bool

@@ -6,7 +6,7 @@
 //!
 //! | status | last line | where |
 //! |---|---|---|
-//! | 0 | `served N` | so many sessions were served, all that were wanted or that the door had |
+//! | 0 | `served N` | N sessions were served, all that were wanted or that the door had |
 //! | 4 | `error disk` | the disk failed as the store was begun |
 //! | 6 | none | a line couldn't be put |
 //! | 7 | `error memory` | memory was refused |

@@ -49,7 +49,7 @@ fn put_door<O: Sink>(out: &mut O) -> u8
     put_last(out, b"error door\n", DOOR_FAULT)
 }
 
-// Puts the last line behind so many sessions: how many there were, or that the door failed.
+// Puts the last line behind this many sessions: how many there were, or that the door failed.
 fn put_end<O: Sink>(alloc: Global, out: &mut O, served: u32, failed: bool) -> u8
     ensures ends { EndsServing failed served
         (O.tells.written out.old) (O.tells.written out.new) result }
@@ -80,7 +80,7 @@ fn tell<O: Sink>(alloc: Global, out: &mut O, address: &[u8]) -> Result<(), u8>
     }
 }
 
-/// Listens, says where, serves at most so many sessions one after the other, and says how many
+/// Listens, says where, serves at most this many sessions one after the other, and says how many
 /// there were: the status.
 pub fn serve_door<R: Wait, A: Door, V: Answerer, O: Sink>(
     rt: &R,

@@ -129,7 +129,7 @@ fn cases() -> &'static [Case] {
     &CASES
 }
 
-// The settings of a server in this mode that serves so many sessions.
+// The settings of a server in this mode that serves this many sessions.
 fn settings(alloc: Global, mode: Mode, sessions: u32) -> Result<Settings, AllocError> {
     Ok(Settings {
         address: Octets::new(alloc),
@@ -153,7 +153,7 @@ fn stream(rt: &impl Abort, alloc: Global) -> MemStream {
     MemStream { source, sink }
 }
 
-// A door with so many streams.
+// A door with this many streams.
 fn door(rt: &impl Abort, alloc: Global, streams: u32, fails: &[u8]) -> MemDoor
     ensures given { result.gave ≡ [] }
     ensures faults { result.faults ≡ 0 }

@@ -10,7 +10,7 @@ use std::alloc::Global;
 /// A call that changes a graph, or the room in it.
 #[derive(Drop)]
 pub enum Call<const W: usize> {
-    /// Room is made for so many more sets and edges.
+    /// Room is made for this many more sets and edges.
     Reserve { sets: u32, edges: u32 },
     /// The set is added, with these tokens for the edges of its cover.
     Add { set: UserSet<W>, tokens: Tokens },

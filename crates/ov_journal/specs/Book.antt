@@ -61,7 +61,7 @@ past_gate false fits body more = record { bodies = []; bad = false }
 past_gate true false body more = record { bodies = []; bad = true }
 past_gate true true body more = record { bodies = body ∷ more.bodies; bad = more.bad }
 
--- the records of these bytes, after so many that are passed over
+-- the records of these bytes, after this many that are passed over
 abbrev pub records_after : ℕ → List ℕ → Records
 records_after skip [] = record { bodies = []; bad = true }
 records_after (suc skip) (byte ∷ rest) = records_after skip rest

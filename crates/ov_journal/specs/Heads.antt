@@ -23,7 +23,7 @@ HasRoom size Foreign = ⊤
 HasRoom size NoMode = ⊤
 HasRoom size (Store header) = 78 < size
 
--- a record with a body of so many bytes, and what follows it
+-- a record with a body of this many bytes, and what follows it
 pub record BeginsRecord (count : ℕ) (bytes : List ℕ) : Type 0 where
   pub body : List ℕ
   pub long : length body ≡ count
@@ -39,7 +39,7 @@ Nexts bytes Closed = records_after 0 bytes ≡ record { bodies = []; bad = false
 Nexts bytes Bad = records_after 0 bytes ≡ record { bodies = []; bad = true }
 Nexts bytes (Record count) = BeginsRecord count bytes
 
--- a record that was found is one in so many bytes
+-- a record that was found is one in this many bytes
 abbrev pub LiesIn : ℕ → Next → Type 0
 LiesIn left Closed = ⊤
 LiesIn left Bad = ⊤

@@ -63,7 +63,7 @@ pub record HasSameRecords (old new : Log) : Type 0 where
   pub end : new.end ≡ old.end
   pub bad : new.bad ≡ old.bad
 
--- one record more, with a body of so many bytes, which uses room that was made
+-- one record more, with a body of this many bytes, which uses room that was made
 abbrev pub appended : ℕ → Log → Log
 appended count log = record {
   offsets = log.offsets ++ log.end ∷ [];

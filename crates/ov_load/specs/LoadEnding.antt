@@ -18,13 +18,14 @@ use Rattle.ov_load.specs.Loading.{EndsLoad, KeepsSome, LastsAs, after_first, aft
 use Rattle.ov_load.specs.declared.load_words.Load.{Load}
 use Rattle.ov_load.specs.declared.tally.Tally.{Tally}
 
--- the image stands for the history after so many first commands of the workload, or after one more
+-- the image stands for the history after this many first commands of the workload, or after one
+-- more
 abbrev pub KeepsAt : Masters → PlainHistory → Load → ℕ → Image → Type 0
 KeepsAt k h load place c =
     StandsForPlain k (after_first h load place) c
     ⊎ StandsForPlain k (after_first h load (suc place)) c
 
--- a front of what is asked and replied for the command behind so many, or for the end of the load
+-- a front of what is asked and replied for the command behind this many, or for the end of the load
 abbrev pub IsFrontAt : Masters → PlainHistory → Load → ℕ → List ℕ → Type 0
 IsFrontAt k h load place bytes =
     ((place < WORKLOAD_USERS + load.count)
@@ -32,7 +33,7 @@ IsFrontAt k h load place bytes =
     ⊎ ((place ≡ WORKLOAD_USERS + load.count)
     × IsTranscriptFront k (after_first h load place) AskEpoch bytes)
 
--- where these bytes are the whole transcript of the command behind so many, the image stands for
+-- where these bytes are the whole transcript of the command behind this many, the image stands for
 -- the history with that command too
 abbrev pub IsMadeAt : Masters → PlainHistory → Load → ℕ → List ℕ → Image → Type 0
 IsMadeAt k h load place bytes c =
@@ -40,7 +41,7 @@ IsMadeAt k h load place bytes c =
     → Transcribed k (after_first h load place) (command_at load.number place) bytes
     → StandsForPlain k (after_first h load (suc place)) c
 
--- The transcripts of so many first commands were put, and perhaps a front of what comes next; and
+-- The transcripts of this many first commands were put, and perhaps a front of what comes next; and
 -- where this holds of the disk from before, each image that a crash may leave of it now stands for
 -- the history after these commands, or after one more: after one more, where the front is all of
 -- that one's transcript.

@@ -33,7 +33,7 @@ use Rattle.ov_load.specs.declared.tally.Tally.{Tally}
 
 -- ---- what is kept
 
--- the history after the first so many commands of the workload
+-- the history after this many first commands of the workload
 abbrev pub after_first : PlainHistory → Load → ℕ → PlainHistory
 after_first h load place = after_all h (first_commands load.number place)
 
@@ -106,7 +106,7 @@ module _ {D : Type 0} (tells : DiskTells D) where
       Holds tells k h first.disk → LeavesStep tells k h command first.disk last.disk
   TalliesAt k h command before now first last (Err (Tag bad)) = ⊥
 
-  -- The first so many commands of the workload were answered, and their replies tallied.
+  -- This many first commands of the workload were answered, and their replies tallied.
   pub record LoadedTo (k : Masters) (h : PlainHistory) (load : Load) (place : ℕ) (tally : Tally)
       (first last : KeptOn D) : Type 0 where
     pub counts : tally.counts

@@ -47,7 +47,7 @@ module _ (k : Masters) (command : Command) (e : Errand) (d : Does k command e) (
   abbrev AsSent : Type 0
   AsSent = CanSend k.surface e (Sends [] epoch u)
 
-  -- so many bytes were put, of which the reply has so many
+  -- the bytes that were put are those of the request, of a reply of `n` bytes, and of their length fields
   module _ (last_served : Service) (n : ℕ) (five : AsSent → n ≡ 5) where
     abbrev Wanted : Type 0
     Wanted = last_served.history ≡ sealed k (after p command)

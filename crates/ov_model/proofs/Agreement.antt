@@ -48,7 +48,7 @@ same r bytes = refl
 set_alike : AreAlike (bytes_at 32) (set_at 32)
 set_alike bytes = sym (rest-made set_of_bytes (bytes_at 32 bytes))
 
--- the bytes of so many tokens, at once and one after the other
+-- the bytes of this many tokens, at once and one after the other
 -- (as what is left, or none where they are too few)
 abbrev cut_off : ℕ → List ℕ → Rest
 cut_off n bytes = cond (ltb (length bytes) n) (Err 0) (Ok (drop n bytes))

@@ -84,7 +84,7 @@ module _ (k : Masters) (command : Command) (e : Errand) (d : Does k command e) (
   abbrev here : SealedHistory → Service
   here g = under k.surface base_check g
 
-  -- from a stage on the frames have at most so many bytes
+  -- from a stage on the frames have at most this many bytes
   abbrev most : Stage → ℕ
   most (Asks tries least) = (4 + first) + (4 + told) + (50 + sent)
   most (Sends tries epoch u) = 50 + sent

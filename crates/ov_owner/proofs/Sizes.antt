@@ -49,7 +49,7 @@ numbers_short : (numbers : List ℕ) → length (flat_map u32 numbers) ≡ 4 * l
 numbers_short [] = refl
 numbers_short (n ∷ numbers) = let k = numbers_short numbers in omega (arith, k)
 
--- a list of so many names has no more users
+-- a list of this many names has no more users
 set_few : (users names : List (List ℕ)) (set : ℕ) → size (set_with users set names) ≤ size set + length names
 set_few users [] set = omega arith
 set_few users (name ∷ names) set =

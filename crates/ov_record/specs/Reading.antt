@@ -1,4 +1,4 @@
--- Reading updates from left to right, with sets in so many bytes.
+-- Reading updates from left to right, with sets in a given number of bytes.
 use Rattle.std.specs.Prelude.{ℕ, zero, suc, List, [], ◌∷◌, length, Option, Result, Err}
 use Rattle.std.specs.Int.{w32}
 use Rattle.ov_base.specs.declared.limits.TheConstants.{MAX_USERS, MAX_FILE_BYTES}

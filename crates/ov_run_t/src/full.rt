@@ -86,7 +86,7 @@ fn filled(alloc: Global, head: &str, size: u32, end: &[u8]) -> Result<Vec<u8>, A
     Ok(text)
 }
 
-// Asserts that a file of so many bytes is created and read.
+// Asserts that a file of this many bytes is created and read.
 fn assert_file(rt: &impl Abort, alloc: Global, size: u32) -> Result<(), AllocError> {
     let script = filled(alloc, "enrol a\ncreate f a ", size, b"\nread a f\n")?;
     let lines = filled(alloc, "ok 1\nok 2\ndata a f ", size, b"\nend epoch 2\n")?;

@@ -131,7 +131,7 @@ fn answers(granted: bool) -> &'static Row<'static> {
     if granted { &WITH } else { &WITHOUT }
 }
 
-// Asserts that a stop after so many calls leaves the grant, or doesn't.
+// Asserts that a stop after this many calls leaves the grant, or doesn't.
 fn assert_left(
     rt: &impl Abort,
     alloc: Global,
@@ -147,8 +147,8 @@ fn assert_left(
     Ok(())
 }
 
-// Asserts that a stop leaves the grant from the call on of which so many come behind it. The grant
-// makes the last four calls.
+// Asserts that a stop leaves the grant from the call on of which this many come behind it. The
+// grant makes the last four calls.
 fn assert_stops(
     rt: &impl Abort,
     alloc: Global,

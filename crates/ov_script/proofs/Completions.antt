@@ -117,7 +117,7 @@ whole_needs text (word, rest, e, p) =
     let word_size : 5 ≤ length (spelling word) + fewest_behind word = shortest_word word in
     omega arith
 
--- at least so many bytes
+-- at least this many bytes
 abbrev pub AtLeast : Option ℕ → ℕ → Type 0
 AtLeast None count = ⊥
 AtLeast (Some n) count = n ≤ count
@@ -135,7 +135,7 @@ fits_needs (InSize (Some n)) text p = omega arith
 fits_needs Done text p = omega arith
 fits_needs Never text p = p
 
--- ---- and some text has so many bytes
+-- ---- and some text has this many bytes
 
 abbrev Followed : (List ℕ → Type 0) → ℕ → Type 0
 Followed P n = (text : List ℕ) × P text × (length text ≡ n)

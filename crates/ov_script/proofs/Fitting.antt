@@ -54,7 +54,7 @@ Behind Read = NameThen (Follows LastName) 0
 Behind Word-List = NameThen (Follows End) 0
 Behind Epoch = IsNothing
 
--- the rest of a word of which so many bytes came, and what follows it
+-- the rest of a word of which this many bytes came, and what follows it
 abbrev pub RestOfWord : Word → ℕ → List ℕ → Type 0
 RestOfWord word count text =
     (count < length (spelling word)) × ((rest : List ℕ) × (text ≡ drop count (spelling word) ++ rest) × Behind word rest)

@@ -8,7 +8,7 @@ use Rattle.ov_base.specs.Names.{is_name_byte, IsName}
 use Rattle.ov_script.specs.LineFronts.{is_named}
 use Rattle.ov_script.proofs.WordBytes.{name_parts, name_from}
 
--- the rest of a name of which so many bytes came
+-- the rest of a name of which this many bytes came
 abbrev pub RestOfName : ℕ → List ℕ → Type 0
 RestOfName count [] = 0 < count
 RestOfName count (b ∷ more) = (is_named count b ≡ true) × RestOfName (count + 1) more

@@ -27,8 +27,8 @@ use Rattle.ov_script.specs.declared.find.Seen.TheVariants.{Whole, Open}
 use Rattle.ov_script.specs.declared.item.Item.{Item}
 use Rattle.ov_script.specs.declared.next.Next.TheVariants.{Command as Command-Next}
 
--- The text is these bytes and then what is left behind them, where that is told, and so many bytes
--- of it may be read. This line is at its front; or no item is read from it.
+-- The text is these bytes and then what is left behind them, where that is told, and this many
+-- bytes of it may be read. This line is at its front; or no item is read from it.
 abbrev pub Finds : ℕ → List ℕ → Option (List ℕ) → Result Line Ended → Type 0
 Finds room bytes left (Ok found) =
     (line rest : List ℕ) × NoLf line × SaysLine line found.said
@@ -48,15 +48,16 @@ IsSettled room bytes (Ok (Open front)) = (front ≡ run Start bytes) × IsOpen r
 IsSettled room bytes (Err ended) =
     (left : Option (List ℕ)) → IsWhyNone room (prepend_known bytes left) ended
 
--- What follows a line that has a body of so many bytes is no body and LF: the input ends
+-- What follows a line that has a body of this many bytes is no body and LF: the input ends
 -- inside it, or no LF follows it.
 pub data IsBadBody (room size : ℕ) (text : List ℕ) : Type 0 where
   cut : length text ≤ room → length text ≤ size → IsBadBody room size text
   no_lf : (body rest : List ℕ) (b : ℕ) → length body ≡ size → size < room → b ≢ 10
       → text ≡ body ++ b ∷ rest → IsBadBody room size text
 
--- Why this text, where it is told, doesn't begin with a body of so many bytes and its LF: there is
--- no such body, or the input goes on past what may be read, before that LF. A fault says nothing.
+-- Why this text, where it is told, doesn't begin with a body of this many bytes and its LF: there
+-- is no such body, or the input goes on past what may be read, before that LF. A fault says
+-- nothing.
 abbrev pub IsWhyNoBody : ℕ → ℕ → Option (List ℕ) → Ended → Type 0
 IsWhyNoBody room size text End = ⊥
 IsWhyNoBody room size text Bad = IfSome text (IsBadBody room size)
@@ -69,7 +70,7 @@ NeedsPieces tells room old new more =
     TakesPieces tells (λ seen. IsUnsettled room (old.pending ++ seen))
     old.source new.source more
 
--- A body of so many bytes and its LF were used, which may be read; or there is none.
+-- A body of this many bytes and its LF were used, which may be read; or there is none.
 abbrev pub Gathers : {S : Type 0} → SourceTells S → ℕ → ℕ → Fed S → Fed S
     → Result (Vec ℕ Global) Ended → Type 0
 Gathers tells room size old new (Ok bytes) =
@@ -97,7 +98,7 @@ TakesLf tells old new Other =
     IfSome (text_of tells old) (λ text. (b : ℕ) × (rest : List ℕ) × (b ≢ 10) × (text ≡ b ∷ rest))
 TakesLf tells old new Nothing = IfSome (text_of tells old) (λ text. text ≡ [])
 
--- What follows the line of a `create`, of so many bytes, makes an item, or there is none.
+-- What follows the line of a `create`, of this many bytes, makes an item, or there is none.
 abbrev pub Creates : {S : Type 0} → SourceTells S → ℕ → List ℕ × List (List ℕ) → ℕ → ℕ → Fed S
     → Fed S → Result Item Ended → Type 0
 Creates tells room names line size old new (Ok item) =
@@ -107,7 +108,8 @@ Creates tells room names line size old new (Ok item) =
 Creates tells room names line size old new (Err ended) =
     IsWhyNoBody (room - line) size (text_of tells old) ended
 
--- An item that says this command, with so many bytes and so many LF, was used; or there is none.
+-- An item that says this command, with this many bytes and this many LF, was used; or there is
+-- none.
 abbrev pub Tells : {S : Type 0} → SourceTells S → ℕ → Fed S → Fed S → Result Item Ended → Type 0
 Tells tells room old new (Ok item) =
     (bytes : List ℕ) × IsItem bytes item.command × (length bytes ≡ item.size) × (item.size ≤ room)

@@ -30,7 +30,8 @@ SaysCreate line file names size =
     × (length line < MAX_LINE_BYTES)
     × (line ≡ spaced (codes "create" ∷ file ∷ list ∷ decimal size ∷ []))
 
--- The line of a `create` has so many bytes as its last word says and one LF behind it.
+-- The line says this: a whole command, or a `create` that has as many bytes as the line's last word
+-- says and one LF behind it.
 abbrev pub SaysLine : List ℕ → FirstLine → Type 0
 SaysLine line (Whole command) = SaysWhole line command
 SaysLine line (WithBody file names size) = SaysCreate line file names size

@@ -21,7 +21,7 @@ line_of words = spaced words ++ 10 ∷ []
 abbrev pub create_line : List ℕ → List ℕ → ℕ → List ℕ
 create_line file list size = line_of (codes "create" ∷ file ∷ list ∷ decimal size ∷ [])
 
--- These bytes are one item, which says this command: a line, and behind that of a `create` so many
+-- These bytes are one item, which says this command: a line, and behind that of a `create` as many
 -- bytes as its last word says, and one LF. Only the line of a `create` could be longer than a line
 -- may be.
 abbrev pub IsItem : List ℕ → Command → Type 0

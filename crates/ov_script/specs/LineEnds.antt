@@ -49,11 +49,11 @@ fewest_more (InSize (Some size)) = Some 0
 fewest_more Done = Some 0
 fewest_more Never = None
 
--- Whether a line of so many bytes has room for this many more, if any make it whole, and its LF.
+-- Whether a line of this many bytes has room for this many more, if any make it whole, and its LF.
 abbrev pub has_room : Option ℕ → ℕ → Bool
 has_room None count = false
 has_room (Some more) count = nat_lt (count + more) MAX_LINE_BYTES
 
--- Whether a line may begin with this front, which has so many bytes.
+-- Whether a line may begin with this front, which has this many bytes.
 abbrev pub may_go_on : Front → ℕ → Bool
 may_go_on front count = has_room (fewest_more front) count

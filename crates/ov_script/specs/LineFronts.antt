@@ -96,7 +96,7 @@ name_by true is_whole next count b = InName next (count + 1)
 name_by false true next count b = end_by (b == 32) (b == 44) next
 name_by false false next count b = Never
 
--- Whether a name of which so many bytes came goes on with this byte.
+-- Whether a name of which this many bytes came goes on with this byte.
 abbrev pub is_named : ℕ → ℕ → Bool
 is_named zero b = is_letter_or_digit b
 is_named (suc n) b = nat_lt (suc n) 64 && is_name_byte b

@@ -9,7 +9,7 @@ use Rattle.ov_script.specs.declared.next.ScriptFault.TheVariants.{Read}
 abbrev pub IsReadFault : {T : Type 0} → Result T Ended → Type 0
 IsReadFault result = result ≡ Err (Fault Read)
 
--- Why no item is read from this text, where it is told and so many bytes of it may be read: it
+-- Why no item is read from this text, where it is told and this many bytes of it may be read: it
 -- ends, a bad item is there, or it is too long. A fault says nothing of the text.
 abbrev pub IsWhyNone : ℕ → Option (List ℕ) → Ended → Type 0
 IsWhyNone room text End = IfSome text (λ t. t ≡ [])

@@ -12,7 +12,7 @@ pub data Ending : Type 0 where
   BadAt : (line : ℕ) → Ending
   TooLong : Ending
 
--- What is here is a bad item, where so many bytes more may be read: the input ends inside it,
+-- What is here is a bad item, where this many bytes more may be read: the input ends inside it,
 -- or what may be read of it can't begin an item.
 pub data IsBad (room : ℕ) (text : List ℕ) : Type 0 where
   cut : 0 < length text → length text ≤ room → (BeginsWithItem text → ⊥) → IsBad room text
@@ -25,7 +25,7 @@ pub record IsTooLong (room : ℕ) (text : List ℕ) : Type 0 where
   pub none_fits : (item rest : List ℕ) (command : Command)
       → text ≡ item ++ rest → IsItem item command → room < length item
 
--- The text, which begins on this line and of which so many bytes may be read, is these commands,
+-- The text, which begins on this line and of which this many bytes may be read, is these commands,
 -- and the reading ends so.
 abbrev pub Reads : ℕ → ℕ → List ℕ → List Command → Ending → Type 0
 Reads line room text [] AtEnd = text ≡ []

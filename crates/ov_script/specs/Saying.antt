@@ -9,7 +9,7 @@ use Rattle.ov_script.specs.Reading.{IsBad, IsTooLong}
 use Rattle.ov_script.specs.declared.next.Next.{Next}
 use Rattle.ov_script.specs.declared.next.Next.TheVariants.{Command, End, BadLine, Long}
 
--- The text, which begins on this line and of which so many bytes may be read, begins with what
+-- The text, which begins on this line and of which this many bytes may be read, begins with what
 -- `next` says; the line, the room and the rest are then these.
 abbrev pub Says : ℕ → ℕ → List ℕ → Next → ℕ → ℕ → Option (List ℕ) → Type 0
 Says line room text (Command command) line' room' rest =

@@ -42,7 +42,7 @@ created Revokes = 0
 created Reads = 0
 created Lists = 0
 
--- How many files the first so many drawn commands create.
+-- How many files the first drawn commands create, of which there are this many.
 abbrev pub creations : ℕ → ℕ → ℕ
 creations number zero = 0
 creations number (suc i) = creations number i + created (drawn_at number i).kind
@@ -60,7 +60,7 @@ abbrev pub and_if : Bool → List (List ℕ) → List ℕ → List (List ℕ)
 and_if true names name = names ++ name ∷ []
 and_if false names name = names
 
--- Of the first so many users those whose bit of the word is set.
+-- The users, of the first ones up to this number, whose bit of the word is set.
 abbrev pub users_in : ℕ → ℕ → List (List ℕ)
 users_in who zero = []
 users_in who (suc k) = and_if (has who k) (users_in who k) (user k)
@@ -70,7 +70,7 @@ abbrev pub body : ℕ → ℕ → List ℕ
 body i zero = []
 body i (suc j) = body i j ++ (i + j) % 256 ∷ []
 
--- The command that is drawn so, as number i, where so many files were created before.
+-- The command that is drawn so, as number i, where this many files were created before.
 abbrev pub command_by : Kind → ℕ → ℕ → ℕ → ℕ → Command
 command_by Creates i made who what =
     Create (file made) (users_in who WORKLOAD_USERS) (body i (what % 4096))
@@ -97,16 +97,16 @@ enrols_or_draws false number place = drawn_command number (place - WORKLOAD_USER
 abbrev pub command_at : ℕ → ℕ → Command
 command_at number place = enrols_or_draws (nat_lt place WORKLOAD_USERS) number place
 
--- The first so many commands of a number, one after another.
+-- This many first commands of a number, one after another.
 abbrev pub first_commands : ℕ → ℕ → List Command
 first_commands number zero = []
 first_commands number (suc place) = first_commands number place ++ command_at number place ∷ []
 
--- The workload of a number with so many drawn commands.
+-- The workload of a number with this many drawn commands.
 abbrev pub workload : ℕ → ℕ → List Command
 workload number count = first_commands number (WORKLOAD_USERS + count)
 
--- A workload of a number with so many drawn commands, and the place of its next command.
+-- A workload of a number with this many drawn commands, and the place of its next command.
 pub record Progress : Type 0 where
   pub number : ℕ
   pub count : ℕ

@@ -57,7 +57,7 @@ fn move_pending<S: Source + Drop>(
     Ok(())
 }
 
-// Gathers so many bytes, or none where the text ends before.
+// Gathers this many bytes, or none where the text ends before.
 fn gather<S: Source + Drop>(
     feed: &mut Feed<S>,
     count: usize,

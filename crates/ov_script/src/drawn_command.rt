@@ -61,7 +61,7 @@ fn body(first: u32, length: u32, alloc: Global) -> Result<Octets, Memory>
     Ok(Octets::from_vec(bytes))
 }
 
-/// Drawn command `i`, where so many files were created before.
+/// Drawn command `i`, where this many files were created before.
 pub fn command_by(i: u32, made: u32, drawn: Drawn, alloc: Global) -> Result<Command, Memory>
     requires { i ≤ MAX_WORKLOAD }
     ensures { IfOk result (λ command. command ≡ command_by drawn.kind i made drawn.who drawn.what) }

@@ -88,7 +88,8 @@ fn front_of(bytes: &[u8], room: usize) -> Ended
     }
 }
 
-// Whether the line may go on, of which so many bytes came: `front` is read, and the rest is fresh.
+// Whether the line may go on, of which this many bytes came: `front` is read, and the rest is
+// fresh.
 fn open_or_bad(front: Front, fresh: &[u8], count: usize) -> Result<Seen, Ended>
     ensures { MatchBool (may_go_on (run front fresh.now) count)
         (result ≡ Ok (Seen.Open (run front fresh.now)))

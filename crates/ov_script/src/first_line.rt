@@ -21,7 +21,7 @@ use std::alloc::Global;
 pub enum FirstLine {
     /// The whole item.
     Whole(Command),
-    /// A `create`, whose line has so many bytes and one LF behind it.
+    /// A `create`, whose line has this many bytes and one LF behind it.
     WithBody {
         file: Name,
         list: Names,

@@ -183,7 +183,7 @@ fn is_letter_or_digit(byte: u8) -> bool
     byte.is_ascii_lowercase() || byte.is_ascii_digit()
 }
 
-// Whether a name of which so many bytes came goes on with this byte.
+// Whether a name of which this many bytes came goes on with this byte.
 fn is_named(count: usize, byte: u8) -> bool
     ensures { result ≡ is_named count byte }
 {

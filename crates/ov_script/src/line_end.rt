@@ -59,7 +59,7 @@ fn fewest_more(front: Front) -> Option<usize>
     }
 }
 
-/// Whether a line may begin with this front, which has so many bytes.
+/// Whether a line may begin with this front, which has this many bytes.
 pub fn may_go_on(front: Front, count: usize) -> bool
     ensures { result ≡ may_go_on front count }
 {

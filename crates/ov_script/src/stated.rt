@@ -36,7 +36,7 @@ impl Model for Workload {
 }
 
 impl Workload {
-    /// The workload of this number, with so many commands behind its enrolments.
+    /// The workload of this number, with this many commands behind its enrolments.
     pub fn new(alloc: Global, number: u64, count: u32) -> Workload
         requires { count ≤ MAX_WORKLOAD }
         ensures { result ≡ record { number = number; count = count; place = 0 } }

@@ -161,7 +161,7 @@ fn scripts_and_what_they_say(rt: HostRuntime) -> Result<(), Fail> {
     Ok(())
 }
 
-// A `create` of so many bytes, each fifth of which is an LF, and a line that is no item.
+// A `create` of this many bytes, each fifth of which is an LF, and a line that is no item.
 fn with_body(alloc: Global, size: usize) -> Result<Vec<u8>, Fail> {
     let head = format!(in alloc; "create f a {size}\n")?;
     let mut text = head.as_bytes().to_vec(alloc)?;
@@ -172,7 +172,8 @@ fn with_body(alloc: Global, size: usize) -> Result<Vec<u8>, Fail> {
     Ok(text)
 }
 
-/// Makes sure that a script has a `create` of so many bytes, and then a bad line with this number.
+/// Makes sure that a script has a `create` of this many bytes, and then a bad line with this
+/// number.
 fn expect_body(
     rt: &impl Abort,
     mut script: Script<MemSource>,
@@ -210,7 +211,7 @@ fn bodies_of_many_sizes(rt: HostRuntime) -> Result<(), Fail> {
     Ok(())
 }
 
-// A body of so many bytes between these texts.
+// A body of this many bytes between these texts.
 fn with_last(alloc: Global, before: &[u8], size: usize, behind: &[u8]) -> Result<Vec<u8>, Fail> {
     let mut text = vec![in alloc; b'x'; size]?;
     text.extend_from_slice(behind)?;
@@ -232,7 +233,8 @@ fn the_longest_body(rt: HostRuntime) -> Result<(), Fail> {
     expect_body(&rt, script, MAX_FILE_BYTES as usize, 4)
 }
 
-// A `create` whose line has so many bytes, its LF included: the name `a` again and again, and `b`.
+// A `create` whose line has this many bytes, its LF included: the name `a` again and again, and
+// `b`.
 fn with_line(alloc: Global, size: usize) -> Result<Vec<u8>, Fail> {
     let mut text = b"create f ".to_vec(alloc)?;
     for _ in 0..size.saturating_sub(13) / 2 {

@@ -60,7 +60,7 @@ fn planned_in(answer: Answer) -> Option<Planned<WIDTH>>
     }
 }
 
-/// The answer to a Cover of a file of so many bytes.
+/// The answer to a Cover of a file of this many bytes.
 fn answer_cover(
     alloc: Global,
     state: &Catalogue,

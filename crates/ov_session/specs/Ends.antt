@@ -46,8 +46,8 @@ pub record EndsAtLength {A : Type 0} (tells : AskerTells A) (a b : A) (old new :
   pub bad : IsBadLength rest
   pub stands : place ≡ later 0 (requests all.exchanges)
 
--- the input ended inside a frame, after so many bytes; a number past the last one of 64 bits stays
--- there
+-- the input ended inside a frame, after this many bytes; a number past the last one of 64 bits
+-- stays there
 pub record EndsInside {A : Type 0} (tells : AskerTells A) (a b : A) (old new : Link) (place : ℕ)
     : Type 0 where
   pub taken : List ℕ

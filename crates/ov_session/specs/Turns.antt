@@ -11,7 +11,7 @@ abbrev pub TellsMany : {S : Type 0} → Option (List (Given S)) → ℕ → Type
 TellsMany None number = Unit {0}
 TellsMany (Some streams) number = length streams ≡ number
 
--- the door has given so many streams
+-- the door has given this many streams
 pub record IsAt {S : Type 0} (d : Doorway S) (number : ℕ) : Type 0 where
   pub given : d.given ≡ number
   pub told : TellsMany d.told number

@@ -59,7 +59,7 @@ fn serve_next<R: Wait, D: Door, V: Answerer>(
     }
 }
 
-/// Serves the sessions of a door one after the other, at most so many: how many there were, and
+/// Serves the sessions of a door one after the other, at most this many: how many there were, and
 /// whether the door failed.
 pub fn serve_each<R: Wait, D: Door, V: Answerer>(
     rt: &R,

@@ -13,7 +13,7 @@ use Rattle.ov_state.specs.Entries.{filed_names, numbered, plain_file, plain_file
 use Rattle.ov_state.specs.declared.files.FileEntry.{FileEntry}
 use Rattle.ov_base.proofs.Tests.{ge_of_false, lt_of_true}
 
--- what a look-up gives among so many names, of which the first has this number
+-- what a look-up gives among this many names, of which the first has this number
 abbrev pub IsNumberFrom : ℕ → ℕ → ℕ → Option ℕ → Type 0
 IsNumberFrom number n place None = place ≡ n
 IsNumberFrom number n place (Some found) = (found ≡ number + place) × (place < n)

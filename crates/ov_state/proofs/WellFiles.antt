@@ -25,7 +25,7 @@ bytes_in-append (first ∷ files) f = omega (arith, bytes_in-append files f)
 
 -- ---- the bytes of each file
 
--- each of these files has at most so many bytes
+-- each of these files has at most this many bytes
 abbrev pub AllWithin : ℕ → List Filed → Type 0
 AllWithin most [] = Unit {0}
 AllWithin most (f ∷ files) = (f.length ≤ most) × AllWithin most files

@@ -108,7 +108,7 @@ Fits limit users files sets grants (Access grant) =
     × ¬ Has (holders_in sets (accesses_of grants) grant.node) grant.user
 Fits limit users files sets grants Nothing = Unit {0}
 
--- each of the rewrites is of one of so many files
+-- each of the rewrites is of one of this many files
 abbrev pub AreOfFiles : ℕ → List Rewrite → Type 0
 AreOfFiles files [] = Unit {0}
 AreOfFiles files (r ∷ rewrites) = (r.file < files) × AreOfFiles files rewrites
@@ -125,7 +125,7 @@ abbrev pub listed_if : {W : ℕ} → Option (NewNode W) → List (NewNode W)
 listed_if None = []
 listed_if (Some new) = new ∷ []
 
--- there is room for so many more users, files and access tokens, or what grows is none of these
+-- there is room for this many more users, files and access tokens, or what grows is none of these
 abbrev pub GrowsWithin : ℕ → ℕ → ℕ → Growth → Type 0
 GrowsWithin users files grants (User name) = 1 ≤ users
 GrowsWithin users files grants (File file) = 1 ≤ files

@@ -10,7 +10,7 @@ use Rattle.ov_state.specs.declared.change.Growth.TheVariants.{User, File}
 use Rattle.ov_state.specs.declared.change.Change.{Change}
 use Rattle.ov_state.specs.declared.site.Site.{Site}
 
--- the node of a user alone, after so many nodes
+-- the node of a user alone, after this many nodes
 abbrev pub alone : {W : ℕ} → ℕ → ℕ → NewNode W
 alone nodes user = record {
   set = single user;

@@ -15,7 +15,7 @@ pub enum Brief<const W: usize> {
     Enrol {
         name: Name,
     },
-    /// A file of so many bytes is created for the users of a list, with the tokens of the edges
+    /// A file of this many bytes is created for the users of a list, with the tokens of the edges
     /// into the list's node, where that is a new one, and with the tag of its plaintext.
     Create {
         name: Name,

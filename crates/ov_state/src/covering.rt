@@ -83,8 +83,8 @@ impl<B: Graph<Base, W>, S: Graph<Surface, W>, const W: usize> State<B, S, W> {
         })
     }
 
-    /// What is told of a file of so many bytes that is to be created for the users of these names.
-    /// It is refused exactly where the creation is.
+    /// What is told of a file of this many bytes that is to be created for the users of these
+    /// names. It is refused exactly where the creation is.
     pub fn cover(
         &self,
         alloc: Global,

@@ -20,7 +20,7 @@ use ov_base::{Name, UserSet};
 use ov_graph::Graph;
 use ov_tokens::{Base, Surface};
 
-/// Whether each user of the set is one of so many.
+/// Whether each user of the set is one of this many.
 fn are_users<const W: usize>(users: u32, set: &UserSet<W>) -> bool
     requires { (1 ≤ W) × (W ≤ MAX_SET_WORDS) }
     ensures { result ≡ within set.now (everyone users) }
@@ -130,7 +130,7 @@ impl<B: Graph<Base, W>, S: Graph<Surface, W>, const W: usize> State<B, S, W> {
         self.files.count() >= MAX_FILES
     }
 
-    /// Whether the files would have more bytes than a store holds, with so many more.
+    /// Whether the files would have more bytes than a store holds, with this many more.
     pub(crate) fn is_full_of_bytes(&self, more: u32) -> bool
         requires { more ≤ MAX_FILE_BYTES }
         ensures { result ≡ nat_lt MAX_STORE_BYTES

@@ -19,7 +19,7 @@ use ov_graph::{Cover, Graph};
 use ov_tokens::{Base, Master, Numbers, Surface, Tokens};
 use std::alloc::Global;
 
-/// The node of a new user alone, after so many nodes. It takes no memory.
+/// The node of a new user alone, after this many nodes. It takes no memory.
 fn alone<const W: usize>(alloc: Global, nodes: u32, user: u32) -> NewNode<W>
     requires width { (1 ≤ W) × (W ≤ MAX_SET_WORDS) }
     requires user { user < 64 * W }
@@ -46,7 +46,7 @@ fn only<T: Drop>(alloc: Global, item: T) -> Result<Vec<T>, Memory>
 }
 
 /// The place of the number of tokens in the spelling of a creation of a file of this name, whose
-/// list has so many words.
+/// list has this many words.
 fn tokens_place(name: &Name, words: usize) -> u32
     requires { words ≤ MAX_SET_WORDS }
     ensures { result ≡ 1 + (1 + length name.now) + 8 * words }
@@ -103,7 +103,7 @@ impl<B: Graph<Base, W>, S: Graph<Surface, W>, const W: usize> State<B, S, W> {
         Ok(self.enrolment(alloc, name)?)
     }
 
-    /// Why a creation of a file of so many bytes is refused, if it is before its nodes and its
+    /// Why a creation of a file of this many bytes is refused, if it is before its nodes and its
     /// epoch are looked at.
     pub(crate) fn refusal_create(
         &self,

@@ -54,7 +54,7 @@ fn name(rt: &impl Abort, text: &[u8]) -> Name {
     Name::read(text).expect(rt, "a name")
 }
 
-/// The creation of a file for a and b, with so many tokens.
+/// The creation of a file for a and b, with this many tokens.
 fn create(rt: &impl Abort, alloc: Global, text: &[u8], count: u32) -> Update<WIDTH>
     ensures { IsFitting (brief (sealed_update result)) }
 {

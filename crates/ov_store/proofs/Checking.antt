@@ -66,7 +66,7 @@ owners_push k h [] u all one = (one, tt)
 owners_push k h (v ∷ us) u all one =
     (all.0, owners_push k (with_update h (outer (brief v))) us u all.1 one)
 
--- ---- after so many records
+-- ---- after this many records
 
 -- The catalogue is that of the history's first `i` updates, which are as their owner seals them.
 pub record FollowedTo (k : Masters) (g : SealedHistory) (i : ℕ) (c : Catalogue) : Type 0 where

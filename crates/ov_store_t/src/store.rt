@@ -159,7 +159,7 @@ fn epoch_on<D: Disk + Drop>(alloc: Global, disk: D) -> Option<u32> {
     }
 }
 
-/// What a stop after so many calls leaves.
+/// What a stop after this many calls leaves.
 fn image(rt: &impl Abort, disk: &MemDisk, call: u64, tear: Tear) -> MemDisk {
     assert!(rt; call <= disk.calls());
     disk.image(call, tear).expect(rt, "memory")
@@ -167,7 +167,7 @@ fn image(rt: &impl Abort, disk: &MemDisk, call: u64, tear: Tear) -> MemDisk {
 
 // ---- books
 
-/// Whether Book has these bytes from a place on, once so many updates were acknowledged.
+/// Whether Book has these bytes from a place on, once this many updates were acknowledged.
 fn has(rt: &impl Abort, disk: &MemDisk, call: u64, from: usize, bytes: &[u8]) -> bool {
     let left = image(rt, disk, call, Tear::Old);
     let (_, rest) = left.book().split_at(from.min(left.book().len()));
@@ -201,7 +201,7 @@ fn books_of_a_new_store_and_two_users(rt: HostRuntime) {
 
 // ---- stops and faults
 
-/// Whether the store on an image has the updates that were acknowledged before so many calls, or
+/// Whether the store on an image has the updates that were acknowledged before this many calls, or
 /// one more.
 fn is_right(alloc: Global, image: MemDisk, calls: &[u64], call: u64) -> bool {
     let mut least = 0u32;
@@ -240,7 +240,7 @@ fn a_stop_after_each_call(rt: HostRuntime) {
     }
 }
 
-/// The disk of a store at which this call failed, once so many updates were acknowledged. The
+/// The disk of a store at which this call failed, once this many updates were acknowledged. The
 /// update in which it failed answers so, and a later one that the store had failed. Of the records
 /// those of the updates that were made are looked at, and not what the failed one may have left
 /// behind them.

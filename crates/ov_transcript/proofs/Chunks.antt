@@ -50,7 +50,7 @@ none_left file generation start size few =
 one_more : (left : ℕ) → 0 < left → chunk_count left ≡ suc (chunk_count (left - MAX_CHUNK_BYTES))
 one_more left some = omega arith
 
--- the next chunk, and those that are left after so many bytes of it
+-- the next chunk, and those that are left after this many bytes of it
 pub next_chunk : (file generation start size got : ℕ) → start < size
     → got ≡ min MAX_CHUNK_BYTES (size - start)
     → chunks_from file generation start (chunk_count (size - start))

@@ -50,7 +50,7 @@ chunks_from file generation start (suc left) =
     requests.Chunk file generation start MAX_CHUNK_BYTES
     ∷ chunks_from file generation (start + MAX_CHUNK_BYTES) left
 
--- how many chunks so many bytes have
+-- how many chunks this many bytes have
 abbrev pub chunk_count : ℕ → ℕ
 chunk_count size = (size + (MAX_CHUNK_BYTES - 1)) / MAX_CHUNK_BYTES
 

@@ -25,7 +25,7 @@ AreRewritten master stored (r ∷ rewrites) (w ∷ more) =
     × (w.bytes ≡ restored master r.old r.new r.file (slice_index_or stored r.file []))
     × AreRewritten master stored rewrites more
 
--- each of these is of one of so many files
+-- each of these is of one of this many files
 abbrev pub AreOfFiles : ℕ → List Rewritten → Type 0
 AreOfFiles files [] = Unit {0}
 AreOfFiles files (w ∷ more) = (w.file < files) × AreOfFiles files more
@@ -49,7 +49,7 @@ EndAt n [] = ⊥
 EndAt n (r ∷ []) = r.file ≡ n
 EndAt n (r ∷ other ∷ rewrites) = (r.file < n) × EndAt n (other ∷ rewrites)
 
--- The rewrites are of so many files that were there and, where there is the text of a new one, of
+-- The rewrites are of this many files that were there and, where there is the text of a new one, of
 -- that behind them.
 abbrev pub SuitText : ℕ → Option (List ℕ) → List StateRewrite → Type 0
 SuitText files None rewrites = AreBelow files (plain_rewrites rewrites)

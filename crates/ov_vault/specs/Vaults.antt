@@ -23,7 +23,7 @@ pub record AreStored (files : List Filed) (stored : List (List ℕ)) : Type 0 wh
 abbrev pub AreShort : List (List ℕ) → Type 0
 AreShort stored = (file : ℕ) → length (slice_index_or stored file []) ≤ MAX_FILE_BYTES
 
--- each of these rewrites is of one of so many files
+-- each of these rewrites is of one of this many files
 abbrev pub AreRewritesOf : ℕ → List Rewrite → Type 0
 AreRewritesOf files [] = Unit {0}
 AreRewritesOf files (r ∷ rewrites) = (r.file < files) × AreRewritesOf files rewrites

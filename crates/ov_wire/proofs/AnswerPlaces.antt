@@ -137,7 +137,7 @@ bytes_stop : {Once : Type 0} (request : Request) (n : ℕ) (front rest : List �
 bytes_stop request n front [] full = at_end refl
 bytes_stop request n front (b ∷ after) full = at_byte b after refl (λ more ok. more_bytes n front b after more full ok)
 
--- bytes that aren't all read are more than so many
+-- bytes that aren't all read are more than this many
 ended_err : (k left : ℕ) (a : Answer) → cond (eqb k 0) (Ok a) (Err k) ≡ Err left → 1 ≤ k
 ended_err zero left a e = absurd cc
 ended_err (suc k) left a e = omega arith

@@ -23,7 +23,7 @@ CreationFits f =
     (((IsName f.0.0.0.0 × Has32 f.0.0.0.1) × AreTokens MAX_USERS f.0.0.1) × Has32 f.0.1)
     × (IsCount (2 ^ 32) MAX_FILE_BYTES (length f.1) × Unit {0})
 
--- the bytes of so many tokens
+-- the bytes of this many tokens
 blocks_reads : (n : ℕ) → Reads (bytes_at (32 * n)) plain (sized_by (λ tokens. length tokens ≡ 32 * (length tokens / 32)) (λ tokens. length tokens / 32) n) (32 * n)
 blocks_reads n =
     let R = bytes_reads (32 * n) in

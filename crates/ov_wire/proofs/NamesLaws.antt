@@ -152,7 +152,7 @@ new_reads n = record {
   short = λ names fits. subst (λ (k : ℕ). length (flat_map name_field names) ≤ k * longest_name) fits.1 (new_short [] names fits.0);
 }
 
--- at most so many names
+-- at most this many names
 pub record AreFewNames (most : ℕ) (names : List (List ℕ)) : Type 0 where
   pub few : length names ≤ most
   pub are_names : AreNames names

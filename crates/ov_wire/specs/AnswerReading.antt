@@ -109,7 +109,7 @@ chained ((((((epoch, file), len), generation), tag), base), surface) =
       surface = surface;
     })
 
--- all bytes that are left, of which there are at most so many
+-- all bytes that are left, of which there are at most this many
 abbrev pub up_to : ℕ → List ℕ → Read (List ℕ)
 up_to count bytes = Ok (take count bytes, drop count bytes)
 

@@ -38,7 +38,7 @@ new_names_at (suc count) seen bytes = do
       else new_names_at count (seen ++ name.0 ∷ []) name.1
   Ok (name.0 ∷ others.0, others.1)
 
--- at most so many names behind their number
+-- at most this many names behind their number
 unfoldable pub names_at : ℕ → List ℕ → Read (List (List ℕ))
 names_at most bytes = do
   count ← number_that w16 (at_most most) bytes

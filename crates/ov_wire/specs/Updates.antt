@@ -55,7 +55,7 @@ pub record IsSpelling (bytes : List ℕ) : Type 0 where
 
 -- ---- reading
 
--- at most so many tokens behind their number
+-- at most this many tokens behind their number
 unfoldable pub tokens_at : ℕ → List ℕ → Read (List ℕ)
 tokens_at most bytes = do
   count ← number_that w16 (at_most most) bytes

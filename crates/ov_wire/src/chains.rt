@@ -23,7 +23,7 @@ pub enum Side {
     Surface,
 }
 
-/// The kind of a label in a chain of so many steps.
+/// The kind of a label in a chain of this many steps.
 #[tactic(auto, unfolding(ov_fields::specs::Reading::one_of_at))]
 fn take_kind(side: Side, count: u16, bytes: &[u8]) -> Result<(Kind, &[u8]), FieldFault>
     ensures { GivesField (λ k. k) result (one_of_at tag_of (kinds_of side count) bytes.now) }
@@ -36,7 +36,7 @@ fn take_kind(side: Side, count: u16, bytes: &[u8]) -> Result<(Kind, &[u8]), Fiel
     }
 }
 
-/// A step of a chain of so many.
+/// A step of a chain of this many steps.
 fn take_step(side: Side, count: u16, bytes: &[u8]) -> Result<(Step, &[u8]), FieldFault>
     ensures { GivesField (λ s. s) result (step_at (kinds_of side count) bytes.now) }
 {

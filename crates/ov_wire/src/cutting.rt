@@ -30,7 +30,7 @@ fn filled_with(head: [u8; 4], filled: usize, front: &[u8]) -> [u8; 4]
     bytes
 }
 
-/// What is at the front of the bytes, of which so many of a length field came before.
+/// What is at the front of the bytes, of which this many of a length field came before.
 pub fn find(head: [u8; 4], filled: usize, bytes: &[u8]) -> Found<'_>
     requires { filled < 4 }
     ensures { IsFound (take filled head ++ bytes.now) result }
@@ -73,7 +73,7 @@ pub struct Cut {
     pub state: State,
 }
 
-/// All that the bytes hold, of which so many of a length field came before.
+/// All that the bytes hold, of which this many of a length field came before.
 pub fn cut_all(alloc: Global, head: [u8; 4], filled: usize, bytes: &[u8]) -> Result<Cut, Memory>
     requires { filled < 4 }
     ensures { IfOk result (λ cut. IsCutting (take filled head ++ bytes.now) cut.frames.items

@@ -34,7 +34,7 @@ fn skip_edge(bytes: &[u8]) -> Result<&[u8], FieldFault>
     Ok(rest)
 }
 
-/// The bytes after so many edges.
+/// The bytes after this many edges.
 fn skip_each_edge(count: u16, bytes: &[u8]) -> Result<&[u8], FieldFault>
     ensures { Gives left_of (λ r. r.now) result (rest_of (many_at edge_at count bytes.now)) }
 {

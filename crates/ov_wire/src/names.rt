@@ -10,7 +10,7 @@ use ov_base::{Memory, Name, Names};
 use ov_fields::{FieldFault, put_name, put_u16, take_name, take_u16_at_most};
 use std::alloc::Global;
 
-/// At most so many names behind their number. One that comes twice is wrong at its length byte.
+/// At most this many names behind their number. One that comes twice is wrong at its length byte.
 #[tactic(auto, unfolding(crate::specs::RequestReading::names_at))]
 pub fn take_names(alloc: Global, most: u16, bytes: &[u8]) -> Result<(Names, &[u8]), FieldFault>
     ensures { GivesField (λ n. n) result (names_at most bytes.now) }

@@ -4,7 +4,7 @@ ghost use Rattle.std.specs.Prelude.{None};
 
 use ov_io::{Fault, Source};
 
-/// Gives bytes, and then the same bytes so many more times.
+/// Gives bytes, and then the same bytes this many more times.
 #[derive(Drop)]
 pub struct Given<'a> {
     bytes: &'a [u8],

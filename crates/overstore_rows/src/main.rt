@@ -38,7 +38,7 @@ use running::ran;
 use std::test::Fail;
 use told::{Told, Untold};
 
-// Prints what a run of a script, which comes so many more times, puts over a new disk.
+// Prints what a run of a script, which comes this many more times, puts over a new disk.
 fn tell_script(
     rt: &HostRuntime,
     name: &str,

@@ -45,7 +45,7 @@ fn set_of_bits<const W: usize>(bits: u32) -> UserSet<W>
     set
 }
 
-/// Sets of twelve users until there are so many nodes, those of one user first.
+/// Sets of twelve users until there are this many nodes, those of one user first.
 fn fill<L: Layer, G: Graph<L, W>, const W: usize>(
     alloc: Global,
     graph: &mut G,
@@ -101,7 +101,8 @@ fn new_sets(alloc: Global) -> Result<Vec<UserSet<4>>, Fail> {
     Ok(sets)
 }
 
-/// Fills a graph with so many nodes, finds those of 256 sets so often, and says how many it found.
+/// Fills a graph with this many nodes, finds those of 256 sets as often as is said, and says how
+/// many it found.
 pub fn finds<G: Graph<Base, 4>>(alloc: Global, nodes: u32, times: u32) -> Result<usize, Fail> {
     let mut graph = G::new(alloc)?;
     fill::<Base, G, 4>(alloc, &mut graph, nodes)?;
@@ -117,8 +118,8 @@ pub fn finds<G: Graph<Base, 4>>(alloc: Global, nodes: u32, times: u32) -> Result
     Ok(found)
 }
 
-/// Fills a graph with one node fewer than so many, plans each of 256 new sets so often, and says
-/// how many edges these would get.
+/// Fills a graph with one node fewer than this many, plans each of 256 new sets as often as is
+/// said, and says how many edges these would get.
 pub fn plans<G: Graph<Base, 4>>(alloc: Global, nodes: u32, times: u32) -> Result<usize, Fail> {
     let mut graph = G::new(alloc)?;
     fill::<Base, G, 4>(alloc, &mut graph, nodes.saturating_sub(1))?;

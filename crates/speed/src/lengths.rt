@@ -12,7 +12,8 @@ const BEGUN_FRAME: &[u8] = b"\x00\x11\x00\x00\x04\x00\x00\x00";
 // A file that announces the most bytes that a file may have, and has five.
 const BEGUN_FILE: &[u8] = b"create f - 1048576\nhello";
 
-/// Feeds so many decoders the front of a longest frame, and keeps them all: how many bytes wait there.
+/// Feeds this many decoders the front of a longest frame, and keeps them all: how many bytes wait
+/// there.
 pub fn frames(alloc: Global, count: u32) -> Result<u64, Fail> {
     let mut decoders = Vec::new(alloc);
     let mut whole = Vec::new(alloc);
@@ -28,7 +29,8 @@ pub fn frames(alloc: Global, count: u32) -> Result<u64, Fail> {
     Ok(waiting)
 }
 
-/// Begins to read so many scripts that end inside a file, and keeps them all: how many are bad there.
+/// Begins to read this many scripts that end inside a file, and keeps them all: how many are bad
+/// there.
 pub fn scripts(alloc: Global, count: u32) -> Result<u64, Fail> {
     let mut kept = Vec::new(alloc);
     let mut bad = 0u64;

@@ -56,7 +56,7 @@ fn add_cut(numbers: &mut Numbers, hasher: &mut Sha256) {
     hasher.update(piece);
 }
 
-/// The pads of so many random cuts, each under a key of its own: the first bytes of their digest.
+/// The pads of this many random cuts, each under a key of its own: the first bytes of their digest.
 pub fn cuts(count: u32) -> usize {
     let mut numbers = Numbers { state: 1 };
     let mut hasher = Sha256::new();

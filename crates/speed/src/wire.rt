@@ -7,7 +7,7 @@ use std::test::Fail;
 // How many bytes come at once.
 const PIECE: usize = 1_400;
 
-// A file of so many bytes makes a frame of 65,536.
+// A file of this many bytes makes a frame of 65,536.
 const BODY: usize = 65_426;
 
 // Frames of updates, each of which creates a file for nobody.

@@ -35,7 +35,7 @@ fn bytes_reply(alloc: Global, bytes: &[u8]) -> Result<Octets, Fail> {
     Ok(Octets::from_vec(reply))
 }
 
-/// The replies that the file's chunks are in, up to so many.
+/// The replies that the file's chunks are in, up to this many.
 fn put_chunks(
     alloc: Global,
     surface: &Key,

@@ -8,7 +8,7 @@ use ov_state::PrepareFault;
 pub enum Step {
     /// A user of this name joins.
     Enrol(&'static [u8]),
-    /// A file of this name is created for these users, with so many tokens.
+    /// A file of this name is created for these users, with this many tokens.
     Create(&'static [u8], &'static [u32], usize),
     /// A user is granted a file, with an access token or without.
     Grant(u32, u32, bool),

@@ -4,7 +4,7 @@ use Rattle.ov_state.specs.NewSets.{AreNew}
 use Rattle.ov_state.specs.Relistings.{wants_after}
 use Rattle.ov_state.proofs.state.State.new_sets.Given as goal
 
--- the wanted sets of so many files have added these
+-- the wanted sets of this many files have added these
 abbrev pub invariant-loop-file : goal.invariant-loop-file
 invariant-loop-file g l =
     let y = outline l.fn.self.catalogue in
