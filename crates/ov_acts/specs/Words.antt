@@ -11,7 +11,7 @@ use Rattle.ov_acts.specs.declared.job.Act.TheVariants.{List as ListNames, Read, 
 use Rattle.ov_acts.specs.declared.job.Job.{Job}
 use Rattle.ov_acts.specs.declared.words.TheConstants.{MAX_WRITTEN_LIST}
 
--- the text is a list of these names, in so few bytes
+-- the text is a list of these names, and isn't too long
 pub record IsWritten (text : List ℕ) (names : List (List ℕ)) : Type 0 where
   pub short : length text ≤ MAX_WRITTEN_LIST
   pub list : IsList text names
@@ -51,7 +51,7 @@ is_option [] = false
 is_option (byte ∷ []) = false
 is_option (byte ∷ (other ∷ bytes)) = byte == 45
 
--- whether one of the words does
+-- whether one of the words looks like an option
 abbrev pub has_option : List (String Global) → Bool
 has_option words = list_any (λ word. is_option (string_bytes word)) words
 

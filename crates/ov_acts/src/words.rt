@@ -201,7 +201,7 @@ fn is_option(word: &str) -> bool
     }
 }
 
-/// Whether one of the words does.
+/// Whether one of the words looks like an option.
 fn has_option(words: &[String]) -> bool
     ensures { result ≡ has_option words.now }
 {

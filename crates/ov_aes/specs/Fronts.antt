@@ -44,9 +44,9 @@ row_for c = (4 - c) % 4
 abbrev pub front_rows : Front → List (List ℕ)
 front_rows front = front.row_0 ∷ front.row_1 ∷ front.row_2 ∷ front.row_3 ∷ []
 
--- of blocks that are this one but for the last byte: the last byte's key; column 0 after round 1
--- without the terms of the last byte; and all of round 2 without the terms of that column. Column 0
--- is arranged by the columns to which round 2 moves its bytes
+-- what a front is of the blocks that are this one but for the last byte: the last byte's key;
+-- column 0 after round 1 without the terms of the last byte; and all of round 2 without the terms
+-- of that column. Column 0 is arranged by the columns to which round 2 moves its bytes
 pub record IsFront (front : Front) (w : List (List ℕ)) (block : List ℕ) : Type 0 where
   pub last : (b c : ℕ) → b < 4 → c < 4
       → from_tower (slice_index front.last (4 * b + c)) ≡ slice_index (word_in w 3) 3

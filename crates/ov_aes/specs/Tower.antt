@@ -30,15 +30,15 @@ both_of y = bit_xor (high_of y) (low_of y)
 abbrev pub first_of : ℕ → ℕ
 first_of y = bit_xor (entry_at INV (high_of y)) (entry_at INVA (low_of y))
 
--- the second step
+-- the second of four steps to the inverse of such a byte
 abbrev pub second_of : ℕ → ℕ
 second_of y = bit_xor (entry_at INV (both_of y)) (entry_at INVA (low_of y))
 
--- the third step, which gives one element of the inverse
+-- the third step to the inverse of such a byte, which gives one element of it
 abbrev pub third_of : ℕ → ℕ
 third_of y = bit_xor (entry_at INV (first_of y)) (both_of y)
 
--- the fourth step, which gives the other
+-- the fourth step to the inverse of such a byte, which gives the other element of it
 abbrev pub fourth_of : ℕ → ℕ
 fourth_of y = bit_xor (entry_at INV (second_of y)) (high_of y)
 
@@ -61,7 +61,7 @@ from_low =
     0x00 ∷ 0x60 ∷ 0xb6 ∷ 0xd6 ∷ 0x29 ∷ 0x49 ∷ 0x9f ∷ 0xff
     ∷ 0x08 ∷ 0x68 ∷ 0xbe ∷ 0xde ∷ 0x21 ∷ 0x41 ∷ 0x97 ∷ 0xf7 ∷ []
 
--- the images of the high elements
+-- the images of the high elements in the standard's basis
 abbrev from_high : List ℕ
 from_high =
     0x00 ∷ 0xec ∷ 0xbc ∷ 0x50 ∷ 0x51 ∷ 0xbd ∷ 0xed ∷ 0x01

@@ -72,7 +72,7 @@ IsPrinted h text OutOfMemory printed =
     (commands : List Command) × BeginsScript text commands
     × (printed ≡ lines h commands ++ memory_line)
 
--- all of it was put
+-- all was put that some run over this script, which ends so, prints
 abbrev pub Prints : PlainHistory → List ℕ → Outcome → Option (List ℕ) → Option (List ℕ) → Type 0
 Prints h text outcome old new =
     (printed : List ℕ) × IsPrinted h text outcome printed × Appends old new printed

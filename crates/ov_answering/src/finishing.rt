@@ -64,7 +64,7 @@ fn line_on_tag(alloc: Global, bad: &BadTag) -> Result<Vec<u8>, Memory>
     Ok(line)
 }
 
-// Puts that line, or the one that says that memory was refused for it.
+// Puts the line on a file whose tag is wrong, or the one that says that memory was refused for it.
 fn put_tag<O: Sink>(alloc: Global, out: &mut O, bad: &BadTag) -> u8
     ensures ends { EndsOr (tag_line bad.now) 12
         (O.tells.written out.old) (O.tells.written out.new) result }

@@ -1,7 +1,7 @@
 //! The limits of a store, each with its unit and its use in its name. Code, clauses and proofs cite
 //! them by these names, so that a number is written nowhere else.
 
-/// Users of a store, and so members of a list, edges into a node and tokens of a creation.
+/// Users of a store, and therefore members of a list, edges into a node and tokens of a creation.
 pub const MAX_USERS: u32 = 256;
 
 /// Files of a store.

@@ -43,7 +43,7 @@ impl Octets {
         Octets { bytes }
     }
 
-    /// The vector of its bytes. It takes no memory.
+    /// The vector of the bytes. It takes no memory.
     pub fn into_vec(self) -> Vec<u8>
         ensures { result.items ≡ self }
     {

@@ -23,7 +23,7 @@ abbrev pub Reads : {P : Type 0} → PeerTells P → P → P → Reader → List 
     → Result (List ℕ) ClientFault → Type 0
 Reads peer p q r file result = ReadsFrom peer p q r file (AsksChain [] 0) result
 
--- the bytes of a read that is done are appended, and nothing is where it ends with a fault
+-- the bytes of a read that is done are appended, and nothing is appended where it ends with a fault
 abbrev pub ReadsInto : {P : Type 0} → PeerTells P → P → P → Reader → List ℕ
     → List ℕ → List ℕ → Result (Unit {0}) ClientFault → Type 0
 ReadsInto peer p q r file old new (Ok done) =

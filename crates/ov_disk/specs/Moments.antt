@@ -17,7 +17,8 @@ pub record LeavesOnly {D : Type 0} (tells : DiskTells D) (old new : D) (P : Imag
     : Type 0 where
   pub later : tells.moment old ≤ tells.moment new
   pub each : (c : Image) → tells.left_since new (tells.moment old) c → P c
-  -- for a run that began earlier
+  -- for a run that began earlier: a crash since then might have left what it might have left
+  -- before, or an image that has P
   pub before : (t : ℕ) (c : Image) → t ≤ tells.moment old → tells.left_since new t c
       → tells.left_since old t c ⊎ P c
 

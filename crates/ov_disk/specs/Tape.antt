@@ -7,8 +7,8 @@ use Rattle.ov_disk.specs.declared.change.Tear.{Tear}
 use Rattle.ov_disk.specs.declared.change.Tear.TheVariants.{Old, New, Fill}
 use Rattle.ov_disk.specs.Disk.{Image, bytes_of, written, TornIn}
 
--- What it held at first, with nothing pending; the changes since, in order; how many calls there
--- were; the numbers, from 0, of the calls that fail; and how many calls failed.
+-- A disk in memory: what it held at first, with nothing pending; the changes since, in order; how
+-- many calls there were; the numbers, from 0, of the calls that fail; and how many calls failed.
 pub record Tape : Type 0 where
   pub first : Image
   pub changes : List Change
@@ -16,11 +16,11 @@ pub record Tape : Type 0 where
   pub fails : List ℕ
   pub faults : ℕ
 
--- no call yet
+-- a disk in memory that holds this, of which there was no call yet
 abbrev pub fresh : Image → Tape
 fresh i = record { first = i; changes = []; calls = 0; fails = []; faults = 0 }
 
--- one more, or the last number of 64 bits
+-- a count after one more, or the last number of 64 bits
 abbrev pub risen : ℕ → ℕ
 risen n = min (n + 1) (2 ^ 64 - 1)
 
@@ -81,7 +81,7 @@ LeftSince i xs t c = (k : ℕ) × (t ≤ k) × (k ≤ length xs) × Leaves i (ta
 abbrev pub reads_of : Tape → Option Image
 reads_of t = replayed t.first t.changes
 
--- what a crash of it now may leave
+-- what a crash of this disk now may leave
 abbrev pub may_leave_of : Tape → Image → Type 0
 may_leave_of t = Leaves t.first t.changes
 
@@ -89,7 +89,7 @@ may_leave_of t = Leaves t.first t.changes
 abbrev pub moment_of : Tape → ℕ
 moment_of t = length t.changes
 
--- what a crash of it at this moment or a later one might have left
+-- what a crash of this disk at this moment or a later one might have left
 abbrev pub left_since_of : Tape → ℕ → Image → Type 0
 left_since_of t = LeftSince t.first t.changes
 

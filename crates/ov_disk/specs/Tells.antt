@@ -11,9 +11,9 @@ pub record DiskTells (D : Type 0) : Type 1 where
   pub moment : D → ℕ
   -- what a crash at some moment from that one on might have left, during a call or between two
   pub left_since : D → ℕ → Image → Type 0
-  -- how often it has failed; the count stays at 18,446,744,073,709,551,615
+  -- how often the disk has failed; the count stays at 18,446,744,073,709,551,615
   pub faults : D → ℕ
-  -- which loan it is, for a disk that is itself behind a `&mut`, and 0 for any other
+  -- which loan this is, for a disk that is itself behind a `&mut`, and 0 for any other
   pub borrow : D → ℕ
   -- this moment is one of those since an earlier one
   pub counts_now : (disk : D) (t : ℕ) (c : Image) → t ≤ moment disk → may_leave disk c

@@ -7,7 +7,7 @@ use ov_base::{Memory, Octets};
 use std::alloc::Global;
 use std::marker::Model;
 
-/// They are kept as at first, and copied before the first change.
+/// The bytes of an area: kept as at first, and copied before the first change.
 #[derive(Drop)]
 pub struct Bytes {
     start: Octets,

@@ -16,7 +16,7 @@ use crate::{Area, DiskFault};
 /// reads one of the images that a crash may leave, and nothing says which: one that told its bytes
 /// before still tells them, and one that told nothing still tells nothing.
 pub trait Disk {
-    /// What it reads, what a crash may leave, and how often it has failed.
+    /// What the disk reads, what a crash may leave, and how often the disk has failed.
     ghost tells: { DiskTells Self };
 
     /// The length of an area in bytes.

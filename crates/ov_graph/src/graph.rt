@@ -23,7 +23,7 @@ pub trait Graph<L: Layer, const W: usize>: Drop {
         ensures sets { IfOk result (λ graph. (contents graph).sets ≡ []) }
         ensures edges { IfOk result (λ graph. (contents graph).edges ≡ []) };
 
-    /// How many nodes it has.
+    /// How many nodes the graph has.
     fn count(&self) -> u32
         ensures nodes { result ≡ length (contents self.now).sets }
         ensures few { result ≤ MAX_LAYER_NODES };

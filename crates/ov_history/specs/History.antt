@@ -45,7 +45,7 @@ changed m (Created file list size) =
 changed m (Granted user file) = record m { files = change_at (listed user) file m.files }
 changed m (Revoked user file) = record m { files = change_at (delisted user) file m.files }
 
--- what all these updates make of it, in order
+-- what all these updates make of the matrix, in order
 abbrev pub changed_all : Matrix → List Update → Matrix
 changed_all m [] = m
 changed_all m (u ∷ updates) = changed_all (changed m u) updates

@@ -88,7 +88,7 @@ KeptRefusals =
     (refusal_shown c (brief sent) ≡ refusal_of (history_of p) (measured u))
     × HasParts (outline c) (brief sent)
 
--- what keeps a legal history stands for its sealed form
+-- a store that keeps a legal history stands for its sealed form
 abbrev pub KeptStandsFor : Type 0
 KeptStandsFor =
     (k : Masters) (p : PlainHistory) (c : Catalogue)

@@ -162,7 +162,7 @@ RewritesAreInOrder =
     → m < n → slice_get (rewrites_of c b) m ≡ Some r → slice_get (rewrites_of c b) n ≡ Some other
     → r.file < other.file
 
--- the files of which they are read off are those of the catalogue after the update
+-- the rewrites of an update are read off the files of the catalogue after the update
 abbrev pub FilesAreThoseAfter : Type 0
 FilesAreThoseAfter =
     (master : List ℕ) (c : Catalogue) (b : Brief)

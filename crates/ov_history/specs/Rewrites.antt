@@ -79,7 +79,7 @@ stored_after master rewrites text stored = rewritten_all master rewrites (with_t
 -- ---- coats
 
 -- Stored bytes of files that came with these texts: there are some for each file, as many as the
--- catalogue says, and they are its text under the coat of its surface, where it has one.
+-- catalogue says, and they are the file's text under the coat of its surface, where it has one.
 pub record AreCoated (master : List ℕ) (files : List Filed) (texts stored : List (List ℕ))
     : Type 0 where
   pub each : length stored ≡ length files

@@ -35,8 +35,8 @@ NewSetsAreNew =
     (h : History) (u : Update) (node other set old : ℕ)
     → first_new h u ≤ node → HasSet h u node set → other < node → HasSet h u other old → old ≢ set
 
--- Of two such nodes the first has the set of a file that comes before each file with the set of the
--- second.
+-- Of two surface nodes that an update adds for files the first has the set of a file that comes
+-- before each file with the set of the second.
 abbrev pub NewSetsAreInOrder : Type 0
 NewSetsAreInOrder =
     (h : History) (u : Update) (node next set later : ℕ)

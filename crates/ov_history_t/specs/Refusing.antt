@@ -27,14 +27,14 @@ IsTaken m (Created file list size) = Contains (file_names m.files) file
 IsTaken m (Granted user file) = ⊥
 IsTaken m (Revoked user file) = ⊥
 
--- a user that it names isn't enrolled
+-- a user that the update names isn't enrolled
 abbrev pub LacksUser : Matrix → Update → Type 0
 LacksUser m (Enrolled user) = ⊥
 LacksUser m (Created file list size) = IsBelow (length m.users) list → ⊥
 LacksUser m (Granted user file) = length m.users ≤ user
 LacksUser m (Revoked user file) = length m.users ≤ user
 
--- the file that it names isn't there
+-- the file that the update names isn't there
 abbrev pub LacksFile : Matrix → Update → Type 0
 LacksFile m (Enrolled user) = ⊥
 LacksFile m (Created file list size) = ⊥

@@ -3,7 +3,7 @@ ghost use Rattle.ov_history_t.specs.Layers.{AccessesCount, CoatsAreTakenOff, Coa
 ghost use Rattle.ov_history_t.specs.Layers.{HoldersDecide, ListsHaveNodes, NodesHaveKeys};
 ghost use Rattle.ov_history_t.specs.Layers.{SurfacesInOrder};
 
-/// Who was granted access to a base node holds it.
+/// A user who was granted access to a base node holds it.
 pub fn holders_have_accesses()
     ensures { AccessesCount }
 {}

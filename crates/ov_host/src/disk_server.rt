@@ -24,7 +24,7 @@ impl<D: Disk> DiskServer<D> {
     ghost use Rattle.std.specs.Prelude.{◌≡◌, []};
     ghost use Rattle.ov_host.specs.Lasting.{GoesOn};
 
-    /// This server, which has made no update since.
+    /// An answerer over this server, which has made no update since.
     pub fn new(server: Server<D>) -> DiskServer<D>
         ensures same { result ≡ server }
         ensures begins { GoesOn D.tells result [] result }

@@ -18,14 +18,14 @@ pub struct NodeAnswers<const W: usize> {
     pub set: UserSet<W>,
     /// The edges into the node, in order.
     pub edges: Vec<Edge>,
-    /// The chain to it from a root, or None where that doesn't lead to it.
+    /// The chain to the node from a root, or None where the root doesn't lead to it.
     pub chain: Option<Chain>,
 }
 
 /// What a graph answers where it is asked for a set.
 #[derive(Drop)]
 pub struct Answers<const W: usize> {
-    /// How many nodes it has.
+    /// How many nodes the graph has.
     pub count: u32,
     /// What the set gets that comes after the graph's sets and some others.
     pub cover: Cover,

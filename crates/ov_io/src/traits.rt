@@ -13,11 +13,11 @@ pub struct Fault;
 
 /// What bytes are taken from.
 pub trait Source {
-    /// The bytes that are left, how often it has failed, and which loan it is.
+    /// The bytes that are left, how often the source has failed, and which loan it is.
     ghost tells: { SourceTells Self };
 
     /// Takes the next bytes into the front of `buf`, and answers how many. It answers 0 where the
-    /// input has ended or `buf` is empty, and else never. After a fault nothing was taken.
+    /// input has ended or `buf` is empty, and never otherwise. After a fault nothing was taken.
     fn take(&mut self, buf: &mut [u8]) -> Result<usize, Fault>
         ensures bound { ReadsAtMost result buf.new }
         ensures bytes { ReadConsumes (tells.left self.old) (tells.left self.new) result buf.new }
@@ -28,7 +28,7 @@ pub trait Source {
 
 /// What bytes are put to.
 pub trait Sink {
-    /// The bytes that were written, how often it has failed, and which loan it is.
+    /// The bytes that were written, how often the sink has failed, and which loan it is.
     ghost tells: { SinkTells Self };
 
     /// Appends all the bytes. After a fault some front of them was appended.

@@ -9,8 +9,8 @@ use Rattle.ov_journal.specs.Taking.{IsBody}
 abbrev pub framed : List ℕ → List ℕ
 framed body = to_be_bytes w32 (length body) ++ body ++ 0 ∷ []
 
--- A record with this body may be put behind a gate at this place, out of a buffer with room for so
--- many bytes: the length, the body and the next gate.
+-- A record with this body may be put behind a gate at this place, out of a buffer with room for
+-- this many bytes: the length, the body and the next gate.
 pub record Fits (end room : ℕ) (body : List ℕ) : Type 0 where
   pub can_be : IsBody body
   pub buffer : length body + 5 ≤ room

@@ -33,7 +33,7 @@ end_from place (body ∷ bodies) = end_from (place + 5 + length body) bodies
 abbrev pub latest_gate : ℕ → ℕ
 latest_gate before = HEADER + (RECORD_HEAD + MAX_RECORD_BYTES) * before
 
--- no gate of a record stands later than it can
+-- no gate of a record is later than it can be
 abbrev pub AreInReach : List ℕ → Type 0
 AreInReach offsets = (i : ℕ) → i < length offsets → slice_index offsets i ≤ latest_gate i
 
@@ -57,13 +57,13 @@ abbrev pub Stands : {D : Type 0} → DiskTells D → Log → D → Type 0
 Stands tells log disk = Told (tells.reads disk) (λ i.
     IsLogOf log (contents_of i.book).records × OnlyBook i.book (tells.may_leave disk))
 
--- the records are the same; the room may be other
+-- two journals have the same records; their room may differ
 pub record HasSameRecords (old new : Log) : Type 0 where
   pub offsets : new.offsets ≡ old.offsets
   pub end : new.end ≡ old.end
   pub bad : new.bad ≡ old.bad
 
--- one record more, with a body of this many bytes, which uses room that was made
+-- a journal with one record more, with a body of this many bytes, which uses room that was made
 abbrev pub appended : ℕ → Log → Log
 appended count log = record {
   offsets = log.offsets ++ log.end ∷ [];
@@ -94,7 +94,7 @@ abbrev pub HasContents : {D : Type 0} → DiskTells D → D → Contents → Typ
 HasContents tells disk contents =
     (k : Image) × (tells.reads disk ≡ Some k) × (contents_of k.book ≡ contents)
 
--- Book with some front of these bodies more
+-- Book has some front of these bodies more
 abbrev pub HasFront : Image → List (List ℕ) → Image → Type 0
 HasFront i bodies c =
     (n : ℕ) × (n ≤ length bodies)

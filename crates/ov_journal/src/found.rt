@@ -5,8 +5,8 @@ use crate::{Header, Journal};
 pub enum Found {
     /// No store was begun here.
     Unborn,
-    /// A store, with its records until a length field can't be; `bad` is where such a field is, if
-    /// one does.
+    /// A store, with its records until a length field can't be; `bad` is the place of such a field,
+    /// if there is one.
     Born {
         journal: Journal,
         header: Header,

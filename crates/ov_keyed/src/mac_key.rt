@@ -27,7 +27,8 @@ impl Model for MacKey {
 }
 
 impl MacKey {
-    /// This key, with its blocks hashed (RFC 2104, section 2, steps 1, 2 and 5). It takes no memory.
+    /// A key of these bytes, with its blocks hashed (RFC 2104, section 2, steps 1, 2 and 5). It
+    /// takes no memory.
     pub fn new(key: &[u8; 32]) -> MacKey
         ensures { result ≡ key.now }
     {

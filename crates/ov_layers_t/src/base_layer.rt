@@ -82,7 +82,7 @@ fn pair<const W: usize>() -> UserSet<W>
     UserSet::empty().with(0).with(1)
 }
 
-/// Who holds the nodes before c is given access to the node 3.
+/// The holders of the nodes before c is given access to the node 3.
 fn expect_before<G: Graph<Base, W>, const W: usize>(rt: &impl Abort, layer: &BaseLayer<G, W>)
     requires { (1 ≤ W) × (W ≤ MAX_SET_WORDS) }
 {
@@ -92,7 +92,7 @@ fn expect_before<G: Graph<Base, W>, const W: usize>(rt: &impl Abort, layer: &Bas
     assert!(rt; !layer.plan_grant(1, 3));
 }
 
-/// Who holds the nodes after it.
+/// The holders of the nodes after c was given access to the node 3.
 fn expect_after<G: Graph<Base, W>, const W: usize>(rt: &impl Abort, layer: &BaseLayer<G, W>)
     requires { (1 ≤ W) × (W ≤ MAX_SET_WORDS) }
 {

@@ -23,6 +23,6 @@ IsLoad load words =
     (mode : List ℕ) × (number : List ℕ) × (count : List ℕ) × IsAsked load mode number count
     × (map string_bytes words ≡ codes "load" ∷ mode ∷ number ∷ count ∷ [])
 
--- some other words
+-- words that ask for no load
 abbrev pub AreNoLoad : List (String Global) → Type 0
 AreNoLoad words = (load : Load) → IsLoad load words → ⊥

@@ -37,7 +37,7 @@ use Rattle.ov_load.specs.declared.tally.Tally.{Tally}
 abbrev pub after_first : PlainHistory → Load → ℕ → PlainHistory
 after_first h load place = after_all h (first_commands load.number place)
 
--- the history after all of them
+-- the history after all commands of the workload
 abbrev pub after_load : PlainHistory → Load → PlainHistory
 after_load h load = after_all h (workload load.number load.count)
 

@@ -21,7 +21,7 @@ pub struct Load {
     pub count: u32,
 }
 
-// The number that is written so, in decimal and without leading zeros.
+// The number that is written in this way: in decimal and without leading zeros.
 fn number_of(word: &str) -> Option<u64>
     ensures found { IfSome result (λ number. word.now ≡ decimal number) }
     ensures none { IfNone result ((number : ℕ)
@@ -38,7 +38,7 @@ fn number_of(word: &str) -> Option<u64>
     }
 }
 
-// The count that is written so.
+// The count that is written in this way: in decimal and without leading zeros.
 fn count_of(word: &str) -> Option<u32>
     ensures found { IfSome result (λ count.
         (1 ≤ count) × (count ≤ MAX_WORKLOAD) × (word.now ≡ decimal count)) }

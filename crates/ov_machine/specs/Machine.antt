@@ -43,7 +43,7 @@ pub record KeptOn (D : Type 0) : Type 0 where
   pub disk : D
   pub failed : Bool
 
--- as an open store
+-- what is kept, as an open store
 abbrev pub opened_of : {D : Type 0} → KeptOn D → Opened D
 opened_of m = record {
   disk = m.disk;
@@ -144,8 +144,8 @@ module _ {D : Type 0} (tells : DiskTells D) where
       (k : Masters) (p : PlainHistory) → old.kept.masters ≡ k → StandsFor old.kept p
       → StepsAt k p command old new result
 
--- Each step keeps the masters, and is a call on the disk. One that is answered leaves a store that
--- hasn't failed so; and a tag that is said to be wrong is another one.
+-- Each step keeps the masters, and is a call on the disk. A step that is answered leaves a store
+-- that has failed in no further update; and a tag that is said to be wrong is another one.
 pub record IsStep {D T : Type 0} (tells : DiskTells D) (old new : KeptOn D)
     (result : Result T StepFault) : Type 0 where
   pub masters : new.kept.masters ≡ old.kept.masters

@@ -83,7 +83,7 @@ abbrev pub read_reply : List ℕ → List ℕ → Result (List ℕ) ClientFault 
 read_reply user file (Ok bytes) = Ok (replies.Bytes user file bytes)
 read_reply user file (Err fault) = read_fault_reply file fault
 
--- to what came of a read
+-- the reply to what came of a read
 abbrev pub found_reply : List ℕ → List ℕ → Found → Result Reply StepFault
 found_reply user file (Unread fault) = fault_reply fault
 found_reply user file (Read found) = read_reply user file found

@@ -1,5 +1,5 @@
 //! Calls of owners and readers over a traced peer. They are those of its parts, and say besides
-//! that the sink stays lent as it was: so what is put is put to the caller's own.
+//! that the sink stays lent as it was: so what is put goes to the caller's own sink.
 ghost use Rattle.std.specs.Prelude.{◌≡◌, ◌+◌};
 ghost use Rattle.ov_wire.specs.Requests.{HasRequestForm};
 ghost use Rattle.ov_wire.specs.declared.request.Question.TheVariants.{Key as AsksKey};

@@ -55,7 +55,7 @@ sealed_by seal (Err fault) = Err fault
 
 -- ---- the four commands
 
--- to enrol a user
+-- the errand that enrols a user
 abbrev pub enrolling : List ℕ → Errand
 enrolling user = record {
   first = requests.Ask (questions.Enrol user);
@@ -73,7 +73,7 @@ created base file bytes plan =
     (tag_of_file (access_key base plan.node) plan.file bytes)
     (base_text (access_key base plan.node) plan.file bytes)
 
--- to create a file of these bytes for the users of these names
+-- the errand that creates a file of these bytes for the users of these names
 abbrev pub creating : List ℕ → List ℕ → List (List ℕ) → List ℕ → Errand
 creating base file names bytes = record {
   first = requests.Cover file (length bytes) names;
@@ -87,14 +87,14 @@ granted base known =
     SealedGrant known.user known.file
     (token_unless (not known.wants) (access_token base known.base_root known.node))
 
--- to grant a file to a user
+-- the errand that grants a file to a user
 abbrev pub granting : List ℕ → List ℕ → List ℕ → Errand
 granting base user file = record {
   first = requests.Ask (questions.Grant user file);
   sealed = λ answer. sealed_by (λ (k : Known). (k.epoch, granted base k)) (known_of answer);
 }
 
--- to revoke a file from a user
+-- the errand that revokes a file from a user
 abbrev pub revoking : List ℕ → List ℕ → Errand
 revoking user file = record {
   first = requests.Ask (questions.Revoke user file);

@@ -55,13 +55,14 @@ abbrev pub frame_bytes : List Ask → ℕ
 frame_bytes [] = 0
 frame_bytes (a ∷ asks) = length (framed a.request) + length (framed a.reply) + frame_bytes asks
 
--- how many there are at most: only a creation is as long as its list and its file
+-- how many bytes the frames of a call have at most: only a creation's are as many as its list and
+-- its file make them
 abbrev pub most_bytes : Command → ℕ
 most_bytes (Create file names bytes) = 320 + 101 * length names + length bytes
 most_bytes command = 512
 
 -- Of a server under the owner's surface master that nobody else updates meanwhile, the frames of a
--- call have no more bytes than that, whatever files the server has.
+-- call have no more bytes than the command allows, whatever files the server has.
 abbrev pub TalksAreShort : Type 0
 TalksAreShort =
     (k : Masters) (command : Command) (e : Errand) (asks : List Ask) (unanswered : Option (List ℕ))
@@ -78,7 +79,7 @@ IsProper (Err (Unsettled epochs)) = ⊥
 IsProper result = Unit {0}
 
 -- Of a server under the owner's surface master that nobody else updates meanwhile, and whose
--- history is right, no call gets such a fault.
+-- history is right, no call ends with a wrong reply, a wrong tag, or tries that were all stale.
 abbrev pub TalksAreProper : Type 0
 TalksAreProper =
     (k : Masters) (command : Command) (e : Errand) (asks : List Ask) (unanswered : Option (List ℕ))

@@ -68,7 +68,7 @@ again_if false tries least = Asks tries least
 abbrev pub again : List ℕ → ℕ → Stage
 again tries least = again_if (length tries == MAX_TRIES) tries least
 
--- by the answer to an update that was made at an epoch
+-- the stage after the answer to an update that was made at an epoch
 abbrev pub after_update : List ℕ → ℕ → Answer → Stage
 after_update tries epoch (answers.Accepted now) = Ends (Ok now)
 after_update tries epoch (answers.Refused why) = Ends (Err (faults.Refused why))
@@ -78,7 +78,7 @@ after_update tries epoch answers.DeviceFault = Ends (Err faults.Device)
 after_update tries epoch answers.NoMemory = Ends (Err faults.Memory)
 after_update tries epoch answer = Ends (Err (faults.BadReply 0))
 
--- by what a reply reads as
+-- the stage after a reply, by what the reply reads as
 abbrev pub after : Errand → Stage → Result Answer ℕ → Stage
 after e (Ends result) read = Ends result
 after e stage (Err place) = Ends (Err (faults.BadReply place))

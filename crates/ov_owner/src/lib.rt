@@ -9,9 +9,9 @@
 //! What a call asks and how it ends is an automaton over the replies (`Talks` in `specs/Talks`), by
 //! what the command asks first and seals of the answer (`Errand` in `specs/Errands`). A call's
 //! contract says that asks lead from the peer before to the peer after, and that they are the talk
-//! of its errand with this result (`runs`). That is said of every peer. Over one that tells which
-//! history it serves, the result is besides the machine's at that history, with what others made of
-//! it (`told`).
+//! of its errand with this result (`runs`). That is said of every peer. Over a peer that tells
+//! which history it serves, the result is also the machine's at that history, with what others made
+//! of it (`told`).
 //!
 //! | file in `specs/` | says |
 //! |---|---|
@@ -30,7 +30,7 @@
 //! | the epochs of nine stale tries rise | [`stale_epochs_rise`] |
 //! | where nobody else updates, nothing was made, or this update | [`one_update_at_most`] |
 //! | where nobody else updates, no reply is taken for a wrong one | [`talks_are_proper`] |
-//! | the frames are as few bytes as command, list and file want | [`talks_are_short`] |
+//! | the frames have few bytes beside those of command, list and file | [`talks_are_short`] |
 #![tactic(auto)]
 
 mod client;

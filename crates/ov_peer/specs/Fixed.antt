@@ -22,7 +22,7 @@ pub record HasReply (p : Playing) (reply : List ℕ) : Type 0 where
   pub is_next : slice_get p.replies p.asks ≡ Some reply
   pub frame : IsFrame reply
 
--- whether the next ask has a reply, with the reply where it has; memory is free
+-- whether the next ask has a reply, with the reply where it has; memory may be refused
 abbrev pub PutsNext : Playing → List ℕ → Result Bool PeerFault → Type 0
 PutsNext p reply (Ok true) = HasReply p reply
 PutsNext p reply (Ok false) = (other : List ℕ) → HasReply p other → ⊥

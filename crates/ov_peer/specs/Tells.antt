@@ -37,15 +37,15 @@ pub record PeerTells (P : Type 0) : Type 1 where
   pub failed : P → List ℕ → P → Type 0
   -- the peer serves this sealed history under these keys; a peer that tells none serves none
   pub serves : P → Service → Type 0
-  -- how often it has failed; the count stays at 18,446,744,073,709,551,615
+  -- how often the peer has failed; the count stays at 18,446,744,073,709,551,615
   pub faults : P → ℕ
-  -- which loan it is, for a peer that is itself behind a `&mut`, and 0 for any other; each call
+  -- which loan this is, for a peer that is itself behind a `&mut`, and 0 for any other; each call
   -- keeps it
   pub borrow : P → ℕ
   -- what a peer serves is what it answers by, whatever others do meanwhile
   pub told : (p q : P) (request reply : List ℕ) (v : Service)
       → asked p request reply q → serves p v → Told v request reply (serves q)
-  -- after an ask that failed it serves what others made of its history, and perhaps what the
+  -- after an ask that failed a peer serves what others made of its history, and perhaps what the
   -- request would have made
   pub left : (p q : P) (request : List ℕ) (v : Service)
       → failed p request q → serves p v → LeavesTold v request (serves q)

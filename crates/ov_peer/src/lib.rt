@@ -1,4 +1,4 @@
-//! Whom frames are sent to, and what answers them.
+//! Where frames are sent, and what answers them.
 //!
 //! A [`Peer`] is asked one frame and gives one: a server in this process, a server behind a link, or
 //! what a test plays. An [`Answerer`] is what serves on the other side: a value whose replies follow

@@ -1,4 +1,4 @@
-//! Whom frames are sent to.
+//! What frames are sent to.
 ghost use Rattle.std.specs.Prelude.{◌≡◌, OnErr, OnOk};
 ghost use Rattle.ov_wire.specs.Frames.{IsFrame};
 ghost use Rattle.ov_peer.specs.Causes.{HasLinkCause};
@@ -6,10 +6,10 @@ ghost use Rattle.ov_peer.specs.Tells.{PeerTells, lent_peer};
 
 use crate::PeerFault;
 
-/// Whom frames are sent to: each request is a frame, and gets a frame.
+/// What frames are sent to: each request is a frame, and gets a frame.
 pub trait Peer {
-    /// How it is asked and fails, which history it serves, how often it has failed, and which loan
-    /// it is.
+    /// How the peer is asked and fails, which history it serves, how often it has failed, and which
+    /// loan it is.
     ghost tells: { PeerTells Self };
 
     /// Sends a frame and gets one, in place of what was in `reply`. Both are without their length

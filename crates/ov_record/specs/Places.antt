@@ -3,7 +3,7 @@ use Rattle.std.specs.Prelude.{ℕ, Option, Some, None}
 use Rattle.ov_record.specs.declared.fault.RecordFault.{RecordFault}
 use Rattle.ov_record.specs.declared.fault.RecordFault.TheVariants.{BadRecord, Memory}
 
--- none where memory ran out
+-- the place that a fault names; none where memory ran out
 abbrev pub place_of : RecordFault → Option ℕ
 place_of (BadRecord place) = Some place
 place_of Memory = None

@@ -122,7 +122,7 @@ pub fn read<const W: usize>(alloc: Global, bytes: &[u8]) -> Result<Update<W>, Re
     // What is spelled so is read, unless memory runs out.
     ensures only { (u : SealedUpdate) → HasForm (8 * W) u → bytes.now ≡ spelling (8 * W) u
         → Gives place_of sealed_update result (Ok u) }
-    // Which place it is.
+    // The place that an error names.
     ensures exact { Gives place_of sealed_update result (update_of (8 * W) bytes.now) }
 {
     match read_all(alloc, bytes) {

@@ -33,7 +33,7 @@ fault_line (ModeDiffers stored given) =
     codes "error mode " ++ mode_word stored ++ 32 ∷ mode_word given ++ 10 ∷ []
 fault_line Memory = memory_line
 
--- the status of a program that ends for it
+-- the status of a program whose store isn't begun, for this reason
 abbrev pub fault_status : BeginFault → ℕ
 fault_status Disk = 4
 fault_status NotAStore = 8

@@ -102,7 +102,7 @@ pub fn line_on_fault(alloc: Global, fault: BeginFault) -> Result<Vec<u8>, Memory
     }
 }
 
-/// The status of a program that ends for it.
+/// The status of a program whose store isn't begun, for this reason.
 pub fn status_of(fault: BeginFault) -> u8
     ensures code { result ≡ fault_status fault }
     ensures no_write { result ≢ 6 }

@@ -116,7 +116,7 @@ Tells tells room old new (Ok item) =
     × (lf_count bytes ≡ item.lines) × Uses tells old new bytes
 Tells tells room old new (Err ended) = IsWhyNone room (text_of tells old) ended
 
--- The command of the item that stands there, as `next` says it; or why there is none.
+-- The command of the item that is there, as `next` says it; or why there is none.
 abbrev pub Gives : {S : Type 0} → SourceTells S → Place S → Result Command Ended → Place S → Type 0
 Gives tells old (Ok command) new =
     ((bytes : List ℕ) × IsItem bytes command) × SaysOf tells old (Command-Next command) new

@@ -3,7 +3,7 @@ use Rattle.std.specs.Prelude.{◌≡◌, ℕ, List, [], ◌∷◌, ◌++◌, cod
 use Rattle.ov_base.specs.NameLists.{with_name}
 use Rattle.ov_base.specs.Names.{IsName}
 
--- Each of them is a name.
+-- Each of these texts is a name.
 abbrev pub AreNames : List (List ℕ) → Type 0
 AreNames [] = Unit {0}
 AreNames (name ∷ names) = IsName name × AreNames names

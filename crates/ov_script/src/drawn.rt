@@ -20,7 +20,7 @@ pub enum Kind {
 /// What the words of a drawn command say.
 #[derive(Clone, Copy)]
 pub struct Drawn {
-    /// By the first word.
+    /// What the command does, by the first word.
     pub kind: Kind,
     /// The second word: a user, or by its bits the users of a list.
     pub who: u32,

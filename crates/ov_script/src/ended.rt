@@ -8,7 +8,7 @@ use crate::next::{Next, ScriptFault};
 use ov_base::Memory;
 use ov_io::Fault;
 
-/// Why no item is read, and so how the reading ends.
+/// Why no item is read, and therefore how the reading ends.
 #[derive(Clone, Copy, Debug, PartialEq, Eq)]
 pub enum Ended {
     /// The text ends.

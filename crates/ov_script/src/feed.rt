@@ -101,7 +101,7 @@ impl<S: Source + Drop> Feed<S> {
         }
     }
 
-    /// The allocator that it was made with.
+    /// The allocator that the feed was made with.
     pub fn alloc(&self) -> Global {
         *self.buffer.allocator()
     }

@@ -24,9 +24,9 @@ use std::alloc::Global;
 /// The first line of an item.
 #[derive(Drop)]
 pub struct Line {
-    /// What it says.
+    /// What the line says.
     pub said: FirstLine,
-    /// How many bytes it has, its LF included.
+    /// How many bytes the line has, its LF included.
     pub size: usize,
 }
 

@@ -20,9 +20,9 @@ use ov_io::Source;
 pub struct Item {
     /// The command of the item.
     pub command: Command,
-    /// How many bytes it has.
+    /// How many bytes the item has.
     pub size: usize,
-    /// How many of them are LF.
+    /// How many of the item's bytes are LF.
     pub lines: usize,
 }
 

@@ -61,7 +61,7 @@ pub record IsFaulted {D : Type 0} (old new : Opened D) (request reply : List ℕ
       ⊎ (AsksBytes (serving_of old) request × (new ≡ old))
   pub before : old.failed ≡ true → new ≡ old
 
--- one of the two
+-- the answer is the one by what the server shows, or that the disk failed
 abbrev pub AnswersOrFails : {D : Type 0} → DiskTells D → Opened D → Opened D → List ℕ → List ℕ
     → Type 0
 AnswersOrFails tells old new request reply =

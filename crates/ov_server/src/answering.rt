@@ -80,7 +80,7 @@ impl<D: Disk> Server<D> {
     /// length fields. All memory is taken before anything changes.
     pub fn answer(&mut self, request: &[u8], reply: &mut Vec<u8>) -> Result<(), Memory>
         requires { IsFrame request.now }
-        // By what it shows, or that its disk failed.
+        // The answer is the one by what the server shows, or says that its disk failed.
         ensures answer { OnOk result (AnswersOrFails D.tells self.old self.new request.now
             reply.new.items) }
         ensures memory { OnErr result ((self.new ≡ self.old) × (reply.new.items ≡ [])) }

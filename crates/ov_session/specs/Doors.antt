@@ -22,7 +22,7 @@ pub record Doorway (S : Type 0) : Type 0 where
   pub closed : Bool
   pub faults : ℕ
 
--- no streams are told, or none at all
+-- the streams aren't told, or there are none
 abbrev pub TellsNone : {S : Type 0} → Option (List (Given S)) → Type 0
 TellsNone None = Unit {0}
 TellsNone (Some streams) = streams ≡ []

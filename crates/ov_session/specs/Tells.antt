@@ -11,5 +11,6 @@ pub record AskerTells (A : Type 0) : Type 1 where
   pub asks : Asks A
   -- the asker has asked as often as it may
   pub spent : A → Type 0
-  -- which loan it asks by, for an asker that holds a `&mut`, and 0 for any other; each ask keeps it
+  -- which loan the asker asks by, for an asker that holds a `&mut`, and 0 for any other; each ask
+  -- keeps it
   pub borrow : A → ℕ

@@ -6,7 +6,7 @@ use Rattle.ov_session.specs.declared.each.Next.TheVariants as nexts
 use Rattle.ov_session.specs.Doors.{Doorway, Given}
 use Rattle.ov_session.specs.Serving.{Follows, OneSession, Session, and_all}
 
--- this many streams are told, or none are told at all
+-- the streams aren't told, or there are this many
 abbrev pub TellsMany : {S : Type 0} → Option (List (Given S)) → ℕ → Type 0
 TellsMany None number = Unit {0}
 TellsMany (Some streams) number = length streams ≡ number

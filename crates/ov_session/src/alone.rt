@@ -7,7 +7,7 @@ use ov_base::Memory;
 use ov_peer::Answerer;
 use std::sync::Wait;
 
-/// Asks its answerer by itself, as often as it wants.
+/// An asker that asks its answerer by itself, as often as it wants.
 #[derive(Drop)]
 pub struct Alone<'a, V: Answerer> {
     pub value: &'a mut V,

@@ -9,7 +9,7 @@ use std::sync::Wait;
 
 /// Asks one request at a time, for a session.
 pub trait Asker {
-    /// What it asks, whether it has asked as often as it may, and which loan it asks by.
+    /// What the asker asks, whether it has asked as often as it may, and which loan it asks by.
     ghost tells: { AskerTells Self };
 
     /// Asks a frame; the reply replaces what `reply` had. Both are without their length fields.

@@ -7,10 +7,10 @@ use ov_io::{Fault, Stream};
 
 /// Gives streams, one for each session, and takes each back when its session has ended.
 pub trait Door {
-    /// What it gives.
+    /// The streams that the door gives.
     type Stream: Stream + Drop;
 
-    /// What it shows: the streams that it gave and took back, where it tells them, and their
+    /// What the door shows: the streams that it gave and took back, where it tells them, and their
     /// number; whether it has answered that there are no more; and how often it has failed.
     ghost shows: { Self → Doorway Self.Stream };
 

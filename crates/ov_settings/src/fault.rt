@@ -27,7 +27,7 @@ pub enum SettingsFault {
 }
 
 impl SettingsFault {
-    /// The exit status for it: 5 where a read failed, 7 where memory was refused, and else 2.
+    /// The exit status for a fault: 5 where a read failed, 7 where memory was refused, and else 2.
     pub fn code(self) -> u8
         ensures { result ≡ fault_code self }
     {

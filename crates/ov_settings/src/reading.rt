@@ -18,7 +18,7 @@ use toml::Table;
 /// The most bytes of a settings file.
 pub const LONGEST: usize = 65_536;
 
-// One byte more than the longest has.
+// One byte more than the longest settings file has.
 const ENOUGH: usize = 65_537;
 
 // The document of a text.

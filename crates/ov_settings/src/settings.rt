@@ -8,7 +8,7 @@ pub const MAX_SESSIONS: u32 = 1_000_000;
 /// What a server is told by its settings file.
 #[derive(Drop)]
 pub struct Settings {
-    /// Where it listens, as `HOST:PORT`.
+    /// Where the server listens, as `HOST:PORT`.
     pub address: Octets,
     pub mode: Mode,
     /// The surface master.

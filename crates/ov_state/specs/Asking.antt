@@ -26,7 +26,7 @@ abbrev pub Tells : Option Refusal → Numbers → Result Asked Refusal → Type 
 Tells refusal numbers (Ok asked) = (refusal ≡ None) × (numbers_of asked ≡ numbers)
 Tells refusal numbers (Err why) = refusal ≡ Some why
 
--- the question is refused for this; memory is free
+-- the question is refused for this; or memory was refused
 abbrev pub IsRefusedFor : Option Refusal → ChainFault → Type 0
 IsRefusedFor refusal (Refused why) = refusal ≡ Some why
 IsRefusedFor refusal Memory = Unit {0}

@@ -15,7 +15,7 @@ use Rattle.ov_history.specs.Sound.{IsSound}
 use Rattle.ov_state.specs.Remembering.{IsPlannedIn}
 use Rattle.ov_state.specs.declared.covering.Planned.{Planned}
 
--- for how many more of each there is room
+-- the room of a state: for how many more users, files, access tokens, sets and edges there is room
 pub record Room : Type 0 where
   pub users : ℕ
   pub files : ℕ

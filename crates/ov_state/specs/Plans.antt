@@ -52,7 +52,8 @@ pub record IsChange {W : ℕ} (limit : ℕ) (master : List ℕ) (c : Catalogue) 
   pub rewrites : plain_rewrites change.rewrites.items ≡ rewrites_of c b
   pub suits : Suits limit c change
 
--- Why no change is made: the update is refused, or has other parts than it needs. Memory is free.
+-- Why no change is made: the update is refused, or has other parts than it needs. Memory may be
+-- refused at any time.
 abbrev pub IsFaultOf : ℕ → Catalogue → PlainBrief → PrepareFault → Type 0
 IsFaultOf words c b (Refused why) = refusal_shown c b ≡ Some why
 IsFaultOf words c b (BadPlan place) =

@@ -120,7 +120,7 @@ impl<B: Graph<Base, W>, S: Graph<Surface, W>, const W: usize> State<B, S, W> {
         add_surfaces(&mut self.surface, surface);
         rewrite_all(&mut self.files, rewrites, self.epoch);
         self.size = size;
-        // Its cover is that of the base nodes that there were.
+        // The cover that was remembered is that of the base nodes that there were.
         self.remembered = None;
     }
 }

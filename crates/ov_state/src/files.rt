@@ -58,7 +58,7 @@ impl Files {
         }
     }
 
-    /// How many there are.
+    /// How many files there are.
     pub fn count(&self) -> u32
         ensures { result ≡ length self.now.files }
     {
@@ -79,7 +79,7 @@ impl Files {
         self.numbers.get(name).copied()
     }
 
-    /// Makes room for one more.
+    /// Makes room for one more file.
     pub fn reserve(&mut self) -> Result<(), Memory>
         ensures files { self.new.files ≡ self.old.files }
         ensures room { OnOk result (1 ≤ self.new.spare) }

@@ -63,7 +63,7 @@
 //! | `Standing` | what a catalogue stands for, before and after a change |
 //! | `Queries` | numbers, sizes and lists |
 //! | `Asking` | what an owner is told before an update |
-//! | `Remembering` | what is kept of that until the update |
+//! | `Remembering` | what is kept of a question until the update |
 //! | `Chains` | chains to a file's keys, and where they lead |
 //! | `Faults` | a graph's refusal as a fault of `prepare` |
 //! | `Relistings`, `NewFiles`, `Creations` | how changes are planned: for the inside alone |

@@ -16,7 +16,7 @@ use ov_base_layer::BaseLayer;
 use ov_graph::Graph;
 use ov_tokens::{Base, Surface};
 
-/// How many of each a state has, and the bytes of all its files.
+/// How many users, files, nodes and access tokens a state has, and the bytes of all its files.
 #[derive(Clone, Copy, Debug, PartialEq, Eq)]
 pub struct Sizes {
     pub users: u32,
@@ -49,7 +49,7 @@ impl<B: Graph<Base, W>, S: Graph<Surface, W>, const W: usize> State<B, S, W> {
         self.mode
     }
 
-    /// How many of each there are, and the bytes of all files.
+    /// How many users, files, nodes and access tokens there are, and the bytes of all files.
     pub fn sizes(&self) -> Sizes
         ensures { result ≡ sizes_of self.now.catalogue }
     {

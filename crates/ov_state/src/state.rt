@@ -15,7 +15,7 @@ use ov_tokens::{Base, Surface};
 use std::alloc::Global;
 use std::marker::Model;
 
-/// The words of a set of users, each of 64: so wide is the set of all users of a store.
+/// How many words a set of users has, each of 64 users: as many as hold all users of a store.
 pub const WIDTH: usize = 4;
 
 /// The graph of keys in which a store keeps a layer.

@@ -15,7 +15,7 @@ pub record IsBodyOf (u : SealedUpdate) (body : List ℕ) : Type 0 where
   pub form : HasForm 32 u
   pub bytes : body ≡ spelling 32 u
 
--- no layers want such parts
+-- no layers want the parts that this update has
 abbrev pub HasNoPlan : SealedUpdate → Type 0
 HasNoPlan u = (y : Layers) → HasParts y (brief u) → ⊥
 

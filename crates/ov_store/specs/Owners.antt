@@ -24,7 +24,7 @@ masters base surface = record { base = base; surface = surface }
 abbrev pub IsOwners : Masters → Layers → SealedUpdate → Type 0
 IsOwners k y u = (plain : PlainUpdate) × (u ≡ sealed_update k y plain)
 
--- whether it is so
+-- whether the update is, in these layers, what its owner sends for some plain update
 abbrev pub TellsOwners : Masters → Layers → SealedUpdate → Bool → Type 0
 TellsOwners k y u true = IsOwners k y u
 TellsOwners k y u false = IsOwners k y u → ⊥

@@ -38,7 +38,7 @@ pub(crate) fn birth<D: Disk>(
     ensures any_moment { first ≡ 0 → Told (D.tells.reads disk.old) (λ _.
         LeavesOnly D.tells disk.old disk.new
         (IsImageOf (keys base_check.now surface.now.bytes) (blank mode 0))) }
-    // Memory is wanted before the first call of the disk.
+    // Memory is asked for before the first call of the disk.
     ensures memory { IsErrOf result NoMemory → disk.new ≡ disk.old }
     ensures call { IsDiskCall D.tells (IsErrOf result DiskFailed) disk.old disk.new }
 {

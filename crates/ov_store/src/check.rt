@@ -93,7 +93,7 @@ impl<D: Disk> Store<D> {
     /// with this base master sends, and None where there is none. It reads all records again.
     /// After an update in which the disk failed these are the records of the updates before it.
     pub fn check(&mut self, alloc: Global, base: &Key) -> Result<Option<u64>, CheckFault>
-        // Of each history for which the store stands.
+        // The place is right for each history for which the store stands.
         ensures checked { IfOk result (λ found. (g : SealedHistory)
             → Serves D.tells g self.old → Told (D.tells.reads self.old.disk)
             (λ _. Checks (masters base.now.bytes self.old.keys.surface) g found)) }

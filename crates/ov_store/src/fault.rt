@@ -13,8 +13,8 @@ pub enum StoreFault {
     /// The access-matrix machine refuses the update.
     #[error("the update is refused")]
     Refused(Refusal),
-    /// The number of its tokens, or whether it has an access token, isn't what the layers want;
-    /// this is the place of that number or flag in the update's spelling.
+    /// The number of the update's tokens, or whether it has an access token, isn't what the layers
+    /// want; this is the place of that number or flag in the update's spelling.
     #[error("the update's tokens are not those of the plan (byte {at})")]
     BadPlan { at: u32 },
     /// A call of the disk failed. What is on the disk is known once the store is opened again.

@@ -26,7 +26,7 @@
 //! | `Bodies`, `Replaying`, `Faults` | inner: records of updates, replaying them, and why not |
 //!
 //! After a fault of the disk a store makes no more updates: open it again to know which of the two
-//! histories stands. docs/CRASH.md tells the argument in words.
+//! histories it keeps. docs/CRASH.md tells the argument in words.
 #![tactic(auto)]
 
 mod begin;

@@ -21,8 +21,8 @@ fn is_small(list: &UserSet<WIDTH>)
     let _ = list.contains(0);
 }
 
-// Whether it has as few tokens as a spelling may have. An update with more isn't one that layers
-// want.
+// Whether the update has as few tokens as a spelling may have. An update with more isn't one that
+// layers want.
 fn has_few_tokens(update: &Update<WIDTH>) -> bool
     requires { IsFitting (brief (sealed_update update.now)) }
     ensures few { result ≡ true → IsWithinLimits (sealed_update update.now) }

@@ -22,7 +22,7 @@ use ov_record::Update;
 use ov_state::WIDTH;
 use std::alloc::Global;
 
-// Writes the body down as the next record. Memory is wanted before the first call of the disk.
+// Writes the body down as the next record. Memory is asked for before the first call of the disk.
 fn keep<D: Disk>(disk: &mut D, journal: &mut Journal, body: &[u8]) -> Result<(), CheckFault>
     requires body { MayKeep body.now journal.old }
     requires stands { Stands D.tells journal.old disk.old }
@@ -77,7 +77,7 @@ impl<D: Disk> Store<D> {
                 return Err(StoreFault::Disk);
             }
         }
-        // Only now, with the record on the disk.
+        // The update is made only now, with the record on the disk.
         self.vault.commit(prepared);
         Ok(self.vault.catalogue().epoch())
     }

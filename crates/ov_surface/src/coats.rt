@@ -7,7 +7,7 @@ use ov_base::Key;
 use ov_ctr::apply_at;
 
 /// Lays the base coat of a file under the access key of its base node, or takes it off. The first
-/// of the bytes stands at the place `start` of the file. It takes no memory.
+/// of the bytes is at the place `start` of the file. It takes no memory.
 pub fn base_encrypt(access: &Key, file: u32, start: u64, bytes: &mut [u8])
     requires { start + length bytes.old ≤ 4294967296 }
     ensures { bytes.new ≡ base_coat access.now.bytes file start bytes.old }
@@ -16,7 +16,7 @@ pub fn base_encrypt(access: &Key, file: u32, start: u64, bytes: &mut [u8])
 }
 
 /// Lays the surface coat of a file under the key of a surface node, or takes it off. The first of
-/// the bytes stands at the place `start` of the file. It takes no memory.
+/// the bytes is at the place `start` of the file. It takes no memory.
 pub fn over_encrypt(key: &Key, file: u32, start: u64, bytes: &mut [u8])
     requires { start + length bytes.old ≤ 4294967296 }
     ensures { bytes.new ≡ surface_coat key.now.bytes file start bytes.old }

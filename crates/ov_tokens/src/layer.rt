@@ -13,13 +13,13 @@ pub trait Layer {
     ghost use Rattle.ov_tokens.specs.Labels.{label_of, tag_of};
     ghost use Rattle.ov_tokens.specs.declared.label.Kind.{Kind};
 
-    /// The kind of its labels.
+    /// The kind of the layer's labels.
     ghost label_kind: { Kind };
 
-    /// The tag byte of its labels, as a number.
+    /// The tag byte of the layer's labels, as a number.
     ghost TAG: { ℕ };
 
-    /// The tag byte of its labels.
+    /// The tag byte of the layer's labels.
     const TAG: u8;
 
     /// The label of a node.

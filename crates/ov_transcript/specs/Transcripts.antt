@@ -75,8 +75,8 @@ first_request (commands.Read user file) = requests.Ask (questions.Key user)
 first_request (commands.List file) = requests.List file
 first_request commands.Epoch = requests.Hello
 
--- What is asked after that where nothing is refused. It follows from the masters and from the
--- history without the bytes of its files.
+-- What is asked for a command after its first request, where nothing is refused. It follows from
+-- the masters and from the history without the bytes of its files.
 abbrev pub later_requests : Masters → History → Matrix → Command → List Request
 later_requests k h m (commands.Enrol user) = update_at k h (PlainEnrol user)
 later_requests k h m (commands.Create file names bytes) =

@@ -29,7 +29,7 @@ pub fn reads_are_transcribed()
     ensures front { ReadsAreFronts }
 {}
 
-/// A command has one transcript at a history, and so have some commands, one after the other.
+/// A command has one transcript at a history, as do some commands, one after the other.
 pub fn transcripts_are_unique()
     ensures one { TranscriptsAreUnique }
     ensures runs { RunsHaveOneTranscript }

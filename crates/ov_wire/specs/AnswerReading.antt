@@ -129,46 +129,46 @@ next_at n = number_that w32 (between (n + 1) (n + 1))
 
 -- ---- each kind byte that may come, and how what follows it is read
 
--- of an answer to Hello
+-- the rows of an answer to Hello
 abbrev pub hello_rows : List Row
 hello_rows = (0x81, making welcome welcome_at) ∷ no_memory ∷ []
 
--- of an answer to Ask
+-- the rows of an answer to Ask
 abbrev pub ask_rows : Question → List Row
 ask_rows question =
     (0x82, making known (known_at question)) ∷ refused (ask_refusals question) ∷ no_memory ∷ []
 
--- of an answer to Cover
+-- the rows of an answer to Cover
 abbrev pub cover_rows : List Row
 cover_rows = (0x83, making plan plan_at) ∷ refused create_refusals ∷ no_memory ∷ []
 
--- of an answer to Update
+-- the rows of an answer to Update
 abbrev pub update_rows : ℕ → List ℕ → List Row
 update_rows epoch spelling =
     (0x84, making answers.Accepted (next_at epoch)) ∷ refused (update_refusals spelling)
     ∷ (0x89, making answers.Stale (greater_at epoch)) ∷ bare 0x8a answers.BadTag
     ∷ device_fault ∷ no_memory ∷ []
 
--- of an answer to Chain
+-- the rows of an answer to Chain
 abbrev pub chain_rows : List Row
 chain_rows = (0x85, making chained chained_at) ∷ refused read_refusals ∷ no_memory ∷ []
 
--- of an answer to Chunk
+-- the rows of an answer to Chunk
 abbrev pub chunk_rows : ℕ → ℕ → List Row
 chunk_rows generation count =
     (0x86, making answers.Bytes (up_to (most_chunk count))) ∷ refused (NoFile ∷ [])
     ∷ (0x8c, making answers.Moved (greater_at generation)) ∷ device_fault ∷ no_memory ∷ []
 
--- of an answer to Page
+-- the rows of an answer to Page
 abbrev pub page_rows : ℕ → List Row
 page_rows part = (0x87, making answers.PageOf (entry_or_none_at part)) ∷ no_memory ∷ []
 
--- of an answer to List
+-- the rows of an answer to List
 abbrev pub list_rows : List Row
 list_rows =
     (0x8f, making answers.Listed (names_at MAX_USERS)) ∷ refused (NoFile ∷ []) ∷ no_memory ∷ []
 
--- of an answer to this request
+-- the rows of an answer to this request
 abbrev pub answer_rows : Request → List Row
 answer_rows requests.Hello = hello_rows
 answer_rows (requests.Ask question) = ask_rows question

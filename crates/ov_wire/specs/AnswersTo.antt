@@ -50,7 +50,7 @@ ask_refusals (questions.Grant user file) = grant_refusals
 ask_refusals (questions.Revoke user file) = revoke_refusals
 ask_refusals (questions.Key user) = NoUser ∷ []
 
--- of an update with this spelling
+-- the refusals of an update with this spelling
 abbrev pub update_refusals : List ℕ → List Refusal
 update_refusals [] = []
 update_refusals (kind ∷ bytes) =

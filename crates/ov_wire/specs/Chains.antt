@@ -22,16 +22,16 @@ step_field step = label_bytes step.to ++ token_field step.token
 abbrev pub chain_field : Chain → List ℕ
 chain_field chain = u32 chain.root ++ counted step_field chain.steps
 
--- the kinds of labels in a chain of this many steps: in the base layer all lead to derivation keys,
+-- the kinds of labels in a chain of this many steps in the base layer: all lead to derivation keys,
 -- or one alone to an access key
 abbrev pub base_kinds : ℕ → List Kind
 base_kinds count = if count == 1 then Derive ∷ Access ∷ [] else Derive ∷ []
 
--- in the surface layer
+-- the kinds of labels in a chain of this many steps in the surface layer
 abbrev pub surface_kinds : ℕ → List Kind
 surface_kinds count = Surface ∷ []
 
--- in this layer
+-- the kinds of labels in a chain of this many steps in this layer
 abbrev pub kinds_of : Side → ℕ → List Kind
 kinds_of sides.Base = base_kinds
 kinds_of sides.Surface = surface_kinds

@@ -111,13 +111,13 @@ FeedsAll old new pieces before after (Err Memory) =
 
 -- ---- what is kept of a frame that isn't whole
 
--- what came of it
+-- what came of the frame that isn't whole
 abbrev pub state_rest : State → List ℕ
 state_rest (states.Length head filled) = take filled head
 state_rest (states.Frame wanted body) = u32 wanted ++ body.items
 state_rest states.Bad = []
 
--- whether its length field is outside the limits
+-- whether the length field of that frame is outside the limits
 abbrev pub is_bad : State → Bool
 is_bad (states.Length head filled) = false
 is_bad (states.Frame wanted body) = false

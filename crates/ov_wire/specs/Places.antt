@@ -4,7 +4,7 @@ use Rattle.ov_base.specs.declared.limits.TheConstants.{MAX_FRAME_BYTES}
 use Rattle.ov_wire.specs.declared.fault.WireFault.{WireFault}
 use Rattle.ov_wire.specs.declared.fault.WireFault.TheVariants.{Bad, Memory}
 
--- none where memory ran out
+-- the place that a fault names; none where memory ran out
 abbrev pub place_of : WireFault → Option ℕ
 place_of (Bad place) = Some place
 place_of Memory = None

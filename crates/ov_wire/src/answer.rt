@@ -51,34 +51,34 @@ pub struct Chained {
 /// What a server answers to a request.
 #[derive(Drop)]
 pub enum Answer {
-    /// To Hello.
+    /// The answer to Hello.
     Welcome(Welcome),
-    /// To Ask.
+    /// The answer to Ask.
     Known(Known),
-    /// To Cover.
+    /// The answer to Cover.
     Plan(Plan),
-    /// To Update: the epoch that it made.
+    /// An answer to Update: the epoch that it made.
     Accepted { epoch: u32 },
-    /// To Chain.
+    /// The answer to Chain.
     Chained(Chained),
-    /// To Chunk.
+    /// An answer to Chunk: the bytes.
     Bytes { bytes: Octets },
-    /// To Page: the entry, where there is one.
+    /// The answer to Page: the entry, where there is one.
     PageOf { entry: Option<Octets> },
     /// The command is refused.
     Refused { refusal: Refusal },
-    /// To Update: the server's epoch is another.
+    /// An answer to Update: the server's epoch is another.
     Stale { epoch: u32 },
-    /// To Update: the owner's tag isn't right.
+    /// An answer to Update: the owner's tag isn't right.
     BadTag,
     /// The request isn't in the grammar; `at` is the place of its first wrong byte.
     BadRequest { at: u32 },
-    /// To Chunk: the file's generation is another.
+    /// An answer to Chunk: the file's generation is another.
     Moved { generation: u32 },
     /// The server's disk failed.
     DeviceFault,
     /// The server's memory ran out.
     NoMemory,
-    /// To List: the names, by user number.
+    /// The answer to List: the names, by user number.
     Listed { names: Names },
 }

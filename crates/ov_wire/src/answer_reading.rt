@@ -210,7 +210,7 @@ pub fn read_answer(alloc: Global, request: &Request, frame: &[u8]) -> Result<Ans
     // An answer that is spelled so is read, unless memory runs out.
     ensures only { (a : Answer) → IsAnswer request.now a → length frame.now ≤ MAX_FRAME_BYTES
         → frame.now ≡ answer_bytes a → Gives place_of (λ x. x) result (Ok a) }
-    // Which place it is.
+    // The place that an error names.
     ensures exact { Gives place_of (λ a. a) result (answer_of request.now frame.now) }
 {
     if frame.len() > MAX_FRAME_BYTES as usize {

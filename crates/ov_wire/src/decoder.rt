@@ -14,7 +14,8 @@ use std::mem;
 
 /// Cuts a stream into frames, whatever the pieces it comes in.
 ///
-/// It keeps the frame that isn't whole, and no more memory for it than its bytes that came want.
+/// It keeps the frame that isn't whole, and no more memory for it than the bytes of it that came
+/// need.
 #[derive(Drop)]
 pub struct Decoder {
     alloc: Global,

@@ -176,7 +176,7 @@ pub fn read_request(alloc: Global, frame: &[u8]) -> Result<Request, WireFault>
     // What is spelled so is read, unless memory runs out.
     ensures only { (r : Request) → HasRequestForm r → frame.now ≡ request_bytes r
         → Gives place_of (λ x. x) result (Ok r) }
-    // Which place it is.
+    // The place that an error names.
     ensures exact { Gives place_of (λ r. r) result (request_of frame.now) }
 {
     if frame.len() > MAX_FRAME_BYTES as usize {

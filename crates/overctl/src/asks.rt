@@ -32,7 +32,7 @@ pub fn asks_of(act: &Act) -> Asks {
     }
 }
 
-/// Whether it stores the bytes of a file.
+/// Whether the act stores the bytes of a file.
 pub fn stores(act: &Act) -> bool {
     matches!(act, Act::Create { file: _, list: _ })
 }

@@ -7,13 +7,13 @@ use std::fmt::{Display, Formatter, Write};
 /// What is said where memory is refused to the program itself.
 pub const OUT_OF_MEMORY: &str = "out of memory";
 
-/// What to do then.
+/// What to do where memory is refused to the program itself.
 pub const FREE_SOME: &str = "free some, and try again";
 
 /// What is said where standard output can't be written.
 pub const UNWRITTEN: &str = "cannot write standard output";
 
-/// What to do then.
+/// What to do where standard output can't be written.
 pub const WRITABLE: &str = "see that it is open, and that there is room";
 
 /// Why the words are no line of a command.
@@ -21,9 +21,9 @@ pub const WRITABLE: &str = "see that it is open, and that there is room";
 pub enum WrongWords<'a> {
     /// There are no words.
     None,
-    /// One is no text.
+    /// One of the words is no text.
     NoText,
-    /// The first is no command.
+    /// The first word is no command.
     Command(&'a str),
     /// There are fewer words than the command takes.
     TooFew,

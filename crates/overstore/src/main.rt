@@ -157,7 +157,7 @@ fn bad_line_of<S: Source>(
     let mut line = Vec::new(alloc);
     let has_end = script.line(number, &mut line)?;
     match lack_of(&line, has_end) {
-        // More of it may come, so that something else is wrong with it.
+        // More of the line may come, so that something else is wrong with it.
         Lack::End if !script.has_ended() => None,
         lack => Some((number, lack)),
     }

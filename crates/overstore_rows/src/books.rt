@@ -20,7 +20,7 @@ static CHANGES: [(usize, u8, usize); 22] = [
     (82, 6, 91),
     (82, 8, 91),
     (82, 255, 91),
-    // Its kind, the length of the name, and the name.
+    // The record's kind, the length of the name, and the name.
     (83, 0, 91),
     (83, 9, 91),
     (84, 0, 91),

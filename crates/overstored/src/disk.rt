@@ -4,9 +4,9 @@ ghost use Rattle.std.specs.Prelude.{◌≡◌};
 use crate::texts::FAILED_WRITE;
 use ov_disk::{Area, Disk, DiskFault};
 
-/// The disk in it, which says so once where a write or a sync of it fails behind one that didn't: the
-/// store over it then refuses every update. Of a disk that fails from the first call on, the end of
-/// the server says more.
+/// A disk over another, which says so once where a write or a sync of that one fails behind one
+/// that didn't: the store then refuses every update. Of a disk that fails from the first call on,
+/// the end of the server says more.
 #[derive(Drop)]
 pub struct SpokenDisk<D, R> {
     disk: D,
@@ -17,7 +17,7 @@ pub struct SpokenDisk<D, R> {
 }
 
 impl<D, R: Eprint> SpokenDisk<D, R> {
-    /// This disk of the store with this book, with a runtime that prints.
+    /// A speaking disk over this disk of the store, with its book and a runtime that prints.
     pub fn new(disk: D, book: String, rt: R) -> SpokenDisk<D, R> {
         SpokenDisk {
             disk,

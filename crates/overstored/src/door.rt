@@ -9,13 +9,13 @@ use std::fmt;
 use std::fmt::{Display, Formatter, Write};
 use std::net::{Net, SocketAddr};
 
-/// Gives the streams of the door in it, and takes them back itself: it says how each session ended
-/// that didn't end between two frames, and lets its stream go. It counts for itself, and tells
-/// nothing of the streams.
+/// A door over another, which gives the streams of that one, and takes them back itself. It says
+/// how each session ended that didn't end between two frames, and lets its stream go. It counts for
+/// itself, and tells nothing of the streams.
 #[derive(Drop)]
 pub struct SpokenDoor<N: Net + AllocGlobal + Drop, R> {
     pub door: TcpDoor<N>,
-    /// Whether it listened.
+    /// Whether the door listened.
     pub listens: bool,
     given: u64,
     closed: bool,
@@ -24,7 +24,7 @@ pub struct SpokenDoor<N: Net + AllocGlobal + Drop, R> {
 }
 
 impl<N: Net + AllocGlobal + Drop, R> SpokenDoor<N, R> {
-    /// This door, which gave nothing yet, with a runtime that prints.
+    /// A speaking door over this one, which gave nothing yet, with a runtime that prints.
     pub fn new(door: TcpDoor<N>, rt: R) -> SpokenDoor<N, R>
         ensures given { result.given ≡ 0 }
         ensures open_ { result.closed ≡ false }

@@ -64,7 +64,7 @@ pub fn error_in(fault: SettingsFault) -> &'static str {
     }
 }
 
-/// What to do about it.
+/// What to do about a settings file that is wrong.
 pub fn hint_on(fault: SettingsFault) -> &'static str {
     match fault {
         SettingsFault::Read => "see that it is a file that you may read",
@@ -102,7 +102,7 @@ pub const CHANGED: (&str, &str) = ("it changed while it was read", "start again"
 /// What is wrong where no server can listen at an address.
 pub const LISTENING: &str = "can't listen there";
 
-/// What is wrong where one that listens can't accept connections.
+/// What is wrong where a server that listens can't accept connections.
 pub const ACCEPTING: &str = "can't accept connections there";
 
 /// What is wrong with an address that has no port, or no number for one.

@@ -17,7 +17,7 @@ const MASTER: Key = Key { bytes: [7; 32] };
 /// How many sets are asked for at a time.
 const ASKED: u32 = 256;
 
-/// How far one of these is from the next.
+/// How far one of these sets is from the next.
 const STRIDE: u32 = 2_897;
 
 // Adds a set, where its users have nodes alone.
@@ -64,7 +64,8 @@ fn fill<L: Layer, G: Graph<L, W>, const W: usize>(
     Ok(())
 }
 
-/// Fills a graph, finds the chain from a user to all twelve so often, and gives the steps of all of these.
+/// Fills a graph, finds the chain from a user to all twelve as often as is said, and gives the
+/// steps of all of these.
 pub fn chains<G: Graph<Base, 4>>(alloc: Global, times: u32) -> Result<usize, Fail> {
     let mut graph = G::new(alloc)?;
     fill::<Base, G, 4>(alloc, &mut graph, MAX_LAYER_NODES)?;

@@ -69,7 +69,7 @@ const NO_ENROL: Row = Row {
     ..ENROL
 };
 
-/// A creation that is so.
+/// A creation for which nothing is asked or printed.
 const NO_CREATE: Row = Row {
     replies: &[],
     out: b"",
