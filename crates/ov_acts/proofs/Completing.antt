@@ -30,7 +30,7 @@ use Rattle.ov_acts.proofs.Commanding.{owned, read_answered}
 
 -- ---- the files
 
--- an act that goes on from right masters, or whose file wasn't read
+-- an act is answered that goes on from right masters, or whose file wasn't read
 masters_found : {P : Type 0} (disk : Type 0) (file : List ℕ) (k : Masters)
     (found : Result ReadMasters Stop) (p q : P) (outcome : Outcome) (Next : ReadMasters → Type 0)
     → IsKeyFile file k.base k.surface → FindsMasters (Some file) found
@@ -45,7 +45,7 @@ masters_found disk file k (Err stops.Read) p q outcome Next key is then goes =
     subst (IsAnsweredOr disk) (sym goes.1) tt
 masters_found disk file k (Err stop) p q outcome Next key is then goes = absurd is
 
--- a reader's that goes on from the right reader
+-- an act is answered that goes on from the right reader
 reader_found : {P : Type 0} (disk : Type 0) (line : List ℕ) (r : Reader)
     (found : Result Reader Stop) (p q : P) (outcome : Outcome) (Next : Reader → Type 0)
     → IsLineOf line r → FindsReader (Some line) found

@@ -86,7 +86,7 @@ reader_found (Some file) (Some rest) front count r long had (inr none) is =
     let same : file ≡ front = had ∙ ap (λ x. front ++ x) none ∙ append-nil front in
     subst (λ f. IsLineOf f r) (sym same) is
 
--- where the front has none, neither has the file
+-- where the front of a file has no reader, neither has the file
 pub no_reader_found : (old new : Option (List ℕ)) (front : List ℕ) (count : ℕ)
     → length front ≡ count → Consumes old new front → (count ≡ 206) ⊎ IsAtEnd new
     → ((r : Reader) → IsLineOf front r → ⊥)

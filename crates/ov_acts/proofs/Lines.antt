@@ -181,7 +181,7 @@ short_no_line words few none = λ job is.
 
 -- ---- what code finds
 
--- no list of names in so few bytes
+-- no list of names is written in the text
 pub none_written : {E : Type 0} (found : Result (Option (List (List ℕ))) E) (bytes text : List ℕ)
     → bytes ≡ text
     → IfOk found (λ f. IfNone f ((names : List (List ℕ)) → IsList bytes names → ⊥))

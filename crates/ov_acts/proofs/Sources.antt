@@ -129,7 +129,7 @@ module _ {P : Type 0} (peer : PeerTells P) where
   no_keys (acts.Key user) file body p q outcome none (found, is, goes) =
       no_masters file found p q outcome _ none is goes
 
-  -- the status of such an end
+  -- the status of an act that stops at the file of keys
   ends_so : (p q : P) (outcome : Outcome) (old new : Option (List ℕ)) (status : ℕ)
       → StopsThere p q outcome → PutsOutcome outcome old new status
       → (q ≡ p) × ((status ≡ 10) ⊎ (status ≡ 5))

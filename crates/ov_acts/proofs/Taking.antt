@@ -73,7 +73,7 @@ module _ {K B : Type 0} (keys_tells : SourceTells K) (body_tells : SourceTells B
     body = inl refl;
   }
 
-  -- one whose masters were found
+  -- an act whose masters were found
   pub both_files : (act : Act) (k k_after : K) (b b_after : B) (masters : ReadMasters)
       → IsOwners act → FindsMasters (keys_tells.left k) (Ok masters)
       → TakesUpTo keys_tells 131 k k_after

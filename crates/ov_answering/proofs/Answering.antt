@@ -208,9 +208,10 @@ module _ {D : Type 0} (tells : DiskTells D) where
       reaches = s.reaches;
     }
 
-    -- at its end the epoch is asked for
+    -- at the end of a script the epoch is asked for
     module _ (last : KeptOn D) where
-      -- what keeps the history from before that question or behind it keeps what it was
+      -- what keeps the history from before the question for the epoch or behind it keeps what it
+      -- was
       epoch_first : (text t : List ℕ) (s : AnsweredSoFar tells k p text t line room old now first mid) (c : Image)
           → KeepsStep k (after_all p s.commands) AskEpoch c → KeepsFirst k p text c
       epoch_first text t s c (inl keeps) = (s.commands, (line, room, t, s.begins), inr keeps)
@@ -273,7 +274,7 @@ module _ {D : Type 0} (tells : DiskTells D) where
           subst (λ (x : Stop). Stops tells k p text x old now first last) (sym is)
           (by_fault text t s fault (steps k (after_all p s.commands) masters s.stands))
 
-    -- a read or memory ends it
+    -- a failed read or refused memory ends the script
     pub answered_first : (input rest : Option (List ℕ))
         → IfSome input (λ text. SoFar tells k p text rest line room old now first mid)
         → IfSome input (λ text. AnsweredFirst tells k p text old now first mid)
@@ -404,7 +405,7 @@ module _ {D : Type 0} (tells : DiskTells D) (mid last : KeptOn D) (command : Com
       (k : Masters) (p : PlainHistory) → mid.kept.masters ≡ k → StandsFor mid.kept p
       → Answers tells k p command r old new mid last
 
-  -- behind an answer it goes on so
+  -- behind an answer what is kept stands for a history
   pub kept_more : AreAnswers None → (q : PlainHistory) × StandsFor mid.kept q
       → (q : PlainHistory) × StandsFor last.kept q
   kept_more answers (q, stands) =

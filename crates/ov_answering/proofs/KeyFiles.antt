@@ -41,7 +41,7 @@ pub image_read : (P : Masters → Type 0) (own : Masters) (keys : Option (List �
 image_read P own None read holds = tt
 image_read P own (Some file) read holds = λ k are. subst P (same_masters file own k read are) holds
 
--- no masters were read
+-- what is claimed under the masters of a key file holds where no masters were read
 pub from_none : (Q : Masters → PlainHistory → List ℕ → Type 0) (keys input : Option (List ℕ)) → IfSome keys (λ file. HasMasters file → ⊥)
     → IfSome keys (λ file. IfSome input (λ text. (k : Masters) (p : PlainHistory) → AreMasters file k → Q k p text))
 from_none Q None input none = tt
@@ -53,7 +53,7 @@ pub image_none : (P : Masters → Type 0) (keys : Option (List ℕ)) → IfSome 
 image_none P None none = tt
 image_none P (Some file) none = λ k are. absurd (none (k.base, k.surface, are))
 
--- whatever they are
+-- what holds whatever the masters are
 pub from_all : (Q : Masters → PlainHistory → List ℕ → Type 0) (keys input : Option (List ℕ)) → ((k : Masters) (p : PlainHistory) (text : List ℕ) → Q k p text)
     → IfSome keys (λ file. IfSome input (λ text. (k : Masters) (p : PlainHistory) → AreMasters file k → Q k p text))
 from_all Q None input all = tt

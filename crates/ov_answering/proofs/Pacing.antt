@@ -214,7 +214,7 @@ lent_source source = record {
   takes = λ a b. (b.ghost_name ≡ a.ghost_name) × source.takes a.now b.now;
 }
 
--- what is said of it is said of the source
+-- what is said of a source behind a loan is said of the source
 pub paced_lent : {S : Type 0} (source : SourceTells S) (p : PlainHistory) (input : Option (List ℕ))
     (first last : MutBor S) (final : S) (old new : Option (List ℕ)) → last.now ≡ final
     → IfSome (prepend_known [] input) (λ _. IsPaced (lent_source source) p first last old new)

@@ -41,7 +41,7 @@ use Rattle.ov_answering.proofs.Surviving.{answered_error, answered_whole, front_
 
 -- ---- transcripts
 
--- one more of them
+-- the transcripts of some commands and of one more
 one_more : (k : Masters) (p : PlainHistory) (commands : List Command) (command : Command) (bytes one : List ℕ)
     → Transcripts k p commands bytes → Transcribed k (after_all p commands) command one → Transcripts k p (commands ++ command ∷ []) (bytes ++ one)
 one_more k p [] command bytes one none traced =
@@ -54,7 +54,7 @@ one_more k p (c ∷ commands) command bytes one (front, more, first, rest, is) t
   ap (λ b. b ++ one) is ∙ append_assoc front more one,
 )
 
--- the last of them
+-- the transcript of the last of some commands
 last_one : (k : Masters) (p : PlainHistory) (commands : List Command) (command : Command) (bytes : List ℕ)
     → Transcripts k p (commands ++ command ∷ []) bytes
     → (before : List ℕ) × (one : List ℕ) × Transcripts k p commands before × Transcribed k (after_all p commands) command one × (bytes ≡ before ++ one)
@@ -113,7 +113,7 @@ fault_traced k p command Made (WrongTag bad) out t_old t_new traced = (kept out,
 
 -- ---- the loop
 
--- nothing yet
+-- nothing was put to the trace yet
 pub none_traced : (k : Masters) (p : PlainHistory) (first : Kept) (line room : ℕ) (input out trace : Option (List ℕ)) → StandsFor first p → line ≡ 1 → room ≡ MAX_SCRIPT_BYTES
     → IfSome input (λ text. TracesSoFar k p text input line room first out out trace trace)
 none_traced k p first line room None out trace stands l r = tt
@@ -142,7 +142,7 @@ module _ (k : Masters) (p : PlainHistory) (mid : Kept) (masters : mid.masters �
     traced = subst (λ (all : List Command). TranscribesAll k p all t_old t_now) (sym (none s.commands)) s.traced;
   }
 
-  -- a read or memory ends it
+  -- a failed read or refused memory ends the script
   pub traced_first : (input rest : Option (List ℕ)) → IfSome input (λ text. SoFar text rest) → IfSome input (λ text. TracedFirst k p text old now t_old t_now)
   traced_first None rest s = tt
   traced_first (Some text) None s = absurd s

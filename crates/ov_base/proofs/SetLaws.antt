@@ -141,7 +141,7 @@ each_within a b p q = same_members a b (λ n. both_ways (has a n) (has b n) (p n
 
 -- ---- subsets
 
--- what the test says
+-- what the test of subsets says
 pub within-Within : (a b : ℕ) → within a b ≡ true → Within a b
 within-Within a b h n here = and_left (has a n) (has b n) (sym (has-both a b n) ∙ ap (λ s. has s n) (eqb-true _ _ h)) here
 
@@ -161,11 +161,11 @@ single_within n t q m h = rw (Has-single n m h) q
 pub union_within : (a b c : ℕ) → Within a c → Within b c → Within (union a b) c
 union_within a b c p q n h = elim (union-Has a b n h) [ inl e ↦ p n e | inr e ↦ q n e ]
 
--- a set lies within itself with one more
+-- a set lies within the set with one user more
 pub within_with : (s n : ℕ) → Within s (with s n)
 within_with s n = union_left s (single n)
 
--- which lies within each set that has both
+-- a set with one user more lies within each set that has both
 pub with_within : (s n t : ℕ) → Within s t → Has t n → Within (with s n) t
 with_within s n t p q = union_within s (single n) t p (single_within n t q)
 
@@ -173,7 +173,7 @@ and_first : (x y : Bool) → (x && y) ≡ true → x ≡ true
 and_first true y e = refl
 and_first false y e = e
 
--- a set without one lies within the set
+-- a set without one user lies within the set
 pub without_within : (s n : ℕ) → Within (without s n) s
 without_within s n m h = and_first (has s m) (not (m == n)) (sym (has-without s n m) ∙ h)
 

@@ -95,7 +95,7 @@ who_if true set user other held = elim (union-Has set (single other) user held) 
 ]
 who_if false set user other held = inl held
 
--- nobody else holds it
+-- nobody but its set's users and those who were given access holds a node
 who_holds : (accesses : List Access) (node set user : ℕ)
     → Has (with_accesses accesses node set) user
     → Has set user ⊎ Contains accesses (record { user = user; node = node })

@@ -13,7 +13,7 @@ use Rattle.ov_graph.specs.Contents.{joined}
 use Rattle.ov_graph.proofs.ListLaws.{Contains-cases, Contains-none}
 use Rattle.ov_base_layer.specs.Seals.{access_token, cover_tokens, edge_token}
 
--- of edges from these starts
+-- the tokens of edges from these starts
 edges_sealed : (kind : Kind) (master : List ℕ) (node : ℕ) (starts : List ℕ) (edge : Edge)
     → Contains (joined starts (map (λ from. edge_token kind master from node) starts)) edge
     → edge.token ≡ edge_token kind master edge.from node

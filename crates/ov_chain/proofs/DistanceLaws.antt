@@ -106,7 +106,7 @@ distance_beyond sets root n ds es other inside edges right = go (least_start ds 
   go None e = λ (m, w). none m w e
   go (Some k) e = some k e
 
--- the root's own
+-- the distance of the root itself is 0
 pub distance_root : (sets : List ℕ) (root : ℕ) → IsFound sets root root (Some 0)
 distance_root sets root = (record { walk = refl; least = λ m w. omega arith }, omega arith)
 

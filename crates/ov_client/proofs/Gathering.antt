@@ -28,13 +28,13 @@ module _ (r : Reader) (tries : List ℕ) (c : Chained) (stored : List ℕ) where
   abbrev whole : Stage
   whole = Ends (judged (keys_along r c) c (uncovered (keys_along r c) c.file 0 stored))
 
-  -- bytes are left
+  -- bytes of the file are left
   pub asks_more : length stored < c.length → goes_on r tries c stored ≡ AsksChunk tries c stored
   asks_more low =
       ap (λ (b : Bool). if b then AsksChunk tries c stored else whole)
       (lt_is_true (length stored) c.length low)
 
-  -- all came
+  -- all bytes of the file came
   pub asks_no_more : c.length ≤ length stored → goes_on r tries c stored ≡ whole
   asks_no_more high =
       ap (λ (b : Bool). if b then AsksChunk tries c stored else whole)
@@ -82,7 +82,7 @@ module _ {P : Type 0} (peer : PeerTells P) (r : Reader) (file : List ℕ) where
           reaches = reaches;
         }
 
-    -- memory ran out for them
+    -- memory ran out for the bytes of a chunk
     pub no_room : (chunk : List ℕ)
         → Reaches peer p q r file (goes_on r tries c [])
         (goes_on r tries c (so_far.stored ++ chunk))
@@ -92,7 +92,7 @@ module _ {P : Type 0} (peer : PeerTells P) (r : Reader) (file : List ℕ) where
         (goes_on r tries c (so_far.stored ++ chunk)) (Err client.Memory) reaches
         (forgot peer r file q (goes_on r tries c (so_far.stored ++ chunk)))
 
-    -- all came
+    -- all bytes of the file came, without their coats
     pub gathers_all : keys ≡ keys_along r c → c.length ≤ length plain
         → Reaches peer p m r file (goes_on r tries c []) (after_gathered r tries c (Bytes plain))
     gathers_all same high =

@@ -218,7 +218,7 @@ module _ (k : Masters) (r : Reader) (file : List ℕ) (holds : HoldsRootKeys k r
       (all_stand asks next last (later (later v others) made) end histories
       (now_if (is_chain a.request) (sealed k p) at_one) under_k one goes along right)
 
-  -- how it closes
+  -- how a read closes
   closed_so : (end : Service) (last : Stage) (unanswered : Option (List ℕ))
       (result : Result (List ℕ) ClientFault)
       (at_one : Option SealedHistory)

@@ -47,7 +47,7 @@ name_no_space (b ∷ rest) p =
 
 -- ---- the first space
 
--- the words before it are the same in two ways to cut a text there
+-- the words before a space are the same in two ways to cut a text there
 first_word : (xs ys x y : List ℕ) → HasNoSpace xs → HasNoSpace ys → xs ++ 32 ∷ x ≡ ys ++ 32 ∷ y
     → xs ≡ ys
 first_word [] [] x y p q e = refl
@@ -114,7 +114,7 @@ splits_at_first (b ∷ bytes) (suc n) within none is =
       whole = ap (λ l. b ∷ l) whole;
     }
 
--- where there is none
+-- bytes among which no space is found have none
 pub nowhere : (bytes : List ℕ) → Nowhere (Passes (is_byte 32) bytes) 0 (length bytes)
     → HasNoSpace bytes
 nowhere [] none = tt

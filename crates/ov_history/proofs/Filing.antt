@@ -50,7 +50,7 @@ refiled_sent k true epoch surface number f bytes text sent = sent
 refiled_sent k false epoch surface number f bytes text sent =
     record { base = sent.base; tag = sent.tag }
 
--- a new surface is no change of either
+-- a new surface is no change of a file's text and tag
 settled_sent : (k : Masters) (epoch : ℕ) (sets : List ℕ) (wants : List (Option ℕ))
     (files : List Filed) (place number : ℕ)
     (bytes text : List ℕ)
@@ -67,7 +67,8 @@ settled_sent k epoch sets (want ∷ wants) (f ∷ files) (suc place) number byte
 
 -- ---- all files
 
--- each file came so
+-- each file came as it should: its text is its bytes in the coat of its base node, and its tag is
+-- theirs
 record AllSent (k : Masters) (files : List Filed) (bytes texts : List (List ℕ)) : Type 0 where
   bytes_many : length bytes ≡ length files
   texts_many : length texts ≡ length files

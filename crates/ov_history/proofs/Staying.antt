@@ -158,7 +158,7 @@ created_at y name list size =
     (place_at (grown y u).files n)
     ∙ ap (λ (p : Place). p.node) (last_item y.files new n no_place refl)
 
--- which has that list
+-- the node of a new file has the file's list
 created_list : (h : History) (name : List ℕ) (list size : ℕ)
     → let next = with_update h (Created name list size) in
     slice_get (layers_of next).base (place_in next (length (matrix_of h).files)).node ≡ Some list

@@ -24,7 +24,7 @@ ended_or last code old new status (inr (inr (is, put))) = inr (inl is)
 
 -- ---- the status of a server at its door
 
--- one of the statuses with which it ends
+-- the statuses with which serving ends
 Ended : ℕ → Type 0
 Ended status = (status ≡ 0) ⊎ ((status ≡ 6) ⊎ ((status ≡ 7) ⊎ (status ≡ 13)))
 

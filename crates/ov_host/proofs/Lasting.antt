@@ -51,7 +51,8 @@ updates-push (first ∷ list) spelling =
 -- ---- images
 
 module _ (k : Keys) (g : SealedHistory) (us : List SealedUpdate) (i : Image) where
-  -- what keeps it with first ones of these updates does so of more
+  -- an image that keeps the history with first ones of these updates keeps it with first ones of
+  -- more
   first_more : (made : List SealedUpdate) → KeepsFirst k g us i → KeepsFirst k g (us ++ made) i
   first_more made (first, (more, is), keeps) =
       (first, (more ++ made, ap (λ (l : List SealedUpdate). l ++ made) is ∙ append_assoc first more made), keeps)
@@ -59,7 +60,8 @@ module _ (k : Keys) (g : SealedHistory) (us : List SealedUpdate) (i : Image) whe
   all_first : Keeps k (followed g us) i → KeepsFirst k g us i
   all_first keeps = (us, ([], sym (append-nil us)), keeps)
 
-  -- where the disk hadn't failed
+  -- an image that keeps the history with some of these updates keeps it with some of more, where
+  -- the disk hadn't failed
   some_more : (made : List SealedUpdate) (was now : Bool) → was ≡ false → KeepsSome k g us was i → KeepsSome k g (us ++ made) now i
   some_more made was now sound (inl first) = inl (first_more made first)
   some_more made was now sound (inr (inl all)) = inl (first_more made (all_first all))

@@ -87,7 +87,7 @@ first_of-spelled g h low less same =
     sym (from_be_bytes-to_be_bytes_4 g.first low) ∙ ap (from_be_bytes w32) four
     ∙ from_be_bytes-to_be_bytes_4 h.first less
 
--- whatever the keys
+-- an image keeps one history, whatever the keys
 once : (k other : Keys) (g h : SealedHistory) (i : Image) → Keeps k g i → Keeps other h i → g ≡ h
 once k other g h i one two =
     let same : born (header_of k g) (bodies_of g.updates)

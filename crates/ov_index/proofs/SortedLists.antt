@@ -6,7 +6,7 @@ use Rattle.ov_graph.proofs.ListLaws.{Contains-first, Contains-later, Contains-ca
 use Rattle.ov_index.specs.Orders.{Ascends}
 
 module _ (IsTo : ℕ → ℕ → Type 0) where
-  -- the first is so to each of the others, and these to one another
+  -- the first item is related so to each of the others, and these to one another
   abbrev pub Sorted : List ℕ → Type 0
   Sorted [] = Unit {0}
   Sorted (x ∷ xs) = ((y : ℕ) → Contains xs y → IsTo x y) × Sorted xs

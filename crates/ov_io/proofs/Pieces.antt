@@ -6,7 +6,7 @@ use Rattle.ov_io.specs.Calls.{TakesPieces, no_piece, one_more, TakesWhile, each_
 use Rattle.ov_io.specs.Tells.{SourceTells}
 
 module _ {S : Type 0} (tells : SourceTells S) where
-  -- nothing was taken behind them
+  -- nothing was taken behind these pieces
   pub pieces_same : (P : List ℕ → Type 0) (old mid new : S) (seen : List ℕ) → new ≡ mid → TakesPieces tells P old mid seen → TakesPieces tells P old new seen
   pieces_same P old mid new seen e t = subst (λ s. TakesPieces tells P old s seen) (sym e) t
 
@@ -20,7 +20,7 @@ module _ {S : Type 0} (tells : SourceTells S) where
   pieces_as P Q old _ _ wider (one_more mid new seen piece before u t c some) =
       one_more mid new seen piece (pieces_as P Q old mid seen wider before) (wider seen u) t c some
 
-  -- the source lost them
+  -- the source lost the pieces that were taken
   pub pieces_consumed : (P : List ℕ → Type 0) (old new : S) (seen : List ℕ) → TakesPieces tells P old new seen → Consumes (tells.left old) (tells.left new) seen
   pieces_consumed P old _ _ (no_piece new e) = subst (λ s. Consumes (tells.left old) (tells.left s) []) (sym e) (Consumes-nil (tells.left old))
   pieces_consumed P old _ _ (one_more mid new seen piece before u t c some) =
@@ -40,7 +40,7 @@ module _ {S : Type 0} (tells : SourceTells S) where
   while_as P E D F G old new e f (each_gave seen t ok) = each_gave seen t (λ g. ok (f g))
   while_as P E D F G old new e f (last_gave_none mid seen t u last c end) = last_gave_none mid seen t u last c (e end)
 
-  -- nothing was taken behind them
+  -- nothing was taken behind these takes
   pub while_same : (P : List ℕ → Type 0) (E F : Type 0) (old mid new : S) → new ≡ mid → TakesWhile tells P E F old mid → TakesWhile tells P E F old new
   while_same P E F old mid new e t = subst (λ s. TakesWhile tells P E F old s) (sym e) t
 

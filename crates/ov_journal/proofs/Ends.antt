@@ -86,7 +86,7 @@ module _ (end : ℕ) (book : List ℕ) (ends : EndsAt end book) where
       let records : records_after 78 (front ++ t) ≡ prepended bodies r = is_front.reads t some ∙ ap (prepended bodies) is in
       λ i. record { head = take_front 78 end book t past_header (omega (arith, is_front.inside)) i; records = records i }
 
-  -- with any gate there that isn't open, whatever follows it
+  -- the contents of Book are the same with any gate there that isn't open, whatever follows it
   pub shut_same : (g : ℕ) (more c : List ℕ) → g ≢ 1 → c ≡ front ++ g ∷ more → contents_of c ≡ contents_of book
   shut_same g more c shut is =
       let none : Records = record { bodies = []; bad = false } in

@@ -33,7 +33,7 @@ read_none book = record {
   bad = ap (λ (r : Records). r.bad) (records_after-drop 78 book);
 }
 
--- the gate there ends them
+-- the gate that was reached ends the records
 pub found : (end : ℕ) (offsets : List ℕ) (bad : Bool) (book : List ℕ) → ReadTo end offsets book → records_after 0 (drop end book) ≡ record { bodies = []; bad = bad } → IsFound end offsets bad book
 found end offsets bad book r is =
     let all : (contents_of book).records.bodies ≡ r.so_far = r.bodies ∙ ap (λ (x : Records). r.so_far ++ x.bodies) is ∙ append-nil r.so_far in

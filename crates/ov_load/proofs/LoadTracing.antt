@@ -80,14 +80,14 @@ module _ {D : Type 0} (tells : DiskTells D) (k : Masters) (h : PlainHistory) (lo
     abbrev q : PlainHistory
     q = after_first h load place
 
-    -- one more was answered
+    -- one more command was answered
     all_on : (command : Command) → ((j : PlainHistory) → StandsFor mid.kept j → Transcribes mid.kept.masters j command now new)
         → TranscribesAll k h (first_commands load.number place ++ command ∷ []) old new
     all_on command traces =
         all_more k h [] (first_commands load.number place) command old now new sent
         (subst (λ (x : Masters). Transcribes x q command now new) masters (traces q s.stands))
 
-    -- one more wasn't
+    -- one more command wasn't answered
     stops_in : (command : Command) → ((bytes : List ℕ) → IsTranscriptFront k q command bytes → IsFrontAt k h load place bytes)
         → ((bytes : List ℕ) → (Transcribed k q command bytes → HasMade tells k q command mid.disk last.disk)
         → Holds tells k q mid.disk → (c : Image) → tells.may_leave last.disk c → IsMadeAt k h load place bytes c)
@@ -195,7 +195,7 @@ module _ {D : Type 0} (tells : DiskTells D) (k : Masters) (h : PlainHistory) (lo
     leaves_end Memory steps holds c left = keeps_end c ((steps holds).now c left)
     leaves_end (Tag bad) steps holds c left = absurd steps
 
-    -- behind the last command none is made
+    -- behind the last command no other is made
     none_made : (bytes : List ℕ)
         → (Transcribed k (after_load h load) AskEpoch bytes → HasMade tells k (after_load h load) AskEpoch mid.disk last.disk)
         → Holds tells k (after_load h load) mid.disk → (c : Image) → tells.may_leave last.disk c → IsMadeAt k h load (WORKLOAD_USERS + load.count) bytes c
@@ -265,7 +265,7 @@ as_unsent tells k h load last trace holds status never stands = record {
   };
 }
 
--- the disk stands for it
+-- the disk stands for the history
 pub sent_holding : {D : Type 0} (tells : DiskTells D) (k : Masters) (h : PlainHistory) (load : Load) (last : D) (old new : Option (List ℕ)) (holds : Type 0)
     → holds → TracedTo tells k h load last old new holds → TracedTo tells k h load last old new (Unit {0})
 sent_holding tells k h load last old new holds held t = record {

@@ -153,13 +153,13 @@ module _ {D : Type 0} (tells : DiskTells D) (surface : List ℕ) (e : Errand)
               ∙ ap (λ x. Ok (answers.Accepted x)) next,
         )
 
-    -- where the disk failed, so it reads
+    -- where the disk failed, the reply reads so
     failed : IsFaulted s t (frame_of epoch u) reply
         → answer_of (update_request surface epoch u) reply ≡ Ok answers.DeviceFault
     failed is =
         reads_back (update_request surface epoch u) answers.DeviceFault reply tt tt is.spelled
 
-    -- whatever becomes of the reply
+    -- an update was made or failed, whatever becomes of the reply
     comes_cut : (result : Result ℕ OwnerFault) → IsAskFault result
         → asked s (frame_of epoch u) reply t
         → IsMade s t epoch u reply result ⊎ IsFailed s t epoch u reply result

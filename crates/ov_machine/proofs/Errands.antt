@@ -42,7 +42,7 @@ pub record IsMakeable (c : Catalogue) (epoch : ℕ) (u : SealedUpdate) : Type 0 
   pub free : refusal_shown c (brief u) ≡ None
   pub parts : HasParts (outline c) (brief u)
 
--- by the answer something is sealed that is made there, or the command is refused
+-- something is sealed of the answer that is made at the store, or the command is refused
 abbrev pub IsTold : Catalogue → Result (ℕ × SealedUpdate) OwnerFault → Type 0
 IsTold c told =
     ((why : Refusal) × (told ≡ Err (faults.Refused why)))

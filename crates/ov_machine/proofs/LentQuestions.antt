@@ -280,7 +280,7 @@ module _ {D T : Type 0} (tells : DiskTells D) (sink : SinkTells T) (k : Masters)
             at_old (opens_as k d.peer.now read_keys) refl)
             (read_puts cause) put_a put_d)
 
-  -- whatever came of it
+  -- a read, whatever came of it
   module _ (user file : List ℕ) (form : HasRequestForm (requests.Ask (questions.Key user)))
       (d : Peer) (some : (g : SealedHistory) × Serves tells g s) (sound : old.failed ≡ false) where
     sound_s : s.failed ≡ false

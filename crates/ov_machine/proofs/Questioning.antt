@@ -69,7 +69,7 @@ module _ {D : Type 0} (tells : DiskTells D) {P : Type 0} (peer : PeerTells P)
   forgets_stays p q (inr (inr (reply, asks))) =
       stays p q reply (seat.asks p q (request_bytes request) reply asks).0.peer
 
-  -- nothing changes, and so it ends
+  -- a question changes nothing, and ends so
   pub once_so : (p q : P) (result : Result T OwnerFault)
       → AsksOnce peer p q request take result
       → (server q ≡ server p) × IsTakenOf (server p) request take result
@@ -84,7 +84,7 @@ module _ {D : Type 0} (tells : DiskTells D) {P : Type 0} (peer : PeerTells P)
   once_so p q result (inr (inl (link, fault))) = (fault_stays p q fault, inr (inl link))
   once_so p q result (inr (inr (memory, forgets))) = (forgets_stays p q forgets, inr (inr memory))
 
-  -- as a list of asks
+  -- a question as a list of asks
   pub once_asks : (p q : P) (result : Result T OwnerFault)
       → AsksOnce peer p q request take result
       → (asks : List Ask) × (o : Option (List ℕ)) × AreAsks peer p asks o q

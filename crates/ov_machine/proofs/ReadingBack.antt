@@ -220,7 +220,7 @@ refusal_is p user file why is =
     let m = matrix_of (history_of p) in
     sym (ap (reply_or (bytes_reply p user file (file_number m file))) is)
 
--- who isn't there reads nothing
+-- a user who isn't there reads nothing
 first_test : (b : Bool) (tests : List Test) (why : Refusal)
     → first_of_tests ((NoUser, b) ∷ []) ≡ Some why
     → first_of_tests ((NoUser, b) ∷ tests) ≡ Some why

@@ -98,7 +98,7 @@ cover_fits c file len names list (answers.Refused why) is form =
     one_of (tests_at c (Created file list len)) why is
 cover_fits c file len names list a is form = absurd is
 
--- what is sealed of it is no wrong reply
+-- what is sealed of an answer is no wrong reply
 abbrev pub IsProperTold : Result (ℕ × SealedUpdate) OwnerFault → Type 0
 IsProperTold (Ok told) = Unit {0}
 IsProperTold (Err fault) = IsProper (Err fault)

@@ -110,13 +110,13 @@ module _ (k : Masters) (command : Command) (e : Errand) (d : Does k command e) (
     module _ (a : Ask) (rest : List Ask) (ih : Steps rest) (h : SealedHistory)
         (made : List SealedUpdate) (more : List SealedHistory)
         (along : Along (here (followed h made)) rest more last) (rights : AreRight k more) where
-      -- the stage after it
+      -- the talk goes on with a stage after the ask
       on : (next : Stage) → Ready next (followed h made) → Goes k.surface e next rest final
           → IsMachines k command (h ∷ more) last.history result
       on next ready goes =
           longer k command h more last.history result (ih next (followed h made) more ready goes along rights)
 
-      -- the end after it
+      -- the talk ends after the ask
       off : (r : Result ℕ OwnerFault) → Goes k.surface e (Ends r) rest final
           → (followed h made ≡ last.history → IsMachines k command (h ∷ []) last.history r)
           → IsMachines k command (h ∷ more) last.history result

@@ -35,7 +35,7 @@ module _ {P : Type 0} (peer : PeerTells P) (surface : List ℕ) (e : Errand) (tr
       answered_so peer surface e (Asks tries least) e.first refl (subst HasRequestForm ours form) p q (Ok a) next
       (subst (λ (r : Request). Answered peer p q r (Ok a)) ours x) is
 
-  -- nothing is sealed of it
+  -- nothing is sealed of the answer
   pub seal_fails : (fault : OwnerFault) → (fault ≡ faults.Memory) ⊎ (e.sealed a ≡ Err fault)
       → Concludes peer surface e (Asks tries least) p q (Err fault)
   seal_fails fault (inl memory) =
@@ -92,7 +92,7 @@ seal_never_links base task a fault (inr told) is = told_never_links base task a 
 
 -- ---- the tries
 
--- after fewer tries than there may be it asks again
+-- after fewer tries than there may be the owner asks again
 asks_again : (tries : List ℕ) (least : ℕ) → length tries < MAX_TRIES → again tries least ≡ Asks tries least
 asks_again tries least few =
     ap (λ (b : Bool). again_if b tries least) (ne_eqb (length tries) MAX_TRIES (λ same. absurd (omega arith)))
@@ -139,7 +139,7 @@ module _ {P : Type 0} (peer : PeerTells P) (surface : List ℕ) (e : Errand) (ep
         (passes_on peer surface e start (Sends (take i epochs) epoch u)
         (again (take i epochs ++ epoch ∷ []) now) p n q sends_now other)
 
--- after all tries it is unsettled
+-- after all tries the call is unsettled
 pub unsettled : {P : Type 0} (peer : PeerTells P) (surface : List ℕ) (e : Errand) (epochs : List ℕ)
     (least i : ℕ) (p q : P) → length epochs ≡ MAX_TRIES → i ≡ MAX_TRIES
     → Passes peer surface e start p (again (take i epochs) least) q

@@ -16,14 +16,14 @@ Lacks-take c zero xs p = tt
 Lacks-take c (suc n) [] p = tt
 Lacks-take c (suc n) (x ∷ xs) p = (p.0, Lacks-take c n xs p.1)
 
--- a test for it
+-- a test for a text that lacks a byte
 pub lacks_by_test : (c : ℕ) (xs : List ℕ) → list_all (λ b. not (b == c)) xs ≡ true → Lacks c xs
 lacks_by_test c [] p = tt
 lacks_by_test c (x ∷ xs) p =
     let both = and_parts (not (x == c)) (list_all (λ b. not (b == c)) xs) p in
     (λ e. grind (arith, nat_tests, both.0), lacks_by_test c xs both.1)
 
--- the bytes before the first one
+-- the bytes before the first such byte are the same in two ways to cut a text there
 pub first_of : (c : ℕ) (xs ys x y : List ℕ) → Lacks c xs → Lacks c ys → xs ++ c ∷ x ≡ ys ++ c ∷ y → xs ≡ ys
 first_of c [] [] x y p q e = refl
 first_of c [] (b ∷ ys) x y p q e = absurd (q.0 (cc))
@@ -68,7 +68,7 @@ front_before c (a ∷ xs) (b ∷ ys) x y p e =
     let same : ys ≡ xs ++ rest.0 = rest.1 in
     (rest.0, cc)
 
--- among the first bytes there is none either
+-- the first bytes of a text lack a byte where its front does
 pub lacks_before : (c room : ℕ) (bytes line rest : List ℕ) → Lacks c line → bytes ≡ line ++ rest → room ≤ length line → Lacks c (take room bytes)
 lacks_before c room bytes line rest lacks whole within =
     let split : bytes ≡ take room line ++ (drop room line ++ rest) =

@@ -32,7 +32,7 @@ create_text file list size = spaced (codes "create" ∷ file ∷ list ∷ decima
 pub behind_create : (line text file list : List ℕ) (size : ℕ) → line ≡ codes "create " ++ text → line ≡ create_text file list size → text ≡ file ++ 32 ∷ (list ++ 32 ∷ decimal size)
 behind_create line text file list size e p = append_cancel_left (codes "create ") text (file ++ 32 ∷ (list ++ 32 ∷ decimal size)) (sym e ∙ p)
 
--- are those that were split off
+-- the file and the list of a `create` are the words that were split off
 pub create_file : (line text word rest file list : List ℕ) (size : ℕ) → line ≡ codes "create " ++ text → Lacks 32 word → text ≡ word ++ 32 ∷ rest → IsName file → line ≡ create_text file list size
     → (word ≡ file) × (rest ≡ list ++ 32 ∷ decimal size)
 create_file line text word rest file list size e lacks f named p = names_once text word rest file (list ++ 32 ∷ decimal size) lacks f named (behind_create line text file list size e p)

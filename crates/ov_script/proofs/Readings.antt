@@ -16,7 +16,7 @@ BeginsWith-more line room text [] line' room' rest item more command (l, r, t) e
 BeginsWith-more line room text (first ∷ commands) line' room' rest item more command f e fits is =
     (f.0, f.1, f.2, f.3, f.4, BeginsWith-more (line + lf_count f.0) (room - length f.0) f.1 commands line' room' rest item more command f.5 e fits is)
 
--- how it ends
+-- how a reading ends
 pub BeginsWith-ends : (line room : ℕ) (text : List ℕ) (commands : List Command) (line' room' : ℕ) (rest : List ℕ) (ending : Ending)
     → BeginsWith line room text commands line' room' rest → Reads line' room' rest [] ending → Reads line room text commands ending
 BeginsWith-ends line room text [] line' room' rest AtEnd (l, r, t) end = t ∙ end

@@ -29,7 +29,7 @@ splits_at_first c (b ∷ bytes) (suc n) within none is =
     let whole : bytes ≡ later.line ++ c ∷ later.rest = later.whole in
     record { line = b ∷ later.line; rest = later.rest; lacks = (first, later.lacks); count = ap suc later.count; whole = ap (λ l. b ∷ l) whole }
 
--- where there is none
+-- bytes among which this byte isn't found lack it
 pub nowhere_lacks : (c : ℕ) (bytes : List ℕ) → Nowhere (Passes (is_byte c) bytes) 0 (length bytes) → Lacks c bytes
 nowhere_lacks c [] none = tt
 nowhere_lacks c (b ∷ bytes) none =

@@ -42,7 +42,7 @@ no_fault s (Ok (requests.Chunk file generation start count)) is =
 no_fault s (Ok (requests.Page part number)) is = cc
 no_fault s (Ok (requests.List file)) is = is
 
--- whether bytes begin with the kind byte of one
+-- whether bytes begin with the kind byte of a fault of the disk
 is_fault : List ℕ → Bool
 is_fault [] = false
 is_fault (kind ∷ bytes) = kind == 0x8d

@@ -33,7 +33,7 @@ pub record AreNumbers (n : Numbers) : Type 0 where
   pub file : n.file < MAX_FILES
   pub node : IsNode n.node
 
--- an answer that tells them can be sent
+-- an answer that tells numbers of a store can be sent
 pub known_form : (limit : ℕ) (c : Catalogue) (epoch : ℕ) (a : Asked) (n : Numbers) → IsWell limit c
     → epoch ≡ c.epoch → numbers_of a ≡ n → AreNumbers n → HasAnswerForm (known_answer epoch a)
 known_form limit c epoch a n well now same are =

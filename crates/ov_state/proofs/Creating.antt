@@ -172,7 +172,7 @@ module _ (limit : ℕ) (master : List ℕ) (s : Catalogue) (name : List ℕ) (li
   refusal_create =
       ap (λ b. first_of_tests (tests_before s name list size ++ (NodesFull, b) ∷ (Spent, is_last s.epoch) ∷ [])) past_nodes
 
-  -- by the tests that come first
+  -- a creation is refused by the tests that come first
   pub refused_before : (why : Refusal) → first_of_tests (tests_before s name list size) ≡ Some why → refusal_shown s update ≡ Some why
   refused_before why is = refusal_create ∙ first_among (tests_before s name list size) _ why is
 
@@ -180,7 +180,7 @@ module _ (limit : ℕ) (master : List ℕ) (s : Catalogue) (name : List ℕ) (li
     then_room : refusal_shown s update ≡ first_of_tests ((NodesFull, is_past_then s list) ∷ (Spent, is_last s.epoch) ∷ [])
     then_room = refusal_create ∙ first_after (tests_before s name list size) _ passed
 
-    -- since there is no place for the file
+    -- a creation is refused, since there is no place for the file
     pub refused_site : (words : ℕ) (fault : PrepareFault) → HasNoSite s list fault → IsFaultOf words s update fault
     refused_site words (Refused why) (is, past) = then_room ∙ first_here NodesFull _ _ past ∙ ap Some (sym is)
     refused_site words (BadPlan place) none = absurd none

@@ -63,7 +63,7 @@ none-planned {W} sets surfaces few fresh listed = record {
 -- ---- a set that is wanted
 
 module _ {W : ℕ} (master : List ℕ) (layer : Nodes) (old : NewNodes W) (set : ℕ) (planned : ArePlanned layer.sets old) where
-  -- the sets that it comes after
+  -- the sets that the wanted set comes after
   abbrev pub before : List ℕ
   before = layer.sets ++ old.sets.items
 

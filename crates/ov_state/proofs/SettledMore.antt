@@ -121,7 +121,7 @@ module _ (epoch : ℕ) where
 
 -- ---- which files have another surface
 
--- none where no file changed
+-- there are no rewrites where no file changed
 pub rewrites-none : (number : ℕ) (files : List Filed) → rewrites_from number files files ≡ []
 rewrites-none number [] = refl
 rewrites-none number (f ∷ files) =

@@ -44,7 +44,7 @@ pub disk_checked : (why : CheckFault) (P : Type 0) → (why ≡ CheckDisk → P)
 disk_checked CheckDisk P holds is = holds refl
 disk_checked CheckMemory P holds is = absurd (cc is)
 
--- where a store isn't begun for lack of memory, that of its records was wanted
+-- where a store isn't begun for lack of memory, memory was refused for its records
 pub memory_checked : (why : CheckFault) (P : Type 0) → (why ≡ CheckMemory → P)
     → begin_fault_of why ≡ NoMemory → P
 memory_checked CheckDisk P holds is = absurd (cc is)

@@ -74,7 +74,7 @@ module _ (k : Masters) (p : PlainHistory) (command : Command) (a : Ask)
       is_read (served (service_of k p)) (first_request command) a.reply f.made x
       (request_bytes (first_request command)) first_replies r.bytes r.reads
 
-  -- a transcript that ends with it
+  -- the transcript of a command that ends with its first ask
   ends_there : left_unless (says_refused a.reply)
       (later_requests k (history_of p) (matrix_of (history_of p)) command) ≡ []
       → IsTranscript k p command (a ∷ [])

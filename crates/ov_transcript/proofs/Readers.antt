@@ -237,7 +237,7 @@ module _ (k : Masters) (r : Reader) (file : List ℕ) (p : PlainHistory)
           (is_read (served here) (chunk c stored) a.reply made x
           (request_bytes (chunk c stored)) replies bytes is)
 
-      -- the disk failed at it
+      -- the disk failed at a Chunk
       chunk_fails : a.reply ≡ answer_bytes answers.DeviceFault
           → Cut (after r (AsksChunk tries c stored) (answer_of (chunk c stored) a.reply))
       chunk_fails failed =

@@ -214,7 +214,7 @@ text_short u text fits same =
       by_update (SealedGrant user file token) fits = tt
       by_update (SealedRevoke user file) fits = tt
 
--- whatever is answered, this holds
+-- what holds whatever is answered
 pub on_ok : {T E : Type 0} (P : Type 0) (r : Result T E) → P → OnOk r P
 on_ok P (Ok value) holds = holds
 on_ok P (Err why) holds = tt

@@ -238,7 +238,7 @@ skips_not {A = A} r (Some left) count i bytes total lt h so_far =
     let one : rest_of (many_at r (count - i) bytes) ≡ Err left = rw (k, bad) refl in
     sym so_far ∙ one
 
--- all were gone over
+-- all edges were gone over
 pub skipped : {A : Type 0} (r : List ℕ → Read A) (count i : ℕ) (bytes : List ℕ) (total : Rest) → count ≤ i → rest_of (many_at r (count - i) bytes) ≡ total → total ≡ Ok bytes
 unfolding many_at
 skipped r count i bytes total le so_far =

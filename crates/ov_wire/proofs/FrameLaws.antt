@@ -11,7 +11,7 @@ use Rattle.ov_wire.specs.declared.state.State.TheVariants as states
 use Rattle.ov_wire.specs.Frames.{framed, IsFrame, IsFrameLength, IsCut, in_length, in_frame, Decoding, Feeds, state_rest, is_bad, verdict}
 use Rattle.ov_wire.specs.Cutting.{StateCut, IsCutting, Advances}
 
--- one more
+-- one frame more
 all_more : (frames : List (List ℕ)) (frame : List ℕ) → AllByRecursion IsFrame frames → IsFrame frame → AllByRecursion IsFrame (frames ++ frame ∷ [])
 all_more [] frame all is = (is, tt)
 all_more (f ∷ frames) frame all is = (all.0, all_more frames frame all.1 is)

@@ -108,7 +108,7 @@ request_limits (requests.Chunk file generation start count) form = (form.is_requ
 request_limits (requests.Page part number) form = tt
 request_limits (requests.List file) form = tt
 
--- a frame has room for it
+-- a frame has room for a request within the limits
 pub request_fits : (request : Request) → IsRequest request → HasRequestLimits request → length (request_bytes request) ≤ MAX_FRAME_BYTES
 request_fits requests.Hello is within = omega arith
 request_fits (requests.Ask question) is within = omega (arith, question_reads.short question is)
