@@ -175,7 +175,7 @@ made_into {A = A} {B = B} {r = r} {s = s} make s' F' R form spelled back = recor
       omega (arith, R.short a.0 a.1, ap length (spelled a.0 a.1 ∙ ap s' a.2));
 }
 
--- the same values, said in other words
+-- a reader of values whose form is said in other words
 pub refit : {A : Type 0} {r : List ℕ → Read A} {s : A → List ℕ} {F : A → Type 0} {m : ℕ} (G : A → Type 0)
     → Reads r s F m → ((a : A) → F a → G a) → ((a : A) → G a → F a) → Reads r s G m
 refit G R there back = record {

@@ -29,7 +29,7 @@ restored-none : (master : List ℕ) (from to : Option ℕ) (number : ℕ)
 restored-none master from to number =
     nil_from_length (restored master from to number []) (length-restored master from to number [])
 
--- the same surface changes nothing
+-- a rewrite to the surface that a file has changes nothing
 restored-same : (master : List ℕ) (surface : Option ℕ) (number : ℕ) (bytes : List ℕ)
     → restored master surface surface number bytes ≡ bytes
 restored-same master surface number bytes =

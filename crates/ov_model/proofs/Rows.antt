@@ -16,7 +16,7 @@ line text = text ++ 10 ∷ []
 abbrev alice : List ℕ
 alice = codes "alice"
 
--- the same user twice, and another
+-- a user who is enrolled twice, and another
 abbrev users : List Command
 users = Enrol alice ∷ Enrol alice ∷ Enrol (codes "bob") ∷ []
 

@@ -46,7 +46,7 @@ AnswersUpdate surface c epoch spelling tag answer =
     (tag ≡ owner_tag surface epoch spelling) × (epoch ≡ c.epoch)
     × AnswersSpelled c (update_of 32 spelling) answer
 
--- the update that these bytes spell, where they spell one
+-- the update that was read of some bytes, where they spell one
 abbrev pub spelled_by : Result SealedUpdate ℕ → List SealedUpdate
 spelled_by (Ok u) = u ∷ []
 spelled_by (Err place) = []

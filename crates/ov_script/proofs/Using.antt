@@ -6,7 +6,7 @@ use Rattle.std.proofs.KnownBytes.{Consumes-trans}
 use Rattle.ov_io.specs.Tells.{SourceTells}
 use Rattle.ov_script.specs.Feed.{Fed, Uses, text_of}
 
--- the same bytes behind a longer front
+-- bytes behind a longer front
 behind_front : (a b c d : List ℕ) → (a ++ b) ++ c ≡ a ++ (b ++ c)
 behind_front a b c d = append_assoc a b c
 

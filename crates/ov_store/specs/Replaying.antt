@@ -39,8 +39,8 @@ abbrev pub StopsAt : Catalogue → List ℕ → ℕ → ℕ → Type 0
 StopsAt c body gate place =
     (gate + 5 + length body < 2 ^ 64 → IsMisspelled body gate place) ⊎ IsUntaken c body gate place
 
--- The answer is right about the body of a record whose gate is at this place: damage is in Book, at
--- the place where the record can't be taken. Of the other faults only refused memory comes.
+-- Why the record with this body, whose gate is at this place, isn't replayed: Book is damaged at
+-- the wrong place of the record, or memory was refused. No other fault comes.
 abbrev pub IsBodyFault : Catalogue → List ℕ → ℕ → BeginFault → Type 0
 IsBodyFault c body gate DiskFailed = ⊥
 IsBodyFault c body gate NotAStore = ⊥

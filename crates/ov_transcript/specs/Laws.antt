@@ -54,7 +54,7 @@ QuestionsAreTranscripts =
     (k : Masters) (p : PlainHistory) (command : Command) (a : Ask)
     → IsOneQuestion command → IsFirstAsk k p command a → IsTranscript k p command (a ∷ [])
 
--- the first ask of a command that is refused with its reply is the transcript of the command
+-- the first ask of a command is its transcript, where the reply to it is a refusal
 abbrev pub RefusalsAreTranscripts : Type 0
 RefusalsAreTranscripts =
     (k : Masters) (p : PlainHistory) (command : Command) (a : Ask) (why : Refusal)

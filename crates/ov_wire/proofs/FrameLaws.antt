@@ -42,7 +42,7 @@ cuts_on bytes frames count filled head rest frame after head' here is c =
       room = omega (arith, ap length parts, length-append (flat_map framed (frames ++ frame ∷ [])) after, sum, c.counted);
     }
 
--- the same bytes and frames behind one frame more
+-- bytes and frames that were cut, behind one frame more
 cut_behind : (frame bytes : List ℕ) (frames : List (List ℕ)) (rest : List ℕ) → IsFrame frame → IsCut bytes frames rest → IsCut (framed frame ++ bytes) (frame ∷ frames) rest
 cut_behind frame bytes frames rest is cut = record {
   parts = ap (λ (l : List ℕ). framed frame ++ l) cut.parts ∙ sym (append_assoc (framed frame) (flat_map framed frames) rest);

@@ -39,7 +39,7 @@ cut_more bytes more fs gs rest next one two = record {
   each = all_both fs gs one.each two.each;
 }
 
--- the same frames with bytes behind what is behind them
+-- frames that were cut, with more bytes behind the rest
 cut_behind : (bytes more : List ℕ) (fs : List (List ℕ)) (rest : List ℕ) → IsCut bytes fs rest → IsCut (bytes ++ more) fs (rest ++ more)
 cut_behind bytes more fs rest cut = record {
   parts = ap (λ (l : List ℕ). l ++ more) cut.parts ∙ append_assoc (flat_map framed fs) rest more;
