@@ -1,9 +1,9 @@
 //! A column of a round: SubBytes and MixColumns of it by one look-up a byte.
 //!
 //! The product of the fixed matrix with a column is the sum of four terms, one for each of the
-//! column's bytes. A term is four bytes in one `u32`, that of row 0 the lowest. Each row has a table
-//! of its terms, and the contract of the row's function says that every entry is the standard's
-//! column of the S-box.
+//! column's bytes. A term is four bytes in one `u32`, that of row 0 the lowest. Each row has a
+//! table of its terms, and the contract of the row's function says that every entry is the
+//! standard's column of the S-box.
 
 ghost use Rattle.std.specs.Prelude.{◌≡◌, ◌∷◌, []};
 ghost use Rattle.std.specs.Int.{w32, to_le_bytes};

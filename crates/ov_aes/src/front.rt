@@ -1,8 +1,8 @@
 //! The first two rounds of blocks that differ in their last byte.
 //!
-//! The last byte is one term of each sum in the first column of round 1, and each byte of that column
-//! is one term of each sum in one column of round 2. The sums without these terms are made once for
-//! all such blocks.
+//! The last byte is one term of each sum in the first column of round 1, and each byte of that
+//! column is one term of each sum in one column of round 2. The sums without these terms are made
+//! once for all such blocks.
 
 ghost use Rattle.std.specs.Prelude.{◌≡◌, ℕ, ◌<◌, ◌+◌, ◌*◌, List, ◌∷◌, [], bit_xor, slice_index};
 ghost use Rattle.ov_aes.specs.Cipher.{rounds};
@@ -88,8 +88,8 @@ impl Front {
         }
     }
 
-    /// Four of these blocks after two rounds. `last` has the last byte of each, in the place of each
-    /// column.
+    /// Four of these blocks after two rounds. `last` has the last byte of each, in the place of
+    /// each column.
     #[inline(always)]
     pub fn started(&self, last: u8x16) -> Rows
         ensures { (w : List (List ℕ)) (block : List ℕ) (b x : ℕ)

@@ -1,8 +1,8 @@
 //! The rounds of four blocks at once, by their rows.
 //!
-//! A vector has one row of each of four blocks, so a column is mixed by sums of vectors. Between the
-//! first and the last key the bytes are in the basis of [`crate::tower`], and a key has in it what
-//! the constants of the affine maps add up to.
+//! A vector has one row of each of four blocks, so a column is mixed by sums of vectors. Between
+//! the first and the last key the bytes are in the basis of [`crate::tower`], and a key has in it
+//! what the constants of the affine maps add up to.
 
 ghost use Rattle.std.specs.Prelude.{◌≡◌, ℕ, ◌<◌, List, ◌∷◌, []};
 ghost use Rattle.ov_aes.specs.Cipher.{add_round_key, full_round, shift_rows, sub_bytes};

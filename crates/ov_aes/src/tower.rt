@@ -1,8 +1,8 @@
 //! The S-box on 16 bytes at a time, in a basis over the field of 16 elements.
 //!
 //! A byte in this basis is two elements of the field of 16, so its inverse takes a few look-ups in
-//! tables of 16 entries, which a vector does for all its lanes at once. An entry or a place from 128
-//! on stands for an inverse that is not there, and gives 0.
+//! tables of 16 entries, which a vector does for all its lanes at once. An entry or a place from
+//! 128 on stands for an inverse that is not there, and gives 0.
 
 ghost use Rattle.std.specs.Prelude.{◌≡◌, map, T as Holds};
 ghost use Rattle.std.specs.Simd.Lanes.{Each1};
@@ -85,7 +85,8 @@ pub fn leave(y: u8x16) -> u8x16
     g ^ h
 }
 
-/// The S-box of bytes in this basis, but for the constant of the affine map, and its product with 2.
+/// The S-box of bytes in this basis, but for the constant of the affine map, and its product with
+/// 2.
 #[inline(always)]
 pub fn within(y: u8x16) -> (u8x16, u8x16)
     ensures { result ≡ record { 0 = map one_of y; 1 = map two_of y } }

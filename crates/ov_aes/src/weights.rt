@@ -22,8 +22,8 @@ pub fn each_block(bytes: [u8; 4]) -> u8x16
     u8x16::from_array([a, b, c, d, a, b, c, d, a, b, c, d, a, b, c, d])
 }
 
-// The sum of the lanes of `once` that `odd` has, and of those of `twice` that `high` has: once is the
-// weight 1, twice is 2, and both are 3.
+// The sum of the lanes of `once` that `odd` has, and of those of `twice` that `high` has: once is
+// the weight 1, twice is 2, and both are 3.
 #[inline(always)]
 fn chosen(once: u8x16, twice: u8x16, odd: u8x16, high: u8x16) -> u8x16
     ensures { (l : ℕ) → l < 16 → slice_index result l
@@ -33,8 +33,8 @@ fn chosen(once: u8x16, twice: u8x16, odd: u8x16, high: u8x16) -> u8x16
     (once & odd) ^ (twice & high)
 }
 
-/// The terms in the first column that come from the last byte of each block, by the columns to which
-/// the next round moves them.
+/// The terms in the first column that come from the last byte of each block, by the columns to
+/// which the next round moves them.
 #[inline(always)]
 pub fn last_terms(last: u8x16) -> u8x16
     ensures { (b c : ℕ) → b < 4 → c < 4 → from_tower (slice_index result (4 * b + c))

@@ -16,6 +16,6 @@ abbrev pub appended : Bool → List (List ℕ) → List ℕ → List (List ℕ)
 appended true names name = names
 appended false names name = names ++ name ∷ []
 
--- the names with this one besides
+-- the names with this one added
 abbrev pub with_name : List (List ℕ) → List ℕ → List (List ℕ)
 with_name names name = appended (is_among name names) names name

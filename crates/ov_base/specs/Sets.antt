@@ -28,7 +28,7 @@ Has set user = IsTrue (has set user)
 abbrev pub union : ℕ → ℕ → ℕ
 union a b = bit_or a b
 
--- the set with this user besides
+-- the set with this user added
 abbrev pub with : ℕ → ℕ → ℕ
 with set user = union set (single user)
 

@@ -55,7 +55,7 @@ impl<const W: usize> UserSet<W> {
         words::has(&self.words, user)
     }
 
-    /// The set with this user besides.
+    /// The set with this user added.
     pub fn with(&self, user: u32) -> Self
         requires { user < 64 * W }
         ensures { result ≡ with self.now user }
@@ -65,7 +65,7 @@ impl<const W: usize> UserSet<W> {
         }
     }
 
-    /// The set without this user.
+    /// The set with this user taken out.
     pub fn without(&self, user: u32) -> Self
         requires { user < 64 * W }
         ensures { result ≡ without self.now user }
@@ -108,8 +108,8 @@ impl<const W: usize> UserSet<W> {
         words::count(&self.words)
     }
 
-    /// Writes the set as `8 * W` bytes, each with eight users: user 0 is the lowest bit of the first
-    /// byte, user 8 that of the second.
+    /// Writes the set as `8 * W` bytes, each with eight users: user 0 is the lowest bit of the
+    /// first byte, user 8 that of the second.
     pub fn write(&self, out: &mut [u8])
         requires { length out.old ≡ 8 * W }
         ensures bytes { out.new ≡ bytes_of (8 * W) self.now }

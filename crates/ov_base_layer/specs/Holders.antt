@@ -1,4 +1,4 @@
--- Who holds a base node: the users of its set, and those who were given access besides.
+-- The holders of a base node: the users of its set, and those who were given access to it.
 use Rattle.std.specs.Prelude.{◌≡◌, ℕ, ◌==◌, ◌<◌, ◌⊎◌, Bool, true, false, List, [], ◌∷◌}
 use Rattle.std.specs.Prelude.{length, map, take, slice_get, slice_index, Contains, Some}
 use Rattle.ov_base.specs.Sets.{with, Has}

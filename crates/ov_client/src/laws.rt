@@ -13,9 +13,9 @@ pub fn reads_are_the_machines()
     ensures { ReadsAreTheMachines }
 {}
 
-/// Where besides nobody changes the history meanwhile, and the root keys are of the user's roots in
-/// it, a read gives bytes or a refusal, or is cut off by the link, by the server's disk or because
-/// memory was refused: no reply is bad, and no read is unsettled.
+/// Where, in addition, nobody changes the history meanwhile, and the root keys are of the user's
+/// roots in it, a read gives bytes or a refusal, or is cut off by the link, by the server's disk or
+/// because memory was refused: no reply is bad, and no read is unsettled.
 pub fn reads_are_answered()
     ensures { ReadsAreAnswered }
 {}

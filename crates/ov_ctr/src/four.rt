@@ -31,8 +31,8 @@ fn add_four(pads: Blocks, piece: &mut [u8])
     }
 }
 
-/// Adds the pad to the bytes of whole groups of four blocks. The first block has this number, and the
-/// numbers of the others differ from it in the last byte alone.
+/// Adds the pad to the bytes of whole groups of four blocks. The first block has this number, and
+/// the numbers of the others differ from it in the last byte alone.
 pub fn apply_groups(aes: &LaneAes256, tag: u8, file: u32, number: u64, piece: &mut [u8])
     requires groups { length piece.old % 64 ≡ 0 }
     requires last { number % 256 + length piece.old / 16 ≤ 256 }

@@ -9,11 +9,12 @@
 //!
 //! `proofs/ReadingLaws` has what each reader keeps (`Reads`): it reads exactly the spellings of its
 //! values, and a wrong byte is near. Laws put readers together: one after another, behind a number,
-//! behind a flag, by kind bytes. From it follows for whole lists of bytes that what is read is spelled
-//! so, what is spelled so is read, and no spelling is the front of another's (`proofs/WholeLaws`).
-//! `proofs/PlaceLaws` has what each reader says of a wrong place (`HasPlaces`), in the words of
-//! `specs/Fronts`: the bytes before it are the front of a spelling, and no spelling goes on with the
-//! field there. `proofs/TestLaws` has what the tests of numbers say.
+//! behind a flag, by kind bytes. From it follows for whole lists of bytes that what is read is
+//! spelled so, what is spelled so is read, and no spelling is the front of another's
+//! (`proofs/WholeLaws`). `proofs/PlaceLaws` has what each reader says of a wrong place
+//! (`HasPlaces`), in the words of `specs/Fronts`: the bytes before it are the front of a spelling,
+//! and no spelling goes on with the field there. `proofs/TestLaws` has what the tests of numbers
+//! say.
 #![tactic(auto)]
 
 mod fault;

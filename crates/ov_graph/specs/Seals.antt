@@ -18,8 +18,8 @@ abbrev pub cover_tokens : Kind → List ℕ → Cover → List Token
 cover_tokens kind master cover =
     map (λ from. edge_token kind master from cover.node) cover.from
 
--- The new graph has the set besides. A set that was there changes nothing; one that wasn't is at
--- the end, with the edges of its cover and their tokens.
+-- The new graph has the set too. A set that was there changes nothing; one that wasn't is at the
+-- end, with the edges of its cover and their tokens.
 pub record HasSetBesides (kind : Kind) (master : List ℕ) (set : ℕ) (old new : Contents)
     : Type 0 where
   pub there : (plan_of old.sets set).fresh ≡ false

@@ -9,9 +9,9 @@ use ov_base::UserSet;
 use ov_tokens::{Layer, Master};
 use std::alloc::Global;
 
-/// The node of a set, which is added where no node has it: it is planned, its edges get their tokens
-/// under the layer's master, room is made, and it is added. Where that is refused, no set and no
-/// edge is new.
+/// The node of a set, which is added where no node has it: it is planned, its edges get their
+/// tokens under the layer's master, room is made, and it is added. Where that is refused, no set
+/// and no edge is new.
 pub fn plan_and_add<L: Layer, G: Graph<L, W>, const W: usize>(
     alloc: Global,
     graph: &mut G,

@@ -38,7 +38,7 @@ pub record Place : Type 0 where
   pub generation : ℕ
 
 -- The mode and the epoch, how many users there are, the sets of each layer by node, the accesses
--- that were given besides, in order, and the files by number.
+-- that were given in addition, in order, and the files by number.
 pub record Layers : Type 0 where
   pub mode : Mode
   pub epoch : ℕ
@@ -79,7 +79,7 @@ abbrev pub set_or : List ℕ → Option ℕ → ℕ → ℕ
 set_or sets None held = held
 set_or sets (Some node) held = slice_index sets node
 
--- the list of a file at this place in the layers: it isn't kept besides
+-- the list of a file at this place in the layers: it isn't kept separately
 abbrev pub list_at : Layers → Place → ℕ
 list_at y p = set_or y.surface p.surface (holders y p.node)
 

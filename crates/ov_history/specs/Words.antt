@@ -18,11 +18,11 @@ use Rattle.ov_history.specs.Sealing.{sealed}
 abbrev pub cut_to : History → List Update → History
 cut_to h updates = record h { updates = updates }
 
--- the history with all these updates besides
+-- the history with all these updates added
 abbrev pub longer : History → List Update → History
 longer h more = record h { updates = h.updates ++ more }
 
--- the plain history with all these updates besides
+-- the plain history with all these updates added
 abbrev pub longer_plain : PlainHistory → List PlainUpdate → PlainHistory
 longer_plain p more = record p { updates = p.updates ++ more }
 

@@ -48,8 +48,8 @@ ListsHaveNodes =
 
 -- The second user loses the first of two files, and the third is granted it and so holds the base
 -- node of both. Both files want new surfaces: node 3 has the set of the first file, the first user
--- and the third, and node 4 that of the second, the first two. In another order they would have each
--- other's node.
+-- and the third, and node 4 that of the second, the first two. In another order they would have
+-- each other's node.
 abbrev pub SurfacesInOrder : Type 0
 SurfacesInOrder =
     (in_delta (two_files (Revoked 1 0 ∷ Granted 2 0 ∷ []))).surface

@@ -69,8 +69,8 @@ HasAllFiles m (Created file list size) = MAX_FILES ≤ length m.files
 HasAllFiles m (Granted user file) = ⊥
 HasAllFiles m (Revoked user file) = ⊥
 
--- A file is to be created, and with it all files have more bytes than a store holds. A store that is
--- then exactly full has no more.
+-- A file is to be created, and with it all files have more bytes than a store holds. A store that
+-- is then exactly full has no more.
 abbrev pub PassesBytes : Matrix → Update → Type 0
 PassesBytes m (Enrolled user) = ⊥
 PassesBytes m (Created file list size) = MAX_STORE_BYTES < byte_sum m.files + size
@@ -111,7 +111,8 @@ AppliesToList m file why = ⊥
 
 -- ---- what is answered
 
--- the answer is the refusal of the lowest number among those that apply, and none where none applies
+-- the answer is the refusal of the lowest number among those that apply, and none where none
+-- applies
 abbrev pub IsLowest : (Refusal → Type 0) → Option Refusal → Type 0
 IsLowest applies None = (why : Refusal) → applies why → ⊥
 IsLowest applies (Some why) =

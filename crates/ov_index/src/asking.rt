@@ -54,8 +54,9 @@ fn of_node<L: Layer, G: Graph<L, W>, const W: usize>(
 }
 
 /// Asks a graph each question that its trait has: how many nodes there are, what is planned for a
-/// set after the graph's sets and those of `before`, the node of the set, and for that node its set,
-/// its edges and its chain from a root. Graphs with the same sets and edges have the same answers.
+/// set after the graph's sets and those of `before`, the node of the set, and for that node its
+/// set, its edges and its chain from a root. Graphs with the same sets and edges have the same
+/// answers.
 pub fn ask_all<L: Layer, G: Graph<L, W>, const W: usize>(
     alloc: Global,
     graph: &G,

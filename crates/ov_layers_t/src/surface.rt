@@ -49,7 +49,8 @@ fn coats_of_another_program(rt: HostRuntime) {
     }
 }
 
-/// The rule for a list of users 0 and 1, and for holders who are these or have another besides.
+/// The rule for a list of users 0 and 1, and for holders who are just these or have another with
+/// them.
 fn wanted_surfaces<const W: usize>(rt: &impl Abort)
     requires { (1 ≤ W) × (W ≤ MAX_SET_WORDS) }
 {

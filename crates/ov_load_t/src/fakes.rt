@@ -1,5 +1,5 @@
-//! A source and a sink that borrow their bytes, so that a test has little to allocate and to drop. No
-//! clause here says what a run gives, so that no proof computes it.
+//! A source and a sink that borrow their bytes, so that a test has little to allocate and to drop.
+//! No clause here says what a run gives, so that no proof computes it.
 ghost use Rattle.std.specs.Prelude.{None};
 
 use ov_disk::MemDisk;
@@ -119,7 +119,7 @@ impl Sink for Frames {
     }
 }
 
-/// Asserts with which status it ended, and that all lines that were wanted were put.
+/// Asserts with which status the run ended, and that all lines that were wanted were put.
 pub fn assert_ended(rt: &impl Abort, code: u8, out: &Wants<'_>, status: u8) {
     assert_eq!(rt; out.lines, b"".as_slice());
     assert_eq!(rt; code, status);

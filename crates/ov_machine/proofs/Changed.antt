@@ -68,14 +68,14 @@ module _ {D : Type 0} (tells : DiskTells D) (surface : List ℕ) (e : Errand)
   abbrev frame_of : ℕ → SealedUpdate → List ℕ
   frame_of epoch u = request_bytes (update_request surface epoch u)
 
-  -- the update was made, and so is told; or memory or the link failed after it
+  -- the update was made, and is told to be; or memory or the link failed after it
   pub record IsMade (s t : Opened D) (epoch : ℕ) (u : SealedUpdate) (reply : List ℕ)
       (result : Result ℕ OwnerFault) : Type 0 where
     pub answered : IsAnswered tells s t (frame_of epoch u) reply
     pub makes : answered.frame.made ≡ u ∷ []
     pub ends : (result ≡ Ok (epoch + 1)) ⊎ IsAskFault result
 
-  -- the disk failed in it, and so is told; or memory or the link failed after it
+  -- the disk failed in the update, and is told to have; or memory or the link failed after it
   pub record IsFailed (s t : Opened D) (epoch : ℕ) (u : SealedUpdate) (reply : List ℕ)
       (result : Result ℕ OwnerFault) : Type 0 where
     pub faulted : IsFaulted s t (frame_of epoch u) reply

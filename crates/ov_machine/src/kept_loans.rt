@@ -1,4 +1,4 @@
-//! Calls of owners and readers over a traced peer. They are those of its parts, and say besides
+//! Calls of owners and readers over a traced peer. They are those of its parts, and say in addition
 //! that the sink stays lent as it was: so what is put goes to the caller's own sink.
 ghost use Rattle.std.specs.Prelude.{◌≡◌, ◌+◌};
 ghost use Rattle.ov_wire.specs.Requests.{HasRequestForm};

@@ -1,4 +1,5 @@
-//! The laws of updates in records and in frames, and of streams of frames. The functions do nothing.
+//! The laws of updates in records and in frames, and of streams of frames. The functions do
+//! nothing.
 ghost use Rattle.ov_model.specs.Agreement.{FramesHoldSpellings, FramesTakeUpdates};
 ghost use Rattle.ov_model.specs.Streams.{StreamsAreCutOneWay};
 
@@ -13,8 +14,8 @@ pub fn frames_take_updates()
     ensures { FramesTakeUpdates }
 {}
 
-/// The law of streams: bytes are cut into frames in one way only. So a decoder, whose frames and rest
-/// are such a cut, gives the same frames in whatever pieces a stream comes.
+/// The law of streams: bytes are cut into frames in one way only. So a decoder, whose frames and
+/// rest are such a cut, gives the same frames in whatever pieces a stream comes.
 pub fn streams_are_cut_one_way()
     ensures { StreamsAreCutOneWay }
 {}

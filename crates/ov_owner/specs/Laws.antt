@@ -21,8 +21,8 @@ use Rattle.ov_owner.specs.declared.fault.OwnerFault.{OwnerFault}
 use Rattle.ov_owner.specs.declared.fault.OwnerFault.TheVariants.{BadReply, BadTag, Unsettled}
 
 -- An Accepted and a Refused of a talk are what the machine replies at the history that the server
--- had at the last of its asks, whatever others update in between, where the asks are answered under the owner's surface
--- master at histories that are right.
+-- had at the last of its asks, whatever others update in between, where the asks are answered under
+-- the owner's surface master at histories that are right.
 abbrev pub TalksAreSteps : Type 0
 TalksAreSteps =
     (k : Masters) (command : Command) (e : Errand) (asks : List Ask) (unanswered : Option (List ℕ))

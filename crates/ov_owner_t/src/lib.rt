@@ -1,5 +1,5 @@
-//! Tests of `ov_peer` and `ov_owner`: asks over peers that give fixed replies or fail, and the frames
-//! that an owner sends, which are those of another program.
+//! Tests of `ov_peer` and `ov_owner`: asks over peers that give fixed replies or fail, and the
+//! frames that an owner sends, which are those of another program.
 #![tactic(auto)]
 
 #[cfg(test)]

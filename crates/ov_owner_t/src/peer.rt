@@ -26,8 +26,8 @@ fn epoch_in(answer: Answer) -> Result<u32, ExchangeFault>
     }
 }
 
-/// Asks any peer for its epoch. It is the epoch of the history that the peer serves afterwards, which
-/// goes on from the one that it served by what others did.
+/// Asks any peer for its epoch. It is the epoch of the history that the peer serves afterwards,
+/// which goes on from the one that it served by what others did.
 fn epoch_of<P: Peer>(alloc: Global, peer: &mut P) -> Result<u32, ExchangeFault>
     ensures told { (v : Service) → P.tells.serves peer.old v → IfOk result (λ epoch.
         (others : List SealedUpdate) × P.tells.serves peer.new (later v others)

@@ -44,8 +44,8 @@ fn is_frame(bytes: &[u8]) -> bool
 }
 
 impl FixedPeer {
-    /// A peer that gives these replies. It fails exactly the asks whose numbers, from 0 and below 256,
-    /// are in `fails`, and those for which there is no reply that is a frame.
+    /// A peer that gives these replies. It fails exactly the asks whose numbers, from 0 and below
+    /// 256, are in `fails`, and those for which there is no reply that is a frame.
     pub fn new(replies: Vec<Octets>, fails: Octets) -> FixedPeer
         ensures { result ≡ record {
           replies = replies.items;

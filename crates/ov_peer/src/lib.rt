@@ -1,17 +1,17 @@
 //! Where frames are sent, and what answers them.
 //!
-//! A [`Peer`] is asked one frame and gives one: a server in this process, a server behind a link, or
-//! what a test plays. An [`Answerer`] is what serves on the other side: a value whose replies follow
-//! from where it began and from the updates that it accepted since. Frames are passed without their
-//! length fields.
+//! A [`Peer`] is asked one frame and gives one: a server in this process, a server behind a link,
+//! or what a test plays. An [`Answerer`] is what serves on the other side: a value whose replies
+//! follow from where it began and from the updates that it accepted since. Frames are passed
+//! without their length fields.
 //!
 //! What a peer was asked and answered is a relation of the peer before and after (`PeerTells` in
 //! `specs/Tells`), so a call that asks several times speaks of the list of its asks (`Leads` in
-//! `specs/Asks`). A peer may besides *tell*
-//! which history it serves. Then each reply is a server's answer at a history that goes on from the
-//! one before by what others did, and the history goes on by what the request made (`Told`); a failed
-//! ask leaves one that goes on so, with the request's own update or without it (`LeavesTold`). A peer
-//! behind a link tells nothing, and the same clauses hold of it with nothing told.
+//! `specs/Asks`). A peer may also *tell* which history it serves. Then each reply is a server's
+//! answer at a history that goes on from the one before by what others did, and the history goes on
+//! by what the request made (`Told`); a failed ask leaves one that goes on so, with the request's
+//! own update or without it (`LeavesTold`). A peer behind a link tells nothing, and the same
+//! clauses hold of it with nothing told.
 //!
 //! * [`exchange`] writes a request, asks it, and reads the answer.
 //! * [`Traced`] puts each frame of a peer to a sink, and tells what its peer tells.

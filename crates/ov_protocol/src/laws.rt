@@ -17,8 +17,8 @@ pub fn servers_go_on()
     ensures epochs { EpochsGoOn }
 {}
 
-/// A reply is one frame, and what is read of it, by the request that was sent, is the server's answer
-/// to that request.
+/// A reply is one frame, and what is read of it, by the request that was sent, is the server's
+/// answer to that request.
 pub fn replies_are_read()
     ensures frames { RepliesAreFrames }
     ensures read { RepliesAreRead }

@@ -7,10 +7,10 @@
 //! update is made, and what a server shows next is what it shows after the updates that were made.
 //! The same is said of frames: a *reply* is the spelling of an answer that can be sent.
 //!
-//! A *service* is a sealed history with the keys under which it is served. A server serves one where
-//! both halves of its store are those after the history. So what a server answers to a frame is said
-//! with no store, no disk and no network in sight, and a caller that is told which history is served
-//! knows the answers.
+//! A *service* is a sealed history with the keys under which it is served. A server serves one
+//! where both halves of its store are those after the history. So what a server answers to a frame
+//! is said with no store, no disk and no network in sight, and a caller that is told which history
+//! is served knows the answers.
 //!
 //! Refused memory and a fault of a disk are no answers by what a server shows: the crate that sends
 //! `NoMemory` or `DeviceFault` says why (`MayMake` is what is left of such an ask).

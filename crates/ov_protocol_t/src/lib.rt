@@ -1,10 +1,10 @@
-//! Rows of `ov_protocol` and `ov_images`, and of the tries of `ov_client` and `ov_owner`: definitions
-//! at small values, and what one step of them says.
+//! Rows of `ov_protocol` and `ov_images`, and of the tries of `ov_client` and `ov_owner`:
+//! definitions at small values, and what one step of them says.
 //!
-//! No wrong code shows what a definition is for where there is none, or where code reads it too. Each
-//! function here has an empty body, and its contract is a row. Where the definition is turned the row
-//! isn't proved any more. The statements are in `specs/`, and each says what the turned definition
-//! would give.
+//! No wrong code shows what a definition is for where there is none, or where code reads it too.
+//! Each function here has an empty body, and its contract is a row. Where the definition is turned
+//! the row isn't proved any more. The statements are in `specs/`, and each says what the turned
+//! definition would give.
 #![tactic(auto)]
 
 mod images;

@@ -1,12 +1,12 @@
 //! Updates of a store, and catalogue entries, as bytes.
 //!
-//! An [`Update`] is one change of a store: what its owner sends, and what its journal keeps. A contract
-//! sees it by `sealed_update` of `specs/Updates`, as a value that knows nothing of the width of the set
-//! in it. Each update has one spelling (`spelling` in `specs/Spelling`), [`write`] appends it, and
-//! [`read`] gives the update exactly where the bytes are its spelling. Elsewhere `read` names the place
-//! of the first field that no spelling continues, or the end, as `specs/Reading` says. No spelling is
-//! the front of another's ([`updates_are_spelled_apart`]), and each fits a record
-//! ([`spellings_fit_records`]).
+//! An [`Update`] is one change of a store: what its owner sends, and what its journal keeps. A
+//! contract sees it by `sealed_update` of `specs/Updates`, as a value that knows nothing of the
+//! width of the set in it. Each update has one spelling (`spelling` in `specs/Spelling`), [`write`]
+//! appends it, and [`read`] gives the update exactly where the bytes are its spelling. Elsewhere
+//! `read` names the place of the first field that no spelling continues, or the end, as
+//! `specs/Reading` says. No spelling is the front of another's ([`updates_are_spelled_apart`]), and
+//! each fits a record ([`spellings_fit_records`]).
 //!
 //! [`user_entry`], [`node_entry`], [`access_entry`] and [`file_entry`] append entries of the public
 //! catalogue, by `specs/Entries` of ov_fields.

@@ -1,5 +1,5 @@
-//! Tests of `ov_run`: scripts, words and key files of all kinds, disks that others left, and faults at
-//! each call. There is nothing here but tests: the contracts of what they call are proved there.
+//! Tests of `ov_run`: scripts, words and key files of all kinds, disks that others left, and faults
+//! at each call. There is nothing here but tests: the contracts of what they call are proved there.
 #![tactic(auto)]
 
 #[cfg(test)]

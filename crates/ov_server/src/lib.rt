@@ -4,7 +4,7 @@
 //! is kept. [`Server::answer`] answers a frame in place of what was in the reply, and is the one
 //! call that changes what is shown: it makes the update that it accepts. Of a Cover it keeps the
 //! plan that it told, which no contract shows. A [`LocalPeer`] is a server in this process as a
-//! peer, which tells which history it serves; a server is an [`ov_peer::Answerer`] besides.
+//! peer, which tells which history it serves; a server is an [`ov_peer::Answerer`] too.
 //!
 //! ```text
 //! frame ── read_request ──► Hello, Ask, Cover, Chain, Page, List   by the catalogue alone

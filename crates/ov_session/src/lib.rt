@@ -13,7 +13,8 @@
 //! * [`MemDoor`] is a door in memory: it gives the streams that it was made with, keeps what
 //!   comes back, and fails at the calls that it is told to.
 //! * [`TcpDoor`] and [`TcpLink`] are over the system's sockets, tell nothing, and are trusted.
-//! * A [`Gate`] is told of each request before it is asked, so that a test can hold a session there.
+//! * A [`Gate`] is told of each request before it is asked, so that a test can hold a session
+//!   there.
 //!
 //! | file in `specs/` | says |
 //! |---|---|

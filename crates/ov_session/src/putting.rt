@@ -5,8 +5,8 @@ ghost use Rattle.ov_session.specs.Steps.{PutsFrame};
 
 use ov_io::{Fault, Stream};
 
-/// Puts a frame behind its length field. No memory is taken for it, so that an answer that was given
-/// is sent.
+/// Puts a frame behind its length field. No memory is taken for it, so that an answer that was
+/// given is sent.
 pub fn put_frame<L: Stream>(stream: &mut L, frame: &[u8]) -> Result<(), Fault>
     requires { IsFrame frame.now }
     ensures puts { PutsFrame

@@ -1,6 +1,6 @@
-//! Tests of `ov_session` and `ov_settings`: sessions in memory and over a port of this machine, with
-//! each fault of a stream, and settings files with each key left out or out of form. The bytes of the
-//! sessions were written by hand.
+//! Tests of `ov_session` and `ov_settings`: sessions in memory and over a port of this machine,
+//! with each fault of a stream, and settings files with each key left out or out of form. The bytes
+//! of the sessions were written by hand.
 #![tactic(auto)]
 
 #[cfg(test)]

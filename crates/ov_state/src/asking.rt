@@ -156,8 +156,8 @@ impl<B: Graph<Base, W>, S: Graph<Surface, W>, const W: usize> State<B, S, W> {
         })
     }
 
-    /// What is told of a user who is to be granted a file. It is refused exactly where the grant is.
-    /// No file's bytes are looked at.
+    /// What is told of a user who is to be granted a file. It is refused exactly where the grant
+    /// is. No file's bytes are looked at.
     pub fn ask_grant(&self, alloc: Global, user: &Name, file: &Name) -> Result<Asked, ChainFault>
         ensures { let c = self.now.catalogue in
             let u = user_named c user.now in let f = file_named c file.now in

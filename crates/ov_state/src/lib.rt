@@ -45,10 +45,10 @@
 //!   catalogue is sound, each file has its wanted surface, and no limit is passed.
 //! * The queries give the epoch, the mode, sizes, numbers and names, files, and the list of a file,
 //!   which is read off the layers.
-//! * `ask_enrol`, `ask_grant`, `ask_revoke` and `cover` tell an owner, before an update, the numbers
-//!   that it needs, or why the update would be refused. They touch no bytes, and plan no surface
-//!   nodes: of these they only count which sets would be new. What `cover` told can be given back
-//!   by [`State::remember`], so that the creation needn't plan it again.
+//! * `ask_enrol`, `ask_grant`, `ask_revoke` and `cover` tell an owner, before an update, the
+//!   numbers that it needs, or why the update would be refused. They touch no bytes, and plan no
+//!   surface nodes: of these they only count which sets would be new. What `cover` told can be
+//!   given back by [`State::remember`], so that the creation needn't plan it again.
 //! * [`State::chain`] is refused exactly where a read is, unless memory is. It gives a reader of a
 //!   file the chains from the reader's two roots to the file's keys ([`Chained`]); over true tokens
 //!   they lead to these keys, and [`access_key_by`] walks the one of the base layer.

@@ -18,16 +18,16 @@ const TOKEN: Token = Token { bytes: [0; 32] };
 
 const TEXT: &[u8] = b"hello";
 
-/// The text of file 0 and of file 1 under surface 3, and that of file 0 under surface 4, by `hmac` of
-/// Python and OpenSSL's AES.
+/// The text of file 0 and of file 1 under surface 3, and that of file 0 under surface 4, by `hmac`
+/// of Python and OpenSSL's AES.
 const FIRST_UNDER_3: &[u8] = b"\x79\x4a\xfc\xf2\xe0";
 
 const SECOND_UNDER_3: &[u8] = b"\xcd\xc2\xd5\x2a\x1b";
 
 const FIRST_UNDER_4: &[u8] = b"\xdd\x3c\x1f\xb5\xa5";
 
-/// What is stored of both files after their creation, after the first is granted to c, and after it is
-/// revoked from c.
+/// What is stored of both files after their creation, after the first is granted to c, and after it
+/// is revoked from c.
 struct Row {
     mode: Mode,
     created: [&'static [u8]; 2],

@@ -1,6 +1,6 @@
-//! Tests of `ov_store`: a small store at each stop with each tear, at each fault of its disk, and with
-//! its book damaged. The places of damage come from `tools/damaged_books.py`, which shares nothing with
-//! the crates, and the stored bytes from Python and OpenSSL.
+//! Tests of `ov_store`: a small store at each stop with each tear, at each fault of its disk, and
+//! with its book damaged. The places of damage come from `tools/damaged_books.py`, which shares
+//! nothing with the crates, and the stored bytes from Python and OpenSSL.
 #![tactic(auto)]
 
 #[cfg(test)]

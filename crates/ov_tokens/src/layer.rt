@@ -5,8 +5,8 @@ use ov_base::Key;
 
 /// A layer of keys: the labels of its nodes, and how their keys come from the layer's master.
 ///
-/// Generic code knows of a layer `L` that the label of node n is `label_of L.label_kind n`, that its key is
-/// `node_key L.label_kind master n`, and that `L::TAG` is the tag byte of its labels.
+/// Generic code knows of a layer `L` that the label of node n is `label_of L.label_kind n`, that
+/// its key is `node_key L.label_kind master n`, and that `L::TAG` is the tag byte of its labels.
 pub trait Layer {
     ghost use Rattle.std.specs.Prelude.{◌≡◌, ℕ, List};
     ghost use Rattle.ov_tokens.specs.Keys.{node_key, key_of_kind};

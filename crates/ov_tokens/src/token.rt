@@ -8,8 +8,8 @@ use crate::Label;
 use ov_base::Key;
 use ov_keyed::mac;
 
-/// What leads from a key to a label: the label's key XORed with the keyed hash of the label under the
-/// first key. It need not be kept secret.
+/// What leads from a key to a label: the label's key XORed with the keyed hash of the label under
+/// the first key. It need not be kept secret.
 #[derive(Clone, Copy, Debug, PartialEq, Eq)]
 pub struct Token {
     pub bytes: [u8; 32],

@@ -22,7 +22,7 @@
 //! | an owner's call sends its command's transcript, or a front | [`updates_are_transcribed`] |
 //! | a question sends its command's transcript, or a front | [`questions_are_transcribed`] |
 //! | a read sends its transcript, or a front | [`reads_are_transcribed`] |
-//! | a command has one transcript, and so has a run | [`transcripts_are_unique`] |
+//! | a command has one transcript, and a run has one | [`transcripts_are_unique`] |
 //! | a grant's is without the bytes of files; updates are short | [`transcripts_are_short`] |
 #![tactic(auto)]
 

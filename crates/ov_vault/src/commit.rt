@@ -12,8 +12,8 @@ use ov_graph::Graph;
 use ov_tokens::{Base, Surface};
 
 impl<B: Graph<Base, W>, S: Graph<Surface, W>, const W: usize> Vault<B, S, W> {
-    /// Makes an update that [`Vault::prepare`] prepared, while the vault is as it was then. It takes no
-    /// memory.
+    /// Makes an update that [`Vault::prepare`] prepared, while the vault is as it was then. It
+    /// takes no memory.
     pub fn commit(&mut self, prepared: Prepared<W>)
         requires { MayBeMade (64 * W) self.old prepared }
         ensures catalogue { self.new.catalogue ≡ applied self.old.catalogue prepared.entry.change }

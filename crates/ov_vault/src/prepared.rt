@@ -4,8 +4,8 @@ use crate::rewritten::Rewritten;
 use ov_base::Octets;
 use ov_state::Change;
 
-/// All that an update makes: the change of the catalogue, the new stored bytes of the files that were
-/// there, and those of a new file.
+/// All that an update makes: the change of the catalogue, the new stored bytes of the files that
+/// were there, and those of a new file.
 #[derive(Drop)]
 pub struct Prepared<const W: usize> {
     pub(crate) change: Change<W>,

@@ -30,8 +30,8 @@ fn surface_key(master: &Master, surface: Option<u32>) -> Option<Key>
     }
 }
 
-/// The bytes of a file with the coat of its old surface taken off and that of its new one laid. It takes
-/// no memory.
+/// The bytes of a file with the coat of its old surface taken off and that of its new one laid. It
+/// takes no memory.
 pub fn restore(master: &Master, rewrite: Rewrite, bytes: Octets) -> Octets
     requires { length bytes ≤ MAX_FILE_BYTES }
     ensures { result ≡ restored master.now.bytes rewrite.old rewrite.new rewrite.file bytes }

@@ -29,8 +29,8 @@ pub fn answers_are_read_alike()
     ensures { AnswersAreReadAlike }
 {}
 
-/// The law of places in answers: what is named is the first field that no answer to the request goes
-/// on with, or the end.
+/// The law of places in answers: what is named is the first field that no answer to the request
+/// goes on with, or the end.
 pub fn bad_answers_are_placed()
     ensures { BadAnswersArePlaced }
 {}

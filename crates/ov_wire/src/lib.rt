@@ -5,12 +5,12 @@
 //! them joined. No frame behind its length field is the front of another's
 //! ([`frames_are_told_apart`]). A frame is a [`Request`] or an [`Answer`]: a kind byte and fields.
 //! [`read_request`] reads a frame exactly where it is the one spelling of a request
-//! (`request_bytes` in `specs/Requests`), and [`read_answer`] exactly where it is the spelling of an
-//! answer to the request that was sent (`answer_bytes` in `specs/AnswerBytes`, `IsAnswer` in
+//! (`request_bytes` in `specs/Requests`), and [`read_answer`] exactly where it is the spelling of
+//! an answer to the request that was sent (`answer_bytes` in `specs/AnswerBytes`, `IsAnswer` in
 //! `specs/AnswersTo`), as far as the two decide it. Elsewhere they name a place, which
-//! `specs/RequestReading` and `specs/AnswerReading` give row by row: the first field that nothing in
-//! the grammar continues, or the end. Two laws say of it that the bytes before it go on to a request
-//! or an answer, and that they don't with the field at it ([`bad_requests_are_placed`],
+//! `specs/RequestReading` and `specs/AnswerReading` give row by row: the first field that nothing
+//! in the grammar continues, or the end. Two laws say of it that the bytes before it go on to a
+//! request or an answer, and that they don't with the field at it ([`bad_requests_are_placed`],
 //! [`bad_answers_are_placed`]; `IsWrongPlace` in ov_fields). [`write_request`] and [`write_answer`]
 //! append the spelling. An answer within the limits of a store (`HasAnswerForm` in
 //! `specs/AnswerForm`) fits a frame, and is read as itself or not at all, whatever was asked

@@ -1,5 +1,5 @@
-//! Sinks: one that tells of what was put, one that keeps it, and one that forgets it. No clause here
-//! says what was put, so that no proof computes it.
+//! Sinks: one that tells of what was put, one that keeps it, and one that forgets it. No clause
+//! here says what was put, so that no proof computes it.
 ghost use Rattle.std.specs.Prelude.{None};
 
 use ov_io::{Fault, Sink};

@@ -1,10 +1,11 @@
-//! What `docs/PERFORMANCE.md` times: `speed` and one of these words:
-//! `pad`, `pages`, `short`, `tag`, `graph`, `chain`, `journal`, `wire`, `copy`; a number of nodes and
-//! then `fill`, `find` or `plan`, or these behind `list_`, over the graph that looks at every node;
-//! `lengths`, which `tools/announced_lengths.sh` runs; and `cuts`, `plain` and `starts`, whose
-//! numbers `tools/pad_vectors.py` computes by OpenSSL.
+//! What `docs/PERFORMANCE.md` times: `speed` and one of these words: `pad`, `pages`, `short`,
+//! `tag`, `graph`, `chain`, `journal`, `wire`, `copy`; a number of nodes and then `fill`, `find` or
+//! `plan`, or these behind `list_`, over the graph that looks at every node; `lengths`, which
+//! `tools/announced_lengths.sh` runs; and `cuts`, `plain` and `starts`, whose numbers
+//! `tools/pad_vectors.py` computes by OpenSSL.
 //!
-//! Each does one piece of work and prints one line that shows that it was done. It is timed from outside.
+//! Each does one piece of work and prints one line that shows that it was done. It is timed from
+//! outside.
 #![tactic(auto)]
 
 mod graph;

@@ -1,6 +1,6 @@
 //! What a server replied to a read of a long file, from the same implementation in Python. The mode
-//! is Full; users a and b have the numbers 0 and 1; f was created for a, and granted to b before the
-//! third chunk of the read.
+//! is Full; users a and b have the numbers 0 and 1; f was created for a, and granted to b before
+//! the third chunk of the read.
 
 /// How many bytes the file has.
 pub const LENGTH: usize = 200_000;

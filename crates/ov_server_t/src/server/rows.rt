@@ -171,8 +171,8 @@ pub const ROWS: &[(&[u8], &[u8])] = &[
     ),
     (b"\x07\x05\0\0\0\x02", b"\x87\0"),
     (b"\x07\x09\0\0\0\0", b"\x87\0"),
-    // Updates that aren't made: a wrong owner's, one at another epoch, one that spells none, one that
-    // is refused, and one with a token too many.
+    // Updates that aren't made: a wrong owner's, one at another epoch, one that spells none, one
+    // that is refused, and one with a token too many.
     (
         b"\
             \x04\x00\x00\x00\x05\x01\x01\x61\x06\x79\x77\x19\xf0\xd9\xa6\xed\x9e\x3e\x1d\x35\x0a\
