@@ -12,8 +12,8 @@ returns-in-Read g c =
 pub returns-in-List : goal.returns-in-List
 returns-in-List g c =
     subst (λ (command : Command). IsWholeStep g.D.Disk.tells g.T.Sink.tells
-    command c.args.self.now c.list-in-List.new.self c.args.trace.now c.list-in-List.new.trace c.list-in-List.result)
-    (sym c.in-List.is) c.list-in-List.ensures
+    command c.args.self.now c.list.new.self c.args.trace.now c.list.new.trace c.list.result)
+    (sym c.in-List.is) c.list.ensures
 
 pub returns-in-Epoch : goal.returns-in-Epoch
 returns-in-Epoch g c =
