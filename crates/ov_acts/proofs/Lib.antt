@@ -1,5 +1,6 @@
 mod AskingAlone
 mod Called
+mod Changing
 mod Commanding
 mod Completing
 mod FailingDisks

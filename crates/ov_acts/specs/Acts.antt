@@ -15,6 +15,8 @@ use Rattle.ov_owner.specs.Errands.{creating, enrolling, granting, revoking}
 use Rattle.ov_owner.specs.Questions.{AsksOnce, names_in, welcome_in}
 use Rattle.ov_owner.specs.declared.fault.OwnerFault.{OwnerFault}
 use Rattle.ov_script.specs.Lines.{reply_line}
+use Rattle.ov_script.specs.declared.command.Command.{Command}
+use Rattle.ov_script.specs.declared.command.Command.TheVariants as commands
 use Rattle.ov_script.specs.declared.reply.Reply.TheVariants as replies
 use Rattle.ov_wire.specs.declared.answer.Welcome.{Welcome}
 use Rattle.ov_wire.specs.declared.request.Question.TheVariants as questions
@@ -83,6 +85,20 @@ admitted_if false = Err OtherKeys
 abbrev pub admitted : List ℕ → Result Welcome OwnerFault → Result (Unit {0}) Stop
 admitted base (Ok welcome) = admitted_if (bytes_eq welcome.base_check (check_value_of base))
 admitted base (Err fault) = Err (stop_of_owner fault)
+
+-- the act asks for the change of this command, where these bytes are stored
+abbrev pub AsksFor : Act → List ℕ → Command → Type 0
+AsksFor (Enrol user) bytes command = command ≡ commands.Enrol user
+AsksFor (Grant user file) bytes command = command ≡ commands.Grant user file
+AsksFor (Revoke user file) bytes command = command ≡ commands.Revoke user file
+AsksFor (Create file list) bytes command = command ≡ commands.Create file list bytes
+AsksFor act bytes command = ⊥
+
+-- the act asks an owner's question, which changes nothing
+abbrev pub IsQuestion : Act → Type 0
+IsQuestion (ListNames file) = Unit {0}
+IsQuestion (Key user) = Unit {0}
+IsQuestion act = ⊥
 
 module _ {P : Type 0} (peer : PeerTells P) where
   -- the owner with these masters makes the call of the act, and this comes of it

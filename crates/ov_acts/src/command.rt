@@ -1,11 +1,13 @@
 //! The commands of an owner.
-ghost use Rattle.std.specs.Prelude.{◌≡◌, ◌≤◌, IfOk, length};
+ghost use Rattle.std.specs.Prelude.{◌≡◌, ◌≤◌, ℕ, List, IfNone, IfOk, IfSome, length};
 ghost use Rattle.ov_base.specs.Causes.{Rose};
 ghost use Rattle.ov_base.specs.declared.limits.TheConstants.{MAX_FILE_BYTES};
 ghost use Rattle.ov_client.specs.KeyLines.{key_line};
+ghost use Rattle.ov_owner.specs.Changes.{HasChangeLimits, command_of};
 ghost use Rattle.ov_protocol.specs.Serving.{Service};
 ghost use Rattle.ov_script.specs.Lines.{reply_line};
-ghost use Rattle.ov_acts.specs.Acts.{Owns, Performs, Says, admitted, list_line, update_line};
+ghost use Rattle.ov_acts.specs.Acts.{AsksFor, IsQuestion, Owns, Performs, Says, admitted};
+ghost use Rattle.ov_acts.specs.Acts.{list_line, update_line};
 ghost use Rattle.ov_acts.specs.Causes.{StopsFor};
 ghost use Rattle.ov_acts.specs.Files.{HasListLimits, IsOwners};
 ghost use Rattle.ov_acts.specs.Machine.{CommandsAsMachine, OwnsAsMachine};
@@ -14,11 +16,10 @@ use crate::job::Act;
 use crate::stop::{Stop, stop_of_owner};
 use ov_base::{Key, Memory, Name, Names, Octets};
 use ov_client::Client;
-use ov_owner::{Owner, OwnerFault};
+use ov_owner::{Change, Owner, OwnerFault, Welcome};
 use ov_peer::Peer;
 use ov_script::{Reply, line};
 use ov_tokens::{Master, check_value};
-use ov_wire::Welcome;
 use std::alloc::Global;
 
 /// The line of a reply.
@@ -104,6 +105,47 @@ fn admitted(base: &Key, greeting: Result<Welcome, OwnerFault>) -> Result<(), Sto
     }
 }
 
+/// The change that an act asks for, where it asks for one. These bytes are stored.
+fn change_of<'a>(act: &'a Act, bytes: &'a [u8]) -> Option<Change<'a>>
+    requires owners { IsOwners act.now }
+    requires list { HasListLimits act.now }
+    requires file { length bytes.now ≤ MAX_FILE_BYTES }
+    ensures change { IfSome result (λ change. AsksFor act.now bytes.now (command_of change)) }
+    ensures limits { IfSome result HasChangeLimits }
+    ensures question { IfNone result (IsQuestion act.now) }
+{
+    match act {
+        Act::Enrol { user } => Some(Change::Enrol { user }),
+        Act::Create { file, list } => Some(Change::Create { file, list, bytes }),
+        Act::Grant { user, file } => Some(Change::Grant { user, file }),
+        Act::Revoke { user, file } => Some(Change::Revoke { user, file }),
+        Act::List { file: _ } | Act::Key { user: _ } => None,
+        Act::Read { file: _ } | Act::Check => unreachable!(),
+    }
+}
+
+/// Asks what changes nothing, and gives the line on it.
+fn question<P: Peer>(alloc: Global, owner: &Owner, act: &Act, peer: &mut P) -> Result<Octets, Stop>
+    requires question { IsQuestion act.now }
+    ensures performs { (bytes : List ℕ) → Performs P.tells owner.now act.now bytes
+        peer.old peer.new result }
+    ensures told { (bytes : List ℕ) (v : Service) → P.tells.serves peer.old v
+        → CommandsAsMachine owner.now act.now bytes v (P.tells.serves peer.new) result }
+    ensures cause { StopsFor ⊥ (Rose (P.tells.faults peer.old) (P.tells.faults peer.new)) ⊥ ⊥
+        result }
+{
+    match act {
+        Act::List { file } => line_on_list(alloc, file, owner.list(alloc, peer, file)),
+        Act::Key { user } => line_on_client(alloc, owner.client(alloc, peer, user)),
+        Act::Enrol { user: _ }
+        | Act::Create { file: _, list: _ }
+        | Act::Grant { user: _, file: _ }
+        | Act::Revoke { user: _, file: _ }
+        | Act::Read { file: _ }
+        | Act::Check => unreachable!(),
+    }
+}
+
 /// Does what an owner can, and gives the line on it.
 pub fn command<P: Peer>(
     alloc: Global,
@@ -121,16 +163,9 @@ pub fn command<P: Peer>(
     ensures cause { StopsFor ⊥ (Rose (P.tells.faults peer.old) (P.tells.faults peer.new)) ⊥ ⊥
         result }
 {
-    match act {
-        Act::Enrol { user } => line_on_update(alloc, owner.enrol(alloc, peer, user)),
-        Act::Grant { user, file } => line_on_update(alloc, owner.grant(alloc, peer, user, file)),
-        Act::Revoke { user, file } => line_on_update(alloc, owner.revoke(alloc, peer, user, file)),
-        Act::Create { file, list } => {
-            line_on_update(alloc, owner.create(alloc, peer, file, list, bytes))
-        }
-        Act::List { file } => line_on_list(alloc, file, owner.list(alloc, peer, file)),
-        Act::Key { user } => line_on_client(alloc, owner.client(alloc, peer, user)),
-        Act::Read { file: _ } | Act::Check => unreachable!(),
+    match change_of(act, bytes) {
+        Some(change) => line_on_update(alloc, owner.change(alloc, peer, &change)),
+        None => question(alloc, owner, act, peer),
     }
 }
 

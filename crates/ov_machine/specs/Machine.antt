@@ -77,6 +77,13 @@ IsCommand (Read user file) = Unit {0}
 IsCommand (ListNames file) = Unit {0}
 IsCommand AskEpoch = Unit {0}
 
+-- a command that asks for no change
+abbrev pub IsQuestion : Command → Type 0
+IsQuestion (Read user file) = Unit {0}
+IsQuestion (ListNames file) = Unit {0}
+IsQuestion AskEpoch = Unit {0}
+IsQuestion command = ⊥
+
 -- ---- what a command comes to
 
 -- the command is answered with this reply, and leaves the history

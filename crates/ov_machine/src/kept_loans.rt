@@ -10,8 +10,8 @@ ghost use Rattle.ov_client.specs.Causes.{HasClientCause};
 ghost use Rattle.ov_client.specs.Reads.{Reads};
 ghost use Rattle.ov_owner.specs.Calls.{Runs};
 ghost use Rattle.ov_owner.specs.Causes.{HasOwnerCause};
+ghost use Rattle.ov_owner.specs.Changes.{HasChangeLimits, errand_of};
 ghost use Rattle.ov_owner.specs.Clients.{reader_in};
-ghost use Rattle.ov_owner.specs.Errands.{IsCreation, creating, enrolling, granting, revoking};
 ghost use Rattle.ov_owner.specs.Questions.{AsksOnce, names_in, welcome_in};
 ghost use Rattle.ov_machine.specs.Seats.{HasFoundCause, ReadsBy};
 
@@ -19,83 +19,26 @@ use crate::replying::Found;
 use ov_base::{Name, Names, Octets};
 use ov_client::{Client, ClientFault};
 use ov_io::Sink;
-use ov_owner::{Owner, OwnerFault};
+use ov_owner::{Change, Owner, OwnerFault, Welcome};
 use ov_peer::{Peer, Traced};
-use ov_wire::Welcome;
 use std::alloc::Global;
 
-/// Enrols a user.
-pub fn enrol<P: Peer + Drop, T: Sink + Drop>(
+/// Makes a change.
+pub fn change<P: Peer + Drop, T: Sink + Drop>(
     owner: &Owner,
     alloc: Global,
     peer: &mut Traced<P, T>,
-    user: &Name,
+    change: &Change<'_>,
 ) -> Result<u32, OwnerFault>
+    requires { HasChangeLimits change.now }
     ensures runs { Runs (traced_tells P.tells T.tells)
-        owner.now.surface (enrolling user.now) peer.old peer.new result }
+        owner.now.surface (errand_of owner.now.base change.now) peer.old peer.new result }
     ensures lent { T.tells.borrow peer.new.sink ≡ T.tells.borrow peer.old.sink }
     ensures same { P.tells.borrow peer.new.peer ≡ P.tells.borrow peer.old.peer }
     ensures cause { HasOwnerCause (P.tells.faults peer.old.peer + T.tells.faults peer.old.sink)
         (P.tells.faults peer.new.peer + T.tells.faults peer.new.sink) result }
 {
-    owner.enrol(alloc, peer, user)
-}
-
-/// Creates a file of these bytes for the users of the list.
-pub fn create<P: Peer + Drop, T: Sink + Drop>(
-    owner: &Owner,
-    alloc: Global,
-    peer: &mut Traced<P, T>,
-    file: &Name,
-    list: &Names,
-    bytes: &[u8],
-) -> Result<u32, OwnerFault>
-    requires { IsCreation list.now bytes.now }
-    ensures runs { Runs (traced_tells P.tells T.tells)
-        owner.now.surface (creating owner.now.base file.now list.now bytes.now)
-        peer.old peer.new result }
-    ensures lent { T.tells.borrow peer.new.sink ≡ T.tells.borrow peer.old.sink }
-    ensures same { P.tells.borrow peer.new.peer ≡ P.tells.borrow peer.old.peer }
-    ensures cause { HasOwnerCause (P.tells.faults peer.old.peer + T.tells.faults peer.old.sink)
-        (P.tells.faults peer.new.peer + T.tells.faults peer.new.sink) result }
-{
-    owner.create(alloc, peer, file, list, bytes)
-}
-
-/// Puts a user onto the list of a file.
-pub fn grant<P: Peer + Drop, T: Sink + Drop>(
-    owner: &Owner,
-    alloc: Global,
-    peer: &mut Traced<P, T>,
-    user: &Name,
-    file: &Name,
-) -> Result<u32, OwnerFault>
-    ensures runs { Runs (traced_tells P.tells T.tells)
-        owner.now.surface (granting owner.now.base user.now file.now) peer.old peer.new result }
-    ensures lent { T.tells.borrow peer.new.sink ≡ T.tells.borrow peer.old.sink }
-    ensures same { P.tells.borrow peer.new.peer ≡ P.tells.borrow peer.old.peer }
-    ensures cause { HasOwnerCause (P.tells.faults peer.old.peer + T.tells.faults peer.old.sink)
-        (P.tells.faults peer.new.peer + T.tells.faults peer.new.sink) result }
-{
-    owner.grant(alloc, peer, user, file)
-}
-
-/// Takes a user off the list of a file.
-pub fn revoke<P: Peer + Drop, T: Sink + Drop>(
-    owner: &Owner,
-    alloc: Global,
-    peer: &mut Traced<P, T>,
-    user: &Name,
-    file: &Name,
-) -> Result<u32, OwnerFault>
-    ensures runs { Runs (traced_tells P.tells T.tells)
-        owner.now.surface (revoking user.now file.now) peer.old peer.new result }
-    ensures lent { T.tells.borrow peer.new.sink ≡ T.tells.borrow peer.old.sink }
-    ensures same { P.tells.borrow peer.new.peer ≡ P.tells.borrow peer.old.peer }
-    ensures cause { HasOwnerCause (P.tells.faults peer.old.peer + T.tells.faults peer.old.sink)
-        (P.tells.faults peer.new.peer + T.tells.faults peer.new.sink) result }
-{
-    owner.revoke(alloc, peer, user, file)
+    owner.change(alloc, peer, change)
 }
 
 /// Asks for the epoch.

@@ -1,15 +1,16 @@
 //! The access-matrix machine over frames, for a caller that has both masters.
-ghost use Rattle.std.specs.Prelude.{◌≡◌, false};
+ghost use Rattle.std.specs.Prelude.{◌≡◌, false, IfNone, IfSome};
 ghost use Rattle.ov_images.specs.Images.{keys_of};
 ghost use Rattle.ov_script.specs.declared.command.Command.{Command};
-ghost use Rattle.ov_machine.specs.Machine.{IsCommand, opened_of, plain_masters};
+ghost use Rattle.ov_owner.specs.Changes.{HasChangeLimits, command_of};
+ghost use Rattle.ov_machine.specs.Machine.{IsCommand, IsQuestion, opened_of, plain_masters};
 ghost use Rattle.ov_machine.specs.Steps.{IsWholeStep};
 
 use crate::fault::StepFault;
 use ov_disk::Disk;
 use ov_io::Sink;
 use ov_keyfile::Masters;
-use ov_owner::Owner;
+use ov_owner::{Change, Owner};
 use ov_script::{Command, Reply};
 use ov_server::{LocalPeer, Server};
 use ov_state::Catalogue;
@@ -43,6 +44,26 @@ impl<D: Disk> Model for Machine<D> {
     } };
 
     ghost invariant = { λ m. m.peer.keys ≡ keys_of m.owner };
+}
+
+/// The change that a command asks for, where it asks for one.
+fn change_of(command: &Command) -> Option<Change<'_>>
+    requires { IsCommand command.now }
+    ensures change { IfSome result (λ change. command_of change ≡ command.now) }
+    ensures limits { IfSome result HasChangeLimits }
+    ensures question { IfNone result (IsQuestion command.now) }
+{
+    match command {
+        Command::Enrol { user } => Some(Change::Enrol { user }),
+        Command::Create { file, list, bytes } => Some(Change::Create {
+            file,
+            list,
+            bytes: bytes.as_slice(),
+        }),
+        Command::Grant { user, file } => Some(Change::Grant { user, file }),
+        Command::Revoke { user, file } => Some(Change::Revoke { user, file }),
+        Command::Read { user: _, file: _ } | Command::List { file: _ } | Command::Epoch => None,
+    }
 }
 
 impl<D: Disk> Machine<D> {
@@ -94,16 +115,9 @@ impl<D: Disk> Machine<D> {
         requires healthy { self.old.failed ≡ false }
         ensures { IsWholeStep D.tells T.tells command self.old self.new trace.old trace.new result }
     {
-        match command {
-            Command::Enrol { user } => self.enrol(alloc, &user, trace),
-            Command::Create { file, list, bytes } => {
-                self.create(alloc, &file, &list, bytes.as_slice(), trace)
-            }
-            Command::Grant { user, file } => self.grant(alloc, &user, &file, trace),
-            Command::Revoke { user, file } => self.revoke(alloc, &user, &file, trace),
-            Command::Read { user, file } => self.read(alloc, user, file, trace),
-            Command::List { file } => self.list(alloc, file, trace),
-            Command::Epoch => self.hello(alloc, trace),
+        match change_of(&command) {
+            Some(change) => self.change(alloc, &change, trace),
+            None => self.question(alloc, command, trace),
         }
     }
 }

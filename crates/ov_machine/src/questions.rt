@@ -2,6 +2,7 @@
 ghost use Rattle.std.specs.Prelude.{◌≡◌, false};
 ghost use Rattle.ov_script.specs.declared.command.Command.TheVariants.{Epoch, List as ListNames};
 ghost use Rattle.ov_script.specs.declared.command.Command.TheVariants.{Read};
+ghost use Rattle.ov_machine.specs.Machine.{IsQuestion};
 ghost use Rattle.ov_machine.specs.Steps.{IsWholeStep};
 
 use crate::fault::StepFault;
@@ -12,7 +13,7 @@ use ov_base::Name;
 use ov_disk::Disk;
 use ov_io::Sink;
 use ov_peer::Traced;
-use ov_script::Reply;
+use ov_script::{Command, Reply};
 use std::alloc::Global;
 
 impl<D: Disk> Machine<D> {
@@ -61,5 +62,30 @@ impl<D: Disk> Machine<D> {
         let found = kept_loans::read(&self.owner, alloc, &mut peer, &user, &file);
         let Traced { peer: _, sink: _ } = peer;
         found_reply(user, file, found)
+    }
+    /// Answers a command that asks for no change.
+    pub fn question<T: Sink>(
+        &mut self,
+        alloc: Global,
+        command: Command,
+        trace: &mut T,
+    ) -> Result<Reply, StepFault>
+        requires question { IsQuestion command }
+        requires healthy { self.old.failed ≡ false }
+        ensures { IsWholeStep D.tells T.tells command self.old self.new trace.old trace.new result }
+    {
+        match command {
+            Command::Read { user, file } => self.read(alloc, user, file, trace),
+            Command::List { file } => self.list(alloc, file, trace),
+            Command::Epoch => self.hello(alloc, trace),
+            Command::Enrol { user: _ }
+            | Command::Create {
+                file: _,
+                list: _,
+                bytes: _,
+            }
+            | Command::Grant { user: _, file: _ }
+            | Command::Revoke { user: _, file: _ } => unreachable!(),
+        }
     }
 }

@@ -7,9 +7,8 @@ ghost use Rattle.ov_machine.specs.Replying.{fault_reply, names_reply, read_fault
 use crate::fault::{BadTag, StepFault};
 use ov_base::{Name, Names, Octets};
 use ov_client::ClientFault;
-use ov_owner::OwnerFault;
+use ov_owner::{OwnerFault, Welcome};
 use ov_script::Reply;
-use ov_wire::Welcome;
 
 /// The reply where the owner got no answer but this, or why there is none.
 fn fault_reply(fault: OwnerFault) -> Result<Reply, StepFault>

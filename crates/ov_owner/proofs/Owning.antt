@@ -10,19 +10,19 @@ use Rattle.ov_owner.specs.Calls.{Runs}
 use Rattle.ov_owner.specs.Errands.{Errand}
 use Rattle.ov_owner.specs.Steps.{IsErrandFor, IsOwnersReply}
 use Rattle.ov_owner.specs.Talks.{Closes, IsAskFault, Stage}
-use Rattle.ov_owner.specs.Tasks.{command_of, errand_of}
+use Rattle.ov_owner.specs.Changes.{command_of, errand_of}
 use Rattle.ov_owner.specs.declared.fault.OwnerFault.{OwnerFault}
 use Rattle.ov_owner.specs.declared.fault.OwnerFault.TheVariants as faults
-use Rattle.ov_owner.specs.declared.task.Task.{Task}
-use Rattle.ov_owner.specs.declared.task.Task.TheVariants as tasks
+use Rattle.ov_owner.specs.declared.change.Change.{Change}
+use Rattle.ov_owner.specs.declared.change.Change.TheVariants as changes
 use Rattle.ov_owner.proofs.Replying.{talks_are_steps}
 
--- a task's errand is that of its command
-errand_for : (base : List ℕ) (task : Task) → IsErrandFor base (command_of task) (errand_of base task)
-errand_for base (tasks.Enrol user) = refl
-errand_for base (tasks.Create file list bytes) = refl
-errand_for base (tasks.Grant user file) = refl
-errand_for base (tasks.Revoke user file) = refl
+-- a change's errand is that of its command
+pub errand_for : (base : List ℕ) (change : Change) → IsErrandFor base (command_of change) (errand_of base change)
+errand_for base (changes.Enrol user) = refl
+errand_for base (changes.Create file list bytes) = refl
+errand_for base (changes.Grant user file) = refl
+errand_for base (changes.Revoke user file) = refl
 
 module _ {P : Type 0} (peer : PeerTells P) (k : Masters) (command : Command) (e : Errand)
     (is : IsErrandFor k.base command e) (p q : P) (v : Service) (is_served : peer.serves p v)
@@ -67,11 +67,11 @@ module _ {P : Type 0} (peer : PeerTells P) (k : Masters) (command : Command) (e 
         never (inr wrong) = cc wrong
   owners_reply (Err fault) runs = tt
 
-pub task_reply : {P : Type 0} (peer : PeerTells P) (k : Masters) (task : Task) (p q : P)
+pub change_reply : {P : Type 0} (peer : PeerTells P) (k : Masters) (change : Change) (p q : P)
     (v : Service) → peer.serves p v
     → v.surface ≡ k.surface → (result : Result ℕ OwnerFault)
-    → Runs peer k.surface (errand_of k.base task) p q result
-    → IsOwnersReply k (command_of task) v (peer.serves q) result
-task_reply peer k task p q v is_served same result runs =
-    owners_reply peer k (command_of task) (errand_of k.base task) (errand_for k.base task)
+    → Runs peer k.surface (errand_of k.base change) p q result
+    → IsOwnersReply k (command_of change) v (peer.serves q) result
+change_reply peer k change p q v is_served same result runs =
+    owners_reply peer k (command_of change) (errand_of k.base change) (errand_for k.base change)
     p q v is_served same result runs

@@ -26,7 +26,7 @@ use Rattle.ov_peer.specs.declared.fault.ExchangeFault.{ExchangeFault}
 use Rattle.ov_peer.specs.declared.fault.ExchangeFault.TheVariants.{BadReply, Link, Memory}
 use Rattle.ov_peer.specs.Tells.{PeerTells}
 use Rattle.ov_owner.specs.Questions.{AsksOnce, IsListOf, IsWelcomeOf, RepliesThere, names_in, welcome_in}
-use Rattle.ov_owner.specs.Tasks.{owner_fault}
+use Rattle.ov_owner.specs.Helpers.{owner_fault}
 use Rattle.ov_owner.specs.declared.fault.OwnerFault.{OwnerFault}
 
 -- ---- one ask

@@ -13,7 +13,7 @@ use Rattle.ov_peer.specs.Tells.{PeerTells}
 use Rattle.ov_owner.specs.Calls.{Concludes, Passes}
 use Rattle.ov_owner.specs.Errands.{Errand}
 use Rattle.ov_owner.specs.Talks.{CanSend, Ends, Goes, IsAskFault, Sends, Stage, after, asked_at, update_request}
-use Rattle.ov_owner.specs.Tasks.{IsSent, owner_fault, sent_of}
+use Rattle.ov_owner.specs.Helpers.{IsSent, owner_fault, sent_of}
 use Rattle.ov_owner.specs.declared.fault.OwnerFault.{OwnerFault}
 use Rattle.ov_owner.specs.declared.fault.OwnerFault.TheVariants as faults
 

@@ -16,9 +16,9 @@ use Rattle.ov_peer.specs.Tells.{PeerTells}
 use Rattle.ov_owner.specs.Calls.{Concludes, Passes}
 use Rattle.ov_owner.specs.Errands.{Errand, known_of, plan_of, sealed_by}
 use Rattle.ov_owner.specs.Talks.{Asks, Ends, Sends, Stage, after_first, again, again_if, sends_if, start}
-use Rattle.ov_owner.specs.Tasks.{errand_of}
-use Rattle.ov_owner.specs.declared.task.Task.{Task}
-use Rattle.ov_owner.specs.declared.task.Task.TheVariants as tasks
+use Rattle.ov_owner.specs.Changes.{errand_of}
+use Rattle.ov_owner.specs.declared.change.Change.{Change}
+use Rattle.ov_owner.specs.declared.change.Change.TheVariants as changes
 use Rattle.ov_owner.specs.declared.limits.TheConstants.{MAX_TRIES}
 use Rattle.ov_owner.specs.declared.fault.OwnerFault.{OwnerFault}
 use Rattle.ov_owner.specs.declared.fault.OwnerFault.TheVariants as faults
@@ -78,17 +78,17 @@ plan_never_links (answers.Refused why) seal is = cc is
 plan_never_links answers.NoMemory seal is = cc is
 plan_never_links a seal is = cc is
 
-told_never_links : (base : List ℕ) (task : Task) (a : Answer)
-    → (errand_of base task).sealed a ≡ Err faults.Link → ⊥
-told_never_links base (tasks.Enrol user) a is = known_never_links a _ is
-told_never_links base (tasks.Create file names bytes) a is = plan_never_links a _ is
-told_never_links base (tasks.Grant user file) a is = known_never_links a _ is
-told_never_links base (tasks.Revoke user file) a is = known_never_links a _ is
+told_never_links : (base : List ℕ) (change : Change) (a : Answer)
+    → (errand_of base change).sealed a ≡ Err faults.Link → ⊥
+told_never_links base (changes.Enrol user) a is = known_never_links a _ is
+told_never_links base (changes.Create file names bytes) a is = plan_never_links a _ is
+told_never_links base (changes.Grant user file) a is = known_never_links a _ is
+told_never_links base (changes.Revoke user file) a is = known_never_links a _ is
 
-pub seal_never_links : (base : List ℕ) (task : Task) (a : Answer) (fault : OwnerFault)
-    → (fault ≡ faults.Memory) ⊎ ((errand_of base task).sealed a ≡ Err fault) → fault ≡ faults.Link → ⊥
-seal_never_links base task a fault (inl memory) is = cc (memory, is)
-seal_never_links base task a fault (inr told) is = told_never_links base task a (told ∙ ap Err is)
+pub seal_never_links : (base : List ℕ) (change : Change) (a : Answer) (fault : OwnerFault)
+    → (fault ≡ faults.Memory) ⊎ ((errand_of base change).sealed a ≡ Err fault) → fault ≡ faults.Link → ⊥
+seal_never_links base change a fault (inl memory) is = cc (memory, is)
+seal_never_links base change a fault (inr told) is = told_never_links base change a (told ∙ ap Err is)
 
 -- ---- the tries
 

@@ -7,4 +7,5 @@ pub mod Causes
 pub mod Steps
 pub mod Alone
 pub mod Laws
-pub mod Tasks
+pub mod Changes
+pub mod Helpers

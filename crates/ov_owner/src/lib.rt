@@ -16,6 +16,7 @@
 //! | file in `specs/` | says |
 //! |---|---|
 //! | `Errands` | what each command asks first, and what is sealed of the answer |
+//! | `Changes` | a [`Change`] as a command, and as what it asks and seals |
 //! | `Talks` | which asks come one after the other, and with which result they end |
 //! | `Calls`, `Causes` | what asks of a peer come to; why a call ends with a fault of the link |
 //! | `Questions` | one question and what comes of it |
@@ -33,6 +34,7 @@
 //! | the frames have few bytes beside those of command, list and file | [`talks_are_short`] |
 #![tactic(auto)]
 
+mod change;
 mod client;
 mod fault;
 mod laws;
@@ -43,10 +45,11 @@ mod question;
 mod sealing;
 mod sending;
 mod settling;
-mod task;
 
+pub use change::Change;
 pub use fault::OwnerFault;
 pub use laws::{
     one_update_at_most, stale_epochs_rise, talks_are_proper, talks_are_short, talks_are_steps,
 };
+pub use ov_wire::Welcome;
 pub use owner::Owner;

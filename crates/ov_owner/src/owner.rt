@@ -7,11 +7,11 @@ ghost use Rattle.ov_owner.specs.Calls.{Runs};
 ghost use Rattle.ov_owner.specs.Causes.{HasOwnerCause};
 ghost use Rattle.ov_owner.specs.Errands.{IsCreation, creating, enrolling, granting, revoking};
 ghost use Rattle.ov_owner.specs.Steps.{IsOwnersReply};
-ghost use Rattle.ov_owner.specs.Tasks.{HasTaskLimits, command_of, errand_of};
+ghost use Rattle.ov_owner.specs.Changes.{HasChangeLimits, command_of, errand_of};
 
 use crate::OwnerFault;
+use crate::change::Change;
 use crate::settling::settle;
-use crate::task::Task;
 use ov_base::{Key, Name, Names};
 use ov_peer::Peer;
 use ov_tokens::{Master, SurfaceMaster};
@@ -44,17 +44,22 @@ impl Owner {
         }
     }
 
-    /// Makes a change.
-    fn make<P: Peer>(&self, alloc: Global, peer: &mut P, task: &Task<'_>) -> Result<u32, OwnerFault>
-        requires { HasTaskLimits task.now }
-        ensures runs { Runs P.tells self.now.surface (errand_of self.now.base task.now)
+    /// Makes a change. Gives the new epoch.
+    pub fn change<P: Peer>(
+        &self,
+        alloc: Global,
+        peer: &mut P,
+        change: &Change<'_>,
+    ) -> Result<u32, OwnerFault>
+        requires { HasChangeLimits change.now }
+        ensures runs { Runs P.tells self.now.surface (errand_of self.now.base change.now)
             peer.old peer.new result }
         ensures told { (v : Service) → P.tells.serves peer.old v → v.surface ≡ self.now.surface
-            → IsOwnersReply self.now (command_of task.now) v (P.tells.serves peer.new) result }
+            → IsOwnersReply self.now (command_of change.now) v (P.tells.serves peer.new) result }
         ensures same { P.tells.borrow peer.new ≡ P.tells.borrow peer.old }
         ensures cause { HasOwnerCause (P.tells.faults peer.old) (P.tells.faults peer.new) result }
     {
-        settle(alloc, peer, &self.base, &self.surface, task)
+        settle(alloc, peer, &self.base, &self.surface, change)
     }
 
     /// Enrols a user. Gives the new epoch.
@@ -70,7 +75,7 @@ impl Owner {
         ensures same { P.tells.borrow peer.new ≡ P.tells.borrow peer.old }
         ensures cause { HasOwnerCause (P.tells.faults peer.old) (P.tells.faults peer.new) result }
     {
-        self.make(alloc, peer, &Task::Enrol { user })
+        self.change(alloc, peer, &Change::Enrol { user })
     }
 
     /// Creates a file of these bytes, for the users of the list. Gives the new epoch.
@@ -91,7 +96,7 @@ impl Owner {
         ensures same { P.tells.borrow peer.new ≡ P.tells.borrow peer.old }
         ensures cause { HasOwnerCause (P.tells.faults peer.old) (P.tells.faults peer.new) result }
     {
-        self.make(alloc, peer, &Task::Create { file, list, bytes })
+        self.change(alloc, peer, &Change::Create { file, list, bytes })
     }
 
     /// Puts a user onto the list of a file. Gives the new epoch.
@@ -109,7 +114,7 @@ impl Owner {
         ensures same { P.tells.borrow peer.new ≡ P.tells.borrow peer.old }
         ensures cause { HasOwnerCause (P.tells.faults peer.old) (P.tells.faults peer.new) result }
     {
-        self.make(alloc, peer, &Task::Grant { user, file })
+        self.change(alloc, peer, &Change::Grant { user, file })
     }
 
     /// Takes a user off the list of a file. Gives the new epoch.
@@ -127,6 +132,6 @@ impl Owner {
         ensures same { P.tells.borrow peer.new ≡ P.tells.borrow peer.old }
         ensures cause { HasOwnerCause (P.tells.faults peer.old) (P.tells.faults peer.new) result }
     {
-        self.make(alloc, peer, &Task::Revoke { user, file })
+        self.change(alloc, peer, &Change::Revoke { user, file })
     }
 }

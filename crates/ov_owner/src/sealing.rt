@@ -6,10 +6,11 @@ ghost use Rattle.ov_record.specs.Updates.{sealed_update};
 ghost use Rattle.ov_surface.specs.Coats.{base_text};
 ghost use Rattle.ov_wire.specs.AnswersTo.{IsAnswer};
 ghost use Rattle.ov_owner.specs.Errands.{created, granted, known_of, plan_of};
-ghost use Rattle.ov_owner.specs.Tasks.{HasTaskLimits, Seals, errand_of};
+ghost use Rattle.ov_owner.specs.Changes.{HasChangeLimits, errand_of};
+ghost use Rattle.ov_owner.specs.Helpers.{Seals};
 
 use crate::OwnerFault;
-use crate::task::Task;
+use crate::change::Change;
 use ov_base::{Key, Memory, Name, Octets};
 use ov_base_layer::{seal_access, seal_cover};
 use ov_graph::Cover;
@@ -111,38 +112,38 @@ fn seal_grant(base: &Master, known: &Known) -> Update<4>
     }
 }
 
-/// What is sealed of an answer to a task's first request.
+/// What is sealed of an answer to a change's first request.
 pub fn seal(
     alloc: Global,
     base: &Master,
-    task: &Task<'_>,
+    change: &Change<'_>,
     answer: Answer,
 ) -> Result<Sealed, OwnerFault>
-    requires limits { HasTaskLimits task.now }
-    requires answer { let e = errand_of base.now.bytes task.now in IsAnswer e.first answer }
-    ensures sealed { Seals ((errand_of base.now.bytes task.now).sealed answer) result }
+    requires limits { HasChangeLimits change.now }
+    requires answer { let e = errand_of base.now.bytes change.now in IsAnswer e.first answer }
+    ensures sealed { Seals ((errand_of base.now.bytes change.now).sealed answer) result }
     ensures limits { IfOk result (λ made. IsWithinLimits (sealed_update made.update)) }
 {
-    match task {
-        Task::Enrol { user } => {
+    match change {
+        Change::Enrol { user } => {
             let epoch = known_of(answer)?.epoch;
             let update = Update::Enrol { name: user.copy() };
             Ok(Sealed { epoch, update })
         }
-        Task::Create { file, bytes, .. } => {
+        Change::Create { file, bytes, .. } => {
             let plan = plan_of(answer)?;
             let epoch = plan.epoch;
             let update = seal_creation(alloc, base, file, bytes, plan)?;
             Ok(Sealed { epoch, update })
         }
-        Task::Grant { .. } => {
+        Change::Grant { .. } => {
             let known = known_of(answer)?;
             Ok(Sealed {
                 epoch: known.epoch,
                 update: seal_grant(base, &known),
             })
         }
-        Task::Revoke { .. } => {
+        Change::Revoke { .. } => {
             let known = known_of(answer)?;
             let (epoch, user, file) = (known.epoch, known.user, known.file);
             let update = Update::Revoke { user, file };

@@ -6,7 +6,7 @@ ghost use Rattle.ov_wire.specs.Requests.{HasRequestLimits};
 ghost use Rattle.ov_owner.specs.Causes.{HasOwnerCause};
 ghost use Rattle.ov_owner.specs.Errands.{Errand};
 ghost use Rattle.ov_owner.specs.Talks.{update_request};
-ghost use Rattle.ov_owner.specs.Tasks.{IsSent, owner_fault, sent_of};
+ghost use Rattle.ov_owner.specs.Helpers.{IsSent, owner_fault, sent_of};
 
 use crate::OwnerFault;
 use crate::sealing::Sealed;

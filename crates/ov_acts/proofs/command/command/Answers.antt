@@ -1,13 +1,14 @@
-use Rattle.std.proofs.Common.{subst, sym}
-use Rattle.ov_acts.proofs.Replies.{keys_told}
-use Rattle.ov_acts.specs.Machine.{CommandsAsMachine}
-use Rattle.ov_acts.specs.declared.job.Act.{Act}
+use Rattle.ov_acts.proofs.Changing.{performed_by, told_by}
 use Rattle.ov_acts.proofs.command.command.Goals as goal
 
-pub returns-in-Key-clause-told : goal.returns-in-Key-clause-told
-returns-in-Key-clause-told g c = λ v is same.
-    let Then = g.P.Peer.tells.serves c.client.new.peer in
-    subst (λ (act : Act). CommandsAsMachine c.args.owner.now act c.args.bytes.now v Then
-    c.line_on_client.result) (sym c.in-Key.is)
-    (keys_told c.args.owner.now v Then c.in-Key.user c.client.result c.line_on_client.result
-    (c.client.ensures.told v is) c.line_on_client.ensures)
+pub returns-in-Some-clause-performs : goal.returns-in-Some-clause-performs
+returns-in-Some-clause-performs g c =
+    performed_by g.P.Peer.tells c.args.owner.now c.args.bytes.now c.in-Some.change
+    c.args.peer.now c.change.new.peer c.change.result c.line_on_update.result
+    c.change.ensures.runs c.line_on_update.ensures c.args.act.now c.in-Some.ensures.change
+
+pub returns-in-Some-clause-told : goal.returns-in-Some-clause-told
+returns-in-Some-clause-told g c = λ v is same.
+    told_by c.args.owner.now c.args.bytes.now c.in-Some.change v
+    (g.P.Peer.tells.serves c.change.new.peer) c.change.result c.line_on_update.result
+    (c.change.ensures.told v is same) c.line_on_update.ensures c.args.act.now c.in-Some.ensures.change

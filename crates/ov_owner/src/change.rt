@@ -1,7 +1,7 @@
 //! Changes that an owner is to make.
 ghost use Rattle.std.specs.Prelude.{◌≡◌, ℕ, List, IfOk};
 ghost use Rattle.ov_wire.specs.Requests.{HasRequestLimits};
-ghost use Rattle.ov_owner.specs.Tasks.{HasTaskLimits, errand_of};
+ghost use Rattle.ov_owner.specs.Changes.{HasChangeLimits, errand_of};
 
 use crate::names::copy_names;
 use ov_base::{Memory, Name, Names};
@@ -10,7 +10,7 @@ use std::alloc::Global;
 
 /// A change that an owner is to make, by names.
 #[derive(Drop)]
-pub enum Task<'a> {
+pub enum Change<'a> {
     /// To enrol this user.
     Enrol {
         user: &'a Name,
@@ -34,28 +34,28 @@ pub enum Task<'a> {
 }
 
 /// What is asked first.
-pub fn first_request(alloc: Global, task: &Task<'_>) -> Result<Request, Memory>
-    requires { HasTaskLimits task.now }
+pub fn first_request(alloc: Global, change: &Change<'_>) -> Result<Request, Memory>
+    requires { HasChangeLimits change.now }
     ensures request { IfOk result (λ request.
-        (base : List ℕ) → request ≡ (errand_of base task.now).first) }
+        (base : List ℕ) → request ≡ (errand_of base change.now).first) }
     ensures limits { IfOk result HasRequestLimits }
 {
-    match task {
-        Task::Enrol { user } => Ok(Request::Ask {
+    match change {
+        Change::Enrol { user } => Ok(Request::Ask {
             question: Question::Enrol { user: user.copy() },
         }),
-        Task::Create { file, list, bytes } => Ok(Request::Cover {
+        Change::Create { file, list, bytes } => Ok(Request::Cover {
             file: file.copy(),
             length: bytes.len() as u32,
             names: copy_names(alloc, list)?,
         }),
-        Task::Grant { user, file } => Ok(Request::Ask {
+        Change::Grant { user, file } => Ok(Request::Ask {
             question: Question::Grant {
                 user: user.copy(),
                 file: file.copy(),
             },
         }),
-        Task::Revoke { user, file } => Ok(Request::Ask {
+        Change::Revoke { user, file } => Ok(Request::Ask {
             question: Question::Revoke {
                 user: user.copy(),
                 file: file.copy(),

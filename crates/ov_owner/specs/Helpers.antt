@@ -3,40 +3,17 @@ use Rattle.std.specs.Prelude.{◌≡◌, ◌⊎◌, ℕ, List, [], ◌∷◌, �
 use Rattle.ov_record.specs.Updates.{SealedUpdate, sealed_update}
 use Rattle.ov_wire.specs.declared.answer.Answer.{Answer}
 use Rattle.ov_wire.specs.declared.answer.Answer.TheVariants as answers
-use Rattle.ov_script.specs.declared.command.Command.{Command}
-use Rattle.ov_script.specs.declared.command.Command.TheVariants as commands
 use Rattle.ov_peer.specs.declared.fault.ExchangeFault.{ExchangeFault}
 use Rattle.ov_peer.specs.declared.fault.ExchangeFault.TheVariants as exchange
 use Rattle.ov_peer.specs.Tells.{PeerTells}
 use Rattle.ov_owner.specs.Calls.{Concludes, Passes}
-use Rattle.ov_owner.specs.Errands.{Errand, IsCreation, creating, enrolling, granting, revoking}
+use Rattle.ov_owner.specs.Errands.{Errand}
 use Rattle.ov_owner.specs.Talks.{Asks, Sends, again}
 use Rattle.ov_owner.specs.declared.fault.OwnerFault.{OwnerFault}
 use Rattle.ov_owner.specs.declared.fault.OwnerFault.TheVariants as faults
 use Rattle.ov_owner.specs.declared.sealing.Sealed.{Sealed}
 use Rattle.ov_owner.specs.declared.sending.Sent.{Sent}
 use Rattle.ov_owner.specs.declared.sending.Sent.TheVariants.{Accepted, Stale}
-use Rattle.ov_owner.specs.declared.task.Task.{Task}
-use Rattle.ov_owner.specs.declared.task.Task.TheVariants as tasks
-
--- the errand of a task, under the base master
-abbrev pub errand_of : List ℕ → Task → Errand
-errand_of base (tasks.Enrol user) = enrolling user.now
-errand_of base (tasks.Create file list bytes) = creating base file.now list.now bytes.now
-errand_of base (tasks.Grant user file) = granting base user.now file.now
-errand_of base (tasks.Revoke user file) = revoking user.now file.now
-
--- the command of a task
-abbrev pub command_of : Task → Command
-command_of (tasks.Enrol user) = commands.Enrol user.now
-command_of (tasks.Create file list bytes) = commands.Create file.now list.now bytes.now
-command_of (tasks.Grant user file) = commands.Grant user.now file.now
-command_of (tasks.Revoke user file) = commands.Revoke user.now file.now
-
--- the limits of a creation
-abbrev pub HasTaskLimits : Task → Type 0
-HasTaskLimits (tasks.Create file list bytes) = IsCreation list.now bytes.now
-HasTaskLimits task = Unit {0}
 
 -- the fault of a call whose ask has no answer
 abbrev pub owner_fault : ExchangeFault → OwnerFault
