@@ -17,6 +17,7 @@ const UPDATE: u8 = 0x04;
 const MADE: u8 = 0x84;
 
 // When a line is logged, to the second, and of which client; `-` where one isn't known.
+#[derive(Drop)]
 struct Stamp {
     time: Option<Timestamp>,
     client: Option<SocketAddr>,
@@ -94,11 +95,11 @@ impl<R: Eprint + Clock + AllocGlobal> Log<R> {
     // Says so where an update was made.
     fn answer(&mut self, reply: Head) {
         let update = self.waiting.pop_front();
-        let [kind, epoch @ .., _] = reply;
+        let [kind, a, b, c, d, _] = reply;
         if kind == MADE {
             let stamp = self.stamp();
             let word = word_of(update.unwrap_or(0));
-            let epoch = u32::from_be_bytes(epoch);
+            let epoch = u32::from_be_bytes([a, b, c, d]);
             let _ = eprintln!(self.rt; "overstored: log: {stamp} {word} {epoch}");
         }
     }

@@ -46,7 +46,11 @@ impl<S: Sink, R: Eprint + Clock + AllocGlobal> Sink for LoggedStream<S, R> {
 }
 
 impl<S: Stream, R: Eprint + Clock + AllocGlobal> Stream for LoggedStream<S, R> {
-    ghost take_leaves = { λ old new took. S.take_leaves old.stream new.stream took };
+    ghost take_leaves = { λ old new took.
+        let left = S.take_leaves old.stream new.stream took in
+        record { bytes = left.bytes; faults = left.faults; borrow = left.borrow } };
 
-    ghost put_leaves = { λ old new put. S.put_leaves old.stream new.stream put };
+    ghost put_leaves = { λ old new put.
+        let left = S.put_leaves old.stream new.stream put in
+        record { bytes = left.bytes; faults = left.faults; borrow = left.borrow } };
 }

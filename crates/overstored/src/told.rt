@@ -2,8 +2,7 @@
 //! do.
 use crate::texts::{
     ACCEPTING, CHANGED, IN_USE, LISTENING, NO_ADDRESS, NO_FILE, NO_LINE, NO_ROOM, OTHER_KEY,
-    WRONG_WORDS,
-    error_in, hint_on, hint_on_door, on_file, on_store,
+    WRONG_WORDS, error_in, hint_on, hint_on_door, on_file, on_store,
 };
 use ov_base::Mode;
 use ov_files::{FileFault, begins, fault_of, folder_of, is_open_to_others};
