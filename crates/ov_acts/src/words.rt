@@ -29,7 +29,7 @@ pub fn names_of(alloc: Global, word: &str) -> Result<Option<Names>, Memory>
     if word.len() > MAX_WRITTEN_LIST {
         return Ok(None);
     }
-    list_of(word.as_bytes(), alloc)
+    list_of(alloc, word.as_bytes())
 }
 
 /// The act that has one name behind its keys.

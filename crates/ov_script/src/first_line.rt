@@ -129,7 +129,7 @@ fn create(line: &[u8], alloc: Global) -> Result<Option<FirstLine>, Memory>
         return Ok(None);
     }
     match create_words(line) {
-        Some((file, list, size)) => match list_of(list, alloc)? {
+        Some((file, list, size)) => match list_of(alloc, list)? {
             Some(list) => Ok(Some(FirstLine::WithBody { file, list, size })),
             None => Ok(None),
         },

@@ -50,7 +50,7 @@ fn joined_names(text: &[u8], alloc: Global) -> Result<Option<Names>, Memory>
 }
 
 /// The names of a list, each once.
-pub fn list_of(text: &[u8], alloc: Global) -> Result<Option<Names>, Memory>
+pub fn list_of(alloc: Global, text: &[u8]) -> Result<Option<Names>, Memory>
     ensures found { IfOk result (λ found. IfSome found (IsList text.now)) }
     ensures none { IfOk result (λ found. IfNone found
         ((names : List (List ℕ)) → IsList text.now names → ⊥)) }
