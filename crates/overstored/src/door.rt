@@ -13,8 +13,9 @@ use std::net::{Net, SocketAddr};
 use std::time::Clock;
 
 /// A door over another, which gives the streams of that one, and takes them back itself. It says
-/// how each session ended that didn't end between two frames, and lets its stream go. It counts for
-/// itself, and tells nothing of the streams.
+/// how each session ended that didn't end between two frames, and lets its stream go. Where it keeps
+/// a log, that has each update that was accepted and the end of each session. It counts for itself,
+/// and tells nothing of the streams.
 #[derive(Drop)]
 pub struct SpokenDoor<N: Net + AllocGlobal + Drop, R> {
     pub door: TcpDoor<N>,
