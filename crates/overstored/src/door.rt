@@ -84,6 +84,7 @@ impl<N: Net + AllocGlobal + Drop, R: Eprint> Door for SpokenDoor<N, R> {
     type Stream = StdStream<N::Stream>;
 
     ghost shows = { λ d. record {
+      listens_at = None;
       told = None;
       given = d.given;
       closed = d.closed;
