@@ -1,5 +1,7 @@
 //! A door that says on standard error how sessions end, and with whom.
 ghost use Rattle.std.specs.Prelude.{◌≡◌, None, false};
+ghost use Rattle.std.specs.Option.{option_map};
+ghost use Rattle.std.specs.Net.Text.{socket_text};
 ghost use Rattle.ov_base.specs.Causes.{Rose};
 
 use crate::texts::on_end;
@@ -10,8 +12,8 @@ use std::fmt::{Display, Formatter, Write};
 use std::net::{Net, SocketAddr};
 
 /// Gives the streams of the door in it, and takes them back itself: it says how each session ended
-/// that didn't end between two frames, and lets its stream go. It counts for itself, and tells
-/// nothing of the streams.
+/// that didn't end between two frames, and lets its stream go. It counts for itself, tells where the
+/// door in it listens, and nothing of the streams.
 #[derive(Drop)]
 pub struct SpokenDoor<N: Net + AllocGlobal + Drop, R> {
     pub door: TcpDoor<N>,
@@ -41,6 +43,7 @@ impl<N: Net + AllocGlobal + Drop, R> SpokenDoor<N, R> {
 
     // Counts a fault.
     fn fail(&mut self) -> Fault
+        ensures door { self.new.door ≡ self.old.door }
         ensures given { self.new.given ≡ self.old.given }
         ensures closed { self.new.closed ≡ self.old.closed }
         ensures rose { Rose self.old.faults self.new.faults }
@@ -84,7 +87,7 @@ impl<N: Net + AllocGlobal + Drop, R: Eprint> Door for SpokenDoor<N, R> {
     type Stream = StdStream<N::Stream>;
 
     ghost shows = { λ d. record {
-      listens_at = None;
+      listens_at = option_map (λ a. socket_text a) d.door.bound;
       told = None;
       given = d.given;
       closed = d.closed;
