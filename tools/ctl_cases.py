@@ -417,12 +417,15 @@ def keys_that_others_read():
     folder = client_folder()
     for mode in (0o600, 0o400, 0o700, 0o640, 0o604, 0o644):
         (folder / "keys").chmod(mode)
-        warned = ["overctl: warning: keys can be read by others"] if mode & 0o044 else []
+        warned = [
+            "overctl: warning: keys can be read by others",
+            "overctl: hint: keep it to yourself by `chmod 600 keys`",
+        ] if mode & 0o044 else []
         found = run(folder, ["check", "keys"])
         assert found == (0, CHECK.encode() + b"\n", warned), (oct(mode), found)
     (folder / "short").chmod(0o644)
     status, _, lines = run(folder, ["check", "short"])
-    assert status == 10 and lines[0] == "overctl: warning: short can be read by others" and len(lines) == 3, lines
+    assert status == 10 and lines[0] == "overctl: warning: short can be read by others" and len(lines) == 4, lines
 
 
 def keys_in_a_pipe():

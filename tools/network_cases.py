@@ -57,19 +57,19 @@ def settings(sessions, /, **other):
     return "".join(line(key, value) for key, value in values.items() if value is not None)
 
 
-def start(folder, text, **streams):
+def start(folder, text, *words, **streams):
     (folder / "settings.toml").touch(0o600)
     (folder / "settings.toml").write_text(text)
     streams.setdefault("stdout", subprocess.PIPE)
-    return subprocess.Popen([SERVER, "settings.toml"], cwd=folder, stderr=subprocess.PIPE, **streams)
+    return subprocess.Popen([SERVER, *words, "settings.toml"], cwd=folder, stderr=subprocess.PIPE, **streams)
 
 
 class Server:
     """A server that listens."""
 
-    def __init__(self, folder, sessions, preexec_fn=None, **other):
+    def __init__(self, folder, sessions, *words, preexec_fn=None, **other):
         self.begins = not (folder / "store.book").exists()
-        self.process = start(folder, settings(sessions, **other), preexec_fn=preexec_fn)
+        self.process = start(folder, settings(sessions, **other), *words, preexec_fn=preexec_fn)
         line = self.process.stdout.readline().decode()
         assert line.startswith("listening 127.0.0.1:"), (line, self.process.stderr.read())
         self.address = line.split()[1]
@@ -243,6 +243,37 @@ def broken_sessions():
     assert [without_port(line) for line in server.end(2 * len(BROKEN))] == told
 
 
+def logged():
+    """With `--log` it says which updates were accepted and how sessions ended, and nothing of what was refused."""
+    folder = new_folder()
+    server = Server(folder, 3, "--log")
+    with server.connect() as stream:
+        frames = [HELLO, enrolment(0, b"alice"), enrolment(0, b"bob"), enrolment(1, b"alice"), enrolment(1, b"bob")]
+        # All of them are on their way before the first reply is taken.
+        stream.sendall(b"".join(map(framed, frames)))
+        kinds = [reply(stream)[0] for _ in frames]
+        assert kinds == [0x81, 0x84, 0x89, 0x88, 0x84], kinds
+    with server.connect() as stream:
+        stream.sendall(b"\0\0")
+    with server.connect() as stream:
+        # The frames come byte by byte.
+        for byte in framed(enrolment(2, b"carol")):
+            stream.sendall(bytes([byte]))
+        assert reply(stream) == b"\x84\0\0\0\x03"
+    line = re.compile(r"overstored: log: \d{4}-\d\d-\d\dT\d\d:\d\d:\d\dZ 127\.0\.0\.1:\d+ (.*)")
+    found = [line.fullmatch(it) for it in server.end(3) if ": warning: " not in it]
+    assert [it and it[1] for it in found] == [
+        "user 1",
+        "user 2",
+        "end of session 0",
+        "end of session 1: what came is no frame",
+        "user 3",
+        "end of session 2",
+    ], found
+    done = subprocess.run([SERVER, "--log"], cwd=folder, capture_output=True)
+    assert (done.returncode, done.stdout) == (2, b"error settings\n")
+
+
 # ---- statuses
 
 
@@ -323,7 +354,10 @@ def stores_that_begin():
 
 def settings_that_others_may_read():
     """They are read whatever their mode, with a warning; the service manager's own have none."""
-    warned = ["overstored: warning: settings.toml can be read by others, and has the surface master"]
+    warned = [
+        "overstored: warning: settings.toml can be read by others, and has the surface master",
+        "overstored: hint: keep it to the server by `chmod 600 settings.toml`",
+    ]
     folder = new_folder()
     for mode in (0o600, 0o644, 0o640, 0o604):
         (folder / "settings.toml").touch()
@@ -355,7 +389,10 @@ def stores_of_others():
 def keys_that_are_passed_over():
     server = Server(new_folder(), 1, workers=4)
     server.connect().close()
-    assert server.end(1) == ["overstored: warning: settings.toml: `workers` is passed over"]
+    assert server.end(1) == [
+        "overstored: warning: settings.toml: `workers` is passed over",
+        "overstored: hint: `overstored --help` lists the seven keys; see how this one is spelled",
+    ]
 
 
 def memory_that_is_refused():
@@ -425,6 +462,7 @@ def a_write_that_fails():
 CASES = [
     right_sessions,
     broken_sessions,
+    logged,
     statuses,
     files_that_cant_be_used,
     addresses_that_cant_be,

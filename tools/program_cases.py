@@ -158,7 +158,10 @@ def key_files_that_others_read_and_new_stores():
         assert (folder / name).stat().st_mode & 0o777 == 0o600, name
     (folder / "keys.hex").chmod(0o644)
     done = subprocess.run([PROGRAM, "run", "full"], cwd=folder, input=b"", capture_output=True)
-    warned = b"overstore: warning: keys.hex can be read by others, and has both masters\n"
+    warned = (
+        b"overstore: warning: keys.hex can be read by others, and has both masters\n"
+        b"overstore: hint: keep it to yourself by `chmod 600 keys.hex`\n"
+    )
     assert (done.returncode, done.stderr) == (0, warned), done
 
 

@@ -4,4 +4,5 @@
 _arguments \
     '(- *)--help[print a summary]' \
     '(- *)--version[print the version]' \
+    '--log[log updates and the ends of sessions on standard error]' \
     '1:settings:_files -g "*.toml"'

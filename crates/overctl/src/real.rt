@@ -49,6 +49,7 @@ fn text_of(word: &Octets) -> &str {
 fn warn_of_mode(rt: &HostRuntime, path: &str) {
     if is_open_to_others(rt, path) {
         let _ = eprintln!(rt; "overctl: warning: {path} can be read by others");
+        let _ = eprintln!(rt; "overctl: hint: keep it to yourself by `chmod 600 {path}`");
     }
 }
 

@@ -75,6 +75,7 @@ pub fn open_keys(rt: &HostRuntime) {
         let _ = eprintln!(rt;
             "overstore: warning: {KEY_FILE} can be read by others, and has both masters"
         );
+        let _ = eprintln!(rt; "overstore: hint: keep it to yourself by `chmod 600 {KEY_FILE}`");
     }
 }
 

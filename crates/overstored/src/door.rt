@@ -2,21 +2,26 @@
 ghost use Rattle.std.specs.Prelude.{◌≡◌, None, false};
 ghost use Rattle.ov_base.specs.Causes.{Rose};
 
+use crate::log::Log;
+use crate::stream::LoggedStream;
 use crate::texts::on_end;
 use ov_io::{Fault, StdStream};
 use ov_session::{Door, SessionEnd, TcpDoor};
 use std::fmt;
 use std::fmt::{Display, Formatter, Write};
 use std::net::{Net, SocketAddr};
+use std::time::Clock;
 
 /// Gives the streams of the door in it, and takes them back itself: it says how each session ended
-/// that didn't end between two frames, and lets its stream go. It counts for itself, and tells
-/// nothing of the streams.
+/// that didn't end between two frames, and lets its stream go. Where it keeps a log, that has each
+/// update that was accepted and the end of each session. It counts for itself, and tells nothing of
+/// the streams.
 #[derive(Drop)]
 pub struct SpokenDoor<N: Net + AllocGlobal + Drop, R> {
     pub door: TcpDoor<N>,
     /// Whether it listened.
     pub listens: bool,
+    logs: bool,
     given: u64,
     closed: bool,
     faults: u64,
@@ -24,14 +29,15 @@ pub struct SpokenDoor<N: Net + AllocGlobal + Drop, R> {
 }
 
 impl<N: Net + AllocGlobal + Drop, R> SpokenDoor<N, R> {
-    /// This door, which gave nothing yet, with a runtime that prints.
-    pub fn new(door: TcpDoor<N>, rt: R) -> SpokenDoor<N, R>
+    /// This door, which gave nothing yet, with a runtime that prints; and whether a log is kept.
+    pub fn new(door: TcpDoor<N>, rt: R, logs: bool) -> SpokenDoor<N, R>
         ensures given { result.given ≡ 0 }
         ensures open_ { result.closed ≡ false }
     {
         SpokenDoor {
             door,
             listens: false,
+            logs,
             given: 0,
             closed: false,
             faults: 0,
@@ -80,8 +86,9 @@ fn say_end<R: Eprint>(rt: &R, session: Session, end: SessionEnd) {
     }
 }
 
-impl<N: Net + AllocGlobal + Drop, R: Eprint> Door for SpokenDoor<N, R> {
-    type Stream = StdStream<N::Stream>;
+impl<N: Net + AllocGlobal + Drop, R: Eprint + Clock + AllocGlobal + Copy + Drop> Door
+    for SpokenDoor<N, R> {
+    type Stream = LoggedStream<StdStream<N::Stream>, R>;
 
     ghost shows = { λ d. record {
       told = None;
@@ -100,7 +107,7 @@ impl<N: Net + AllocGlobal + Drop, R: Eprint> Door for SpokenDoor<N, R> {
         }
     }
 
-    fn accept(&mut self) -> Result<Option<StdStream<N::Stream>>, Fault> {
+    fn accept(&mut self) -> Result<Option<LoggedStream<StdStream<N::Stream>, R>>, Fault> {
         // A number of streams past the last one of 64 bits can't be told.
         if self.given == u64::MAX {
             return Err(self.fail());
@@ -108,7 +115,8 @@ impl<N: Net + AllocGlobal + Drop, R: Eprint> Door for SpokenDoor<N, R> {
         match self.door.accept() {
             Ok(Some(stream)) => {
                 self.given += 1;
-                Ok(Some(stream))
+                let log = self.logs.then(|| Log::new(self.rt, self.door.client()));
+                Ok(Some(LoggedStream { stream, log }))
             }
             Ok(None) => {
                 self.closed = true;
@@ -118,8 +126,16 @@ impl<N: Net + AllocGlobal + Drop, R: Eprint> Door for SpokenDoor<N, R> {
         }
     }
 
-    fn ended(&mut self, number: u32, stream: StdStream<N::Stream>, end: SessionEnd) {
-        let _ = stream;
+    fn ended(
+        &mut self,
+        number: u32,
+        stream: LoggedStream<StdStream<N::Stream>, R>,
+        end: SessionEnd,
+    ) {
+        match &stream.log {
+            Some(log) => log.ended(number, end),
+            None => {}
+        }
         let client = self.door.client();
         say_end(&self.rt, Session { number, client }, end);
     }

@@ -1,6 +1,6 @@
 //! The program `overstored`: a server of an over-encryption store over TCP.
 //!
-//! `overstored SETTINGS` reads its settings by [`read_settings`], and serves by [`host`], whose
+//! `overstored [--log] SETTINGS` reads its settings by [`read_settings`], and serves by [`host`], whose
 //! contracts say what it answers and with which status it ends; `main` makes the real files, the
 //! real door and the sink, and says on standard error what is wrong and what to do.
 //!
@@ -8,11 +8,15 @@
 //! |---|---|
 //! | `told` | says on standard error what is wrong |
 //! | `disk`, `door` | a disk that says when a write failed, and a door that says how sessions end |
+//! | `log`, `stream`, `heads` | what is logged, of the frames that pass over a stream |
 //! | `texts` | all texts |
 #![tactic(auto)]
 
 mod disk;
 mod door;
+mod heads;
+mod log;
+mod stream;
 mod texts;
 mod told;
 
@@ -37,6 +41,9 @@ const USAGE: u8 = 2;
 const WRITE_FAULT: u8 = 6;
 
 const OUT_OF_MEMORY: u8 = 7;
+
+// The word before the settings file that asks for a log.
+const LOG: &str = "--log";
 
 // The words behind the program's name.
 fn words_of(rt: &HostRuntime) -> io::Result<Vec<String>> {
@@ -87,6 +94,7 @@ fn serve<N: Net + Wait + AllocGlobal + Copy + Drop>(
     net: &N,
     rt: &HostRuntime,
     settings: &Settings,
+    logs: bool,
 ) -> u8 {
     let book = text_of(settings.book.as_slice());
     let blobs = text_of(settings.blobs.as_slice());
@@ -101,7 +109,7 @@ fn serve<N: Net + Wait + AllocGlobal + Copy + Drop>(
         return print(rt, NO_MEMORY, out_of_memory(rt));
     };
     let disk = SpokenDisk::new(disk, name, *rt);
-    let mut door = SpokenDoor::new(door, *rt);
+    let mut door = SpokenDoor::new(door, *rt, logs);
     let mut out = StdSink::new(rt.stdout());
     told::new_store(rt, book, blobs, settings.mode);
     let status = host(net, rt.alloc(), settings, disk, &mut door, &mut out).status;
@@ -117,6 +125,7 @@ fn serve_by<N: Net + Wait + AllocGlobal + Copy + Drop>(
     rt: &HostRuntime,
     words: &[String],
     path: &str,
+    logs: bool,
 ) -> u8 {
     let Ok(mut source) = FileSource::new(*rt, path) else {
         return out_of_memory(rt);
@@ -125,7 +134,7 @@ fn serve_by<N: Net + Wait + AllocGlobal + Copy + Drop>(
         Ok(settings) => {
             told::open_settings(rt, path);
             told::other_keys(rt, path);
-            serve(net, rt, &settings)
+            serve(net, rt, &settings, logs)
         }
         Err(status) => {
             told::no_settings(rt, path, status);
@@ -145,11 +154,16 @@ fn answer_words<N: Net + Wait + AllocGlobal + Copy + Drop>(
     words: &[String],
 ) -> u8 {
     match words {
+        [word] if word.as_str() == LOG => serve_by(net, rt, &[], "", true),
         [word] => match told_by(word.as_str()) {
             Some(text) => print(rt, text, 0),
-            None => serve_by(net, rt, words, word.as_str()),
+            None => serve_by(net, rt, words, word.as_str(), false),
         },
-        _ => serve_by(net, rt, words, ""),
+        [log, rest @ ..] if log.as_str() == LOG => match rest {
+            [word] => serve_by(net, rt, rest, word.as_str(), true),
+            _ => serve_by(net, rt, words, "", true),
+        },
+        _ => serve_by(net, rt, words, "", false),
     }
 }
 

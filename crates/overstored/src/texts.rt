@@ -6,7 +6,7 @@ use std::io::ErrorKind;
 
 /// What `--help` prints.
 pub const HELP: &str = "\
-Usage: overstored SETTINGS
+Usage: overstored [--log] SETTINGS
        overstored --help | -h | --version | -V
 
 Serves an over-encryption store over TCP, one session after the other, by the
@@ -23,6 +23,8 @@ settings in a TOML file, which nobody but the server may read:
   sessions = 1000000          how many are served before it ends, 1 to 1000000
 
 It puts `listening ADDRESS`, and `served N` at its end. SIGTERM ends it safely.
+With --log standard error has a line for each update that was accepted and for
+the end of each session: the time, the client's address, what it was.
 
 Example:      overstored /etc/overstored/team.toml
 Exit status:  0  served                      7  out of memory
@@ -80,6 +82,9 @@ pub fn hint_on(fault: SettingsFault) -> &'static str {
         SettingsFault::Sessions => "write sessions = 1000000",
     }
 }
+
+/// What to do about a key that isn't read.
+pub const OTHER_KEY: &str = "`overstored --help` lists the seven keys; see how this one is spelled";
 
 /// What is wrong where memory was refused, and what to do.
 pub const NO_ROOM: (&str, &str) = (

@@ -1,8 +1,8 @@
 //! What is wrong and what to do, on standard error. Where that can't be written the status has to
 //! do.
 use crate::texts::{
-    ACCEPTING, CHANGED, IN_USE, LISTENING, NO_ADDRESS, NO_FILE, NO_LINE, NO_ROOM, WRONG_WORDS,
-    error_in, hint_on, hint_on_door, on_file, on_store,
+    ACCEPTING, CHANGED, IN_USE, LISTENING, NO_ADDRESS, NO_FILE, NO_LINE, NO_ROOM, OTHER_KEY,
+    WRONG_WORDS, error_in, hint_on, hint_on_door, on_file, on_store,
 };
 use ov_base::Mode;
 use ov_files::{FileFault, begins, fault_of, folder_of, is_open_to_others};
@@ -141,6 +141,7 @@ pub fn other_keys(rt: &HostRuntime, path: &str) {
     for key in table.keys() {
         if !is_read(key.as_str()) {
             let _ = eprintln!(rt; "overstored: warning: {path}: `{key}` is passed over");
+            advise(rt, OTHER_KEY);
         }
     }
 }
@@ -151,6 +152,7 @@ pub fn open_settings(rt: &HostRuntime, path: &str) {
         let _ = eprintln!(rt;
             "overstored: warning: {path} can be read by others, and has the surface master"
         );
+        let _ = eprintln!(rt; "overstored: hint: keep it to the server by `chmod 600 {path}`");
     }
 }
 
