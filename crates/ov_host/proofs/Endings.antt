@@ -47,13 +47,13 @@ module _ {V S : Type 0} (one : OneSession V S) (v w : V) (old new : Doorway S) (
     by_line : (status ≡ 13) ⊎ (status ≡ 6) → (status ≡ 0) ⊎ ((status ≡ 6) ⊎ ((status ≡ 7) ⊎ (status ≡ 13)))
     by_line (inl is) = inr (inr (inr is))
     by_line (inr is) = inr (inl is)
-  serves_ends (inr (address, inl fails)) = by_end fails.ends where
+  serves_ends (inr (address, here, inl fails)) = by_end fails.ends where
     by_end : ((status ≡ 6) × ((n : ℕ) × Appends before after (take n (listening_line address)))) ⊎ EndsIn memory_line 7 before after status
         → (status ≡ 0) ⊎ ((status ≡ 6) ⊎ ((status ≡ 7) ⊎ (status ≡ 13)))
     by_end (inl (is, put)) = inr (inl is)
     by_end (inr (inl (is, put))) = inr (inr (inl is))
     by_end (inr (inr (is, put))) = inr (inl is)
-  serves_ends (inr (address, inr tells)) =
+  serves_ends (inr (address, here, inr tells)) =
       served_ends tells.serves.failed tells.serves.served tells.between after status tells.serves.ends
 
   -- it isn't 4

@@ -1,5 +1,4 @@
 pub mod Endings
-pub mod Doorways
 pub mod Lasting
 pub mod Surviving
 pub mod Accepting

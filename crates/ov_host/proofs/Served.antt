@@ -25,8 +25,8 @@ module _ {D S : Type 0} (disk_tells : DiskTells D) (source : SourceTells S) (sin
       → (serves : Serves (serves_store disk_tells source sink) v w old new wanted before after status)
       → Reached v (accepted disk_tells source sink v w old new wanted before after status serves) w
   served_reach v w old new wanted before after status here (inl fails) = subst (Reached v []) (sym fails.same) here
-  served_reach v w old new wanted before after status here (inr (address, inl fails)) = subst (Reached v []) (sym fails.same) here
-  served_reach v w old new wanted before after status here (inr (address, inr tells)) =
+  served_reach v w old new wanted before after status here (inr (address, stands, inl fails)) = subst (Reached v []) (sym fails.same) here
+  served_reach v w old new wanted before after status here (inr (address, stands, inr tells)) =
       sessions_reach (store_tells disk_tells) source sink v v tells.serves.sessions.sessions w [] here tells.serves.sessions.follows
 
   -- the server of a store that was just begun on this disk served

@@ -19,7 +19,7 @@ use Rattle.ov_store.specs.Beginning.{WritesNoBorn, disk_left}
 use Rattle.ov_store.specs.Opened.{Opened}
 use Rattle.ov_store.specs.declared.begin.BeginRefused.{BeginRefused}
 use Rattle.ov_store.specs.declared.fault.BeginFault.TheVariants.{Memory as NoMemory}
-use Rattle.ov_session.specs.Doors.{Doorway}
+use Rattle.ov_session.specs.Doors.{Doorway, FailsOnce, IsWhere, listening}
 use Rattle.ov_session.specs.Serving.{OneSession, ServesEach, serves_alone}
 use Rattle.ov_report.specs.Ends.{EndsIn, EndsOr}
 use Rattle.ov_report.specs.Faults.{fault_line, fault_status, memory_line}
@@ -66,14 +66,13 @@ module _ {V S : Type 0} (one : OneSession V S) (v w : V) (old new : Doorway S) (
   -- The door doesn't listen: no session is served, and the line says so.
   pub record FailsToListen : Type 0 where
     pub same : w ≡ v
-    pub door : new ≡ record old { faults = new.faults }
-    pub rose : Rose old.faults new.faults
+    pub door : FailsOnce old new
     pub ends : EndsIn door_line 13 before after status
 
   -- It listens, and can't say where: no session is served.
   pub record FailsToTell (address : List ℕ) : Type 0 where
     pub same : w ≡ v
-    pub door : new ≡ old
+    pub door : new ≡ listening old new
     pub ends : IsUntold address before after status
 
 module _ {V S : Type 0} (one : OneSession V S) (v w : V) (old new : Doorway S) (wanted : ℕ)
@@ -82,18 +81,19 @@ module _ {V S : Type 0} (one : OneSession V S) (v w : V) (old new : Doorway S) (
   pub record TellsAndServes (address : List ℕ) : Type 0 where
     pub between : Option (List ℕ)
     pub told : Appends before between (listening_line address)
-    pub serves : ServesAll one v w old new wanted between after status
+    pub serves : ServesAll one v w (listening old new) new wanted between after status
 
   -- what comes of a door that listens at this address
   abbrev pub Tells : List ℕ → Type 0
   Tells address =
       FailsToTell one v w old new wanted before after status address ⊎ TellsAndServes address
 
-  -- what comes of a door: it doesn't listen, or it does at some address
+  -- what comes of a door: it doesn't listen, or it does, at the address that is said, and goes on
+  -- listening there
   abbrev pub Serves : Type 0
   Serves =
       FailsToListen one v w old new wanted before after status
-      ⊎ ((address : List ℕ) × Tells address)
+      ⊎ ((address : List ℕ) × IsWhere address new × Tells address)
 
 -- The count of the door rose, and the status is 13, or 6 where the line couldn't be put; or it
 -- didn't, and the status is another one than 13.
@@ -136,8 +136,8 @@ module _ {D S : Type 0} (disk_tells : DiskTells D) (source : SourceTells S)
       (before after : Option (List ℕ)) (status : ℕ)
       → Serves serves_store v w old new wanted before after status → List (List ℕ)
   accepted v w old new wanted before after status (inl fails) = []
-  accepted v w old new wanted before after status (inr (address, inl fails)) = []
-  accepted v w old new wanted before after status (inr (address, inr tells)) =
+  accepted v w old new wanted before after status (inr (address, here, inl fails)) = []
+  accepted v w old new wanted before after status (inr (address, here, inr tells)) =
       accepted_in (store_tells disk_tells) source sink v tells.serves.sessions.sessions w []
       tells.serves.sessions.follows
 

@@ -16,8 +16,9 @@
 //!
 //! At 4, 8 and 9, and at 6 and 7 in their place, no store was begun, and [`Hosted`] says so. It has
 //! the disk, as the server left it.
-//! `specs/Hosting` says it all: what is put in which order, that the sessions are those of a server
-//! of just the store that was begun, and which status has which cause.
+//! `specs/Hosting` says it all: what is put in which order, that the first line has the address at
+//! which the door listens, where the door tells that, that the sessions are those of a server of
+//! just the store that was begun, and which status has which cause.
 #![tactic(auto)]
 
 mod disk_server;

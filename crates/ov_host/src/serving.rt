@@ -1,7 +1,7 @@
 //! Listening, serving, and the lines that say so.
 ghost use Rattle.std.specs.Prelude.{◌≡◌, IfOk, MatchResult};
 ghost use Rattle.std.specs.Io.KnownBytes.{Appends};
-ghost use Rattle.ov_session.specs.Doors.{IsUnused};
+ghost use Rattle.ov_session.specs.Doors.{FailsOnce, IsUnused, OpensAt};
 ghost use Rattle.ov_session.specs.Serving.{serves_alone};
 ghost use Rattle.ov_report.specs.Ends.{EndsIn, EndsOr, IsPutTo};
 ghost use Rattle.ov_host.specs.Hosting.{EndsServing, IsUntold, SaysDoor, Serves};
@@ -80,6 +80,19 @@ fn tell<O: Sink>(alloc: Global, out: &mut O, address: &[u8]) -> Result<(), u8>
     }
 }
 
+// Has the door listen, and gives the address at which it does.
+fn open<A: Door>(alloc: Global, door: &mut A) -> Result<Vec<u8>, Fault>
+    ensures { MatchResult result
+        (λ address. OpensAt (A.shows door.old) (A.shows door.new) address.items)
+        (λ _. FailsOnce (A.shows door.old) (A.shows door.new)) }
+{
+    let mut address = Vec::new(alloc);
+    match door.listen(&mut address) {
+        Ok(()) => Ok(address),
+        Err(Fault) => Err(Fault),
+    }
+}
+
 /// Listens, says where, serves at most so many sessions one after the other, and says how many
 /// there were: the status.
 pub fn serve_door<R: Wait, A: Door, V: Answerer, O: Sink>(
@@ -97,9 +110,8 @@ pub fn serve_door<R: Wait, A: Door, V: Answerer, O: Sink>(
     ensures door { SaysDoor (A.shows door.old).faults (A.shows door.new).faults result }
     ensures put { IsPutTo O.tells out.old out.new result }
 {
-    let mut address = Vec::new(alloc);
-    match door.listen(&mut address) {
-        Ok(()) => match tell(alloc, out, &address) {
+    match open(alloc, door) {
+        Ok(address) => match tell(alloc, out, &address) {
             Ok(()) => {
                 let (served, failed) = serve_each(rt, alloc, door, value, sessions);
                 put_end(alloc, out, served, failed)

@@ -1,6 +1,6 @@
 -- Streams that a door gives and takes back.
 use Rattle.std.proofs.Common.{◌≡◌, ◌∙◌, Bool, ℕ, zero, suc, ◌+◌, ◌<◌, List, [], ◌∷◌, ◌++◌, Some, None, refl, sym, ap, subst, length, length-append, append_assoc, get_or, set, arith}
-use Rattle.std.specs.Prelude.{Option, slice_get}
+use Rattle.std.specs.Prelude.{Option, codes, slice_get}
 use Rattle.std.proofs.lemmas.List.{map-append}
 use Rattle.ov_io.specs.declared.stream.MemStream.{MemStream}
 use Rattle.ov_session.specs.declared.memory.Gave.{Gave}
@@ -53,12 +53,8 @@ module _ {S : Type 0} where
   served_one old mid new number s at_it given taken =
       taken
       ∙ ap (λ (d : Doorway S). taken_back d number s.left s.ending) given
-      ∙ ap (λ (t : Option (List (Given S))). record {
-        told = t;
-        given = old.given + 1;
-        closed = old.closed;
-        faults = old.faults;
-      }) (told_then old.told number s at_it.told)
+      ∙ ap (λ (t : Option (List (Given S))). record old { told = t; given = old.given + 1 })
+      (told_then old.told number s at_it.told)
 
 -- ---- sessions in a row
 
@@ -136,12 +132,14 @@ pub shows_back : (k : Keeping) (gave : List Gave) (closed : Bool) (faults : ℕ)
     → number < length gave → g ≡ get_or gave number g
     → (let after = all_seen (set gave number (record { stream = g.stream; back = Some r })) in
     let before : Doorway MemStream = record {
+      listens_at = Some (codes "memory");
       told = Some k.gave;
       given = length k.gave;
       closed = k.closed;
       faults = k.faults;
     } in
     let now : Doorway MemStream = record {
+      listens_at = Some (codes "memory");
       told = Some after;
       given = length after;
       closed = closed;
@@ -153,7 +151,13 @@ shows_back k gave closed faults number g r same shut count lt is =
     let told : after ≡ back_at k.gave number b =
     back_seen gave number g r lt is ∙ ap (λ (l : List (Given MemStream)). back_at l number b) (sym same) in
     let D : List (Given MemStream) → ℕ → Bool → ℕ → Doorway MemStream =
-    λ l n c f. record { told = Some l; given = n; closed = c; faults = f } in
+    λ l n c f. record {
+      listens_at = Some (codes "memory");
+      told = Some l;
+      given = n;
+      closed = c;
+      faults = f;
+    } in
     ap (λ (l : List (Given MemStream)). D l (length after) closed faults) told
     ∙ ap (λ (n : ℕ). D (back_at k.gave number b) n closed faults)
     (ap length told ∙ length_back k.gave number b)

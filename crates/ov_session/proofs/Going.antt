@@ -14,6 +14,7 @@ use Rattle.ov_session.specs.declared.end.SessionEnd.{SessionEnd}
 use Rattle.ov_session.specs.declared.end.SessionEnd.TheVariants as ends
 use Rattle.ov_session.specs.declared.one.Stop.{Stop}
 use Rattle.ov_session.specs.declared.one.Stop.TheVariants as stops
+use Rattle.ov_session.specs.declared.one.TheConstants.{PIECE}
 use Rattle.ov_session.specs.Ends.{Answered, AnswersAll, EndsSpent, EndsWanting, EndsWriting, Serves}
 use Rattle.ov_session.specs.Exchanges.{Exchange, Leads, answer_for, answers, requests}
 use Rattle.ov_session.specs.Links.{IsLater, Link}
@@ -121,7 +122,7 @@ module _ {A : Type 0} (tells : AskerTells A) (a b : A) (old mid : Link)
 
   -- a piece was taken and fed, and its frames were asked
   module _ (took new : Link) (c : A) (piece : List ℕ) (d' : Decoding) (frames : List (List ℕ))
-      (reads : Reads mid took piece) (half : IsWriting took new)
+      (reads : Reads mid took piece) (most : length piece ≤ PIECE) (half : IsWriting took new)
       (writes : took.write_faults ≤ new.write_faults) where
     -- all bytes so far
     abbrev bytes : List ℕ
@@ -157,6 +158,14 @@ module _ {A : Type 0} (tells : AskerTells A) (a b : A) (old mid : Link)
         (requests so_far.exchanges) (requests so_far.exchanges ++ frames) place so_far.fed
         (stops_behind d d' piece (requests so_far.exchanges) frames place s)
 
+    -- nothing was fed: all of the piece is left
+    cut_unfed : frames ≡ [] → IsCut bytes (requests so_far.exchanges ++ frames) (d.rest ++ piece)
+    cut_unfed none =
+        subst (λ (l : List (List ℕ)). IsCut bytes l (d.rest ++ piece))
+        (sym (append-nil (requests so_far.exchanges))
+        ∙ ap (λ (l : List (List ℕ)). requests so_far.exchanges ++ l) (sym none))
+        (cut_behind so_far.taken piece (requests so_far.exchanges) d.rest cut_so_far)
+
     -- what was fed is these frames and some rest
     cut_of : (fed : Result (Unit {0}) FeedFault) → Feeds d d' piece [] frames fed
         → (rest : List ℕ) × IsCut bytes (requests so_far.exchanges ++ frames) rest
@@ -168,13 +177,7 @@ module _ {A : Type 0} (tells : AskerTells A) (a b : A) (old mid : Link)
         (both.rest, subst (λ (l : List (List ℕ)). IsCut bytes l both.rest) (sym both.appended) both.cut)
     cut_of (Err (feeds.BadFrame place)) (inr stays) =
         let good = so_far.fed.still_good in let bad = stays.bad in absurd cc
-    cut_of (Err feeds.Memory) (same, none) = (
-      d.rest ++ piece,
-      subst (λ (l : List (List ℕ)). IsCut bytes l (d.rest ++ piece))
-          (sym (append-nil (requests so_far.exchanges))
-          ∙ ap (λ (l : List (List ℕ)). requests so_far.exchanges ++ l) (sym none))
-          (cut_behind so_far.taken piece (requests so_far.exchanges) d.rest cut_so_far),
-    )
+    cut_of (Err feeds.Memory) (same, none) = (d.rest ++ piece, cut_unfed none)
 
     -- all of them were answered
     module _ (them : AnswersThem tells b c took new frames) where
@@ -232,9 +235,14 @@ module _ {A : Type 0} (tells : AskerTells A) (a b : A) (old mid : Link)
           })
       goes_on count' counts (Err (feeds.BadFrame place)) (inr stays) =
           let good = so_far.fed.still_good in let bad = stays.bad in absurd cc
-      goes_on count' counts (Err feeds.Memory) same =
-          let (rest, cut) = cut_of (Err feeds.Memory) same in
-          record { taken = bytes; rest = rest; all = all_with rest cut }
+      goes_on count' counts (Err feeds.Memory) (same, none) = record {
+        taken = bytes;
+        part = d.rest;
+        piece = piece;
+        all = all_with (d.rest ++ piece) (cut_unfed none);
+        inside = so_far.fed.unfinished;
+        most = most;
+      }
 
     -- the last one that was asked wasn't answered whole
     ends_writing : (fed : Result (Unit {0}) FeedFault) → Feeds d d' piece [] frames fed
@@ -339,7 +347,10 @@ begins tells a l = record {
 pub wants_at_once : {A : Type 0} (tells : AskerTells A) (a : A) (l : Link) → EndsWanting tells a a l l
 wants_at_once tells a l = record {
   taken = [];
-  rest = [];
+  part = [];
+  piece = [];
+  inside = in_length (omega arith);
+  most = omega arith;
   all = record {
     exchanges = [];
     asked = record {

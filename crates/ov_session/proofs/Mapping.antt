@@ -82,5 +82,11 @@ module _ {A B : Type 0} (tells : AskerTells A) (other : AskerTells B) (f : A →
       answered = s.answered;
       no_more = is b s.no_more;
     }
-    serves_so ends.Memory s =
-        record { taken = s.taken; rest = s.rest; all = all_so s.taken s.rest s.all }
+    serves_so ends.Memory s = record {
+      taken = s.taken;
+      part = s.part;
+      piece = s.piece;
+      all = all_so s.taken (s.part ++ s.piece) s.all;
+      inside = s.inside;
+      most = s.most;
+    }

@@ -1,6 +1,6 @@
 -- What a door tells of the streams that it gave.
 use Rattle.std.specs.Prelude.{◌≡◌, ◌<◌, ◌+◌, ℕ, zero, suc, List, [], ◌∷◌, ◌++◌, slice_get, Bool, false, true}
-use Rattle.std.specs.Prelude.{Option, Some, None, Result, Ok, Err, OnOk, MatchResult}
+use Rattle.std.specs.Prelude.{Option, Some, None, IfSome, Result, Ok, Err}
 use Rattle.ov_base.specs.Causes.{Rose}
 use Rattle.ov_session.specs.declared.end.SessionEnd.{SessionEnd}
 
@@ -14,9 +14,11 @@ pub record Given (S : Type 0) : Type 0 where
   pub stream : S
   pub back : Option (Back S)
 
--- what a door shows: the streams that it gave, where it tells them; their number; whether it has
--- answered that there are no more; and how often it has failed
+-- what a door shows: the address at which it listens, where it tells that; the streams that it gave,
+-- where it tells them; their number; whether it has answered that there are no more; and how often
+-- it has failed
 pub record Doorway (S : Type 0) : Type 0 where
+  pub listens_at : Option (List ℕ)
   pub told : Option (List (Given S))
   pub given : ℕ
   pub closed : Bool
@@ -33,17 +35,29 @@ pub record IsUnused {S : Type 0} (d : Doorway S) : Type 0 where
   pub given : d.given ≡ 0
   pub open_ : d.closed ≡ false
 
--- the count rises exactly at an error; one that stands at its last value is said to have risen
-abbrev pub FailsExactly : {T E : Type 0} → ℕ → ℕ → Result T E → Type 0
-FailsExactly before now result =
-    MatchResult result (λ _. now ≡ before) (λ _. Rose before now)
+-- a door that tells where it listens tells this address
+abbrev pub IsWhere : {S : Type 0} → List ℕ → Doorway S → Type 0
+IsWhere address d = IfSome d.listens_at (λ told. address ≡ told)
 
--- it listens: nothing is given by that, and at Ok its address was appended
-pub record Listens {S E : Type 0} (old new : Doorway S) (before after : List ℕ)
-    (result : Result (Unit {0}) E) : Type 0 where
-  pub same : new ≡ record old { faults = new.faults }
-  pub cause : FailsExactly old.faults new.faults result
-  pub address : OnOk result ((text : List ℕ) × (after ≡ before ++ text))
+-- the old door, listening where the new one does
+abbrev pub listening : {S : Type 0} → (old new : Doorway S) → Doorway S
+listening old new = record old { listens_at = new.listens_at }
+
+-- it listens at this address, and is otherwise as it was
+abbrev pub OpensAt : {S : Type 0} → Doorway S → Doorway S → List ℕ → Type 0
+OpensAt old new address = (new ≡ listening old new) × IsWhere address new
+
+-- it failed, and is otherwise as it was; a count of faults that stands at its last value is said to
+-- have risen
+abbrev pub FailsOnce : {S : Type 0} → Doorway S → Doorway S → Type 0
+FailsOnce old new = (new ≡ record old { faults = new.faults }) × Rose old.faults new.faults
+
+-- it listens, and the address at which it does was appended; or it failed
+abbrev pub Listens : {S E : Type 0} → Doorway S → Doorway S → List ℕ → List ℕ
+    → Result (Unit {0}) E → Type 0
+Listens old new before after (Ok done) =
+    (address : List ℕ) × (after ≡ before ++ address) × OpensAt old new address
+Listens old new before after (Err fault) = FailsOnce old new
 
 -- the streams that are told, and one more
 abbrev pub and_one : {S : Type 0} → Option (List (Given S)) → S → Option (List (Given S))
@@ -55,8 +69,7 @@ abbrev pub Accepts : {S E : Type 0} → Doorway S → Doorway S → Result (Opti
 Accepts old new (Ok (Some stream)) =
     new ≡ record old { told = and_one old.told stream; given = old.given + 1 }
 Accepts old new (Ok None) = new ≡ record old { closed = true }
-Accepts old new (Err fault) =
-    (new ≡ record old { faults = new.faults }) × Rose old.faults new.faults
+Accepts old new (Err fault) = FailsOnce old new
 
 -- among these streams the one of this number wasn't taken back
 abbrev pub IsOutAmong : {S : Type 0} → Option (List (Given S)) → ℕ → Type 0

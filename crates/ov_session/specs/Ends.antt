@@ -1,10 +1,11 @@
 -- What a session did, and how it ended.
-use Rattle.std.specs.Prelude.{◌≡◌, ◌≢◌, ◌⊎◌, ℕ, List, [], ◌∷◌, ◌++◌, length, min, take}
+use Rattle.std.specs.Prelude.{◌≡◌, ◌≢◌, ◌≤◌, ◌⊎◌, ℕ, List, [], ◌∷◌, ◌++◌, length, min, take}
 use Rattle.std.specs.Io.KnownBytes.{Appends, Consumes, IsAtEnd}
 use Rattle.ov_base.specs.Causes.{Rose}
 use Rattle.ov_wire.specs.Frames.{IsBadLength, IsCut, IsUnfinished, framed, later}
 use Rattle.ov_session.specs.declared.end.SessionEnd.{SessionEnd}
 use Rattle.ov_session.specs.declared.end.SessionEnd.TheVariants as ends
+use Rattle.ov_session.specs.declared.one.TheConstants.{PIECE}
 use Rattle.ov_session.specs.Exchanges.{Exchange, Leads, answer_for, answers, requests}
 use Rattle.ov_session.specs.Links.{Link}
 use Rattle.ov_session.specs.Tells.{AskerTells}
@@ -82,11 +83,15 @@ pub record EndsWriting {A : Type 0} (tells : AskerTells A) (a b : A) (old new : 
       (bytes ++ take front (framed (answer_for last.reply)))
   pub rose : Rose old.write_faults new.write_faults
 
--- no memory for reading on: all frames that were cut off so far were answered
+-- No memory for reading on. All frames that were whole before the last piece were answered. What
+-- came of a frame before it, and the piece itself, were taken, and nothing of them was asked.
 pub record EndsWanting {A : Type 0} (tells : AskerTells A) (a b : A) (old new : Link) : Type 0 where
   pub taken : List ℕ
-  pub rest : List ℕ
-  pub all : AnswersAll tells a b old new taken rest
+  pub part : List ℕ
+  pub piece : List ℕ
+  pub all : AnswersAll tells a b old new taken (part ++ piece)
+  pub inside : IsUnfinished part
+  pub most : length piece ≤ PIECE
 
 -- the asker has asked as often as it may, and wasn't asked this request
 pub record EndsSpent {A : Type 0} (tells : AskerTells A) (a b : A) (old new : Link) : Type 0 where

@@ -60,6 +60,7 @@ pub record ServesEach {V S : Type 0} (one : OneSession V S) (v w : V) (old new :
   pub number : served ≡ length sessions
   pub given : new.given ≡ old.given + served
   pub told : new.told ≡ and_all old.told sessions
+  pub stays : new.listens_at ≡ old.listens_at
   pub most : served ≤ wanted
   pub fewer : served < wanted → (new.closed ≡ true) ⊎ (failed ≡ true)
   pub says : SaysRose old.faults new.faults failed

@@ -10,8 +10,9 @@ pub trait Door {
     /// What it gives.
     type Stream: Stream + Drop;
 
-    /// What it shows: the streams that it gave and took back, where it tells them, and their
-    /// number; whether it has answered that there are no more; and how often it has failed.
+    /// What it shows: the address at which it listens, and the streams that it gave and took back,
+    /// where it tells these; the number of the streams; whether it has answered that there are no
+    /// more; and how often it has failed.
     ghost shows: { Self → Doorway Self.Stream };
 
     /// Begins to listen, and appends the address at which it listens.

@@ -12,6 +12,7 @@ pub enum SessionEnd {
     Bad { at: u64 },
     /// The asker has asked as often as it may.
     Spent,
-    /// There was no memory to read on.
+    /// There was no memory to read on. Nothing of the last piece was asked, nor of the part of a
+    /// frame that stood before it.
     Memory,
 }

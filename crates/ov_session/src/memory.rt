@@ -1,5 +1,6 @@
 //! A door in memory, which fails at the calls that it is told to.
-ghost use Rattle.std.specs.Prelude.{◌≡◌, ◌↔◌, [], length, IsTrue, Contains, IfSome, false, Some};
+ghost use Rattle.std.specs.Prelude.{◌≡◌, ◌↔◌, [], codes, length, IsTrue, Contains, IfSome};
+ghost use Rattle.std.specs.Prelude.{false, Some};
 ghost use Rattle.ov_io.specs.Memory.{one_call};
 ghost use Rattle.ov_session.specs.Memory.{IsBackAt, seen_back};
 ghost use Rattle.ov_session.specs.Doors.{Accepts, Doorway, IsOut, Listens, taken_back};
@@ -25,7 +26,8 @@ struct Gave {
     back: Option<Returned>,
 }
 
-/// A door that gives the streams that it was made with, and keeps them when they come back.
+/// A door that gives the streams that it was made with, and keeps them when they come back. The
+/// address at which it listens is `memory`.
 #[derive(Drop)]
 pub struct MemDoor {
     waiting: Vec<MemStream>,
@@ -114,6 +116,7 @@ impl Door for MemDoor {
     type Stream = MemStream;
 
     ghost shows = { λ d. record {
+      listens_at = Some (codes "memory");
       told = Some d.gave;
       given = length d.gave;
       closed = d.closed;

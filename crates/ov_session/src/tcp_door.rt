@@ -1,5 +1,8 @@
 //! A door at a TCP port. What the system's sockets give and take is trusted.
-ghost use Rattle.std.specs.Prelude.{◌≡◌, ◌++◌, None, false, List, ℕ, OnOk};
+ghost use Rattle.std.specs.Prelude.{◌≡◌, ◌++◌, None, Some, false, OnErr, OnOk};
+ghost use Rattle.std.specs.Option.{option_map};
+ghost use Rattle.std.specs.Net.Text.{socket_text};
+ghost use Rattle.std.specs.declared.net.socket_addr.SocketAddr.{SocketAddr};
 ghost use Rattle.ov_base.specs.Causes.{Rose};
 
 use crate::{Door, SessionEnd};
@@ -13,12 +16,13 @@ use std::net::{Net, OpenListener, OpenStream, SocketAddr, TcpListener};
 const MOST_BROKEN: u32 = 100;
 
 /// A door that listens at an address, and gives a stream for each connection. It tells nothing of
-/// them, and always has more.
+/// the streams, and always has more; where it listens it tells as the system does.
 #[derive(Drop)]
 pub struct TcpDoor<R: Net + AllocGlobal + Drop> {
     rt: R,
     address: String,
     listener: Option<R::Listener>,
+    bound: Option<SocketAddr>,
     client: Option<SocketAddr>,
     given: u64,
     faults: u64,
@@ -39,6 +43,7 @@ impl<R: Net + AllocGlobal + Drop> TcpDoor<R> {
             rt,
             address,
             listener: None,
+            bound: None,
             client: None,
             given: 0,
             faults: 0,
@@ -56,18 +61,20 @@ impl<R: Net + AllocGlobal + Drop> TcpDoor<R> {
         self.client
     }
 
-    // Listens, and appends the address at which it does.
+    // Listens, and appends the address at which it does, as the system tells it.
     fn open(&mut self, address: &mut Vec<u8>) -> io::Result<()>
         ensures given { self.new.given ≡ self.old.given }
         ensures faults { self.new.faults ≡ self.old.faults }
-        ensures appended { OnOk result ((text : List ℕ)
-            × (address.new.items ≡ address.old.items ++ text)) }
+        ensures appended { OnOk result ((bound : SocketAddr) × (self.new.bound ≡ Some bound)
+            × (address.new.items ≡ address.old.items ++ socket_text bound)) }
+        ensures stays { OnErr result (self.new.bound ≡ self.old.bound) }
     {
         let listener = TcpListener::bind(&self.rt, self.address.as_str())?;
         let bound = listener.local_addr()?;
         let text = format!(in self.rt.alloc(); "{bound}")?;
         address.extend_from_slice(text.as_bytes())?;
         self.listener = Some(listener);
+        self.bound = Some(bound);
         Ok(())
     }
 
@@ -94,6 +101,7 @@ impl<R: Net + AllocGlobal + Drop> TcpDoor<R> {
 
     fn fail(&mut self, kind: ErrorKind) -> Fault
         ensures given { self.new.given ≡ self.old.given }
+        ensures bound { self.new.bound ≡ self.old.bound }
         ensures rose { Rose self.old.faults self.new.faults }
     {
         self.reason = Some(kind);
@@ -106,6 +114,7 @@ impl<R: Net + AllocGlobal + Drop> Door for TcpDoor<R> {
     type Stream = StdStream<R::Stream>;
 
     ghost shows = { λ d. record {
+      listens_at = option_map (λ a. socket_text a) d.bound;
       told = None;
       given = d.given;
       closed = false;

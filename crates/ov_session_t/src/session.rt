@@ -5,9 +5,11 @@ use ov_base::{Memory, Octets};
 use ov_io::{MemSink, MemSource, MemStream, Sink, Source};
 use ov_peer::{Answerer, Peer, PeerFault};
 use ov_session::{
-    Alone, Door, MemDoor, NetPeer, OpenGate, SessionEnd, TcpDoor, TcpLink, serve_each, serve_one,
+    Alone, Door, Gate, MemDoor, NetPeer, OpenGate, SessionEnd, TcpDoor, TcpLink, serve_each,
+    serve_one,
 };
 use std::alloc::Global;
+use std::cell::Cell;
 use std::io::ErrorKind;
 use std::str;
 use std::sync::Wait;
@@ -145,6 +147,68 @@ fn each_row_in_pieces_of_each_size(rt: HostRuntime) -> Result<(), Fail> {
             assert_eq!(rt; stream.sink.written(), row.written);
         }
     }
+    Ok(())
+}
+
+/// A gate that counts the requests that come to it, and keeps the numbers of the last one.
+struct Counter {
+    requests: Cell<u8>,
+    last: Cell<(u32, u32)>,
+}
+
+impl Gate for Counter {
+    fn pause(&self, session: u32, request: u32) {
+        self.requests.set(self.requests.get().saturating_add(1));
+        self.last.set((session, request));
+    }
+}
+
+/// Answers each frame with the number of requests that have come to the gate so far.
+#[derive(Drop)]
+struct Watcher<'a> {
+    gate: &'a Counter,
+}
+
+impl<'a> Answerer for Watcher<'a> {
+    ghost tells = { record {
+      reached = λ _ list _. list ≡ [];
+      replies = λ _ _ _ reply. length reply ≡ 2;
+      epoch_of = λ _. 0;
+    } };
+
+    fn answer(&mut self, request: &[u8], reply: &mut Vec<u8>) -> Result<(), Memory> {
+        let _ = request;
+        reply.clear();
+        reply.push(0x86)?;
+        reply.push(self.gate.requests.get())?;
+        Ok(())
+    }
+
+    fn epoch(&self) -> u32 {
+        0
+    }
+}
+
+#[test]
+fn each_request_comes_to_the_gate_before_it_is_asked(rt: HostRuntime) -> Result<(), Fail> {
+    let alloc = rt.alloc();
+    let input = [0, 0, 0, 1, 7, 0, 0, 0, 1, 8, 0, 0, 0, 1, 9];
+    let mut stream = stream(alloc, &input, 12, &[], &[])?;
+    let gate = Counter {
+        requests: Cell::new(0),
+        last: Cell::new((0, 0)),
+    };
+    let mut watcher = Watcher { gate: &gate };
+    let mut asker = Alone {
+        value: &mut watcher,
+    };
+    let end = serve_one(&rt, alloc, 5, &mut stream, &mut asker, &gate);
+    assert_eq!(rt; end, SessionEnd::End);
+    let numbers: [u8; 18] = [
+        0, 0, 0, 2, 0x86, 1, 0, 0, 0, 2, 0x86, 2, 0, 0, 0, 2, 0x86, 3,
+    ];
+    assert_eq!(rt; stream.sink.written(), numbers.as_slice());
+    assert_eq!(rt; gate.last.get(), (5, 2));
     Ok(())
 }
 

@@ -1,5 +1,7 @@
 //! A door that says on standard error how sessions end, and with whom.
 ghost use Rattle.std.specs.Prelude.{◌≡◌, None, false};
+ghost use Rattle.std.specs.Option.{option_map};
+ghost use Rattle.std.specs.Net.Text.{socket_text};
 ghost use Rattle.ov_base.specs.Causes.{Rose};
 
 use crate::log::Log;
@@ -12,14 +14,14 @@ use std::fmt::{Display, Formatter, Write};
 use std::net::{Net, SocketAddr};
 use std::time::Clock;
 
-/// Gives the streams of the door in it, and takes them back itself: it says how each session ended
-/// that didn't end between two frames, and lets its stream go. Where it keeps a log, that has each
-/// update that was accepted and the end of each session. It counts for itself, and tells nothing of
-/// the streams.
+/// A door over another, which gives the streams of that one, and takes them back itself. It says
+/// how each session ended that didn't end between two frames, and lets its stream go. Where it keeps
+/// a log, that has each update that was accepted and the end of each session. It counts for itself,
+/// tells where the door in it listens, and nothing of the streams.
 #[derive(Drop)]
 pub struct SpokenDoor<N: Net + AllocGlobal + Drop, R> {
     pub door: TcpDoor<N>,
-    /// Whether it listened.
+    /// Whether the door listened.
     pub listens: bool,
     logs: bool,
     given: u64,
@@ -29,7 +31,7 @@ pub struct SpokenDoor<N: Net + AllocGlobal + Drop, R> {
 }
 
 impl<N: Net + AllocGlobal + Drop, R> SpokenDoor<N, R> {
-    /// This door, which gave nothing yet, with a runtime that prints; and whether a log is kept.
+    /// A speaking door over this one, which gave nothing yet, with a runtime that prints.
     pub fn new(door: TcpDoor<N>, rt: R, logs: bool) -> SpokenDoor<N, R>
         ensures given { result.given ≡ 0 }
         ensures open_ { result.closed ≡ false }
@@ -47,6 +49,7 @@ impl<N: Net + AllocGlobal + Drop, R> SpokenDoor<N, R> {
 
     // Counts a fault.
     fn fail(&mut self) -> Fault
+        ensures door { self.new.door ≡ self.old.door }
         ensures given { self.new.given ≡ self.old.given }
         ensures closed { self.new.closed ≡ self.old.closed }
         ensures rose { Rose self.old.faults self.new.faults }
@@ -91,6 +94,7 @@ impl<N: Net + AllocGlobal + Drop, R: Eprint + Clock + AllocGlobal + Copy + Drop>
     type Stream = LoggedStream<StdStream<N::Stream>, R>;
 
     ghost shows = { λ d. record {
+      listens_at = option_map (λ a. socket_text a) d.door.bound;
       told = None;
       given = d.given;
       closed = d.closed;

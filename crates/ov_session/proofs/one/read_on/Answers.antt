@@ -1,6 +1,7 @@
-use Rattle.std.proofs.Common.{◌≡◌, ◌<◌, [], List, ℕ, length, min, ◌+◌, subst, sym, arith}
+use Rattle.std.proofs.Common.{◌≡◌, ◌<◌, ◌≤◌, [], List, ℕ, length, min, ◌+◌, subst, sym, arith}
 use Rattle.std.proofs.lemmas.Grind.{common_steps}
 use Rattle.ov_wire.specs.Frames.{Feeds}
+use Rattle.ov_session.specs.declared.one.TheConstants.{PIECE}
 use Rattle.ov_session.specs.Ends.{Serves}
 use Rattle.ov_session.specs.Links.{link}
 use Rattle.ov_session.specs.Steps.{GoesOn}
@@ -49,6 +50,7 @@ returns-in-Ok-answer_each-clause-goes g c a old so_far =
       writes = leaves.faults;
       later = c.in-Ok.ensures.cause.later;
     }) in
+    let most : length piece ≤ PIECE = grind (arith, common_steps) in
     let none : Feeds d d' piece [] c.feed-fed.new.frames.items c.feed-fed.result =
     subst (λ (l : List (List ℕ)). Feeds d d' piece l c.feed-fed.new.frames.items c.feed-fed.result)
     c.new-frames.ensures.items c.feed-fed.ensures in
@@ -60,7 +62,7 @@ returns-in-Ok-answer_each-clause-goes g c a old so_far =
     (tells c.answer_each.new.stream) d' c.saturating_add-reading.result) (sym c.go_on.ensures)
     (goes_on g.A.Asker.tells a c.args.asker.now old (tells c.args.stream.now) d
     c.args.reading.now.taken so_far (tells c.take.new.self) (tells c.answer_each.new.stream)
-    c.answer_each.new.asker piece d' c.deref.result.now reads c.in-Ok-answer_each.ensures.half
+    c.answer_each.new.asker piece d' c.deref.result.now reads most c.in-Ok-answer_each.ensures.half
     c.in-Ok-answer_each.ensures.later c.in-Ok-answer_each.ensures.answers
     c.saturating_add-reading.result counts c.feed-fed.result feeds)
 
@@ -78,6 +80,7 @@ returns-clause-goes g c a old so_far =
       writes = leaves.faults;
       later = c.in-Ok.ensures.cause.later;
     }) in
+    let most : length piece ≤ PIECE = grind (arith, common_steps) in
     let none : Feeds d d' piece [] c.feed-fed.new.frames.items c.feed-fed.result =
     subst (λ (l : List (List ℕ)). Feeds d d' piece l c.feed-fed.new.frames.items c.feed-fed.result)
     c.new-frames.ensures.items c.feed-fed.ensures in
@@ -87,6 +90,6 @@ returns-clause-goes g c a old so_far =
     (tells c.answer_each.new.stream)) (sym c.end_of.ensures)
     (stops_so g.A.Asker.tells a c.args.asker.now old (tells c.args.stream.now) d
     c.args.reading.now.taken so_far (tells c.take.new.self) (tells c.answer_each.new.stream)
-    c.answer_each.new.asker piece d' c.deref.result.now reads c.in-Err-answer_each.ensures.half
+    c.answer_each.new.asker piece d' c.deref.result.now reads most c.in-Err-answer_each.ensures.half
     c.in-Err-answer_each.ensures.later c.feed-fed.result feeds c.in-Err-answer_each.stop
     c.in-Err-answer_each.ensures.answers)
