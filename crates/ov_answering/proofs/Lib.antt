@@ -1,7 +1,9 @@
 pub mod Answered
 pub mod Answering
 pub mod Beginning
+pub mod ByScript
 pub mod Concluding
+pub mod EndingByScript
 pub mod Judging
 pub mod KeyFiles
 pub mod Lists

@@ -7,7 +7,7 @@ use Rattle.ov_disk.specs.Tells.{DiskTells}
 use Rattle.ov_history.specs.Masters.{Masters}
 use Rattle.ov_history.specs.Plain.{PlainHistory}
 use Rattle.ov_answering.specs.Ending.{JudgesImage, LeavesAsAtStart}
-use Rattle.ov_answering.specs.Lasting.{OpensAs}
+use Rattle.ov_answering.specs.Lasting.{LastsAs, OpensAs}
 
 -- what a disk behind a loan tells
 abbrev pub lent_disk : {D : Type 0} → DiskTells D → DiskTells (MutBor D)
@@ -28,6 +28,16 @@ module _ {D : Type 0} (tells : DiskTells D) where
       → OpensAs (lent_disk tells) k mode p loan
   lent_opens k mode p loan o =
       record { image = o.image; told = o.told; settled = o.settled; legal = o.legal; mode_is = o.mode_is; stands = o.stands }
+
+  pub lent_lasts_as : (k : Masters) (p : PlainHistory) (last : MutBor D) → LastsAs (lent_disk tells) k p last → LastsAs tells k p last.now
+  lent_lasts_as k p last l = record {
+    image = l.image;
+    told = l.told;
+    reads_it = l.reads_it;
+    leaves_it = l.leaves_it;
+    tokens_read = l.tokens_read;
+    tokens_left = l.tokens_left;
+  }
 
   pub lent_leaves : (first last : MutBor D) (P : Image → Type 0) → LeavesOnly (lent_disk tells) first last P
       → LeavesOnly tells first.now last.now P

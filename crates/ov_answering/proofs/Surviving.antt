@@ -8,6 +8,8 @@ use Rattle.ov_base.specs.declared.limits.TheConstants.{MAX_SCRIPT_BYTES}
 use Rattle.ov_disk.specs.Disk.{Image}
 use Rattle.ov_disk.proofs.Runs.{started}
 use Rattle.ov_disk.specs.Tells.{DiskTells}
+use Rattle.ov_images.specs.Images.{keys_of}
+use Rattle.ov_images.proofs.Keeping.{keeps_once}
 use Rattle.ov_script.specs.declared.command.Command.{Command}
 use Rattle.ov_script.specs.declared.reply.Reply.{Reply}
 use Rattle.ov_script.specs.declared.reply.Reply.TheVariants.{Accepted, Bytes, List as Listed, Epoch as EpochIs, Refused, End as EndReply}
@@ -16,9 +18,12 @@ use Rattle.ov_script.specs.Lines.{reply_line}
 use Rattle.ov_script.specs.Reading.{IsScript, BeginsScript, BeginsWith, Reads, Ending, AtEnd}
 use Rattle.ov_script.proofs.Grammar.{item_once}
 use Rattle.ov_script.proofs.Readings.{goes_on, Reads-begins}
+use Rattle.ov_history.specs.History.{matrix_of}
 use Rattle.ov_history.specs.Masters.{Masters}
 use Rattle.ov_history.specs.Plain.{PlainHistory, history_of}
 use Rattle.ov_history.specs.Refusals.{IsLegal}
+use Rattle.ov_history.specs.Sealed.{SealedHistory, catalogue_of}
+use Rattle.ov_history.specs.Sealing.{sealed}
 use Rattle.ov_history.proofs.DerivedKeys.{closure_keys}
 use Rattle.ov_history.proofs.Published.{published_is_matrix}
 use Rattle.ov_history.proofs.TrueHistories.{tokens_are_true}
@@ -27,12 +32,12 @@ use Rattle.ov_model.specs.Step.{after_all, reply_to}
 use Rattle.ov_model.proofs.Runs.{lines-more}
 use Rattle.ov_report.specs.Ends.{EndsIn, EndsOr}
 use Rattle.ov_report.specs.Faults.{disk_line, memory_line}
-use Rattle.ov_machine.specs.Disks.{Holds}
+use Rattle.ov_machine.specs.Disks.{Holds, KeepsPlain}
 use Rattle.ov_machine.specs.Machine.{KeptOn}
 use Rattle.ov_machine.proofs.Reading.{take_whole}
 use Rattle.ov_answering.specs.Answering.{AnsweredAll, AnsweredFirst, AnsweredPart, Finishes, Stops}
 use Rattle.ov_answering.specs.Ending.{EndsAs}
-use Rattle.ov_answering.specs.Lasting.{HasAnswered, KeepsFirst, KeepsNext, Lasts, PublishesMatrix, Survives, published}
+use Rattle.ov_answering.specs.Lasting.{HasAnswered, KeepsFirst, KeepsNext, Lasts, LastsAs, PublishesMatrix, PublishesMatrixOf, Survives}
 use Rattle.ov_answering.specs.Printing.{OutOfMemory, long_line, read_line}
 use Rattle.ov_answering.specs.declared.answer.Stop.{Stop}
 use Rattle.ov_answering.specs.declared.answer.Stop.TheVariants.{End, BadLine, Long, Read, Write, Disk, Trace, Memory, Tag}
@@ -41,12 +46,32 @@ use Rattle.ov_answering.proofs.Concluding.{at_once, concluded_at, memory_printed
 -- ---- tokens
 
 -- after each legal history the published tokens are the matrix
-pub publishes_matrix : (k : Masters) (p : PlainHistory) → IsLegal (history_of p) → PublishesMatrix k p
+publishes_matrix : (k : Masters) (p : PlainHistory) → IsLegal (history_of p)
+    → PublishesMatrix k (matrix_of (history_of p)) (catalogue_of k.surface (sealed k p))
 publishes_matrix k p legal =
     let true_tokens = tokens_are_true k p legal in record {
       tokens = true_tokens;
-      derived = λ user label key. closure_keys k (published k p) user label key true_tokens;
+      derived = λ user label key. closure_keys k (catalogue_of k.surface (sealed k p)) user label key true_tokens;
       matrix = λ user file f. published_is_matrix k p user file f legal;
+    }
+
+-- an image keeps no other history
+publishes_matrix_of : (k : Masters) (p : PlainHistory) → IsLegal (history_of p) → (i : Image) → KeepsPlain k p i → PublishesMatrixOf k p i
+publishes_matrix_of k p legal i keeps = λ g other.
+    subst (λ (s : SealedHistory). PublishesMatrix k (matrix_of (history_of p)) (catalogue_of k.surface s))
+    (keeps_once (keys_of k) (sealed k p) g i keeps other) (publishes_matrix k p legal)
+
+-- what a disk holds lasts on it
+pub lasts_held : {D : Type 0} (tells : DiskTells D) (k : Masters) (p : PlainHistory) → IsLegal (history_of p) → (disk : D)
+    → Holds tells k p disk → LastsAs tells k p disk
+lasts_held tells k p legal disk held =
+    let reads = held.each held.told.0 (tells.reads_one disk held.told.0 held.told.1) in record {
+      image = held.told.0;
+      told = held.told.1;
+      reads_it = reads;
+      leaves_it = λ c left. held.each c left;
+      tokens_read = publishes_matrix_of k p legal held.told.0 reads;
+      tokens_left = λ c left. publishes_matrix_of k p legal c (held.each c left);
     }
 
 -- ---- scripts
@@ -233,16 +258,11 @@ module _ {D : Type 0} (tells : DiskTells D) (k : Masters) (p : PlainHistory) (te
 
     lasts_whole : AnsweredAll tells k p text AtEnd old mid first last
         → Lasts tells k p text last.disk
-    lasts_whole a =
-        let held = (a.reaches holds).holds in record {
-          commands = a.commands;
-          whole = a.read;
-          image = held.told.0;
-          told = held.told.1;
-          reads_it = held.each held.told.0 (tells.reads_one last.disk held.told.0 held.told.1);
-          leaves_it = λ c left. held.each c left;
-          tokens = publishes_matrix k (after_all p a.commands) a.stands.0.0;
-        }
+    lasts_whole a = record {
+      commands = a.commands;
+      whole = a.read;
+      lasts = lasts_held tells k (after_all p a.commands) a.stands.0.0 last.disk (a.reaches holds).holds;
+    }
 
     lasts_at : (stop : Stop) (n status : ℕ)
         → Stops tells k p text stop old mid first last → Finishes stop n mid new status → status ≡ 0

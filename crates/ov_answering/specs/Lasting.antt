@@ -12,14 +12,14 @@ use Rattle.ov_script.specs.Reading.{AtEnd, BeginsScript, IsScript}
 use Rattle.ov_tokens.specs.declared.label.Label.{Label}
 use Rattle.ov_history.specs.Catalogue.{Catalogue, Filed}
 use Rattle.ov_history.specs.Closure.{HoldsFile, Holds as HoldsLabel}
-use Rattle.ov_history.specs.History.{matrix_of}
+use Rattle.ov_history.specs.History.{Matrix, matrix_of}
 use Rattle.ov_history.specs.Keys.{AreTrueTokens, DerivesKey, IsKeyOf}
 use Rattle.ov_history.specs.Lists.{is_listed}
 use Rattle.ov_history.specs.Masters.{Masters}
 use Rattle.ov_history.specs.Plain.{PlainHistory, history_of}
 use Rattle.ov_history.specs.Refusals.{IsLegal}
-use Rattle.ov_history.specs.Sealed.{catalogue_of}
-use Rattle.ov_history.specs.Sealing.{sealed}
+use Rattle.ov_history.specs.Sealed.{SealedHistory, catalogue_of}
+use Rattle.ov_images.specs.Images.{Keeps, keys_of}
 use Rattle.ov_model.specs.Lines.{lines}
 use Rattle.ov_model.specs.Step.{after_all, reply_to}
 use Rattle.ov_machine.specs.Disks.{KeepsPlain, StandsForPlain}
@@ -51,22 +51,22 @@ HasAnswered p text commands old new =
 
 -- ---- tokens
 
--- what is published after this history, as it is sealed under the two masters
-abbrev pub published : Masters → PlainHistory → Catalogue
-published k p = catalogue_of k.surface (sealed k p)
-
--- The tokens that are published after this history lead to the keys of their labels under the two
--- masters. Over them a user derives exactly the keys of the labels in the user's closure. And this
--- closure has all the labels that protect a file exactly where the matrix lists the user.
-pub record PublishesMatrix (k : Masters) (p : PlainHistory) : Type 0 where
-  pub tokens : AreTrueTokens k (published k p)
+-- The tokens of this catalogue lead to the keys of their labels under the two masters. Over them a
+-- user derives exactly the keys of the labels in the user's closure. And this closure has all the
+-- labels that protect a file exactly where the matrix lists the user.
+pub record PublishesMatrix (k : Masters) (m : Matrix) (c : Catalogue) : Type 0 where
+  pub tokens : AreTrueTokens k c
   pub derived : (user : ℕ) (label : Label) (key : List ℕ)
-      → DerivesKey k (published k p) user label key
-      ↔ IsKeyOf k (HoldsLabel (published k p) user) label key
-  pub matrix : (user file : ℕ) (f : Filed) → user < length (matrix_of (history_of p)).users
-      → slice_get (published k p).files file ≡ Some f
-      → HoldsFile (published k p) user f
-      ↔ (is_listed (matrix_of (history_of p)) user file ≡ true)
+      → DerivesKey k c user label key ↔ IsKeyOf k (HoldsLabel c user) label key
+  pub matrix : (user file : ℕ) (f : Filed) → user < length m.users
+      → slice_get c.files file ≡ Some f → HoldsFile c user f ↔ (is_listed m user file ≡ true)
+
+-- Whatever history this image keeps under the two masters, what a store publishes after that one
+-- is the matrix of the history p.
+abbrev pub PublishesMatrixOf : Masters → PlainHistory → Image → Type 0
+PublishesMatrixOf k p i =
+    (g : SealedHistory) → Keeps (keys_of k) g i
+    → PublishesMatrix k (matrix_of (history_of p)) (catalogue_of k.surface g)
 
 -- ---- disks
 
@@ -81,21 +81,30 @@ module _ {D : Type 0} (tells : DiskTells D) where
     pub mode_is : p.mode ≡ mode
     pub stands : StandsForPlain k p image
 
-  -- What lasts of a whole script that was answered from a disk which stood for the history: the
-  -- disk as it reads, and each image that a stop may leave of it, keeps the history after all its
-  -- commands, so a store was begun there; and what is published after it is the matrix.
+  -- What lasts of a history on a disk. As it reads, and as each image that a stop may leave of it,
+  -- it keeps the history, so a store was begun there; and what it publishes, read again from that
+  -- image, is the matrix of the history.
+  pub record LastsAs (k : Masters) (p : PlainHistory) (disk : D) : Type 0 where
+    pub image : Image
+    pub told : tells.reads disk ≡ Some image
+    pub reads_it : KeepsPlain k p image
+    pub leaves_it : (c : Image) → tells.may_leave disk c → KeepsPlain k p c
+    pub tokens_read : PublishesMatrixOf k p image
+    pub tokens_left : (c : Image) → tells.may_leave disk c → PublishesMatrixOf k p c
+
+  -- what lasts of a whole script that was answered from a disk which stood for the history: the
+  -- history after all its commands
   pub record Lasts (k : Masters) (p : PlainHistory) (text : List ℕ) (disk : D) : Type 0 where
     pub commands : List Command
     pub whole : IsScript text commands AtEnd
-    pub image : Image
-    pub told : tells.reads disk ≡ Some image
-    pub reads_it : KeepsPlain k (after_all p commands) image
-    pub leaves_it : (c : Image) → tells.may_leave disk c → KeepsPlain k (after_all p commands) c
-    pub tokens : PublishesMatrix k (after_all p commands)
+    pub lasts : LastsAs k (after_all p commands) disk
 
   -- What a stop leaves of a script that is answered from a disk which stood for the history. At
   -- any moment since the start each image stands for the history after some first commands; and
-  -- at the exit each has all updates whose reply line was put whole, and at most one more.
+  -- at the exit each has all updates whose reply line was put whole, and at most one more. Of a
+  -- moment before the exit it isn't said which commands those are: a disk doesn't tell what had been
+  -- put to a sink by then. But each put and each call of the disk may be the one that fails and ends
+  -- a run, and of that moment the second half says it.
   pub record Survives (k : Masters) (p : PlainHistory) (text : List ℕ) (first last : D)
       (old new : Option (List ℕ)) : Type 0 where
     pub any_moment : LeavesOnly tells first last (KeepsFirst k p text)

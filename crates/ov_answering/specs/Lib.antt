@@ -1,5 +1,6 @@
 pub mod Answered
 pub mod Answering
+pub mod ByScript
 pub mod Ending
 pub mod Faults
 pub mod Judging

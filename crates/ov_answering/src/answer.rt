@@ -10,6 +10,7 @@ ghost use Rattle.ov_machine.specs.Machine.{IsCommand, StandsFor};
 ghost use Rattle.ov_machine.specs.Sinks.{PutsTo};
 ghost use Rattle.ov_answering.specs.Answered.{StopsText};
 ghost use Rattle.ov_answering.specs.Answering.{Answers, IsAnswer, PutsOr, StopsAt, stop_for};
+ghost use Rattle.ov_answering.specs.ByScript.{PutsReply, StopsByScript};
 ghost use Rattle.ov_answering.specs.Tracing.{TracesLine};
 
 use ov_disk::Disk;
@@ -85,6 +86,7 @@ fn answer<D: Disk, O: Sink, T: Sink>(
         → StandsFor machine.old.kept p
         → Answers D.tells k p command result
         (O.tells.written out.old) (O.tells.written out.new) machine.old machine.new }
+    ensures puts { PutsReply command result (O.tells.written out.old) (O.tells.written out.new) }
     ensures step { IsAnswer D.tells machine.old machine.new result }
     ensures traced { (p : PlainHistory) → StandsFor machine.old.kept p
         → TracesLine machine.old.kept.masters p command result
@@ -115,6 +117,8 @@ pub fn answer_all<S: Source + Drop, O: Sink, T: Sink, D: Disk>(
         machine.old.kept.masters p text result machine.old machine.new
         script.old.source script.new.source (O.tells.written out.old) (O.tells.written out.new)
         (T.tells.written trace.old) (T.tells.written trace.new)) }
+    ensures script { IfSome (text_left S.tells script.old) (λ text.
+        StopsByScript text result (O.tells.written out.old) (O.tells.written out.new)) }
     ensures source { IsCallOf S.tells (result ≡ Stop.Read) script.old.source script.new.source }
     ensures machine { StopsAt D.tells machine.old machine.new result }
     ensures sinks { PutsTo O.tells (result ≡ Stop.Write) out.old out.new

@@ -23,6 +23,7 @@
 //! | `Judging` | why the image of a disk is refused |
 //! | `Printing`, `Faults`, `Status` | what is printed by the outcome; the line on a wrong tag; the statuses |
 //! | `Ending` | how an answering ends: its status and its causes, the key file, the words and the disk |
+//! | `ByScript` | how it ends by what its script says, whatever its disk tells |
 //! | `Answered` | all of it, of one text |
 #![tactic(auto)]
 

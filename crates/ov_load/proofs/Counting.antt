@@ -14,9 +14,8 @@ use Rattle.ov_history.specs.Lists.{file_number, user_number}
 use Rattle.ov_history.specs.Plain.{PlainHistory, PlainUpdate, history_of}
 use Rattle.ov_history.specs.Refusals.{list_refusal, read_refusal}
 use Rattle.ov_model.specs.Step.{after, after_all, bytes_reply, names_reply, reply_or, reply_to, update_step}
-use Rattle.ov_load.specs.Summary.{AddsUp}
+use Rattle.ov_load.specs.Summary.{CountsAddUp}
 use Rattle.ov_load.specs.Tallying.{counted, counted_all, none_counted, total}
-use Rattle.ov_load.specs.declared.load_words.Load.{Load}
 use Rattle.ov_load.specs.declared.tally.Counts.{Counts}
 
 -- one more command
@@ -95,5 +94,5 @@ first_add_up number h (suc place) =
     let all = first_add_up number h place in
     omega (arith, more, one, all)
 
-pub adds_up : (load : Load) (h : PlainHistory) → AddsUp load h
+pub adds_up : CountsAddUp
 adds_up load h = first_add_up load.number h (WORKLOAD_USERS + load.count)

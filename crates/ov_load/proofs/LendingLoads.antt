@@ -9,15 +9,13 @@ use Rattle.ov_history.specs.Masters.{Masters}
 use Rattle.ov_history.specs.Plain.{PlainHistory}
 use Rattle.ov_machine.specs.Machine.{AreMasters}
 use Rattle.ov_answering.specs.Ending.{JudgesImage, LeavesAsAtStart}
-use Rattle.ov_answering.specs.Lasting.{OpensAs}
-use Rattle.ov_answering.proofs.Loans.{lent_disk, lent_image, lent_leaves, lent_opens}
+use Rattle.ov_answering.specs.Lasting.{LastsAs, OpensAs}
+use Rattle.ov_answering.proofs.Loans.{lent_disk, lent_image, lent_lasts_as, lent_leaves, lent_opens}
 use Rattle.ov_load.specs.LoadEnding.{LoadEndsAs, LoadTracesAs}
 use Rattle.ov_load.specs.LoadWords.{IsLoad}
-use Rattle.ov_load.specs.Loading.{EndsLoad, ForLoad, ForLoadImage, IsComplete, KeepsSome, LastsAs, LoadsWell, after_load}
-use Rattle.ov_load.specs.Summary.{AddsUp}
+use Rattle.ov_load.specs.Loading.{EndsLoad, ForLoad, ForLoadImage, IsComplete, KeepsSome, LoadsWell, after_load}
 use Rattle.ov_load.specs.declared.load_words.Load.{Load}
 use Rattle.ov_load.proofs.Asking.{one_load}
-use Rattle.ov_load.proofs.Counting.{adds_up}
 use Rattle.ov_load.proofs.LoadEnds.{completes}
 use Rattle.ov_load.proofs.LoadTracing.{sent_lent}
 
@@ -31,25 +29,21 @@ module _ {D : Type 0} (tells : DiskTells D) (first last : MutBor D) (final : D)
 
   abbrev W : Type 0 → Type 0 → Type 0 → Masters → PlainHistory → Load → Type 0
   W key_faults out disk k h asked =
-      LoadsWell (EndsLoad asked h old new status) (AddsUp asked h) (IsComplete status key_faults out disk)
+      LoadsWell (EndsLoad asked h old new status) (IsComplete status key_faults out disk)
       (LoadTracesAs tells k h asked final t_old t_new status (Unit {0}))
       (LeavesOnly tells first.now final (KeepsSome k h asked))
       (status ≡ 0 → LastsAs tells k (after_load h asked) final)
-
-  lent_lasts_as : (k : Masters) (h : PlainHistory) → LastsAs (lent_disk tells) k h last → LastsAs tells k h last.now
-  lent_lasts_as k h l = record { image = l.image; told = l.told; reads_it = l.reads_it; leaves_it = l.leaves_it; tokens = l.tokens }
 
   well : (key_faults out disk : Type 0) → (status ≡ 4 → disk) → (status ≡ 5 → key_faults) → (status ≡ 6 → out)
       → (k : Masters) (h : PlainHistory) → E k h load → W key_faults out disk k h load
   well key_faults out disk call read write k h e = record {
     printed = e.printed;
-    sum = adds_up load h;
     complete = completes load h old new status key_faults out disk call read write e.printed;
     traced = subst (λ d. LoadTracesAs tells k h load d t_old t_new status (Unit {0})) back
         (sent_lent tells k h load last t_old t_new status (Unit {0}) e.traced);
     survives = subst (λ d. LeavesOnly tells first.now d (KeepsSome k h load)) back
         (lent_leaves tells first last (KeepsSome k h load) (e.survives tt));
-    lasts = λ zero. subst (λ d. LastsAs tells k (after_load h load) d) back (lent_lasts_as k (after_load h load) (e.lasts tt zero));
+    lasts = λ zero. subst (λ d. LastsAs tells k (after_load h load) d) back (lent_lasts_as tells k (after_load h load) last (e.lasts tt zero));
   }
 
   pub load_well : (key_faults out disk : Type 0) → (status ≡ 4 → disk) → (status ≡ 5 → key_faults) → (status ≡ 6 → out)

@@ -28,13 +28,13 @@ use Rattle.ov_machine.specs.declared.fault.StepFault.TheVariants.{Disk, Memory, 
 use Rattle.ov_machine.proofs.Stepping.{shows}
 use Rattle.ov_answering.specs.Answering.{Finishes, stop_for}
 use Rattle.ov_answering.specs.Judging.{FindsPlain, Refuses}
-use Rattle.ov_answering.specs.Lasting.{OpensAs}
+use Rattle.ov_answering.specs.Lasting.{LastsAs, OpensAs}
 use Rattle.ov_answering.specs.Printing.{IsScriptStatus, read_line}
 use Rattle.ov_answering.proofs.Beginning.{begun_holds, ends_in_fault, leaves, over_stands, serves, sound, told}
 use Rattle.ov_answering.proofs.Statuses.{ends_so, not_code, not_code_or, script_seven, script_six}
-use Rattle.ov_answering.proofs.Surviving.{none_put, not_zero, publishes_matrix}
+use Rattle.ov_answering.proofs.Surviving.{lasts_held, none_put, not_zero}
 use Rattle.ov_load.specs.LoadEnding.{LoadEndsAs, LoadTracesAs, TracedTo, TracesLoad}
-use Rattle.ov_load.specs.Loading.{EndsLoad, IsComplete, IsOfNoScript, KeepsSome, LastsAs, LoadedTo, Loads, PutsSummary, after_load}
+use Rattle.ov_load.specs.Loading.{EndsLoad, IsComplete, IsOfNoScript, KeepsSome, LoadedTo, Loads, PutsSummary, after_load}
 use Rattle.ov_load.specs.Summary.{load_lines, seven_lines}
 use Rattle.ov_load.specs.Tallying.{counted_all, none_counted}
 use Rattle.ov_load.specs.declared.load_words.Load.{Load}
@@ -133,14 +133,7 @@ module _ {D : Type 0} (tells : DiskTells D) (k : Masters) (h : PlainHistory) (lo
       printed_so n count (inr e) = inl (inr e)
 
       lasts_so : Holds tells k h first.disk → LastsAs tells k (after_load h load) last.disk
-      lasts_so holds =
-          let held = s.holds holds in record {
-            image = held.told.0;
-            told = held.told.1;
-            reads_it = held.each held.told.0 (tells.reads_one last.disk held.told.0 held.told.1);
-            leaves_it = λ c left. held.each c left;
-            tokens = publishes_matrix k (after_load h load) s.stands.0.0;
-          }
+      lasts_so holds = lasts_held tells k (after_load h load) s.stands.0.0 last.disk (s.holds holds)
 
       pub ends_loaded : (n : ℕ) → n ≡ last.kept.catalogue.epoch
           → PutsSummary load tally n old new status → TracesLoad tells k h load last.disk t_old t_new (Holds tells k h first.disk) (Ok tally)

@@ -141,7 +141,7 @@ module _ {D : Type 0} (tells : DiskTells D) (k : Masters) (h : PlainHistory) (lo
 
     keeps_at : (c : Image) → KeepsStep k (after_first h load w.place) (command_at load.number w.place) c → KeepsAt k h load w.place c
     keeps_at c (inl keeps) = inl (inr keeps)
-    keeps_at c (inr keeps) = inr (inr (subst (λ x. KeepsPlain k x c) (sym after_is) keeps))
+    keeps_at c (inr keeps) = inr (under, inr (subst (λ x. KeepsPlain k x c) (sym after_is) keeps))
 
     leaves_now : (T : Type 0) (fault : StepFault)
         → TalliesAt tells {T = T} k (after_first h load w.place) (command_at load.number w.place) before now_tally mid last (Err fault)

@@ -13,16 +13,19 @@ use Rattle.ov_history.specs.Plain.{PlainHistory}
 use Rattle.ov_transcript.specs.Transcripts.{IsTranscriptFront, Transcribed, Transcripts}
 use Rattle.ov_machine.specs.Disks.{StandsForPlain}
 use Rattle.ov_machine.specs.declared.fault.StepFault.{StepFault}
+use Rattle.ov_answering.specs.Lasting.{LastsAs}
 use Rattle.ov_answering.specs.Tracing.{TranscribesAll}
-use Rattle.ov_load.specs.Loading.{EndsLoad, KeepsSome, LastsAs, after_first, after_load}
+use Rattle.ov_load.specs.Loading.{EndsLoad, KeepsSome, after_first, after_load}
 use Rattle.ov_load.specs.declared.load_words.Load.{Load}
 use Rattle.ov_load.specs.declared.tally.Tally.{Tally}
 
--- the image stands for the history after so many first commands of the workload, or after one more
+-- the image stands for the history after so many first commands of the workload, or after one
+-- more, where the load has one more
 abbrev pub KeepsAt : Masters → PlainHistory → Load → ℕ → Image → Type 0
 KeepsAt k h load place c =
     StandsForPlain k (after_first h load place) c
-    ⊎ StandsForPlain k (after_first h load (suc place)) c
+    ⊎ ((place < WORKLOAD_USERS + load.count)
+    × StandsForPlain k (after_first h load (suc place)) c)
 
 -- a front of what is asked and replied for the command behind so many, or for the end of the load
 abbrev pub IsFrontAt : Masters → PlainHistory → Load → ℕ → List ℕ → Type 0

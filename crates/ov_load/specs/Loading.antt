@@ -1,5 +1,5 @@
 -- What a load does: the commands of a stated workload are answered, and their replies tallied.
-use Rattle.std.specs.Prelude.{◌≡◌, ◌⊎◌, ℕ, ◌+◌, ◌≤◌, List, Option, Some, IfSome}
+use Rattle.std.specs.Prelude.{◌≡◌, ◌⊎◌, ℕ, ◌+◌, ◌≤◌, List, Option, IfSome}
 use Rattle.std.specs.Prelude.{Result, Ok, Err, String}
 use Rattle.std.specs.declared.alloc.Global.{Global}
 use Rattle.sha2.specs.Hashers.{Holds256}
@@ -18,11 +18,11 @@ use Rattle.ov_model.specs.Lines.{lines}
 use Rattle.ov_model.specs.Step.{after_all, reply_to}
 use Rattle.ov_report.specs.Ends.{EndsIn, EndsOr}
 use Rattle.ov_report.specs.Faults.{disk_line, memory_line}
-use Rattle.ov_machine.specs.Disks.{Holds, KeepsPlain, StandsForPlain}
+use Rattle.ov_machine.specs.Disks.{Holds, StandsForPlain}
 use Rattle.ov_machine.specs.Machine.{AreMasters, GoesOn, KeptOn, LeavesStep, StandsFor}
 use Rattle.ov_machine.specs.declared.fault.StepFault.{StepFault}
 use Rattle.ov_machine.specs.declared.fault.StepFault.TheVariants.{Disk, Memory, Tag, Trace}
-use Rattle.ov_answering.specs.Lasting.{OpensAs, PublishesMatrix}
+use Rattle.ov_answering.specs.Lasting.{OpensAs}
 use Rattle.ov_answering.specs.Printing.{read_line}
 use Rattle.ov_load.specs.LoadWords.{IsLoad}
 use Rattle.ov_load.specs.Summary.{IsSummary, load_lines}
@@ -46,16 +46,6 @@ abbrev pub KeepsSome : Masters → PlainHistory → Load → Image → Type 0
 KeepsSome k h load c =
     (place : ℕ) × (place ≤ WORKLOAD_USERS + load.count)
     × StandsForPlain k (after_first h load place) c
-
--- What lasts of a history on a disk: as it reads, and each image that a stop may leave of it, it
--- keeps the history, so a store was begun there; and what is published after it is the matrix.
-pub record LastsAs {D : Type 0} (tells : DiskTells D) (k : Masters) (h : PlainHistory) (disk : D)
-    : Type 0 where
-  pub image : Image
-  pub told : tells.reads disk ≡ Some image
-  pub reads_it : KeepsPlain k h image
-  pub leaves_it : (c : Image) → tells.may_leave disk c → KeepsPlain k h c
-  pub tokens : PublishesMatrix k h
 
 -- ---- what is printed
 
@@ -146,12 +136,10 @@ ForLoadImage image words keys P =
     (load : Load) → IsLoad load words → IfSome keys (λ file.
     (k : Masters) → AreMasters file k → Told image (P k load.mode))
 
--- what a load promises where the disk opens: the lines that it prints, what their counts add up
--- to, its status, the frames that it sends, what a stop leaves at any moment, and what lasts at
--- status 0
-pub record LoadsWell (Lines Sum Status Frames Stops Lasts : Type 0) : Type 0 where
+-- what a load promises where the disk opens: the lines that it prints, its status, the frames that
+-- it sends, what a stop leaves at any moment, and what lasts at status 0
+pub record LoadsWell (Lines Status Frames Stops Lasts : Type 0) : Type 0 where
   pub printed : Lines
-  pub sum : Sum
   pub complete : Status
   pub traced : Frames
   pub survives : Stops

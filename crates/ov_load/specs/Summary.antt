@@ -49,9 +49,11 @@ IsSummary load t epoch text =
 abbrev pub load_counts : Load → PlainHistory → Counts
 load_counts load h = counted_all none_counted h (workload load.number load.count)
 
--- they add up to the commands, each of which is counted once
-abbrev pub AddsUp : Load → PlainHistory → Type 0
-AddsUp load h = total (load_counts load h) ≡ WORKLOAD_USERS + load.count
+-- They add up to the commands, each of which is counted once. It is a law of all loads and all
+-- histories.
+abbrev pub CountsAddUp : Type 0
+CountsAddUp =
+    (load : Load) (h : PlainHistory) → total (load_counts load h) ≡ WORKLOAD_USERS + load.count
 
 -- The lines of a load from this history on: the counts of the machine's replies to the commands of
 -- the workload, the epoch behind them, and the hash of the lines that a script of these commands is

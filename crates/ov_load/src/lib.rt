@@ -11,6 +11,7 @@
 //! | `workload` | the loop over its commands |
 //! | `tally` | what is kept of their replies |
 //! | `summary` | its seven lines |
+//! | `laws` | what its counts add up to |
 //!
 //! | definitions | what they say |
 //! |---|---|
@@ -20,10 +21,12 @@
 //! | `Tallying`, `Summary` | the counts and the hash of replies; the seven lines |
 #![tactic(auto)]
 
+mod laws;
 mod load_words;
 mod loading;
 mod summary;
 mod tally;
 mod workload;
 
+pub use laws::the_counts_add_up_to_the_commands;
 pub use loading::load;

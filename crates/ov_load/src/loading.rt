@@ -11,13 +11,12 @@ ghost use Rattle.ov_machine.specs.Machine.{AreMasters, StandsFor, plain_masters}
 ghost use Rattle.ov_answering.specs.Answering.{SaysTag};
 ghost use Rattle.ov_answering.specs.Ending.{EndsFor, FailsForFaults, JudgesImage, JudgesKeys};
 ghost use Rattle.ov_answering.specs.Ending.{LeavesAsAtStart, RefusesWords};
-ghost use Rattle.ov_answering.specs.Lasting.{OpensAs};
+ghost use Rattle.ov_answering.specs.Lasting.{LastsAs, OpensAs};
 ghost use Rattle.ov_answering.specs.Printing.{IsKeysStatus, IsScriptStatus, IsStoreStatus};
 ghost use Rattle.ov_load.specs.LoadEnding.{LoadEndsAs, LoadTracesAs};
 ghost use Rattle.ov_load.specs.LoadWords.{AreNoLoad, IsLoad};
 ghost use Rattle.ov_load.specs.Loading.{EndsLoad, ForLoad, ForLoadImage, IsComplete, IsOfNoScript};
-ghost use Rattle.ov_load.specs.Loading.{KeepsSome, LastsAs, LoadsWell, after_load};
-ghost use Rattle.ov_load.specs.Summary.{AddsUp};
+ghost use Rattle.ov_load.specs.Loading.{KeepsSome, LoadsWell, after_load};
 ghost use Rattle.ov_load.specs.declared.load_words.Load.{Load as Asked};
 
 use crate::load_words::{Load, load_of};
@@ -139,19 +138,22 @@ fn load_with_keys<K: Source, O: Sink, T: Sink, D: Disk + Drop>(
 /// the same commands has them put.
 ///
 /// * `opened`: with a disk that opens, the lines tell of the access-matrix machine's replies to
-///   just these commands, from the history for which the disk stands: their counts, which add up to
-///   the commands, the epoch and the hash of all their lines; or an error line stands alone. But
-///   for faults and want of memory the status is 0. Put to `trace` is each command's transcript in
-///   turn, then that of the end. At any moment a stop leaves the history after some first commands;
-///   at the exit it is that after commands whose transcripts were put, or after the one more of
-///   which a front was put, and just that one where the front is all of it; at status 0 the disk
-///   has it all, and the published tokens are the matrix.
+///   just these commands, from the history for which the disk stands: their counts, the epoch and
+///   the hash of all their lines; or an error line stands alone. But for faults and want of memory
+///   the status is 0. Put to `trace` is each command's transcript in turn, then that of the end. At
+///   any moment a stop leaves the history after some first commands; at the exit it is that after
+///   commands whose transcripts were put, or after the one more of which a front was put, and just
+///   that one where the front is all of it; at status 0 the disk has it all, and what its image
+///   publishes is the matrix.
 /// * `image`: a disk that doesn't open for these masters and this mode is refused, and nothing is
 ///   sent or written.
 /// * `keys`: without a key file the disk is left as it is, and nothing is sent.
 /// * `words`: other words are refused, and all files are left as they are.
 /// * `causes`: a fault is answered only where its count of faults rose, and a wrong tag only with
 ///   its line, and never where the disk tells its bytes.
+///
+/// That the four counts add up to the commands is a law of them,
+/// [`crate::the_counts_add_up_to_the_commands`].
 ///
 /// The clauses on what is printed, on the key file and the disk hold where the source, the sink and
 /// the disk tell their bytes; those on the counts of faults hold always.
@@ -165,7 +167,6 @@ pub fn load<K: Source, O: Sink, T: Sink, D: Disk>(
 ) -> u8
     ensures opened { ForLoad D.tells disk.old words.now (K.tells.left keys.old) (λ k h load.
         LoadsWell (EndsLoad load h (O.tells.written out.old) (O.tells.written out.new) result)
-        (AddsUp load h)
         (IsComplete result (Rose (K.tells.faults keys.old) (K.tells.faults keys.new))
         (Rose (O.tells.faults out.old) (O.tells.faults out.new)
         ⊎ Rose (T.tells.faults trace.old) (T.tells.faults trace.new))

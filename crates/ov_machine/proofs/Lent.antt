@@ -31,6 +31,7 @@ use Rattle.ov_machine.proofs.Done.{change_done, change_proper}
 use Rattle.ov_machine.proofs.Ending.{is_link}
 use Rattle.ov_machine.proofs.Seating.{grew_so, keys_so, lent_so, traced_seat}
 use Rattle.ov_machine.proofs.Stepping.{machine_of}
+use Rattle.ov_machine.proofs.TagReplies.{change_names}
 
 -- a store with these keys is that of the machine with these masters
 pub opens_as : {D : Type 0} (k : Masters) (s : Opened D) → s.keys ≡ keys_of k
@@ -143,6 +144,7 @@ module _ {D T : Type 0} (tells : DiskTells D) (sink : SinkTells T) where
           step = is.step;
           sink = subst (λ (x : T). PutsTo sink (change_reply made ≡ Err Trace) t_old x) put_b
               (subst (λ (x : T). PutsTo sink (change_reply made ≡ Err Trace) x b.sink.now) put_a puts);
+          tag = change_names command made;
         })
 
     -- the same of a machine that is seen so

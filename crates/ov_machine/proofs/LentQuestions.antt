@@ -44,6 +44,7 @@ use Rattle.ov_machine.proofs.Lent.{IsWhole, Lent, keeps_keys, lent, loan_of, ope
 use Rattle.ov_machine.proofs.Listing.{hello_plain, key_plain, list_plain}
 use Rattle.ov_machine.proofs.Questioning.{IsPlainQuestion, once_asks}
 use Rattle.ov_machine.proofs.Stepping.{machine_of}
+use Rattle.ov_machine.proofs.TagReplies.{NamesFile, epoch_names, fault_names, list_names, read_names}
 
 -- ---- which fault is one of the trace
 
@@ -119,8 +120,8 @@ module _ {D T : Type 0} (tells : DiskTells D) (sink : SinkTells T) (k : Masters)
   -- what is done is the whole, where the sink was put to so
   whole_so : (command : Command) (b : Peer) (t_old t_new : T) (r : Result Reply StepFault)
       → DoneBy command b r → PutsTo sink (r ≡ Err Trace) a.sink.now b.sink.now
-      → a.sink.now ≡ t_old → b.sink.now ≡ t_new → Whole command b t_old t_new r
-  whole_so command b t_old t_new r is puts put_a put_b =
+      → a.sink.now ≡ t_old → b.sink.now ≡ t_new → NamesFile command r → Whole command b t_old t_new r
+  whole_so command b t_old t_new r is puts put_a put_b names =
       subst (λ (m : KeptOn D). IsWhole tells sink
       command m (machine_of k b.peer.now) t_old t_new r) seen
       (record {
@@ -132,6 +133,7 @@ module _ {D T : Type 0} (tells : DiskTells D) (sink : SinkTells T) (k : Masters)
         step = is.step;
         sink = subst (λ (x : T). PutsTo sink (r ≡ Err Trace) t_old x) put_b
             (subst (λ (x : T). PutsTo sink (r ≡ Err Trace) x b.sink.now) put_a puts);
+        tag = names;
       })
 
   -- ---- one question
@@ -183,7 +185,7 @@ module _ {D T : Type 0} (tells : DiskTells D) (sink : SinkTells T) (k : Masters)
         (hello_done tells _ _ _ _ (seat tells sink) a b told form asks (machine_of k s) (machine_of k b.peer.now) at_old
         (opens_as k b.peer.now hello_keys) refl)
         (once_puts requests.Hello welcome_in (hello_plain form) b told asks (epoch_reply told) cause
-        (epoch_link told hello_fault)) put_a put_b)
+        (epoch_link told hello_fault)) put_a put_b (epoch_names commands.Epoch told))
 
   -- ---- lists
 
@@ -207,7 +209,7 @@ module _ {D T : Type 0} (tells : DiskTells D) (sink : SinkTells T) (k : Masters)
         (list_done tells _ _ _ _ (seat tells sink) file a b told form asks (machine_of k s) (machine_of k b.peer.now) at_old
         (opens_as k b.peer.now list_keys) refl)
         (once_puts (requests.List file) names_in (list_plain file form) b told asks (names_reply file told)
-        cause (names_link file told list_fault)) put_a put_b)
+        cause (names_link file told list_fault)) put_a put_b (list_names (commands.List file) file told))
 
   -- ---- reads
 
@@ -235,7 +237,7 @@ module _ {D T : Type 0} (tells : DiskTells D) (sink : SinkTells T) (k : Masters)
             (opens_as k b.peer.now unread_keys) refl)
             (once_puts (requests.Ask (questions.Key user)) (reader_in k user) (key_plain user form) b
             (Err fault) asks (fault_reply fault) cause
-            (λ is. ap Err (fault_link fault unread_fault is))) put_a put_b)
+            (λ is. ap Err (fault_link fault unread_fault is))) put_a put_b (fault_names (commands.Read user file) fault))
 
       module _ (r : Reader) (found : Result (List ℕ) ClientFault) (d : Peer)
           (asks : AsksIt (requests.Ask (questions.Key user)) (reader_in k user) a b (Ok r))
@@ -278,7 +280,7 @@ module _ {D T : Type 0} (tells : DiskTells D) (sink : SinkTells T) (k : Masters)
             (whole_so (commands.Read user file) d t_old t_new (read_reply user file found)
             (read_done tells _ _ _ _ (seat tells sink) k user file a b form r found d asks talk sizes_a sound_a (machine_of k s) (machine_of k d.peer.now) refl
             at_old (opens_as k d.peer.now read_keys) refl)
-            (read_puts cause) put_a put_d)
+            (read_puts cause) put_a put_d (read_names user file found))
 
   -- whatever came of it
   module _ (user file : List ℕ) (form : HasRequestForm (requests.Ask (questions.Key user)))

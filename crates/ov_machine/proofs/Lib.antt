@@ -18,6 +18,7 @@ pub mod ReadingBack
 pub mod Seating
 pub mod Staying
 pub mod Stepping
+pub mod TagReplies
 pub mod Transcripts
 pub mod UpdatePut
 pub mod UpdateReplies

@@ -11,7 +11,7 @@ use Rattle.ov_history.specs.Plain.{PlainHistory}
 use Rattle.ov_machine.specs.Machine.{AreMasters}
 use Rattle.ov_answering.specs.Ending.{EndsAs, JudgesImage, LeavesAsAtStart}
 use Rattle.ov_answering.specs.Lasting.{Endures, Lasts, OpensAs, Survives}
-use Rattle.ov_answering.proofs.Loans.{lent_disk, lent_image, lent_leaves, lent_opens}
+use Rattle.ov_answering.proofs.Loans.{lent_disk, lent_image, lent_lasts_as, lent_leaves, lent_opens}
 use Rattle.ov_run.specs.Running.{ForImage, FromEach, IsDecided, PrintsAs, RunsWell}
 use Rattle.ov_run.specs.Words.{IsRun}
 use Rattle.ov_run.proofs.Promises.{decided, one_mode, prints_as}
@@ -52,7 +52,7 @@ module _ {D : Type 0} (tells : DiskTells D) where
   pub lent_lasts : (k : Masters) (p : PlainHistory) (text : List ℕ) (last : MutBor D) → Lasts (lent_disk tells) k p text last
       → Lasts tells k p text last.now
   lent_lasts k p text last l =
-      record { commands = l.commands; whole = l.whole; image = l.image; told = l.told; reads_it = l.reads_it; leaves_it = l.leaves_it; tokens = l.tokens }
+      record { commands = l.commands; whole = l.whole; lasts = lent_lasts_as tells k _ last l.lasts }
 
   -- from what holds in the mode that was found
   from_each : (loan : MutBor D) (words : List (String Global)) (keys input : Option (List ℕ)) (mode : Mode) → IsRun mode words

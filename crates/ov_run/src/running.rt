@@ -9,6 +9,7 @@ ghost use Rattle.ov_machine.specs.Disks.{Holds, TellsNothing};
 ghost use Rattle.ov_machine.specs.Machine.{AreMasters, StandsFor, plain_masters};
 ghost use Rattle.ov_answering.specs.Answered.{AnswersText};
 ghost use Rattle.ov_answering.specs.Answering.{SaysTag};
+ghost use Rattle.ov_answering.specs.ByScript.{EndsByScript};
 ghost use Rattle.ov_answering.specs.Ending.{EndsFor, FailsForFaults, JudgesImage, JudgesKeys};
 ghost use Rattle.ov_answering.specs.Ending.{LeavesAsAtStart, RefusesWords};
 ghost use Rattle.ov_answering.specs.Lasting.{Endures, OpensAs};
@@ -56,6 +57,8 @@ fn answer_script<I: Source, O: Sink, T: Sink, D: Disk>(
         (O.tells.written out.old) (O.tells.written out.new)
         (T.tells.written trace.old) (T.tells.written trace.new)
         (Holds D.tells k p machine.old.disk)) }
+    ensures script { IfSome (I.tells.left input.old) (λ text.
+        EndsByScript text result (O.tells.written out.old) (O.tells.written out.new)) }
     ensures causes { EndsFor D.tells machine.old.disk machine.new.disk result
         (Rose (I.tells.faults input.old) (I.tells.faults input.new))
         (Rose (O.tells.faults out.old) (O.tells.faults out.new)
@@ -91,6 +94,8 @@ fn answer_over<I: Source, O: Sink, T: Sink, D: Disk + Drop>(
         → IfSome (I.tells.left input.old) (λ text. AnswersText D.tells I.tells k p text result.0
         disk result.1 input.old input.new (O.tells.written out.old) (O.tells.written out.new)
         (T.tells.written trace.old) (T.tells.written trace.new) (Unit {0})) }
+    ensures script { IfSome (I.tells.left input.old) (λ text.
+        EndsByScript text result.0 (O.tells.written out.old) (O.tells.written out.new)) }
     ensures image { let k = plain_masters masters in
         Told (D.tells.reads disk) (λ i. JudgesImage k mode i result.0
         (O.tells.written out.old) (O.tells.written out.new)
@@ -130,6 +135,8 @@ fn answer_with_keys<K: Source, I: Source, O: Sink, T: Sink, D: Disk + Drop>(
         → AnswersText D.tells I.tells k p text result.0
         disk result.1 input.old input.new (O.tells.written out.old) (O.tells.written out.new)
         (T.tells.written trace.old) (T.tells.written trace.new) (Unit {0}))) }
+    ensures script { IfSome (I.tells.left input.old) (λ text.
+        EndsByScript text result.0 (O.tells.written out.old) (O.tells.written out.new)) }
     ensures image { IfSome (K.tells.left keys.old) (λ file. (k : PlainMasters) → AreMasters file k
         → Told (D.tells.reads disk) (λ i. JudgesImage k mode i result.0
         (O.tells.written out.old) (O.tells.written out.new)
@@ -163,16 +170,22 @@ fn answer_with_keys<K: Source, I: Source, O: Sink, T: Sink, D: Disk + Drop>(
 ///   more of the script is taken than its command needs; put to `trace` is each command's
 ///   transcript in turn, then that of the end, and nothing else; and whatever the status, a stop
 ///   leaves what was acknowledged, and at most one update more: at the end of the script the disk
-///   has it all, and the published tokens are the matrix.
+///   has it all, and what its image publishes is the matrix.
 /// * `image`: a disk that doesn't open for these masters and this mode is refused, the script isn't
 ///   read, and nothing is sent or written.
 /// * `keys`: without a key file the script and the disk are left as they are, and nothing is sent.
+/// * `script`: also over a disk that tells nothing, as one of real files, the script is read as the
+///   grammar says. A run ends well only at the script's end, in `error line N` only where a bad item
+///   stands on line N, and in `error long` only at the limit. Each command before has had one reply
+///   line. A wrong tag is said of a file only for a read of it behind those commands, which has had
+///   none.
 /// * `words`: other words are refused, and all files are left as they are.
 /// * `causes`: a fault is answered only where its count of faults rose, and a wrong tag only with
 ///   its line, and never where the disk tells its bytes.
 ///
-/// The clauses on what is printed, on the script, the key file and the disk hold where the sources,
-/// the sink and the disk tell their bytes; those on the counts of faults hold always. Each update
+/// A clause on the bytes of a source, the sink or the disk holds where that one tells them: `opened`
+/// and `image` where the disk does too, and `script`, `keys` and `words` whatever the disk tells.
+/// Those on the counts of faults hold always. Each update
 /// is on the disk before its reply line is put, and each line is put by itself.
 pub fn run<K: Source, I: Source, O: Sink, T: Sink, D: Disk>(
     alloc: Global,
@@ -203,6 +216,8 @@ pub fn run<K: Source, I: Source, O: Sink, T: Sink, D: Disk>(
     ensures keys { JudgesKeys ((mode : Mode) × IsRun mode words.now) (K.tells.left keys.old) result
         (O.tells.written out.old) (O.tells.written out.new)
         ((input.new ≡ input.old) × (trace.new ≡ trace.old) × (disk.new ≡ disk.old)) }
+    ensures script { IfSome (I.tells.left input.old) (λ text.
+        EndsByScript text result (O.tells.written out.old) (O.tells.written out.new)) }
     ensures words { RefusesWords (AreOther words.now) result
         (O.tells.written out.old) (O.tells.written out.new)
         ((keys.new ≡ keys.old) × (input.new ≡ input.old) × (trace.new ≡ trace.old)

@@ -5,6 +5,7 @@ use Rattle.ov_answering.specs.Answering.{Answers}
 use Rattle.ov_answering.specs.Tracing.{TracesLine}
 use Rattle.ov_answering.specs.declared.answer.Stop.{Stop}
 use Rattle.ov_answering.proofs.Answering.{disk_so, if_none, never_read, never_write, put_grows, put_never, put_no_trace, put_so, tag_so, trace_so, unanswered_so}
+use Rattle.ov_answering.proofs.ByScript.{replied_puts, unanswered_puts}
 use Rattle.ov_answering.proofs.Tracing.{fault_traced, line_traced}
 use Rattle.ov_answering.proofs.answer.answer.Goals as goal
 
@@ -19,6 +20,14 @@ returns-in-Err-clause-answer g c = λ k p at stands.
     (g.O.Sink.tells.written c.args.out.now) (g.O.Sink.tells.written c.args.out.now) c.args.machine.now c.step.new.self) (sym c.stop_of.ensures)
     (unanswered_so g.D.Disk.tells k p c.args.command c.args.machine.now c.step.new.self c.in-Err.fault
     (g.O.Sink.tells.written c.args.out.now) (c.in-Err.ensures.steps k p at stands))
+
+pub returns-in-Ok-clause-puts : goal.returns-in-Ok-clause-puts
+returns-in-Ok-clause-puts g c = replied_puts c.args.command c.in-Ok.reply c.put_reply.result _ _ c.put_reply.ensures.put
+
+pub returns-in-Err-clause-puts : goal.returns-in-Err-clause-puts
+returns-in-Err-clause-puts g c =
+    unanswered_puts c.args.command c.in-Err.fault c.stop_of.result (g.O.Sink.tells.written c.args.out.now) c.stop_of.ensures
+    (λ bad e. c.in-Err.ensures.tag bad (ap Err e))
 
 pub returns-in-Ok-clause-step : goal.returns-in-Ok-clause-step
 returns-in-Ok-clause-step g c =

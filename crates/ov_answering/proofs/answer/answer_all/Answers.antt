@@ -2,9 +2,10 @@ use Rattle.std.proofs.KnownBytes.{Appends-nil}
 use Rattle.std.specs.Prelude.{Err}
 use Rattle.std.proofs.Common.{[], ap, arith, ◌∙◌, Some, refl, sym}
 use Rattle.std.proofs.lemmas.Grind.{common_steps}
-use Rattle.ov_script.specs.Reading.{BadAt, TooLong}
+use Rattle.ov_script.specs.Reading.{AtEnd, BadAt, TooLong}
 use Rattle.ov_answering.proofs.Answered.{text_stops}
 use Rattle.ov_answering.proofs.Answering.{answered, answered_end, answered_first, answered_more, answer_stops, begins_so, commands_come, disk_only, end_stops, end_tag, goes_on, grows_on, kept_more, no_write, rose_since, starts_fresh, tag_at_none, tag_only, trace_only}
+use Rattle.ov_answering.proofs.ByScript.{end_unanswered, none_read_yet, read_ends, read_first, read_more, read_stops}
 use Rattle.ov_answering.proofs.Pacing.{command_goes_on, none_pending, none_yet, paced_more, paced_next}
 use Rattle.ov_answering.proofs.Tracing.{none_traced, traced_end, traced_end_stops, traced_first, traced_more, traced_stops, traced_whole}
 use Rattle.ov_answering.proofs.answer.answer_all.Goals as goal
@@ -14,6 +15,7 @@ items-init g c = record {
   so_far = λ p stands.
       begins_so g.D.Disk.tells c.args.machine.now.kept.masters p c.args.machine.now stands
       _ _ _ _ (starts_fresh _ c.requires.start).0 (starts_fresh _ c.requires.start).1;
+  read = none_read_yet _ _ _ _ (starts_fresh _ c.requires.start).0 (starts_fresh _ c.requires.start).1;
   paced = λ p stands. none_yet g.S.Source.tells p _ _ _ _;
   kept = λ p stands. (p, stands);
   masters = grind (arith, common_steps);
@@ -48,6 +50,8 @@ items-preserved g c = record {
   so_far = λ p stands.
       answered_more g.D.Disk.tells _ p _ _ c.items.invariant.masters _ _ _ _ _ _ _ _ _ _ _ _
       (c.items.invariant.so_far p stands) (rw c.in-Ok-Command.field-0-is at (c.in-Ok-Command.ensures.says c.items.invariant.ended)) c.in-None.ensures.answer;
+  read = read_more _ _ _ _ _ _ _ _ _ _ _
+      c.items.invariant.read (rw c.in-Ok-Command.field-0-is at (c.in-Ok-Command.ensures.says c.items.invariant.ended)) c.in-None.ensures.puts;
   paced = λ p stands.
       paced_more g.S.Source.tells p g.D.Disk.tells _ _ _ _ _ _ _ _ _ _ _ _ _ _ _
       (none_pending _ c.requires.start) (c.items.invariant.so_far p stands) (c.items.invariant.paced p stands) c.in-Ok-Command.ensures.needed c.in-None.ensures.sinks.0.grew
@@ -109,6 +113,41 @@ returns-in-Err-Memory-clause-text g c = λ p stands.
     (paced_next g.S.Source.tells p g.D.Disk.tells _ _ _ _ _ _ _ _ _ _ _ _ _ _ _
     (none_pending _ c.requires.start) (c.items.invariant.so_far p stands) (c.items.invariant.paced p stands) c.in-Err-Memory.ensures.needed ([], Appends-nil _))
     (traced_first _ p _ c.items.invariant.masters _ _ _ _ _ _ _ _ (c.items.invariant.traced p stands))
+
+-- ---- what the script says
+
+pub returns-in-Some-clause-script : goal.returns-in-Some-clause-script
+returns-in-Some-clause-script g c =
+    read_stops _ _ _ _ _ _ _ _ _ _ _ c.in-Some.stop
+    c.items.invariant.read (rw c.in-Ok-Command.field-0-is at (c.in-Ok-Command.ensures.says c.items.invariant.ended)) c.in-Some.ensures.puts
+
+pub returns-in-Ok-BadLine-clause-script : goal.returns-in-Ok-BadLine-clause-script
+returns-in-Ok-BadLine-clause-script g c =
+    read_ends _ _ _ _ _ _ (BadAt c.in-Ok-BadLine.line)
+    c.items.invariant.read (rw c.in-Ok-BadLine.field-0-is at (c.in-Ok-BadLine.ensures.says c.items.invariant.ended))
+
+pub returns-in-Ok-Long-clause-script : goal.returns-in-Ok-Long-clause-script
+returns-in-Ok-Long-clause-script g c =
+    read_ends _ _ _ _ _ _ TooLong
+    c.items.invariant.read (rw c.in-Ok-Long.field-0-is at (c.in-Ok-Long.ensures.says c.items.invariant.ended))
+
+pub returns-in-Err-Read-clause-script : goal.returns-in-Err-Read-clause-script
+returns-in-Err-Read-clause-script g c = read_first _ _ _ _ _ _ c.items.invariant.read
+
+pub returns-in-Err-Memory-clause-script : goal.returns-in-Err-Memory-clause-script
+returns-in-Err-Memory-clause-script g c = read_first _ _ _ _ _ _ c.items.invariant.read
+
+pub returns-in-Ok-clause-script : goal.returns-in-Ok-clause-script
+returns-in-Ok-clause-script g c =
+    read_ends _ _ _ _ _ _ AtEnd
+    c.items.invariant.read (rw c.in-Ok-End.field-0-is at (c.in-Ok-End.ensures.says c.items.invariant.ended))
+
+pub returns-in-Err-clause-script : goal.returns-in-Err-clause-script
+returns-in-Err-clause-script g c =
+    end_unanswered _ _ _ _ _ _ c.in-Err.fault c.stop_of.result c.stop_of.ensures
+    c.items.invariant.read (λ bad e. c.in-Err.ensures.tag bad (ap Err e))
+
+-- ---- the disk and the sinks
 
 pub returns-in-Some-clause-machine : goal.returns-in-Some-clause-machine
 returns-in-Some-clause-machine g c = record {

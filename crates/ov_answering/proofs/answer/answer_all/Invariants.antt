@@ -6,6 +6,7 @@ use Rattle.ov_machine.specs.Machine.{StandsFor}
 use Rattle.ov_machine.specs.Sinks.{Grows}
 use Rattle.ov_answering.specs.Answering.{SoFar}
 use Rattle.ov_answering.specs.Tracing.{TracesSoFar}
+use Rattle.ov_answering.proofs.ByScript.{IsReadSoFar}
 use Rattle.ov_answering.proofs.Pacing.{IsPacedSoFar}
 use Rattle.ov_answering.proofs.answer.answer_all.Given as goal
 
@@ -14,6 +15,8 @@ invariant-items g l = record {
   so_far : (p : PlainHistory) → StandsFor l.fn.machine.kept p → IfSome (text_left g.S.Source.tells l.fn.script) (λ text.
       SoFar g.D.Disk.tells l.fn.machine.kept.masters p text
       (text_left g.S.Source.tells l.script) l.script.line l.script.room (g.O.Sink.tells.written l.fn.out) (g.O.Sink.tells.written l.out) l.fn.machine l.machine);
+  read : IfSome (text_left g.S.Source.tells l.fn.script) (λ text.
+      IsReadSoFar text (text_left g.S.Source.tells l.script) l.script.line l.script.room (g.O.Sink.tells.written l.fn.out) (g.O.Sink.tells.written l.out));
   paced : (p : PlainHistory) → StandsFor l.fn.machine.kept p → IfSome (text_left g.S.Source.tells l.fn.script) (λ _.
       IsPacedSoFar g.S.Source.tells p l.fn.script.source l.script.source (g.O.Sink.tells.written l.fn.out) (g.O.Sink.tells.written l.out));
   kept : (p : PlainHistory) → StandsFor l.fn.machine.kept p

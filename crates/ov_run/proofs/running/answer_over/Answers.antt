@@ -9,6 +9,7 @@ use Rattle.ov_answering.specs.Printing.{IsStoreStatus}
 use Rattle.ov_answering.specs.Tracing.{TracesAs}
 use Rattle.ov_answering.proofs.Answered.{ends_of_run, pace_of_run, text_answers, trace_of_run}
 use Rattle.ov_answering.proofs.Beginning.{disk_said, ends_in_fault, over_begun, over_refused, over_stands, tells_nothing}
+use Rattle.ov_answering.proofs.EndingByScript.{fault_at_once}
 use Rattle.ov_answering.proofs.Judging.{judged_open, judged_refused}
 use Rattle.ov_answering.proofs.Pacing.{untouched}
 use Rattle.ov_answering.proofs.Statuses.{ends_or_so, fault_no_read, fault_no_tag, fault_so, not_refused, script_seven, script_six}
@@ -59,6 +60,12 @@ returns-in-Err-clause-text g c = λ p opens.
     (ends_in_fault c.in-Err.refused.fault _ _ _
     ((c.in-Err.ensures.fault opens.image opens.told).opens (p, opens.legal, opens.mode_is, opens.stands))
     c.put_fault.ensures.ends))
+
+pub returns-in-Ok-clause-script : goal.returns-in-Ok-clause-script
+returns-in-Ok-clause-script g c = c.answer_script-code.ensures.script
+
+pub returns-in-Err-clause-script : goal.returns-in-Err-clause-script
+returns-in-Err-clause-script g c = fault_at_once (g.I.Source.tells.left c.args.input.now) _ _ _ c.in-Err.refused.fault c.put_fault.ensures.ends
 
 pub returns-in-Ok-clause-image : goal.returns-in-Ok-clause-image
 returns-in-Ok-clause-image g c = λ i told.

@@ -4,6 +4,7 @@ use Rattle.ov_machine.specs.Machine.{StandsFor}
 use Rattle.ov_answering.specs.Printing.{IsScriptStatus}
 use Rattle.ov_answering.specs.declared.answer.Stop.TheVariants.{Memory}
 use Rattle.ov_answering.proofs.Answered.{pace_of_text, stop_of_text, text_answers, trace_of_text}
+use Rattle.ov_answering.proofs.EndingByScript.{finish_by_script, memory_at_once}
 use Rattle.ov_answering.proofs.Pacing.{finish_grows, paced_lent, paced_then, untouched}
 use Rattle.ov_answering.proofs.Statuses.{ends_so, finish_disk, finish_read, finish_tag, finishes_so, memory_not, rose_after, rose_lent, script_seven, script_six}
 use Rattle.ov_answering.proofs.Surviving.{ends_all, ends_unread}
@@ -27,6 +28,14 @@ returns-in-Err-clause-text g c = λ p stands.
     (ends_unread g.D.Disk.tells _ p (g.I.Source.tells.left c.args.input.now) _ _ _ _ c.put_memory.ensures.ends)
     (untouched g.I.Source.tells p _ _ _ _)
     (untraced_all _ p (g.I.Source.tells.left c.args.input.now) _ _ _ _ Memory (λ text first. first) c.put_memory.ensures.ends)
+
+pub returns-clause-script : goal.returns-clause-script
+returns-clause-script g c =
+    finish_by_script (g.I.Source.tells.left c.args.input.now) _ _ _ c.answer_all-stop.result c.epoch.result c.finish.result
+    (rw c.over-script.ensures at c.answer_all-stop.ensures.script) c.finish.ensures.finish (λ bad is. (c.answer_all-stop.ensures.machine.tag bad is).0)
+
+pub returns-in-Err-clause-script : goal.returns-in-Err-clause-script
+returns-in-Err-clause-script g c = memory_at_once (g.I.Source.tells.left c.args.input.now) _ _ _ c.put_memory.ensures.ends
 
 pub returns-clause-status : goal.returns-clause-status
 returns-clause-status g c = finishes_so _ _ _ _ _ c.finish.ensures.finish

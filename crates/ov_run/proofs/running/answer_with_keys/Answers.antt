@@ -9,6 +9,7 @@ use Rattle.ov_answering.specs.Ending.{JudgesImage, LeavesAsAtStart}
 use Rattle.ov_answering.specs.Lasting.{OpensAs}
 use Rattle.ov_answering.specs.Printing.{IsKeysStatus}
 use Rattle.ov_answering.specs.declared.answer.Stop.TheVariants.{Read}
+use Rattle.ov_answering.proofs.EndingByScript.{keys_at_once, read_at_once}
 use Rattle.ov_answering.proofs.Judging.{judged_unread}
 use Rattle.ov_answering.proofs.KeyFiles.{ends_untouched, from_all, from_none, from_read, image_all, image_none, image_read}
 use Rattle.ov_answering.proofs.Pacing.{untaken}
@@ -62,6 +63,15 @@ returns-in-Err-clause-text g c =
       paced = untaken g.I.Source.tells p _ _ _;
       traced = untraced k p text _ _ _ _ Read (λ first. first) c.put_last-in-Err.ensures.ends;
     })
+
+pub returns-in-Ok-Some-clause-script : goal.returns-in-Ok-Some-clause-script
+returns-in-Ok-Some-clause-script g c = c.answer_over.ensures.script
+
+pub returns-in-Ok-None-clause-script : goal.returns-in-Ok-None-clause-script
+returns-in-Ok-None-clause-script g c = keys_at_once (g.I.Source.tells.left c.args.input.now) _ _ _ c.put_last.ensures.ends
+
+pub returns-in-Err-clause-script : goal.returns-in-Err-clause-script
+returns-in-Err-clause-script g c = read_at_once (g.I.Source.tells.left c.args.input.now) _ _ _ c.put_last-in-Err.ensures.ends
 
 pub returns-in-Ok-Some-clause-image : goal.returns-in-Ok-Some-clause-image
 returns-in-Ok-Some-clause-image g c =

@@ -4,6 +4,7 @@ use Rattle.ov_history.specs.Plain.{PlainHistory}
 use Rattle.ov_answering.specs.Pacing.{IsPaced}
 use Rattle.ov_answering.specs.Tracing.{TracesAs}
 use Rattle.ov_answering.proofs.Answered.{ends_of_each, pace_of_each, trace_of_each}
+use Rattle.ov_answering.proofs.EndingByScript.{usage_at_once}
 use Rattle.ov_answering.proofs.Loans.{lent_disk}
 use Rattle.ov_answering.proofs.Statuses.{judged_so, judged_unasked, words_refused}
 use Rattle.ov_run.proofs.Lending.{lent_each, run_decides, run_endures, run_image, run_prints, runs_well}
@@ -60,6 +61,12 @@ returns-in-Some-clause-causes g c =
 pub returns-in-Some-clause-keys : goal.returns-in-Some-clause-keys
 returns-in-Some-clause-keys g c =
     judged_so _ _ _ _ _ _ _ c.answer_with_keys.ensures.keys (λ untouched. search rules)
+
+pub returns-in-Some-clause-script : goal.returns-in-Some-clause-script
+returns-in-Some-clause-script g c = c.answer_with_keys.ensures.script
+
+pub returns-in-None-clause-script : goal.returns-in-None-clause-script
+returns-in-None-clause-script g c = usage_at_once (g.I.Source.tells.left c.args.input.now) _ _ _ c.put_last.ensures.ends
 
 pub returns-in-None-clause-opened : goal.returns-in-None-clause-opened
 returns-in-None-clause-opened g c = λ mode is. absurd (c.in-None.ensures.none mode is)
