@@ -1,4 +1,4 @@
-use Rattle.std.proofs.Common.{◌∙◌}
+use Rattle.std.proofs.Common.{◌∙◌, inl, inr}
 use Rattle.ov_session.proofs.putting.put_frame.Goals as goal
 
 pub returns-clause-puts : goal.returns-clause-puts
