@@ -151,6 +151,7 @@ fn each_row_in_pieces_of_each_size(rt: HostRuntime) -> Result<(), Fail> {
 }
 
 /// A gate that counts the requests that come to it, and keeps the numbers of the last one.
+#[derive(Drop)]
 struct Counter {
     requests: Cell<u8>,
     last: Cell<(u32, u32)>,
