@@ -3,6 +3,7 @@ pub mod Causes
 pub mod Disks
 pub mod Exchanges
 pub mod Fixed
+pub mod Framing
 pub mod Laws
 pub mod Leaving
 pub mod Spellings

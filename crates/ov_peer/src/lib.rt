@@ -14,6 +14,7 @@
 //! clauses hold of it with nothing told.
 //!
 //! * [`exchange`] writes a request, asks it, and reads the answer.
+//! * [`put_frame`] puts a frame to a sink behind its length field, a short one in one call.
 //! * [`Traced`] puts each frame of a peer to a sink, and tells what its peer tells.
 //! * [`FixedPeer`] gives the replies that it was made with, and fails where it is told to.
 //! * `&mut P` is a peer where `P` is one.
@@ -23,6 +24,7 @@
 //! | `Asks` | lists of asks; replies of a peer that tells its history |
 //! | `Causes` | a fault of the link comes only where the count of faults rose |
 //! | `Disks` | which requests need the server's disk, and how a fault of it is told |
+//! | `Framing` | how often a frame is put |
 //! | `Exchanges` | one request, and the answer that is read |
 //! | `Spellings` | which updates a list of asks made, by their spellings |
 //! | `Tells` | what the outside tells: a peer, a peer behind a `&mut`, and what answers frames |
@@ -33,6 +35,7 @@ mod answerer;
 mod asking;
 mod fault;
 mod fixed;
+mod framing;
 mod laws;
 mod peer;
 mod traced;
@@ -41,6 +44,7 @@ pub use answerer::{Answerer, is_accepted};
 pub use asking::exchange;
 pub use fault::{ExchangeFault, PeerFault};
 pub use fixed::FixedPeer;
+pub use framing::put_frame;
 pub use laws::asks_are_told;
 pub use peer::Peer;
 pub use traced::Traced;

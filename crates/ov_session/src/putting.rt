@@ -5,8 +5,7 @@ ghost use Rattle.ov_session.specs.Steps.{PutsFrame};
 
 use ov_io::{Fault, Stream};
 
-/// Puts a frame behind its length field. No memory is taken for it, so that an answer that was
-/// given is sent.
+/// Puts a frame behind its length field, and leaves the other half of the stream as it is.
 pub fn put_frame<L: Stream>(stream: &mut L, frame: &[u8]) -> Result<(), Fault>
     requires { IsFrame frame.now }
     ensures puts { PutsFrame
@@ -14,8 +13,5 @@ pub fn put_frame<L: Stream>(stream: &mut L, frame: &[u8]) -> Result<(), Fault>
         frame.now result }
     ensures same { IsSameLoan L.Source.tells L.Sink.tells stream.old stream.new }
 {
-    match stream.put(&(frame.len() as u32).to_be_bytes()) {
-        Ok(()) => stream.put(frame),
-        Err(Fault) => Err(Fault),
-    }
+    ov_peer::put_frame(stream, frame)
 }

@@ -218,19 +218,30 @@ fn a_fault_at_each_call(rt: HostRuntime) -> Result<(), Fail> {
     let alloc = rt.alloc();
     let input: [u8; 11] = [0, 0, 0, 1, 7, 0, 0, 0, 2, 8, 9];
     let whole: [u8; 13] = [0, 0, 0, 2, 0x86, 7, 0, 0, 0, 3, 0x86, 8, 9];
-    // How many bytes were written before each of the four calls that write.
-    let fronts: [usize; 4] = [0, 4, 6, 10];
+    // How many bytes were written before each of the two calls that write.
+    let fronts: [usize; 2] = [0, 6];
     for call in 0..3u8 {
         let mut stream = stream(alloc, &input, 6, &[call], &[])?;
         assert_eq!(rt; serve(&rt, alloc, &mut stream), SessionEnd::LinkFault);
         let written = stream.sink.written();
         assert_eq!(rt; written, &whole[..written.len().min(13)]);
     }
-    for call in 0..4u8 {
+    for call in 0..2u8 {
         let mut stream = stream(alloc, &input, 64, &[], &[call])?;
         assert_eq!(rt; serve(&rt, alloc, &mut stream), SessionEnd::LinkFault);
         assert_eq!(rt; stream.sink.written().len(), fronts[call as usize]);
     }
+    Ok(())
+}
+
+#[test]
+fn a_fault_between_a_length_and_its_long_frame(rt: HostRuntime) -> Result<(), Fail> {
+    let alloc = rt.alloc();
+    let mut input = [7; 604];
+    input[..4].copy_from_slice(&[0, 0, 2, 88]);
+    let mut stream = stream(alloc, &input, 64, &[], &[1])?;
+    assert_eq!(rt; serve(&rt, alloc, &mut stream), SessionEnd::LinkFault);
+    assert_eq!(rt; stream.sink.written(), [0, 0, 2, 89].as_slice());
     Ok(())
 }
 
