@@ -5,6 +5,8 @@ ghost use Rattle.ov_base.specs.Causes.{Rose};
 use crate::log::Log;
 use crate::stream::LoggedStream;
 use crate::texts::on_end;
+use crate::told;
+use ov_base::Mode;
 use ov_io::{Fault, StdStream};
 use ov_session::{Door, SessionEnd, TcpDoor};
 use std::fmt;
@@ -22,15 +24,24 @@ pub struct SpokenDoor<N: Net + AllocGlobal + Drop, R> {
     /// Whether it listened.
     pub listens: bool,
     logs: bool,
+    begun: Option<Begun>,
     given: u64,
     closed: bool,
     faults: u64,
     rt: R,
 }
 
+/// A store that is begun before its door listens: its book and its mode.
+#[derive(Drop)]
+pub struct Begun {
+    pub book: String,
+    pub mode: Mode,
+}
+
 impl<N: Net + AllocGlobal + Drop, R> SpokenDoor<N, R> {
-    /// This door, which gave nothing yet, with a runtime that prints; and whether a log is kept.
-    pub fn new(door: TcpDoor<N>, rt: R, logs: bool) -> SpokenDoor<N, R>
+    /// This door, which gave nothing yet, with a runtime that prints; whether a log is kept; and the
+    /// store that is begun, if one is, of which it says so once it is asked to listen.
+    pub fn new(door: TcpDoor<N>, rt: R, logs: bool, begun: Option<Begun>) -> SpokenDoor<N, R>
         ensures given { result.given ≡ 0 }
         ensures open_ { result.closed ≡ false }
     {
@@ -38,6 +49,7 @@ impl<N: Net + AllocGlobal + Drop, R> SpokenDoor<N, R> {
             door,
             listens: false,
             logs,
+            begun,
             given: 0,
             closed: false,
             faults: 0,
@@ -98,6 +110,10 @@ impl<N: Net + AllocGlobal + Drop, R: Eprint + Clock + AllocGlobal + Copy + Drop>
     } };
 
     fn listen(&mut self, address: &mut Vec<u8>) -> Result<(), Fault> {
+        match &self.begun {
+            Some(begun) => told::new_store(&self.rt, begun.book.as_str(), begun.mode),
+            None => {}
+        }
         match self.door.listen(address) {
             Ok(()) => {
                 self.listens = true;
