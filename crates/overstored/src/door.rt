@@ -9,6 +9,7 @@ use crate::told;
 use ov_base::Mode;
 use ov_io::{Fault, StdStream};
 use ov_session::{Door, SessionEnd, TcpDoor};
+use std::cell::Cell;
 use std::fmt;
 use std::fmt::{Display, Formatter, Write};
 use std::net::{Net, SocketAddr};
@@ -19,10 +20,9 @@ use std::time::Clock;
 /// update that was accepted and the end of each session. It counts for itself, and tells nothing of
 /// the streams.
 #[derive(Drop)]
-pub struct SpokenDoor<N: Net + AllocGlobal + Drop, R> {
+pub struct SpokenDoor<'a, N: Net + AllocGlobal + Drop, R> {
     pub door: TcpDoor<N>,
-    /// Whether it listened.
-    pub listens: bool,
+    listens: &'a Cell<bool>,
     logs: bool,
     begun: Option<Begun>,
     given: u64,
@@ -38,16 +38,23 @@ pub struct Begun {
     pub mode: Mode,
 }
 
-impl<N: Net + AllocGlobal + Drop, R> SpokenDoor<N, R> {
-    /// This door, which gave nothing yet, with a runtime that prints; whether a log is kept; and the
-    /// store that is begun, if one is, of which it says so once it is asked to listen.
-    pub fn new(door: TcpDoor<N>, rt: R, logs: bool, begun: Option<Begun>) -> SpokenDoor<N, R>
+impl<'a, N: Net + AllocGlobal + Drop, R> SpokenDoor<'a, N, R> {
+    /// This door, which gave nothing yet, with a runtime that prints; where it notes that it listens;
+    /// whether a log is kept; and the store that is begun, if one is, of which it says so once it is
+    /// asked to listen.
+    pub fn new(
+        door: TcpDoor<N>,
+        rt: R,
+        listens: &'a Cell<bool>,
+        logs: bool,
+        begun: Option<Begun>,
+    ) -> SpokenDoor<'a, N, R>
         ensures given { result.given ≡ 0 }
         ensures open_ { result.closed ≡ false }
     {
         SpokenDoor {
             door,
-            listens: false,
+            listens,
             logs,
             begun,
             given: 0,
@@ -99,7 +106,7 @@ fn say_end<R: Eprint>(rt: &R, session: Session, end: SessionEnd) {
 }
 
 impl<N: Net + AllocGlobal + Drop, R: Eprint + Clock + AllocGlobal + Copy + Drop> Door
-    for SpokenDoor<N, R> {
+    for SpokenDoor<'_, N, R> {
     type Stream = LoggedStream<StdStream<N::Stream>, R>;
 
     ghost shows = { λ d. record {
@@ -116,7 +123,7 @@ impl<N: Net + AllocGlobal + Drop, R: Eprint + Clock + AllocGlobal + Copy + Drop>
         }
         match self.door.listen(address) {
             Ok(()) => {
-                self.listens = true;
+                self.listens.set(true);
                 Ok(())
             }
             Err(Fault) => Err(self.fail()),

@@ -29,6 +29,7 @@ use ov_host::host;
 use ov_io::{FileSource, StdSink};
 use ov_session::TcpDoor;
 use ov_settings::{Settings, read_settings};
+use std::cell::Cell;
 use std::fs::File;
 use std::io::{self, ErrorKind};
 use std::net::Net;
@@ -128,15 +129,16 @@ fn serve<N: Net + Wait + AllocGlobal + Copy + Drop>(
     let Ok(door) = TcpDoor::new(*net, address) else {
         return print(rt, NO_MEMORY, out_of_memory(rt));
     };
-    let disk = SpokenDisk::new(disk, name, *rt);
+    let listens = Cell::new(false);
+    let disk = SpokenDisk::new(disk, name, *rt, &listens);
     let Ok(begun) = begun_by(rt, settings, book, blobs) else {
         return print(rt, NO_MEMORY, out_of_memory(rt));
     };
-    let mut door = SpokenDoor::new(door, *rt, logs, begun);
+    let mut door = SpokenDoor::new(door, *rt, &listens, logs, begun);
     let mut out = StdSink::new(rt.stdout());
     let status = host(net, rt.alloc(), settings, disk, &mut door, &mut out).status;
     told::end(rt, status, book, blobs);
-    told::door(rt, status, address, door.listens, door.door.reason());
+    told::door(rt, status, address, listens.get(), door.door.reason());
     status
 }
 
