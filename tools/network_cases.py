@@ -28,7 +28,8 @@ BASE_MASTER, SURFACE = (bytes.fromhex(line) for line in KEYS.read_text().split()
 SECONDS = 60
 
 # What is said where a server begins a store by the settings below.
-NOTE = "overstored: note: there is no store at store.book, so a new one is begun, in mode delta"
+NOTE = "overstored: note: there was no store at store.book, so a new one was begun, in mode delta"
+TWO_STORES = "overstored: hint: where these keys had a store before, stop the server: read Restoring in OPERATING.md"
 
 HELLO = b"\x01"
 WELCOME_SIZE = 42
@@ -84,7 +85,7 @@ class Server:
         assert (self.process.returncode, out) == (0, b"served %d\n" % served), (self.process.returncode, out, told)
         lines = told.decode().splitlines()
         assert lines.count(NOTE) == self.begins, lines
-        return [line for line in lines if line != NOTE]
+        return [line for line in lines if line not in (NOTE, TWO_STORES)]
 
     def kill(self):
         self.process.kill()
@@ -100,7 +101,7 @@ def refused(folder, text, status, out, words, **streams):
 
 
 def is_told(told, words):
-    lines = [line for line in told.splitlines() if line != NOTE]
+    lines = [line for line in told.splitlines() if line not in (NOTE, TWO_STORES)]
     assert lines and lines[0].startswith("overstored: error: ") and words in lines[0], (words, told)
     assert all(line.startswith(("overstored: error: ", "overstored: hint: ")) for line in lines), told
     assert not any(line.endswith(".") for line in lines), told

@@ -31,7 +31,10 @@ def store_folder(keys=True):
     return folder
 
 
-NEW_STORE = b"overstore: note: there was no store in this folder, so a new one was begun\n"
+NEW_STORE = (
+    b"overstore: note: there was no store in this folder, so a new one was begun\n"
+    b"overstore: hint: where these keys had a store before, run nothing more: read Restoring in OPERATING.md\n"
+)
 
 
 def errors_of(said):

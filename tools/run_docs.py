@@ -44,7 +44,10 @@ MARK = re.compile(r"<!-- (run|file|not run|before)(?:: (.*?))? -->")
 MAN_MARK = re.compile(r'\.\\" (run|file|not run|before)(?:: (.*))?')
 MAN_SIGNS = {r"\e": "\\", r"\&": "", r"\-": "-", r"\(aq": "'"}
 NEEDS = {"program", "network", "kit"}
-NEW_STORE = "overstore: note: there was no store in this folder, so a new one was begun\n"
+NEW_STORE = (
+    "overstore: note: there was no store in this folder, so a new one was begun\n"
+    "overstore: hint: where these keys had a store before, run nothing more: read Restoring in OPERATING.md\n"
+)
 PROGRAMS = ("overstored", "overstore", "overctl")
 
 

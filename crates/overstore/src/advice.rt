@@ -85,6 +85,11 @@ const READER_IS_GONE: &str = "whoever read the replies closed their end; what wa
 const LOAD_READER_IS_GONE: &str = "whoever read the lines closed their end; what the load did \
     lasts";
 
+/// What to do where a store was begun and the keys may have had one before.
+pub const TWO_STORES: &str =
+    "where these keys had a store before, run nothing more: read Restoring \
+    in OPERATING.md";
+
 const MEMORY_AT_FIRST: &str = "the system refused memory; nothing was answered; free some, and \
     ask for the epoch before you run the script again";
 
@@ -93,7 +98,8 @@ const MEMORY: &str = "the system refused memory; what was answered lasts; free s
 
 const LOAD_MEMORY: &str = "the system refused memory; what the load did before lasts; free some";
 
-const NOT_A_STORE: &str = "store.book is damaged or no store; put a good copy in its place";
+const NOT_A_STORE: &str = "store.book is damaged or no store; before you put a copy in its place \
+    read Restoring in OPERATING.md";
 
 const OTHER_STORE: &str = "store.book is of other keys or the other mode; use its keys.hex and \
     its mode";

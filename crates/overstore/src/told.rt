@@ -1,7 +1,7 @@
 //! What is wrong and what to do, on standard error. Where that can't be written the status has to
 //! do.
 use crate::End;
-use crate::advice::{AFTER_BAD_LINE, Stage, advice_on, on_file, on_lack, what_lasts};
+use crate::advice::{AFTER_BAD_LINE, Stage, TWO_STORES, advice_on, on_file, on_lack, what_lasts};
 use crate::lacks::Lack;
 use ov_answering::Status;
 use ov_files::{begins, fault_of, is_open_to_others};
@@ -85,5 +85,6 @@ pub fn new_store(rt: &HostRuntime) {
         let _ = eprintln!(rt;
             "overstore: note: there was no store in this folder, so a new one was begun"
         );
+        let _ = eprintln!(rt; "overstore: hint: {TWO_STORES}");
     }
 }

@@ -3,38 +3,38 @@ ghost use Rattle.std.specs.Prelude.{◌≡◌};
 
 use crate::texts::FAILED_WRITE;
 use ov_disk::{Area, Disk, DiskFault};
+use std::cell::Cell;
 
-/// A disk over another, which says so once where a write or a sync of that one fails behind one
-/// that didn't: the store then refuses every update. Of a disk that fails from the first call on,
-/// the end of the server says more.
+/// The disk in it, which says so once where a write or a sync of it fails while the server listens:
+/// the store over it then refuses every update. Of a disk that fails before, the end of the server
+/// says more.
 #[derive(Drop)]
-pub struct SpokenDisk<D, R> {
+pub struct SpokenDisk<'a, D, R> {
     disk: D,
     book: String,
     rt: R,
-    worked: bool,
+    listens: &'a Cell<bool>,
     said: bool,
 }
 
-impl<D, R: Eprint> SpokenDisk<D, R> {
-    /// A speaking disk over this disk of the store, with its book and a runtime that prints.
-    pub fn new(disk: D, book: String, rt: R) -> SpokenDisk<D, R> {
+impl<'a, D, R: Eprint> SpokenDisk<'a, D, R> {
+    /// This disk of the store with this book, with a runtime that prints; and whether the server
+    /// listens.
+    pub fn new(disk: D, book: String, rt: R, listens: &'a Cell<bool>) -> SpokenDisk<'a, D, R> {
         SpokenDisk {
             disk,
             book,
             rt,
-            worked: false,
+            listens,
             said: false,
         }
     }
 
-    // Notes whether a write or a sync failed, and says so of the first one behind one that didn't.
+    // Says of the first write or sync that fails while the server listens that it did.
     fn note(&mut self, failed: bool)
         ensures { self.new.disk ≡ self.old.disk }
     {
-        if !failed {
-            self.worked = true;
-        } else if self.worked && !self.said {
+        if failed && self.listens.get() && !self.said {
             self.said = true;
             let book = self.book.as_str();
             let (error, hint) = FAILED_WRITE;
@@ -44,7 +44,7 @@ impl<D, R: Eprint> SpokenDisk<D, R> {
     }
 }
 
-impl<D: Disk, R: Eprint> Disk for SpokenDisk<D, R> {
+impl<D: Disk, R: Eprint> Disk for SpokenDisk<'_, D, R> {
     ghost tells = { record {
       reads = λ d. D.tells.reads d.disk;
       may_leave = λ d. D.tells.may_leave d.disk;

@@ -7,8 +7,11 @@ ghost use Rattle.ov_base.specs.Causes.{Rose};
 use crate::log::Log;
 use crate::stream::LoggedStream;
 use crate::texts::on_end;
+use crate::told;
+use ov_base::Mode;
 use ov_io::{Fault, StdStream};
 use ov_session::{Door, SessionEnd, TcpDoor};
+use std::cell::Cell;
 use std::fmt;
 use std::fmt::{Display, Formatter, Write};
 use std::net::{Net, SocketAddr};
@@ -19,27 +22,43 @@ use std::time::Clock;
 /// a log, that has each update that was accepted and the end of each session. It counts for itself,
 /// tells where the door in it listens, and nothing of the streams.
 #[derive(Drop)]
-pub struct SpokenDoor<N: Net + AllocGlobal + Drop, R> {
+pub struct SpokenDoor<'a, N: Net + AllocGlobal + Drop, R> {
     pub door: TcpDoor<N>,
-    /// Whether the door listened.
-    pub listens: bool,
+    listens: &'a Cell<bool>,
     logs: bool,
+    begun: Option<Begun>,
     given: u64,
     closed: bool,
     faults: u64,
     rt: R,
 }
 
-impl<N: Net + AllocGlobal + Drop, R> SpokenDoor<N, R> {
-    /// A speaking door over this one, which gave nothing yet, with a runtime that prints.
-    pub fn new(door: TcpDoor<N>, rt: R, logs: bool) -> SpokenDoor<N, R>
+/// A store that is begun before its door listens: its book and its mode.
+#[derive(Drop)]
+pub struct Begun {
+    pub book: String,
+    pub mode: Mode,
+}
+
+impl<'a, N: Net + AllocGlobal + Drop, R> SpokenDoor<'a, N, R> {
+    /// This door, which gave nothing yet, with a runtime that prints; where it notes that it listens;
+    /// whether a log is kept; and the store that is begun, if one is, of which it says so once it is
+    /// asked to listen.
+    pub fn new(
+        door: TcpDoor<N>,
+        rt: R,
+        listens: &'a Cell<bool>,
+        logs: bool,
+        begun: Option<Begun>,
+    ) -> SpokenDoor<'a, N, R>
         ensures given { result.given ≡ 0 }
         ensures open_ { result.closed ≡ false }
     {
         SpokenDoor {
             door,
-            listens: false,
+            listens,
             logs,
+            begun,
             given: 0,
             closed: false,
             faults: 0,
@@ -90,7 +109,7 @@ fn say_end<R: Eprint>(rt: &R, session: Session, end: SessionEnd) {
 }
 
 impl<N: Net + AllocGlobal + Drop, R: Eprint + Clock + AllocGlobal + Copy + Drop> Door
-    for SpokenDoor<N, R> {
+    for SpokenDoor<'_, N, R> {
     type Stream = LoggedStream<StdStream<N::Stream>, R>;
 
     ghost shows = { λ d. record {
@@ -102,9 +121,13 @@ impl<N: Net + AllocGlobal + Drop, R: Eprint + Clock + AllocGlobal + Copy + Drop>
     } };
 
     fn listen(&mut self, address: &mut Vec<u8>) -> Result<(), Fault> {
+        match &self.begun {
+            Some(begun) => told::new_store(&self.rt, begun.book.as_str(), begun.mode),
+            None => {}
+        }
         match self.door.listen(address) {
             Ok(()) => {
-                self.listens = true;
+                self.listens.set(true);
                 Ok(())
             }
             Err(Fault) => Err(self.fail()),

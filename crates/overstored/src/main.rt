@@ -21,12 +21,15 @@ mod texts;
 mod told;
 
 use disk::SpokenDisk;
-use door::SpokenDoor;
+use door::{Begun, SpokenDoor};
+use ov_base::Memory;
 use ov_disk::FileDisk;
+use ov_files::{FileFault, begins, fault_of};
 use ov_host::host;
 use ov_io::{FileSource, StdSink};
 use ov_session::TcpDoor;
 use ov_settings::{Settings, read_settings};
+use std::cell::Cell;
 use std::fs::File;
 use std::io::{self, ErrorKind};
 use std::net::Net;
@@ -88,6 +91,24 @@ fn text_of(bytes: &[u8]) -> &str {
     }
 }
 
+// The store that a server by these settings begins, where it finds none.
+fn begun_by(
+    rt: &HostRuntime,
+    settings: &Settings,
+    book: &str,
+    blobs: &str,
+) -> Result<Option<Begun>, Memory> {
+    let may_begin = matches!(fault_of(rt, blobs), None | Some(FileFault::NotMade));
+    if !may_begin || !begins(rt, book) {
+        return Ok(None);
+    }
+    let book = String::from_str(rt.alloc(), book)?;
+    Ok(Some(Begun {
+        book,
+        mode: settings.mode,
+    }))
+}
+
 // Serves by these settings. The net is the runtime with the leave to open sockets and to wait,
 // which it has in `main` alone.
 fn serve<N: Net + Wait + AllocGlobal + Copy + Drop>(
@@ -108,13 +129,16 @@ fn serve<N: Net + Wait + AllocGlobal + Copy + Drop>(
     let Ok(door) = TcpDoor::new(*net, address) else {
         return print(rt, NO_MEMORY, out_of_memory(rt));
     };
-    let disk = SpokenDisk::new(disk, name, *rt);
-    let mut door = SpokenDoor::new(door, *rt, logs);
+    let listens = Cell::new(false);
+    let disk = SpokenDisk::new(disk, name, *rt, &listens);
+    let Ok(begun) = begun_by(rt, settings, book, blobs) else {
+        return print(rt, NO_MEMORY, out_of_memory(rt));
+    };
+    let mut door = SpokenDoor::new(door, *rt, &listens, logs, begun);
     let mut out = StdSink::new(rt.stdout());
-    told::new_store(rt, book, blobs, settings.mode);
     let status = host(net, rt.alloc(), settings, disk, &mut door, &mut out).status;
     told::end(rt, status, book, blobs);
-    told::door(rt, status, address, door.listens, door.door.reason());
+    told::door(rt, status, address, listens.get(), door.door.reason());
     status
 }
 

@@ -154,6 +154,16 @@ pub const IN_USE: (&str, &str) = (
     "stop that process, or see that there is room and that the disk is well",
 );
 
+/// What is wrong with a book that is the store's blobs too, and what to do.
+pub const ONE_FILE: (&str, &str) = (
+    "`book` and `blobs` name one file",
+    "name another file for one of them in the settings",
+);
+
+/// What to do where a store was begun and the keys may have had one before.
+pub const TWO_STORES: &str =
+    "where these keys had a store before, stop the server: read Restoring in OPERATING.md";
+
 /// What is wrong with a book where a write to the store's files failed, and what to do.
 pub const FAILED_WRITE: (&str, &str) = (
     "a write to the store failed, so no update is accepted any more",
@@ -165,7 +175,7 @@ pub fn on_store(status: u8) -> Option<(&'static str, &'static str)> {
     match status {
         8 => Some((
             "it is damaged or no store",
-            "put a good copy of both files in place, or name others in the settings",
+            "copy both files away, and before you put a copy in place read Restoring in OPERATING.md",
         )),
         9 => Some((
             "it is a store of other keys or of the other mode",

@@ -1,11 +1,11 @@
 //! What is wrong and what to do, on standard error. Where that can't be written the status has to
 //! do.
 use crate::texts::{
-    ACCEPTING, CHANGED, IN_USE, LISTENING, NO_ADDRESS, NO_FILE, NO_LINE, NO_ROOM, OTHER_KEY,
-    WRONG_WORDS, error_in, hint_on, hint_on_door, on_file, on_store,
+    ACCEPTING, CHANGED, IN_USE, LISTENING, NO_ADDRESS, NO_FILE, NO_LINE, NO_ROOM, ONE_FILE,
+    OTHER_KEY, TWO_STORES, WRONG_WORDS, error_in, hint_on, hint_on_door, on_file, on_store,
 };
 use ov_base::Mode;
-use ov_files::{FileFault, begins, fault_of, folder_of, is_open_to_others};
+use ov_files::{FileFault, fault_of, folder_of, is_open_to_others};
 use ov_host::DOOR_FAULT;
 use ov_report::word_of;
 use ov_settings::{SettingsFault, settings_in};
@@ -156,15 +156,13 @@ pub fn open_settings(rt: &HostRuntime, path: &str) {
     }
 }
 
-/// Says so where a server over these files finds no store, and begins one in this mode.
-pub fn new_store(rt: &HostRuntime, book: &str, blobs: &str, mode: Mode) {
-    let may_begin = matches!(fault_of(rt, blobs), None | Some(FileFault::NotMade));
-    if may_begin && begins(rt, book) {
-        let mode = word_of(mode);
-        let _ = eprintln!(rt;
-            "overstored: note: there is no store at {book}, so a new one is begun, in mode {mode}"
-        );
-    }
+/// Says that there was no store with this book, and that one was begun in this mode.
+pub fn new_store<R: Eprint>(rt: &R, book: &str, mode: Mode) {
+    let mode = word_of(mode);
+    let _ = eprintln!(rt;
+        "overstored: note: there was no store at {book}, so a new one was begun, in mode {mode}"
+    );
+    let _ = eprintln!(rt; "overstored: hint: {TWO_STORES}");
 }
 
 // Says what is wrong with this file of a store, or with its folder.
@@ -183,8 +181,9 @@ fn disk_fault(rt: &HostRuntime, book: &str, blobs: &str) {
         (Some(fault), _) => file_fault(rt, book, fault),
         (None, Some(fault)) => file_fault(rt, blobs, fault),
         (None, None) => {
-            say_of(rt, book, IN_USE.0);
-            advise(rt, IN_USE.1);
+            let (error, hint) = if book == blobs { ONE_FILE } else { IN_USE };
+            say_of(rt, book, error);
+            advise(rt, hint);
         }
     }
 }
