@@ -1,0 +1,5 @@
+pub mod Meanwhile
+pub mod Answering
+pub mod Pages
+pub mod Gathering
+pub mod Trying
