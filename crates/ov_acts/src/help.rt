@@ -1,6 +1,7 @@
 //! The texts of help: each command with its words.
 
-/// A command: its name, the words behind it, and what its help says.
+/// A command: its name, the words behind it, and what its help says. A word in brackets may be left
+/// out.
 pub struct Line {
     pub name: &'static str,
     pub words: &'static [&'static str],
@@ -39,7 +40,7 @@ macro_rules! command {
 }
 
 /// The commands.
-pub static LINES: [Line; 8] = [
+pub static LINES: [Line; 11] = [
     command!(
         "enrol",
         ["ADDRESS", "KEYS", "USER"],
@@ -88,6 +89,24 @@ pub static LINES: [Line; 8] = [
         "Print the base master's check value, for a server's settings",
         "keys.hex"
     ),
+    command!(
+        "epoch",
+        ["ADDRESS"],
+        "Print a store's mode and epoch: `mode full` or `mode delta`, and `epoch N`",
+        "127.0.0.1:7400"
+    ),
+    command!(
+        "users",
+        ["ADDRESS"],
+        "Print the users, one a line",
+        "127.0.0.1:7400"
+    ),
+    command!(
+        "files",
+        ["ADDRESS", "[USER]"],
+        "Print the files as `list FILE NAMES`, or a user's files, one a line",
+        "127.0.0.1:7400 bob"
+    ),
 ];
 
 /// What the program is.
@@ -111,6 +130,7 @@ pub fn about_word(word: &str) -> &'static str {
         "LIST" => "users with commas between them, or - for nobody",
         "PATH" => "the file whose bytes are stored, or - for standard input",
         "USER" => "the user's name",
+        "[USER]" => "the user whose files are printed; without it all are, with their lists",
         _ => "the file's name in the store",
     }
 }

@@ -54,6 +54,7 @@ mod stop;
 mod words;
 
 pub use acting::act;
+pub use finish::finish;
 pub use help::{Line, line_of};
 pub use job::{Act, Job};
 pub use line::judge;

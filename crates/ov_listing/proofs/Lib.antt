@@ -1,5 +1,6 @@
 pub mod Meanwhile
-pub mod Answering
 pub mod Pages
-pub mod Gathering
-pub mod Trying
+pub mod OneQuestion
+pub mod AllOfThem
+pub mod OneEpoch
+pub mod TextsTold

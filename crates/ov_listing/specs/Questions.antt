@@ -1,6 +1,6 @@
 -- Inner: no public contract needs this but for `IsWelcomeAt`. What is taken of one answer, and of
 -- several.
-use Rattle.std.specs.Prelude.{◌≡◌, ℕ, List, [], ◌++◌, map, slice_get}
+use Rattle.std.specs.Prelude.{◌≡◌, ℕ, List, ◌++◌, map, slice_get}
 use Rattle.std.specs.Prelude.{Option, Some, None, Result, Ok, Err}
 use Rattle.ov_fields.specs.Spelling.{name_field}
 use Rattle.ov_history.specs.Catalogue.{matrix_shown}
@@ -34,13 +34,15 @@ listed_in (answers.Listed names) = Ok names
 listed_in answers.NoMemory = Err Memory
 listed_in answer = Err (BadReply 0)
 
--- the page's entry begins with this name, or there is no page
+-- the page's entry begins with this name, or there is no page; or why neither is told
 abbrev pub NamedIn : Answer → Result (Option (List ℕ)) ListingFault → Type 0
 NamedIn answer (Ok (Some name)) =
     (entry rest : List ℕ) × (answer ≡ answers.PageOf (Some entry))
     × (entry ≡ name_field name ++ rest)
 NamedIn answer (Ok None) = answer ≡ answers.PageOf None
-NamedIn answer (Err fault) = Unit {0}
+NamedIn answer (Err (BadReply place)) = Unit {0}
+NamedIn answer (Err Memory) = answer ≡ answers.NoMemory
+NamedIn answer (Err fault) = ⊥
 
 -- the number of a part in a request
 abbrev pub part_number : Part → ℕ

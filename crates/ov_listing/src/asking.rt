@@ -3,7 +3,7 @@ ghost use Rattle.std.specs.Prelude.{◌≡◌, Bool, IfSome, List, ℕ, ◌++◌
 ghost use Rattle.ov_fields.specs.Spelling.{name_field};
 ghost use Rattle.ov_protocol.specs.Serving.{Service};
 ghost use Rattle.ov_listing.specs.Causes.{HasListingCause};
-ghost use Rattle.ov_listing.specs.Questions.{ListedIn, NamedIn, listed_in, welcome_in};
+ghost use Rattle.ov_listing.specs.Questions.{NamedIn, listed_in, welcome_in};
 ghost use Rattle.ov_listing.specs.Questions.{IsListAt, IsNameAt, IsWelcomeAt};
 ghost use Rattle.ov_listing.specs.Telling.{IsAloneIf, Told};
 

@@ -17,7 +17,8 @@ use std::alloc::Global;
 pub fn names_of<P: Peer>(alloc: Global, peer: &mut P, part: Part) -> Result<Vec<Name>, ListingFault>
     ensures told { (alone : Bool) (v : Service) → IsAloneIf alone P.tells
         → P.tells.serves peer.old v
-        → ToldOfOne alone v (P.tells.serves peer.new) (AreNamesAt part) result }
+        → ToldOfOne alone v (P.tells.serves peer.new) (λ names. AreNamesAt part names.items)
+        result }
     ensures same { P.tells.borrow peer.new ≡ P.tells.borrow peer.old }
     ensures cause { HasListingCause (P.tells.faults peer.old) (P.tells.faults peer.new) result }
 {
@@ -43,7 +44,8 @@ pub fn lists_of<P: Peer>(
 ) -> Result<Vec<Listed>, ListingFault>
     ensures told { (alone : Bool) (v : Service) → IsAloneIf alone P.tells
         → P.tells.serves peer.old v
-        → ToldOfOne alone v (P.tells.serves peer.new) (AreListsAt files.now) result }
+        → ToldOfOne alone v (P.tells.serves peer.new) (λ lists. AreListsAt files.now lists.items)
+        result }
     ensures same { P.tells.borrow peer.new ≡ P.tells.borrow peer.old }
     ensures cause { HasListingCause (P.tells.faults peer.old) (P.tells.faults peer.new) result }
 {

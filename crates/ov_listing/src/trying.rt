@@ -24,7 +24,8 @@ fn files_of<P: Peer>(
 ) -> Result<Vec<Listed>, ListingFault>
     ensures told { (alone : Bool) (v : Service) → IsAloneIf alone P.tells
         → P.tells.serves peer.old v
-        → ToldOfOne alone v (P.tells.serves peer.new) (AreFilesAt wanted) result }
+        → ToldOfOne alone v (P.tells.serves peer.new) (λ files. AreFilesAt wanted files.items)
+        result }
     ensures same { P.tells.borrow peer.new ≡ P.tells.borrow peer.old }
     ensures cause { HasListingCause (P.tells.faults peer.old) (P.tells.faults peer.new) result }
 {

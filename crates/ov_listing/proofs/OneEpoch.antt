@@ -1,22 +1,17 @@
 -- A listing of one epoch.
-use Rattle.std.proofs.Common.{◌≡◌, ◌∙◌, ℕ, List, [], ◌∷◌, ◌++◌, Bool, Option, Some, None, Ok}
+use Rattle.std.proofs.Common.{◌≡◌, ◌∙◌, [], ◌++◌, Bool, Some, Ok}
 use Rattle.std.proofs.Common.{refl, sym, ap, subst}
-use Rattle.std.specs.Prelude.{map}
-use Rattle.ov_record.specs.Updates.{SealedUpdate}
-use Rattle.ov_history.specs.Catalogue.{Catalogue}
 use Rattle.ov_history.specs.History.{Matrix}
-use Rattle.ov_history.specs.Sealed.{IsSealed, outer_of}
 use Rattle.ov_history.proofs.Showing.{history_is_shown}
 use Rattle.ov_protocol.specs.Serving.{Service, later, served}
 use Rattle.ov_wire.specs.declared.answer.Welcome.{Welcome}
-use Rattle.ov_listing.specs.Listings.{IsListingAt, IsListingOf, files_wanted}
+use Rattle.ov_listing.specs.Listings.{IsListingAt, files_wanted}
 use Rattle.ov_listing.specs.Questions.{AreFilesAt, AreNamesAt, IsTryAt, IsWelcomeAt, matrix_at}
-use Rattle.ov_listing.specs.Telling.{MayBeMade, Told, ToldOfOne}
-use Rattle.ov_listing.specs.declared.listing.Listed.{Listed}
+use Rattle.ov_listing.specs.Telling.{Told}
 use Rattle.ov_listing.specs.declared.listing.Listing.{Listing}
 use Rattle.ov_listing.specs.declared.listing.Wanted.{Wanted}
 use Rattle.ov_listing.specs.declared.part.Part.TheVariants.{Users}
-use Rattle.ov_listing.proofs.Meanwhile.{Meanwhile, behind, both_none, later-later, may_both}
+use Rattle.ov_listing.proofs.Meanwhile.{Meanwhile, behind, both_none, later-later}
 use Rattle.ov_listing.proofs.Meanwhile.{same_left, still}
 
 -- what was told by one catalogue is the listing of its history
@@ -38,9 +33,9 @@ listing_at w wanted listing mode epoch users files = λ fits.
 module _ (alone : Bool) (v : Service) (One Two Three Then : Service → Type 0) (wanted : Wanted)
     (before after : Welcome) (listing : Listing)
     (first : Told alone v One IsWelcomeAt (Ok before))
-    (names : (w : Service) → One w
-    → ToldOfOne alone w Two (AreNamesAt Users) (Ok listing.users.items))
-    (lists : (w : Service) → Two w → ToldOfOne alone w Three (AreFilesAt wanted) (Ok listing.files.items))
+    (names : (w : Service) → One w → Meanwhile alone w Two (AreNamesAt Users listing.users.items w))
+    (lists : (w : Service) → Two w
+    → Meanwhile alone w Three (AreFilesAt wanted listing.files.items w))
     (last : (w : Service) → Three w → Told alone w Then IsWelcomeAt (Ok after)) where
   -- others made these meanwhile, and what was told first is of what was served first
   between : (w : Service) → One w
@@ -75,15 +70,4 @@ module _ (alone : Bool) (v : Service) (One Two Three Then : Service → Type 0) 
             ∙ ap (λ (x : Service). (served x).catalogue.epoch) here)
             users
             files,
-      )
-
-  pub moved : Told alone v Then (IsTryAt wanted) (Ok None)
-  moved =
-      let (a, may_a, one, greets) = first in
-      let (b, may_b, three, holds) = between (later v a) one in
-      let (c, may_c, then, again) = last (later (later v a) b) three in (
-        a ++ (b ++ c),
-        may_both alone a (b ++ c) may_a (may_both alone b c may_b may_c),
-        subst Then (later-later (later v a) b c ∙ later-later v a (b ++ c)) then,
-        tt,
       )

@@ -1,19 +1,25 @@
 -- Names and lists, one after another.
 use Rattle.std.proofs.Common.{◌≡◌, ◌∙◌, ℕ, zero, suc, ◌+◌, ◌<◌, List, [], ◌∷◌, ◌++◌, length, take}
-use Rattle.std.proofs.Common.{map, Bool, Option, Some, None, Ok, refl, sym, ap, subst, arith}
+use Rattle.std.proofs.Common.{map, Bool, Some, None, Result, Ok, Err, refl, sym, ap}
 use Rattle.std.proofs.Common.{add-one, get_or}
-use Rattle.std.specs.Prelude.{slice_get}
+use Rattle.std.specs.Prelude.{Vec, slice_get}
+use Rattle.std.specs.declared.alloc.Global.{Global}
 use Rattle.std.proofs.lemmas.List.{map-append}
 use Rattle.std.proofs.lemmas.Option.{slice_get-get_or}
 use Rattle.std.proofs.Math.Seq.{take-length}
 use Rattle.ov_base.proofs.NamePlaces.{take_push}
 use Rattle.ov_history.specs.History.{Matrix}
 use Rattle.ov_protocol.specs.Serving.{Service}
-use Rattle.ov_listing.specs.Listings.{listed}
-use Rattle.ov_listing.specs.Questions.{IsListAt, IsNameAt, matrix_at, names_in_part}
-use Rattle.ov_listing.specs.Telling.{Told}
+use Rattle.ov_listing.specs.Listings.{files_wanted, listed}
+use Rattle.ov_listing.specs.Questions.{AreFilesAt, AreListsAt, IsListAt, IsNameAt}
+use Rattle.ov_listing.specs.Questions.{matrix_at, names_in_part}
+use Rattle.ov_listing.specs.Telling.{Told, ToldOfOne}
+use Rattle.ov_listing.specs.declared.fault.ListingFault.{ListingFault}
 use Rattle.ov_listing.specs.declared.listing.Listed.{Listed}
+use Rattle.ov_listing.specs.declared.listing.Wanted.{Wanted}
+use Rattle.ov_listing.specs.declared.listing.Wanted.TheVariants as wants
 use Rattle.ov_listing.specs.declared.part.Part.{Part}
+use Rattle.ov_listing.specs.declared.part.Part.TheVariants as parts
 use Rattle.ov_listing.proofs.Meanwhile.{Meanwhile, also, behind, of_one}
 
 -- ---- names
@@ -97,3 +103,22 @@ module _ (alone : Bool) (v : Service) (Mid Then : Service → Type 0) (files : L
       (λ first.
       first ∙ ap (λ (k : ℕ). map (listed (matrix_at v)) (take k files)) all
       ∙ ap (map (listed (matrix_at v))) (take-length files))
+
+-- ---- the files that are wanted
+
+pub files_told : (alone : Bool) (v : Service) (Mid Then : Service → Type 0) (wanted : Wanted)
+    (names files : List (List ℕ)) (result : Result (Vec Listed Global) ListingFault)
+    → wanted ≡ wants.Files → files ≡ names
+    → Meanwhile alone v Mid (names ≡ names_in_part parts.Files (matrix_at v))
+    → ((w : Service) → Mid w → ToldOfOne alone w Then (λ lists. AreListsAt files lists.items) result)
+    → ToldOfOne alone v Then (λ lists. AreFilesAt wanted lists.items) result
+files_told alone v Mid Then wanted names files (Err fault) is same so_far told = tt
+files_told alone v Mid Then wanted names files (Ok lists) is same so_far told =
+    let m = matrix_at v in
+    also alone v Then
+    ((names ≡ names_in_part parts.Files m) × AreListsAt files lists.items v)
+    (AreFilesAt wanted lists.items v)
+    (behind alone v Mid Then (names ≡ names_in_part parts.Files m) (AreListsAt files lists.items)
+    so_far told)
+    (λ (all, each).
+    each ∙ ap (map (listed m)) (same ∙ all) ∙ ap (λ (x : Wanted). files_wanted x m) (sym is))

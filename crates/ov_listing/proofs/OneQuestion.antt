@@ -1,9 +1,7 @@
 -- One question to a told peer.
 use Rattle.std.proofs.Common.{◌≡◌, ◌∙◌, ℕ, List, [], Bool, true, false, Option, Some, None}
-use Rattle.std.proofs.Common.{Result, Ok, Err, refl, sym, ap, subst, inl, inr}
+use Rattle.std.proofs.Common.{Result, Ok, Err, refl, sym, subst, inl, inr}
 use Rattle.ov_record.specs.Updates.{SealedUpdate}
-use Rattle.ov_history.specs.Asking.{file_named}
-use Rattle.ov_history.specs.Catalogue.{matrix_shown}
 use Rattle.ov_wire.specs.Requests.{HasRequestForm, request_bytes}
 use Rattle.ov_wire.specs.declared.answer.Answer.{Answer}
 use Rattle.ov_wire.specs.declared.answer.Answer.TheVariants as answers
@@ -22,7 +20,6 @@ use Rattle.ov_listing.specs.Questions.{part_number, welcome_in}
 use Rattle.ov_listing.specs.Telling.{IsAloneIf, MayBeMade, Told}
 use Rattle.ov_listing.specs.declared.fault.ListingFault.{ListingFault}
 use Rattle.ov_listing.specs.declared.part.Part.{Part}
-use Rattle.ov_listing.specs.declared.part.Part.TheVariants.{Files, Users}
 use Rattle.ov_listing.proofs.Meanwhile.{same_left}
 use Rattle.ov_listing.proofs.Pages.{no_page, page_named}
 
