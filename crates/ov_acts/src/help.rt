@@ -18,10 +18,8 @@ macro_rules! after {
             $name,
             " ",
             $example,
-            "\nExit status:  0 done         5 read failed    9 other masters  13 others faster\n",
-            "              2 wrong words  6 write failed  10 no key file    14 file too long\n",
-            "              3 refused      7 out of memory 11 wrong reply\n",
-            "              4 disk failed  8 no server     12 file damaged"
+            "\nExit status: 0 done, 2 words, 3 refused, 4 disk, 5 reading, 6 writing, 7 memory,\n",
+            " 8 no server, 9 masters, 10 key file, 11 reply, 12 damage, 13 others, 14 length"
         )
     };
 }
@@ -92,7 +90,7 @@ pub static LINES: [Line; 11] = [
     command!(
         "epoch",
         ["ADDRESS"],
-        "Print a store's mode and epoch: `mode full` or `mode delta`, and `epoch N`",
+        "Print the store's mode and epoch",
         "127.0.0.1:7400"
     ),
     command!(
@@ -104,7 +102,7 @@ pub static LINES: [Line; 11] = [
     command!(
         "files",
         ["ADDRESS", "[USER]"],
-        "Print the files as `list FILE NAMES`, or a user's files, one a line",
+        "Print all lists, `list FILE NAMES`; or the files that list USER",
         "127.0.0.1:7400 bob"
     ),
 ];
@@ -130,7 +128,7 @@ pub fn about_word(word: &str) -> &'static str {
         "LIST" => "users with commas between them, or - for nobody",
         "PATH" => "the file whose bytes are stored, or - for standard input",
         "USER" => "the user's name",
-        "[USER]" => "the user whose files are printed; without it all are, with their lists",
+        "[USER]" => "print only the names of the files that list this user",
         _ => "the file's name in the store",
     }
 }
