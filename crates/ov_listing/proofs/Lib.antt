@@ -4,3 +4,4 @@ pub mod OneQuestion
 pub mod AllOfThem
 pub mod OneEpoch
 pub mod TextsTold
+pub mod Settling

@@ -3,8 +3,8 @@ ghost use Rattle.std.specs.Prelude.{◌≡◌, Bool, IfOk, OnOk, Some};
 ghost use Rattle.ov_base.specs.NameLists.{is_among};
 ghost use Rattle.ov_protocol.specs.Serving.{Service};
 ghost use Rattle.ov_listing.specs.Answers.{IsTextAt, files_answer, given_text};
-ghost use Rattle.ov_listing.specs.Causes.{HasListingCause};
-ghost use Rattle.ov_listing.specs.Telling.{IsAloneIf, Told};
+ghost use Rattle.ov_listing.specs.Causes.{HasListingCause, IsSettled};
+ghost use Rattle.ov_listing.specs.Telling.{IsAlone, IsAloneIf, Told};
 ghost use Rattle.ov_listing.specs.Texts.{epoch_text, users_text};
 
 use crate::asking::ask_welcome;
@@ -94,6 +94,8 @@ pub fn answer<P: Peer>(
     ensures told { (alone : Bool) (v : Service) → IsAloneIf alone P.tells
         → P.tells.serves peer.old v
         → Told alone v (P.tells.serves peer.new) (IsTextAt question.now) result }
+    ensures once { IsAlone P.tells → (v : Service) → P.tells.serves peer.old v
+        → IsSettled result }
     ensures same { P.tells.borrow peer.new ≡ P.tells.borrow peer.old }
     ensures cause { HasListingCause (P.tells.faults peer.old) (P.tells.faults peer.new) result }
 {

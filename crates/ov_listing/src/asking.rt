@@ -2,7 +2,7 @@
 ghost use Rattle.std.specs.Prelude.{◌≡◌, Bool, IfSome, List, ℕ, ◌++◌};
 ghost use Rattle.ov_fields.specs.Spelling.{name_field};
 ghost use Rattle.ov_protocol.specs.Serving.{Service};
-ghost use Rattle.ov_listing.specs.Causes.{HasListingCause};
+ghost use Rattle.ov_listing.specs.Causes.{HasListingCause, IsSettled};
 ghost use Rattle.ov_listing.specs.Questions.{NamedIn, listed_in, welcome_in};
 ghost use Rattle.ov_listing.specs.Questions.{IsListAt, IsNameAt, IsWelcomeAt};
 ghost use Rattle.ov_listing.specs.Telling.{IsAloneIf, Told};
@@ -31,6 +31,7 @@ pub fn ask_welcome<P: Peer>(alloc: Global, peer: &mut P) -> Result<Welcome, List
     ensures told { (alone : Bool) (v : Service) → IsAloneIf alone P.tells
         → P.tells.serves peer.old v
         → Told alone v (P.tells.serves peer.new) IsWelcomeAt result }
+    ensures settled { IsSettled result }
     ensures same { P.tells.borrow peer.new ≡ P.tells.borrow peer.old }
     ensures cause { HasListingCause (P.tells.faults peer.old) (P.tells.faults peer.new) result }
 {
@@ -78,6 +79,7 @@ pub fn name_at<P: Peer>(
     ensures told { (alone : Bool) (v : Service) → IsAloneIf alone P.tells
         → P.tells.serves peer.old v
         → Told alone v (P.tells.serves peer.new) (IsNameAt part number) result }
+    ensures settled { IsSettled result }
     ensures same { P.tells.borrow peer.new ≡ P.tells.borrow peer.old }
     ensures cause { HasListingCause (P.tells.faults peer.old) (P.tells.faults peer.new) result }
 {
@@ -107,6 +109,7 @@ pub fn list_of<P: Peer>(alloc: Global, peer: &mut P, file: &Name) -> Result<Name
     ensures told { (alone : Bool) (v : Service) → IsAloneIf alone P.tells
         → P.tells.serves peer.old v
         → Told alone v (P.tells.serves peer.new) (IsListAt file.now) result }
+    ensures settled { IsSettled result }
     ensures same { P.tells.borrow peer.new ≡ P.tells.borrow peer.old }
     ensures cause { HasListingCause (P.tells.faults peer.old) (P.tells.faults peer.new) result }
 {

@@ -1,7 +1,7 @@
 //! All names of a part of the catalogue, and the lists of all files.
 ghost use Rattle.std.specs.Prelude.{◌≡◌, Bool};
 ghost use Rattle.ov_protocol.specs.Serving.{Service};
-ghost use Rattle.ov_listing.specs.Causes.{HasListingCause};
+ghost use Rattle.ov_listing.specs.Causes.{HasListingCause, IsSettled};
 ghost use Rattle.ov_listing.specs.Questions.{AreListsAt, AreNamesAt};
 ghost use Rattle.ov_listing.specs.Telling.{IsAloneIf, ToldOfOne};
 
@@ -19,6 +19,7 @@ pub fn names_of<P: Peer>(alloc: Global, peer: &mut P, part: Part) -> Result<Vec<
         → P.tells.serves peer.old v
         → ToldOfOne alone v (P.tells.serves peer.new) (λ names. AreNamesAt part names.items)
         result }
+    ensures settled { IsSettled result }
     ensures same { P.tells.borrow peer.new ≡ P.tells.borrow peer.old }
     ensures cause { HasListingCause (P.tells.faults peer.old) (P.tells.faults peer.new) result }
 {
@@ -46,6 +47,7 @@ pub fn lists_of<P: Peer>(
         → P.tells.serves peer.old v
         → ToldOfOne alone v (P.tells.serves peer.new) (λ lists. AreListsAt files.now lists.items)
         result }
+    ensures settled { IsSettled result }
     ensures same { P.tells.borrow peer.new ≡ P.tells.borrow peer.old }
     ensures cause { HasListingCause (P.tells.faults peer.old) (P.tells.faults peer.new) result }
 {

@@ -1,10 +1,10 @@
 //! A listing of one epoch.
 ghost use Rattle.std.specs.Prelude.{◌≡◌, Bool};
 ghost use Rattle.ov_protocol.specs.Serving.{Service};
-ghost use Rattle.ov_listing.specs.Causes.{HasListingCause};
+ghost use Rattle.ov_listing.specs.Causes.{HasListingCause, IsOneTry, IsSettled};
 ghost use Rattle.ov_listing.specs.Listings.{IsListingAt};
 ghost use Rattle.ov_listing.specs.Questions.{AreFilesAt, IsTryAt};
-ghost use Rattle.ov_listing.specs.Telling.{IsAloneIf, Told, ToldOfOne};
+ghost use Rattle.ov_listing.specs.Telling.{IsAlone, IsAloneIf, Told, ToldOfOne};
 
 use crate::asking::ask_welcome;
 use crate::gathering::{lists_of, names_of};
@@ -26,6 +26,7 @@ fn files_of<P: Peer>(
         → P.tells.serves peer.old v
         → ToldOfOne alone v (P.tells.serves peer.new) (λ files. AreFilesAt wanted files.items)
         result }
+    ensures settled { IsSettled result }
     ensures same { P.tells.borrow peer.new ≡ P.tells.borrow peer.old }
     ensures cause { HasListingCause (P.tells.faults peer.old) (P.tells.faults peer.new) result }
 {
@@ -47,6 +48,8 @@ fn try_once<P: Peer>(
     ensures told { (alone : Bool) (v : Service) → IsAloneIf alone P.tells
         → P.tells.serves peer.old v
         → Told alone v (P.tells.serves peer.new) (IsTryAt wanted) result }
+    ensures once { IsAlone P.tells → (v : Service) → P.tells.serves peer.old v
+        → IsOneTry result }
     ensures same { P.tells.borrow peer.new ≡ P.tells.borrow peer.old }
     ensures cause { HasListingCause (P.tells.faults peer.old) (P.tells.faults peer.new) result }
 {
@@ -88,6 +91,8 @@ pub fn ask_listing<P: Peer>(
     ensures told { (alone : Bool) (v : Service) → IsAloneIf alone P.tells
         → P.tells.serves peer.old v
         → Told alone v (P.tells.serves peer.new) (IsListingAt wanted) result }
+    ensures once { IsAlone P.tells → (v : Service) → P.tells.serves peer.old v
+        → IsSettled result }
     ensures same { P.tells.borrow peer.new ≡ P.tells.borrow peer.old }
     ensures cause { HasListingCause (P.tells.faults peer.old) (P.tells.faults peer.new) result }
 {
