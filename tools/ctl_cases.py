@@ -270,7 +270,7 @@ def links_that_fail():
     hung.close()
     refused = "cannot reach %s: connection refused" % closed
     start = "start the server, or correct the address"
-    for words in ("enrol %s keys a", "list %s keys f1", "read %s key f1"):
+    for words in ("enrol %s keys a", "list %s keys f1", "read %s key f1", "epoch %s", "users %s", "files %s a"):
         case(words % closed, [], 8, b"", refused, start, asked=0)
     for address in ("here", "127.0.0.1:port", "127.0.0.1:65536"):
         error, hint = "%s is no address" % address, "an address is HOST:PORT, as 127.0.0.1:7400"
@@ -346,6 +346,48 @@ def others_are_faster():
     case(ENROL, replies, 13, b"", error, "try again", asked=19)
 
 
+# Replies of a store's catalogue: pages of users and of files, and that there are no more.
+def user_page(name):
+    return b"\x87\x01" + bytes([len(name)]) + name + bytes(8)
+
+
+def file_page(name):
+    return b"\x87\x01" + bytes([len(name)]) + name + bytes(45)
+
+
+NO_PAGE = b"\x87\0"
+USERS = [user_page(b"a"), user_page(b"b"), NO_PAGE]
+ALL = ["WELCOME", *USERS, file_page(b"f1"), file_page(b"f2"), NO_PAGE, "LISTED", "LISTED_NONE", "WELCOME"]
+MOVED = REPLIES["WELCOME"][:5] + b"\x08" + REPLIES["WELCOME"][6:]
+
+
+def questions_without_a_key():
+    case("epoch @", ["WELCOME"], 0, b"mode delta\nepoch 7\n", asked=1)
+    case("users @", ["WELCOME", *USERS, "WELCOME"], 0, b"a\nb\n", asked=5)
+    case("users @", ["WELCOME", NO_PAGE, "WELCOME"], 0, b"", asked=3)
+    case("files @", ALL, 0, b"list f1 a,b\nlist f2 -\n", asked=10)
+    case("files @ b", ALL, 0, b"f1\n", asked=10)
+    error, hint = "the store at @ has no user c", "correct the name: `overctl users @` prints them"
+    case("files @ c", ALL, 3, b"refused 2 NoUser\n", error, hint, asked=10)
+
+
+def questions_that_are_not_answered():
+    moving = ["WELCOME", NO_PAGE, MOVED]
+    case("users @", [*moving, MOVED, *USERS, MOVED], 0, b"a\nb\n", asked=8)
+    error = "others changed the store at @ in nine tries"
+    case("users @", moving * 9, 13, b"", error, "try again", asked=27)
+    case("epoch @", ["LISTED"], 11, b"", NO_ANSWER, SAME_VERSION, asked=1)
+    case("users @", ["WELCOME", file_page(b"f1")], 11, b"", NO_ANSWER, SAME_VERSION, asked=2)
+    case("files @", ["WELCOME", *USERS, file_page(b"f1"), NO_PAGE, b"\x88\x03"], 11, b"", NO_ANSWER, SAME_VERSION)
+    endless = ["WELCOME", *[user_page(b"a")] * 300]
+    case("users @", endless, 11, b"", NO_ANSWER, SAME_VERSION, asked=258)
+    case("epoch @", ["NO_MEMORY"], 7, b"", "out of memory, here or at @", AS_IT_WAS)
+    case("files @ a", ["WELCOME", Broken(b"")], 8, b"", CUT_OFF, OTHER_PROGRAM + AS_IT_WAS, asked=2)
+    with open("/dev/full", "wb") as full:
+        writable = "see that it is open, and that there is room"
+        case("epoch @", ["WELCOME"], 6, None, NO_OUTPUT, writable, stdout=full)
+
+
 def files_that_are_too_long():
     error, hint = "long has more than 1048576 bytes", "store it as several files"
     case("create @ keys f1 - long", [], 14, b"", error, hint, asked=0)
@@ -366,6 +408,8 @@ def words_that_are_no_line():
         "key": "ADDRESS KEYS USER",
         "read": "ADDRESS USERKEY FILE",
         "check": "KEYS",
+        "epoch": "ADDRESS",
+        "users": "ADDRESS",
     }
     name = "1 to 64 of a-z, 0-9, `.`, `_`, `-`, a letter or digit first"
     cases = [
@@ -380,6 +424,9 @@ def words_that_are_no_line():
             "`a,,b` is no list: names with commas between, or `-`, in 20000 bytes at most",
             "create " + lines["create"],
         ),
+        (["files"], "words are missing", "files ADDRESS [USER]"),
+        (["files", "here:1", "Al"], "`Al` is no name: " + name, "files ADDRESS [USER]"),
+        (["files", "here:1", "a", "b"], "there are too many words, or an unknown option", "files ADDRESS [USER]"),
     ]
     for command, line in lines.items():
         count = len(line.split())
@@ -399,7 +446,8 @@ def words_that_are_no_line():
 
 def help_and_version():
     folder = client_folder()
-    for words in ([], ["enrol"], ["create"], ["grant"], ["revoke"], ["list"], ["key"], ["read"], ["check"]):
+    commands = "enrol create grant revoke list key read check epoch users files".split()
+    for words in ([], *[[command] for command in commands]):
         for flag in ("--help", "-h"):
             status, out, told = run(folder, [*words, flag])
             lines = out.decode().splitlines()
@@ -462,6 +510,8 @@ CASES = [
     wrong_replies,
     key_lines_of_others,
     others_are_faster,
+    questions_without_a_key,
+    questions_that_are_not_answered,
     files_that_are_too_long,
     words_that_are_no_line,
     help_and_version,

@@ -12,4 +12,7 @@ complete -c overctl -n $command -a list -d "Print a file's list"
 complete -c overctl -n $command -a key -d 'Print the key line with which a user reads'
 complete -c overctl -n $command -a read -d "Print a file's bytes, by a user's key line"
 complete -c overctl -n $command -a check -d "Print the base master's check value"
+complete -c overctl -n $command -a epoch -d "Print the store's mode and epoch"
+complete -c overctl -n $command -a users -d 'Print the users, one a line'
+complete -c overctl -n $command -a files -d 'Print all lists, or the files that list a user'
 complete -c overctl -n "not $command" -F

@@ -11,9 +11,11 @@ case ${words[2]} in
     list) places=($address $keys '4:file in the store: ') ;;
     read) places=($address '3:file of a user key line:_files' '4:file in the store: ') ;;
     check) places=('2:file of both masters:_files') ;;
+    epoch | users) places=($address) ;;
+    files) places=($address '3::user: ') ;;
 esac
 _arguments \
     '(- *)--help[print help]' \
     '(- *)--version[print the version]' \
-    '1:command:((enrol\:"add a user" create\:"store bytes as a file" grant\:"put a user onto a list" revoke\:"take a user off a list" list\:"print a list" key\:"print a user key line" read\:"print the bytes of a file" check\:"print a check value"))' \
+    '1:command:((enrol\:"add a user" create\:"store bytes as a file" grant\:"put a user onto a list" revoke\:"take a user off a list" list\:"print a list" key\:"print a user key line" read\:"print the bytes of a file" check\:"print a check value" epoch\:"print mode and epoch" users\:"print the users" files\:"print all lists, or the files of a user"))' \
     $places

@@ -16,8 +16,8 @@ ghost use Rattle.ov_acts.specs.Machine.{ActsAsMachine, OwnersAsMachine, ReadersA
 
 use crate::command::greet_and_command;
 use crate::files::{bytes_of, client_of, masters_of};
-use crate::finish::finish;
 use crate::job::{Act, Job};
+use crate::outcome::finish;
 use crate::stop::{Stop, stop_of_client};
 use ov_base::{Memory, Name, Octets};
 use ov_client::lines_are_read_once;

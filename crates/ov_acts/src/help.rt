@@ -1,6 +1,7 @@
 //! The texts of help: each command with its words.
 
-/// A command: its name, the words behind it, and what its help says.
+/// A command: its name, the words behind it, and what its help says. A word in brackets may be left
+/// out.
 pub struct Line {
     pub name: &'static str,
     pub words: &'static [&'static str],
@@ -17,10 +18,8 @@ macro_rules! after {
             $name,
             " ",
             $example,
-            "\nExit status:  0 done         5 read failed    9 other masters  13 others faster\n",
-            "              2 wrong words  6 write failed  10 no key file    14 file too long\n",
-            "              3 refused      7 out of memory 11 wrong reply\n",
-            "              4 disk failed  8 no server     12 file damaged"
+            "\nExit status: 0 done, 2 words, 3 refused, 4 disk, 5 reading, 6 writing, 7 memory,\n",
+            " 8 no server, 9 masters, 10 key file, 11 reply, 12 damage, 13 others, 14 length"
         )
     };
 }
@@ -39,7 +38,7 @@ macro_rules! command {
 }
 
 /// The commands.
-pub static LINES: [Line; 8] = [
+pub static LINES: [Line; 11] = [
     command!(
         "enrol",
         ["ADDRESS", "KEYS", "USER"],
@@ -88,6 +87,24 @@ pub static LINES: [Line; 8] = [
         "Print the base master's check value, for a server's settings",
         "keys.hex"
     ),
+    command!(
+        "epoch",
+        ["ADDRESS"],
+        "Print the store's mode and epoch",
+        "127.0.0.1:7400"
+    ),
+    command!(
+        "users",
+        ["ADDRESS"],
+        "Print the users, one a line",
+        "127.0.0.1:7400"
+    ),
+    command!(
+        "files",
+        ["ADDRESS", "[USER]"],
+        "Print all lists, `list FILE NAMES`; or the files that list USER",
+        "127.0.0.1:7400 bob"
+    ),
 ];
 
 /// What the program is.
@@ -111,6 +128,7 @@ pub fn about_word(word: &str) -> &'static str {
         "LIST" => "users with commas between them, or - for nobody",
         "PATH" => "the file whose bytes are stored, or - for standard input",
         "USER" => "the user's name",
+        "[USER]" => "print only the names of the files that list this user",
         _ => "the file's name in the store",
     }
 }

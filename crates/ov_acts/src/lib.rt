@@ -28,7 +28,7 @@
 //! | `acting` | what a job does |
 //! | `files` | what is read of files: masters, a user key line, bytes to be stored |
 //! | `command` | an owner's commands |
-//! | `finish` | what is put to standard output |
+//! | `outcome` | what is put to standard output |
 //! | `stop`, `status` | why there is no result; the exit statuses |
 //!
 //! | file in `specs/` | says |
@@ -45,10 +45,10 @@
 mod acting;
 mod command;
 mod files;
-mod finish;
 mod help;
 mod job;
 mod line;
+mod outcome;
 mod status;
 mod stop;
 mod words;
@@ -57,6 +57,7 @@ pub use acting::act;
 pub use help::{Line, line_of};
 pub use job::{Act, Job};
 pub use line::judge;
+pub use outcome::finish;
 pub use status::Status;
 pub use stop::Stop;
 pub use words::{MAX_WRITTEN_LIST, names_of, read_job};

@@ -5,6 +5,14 @@ use crate::help;
 use clap::{Arg, Command, Error};
 use std::alloc::{AllocError, Global};
 
+/// The name of a word, and whether it has to be there.
+fn name_of(word: &str) -> (&str, bool) {
+    match word.strip_prefix("[") {
+        Some(rest) => (rest.strip_suffix("]").unwrap_or(rest), false),
+        None => (word, true),
+    }
+}
+
 /// The command with these words.
 fn subcommand<'a>(alloc: Global, line: &'a help::Line) -> Result<Command<'a>, AllocError> {
     let mut command = Command::new(alloc, line.name)
@@ -12,8 +20,9 @@ fn subcommand<'a>(alloc: Global, line: &'a help::Line) -> Result<Command<'a>, Al
         .override_usage(line.usage)
         .after_help(line.after);
     for word in line.words {
-        let arg = Arg::new(alloc, word)
-            .required(true)
+        let (name, is_needed) = name_of(word);
+        let arg = Arg::new(alloc, name)
+            .required(is_needed)
             .help(help::about_word(word));
         command = command.arg(arg)?;
     }

@@ -14,6 +14,8 @@ pub enum Asks {
     List,
     /// What the store has, with both masters.
     Answer,
+    /// What the store shows to whoever asks.
+    Names,
     /// The bytes of a file, with a user's keys.
     Bytes,
     /// Nothing of a server.
@@ -37,12 +39,12 @@ pub fn stores(act: &Act) -> bool {
     matches!(act, Act::Create { file: _, list: _ })
 }
 
-// The text of a name.
-fn text_of(name: &Name) -> &str {
+/// The text of a name.
+pub fn text_of(name: &Name) -> &str {
     std::str::from_utf8(name.as_bytes()).unwrap_or("")
 }
 
-/// The file that the act names, if it names one.
+/// The file that the act names, or nothing.
 pub fn file_of(act: &Act) -> &str {
     match act {
         Act::Enrol { user: _ } | Act::Key { user: _ } | Act::Check => "",

@@ -9,14 +9,15 @@ use std::fmt;
 use std::fmt::{Display, Formatter, Write};
 use std::io::ErrorKind;
 
-/// How a job ended, with what its words name. Its text is what went wrong.
+/// How a job ended, with what its words name: `name` is a file's, or a user's where names are asked
+/// for. Its text is what went wrong.
 #[derive(Clone, Copy)]
 pub struct Ending<'a> {
     pub status: Status,
     pub asks: Asks,
     pub address: &'a str,
     pub keys: &'a str,
-    pub file: &'a str,
+    pub name: &'a str,
     pub path: &'a str,
     pub reason: Option<ErrorKind>,
     pub refusal: Option<Refusal>,
@@ -48,8 +49,11 @@ fn say_unreached<W: Write>(end: &Ending<'_>, f: &mut Formatter<W>) -> fmt::Resul
 
 // Says that a command is refused, and why.
 fn say_refused<W: Write>(end: &Ending<'_>, f: &mut Formatter<W>) -> fmt::Result {
-    let address = end.address;
+    let (address, name) = (end.address, end.name);
     match end.refusal {
+        Some(_) if end.asks == Asks::Names => {
+            write!(f, "the store at {address} has no user {name}")
+        }
         Some(refusal) => {
             let (number, word) = (refusal.number(), refusal.word());
             write!(f, "{address} refuses the command: {number} {word}")
@@ -60,7 +64,7 @@ fn say_refused<W: Write>(end: &Ending<'_>, f: &mut Formatter<W>) -> fmt::Result 
 
 impl Display for Ending<'_> {
     fn fmt<W: Write>(&self, f: &mut Formatter<W>) -> fmt::Result {
-        let (address, keys, file) = (self.address, self.keys, self.file);
+        let (address, keys, name) = (self.address, self.keys, self.name);
         match self.status {
             Status::Done | Status::Usage => f.write_str("nothing is wrong"),
             Status::Refused => say_refused(self, f),
@@ -76,7 +80,7 @@ impl Display for Ending<'_> {
             Status::BadReply => write!(f, "what {address} replied is no answer to the request"),
             Status::Damaged => write!(
                 f,
-                "the bytes of {file} at {address} are damaged, or {keys} is of another store"
+                "the bytes of {name} at {address} are damaged, or {keys} is of another store"
             ),
             Status::Unsettled => write!(f, "others changed the store at {address} in nine tries"),
             Status::TooLong => write!(f, "{} has more than 1048576 bytes", self.path),
@@ -110,7 +114,7 @@ fn doubt_of(asks: Asks) -> &'static str {
         Asks::User => "it may be done: repeat it, and `refused 1 Taken` says that it was",
         Asks::File => FILE_IN_DOUBT,
         Asks::List => "it may be done: look with `overctl list` before you repeat it",
-        Asks::Answer | Asks::Bytes => "the store is as it was: try again",
+        Asks::Answer | Asks::Names | Asks::Bytes => "the store is as it was: try again",
         Asks::Nothing => "try again",
     }
 }
@@ -145,7 +149,7 @@ fn say_hint_of_reply<W: Write>(end: &Ending<'_>, f: &mut Formatter<W>) -> fmt::R
             write!(f, "; if it does, {}", doubt_of(end.asks))
         }
         Asks::Bytes => write!(f, ", and that {} is of its store", end.keys),
-        Asks::Answer | Asks::Nothing => Ok(()),
+        Asks::Answer | Asks::Names | Asks::Nothing => Ok(()),
     }
 }
 
@@ -156,7 +160,7 @@ fn say_hint_of_disk<W: Write>(asks: Asks, f: &mut Formatter<W>) -> fmt::Result {
         Asks::User | Asks::File | Asks::List => {
             write!(f, "have the server started again; {doubt}")
         }
-        Asks::Answer | Asks::Bytes | Asks::Nothing => f.write_str(doubt),
+        Asks::Answer | Asks::Names | Asks::Bytes | Asks::Nothing => f.write_str(doubt),
     }
 }
 
@@ -164,7 +168,7 @@ fn say_hint_of_disk<W: Write>(asks: Asks, f: &mut Formatter<W>) -> fmt::Result {
 fn hint_of_output(asks: Asks) -> &'static str {
     match asks {
         Asks::User | Asks::File | Asks::List => doubt_of(asks),
-        Asks::Answer | Asks::Bytes | Asks::Nothing => WRITABLE,
+        Asks::Answer | Asks::Names | Asks::Bytes | Asks::Nothing => WRITABLE,
     }
 }
 
@@ -182,6 +186,13 @@ impl Display for Hint<'_> {
         match end.status {
             Status::Done => f.write_str("nothing is to be done"),
             Status::Usage => f.write_str("see `overctl --help`"),
+            Status::Refused if end.asks == Asks::Names => {
+                write!(
+                    f,
+                    "correct the name: `overctl users {}` prints them",
+                    end.address
+                )
+            }
             Status::Refused => f.write_str(hint_of_refusal(end.refusal)),
             Status::Device => say_hint_of_disk(end.asks, f),
             Status::ReadFault => f.write_str("see that it is a file that you may read"),

@@ -2,7 +2,8 @@
 //!
 //! [`read_job`] reads the words of the command line, and [`act`](ov_acts::act) does what they ask
 //! for. Their contracts say what is asked in which order, what comes of it, and why each status
-//! comes. `main` makes the real files and the real stream, calls them, and says on standard error
+//! comes. Words that need no key are a question, and [`answer`](ov_listing::answer) gives the text
+//! that is printed. `main` makes the real files and the real stream, calls them, and says on standard error
 //! what went wrong and what to do.
 //!
 //! | module | what it does |
@@ -10,12 +11,14 @@
 //! | `real` | the real files and the real stream |
 //! | `ending`, `asks`, `refusals` | what is said of how a job ended, by what its act asks for |
 //! | `heard` | which refusal was put |
+//! | `question` | questions that need no key |
 //! | `usage`, `texts` | what is said of wrong words, and where help is asked for |
 #![tactic(auto)]
 
 mod asks;
 mod ending;
 mod heard;
+mod question;
 mod real;
 mod refusals;
 mod texts;
@@ -26,14 +29,14 @@ use real::{held_places, run_job, words_of};
 use std::io::ErrorKind;
 use std::process::ExitCode;
 use texts::WrongWords;
-use usage::{explain_words, say_out_of_memory, say_wrong};
+use usage::{ask_or_explain, say_out_of_memory, say_wrong};
 
 /// Does what the words ask for, and gives the status.
 fn answer_words(rt: &HostRuntime, words: &[String]) -> u8 {
     match read_job(rt.alloc(), words) {
         Ok(job) => run_job(rt, &job),
         Err(7) => say_out_of_memory(rt),
-        Err(_) => explain_words(rt, words),
+        Err(_) => ask_or_explain(rt, words),
     }
 }
 

@@ -1,14 +1,16 @@
 //! The real files and the real stream.
 ghost use Rattle.ov_acts.specs.Files.{HasListLimits};
 
-use crate::asks::{asks_of, file_of, stores};
+use crate::asks::{Asks, asks_of, file_of, stores};
 use crate::ending::{Ending, Hint};
 use crate::heard::Heard;
+use crate::question::{Asked, stop_of, user_of};
 use crate::usage::say;
-use ov_acts::{Act, Job, Status, act};
+use ov_acts::{Act, Job, Status, Stop, act, finish};
 use ov_base::{Memory, Octets, Refusal};
 use ov_files::is_open_to_others;
 use ov_io::{FileSource, Source, StdSink, StdSource};
+use ov_listing::answer;
 use ov_peer::FixedPeer;
 use ov_session::{NetPeer, TcpLink};
 use std::fs::File;
@@ -129,7 +131,7 @@ fn ending_of<'a>(rt: &HostRuntime, job: &'a Job, status: Status, outcome: &Outco
         asks: asks_of(&job.act),
         address,
         keys: text_of(&job.keys),
-        file: file_of(&job.act),
+        name: file_of(&job.act),
         path,
         reason,
         refusal: outcome.refusal,
@@ -177,6 +179,15 @@ fn do_job(rt: &HostRuntime, job: &Job) -> Result<Outcome, Memory>
     }
 }
 
+// Where memory was refused to the program itself.
+fn out_of_memory() -> Outcome {
+    Outcome {
+        code: Status::OutOfMemory.code(),
+        link: None,
+        refusal: None,
+    }
+}
+
 /// Does the job, says what went wrong, and gives the status.
 pub fn run_job(rt: &HostRuntime, job: &Job) -> u8
     requires list { HasListLimits job.now.act }
@@ -184,14 +195,52 @@ pub fn run_job(rt: &HostRuntime, job: &Job) -> u8
     warn_of_mode(rt, text_of(&job.keys));
     let outcome = match do_job(rt, job) {
         Ok(outcome) => outcome,
-        Err(Memory) => Outcome {
-            code: Status::OutOfMemory.code(),
-            link: None,
-            refusal: None,
-        },
+        Err(Memory) => out_of_memory(),
     };
     match Status::from_code(outcome.code) {
         Some(status) => explain(rt, &ending_of(rt, job, status, &outcome)),
+        None => {}
+    }
+    outcome.code
+}
+
+// Asks over the real stream, and prints the answer.
+fn do_ask(rt: &HostRuntime, asked: &Asked<'_>) -> Result<Outcome, Memory> {
+    let alloc = rt.alloc();
+    let mut out = Heard::new(StdSink::new(rt.stdout()));
+    let mut peer = NetPeer::new(TcpLink::new(*rt, asked.address)?)?;
+    let found = match answer(alloc, &mut peer, &asked.question) {
+        Ok(Some(text)) => Ok(text),
+        Ok(None) => Err(Stop::Refused(Refusal::NoUser)),
+        Err(fault) => Err(stop_of(fault)),
+    };
+    Ok(Outcome {
+        code: finish(alloc, found, &mut out),
+        link: peer.link().reason(),
+        refusal: out.refusal(),
+    })
+}
+
+/// Asks, says what went wrong, and gives the status.
+pub fn run_ask(rt: &HostRuntime, asked: &Asked<'_>) -> u8 {
+    let outcome = match do_ask(rt, asked) {
+        Ok(outcome) => outcome,
+        Err(Memory) => out_of_memory(),
+    };
+    match Status::from_code(outcome.code) {
+        Some(status) => explain(
+            rt,
+            &Ending {
+                status,
+                asks: Asks::Names,
+                address: asked.address,
+                keys: "",
+                name: user_of(&asked.question),
+                path: "",
+                reason: link_fault(rt, asked.address, outcome.link),
+                refusal: outcome.refusal,
+            },
+        ),
         None => {}
     }
     outcome.code

@@ -1,5 +1,7 @@
 //! What is said on standard error, and of words that are no line of a command or ask for help.
 
+use crate::question::question_of;
+use crate::real::run_ask;
 use crate::texts::{FREE_SOME, OUT_OF_MEMORY, UNWRITTEN, WRITABLE, WrongWords, usage_of};
 use clap::Error;
 use clap::error::ErrorKind;
@@ -32,7 +34,7 @@ fn wrong_words<'a>(error: &Error, words: &'a [String]) -> WrongWords<'a> {
 /// What is wrong with a word where the line has this one.
 fn wrong_word<'a>(alloc: Global, label: &str, word: &'a str) -> Option<WrongWords<'a>> {
     match label {
-        "USER" | "FILE" => match Name::read(word.as_bytes()) {
+        "USER" | "[USER]" | "FILE" => match Name::read(word.as_bytes()) {
             Some(_) => None,
             None => Some(WrongWords::Name(word)),
         },
@@ -87,10 +89,13 @@ pub fn say_out_of_memory(rt: &HostRuntime) -> u8 {
     Status::OutOfMemory.code()
 }
 
-/// Says why words are no job, and gives the status.
-pub fn explain_words(rt: &HostRuntime, words: &[String]) -> u8 {
+/// Asks what the words of a question ask for; or says why the words are no line. Gives the status.
+pub fn ask_or_explain(rt: &HostRuntime, words: &[String]) -> u8 {
     match judge(rt.alloc(), words) {
-        Ok(()) => say_wrong(rt, words, wrong_names(rt.alloc(), words)),
+        Ok(()) => match question_of(words) {
+            Some(asked) => run_ask(rt, &asked),
+            None => say_wrong(rt, words, wrong_names(rt.alloc(), words)),
+        },
         Err(error) if error.kind() == ErrorKind::OutOfMemory => say_out_of_memory(rt),
         Err(error) => say_of_line(rt, words, error),
     }

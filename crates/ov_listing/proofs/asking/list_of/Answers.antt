@@ -1,0 +1,30 @@
+use Rattle.std.proofs.Common.{subst, sym, List, ℕ, Result, Err}
+use Rattle.ov_listing.specs.Questions.{IsListAt, listed_in}
+use Rattle.ov_listing.specs.Telling.{Told}
+use Rattle.ov_listing.specs.declared.fault.ListingFault.{ListingFault}
+use Rattle.ov_listing.proofs.OneQuestion.{list_told}
+use Rattle.ov_listing.proofs.asking.list_of.Goals as goal
+use Rattle.ov_listing.specs.Causes.{IsSettled}
+use Rattle.ov_listing.proofs.Settling.{fault_settled, list_settled}
+
+pub returns-in-Ok-clause-told : goal.returns-in-Ok-clause-told
+returns-in-Ok-clause-told g c = λ alone v is_alone serves.
+    let peer = g.P.Peer.tells in
+    let q = c.exchange.new.peer in
+    subst (λ (r : Result (List (List ℕ)) ListingFault).
+    Told alone v (peer.serves q) (IsListAt c.args.file.now) r)
+    (sym c.listed_in.ensures)
+    (subst (λ (file : List ℕ). Told alone v (peer.serves q) (IsListAt file) (listed_in c.in-Ok.answer))
+    c.copy.ensures
+    (list_told peer c.args.peer.now q alone v is_alone serves c.copy.result c.in-Ok.ensures.form
+    c.in-Ok.answer c.in-Ok.ensures.exchanges))
+
+pub returns-in-Ok-clause-settled : goal.returns-in-Ok-clause-settled
+returns-in-Ok-clause-settled g c =
+    subst (λ (r : Result (List (List ℕ)) ListingFault). IsSettled r) (sym c.listed_in.ensures)
+    (list_settled c.in-Ok.answer)
+
+pub returns-clause-settled : goal.returns-clause-settled
+returns-clause-settled g c =
+    subst (λ (f : ListingFault). IsSettled {T = List (List ℕ)} (Err f)) (sym c.fault_of.ensures)
+    (fault_settled (List (List ℕ)) c.in-Err.fault)

@@ -1,0 +1,30 @@
+use Rattle.std.proofs.Common.{subst, ℕ, Ok, Err, List, Option, sym}
+use Rattle.ov_wire.specs.declared.request.Request.TheVariants.{Page}
+use Rattle.ov_wire.specs.Requests.{HasRequestForm}
+use Rattle.ov_peer.specs.Exchanges.{Answered}
+use Rattle.ov_listing.proofs.OneQuestion.{name_told}
+use Rattle.ov_listing.proofs.asking.name_at.Goals as goal
+use Rattle.ov_listing.specs.Causes.{IsSettled}
+use Rattle.ov_listing.specs.declared.fault.ListingFault.{ListingFault}
+use Rattle.ov_listing.proofs.Settling.{fault_settled, name_settled}
+
+pub returns-in-Ok-clause-told : goal.returns-in-Ok-clause-told
+returns-in-Ok-clause-told g c = λ alone v is_alone serves.
+    let peer = g.P.Peer.tells in
+    let p = c.args.peer.now in
+    let q = c.exchange.new.peer in
+    let number = c.args.number in
+    name_told peer p q alone v is_alone serves c.args.part number
+    (subst (λ (part : ℕ). HasRequestForm (Page part number)) c.number.ensures c.in-Ok.ensures.form)
+    c.in-Ok.answer c.named_in.result
+    (subst (λ (part : ℕ). Answered peer p q (Page part number) (Ok c.in-Ok.answer)) c.number.ensures
+    c.in-Ok.ensures.exchanges)
+    c.named_in.ensures
+
+pub returns-in-Ok-clause-settled : goal.returns-in-Ok-clause-settled
+returns-in-Ok-clause-settled g c = name_settled c.in-Ok.answer c.named_in.result c.named_in.ensures
+
+pub returns-clause-settled : goal.returns-clause-settled
+returns-clause-settled g c =
+    subst (λ (f : ListingFault). IsSettled {T = Option (List ℕ)} (Err f)) (sym c.fault_of.ensures)
+    (fault_settled (Option (List ℕ)) c.in-Err.fault)

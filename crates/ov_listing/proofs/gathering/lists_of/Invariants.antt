@@ -1,0 +1,16 @@
+use Rattle.std.proofs.Common.{◌≡◌, ◌≤◌, Bool}
+use Rattle.ov_protocol.specs.Serving.{Service}
+use Rattle.ov_listing.specs.Telling.{IsAloneIf}
+use Rattle.ov_listing.proofs.AllOfThem.{AreListed}
+use Rattle.ov_listing.proofs.Meanwhile.{Meanwhile}
+use Rattle.ov_listing.proofs.gathering.lists_of.Given as goal
+
+abbrev pub invariant-loop-file : goal.invariant-loop-file
+invariant-loop-file g l = record {
+  told : (alone : Bool) (v : Service) → IsAloneIf alone g.P.Peer.tells
+      → g.P.Peer.tells.serves l.fn.peer v
+      → Meanwhile alone v (g.P.Peer.tells.serves l.peer)
+      (AreListed l.files l.file-index l.lists.items v);
+  same : g.P.Peer.tells.borrow l.peer ≡ g.P.Peer.tells.borrow l.fn.peer;
+  later : g.P.Peer.tells.faults l.fn.peer ≤ g.P.Peer.tells.faults l.peer;
+}

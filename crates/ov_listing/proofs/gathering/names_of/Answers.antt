@@ -1,0 +1,39 @@
+use Rattle.std.proofs.Common.{◌∙◌, ◌+◌, List, ℕ, Option, Ok, arith, subst, sym}
+use Rattle.ov_listing.specs.Questions.{IsNameAt}
+use Rattle.ov_listing.specs.Telling.{Told}
+use Rattle.ov_listing.proofs.AllOfThem.{AreFirst, no_more, one_more}
+use Rattle.ov_listing.proofs.Meanwhile.{Meanwhile}
+use Rattle.ov_listing.proofs.gathering.names_of.Goals as goal
+
+pub returns-in-Ok-None-clause-told : goal.returns-in-Ok-None-clause-told
+returns-in-Ok-None-clause-told g c = λ alone v is_alone serves.
+    let peer = g.P.Peer.tells in
+    let Then = peer.serves c.name_at.new.peer in
+    let n = c.loop-number.number in
+    no_more alone v (peer.serves c.loop-number.peer) Then c.args.part n c.loop-number.names.items
+    (c.loop-number.invariant.told alone v is_alone serves)
+    (λ w mid.
+    subst (λ (found : Option (List ℕ)). Told alone w Then (IsNameAt c.args.part n) (Ok found))
+    c.in-Ok-None.field-0-is
+    (c.in-Ok-None.ensures.told alone w is_alone mid))
+
+pub loop-number-preserved : goal.loop-number-preserved
+loop-number-preserved g c =
+    let peer = g.P.Peer.tells in
+    let Then = peer.serves c.name_at.new.peer in
+    let n = c.loop-number.number in
+    record {
+      told = λ alone v is_alone serves.
+          subst (λ (names : List (List ℕ)). Meanwhile alone v Then (AreFirst c.args.part (n + 1) names v))
+          (sym c.in-Ok.ensures.items)
+          (one_more alone v (peer.serves c.loop-number.peer) Then c.args.part n
+          c.loop-number.names.items
+          (c.loop-number.invariant.told alone v is_alone serves)
+          c.in-Ok-Some.name
+          (λ w mid.
+          subst (λ (found : Option (List ℕ)). Told alone w Then (IsNameAt c.args.part n) (Ok found))
+          c.in-Ok-Some.field-0-is
+          (c.in-Ok-Some.ensures.told alone w is_alone mid)));
+      same = c.name_at.ensures.same ∙ c.loop-number.invariant.same;
+      later = omega (arith, c.name_at.ensures.cause.later, c.loop-number.invariant.later);
+    }

@@ -1,0 +1,6 @@
+pub mod Causes
+pub mod Listings
+pub mod Telling
+pub mod Questions
+pub mod Texts
+pub mod Answers

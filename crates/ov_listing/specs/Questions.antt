@@ -1,0 +1,90 @@
+-- Inner: no public contract needs this but for `IsWelcomeAt`. What is taken of one answer, and of
+-- several.
+use Rattle.std.specs.Prelude.{◌≡◌, ℕ, List, ◌++◌, map, slice_get}
+use Rattle.std.specs.Prelude.{Option, Some, None, Result, Ok, Err}
+use Rattle.ov_fields.specs.Spelling.{name_field}
+use Rattle.ov_history.specs.Catalogue.{matrix_shown}
+use Rattle.ov_history.specs.History.{Matrix}
+use Rattle.ov_history.specs.Lists.{file_names}
+use Rattle.ov_protocol.specs.Answers.{welcome_of}
+use Rattle.ov_protocol.specs.Serving.{Service, served}
+use Rattle.ov_wire.specs.declared.answer.Welcome.{Welcome}
+use Rattle.ov_wire.specs.declared.answer.Answer.{Answer}
+use Rattle.ov_wire.specs.declared.answer.Answer.TheVariants as answers
+use Rattle.ov_listing.specs.Listings.{IsListingAt, files_wanted, listed}
+use Rattle.ov_listing.specs.declared.fault.ListingFault.{ListingFault}
+use Rattle.ov_listing.specs.declared.fault.ListingFault.TheVariants.{BadReply, Memory}
+use Rattle.ov_listing.specs.declared.listing.Listed.{Listed}
+use Rattle.ov_listing.specs.declared.listing.Listing.{Listing}
+use Rattle.ov_listing.specs.declared.listing.Wanted.{Wanted}
+use Rattle.ov_listing.specs.declared.part.Part.{Part}
+use Rattle.ov_listing.specs.declared.part.Part.TheVariants.{Files, Users}
+
+-- ---- one answer
+
+-- what a Welcome says, or why there is none
+abbrev pub welcome_in : Answer → Result Welcome ListingFault
+welcome_in (answers.Welcome welcome) = Ok welcome
+welcome_in answers.NoMemory = Err Memory
+welcome_in answer = Err (BadReply 0)
+
+-- the names that are listed, or why there are none
+abbrev pub listed_in : Answer → Result (List (List ℕ)) ListingFault
+listed_in (answers.Listed names) = Ok names
+listed_in answers.NoMemory = Err Memory
+listed_in answer = Err (BadReply 0)
+
+-- the page's entry begins with this name, or there is no page; or why neither is told
+abbrev pub NamedIn : Answer → Result (Option (List ℕ)) ListingFault → Type 0
+NamedIn answer (Ok (Some name)) =
+    (entry rest : List ℕ) × (answer ≡ answers.PageOf (Some entry))
+    × (entry ≡ name_field name ++ rest)
+NamedIn answer (Ok None) = answer ≡ answers.PageOf None
+NamedIn answer (Err (BadReply place)) = Unit {0}
+NamedIn answer (Err Memory) = answer ≡ answers.NoMemory
+NamedIn answer (Err fault) = ⊥
+
+-- the number of a part in a request
+abbrev pub part_number : Part → ℕ
+part_number Users = 1
+part_number Files = 5
+
+-- ---- by the matrix that is shown
+
+-- mode, epoch and check value are those that are served
+abbrev pub IsWelcomeAt : Welcome → Service → Type 0
+IsWelcomeAt welcome w = welcome ≡ welcome_of (served w)
+
+-- the matrix that a server of this history shows
+abbrev pub matrix_at : Service → Matrix
+matrix_at w = matrix_shown (served w).catalogue
+
+-- the names of the users, or of the files, by number
+abbrev pub names_in_part : Part → Matrix → List (List ℕ)
+names_in_part Users m = m.users
+names_in_part Files m = file_names m.files
+
+-- the name of this number, if there is one
+abbrev pub IsNameAt : Part → ℕ → Option (List ℕ) → Service → Type 0
+IsNameAt part number name w = slice_get (names_in_part part (matrix_at w)) number ≡ name
+
+-- all names of the part
+abbrev pub AreNamesAt : Part → List (List ℕ) → Service → Type 0
+AreNamesAt part names w = names ≡ names_in_part part (matrix_at w)
+
+-- the names in the file's list
+abbrev pub IsListAt : List ℕ → List (List ℕ) → Service → Type 0
+IsListAt file names w = names ≡ (listed (matrix_at w) file).names
+
+-- each of these files with its list
+abbrev pub AreListsAt : List (List ℕ) → List Listed → Service → Type 0
+AreListsAt files lists w = lists ≡ map (listed (matrix_at w)) files
+
+-- the files that are wanted
+abbrev pub AreFilesAt : Wanted → List Listed → Service → Type 0
+AreFilesAt wanted files w = files ≡ files_wanted wanted (matrix_at w)
+
+-- a listing of the history that is served, or none
+abbrev pub IsTryAt : Wanted → Option Listing → Service → Type 0
+IsTryAt wanted (Some listing) w = IsListingAt wanted listing w
+IsTryAt wanted None w = Unit {0}

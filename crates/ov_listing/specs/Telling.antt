@@ -1,0 +1,40 @@
+-- What a call gives over a peer that tells which history it serves.
+use Rattle.std.specs.Prelude.{◌≡◌, ℕ, Bool, true, false, List, [], Result, Ok, Err}
+use Rattle.ov_record.specs.Updates.{SealedUpdate}
+use Rattle.ov_protocol.specs.Serving.{Service, later}
+use Rattle.ov_peer.specs.Tells.{IsReplyAt, PeerTells}
+use Rattle.ov_listing.specs.declared.fault.ListingFault.{ListingFault}
+
+-- Nobody else updates what this peer serves: whatever it is asked, it replies by just the history
+-- that it serves, or that its disk failed, and then serves that with what the request made.
+abbrev pub IsAlone : {P : Type 0} → PeerTells P → Type 0
+IsAlone {P} peer =
+    (p q : P) (request reply : List ℕ) (v : Service)
+    → peer.asked p request reply q → peer.serves p v
+    → (made : List SealedUpdate) × IsReplyAt v request reply made × peer.serves q (later v made)
+
+-- the same, where the test says so
+abbrev pub IsAloneIf : {P : Type 0} → Bool → PeerTells P → Type 0
+IsAloneIf true peer = IsAlone peer
+IsAloneIf false peer = Unit {0}
+
+-- what others may have made meanwhile: nothing, where nobody else updates
+abbrev pub MayBeMade : Bool → List SealedUpdate → Type 0
+MayBeMade true others = others ≡ []
+MayBeMade false others = Unit {0}
+
+-- what is served then is this history with what others made of it, and the value is right there
+abbrev pub Told : {T : Type 0} → Bool → Service → (Service → Type 0) → (T → Service → Type 0)
+    → Result T ListingFault → Type 0
+Told alone v Then IsRight (Ok value) =
+    (others : List SealedUpdate) × MayBeMade alone others
+    × Then (later v others) × IsRight value (later v others)
+Told alone v Then IsRight (Err fault) = Unit {0}
+
+-- the same of a value of several answers, which is right where others made nothing meanwhile
+abbrev pub ToldOfOne : {T : Type 0} → Bool → Service → (Service → Type 0)
+    → (T → Service → Type 0) → Result T ListingFault → Type 0
+ToldOfOne alone v Then IsRight (Ok value) =
+    (others : List SealedUpdate) × MayBeMade alone others
+    × Then (later v others) × (others ≡ [] → IsRight value v)
+ToldOfOne alone v Then IsRight (Err fault) = Unit {0}

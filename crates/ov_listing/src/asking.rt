@@ -1,0 +1,120 @@
+//! The three questions of a listing.
+ghost use Rattle.std.specs.Prelude.{◌≡◌, Bool, IfSome, List, ℕ, ◌++◌};
+ghost use Rattle.ov_fields.specs.Spelling.{name_field};
+ghost use Rattle.ov_protocol.specs.Serving.{Service};
+ghost use Rattle.ov_listing.specs.Causes.{HasListingCause, IsSettled};
+ghost use Rattle.ov_listing.specs.Questions.{NamedIn, listed_in, welcome_in};
+ghost use Rattle.ov_listing.specs.Questions.{IsListAt, IsNameAt, IsWelcomeAt};
+ghost use Rattle.ov_listing.specs.Telling.{IsAloneIf, Told};
+
+use crate::ListingFault;
+use crate::fault::fault_of;
+use crate::part::Part;
+use ov_base::{Name, Names};
+use ov_peer::{Peer, exchange};
+use ov_wire::{Answer, Request, Welcome};
+use std::alloc::Global;
+
+/// What a Welcome says, or why there is none.
+fn welcome_in(answer: Answer) -> Result<Welcome, ListingFault>
+    ensures { result ≡ welcome_in answer }
+{
+    match answer {
+        Answer::Welcome(welcome) => Ok(welcome),
+        Answer::NoMemory => Err(ListingFault::Memory),
+        _ => Err(ListingFault::BadReply { at: 0 }),
+    }
+}
+
+/// Asks for the store's mode, its epoch, and the check value of its base master.
+pub fn ask_welcome<P: Peer>(alloc: Global, peer: &mut P) -> Result<Welcome, ListingFault>
+    ensures told { (alone : Bool) (v : Service) → IsAloneIf alone P.tells
+        → P.tells.serves peer.old v
+        → Told alone v (P.tells.serves peer.new) IsWelcomeAt result }
+    ensures settled { IsSettled result }
+    ensures same { P.tells.borrow peer.new ≡ P.tells.borrow peer.old }
+    ensures cause { HasListingCause (P.tells.faults peer.old) (P.tells.faults peer.new) result }
+{
+    match exchange(alloc, peer, &Request::Hello) {
+        Ok(answer) => welcome_in(answer),
+        Err(fault) => Err(fault_of(fault)),
+    }
+}
+
+/// The name with which an entry begins, behind its length.
+fn name_in(entry: &[u8]) -> Option<Name>
+    ensures { IfSome result (λ name. (rest : List ℕ) × (entry.now ≡ name_field name ++ rest)) }
+{
+    match entry {
+        [count, rest @ ..] => {
+            let (word, _) = rest.split_at_checked(*count as usize)?;
+            Name::read(word)
+        }
+        [] => None,
+    }
+}
+
+/// The name on a page, or none where there is no such page.
+fn named_in(answer: Answer) -> Result<Option<Name>, ListingFault>
+    ensures { NamedIn answer result }
+{
+    match answer {
+        Answer::PageOf { entry: Some(entry) } => match name_in(entry.as_slice()) {
+            Some(name) => Ok(Some(name)),
+            None => Err(ListingFault::BadReply { at: 2 }),
+        },
+        Answer::PageOf { entry: None } => Ok(None),
+        Answer::NoMemory => Err(ListingFault::Memory),
+        _ => Err(ListingFault::BadReply { at: 0 }),
+    }
+}
+
+/// Asks for the name of this number in a part of the catalogue.
+pub fn name_at<P: Peer>(
+    alloc: Global,
+    peer: &mut P,
+    part: Part,
+    number: u32,
+) -> Result<Option<Name>, ListingFault>
+    ensures told { (alone : Bool) (v : Service) → IsAloneIf alone P.tells
+        → P.tells.serves peer.old v
+        → Told alone v (P.tells.serves peer.new) (IsNameAt part number) result }
+    ensures settled { IsSettled result }
+    ensures same { P.tells.borrow peer.new ≡ P.tells.borrow peer.old }
+    ensures cause { HasListingCause (P.tells.faults peer.old) (P.tells.faults peer.new) result }
+{
+    let request = Request::Page {
+        part: part.number(),
+        number,
+    };
+    match exchange(alloc, peer, &request) {
+        Ok(answer) => named_in(answer),
+        Err(fault) => Err(fault_of(fault)),
+    }
+}
+
+/// The names that are listed, or why there are none. A file that has a page has a list.
+fn listed_in(answer: Answer) -> Result<Names, ListingFault>
+    ensures { result ≡ listed_in answer }
+{
+    match answer {
+        Answer::Listed { names } => Ok(names),
+        Answer::NoMemory => Err(ListingFault::Memory),
+        _ => Err(ListingFault::BadReply { at: 0 }),
+    }
+}
+
+/// Asks for the names in the list of a file, in the order of the users.
+pub fn list_of<P: Peer>(alloc: Global, peer: &mut P, file: &Name) -> Result<Names, ListingFault>
+    ensures told { (alone : Bool) (v : Service) → IsAloneIf alone P.tells
+        → P.tells.serves peer.old v
+        → Told alone v (P.tells.serves peer.new) (IsListAt file.now) result }
+    ensures settled { IsSettled result }
+    ensures same { P.tells.borrow peer.new ≡ P.tells.borrow peer.old }
+    ensures cause { HasListingCause (P.tells.faults peer.old) (P.tells.faults peer.new) result }
+{
+    match exchange(alloc, peer, &Request::List { file: file.copy() }) {
+        Ok(answer) => listed_in(answer),
+        Err(fault) => Err(fault_of(fault)),
+    }
+}
