@@ -1,0 +1,5 @@
+pub mod Changes
+pub mod Lowest
+pub mod Others
+pub mod Places
+pub mod Writing

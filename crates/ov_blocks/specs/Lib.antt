@@ -1,0 +1,4 @@
+pub mod Extents
+pub mod Laws
+pub mod Places
+pub mod Writes

@@ -1,0 +1,110 @@
+//! The extents that are held.
+ghost use Rattle.std.specs.Prelude.{◌≡◌, ◌≤◌, ◌<◌, ◌+◌, ℕ, [], IfOk, OnErr, Contains};
+ghost use Rattle.ov_blocks.specs.Extents.{AreApart, HasPlace, Holds, IsFree, IsWith, ShareNoBlock, end_from};
+
+use crate::free::{count_before, is_free, lowest_run};
+use ov_base::Memory;
+use std::alloc::Global;
+use std::marker::Model;
+
+/// Bytes of a block.
+pub const BLOCK_BYTES: u32 = 4_096;
+
+/// Blocks of Blobs. Each extent ends at this block or before it.
+pub const MAX_BLOCKS: u32 = 2_147_483_648;
+
+/// Blocks of an extent for which a place is found, at most.
+pub const MAX_EXTENT_BLOCKS: u32 = 4_096;
+
+/// Extents that are held while a place is found for another, at most.
+pub const MAX_HELD: u32 = 65_535;
+
+/// Blocks that follow one another: the number of the first, and how many they are.
+#[derive(Clone, Copy, Debug, PartialEq, Eq)]
+pub struct Extent {
+    /// The number of the first block.
+    pub first: u32,
+    /// How many blocks there are.
+    pub length: u32,
+}
+
+/// The extents that are held, in the order of their places.
+#[derive(Drop)]
+pub struct Extents {
+    held: Vec<Extent>,
+}
+
+impl Model for Extents {
+    ghost use Rattle.std.specs.Prelude.{List};
+    ghost use Rattle.ov_blocks.specs.declared.extents.Extent.{Extent};
+    ghost use Rattle.ov_blocks.specs.Extents.{AreApart};
+
+    ghost Value = { List Extent };
+
+    ghost view = { λ e. e.held.items };
+
+    ghost invariant = { λ e. AreApart 0 e.held.items };
+}
+
+impl Extents {
+    /// Nothing is held.
+    pub fn new(alloc: Global) -> Extents
+        ensures { result ≡ [] }
+    {
+        Extents {
+            held: Vec::new(alloc),
+        }
+    }
+
+    /// The extents that are held, in the order of their places.
+    pub fn held(&self) -> &[Extent]
+        ensures { result.now ≡ self.now }
+    {
+        &self.held
+    }
+
+    /// Does nothing. Its contract is what holds of all that is held.
+    pub fn known(&self)
+        ensures order { AreApart 0 self.now }
+        ensures apart { ShareNoBlock self.now }
+    {
+        let _held = self.held.len();
+    }
+
+    /// The first block of the lowest run of so many free blocks. It takes no memory, and walks over
+    /// the held extents at most once.
+    pub fn place(&self, length: u32) -> u32
+        requires { HasPlace length self.now }
+        ensures free { IsFree result length self.now }
+        ensures lowest { (first : ℕ) → first < result → IsFree first length self.now → ⊥ }
+        ensures end { result + length ≤ MAX_BLOCKS }
+        ensures near { result ≤ end_from 0 self.now }
+    {
+        lowest_run(&self.held, length)
+    }
+
+    /// Holds a range, unless one of its blocks is in use.
+    pub fn hold(&mut self, first: u32, length: u32) -> Result<bool, Memory>
+        requires some { 1 ≤ length }
+        requires within { first + length ≤ MAX_BLOCKS }
+        ensures ok { IfOk result
+            (Holds (record { first = first; length = length }) self.old self.new) }
+        ensures err { OnErr result (self.new ≡ self.old) }
+    {
+        let place = count_before(&self.held, first);
+        if !is_free(&self.held, place, first, length) {
+            return Ok(false);
+        }
+        self.held.insert(place, Extent { first, length })?;
+        Ok(true)
+    }
+
+    /// Gives up an extent that is held. It takes no memory.
+    pub fn release(&mut self, first: u32, length: u32)
+        requires { Contains self.old (record { first = first; length = length }) }
+        ensures { IsWith (record { first = first; length = length }) self.new self.old }
+    {
+        let place = count_before(&self.held, first);
+        let _extent = self.held.remove(place);
+    }
+}
