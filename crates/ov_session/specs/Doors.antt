@@ -1,4 +1,4 @@
--- What a door tells of the streams that it gave.
+-- Where a door listens, and what it tells of the streams that it gave.
 use Rattle.std.specs.Prelude.{◌≡◌, ◌<◌, ◌+◌, ℕ, zero, suc, List, [], ◌∷◌, ◌++◌, slice_get, Bool, false, true}
 use Rattle.std.specs.Prelude.{Option, Some, None, IfSome, Result, Ok, Err}
 use Rattle.ov_base.specs.Causes.{Rose}
