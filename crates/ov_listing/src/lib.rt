@@ -16,7 +16,8 @@
 //! ```
 //!
 //! Over a peer that tells which history it serves, a listing is that of the access matrix of the
-//! history that is served then, whatever others update meanwhile (`told`). A peer that gives names
+//! history that is served then, whatever others update meanwhile (`told`); where nobody else does,
+//! one try is enough (`once`). A peer that gives names
 //! without end is asked for one more than a store can have, and no further.
 //!
 //! | file in `specs/` | says |
@@ -24,7 +25,7 @@
 //! | `Listings` | what is to be listed of a history |
 //! | `Telling` | what an answer is worth over a peer that tells its history |
 //! | `Questions` | what is taken of one answer |
-//! | `Causes` | where a fault of the link comes |
+//! | `Causes` | where a fault of the link comes; that one try was enough |
 //! | `Texts`, `Answers` | the lines of a listing, and the text that answers a question |
 //!
 //! Nothing is claimed of a peer that tells nothing: it may show any users and any lists.

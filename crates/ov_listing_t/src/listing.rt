@@ -1,4 +1,6 @@
 //! What is listed of a served store, and how a listing ends over peers that give fixed replies.
+//!
+//! A test function is proved too, so the rows stand in statics, of which no proof computes anything.
 mod rows;
 
 use ov_base::{Key, Mode, Name, Octets};
@@ -7,26 +9,21 @@ use ov_listing::{Question, answer};
 use ov_peer::{FixedPeer, Peer};
 use ov_server::{LocalPeer, Server};
 use ov_store::Store;
-use rows::{FILE, HELLO_6, HELLO_7, LIST, NO_MEMORY, NO_PAGE, UPDATES, USER};
+use rows::{Asked, Row, questions, rows, updates};
 use std::alloc::Global;
 use std::test::Fail;
 
-/// A server over a store in mode Delta, which these updates were sent to.
+/// A server over a store in mode Delta, which the updates were sent to.
 fn served(alloc: Global) -> Result<LocalPeer<MemDisk>, Fail> {
     let bytes = [0x22; 32];
-    let store = match Store::begin(
-        alloc,
-        MemDisk::new(alloc),
-        Key { bytes },
-        [0x33; 32],
-        Mode::Delta,
-    ) {
+    let disk = MemDisk::new(alloc);
+    let store = match Store::begin(alloc, disk, Key { bytes }, [0x33; 32], Mode::Delta) {
         Ok(store) => store,
         Err(_) => Err("a store")?,
     };
     let mut peer = LocalPeer::new(Server::new(store, Key { bytes }));
     let mut reply = Vec::new(alloc);
-    for update in UPDATES {
+    for update in updates() {
         if update.is_empty() || update.len() > 1000 {
             return Err("a frame")?;
         }
@@ -47,10 +44,14 @@ fn told<P: Peer>(alloc: Global, peer: &mut P, question: &Question) -> Result<Str
     }
 }
 
-/// The question for the files that list this user.
-fn files_of(user: &[u8]) -> Question {
-    Question::Files {
-        user: Name::read(user),
+/// The question of a row.
+fn question_of(row: &Asked) -> Question {
+    match row.command {
+        "epoch" => Question::Epoch,
+        "users" => Question::Users,
+        _ => Question::Files {
+            user: Name::read(row.user.as_bytes()),
+        },
     }
 }
 
@@ -58,87 +59,33 @@ fn files_of(user: &[u8]) -> Question {
 fn a_served_store_is_listed(rt: HostRuntime) -> Result<(), Fail> {
     let alloc = rt.alloc();
     let mut peer = served(alloc)?;
-    let all = Question::Files { user: None };
-    assert_eq!(rt;
-        told(alloc, &mut peer, &Question::Epoch)?.as_str(),
-        "mode delta\nepoch 6\n"
-    );
-    assert_eq!(rt;
-        told(alloc, &mut peer, &Question::Users)?.as_str(),
-        "a\nb\nc\n"
-    );
-    assert_eq!(rt;
-        told(alloc, &mut peer, &all)?.as_str(),
-        "list f1 a,b,c\nlist f2 a,b\n"
-    );
-    assert_eq!(rt;
-        told(alloc, &mut peer, &files_of(b"b"))?.as_str(),
-        "f1\nf2\n"
-    );
-    assert_eq!(rt; told(alloc, &mut peer, &files_of(b"c"))?.as_str(), "f1\n");
-    assert_eq!(rt; told(alloc, &mut peer, &files_of(b"d"))?.as_str(), "none");
+    for row in questions() {
+        let text = told(alloc, &mut peer, &question_of(row))?;
+        assert_eq!(rt; text.as_str(), row.text, "{}", row.command);
+    }
     Ok(())
 }
 
-/// A peer that gives these replies, each row of them so often.
-fn peer_of(alloc: Global, rows: &[(usize, &[u8])]) -> Result<FixedPeer, Fail> {
+/// The peer of a row.
+fn peer_of(alloc: Global, row: &Row) -> Result<FixedPeer, Fail> {
     let mut all = Vec::new(alloc);
-    for (count, reply) in rows {
-        for _ in 0..*count {
-            all.push(Octets::copy(alloc, reply)?)?;
+    for _ in 0..row.rounds {
+        for (count, reply) in row.replies {
+            for _ in 0..*count {
+                all.push(Octets::copy(alloc, reply)?)?;
+            }
         }
     }
     Ok(FixedPeer::new(all, Octets::new(alloc)))
 }
 
-/// The text of the users by these replies, or the fault.
-fn users_by(alloc: Global, rows: &[(usize, &[u8])]) -> Result<String, Fail> {
-    told(alloc, &mut peer_of(alloc, rows)?, &Question::Users)
-}
-
 #[test]
-fn a_store_that_moves_is_asked_again(rt: HostRuntime) -> Result<(), Fail> {
+fn each_end_has_its_replies(rt: HostRuntime) -> Result<(), Fail> {
     let alloc = rt.alloc();
-    let rows = [
-        (1, HELLO_6),
-        (1, NO_PAGE),
-        (2, HELLO_7),
-        (1, USER),
-        (1, NO_PAGE),
-        (1, HELLO_7),
-    ];
-    assert_eq!(rt; users_by(alloc, &rows)?.as_str(), "b\n");
-    Ok(())
-}
-
-#[test]
-fn each_fault_has_its_replies(rt: HostRuntime) -> Result<(), Fail> {
-    let alloc = rt.alloc();
-    // Nine tries, in each of which the epoch moves.
-    let mut moving = Vec::new(alloc);
-    for _ in 0..9 {
-        for reply in [HELLO_6, NO_PAGE, HELLO_7] {
-            moving.push((1, reply))?;
-        }
+    for row in rows() {
+        let mut peer = peer_of(alloc, row)?;
+        let text = told(alloc, &mut peer, &Question::Users)?;
+        assert_eq!(rt; text.as_str(), row.text);
     }
-    assert_eq!(rt; users_by(alloc, &moving)?.as_str(), "Unsettled");
-    // More users than a store can have.
-    let endless = [(1, HELLO_6), (300, USER)];
-    assert_eq!(rt; users_by(alloc, &endless)?.as_str(), "BadReply { at: 1 }");
-    // An answer to another request, an entry that isn't one, and no reply.
-    assert_eq!(rt;
-        users_by(alloc, &[(1, NO_PAGE)])?.as_str(),
-        "BadReply { at: 0 }"
-    );
-    assert_eq!(rt;
-        users_by(alloc, &[(1, HELLO_6), (1, LIST)])?.as_str(),
-        "BadReply { at: 0 }"
-    );
-    assert_eq!(rt;
-        users_by(alloc, &[(1, HELLO_6), (1, FILE)])?.as_str(),
-        "BadReply { at: 13 }"
-    );
-    assert_eq!(rt; users_by(alloc, &[(1, HELLO_6)])?.as_str(), "Link");
-    assert_eq!(rt; users_by(alloc, &[(1, NO_MEMORY)])?.as_str(), "Memory");
     Ok(())
 }

@@ -2,7 +2,7 @@
 //! program sent, and replies of it.
 
 /// Enrolments of a, b and c, creations of f1 and f2 for a and b, and a grant of f1 to c.
-pub const UPDATES: &[&[u8]] = &[
+static UPDATES: [&[u8]; 6] = [
     b"\
         \x04\x00\x00\x00\x00\x01\x01\x61\x03\x2e\x08\x8e\x12\x07\xa4\xc3\xd7\xba\x61\x9b\x96\
         \x12\x7e\x99\x19\x02\x55\xe9\xa7\xc5\xc1\x2a\x85\x13\xe6\xfa\x3d\x03\x34\xa2",
@@ -36,25 +36,147 @@ pub const UPDATES: &[&[u8]] = &[
         \xb6\xd1\xbe\x9d\x3a\x0b\x94\x1b\x66\x8c\xc6\xb7\x62\x1a\x44\xda",
 ];
 
-/// A Welcome at epoch 6, and one at epoch 7.
-pub const HELLO_6: &[u8] = b"\x81\x01\0\0\0\x0633333333333333333333333333333333";
+/// The updates, in order.
+pub fn updates() -> &'static [&'static [u8]] {
+    &UPDATES
+}
 
-pub const HELLO_7: &[u8] = b"\x81\x01\0\0\0\x0733333333333333333333333333333333";
+/// A Welcome at epoch 6, and one at epoch 7.
+const HELLO_6: &[u8] = b"\x81\x01\0\0\0\x0633333333333333333333333333333333";
+
+const HELLO_7: &[u8] = b"\x81\x01\0\0\0\x0733333333333333333333333333333333";
 
 /// The page of b.
-pub const USER: &[u8] = b"\x87\x01\x01b\0\0\0\x01\0\0\0\x01";
+const USER: &[u8] = b"\x87\x01\x01b\0\0\0\x01\0\0\0\x01";
 
 /// That there is no page.
-pub const NO_PAGE: &[u8] = b"\x87\0";
+const NO_PAGE: &[u8] = b"\x87\0";
 
 /// The page of f2, which is no user's.
-pub const FILE: &[u8] = b"\
+const FILE: &[u8] = b"\
     \x87\x01\x02\x66\x32\x00\x00\x00\x03\x00\x00\x00\x02\x00\x00\x00\x06\x81\x5e\xf9\xeb\
     \x1a\x7d\x37\x58\xce\xe1\xeb\x73\x56\x7e\x8e\xce\x1d\xa1\x49\x02\x45\x70\x25\xcf\x2c\
     \x4f\x9f\x3f\xb2\xa8\x34\x9f\x01\x00\x00\x00\x03";
 
 /// The list of a, b and c.
-pub const LIST: &[u8] = b"\x8f\0\x03\x01a\x01b\x01c";
+const LIST: &[u8] = b"\x8f\0\x03\x01a\x01b\x01c";
 
 /// That the server's memory ran out.
-pub const NO_MEMORY: &[u8] = b"\x8e";
+const NO_MEMORY: &[u8] = b"\x8e";
+
+/// A question, a user for whom it is asked, and the text that answers it.
+pub struct Asked {
+    pub command: &'static str,
+    pub user: &'static str,
+    pub text: &'static str,
+}
+
+static ASKED: [Asked; 6] = [
+    Asked {
+        command: "epoch",
+        user: "",
+        text: "mode delta\nepoch 6\n",
+    },
+    Asked {
+        command: "users",
+        user: "",
+        text: "a\nb\nc\n",
+    },
+    Asked {
+        command: "files",
+        user: "",
+        text: "list f1 a,b,c\nlist f2 a,b\n",
+    },
+    Asked {
+        command: "files",
+        user: "b",
+        text: "f1\nf2\n",
+    },
+    Asked {
+        command: "files",
+        user: "c",
+        text: "f1\n",
+    },
+    Asked {
+        command: "files",
+        user: "d",
+        text: "none",
+    },
+];
+
+/// What is asked of the store after these updates.
+pub fn questions() -> &'static [Asked] {
+    &ASKED
+}
+
+/// Replies, each so often in turn and all of them in so many rounds, and what comes of a question for
+/// the users.
+pub struct Row {
+    pub rounds: usize,
+    pub replies: &'static [(usize, &'static [u8])],
+    pub text: &'static str,
+}
+
+static ROWS: [Row; 9] = [
+    // A store that moves once, and one that moves in each of nine tries.
+    Row {
+        rounds: 1,
+        replies: &[
+            (1, HELLO_6),
+            (1, NO_PAGE),
+            (2, HELLO_7),
+            (1, USER),
+            (1, NO_PAGE),
+            (1, HELLO_7),
+        ],
+        text: "b\n",
+    },
+    Row {
+        rounds: 9,
+        replies: &[(1, HELLO_6), (1, NO_PAGE), (1, HELLO_7)],
+        text: "Unsettled",
+    },
+    // More users than a store can have.
+    Row {
+        rounds: 1,
+        replies: &[(1, HELLO_6), (300, USER)],
+        text: "BadReply { at: 1 }",
+    },
+    // Answers to other requests, an entry of another part, and a reply that is none.
+    Row {
+        rounds: 1,
+        replies: &[(1, NO_PAGE)],
+        text: "BadReply { at: 0 }",
+    },
+    Row {
+        rounds: 1,
+        replies: &[(1, HELLO_6), (1, LIST)],
+        text: "BadReply { at: 0 }",
+    },
+    Row {
+        rounds: 1,
+        replies: &[(1, HELLO_6), (1, FILE)],
+        text: "BadReply { at: 13 }",
+    },
+    Row {
+        rounds: 1,
+        replies: &[(1, HELLO_6), (1, HELLO_6)],
+        text: "BadReply { at: 0 }",
+    },
+    // No reply, and a server without memory.
+    Row {
+        rounds: 1,
+        replies: &[(1, HELLO_6)],
+        text: "Link",
+    },
+    Row {
+        rounds: 1,
+        replies: &[(1, NO_MEMORY)],
+        text: "Memory",
+    },
+];
+
+/// How a question for the users ends.
+pub fn rows() -> &'static [Row] {
+    &ROWS
+}
