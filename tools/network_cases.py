@@ -460,6 +460,20 @@ def a_write_that_fails():
     ]
 
 
+def a_base_master_that_is_shown():
+    """Settings that have it for the check value: the owner is told that it is public."""
+    folder = new_folder()
+    shutil.copy(KEYS, folder / "keys.hex")
+    server = Server(folder, 2, base_check=BASE_MASTER.hex())
+    done = subprocess.run([CLIENT, "enrol", server.address, "keys.hex", "alice"], cwd=folder, capture_output=True, timeout=SECONDS)
+    assert (done.returncode, done.stdout) == (9, b""), done
+    assert [line for line in done.stderr.decode().splitlines() if ": warning: " not in line and "chmod" not in line] == [
+        "overctl: error: %s has the base master where its check value should be" % server.address,
+        "overctl: hint: the server shows it to everyone: make new keys and a new store",
+    ], done.stderr
+    assert server.end(2) == []
+
+
 CASES = [
     right_sessions,
     broken_sessions,
@@ -475,7 +489,7 @@ CASES = [
 ]
 
 if __name__ == "__main__":
-    for case in CASES + ([a_file_over_the_network, a_write_that_fails] if CLIENT else []):
+    for case in CASES + ([a_file_over_the_network, a_write_that_fails, a_base_master_that_is_shown] if CLIENT else []):
         began = time.monotonic()
         case()
         print("%-28s %5.1f s" % (case.__name__, time.monotonic() - began), flush=True)

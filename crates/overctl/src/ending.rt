@@ -21,6 +21,7 @@ pub struct Ending<'a> {
     pub path: &'a str,
     pub reason: Option<ErrorKind>,
     pub refusal: Option<Refusal>,
+    pub leaked: bool,
 }
 
 // Says that a file isn't read.
@@ -74,6 +75,12 @@ impl Display for Ending<'_> {
             Status::OutOfMemory if self.asks == Asks::Nothing => f.write_str(OUT_OF_MEMORY),
             Status::OutOfMemory => write!(f, "out of memory, here or at {address}"),
             Status::LinkFault => say_unreached(self, f),
+            Status::OtherKeys if self.leaked => {
+                write!(
+                    f,
+                    "{address} has the base master where its check value should be"
+                )
+            }
             Status::OtherKeys => write!(f, "the store at {address} has other masters than {keys}"),
             Status::BadKeys if self.asks == Asks::Bytes => write!(f, "{keys} is no user key line"),
             Status::BadKeys => write!(f, "{keys} is no key file"),
@@ -93,6 +100,9 @@ const KEYS_OF_SETTINGS: &str = concat!(
     "take the key file of its settings: ",
     "`base_check` is its `overctl check`, `surface` its second line"
 );
+
+// What to do where the server shows the base master.
+const LEAKED: &str = "the server shows it to everyone: make new keys and a new store";
 
 /// What to do about how a job ended.
 #[derive(Clone, Copy)]
@@ -199,6 +209,7 @@ impl Display for Hint<'_> {
             Status::WriteFault => f.write_str(hint_of_output(end.asks)),
             Status::OutOfMemory => f.write_str(doubt_of(end.asks)),
             Status::LinkFault => say_hint_of_link(end, f),
+            Status::OtherKeys if end.leaked => f.write_str(LEAKED),
             Status::OtherKeys if end.asks == Asks::File => {
                 write!(f, "{KEYS_OF_SETTINGS}{FILE_FIRST}")
             }

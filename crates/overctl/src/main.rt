@@ -11,6 +11,7 @@
 //! | `real` | the real files and the real stream |
 //! | `ending`, `asks`, `refusals` | what is said of how a job ended, by what its act asks for |
 //! | `heard` | which refusal was put |
+//! | `leaked` | whether a server shows the base master |
 //! | `question` | questions that need no key |
 //! | `usage`, `texts` | what is said of wrong words, and where help is asked for |
 #![tactic(auto)]
@@ -18,6 +19,7 @@
 mod asks;
 mod ending;
 mod heard;
+mod leaked;
 mod question;
 mod real;
 mod refusals;

@@ -4,6 +4,7 @@ ghost use Rattle.ov_acts.specs.Files.{HasListLimits};
 use crate::asks::{Asks, asks_of, file_of, stores};
 use crate::ending::{Ending, Hint};
 use crate::heard::Heard;
+use crate::leaked::shows_base;
 use crate::question::{Asked, stop_of, user_of};
 use crate::usage::say;
 use ov_acts::{Act, Job, Status, Stop, act, finish};
@@ -135,6 +136,7 @@ fn ending_of<'a>(rt: &HostRuntime, job: &'a Job, status: Status, outcome: &Outco
         path,
         reason,
         refusal: outcome.refusal,
+        leaked: status == Status::OtherKeys && shows_base(rt, address, text_of(&job.keys)),
     }
 }
 
@@ -239,6 +241,7 @@ pub fn run_ask(rt: &HostRuntime, asked: &Asked<'_>) -> u8 {
                 path: "",
                 reason: link_fault(rt, asked.address, outcome.link),
                 refusal: outcome.refusal,
+                leaked: false,
             },
         ),
         None => {}
