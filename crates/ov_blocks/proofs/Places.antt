@@ -91,6 +91,10 @@ removed from [] (suc p) apart = apart
 removed from (x ∷ held) zero apart = from_less (x.first + x.length) from held apart.2 (omega (arith, apart.0))
 removed from (x ∷ held) (suc p) apart = (apart.0, apart.1, removed (x.first + x.length) held p apart.2)
 
+-- what is removed at a place, however the place is written
+pub removed_at : {at : ℕ} (old new : List Extent) (place : ℕ) → new ≡ remove old at → at ≡ place → new ≡ remove old place
+removed_at old new place is same = is ∙ ap (remove old) same
+
 -- ---- one more and one less
 
 pub is_with : (e : Extent) (old new : List Extent) (place : ℕ) → new ≡ insert old place e → IsWith e old new

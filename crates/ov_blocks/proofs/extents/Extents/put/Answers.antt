@@ -1,4 +1,4 @@
-use Rattle.std.proofs.Common.{length, subst}
+use Rattle.std.proofs.Common.{◌≡◌, arith, length, subst}
 use Rattle.ov_disk.specs.Disk.{Follows, TornIn}
 use Rattle.ov_disk.specs.declared.area.Area.TheVariants.{Blobs}
 use Rattle.ov_blocks.specs.Writes.{place_in_blobs, PutsInto}
@@ -10,9 +10,10 @@ pub returns-clause-crash : goal.returns-clause-crash
 returns-clause-crash g c =
     let at = place_in_blobs c.args.first c.args.start in
     let n = length c.args.bytes.now in
+    let here : c.place_in_blobs.result ≡ place_in_blobs c.args.first c.args.start = omega (arith, c.place_in_blobs.ensures) in
     follows_weaker (TornIn Blobs at n) (PutsInto c.args.first c.args.start n c.args.self.now) (g.D.Disk.tells.may_leave c.args.disk.now) (g.D.Disk.tells.may_leave c.write_at.new.self)
     (λ i k torn. puts_into c.args.self.now c.args.first c.args.start n i k c.known.ensures.order c.requires.inside (torn_changes at n i k torn))
-    (subst (λ p. Follows (TornIn Blobs p n) (g.D.Disk.tells.may_leave c.args.disk.now) (g.D.Disk.tells.may_leave c.write_at.new.self)) c.place_in_blobs.ensures c.write_at.ensures.crash)
+    (subst (λ p. Follows (TornIn Blobs p n) (g.D.Disk.tells.may_leave c.args.disk.now) (g.D.Disk.tells.may_leave c.write_at.new.self)) here c.write_at.ensures.crash)
 
 pub returns-clause-any_moment : goal.returns-clause-any_moment
 returns-clause-any_moment g c =

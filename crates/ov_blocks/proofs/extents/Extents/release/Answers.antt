@@ -3,7 +3,7 @@ use Rattle.std.specs.Prelude.{Contains}
 use Rattle.ov_blocks.specs.declared.extents.Extent.{Extent}
 use Rattle.ov_blocks.specs.Extents.{AreApart, IsWith}
 use Rattle.ov_blocks.specs.Places.{IsCountBefore}
-use Rattle.ov_blocks.proofs.Places.{own_place, removed, is_without}
+use Rattle.ov_blocks.proofs.Places.{own_place, removed, removed_at, is_without}
 use Rattle.ov_blocks.proofs.extents.Extents.release.Goals as goal
 
 pub remove-extent-requires : goal.remove-extent-requires
@@ -14,7 +14,7 @@ remove-extent-requires c =
     omega (arith, own.0, c.deref.ensures.len, ap (length {A = Extent}) c.deref.ensures.value)
 
 pub invariant_of-self : goal.invariant_of-self
-invariant_of-self c = subst (AreApart 0) (sym c.remove-extent.ensures.items) (removed 0 c.self.inside.held.items c.count_before-place.result c.self.invariant)
+invariant_of-self c = subst (AreApart 0) (sym (removed_at c.self.inside.held.items c.remove-extent.new.self.items c.count_before-place.result c.remove-extent.ensures.items (omega arith))) (removed 0 c.self.inside.held.items c.count_before-place.result c.self.invariant)
 
 pub returns : goal.returns
 returns c =
@@ -22,4 +22,4 @@ returns c =
     (subst (λ l. IsCountBefore c.args.first c.count_before-place.result l) c.deref.ensures.value c.count_before-place.ensures)
     (subst (λ l. Contains l (record { first = c.args.first; length = c.args.length })) (sym c.self.view_is) c.requires) in
     subst (λ l. IsWith (record { first = c.args.first; length = c.args.length }) c.remove-extent.new.self.items l) c.self.view_is
-    (is_without (record { first = c.args.first; length = c.args.length }) c.self.inside.held.items c.remove-extent.new.self.items c.count_before-place.result c.remove-extent.ensures.items own.0 own.1)
+    (is_without (record { first = c.args.first; length = c.args.length }) c.self.inside.held.items c.remove-extent.new.self.items c.count_before-place.result (removed_at c.self.inside.held.items c.remove-extent.new.self.items c.count_before-place.result c.remove-extent.ensures.items (omega arith)) own.0 own.1)

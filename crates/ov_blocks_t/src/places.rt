@@ -1,0 +1,115 @@
+//! Which blocks are taken: rows by hand.
+use crate::asked::{place, release};
+use ov_base::Memory;
+use ov_blocks::{BLOCK_BYTES, Extent, Extents, MAX_BLOCKS};
+use std::alloc::{AllocError, Global};
+use std::process::Abort;
+use std::test::Fail;
+
+// These extents are held, each with its first block and its length.
+fn holding(rt: &impl Abort, alloc: Global, held: &[(u32, u32)]) -> Result<Extents, Fail> {
+    let mut extents = Extents::new(alloc);
+    for (first, length) in held {
+        assert!(rt; *length > 0 && *first < MAX_BLOCKS && *length <= MAX_BLOCKS - *first);
+        assert_eq!(rt; extents.hold(*first, *length), Ok(true));
+    }
+    Ok(extents)
+}
+
+// What is held, the length that is wanted, and its place.
+const PLACES: [(&[(u32, u32)], u32, u32); 13] = [
+    (&[], 1, 0),
+    (&[], 4_096, 0),
+    (&[(0, 3)], 3, 3),
+    (&[(3, 3)], 3, 0),
+    (&[(3, 3)], 4, 6),
+    // A gap that just fits, one that is too short by a block, and the first of two that fit.
+    (&[(0, 2), (5, 1)], 3, 2),
+    (&[(0, 2), (5, 1)], 4, 6),
+    (&[(0, 2), (5, 1), (9, 1)], 3, 2),
+    (&[(0, 2), (5, 1), (9, 1)], 4, 10),
+    // No gap: the run begins where the last extent ends.
+    (&[(0, 2), (2, 1), (3, 4)], 1, 7),
+    // An extent in front of a long gap, whatever comes behind it.
+    (&[(0, 1), (5_000, 4_096)], 4_096, 1),
+    (&[(2_147_479_552, 4_096)], 4_096, 0),
+    (
+        &[(0, 4_096), (4_096, 1), (2_147_479_552, 4_096)],
+        4_096,
+        4_097,
+    ),
+];
+
+#[test]
+fn lowest_runs(rt: HostRuntime) -> Result<(), Fail> {
+    for (held, length, first) in &PLACES {
+        let extents = holding(&rt, rt.alloc(), *held)?;
+        assert_eq!(rt;
+            place(&rt, &extents, *length),
+            *first,
+            "{length} beside {held:?}"
+        );
+    }
+    Ok(())
+}
+
+// What is held, a range that is to be held besides, and whether it is free.
+const HOLDS: [(&[(u32, u32)], u32, u32, bool); 12] = [
+    (&[], 0, 1, true),
+    (&[(3, 3)], 0, 3, true),
+    (&[(3, 3)], 6, 1, true),
+    (&[(3, 3)], 2, 2, false),
+    (&[(3, 3)], 5, 1, false),
+    (&[(3, 3)], 3, 3, false),
+    (&[(3, 3)], 4, 1, false),
+    (&[(3, 3)], 0, 9, false),
+    (&[(0, 2), (5, 1)], 2, 3, true),
+    (&[(0, 2), (5, 1)], 2, 4, false),
+    // The last block, which is also an extent's.
+    (&[(0, 2)], 2_147_483_647, 1, true),
+    (&[(2_147_479_552, 4_096)], 2_147_483_647, 1, false),
+];
+
+#[test]
+fn ranges_that_are_held_or_free(rt: HostRuntime) -> Result<(), Fail> {
+    for (held, first, length, free) in &HOLDS {
+        let mut extents = holding(&rt, rt.alloc(), *held)?;
+        let before = extents.held().len();
+        assert!(rt; *length > 0 && *first < MAX_BLOCKS && *length <= MAX_BLOCKS - *first);
+        assert_eq!(rt;
+            extents.hold(*first, *length),
+            Ok(*free),
+            "{first} beside {held:?}"
+        );
+        assert_eq!(rt; extents.held().len(), before + usize::from(*free));
+    }
+    Ok(())
+}
+
+// Blocks that a file of 8,193 bytes takes.
+const THREE: u32 = (8_193 + BLOCK_BYTES - 1) / BLOCK_BYTES;
+
+// A file is written, rewritten behind itself, and then in front again.
+#[test]
+fn blocks_are_used_again(rt: HostRuntime) -> Result<(), Fail> {
+    let mut extents = Extents::new(rt.alloc());
+    assert_eq!(rt; THREE, 3);
+    assert_eq!(rt; place(&rt, &extents, THREE), 0);
+    assert_eq!(rt; extents.hold(0, THREE), Ok(true));
+    assert_eq!(rt; place(&rt, &extents, THREE), 3);
+    assert_eq!(rt; extents.hold(3, THREE), Ok(true));
+    release(&rt, &mut extents, 0, THREE);
+    assert_eq!(rt; place(&rt, &extents, THREE), 0);
+    assert_eq!(rt; place(&rt, &extents, THREE + 1), 6);
+    assert_eq!(rt; extents.hold(0, THREE), Ok(true));
+    release(&rt, &mut extents, 3, THREE);
+    assert_eq!(rt;
+        extents.held(),
+        [Extent {
+            first: 0,
+            length: 3
+        }]
+        .as_slice()
+    );
+    Ok(())
+}
