@@ -6,58 +6,105 @@ use std::fs;
 use std::process::Abort;
 use std::test::Fail;
 
-// Three bytes, of which the last is written over with three others, and then a sync.
+// Writes over the last byte of Book, and syncs. Its length afterwards is answered. By the length
+// before, the place that is written is within Book.
+fn write_over_last<D: Disk>(disk: &mut D, bytes: &[u8]) -> Result<u64, DiskFault> {
+    let length = disk.len(Area::Book)?;
+    if 1 <= length {
+        disk.write_at(Area::Book, length - 1, bytes)?;
+    }
+    disk.sync()?;
+    disk.len(Area::Book)
+}
+
+// Three bytes, of which the last is written over with three others: a length, the write, a sync and
+// a length.
 fn written(rt: &impl Abort, alloc: Global) -> Result<MemDisk, Fail> {
-    let mut disk = MemDisk::of(
-        alloc,
-        Octets::copy(alloc, b"abc")?,
-        Octets::copy(alloc, b"z")?,
-    );
-    assert_eq!(rt; disk.write_at(Area::Book, 2, b"xyz"), Ok(()));
-    assert_eq!(rt; disk.sync(), Ok(()));
-    assert_eq!(rt; disk.len(Area::Book), Ok(5));
+    let book = Octets::copy(alloc, b"abc")?;
+    let mut disk = MemDisk::of(alloc, book, Octets::copy(alloc, b"z")?);
+    assert_eq!(rt; write_over_last(&mut disk, b"xyz"), Ok(5));
     Ok(disk)
 }
 
+/// The disk that a stop after this many calls leaves, or none where there were fewer.
+pub fn left(disk: &MemDisk, call: u64, tear: Tear) -> Result<Option<MemDisk>, Fail> {
+    if call <= disk.calls() {
+        Ok(Some(disk.image(call, tear)?))
+    } else {
+        Ok(None)
+    }
+}
+
 // What a stop after this many calls leaves.
-const LEFT: [(u64, Tear, &[u8]); 6] = [
+const LEFT: [(u64, Tear, &[u8]); 7] = [
     (0, Tear::New, b"abc"),
-    (1, Tear::Old, b"abc"),
-    (1, Tear::New, b"abxyz"),
-    (1, Tear::Fill(7), b"ab\x07\x07\x07"),
-    (2, Tear::Old, b"abxyz"),
-    (3, Tear::Fill(7), b"abxyz"),
+    (1, Tear::New, b"abc"),
+    (2, Tear::Old, b"abc"),
+    (2, Tear::New, b"abxyz"),
+    (2, Tear::Fill(7), b"ab\x07\x07\x07"),
+    (3, Tear::Old, b"abxyz"),
+    (4, Tear::Fill(7), b"abxyz"),
 ];
 
-#[test]
-fn a_write_torn_in_each_way(rt: HostRuntime) -> Result<(), Fail> {
-    let disk = written(&rt, rt.alloc())?;
-    assert_eq!(rt; disk.calls(), 3);
-    for (call, tear, book) in &LEFT {
-        assert!(rt; *call <= disk.calls());
-        let left = disk.image(*call, *tear)?;
-        assert_eq!(rt; left.book(), *book, "at {call}");
-        assert_eq!(rt; left.blobs(), b"z".as_slice());
-        assert_eq!(rt; left.calls(), 0);
-    }
+// Makes sure of what a stop after this many calls leaves.
+fn expect_left(
+    rt: &impl Abort,
+    disk: &MemDisk,
+    call: u64,
+    tear: Tear,
+    book: &[u8],
+) -> Result<(), Fail> {
+    let left = left(disk, call, tear)?.ok_or("a stop")?;
+    assert_eq!(rt; left.book(), book, "at {call}");
+    assert_eq!(rt; left.blobs(), b"z".as_slice());
+    assert_eq!(rt; left.calls(), 0);
     Ok(())
 }
 
 #[test]
-fn calls_that_fail(rt: HostRuntime) -> Result<(), Fail> {
-    let alloc = rt.alloc();
+fn a_write_torn_in_each_way(rt: HostRuntime) -> Result<(), Fail> {
+    let disk = written(&rt, rt.alloc())?;
+    assert_eq!(rt; disk.calls(), 4);
+    for (call, tear, book) in &LEFT {
+        expect_left(&rt, &disk, *call, *tear, book)?;
+    }
+    Ok(())
+}
+
+// An empty disk on which three calls fail.
+fn failing(alloc: Global) -> Result<MemDisk, Fail> {
     let mut disk = MemDisk::new(alloc);
     disk.fail_at(1)?;
     disk.fail_at(2)?;
     disk.fail_at(4)?;
+    Ok(disk)
+}
+
+// The length of Blobs, and whether two bytes of it are read where it has two.
+fn length_and_read<D: Disk>(disk: &mut D) -> Result<(u64, bool), DiskFault> {
+    let length = disk.len(Area::Blobs)?;
     let mut buf = [0u8; 2];
-    assert_eq!(rt; (&mut disk).write_at(Area::Blobs, 0, b"hi"), Ok(()));
-    assert_eq!(rt; (&mut disk).write_at(Area::Blobs, 0, b"ho"), Err(DiskFault));
-    assert_eq!(rt; (&mut disk).sync(), Err(DiskFault));
-    assert_eq!(rt; (&mut disk).len(Area::Blobs), Ok(2));
+    if 2 <= length {
+        return Ok((length, disk.read(Area::Blobs, 0, &mut buf).is_ok()));
+    }
+    Ok((length, false))
+}
+
+// Makes sure of what is answered by a disk whose second call fails, its third and its fifth.
+fn expect_failing<D: Disk>(rt: &impl Abort, disk: &mut D) {
+    assert_eq!(rt; disk.write_at(Area::Blobs, 0, b"hi"), Ok(()));
+    assert_eq!(rt; disk.write_at(Area::Blobs, 0, b"ho"), Err(DiskFault));
+    assert_eq!(rt; disk.sync(), Err(DiskFault));
+    assert_eq!(rt; length_and_read(disk), Ok((2, false)));
+}
+
+#[test]
+fn calls_that_fail(rt: HostRuntime) -> Result<(), Fail> {
+    let mut disk = failing(rt.alloc())?;
+    expect_failing(&rt, &mut &mut disk);
     assert_eq!(rt; disk.blobs(), b"hi".as_slice());
-    assert_eq!(rt; disk.image(3, Tear::Old)?.blobs(), b"".as_slice());
-    assert_eq!(rt; disk.read(Area::Blobs, 0, &mut buf), Err(DiskFault));
+    let left = left(&disk, 3, Tear::Old)?.ok_or("a stop")?;
+    assert_eq!(rt; left.blobs(), b"".as_slice());
     Ok(())
 }
 
@@ -88,6 +135,12 @@ const NO_FILES: [(&str, &str); 4] = [
     ("ov_disk_none/book", BLOBS),
 ];
 
+// The length of Blobs on a disk that is used no more.
+fn length_of<D: Disk + Drop>(disk: D) -> Result<u64, DiskFault> {
+    let mut disk = disk;
+    disk.len(Area::Blobs)
+}
+
 #[test]
 fn two_files(rt: HostRuntime) -> Result<(), Fail> {
     let _ = fs::remove_dir_all(&rt, FOLDER);
@@ -103,9 +156,9 @@ fn two_files(rt: HostRuntime) -> Result<(), Fail> {
     // A write that the system refuses.
     assert_eq!(rt; late.write_at(Area::Book, u64::MAX, b"x"), Err(DiskFault));
     drop(late);
-    for (book, blobs) in NO_FILES {
-        let mut disk = FileDisk::new(rt, book, blobs)?;
-        assert_eq!(rt; disk.len(Area::Blobs), Err(DiskFault), "of {book}");
+    for (book, blobs) in &NO_FILES {
+        let length = length_of(FileDisk::new(rt, book, blobs)?);
+        assert_eq!(rt; length, Err(DiskFault), "of {book}");
     }
     fs::remove_dir_all(&rt, FOLDER)?;
     Ok(())

@@ -5,6 +5,7 @@ ghost use Rattle.ov_journal.specs.Book.{contents_of};
 ghost use Rattle.ov_journal.specs.Log.{IsLogOf, Stands};
 ghost use Rattle.ov_journal.specs.Standing.{IsUnborn};
 
+use crate::disk::left;
 use ov_base::{Mode, Octets};
 use ov_disk::{Disk, FileDisk, MemDisk, Tear};
 use ov_journal::{CheckFault, Found, Header, Journal, JournalFault};
@@ -89,10 +90,13 @@ fn written(alloc: Global, fail: u64) -> Result<(MemDisk, bool), Fail> {
 // Whether a stop after this many calls, of which nothing is torn, leaves these bytes from a place
 // on.
 fn leaves(disk: &MemDisk, call: u64, place: usize, want: &[u8]) -> Result<bool, Fail> {
-    if call > disk.calls() {
+    let Some(left) = left(disk, call, Tear::New)? else {
         return Ok(false);
+    };
+    match left.book().get(place..) {
+        Some(found) => Ok(found == want),
+        None => Ok(false),
     }
-    Ok(disk.image(call, Tear::New)?.book().get(place..) == Some(want))
 }
 
 #[test]
@@ -112,29 +116,37 @@ fn a_new_store_and_two_records(rt: HostRuntime) -> Result<(), Fail> {
 // What is left by a stop after each of the 15 calls.
 fn stops(alloc: Global, disk: &MemDisk, tear: Tear) -> Result<Vec<u8>, Fail> {
     let mut all = Vec::new(alloc);
-    for call in 0..=disk.calls() {
-        all.push(standing(alloc, &mut disk.image(call, tear)?))?;
+    for call in 0..99 {
+        let Some(mut left) = left(disk, call, tear)? else {
+            return Ok(all);
+        };
+        all.push(standing(alloc, &mut left))?;
     }
-    Ok(all)
+    Err(Fail::from("too many calls"))
+}
+
+// Makes sure of what is left, if the disk tears in each of these ways.
+fn expect_stops(
+    rt: &impl Abort,
+    alloc: Global,
+    disk: &MemDisk,
+    tears: &[Tear],
+    want: &[u8],
+) -> Result<(), Fail> {
+    for tear in tears {
+        assert_eq!(rt; stops(alloc, disk, *tear)?.as_slice(), want, "{tear:?}");
+    }
+    Ok(())
 }
 
 #[test]
 fn a_stop_after_each_call(rt: HostRuntime) -> Result<(), Fail> {
     let alloc = rt.alloc();
     let (disk, _) = written(alloc, 99)?;
-    for tear in [Tear::Old, Tear::Fill(0), Tear::Fill(255)] {
-        assert_eq!(rt;
-            stops(alloc, &disk, tear)?.as_slice(),
-            b"uuuuuuu000011112".as_slice()
-        );
-    }
-    for tear in [Tear::New, Tear::Fill(1)] {
-        assert_eq!(rt;
-            stops(alloc, &disk, tear)?.as_slice(),
-            b"uuuuuu0000111122".as_slice()
-        );
-    }
-    Ok(())
+    let least = [Tear::Old, Tear::Fill(0), Tear::Fill(255)];
+    expect_stops(&rt, alloc, &disk, &least, b"uuuuuuu000011112")?;
+    let most = [Tear::New, Tear::Fill(1)];
+    expect_stops(&rt, alloc, &disk, &most, b"uuuuuu0000111122")
 }
 
 // What is on a disk where one call failed, if nothing since the last sync is kept, or all is.

@@ -76,8 +76,8 @@ const NO_CREATE: Row = Row {
     ..CREATE
 };
 
-/// Each command, done.
-static LINES: [Row; 9] = [
+/// Updates that are made.
+static UPDATES: [Row; 4] = [
     ENROL,
     Row {
         words: &["grant", "here:1", "keys", "a", "f1"],
@@ -88,12 +88,30 @@ static LINES: [Row; 9] = [
         ..ENROL
     },
     CREATE,
+];
+
+/// The rows of updates that are made.
+pub fn updates() -> &'static [Row] {
+    &UPDATES
+}
+
+/// Lists that are printed.
+static LISTS: [Row; 2] = [
     LIST,
     Row {
         replies: &[WELCOME, LISTED_NONE],
         out: b"list f1 -\n",
         ..LIST
     },
+];
+
+/// The rows of lists.
+pub fn lists() -> &'static [Row] {
+    &LISTS
+}
+
+/// Check values, keys and bytes that are printed.
+static KEYS_AND_BYTES: [Row; 3] = [
     Row {
         words: &["check", "keys"],
         out: CHECK_LINE,
@@ -108,8 +126,13 @@ static LINES: [Row; 9] = [
     READ,
 ];
 
-/// Each other status.
-static STATUSES: [Row; 17] = [
+/// The rows of check values, keys and bytes.
+pub fn keys_and_bytes() -> &'static [Row] {
+    &KEYS_AND_BYTES
+}
+
+/// Words that are no job, a refusal, and a disk of the server that fails.
+static REFUSALS: [Row; 3] = [
     Row {
         words: &["enrol", "here:1", "keys"],
         status: 2,
@@ -126,6 +149,15 @@ static STATUSES: [Row; 17] = [
         status: 4,
         ..NO_ENROL
     },
+];
+
+/// The rows of statuses 2 to 4.
+pub fn refusals() -> &'static [Row] {
+    &REFUSALS
+}
+
+/// A key file and a file at PATH that cannot be read, and lines that cannot be written.
+static FAULTS: [Row; 3] = [
     Row {
         fails: [&[0], b"", b""],
         status: 5,
@@ -142,6 +174,15 @@ static STATUSES: [Row; 17] = [
         out: b"",
         ..ENROL
     },
+];
+
+/// The rows of statuses 5 and 6.
+pub fn faults() -> &'static [Row] {
+    &FAULTS
+}
+
+/// A server without memory, and one that leaves.
+static LEAVING: [Row; 2] = [
     Row {
         replies: &[WELCOME, NO_MEMORY],
         status: 7,
@@ -152,6 +193,15 @@ static STATUSES: [Row; 17] = [
         status: 8,
         ..NO_ENROL
     },
+];
+
+/// The rows of statuses 7 and 8.
+pub fn leaving() -> &'static [Row] {
+    &LEAVING
+}
+
+/// Another store, and a tag that the server refuses.
+static OTHERS: [Row; 2] = [
     Row {
         replies: &[WELCOME_OTHER],
         status: 9,
@@ -162,6 +212,15 @@ static STATUSES: [Row; 17] = [
         status: 9,
         ..NO_ENROL
     },
+];
+
+/// The rows of status 9.
+pub fn others() -> &'static [Row] {
+    &OTHERS
+}
+
+/// A key line where there should be a key file, and the other way round.
+static NO_KEYS: [Row; 2] = [
     Row {
         keys: KEY_LINE,
         status: 10,
@@ -174,6 +233,15 @@ static STATUSES: [Row; 17] = [
         out: b"",
         ..READ
     },
+];
+
+/// The rows of status 10.
+pub fn no_keys() -> &'static [Row] {
+    &NO_KEYS
+}
+
+/// A reply that cannot be, and bytes that are damaged.
+static DAMAGE: [Row; 2] = [
     Row {
         replies: &[WELCOME, ACCEPTED],
         status: 11,
@@ -185,11 +253,27 @@ static STATUSES: [Row; 17] = [
         out: b"",
         ..READ
     },
-    Row {
-        replies: STALE_NINE_TIMES,
-        status: 13,
-        ..NO_ENROL
-    },
+];
+
+/// The rows of statuses 11 and 12.
+pub fn damage() -> &'static [Row] {
+    &DAMAGE
+}
+
+/// An enrolment that comes too late each time.
+static UNSETTLED: [Row; 1] = [Row {
+    replies: STALE_NINE_TIMES,
+    status: 13,
+    ..NO_ENROL
+}];
+
+/// The row of status 13.
+pub fn unsettled() -> &'static [Row] {
+    &UNSETTLED
+}
+
+/// A file that is too long by a byte, and one that is not.
+static LENGTHS: [Row; 2] = [
     Row {
         body: 1_048_577,
         status: 14,
@@ -202,12 +286,7 @@ static STATUSES: [Row; 17] = [
     },
 ];
 
-/// The rows of commands that are done.
-pub fn line_rows() -> &'static [Row] {
-    &LINES
-}
-
-/// The rows of the other statuses.
-pub fn status_rows() -> &'static [Row] {
-    &STATUSES
+/// The rows of a long file.
+pub fn lengths() -> &'static [Row] {
+    &LENGTHS
 }
