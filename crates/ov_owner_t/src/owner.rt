@@ -2,8 +2,10 @@
 use ov_base::{Key, Mode, Name, Names, Octets, Refusal};
 use ov_io::MemSink;
 use ov_owner::*;
-use ov_peer::{FixedPeer, Traced};
+use ov_peer::{FixedPeer, Peer, Traced};
+use ov_wire::Welcome;
 use std::alloc::Global;
+use std::process::Abort;
 use std::test::Fail;
 
 mod frames;
@@ -33,11 +35,74 @@ fn known_at(epoch: u8) -> [u8; 26] {
     known
 }
 
+fn name(text: &[u8]) -> Result<Name, Fail> {
+    Ok(Name::read(text).ok_or("a name")?)
+}
+
+// What an owner does, over any peer. No clause says what comes of it, so that no proof computes it.
+
+/// Enrols `alice`.
+fn enrol<P: Peer>(alloc: Global, peer: &mut P) -> Result<Result<u32, OwnerFault>, Fail> {
+    let user = name(b"alice")?;
+    Ok(owner().enrol(alloc, peer, &user))
+}
+
+/// The list of a and b.
+fn two_names(alloc: Global) -> Result<Names, Fail> {
+    let mut list = Names::new(alloc);
+    list.insert(name(b"a")?)?;
+    list.insert(name(b"b")?)?;
+    Ok(list)
+}
+
+/// Creates `f1` with the text `x1` for a and b.
+fn create<P: Peer>(alloc: Global, peer: &mut P) -> Result<Result<u32, OwnerFault>, Fail> {
+    let file = name(b"f1")?;
+    let list = two_names(alloc)?;
+    if list.as_slice().len() <= 256 {
+        Ok(owner().create(alloc, peer, &file, &list, b"x1"))
+    } else {
+        Err(Fail::from("a list"))
+    }
+}
+
+/// Grants `f1` to c.
+fn grant<P: Peer>(alloc: Global, peer: &mut P) -> Result<Result<u32, OwnerFault>, Fail> {
+    let (user, file) = (name(b"c")?, name(b"f1")?);
+    Ok(owner().grant(alloc, peer, &user, &file))
+}
+
+/// Revokes `f1` from c.
+fn revoke<P: Peer>(alloc: Global, peer: &mut P) -> Result<Result<u32, OwnerFault>, Fail> {
+    let (user, file) = (name(b"c")?, name(b"f1")?);
+    Ok(owner().revoke(alloc, peer, &user, &file))
+}
+
+/// Asks for the list of `f1`.
+fn list<P: Peer>(alloc: Global, peer: &mut P) -> Result<Result<Names, OwnerFault>, Fail> {
+    let file = name(b"f1")?;
+    Ok(owner().list(alloc, peer, &file))
+}
+
+/// Asks what the server says of itself.
+fn hello<P: Peer>(alloc: Global, peer: &mut P) -> Result<Welcome, OwnerFault> {
+    owner().hello(alloc, peer)
+}
+
 /// What comes of the enrolment of `alice`, where the first asks are replied to in this way.
 fn enrolled(alloc: Global, replies: &[&[u8]]) -> Result<Result<u32, OwnerFault>, Fail> {
-    let user = Name::read(b"alice").ok_or("a name")?;
-    let mut peer = replying(alloc, replies)?;
-    Ok(owner().enrol(alloc, &mut peer, &user))
+    enrol(alloc, &mut replying(alloc, replies)?)
+}
+
+/// Makes sure of what comes of it.
+fn expect_enrolled(
+    rt: &impl Abort,
+    alloc: Global,
+    replies: &[&[u8]],
+    want: Result<u32, OwnerFault>,
+) -> Result<(), Fail> {
+    assert_eq!(rt; enrolled(alloc, replies)?, want);
+    Ok(())
 }
 
 const ACCEPTED_8: &[u8] = &[0x84, 0, 0, 0, 8];
@@ -47,55 +112,63 @@ const STALE_8: &[u8] = &[0x89, 0, 0, 0, 8];
 #[test]
 fn who_comes_second_asks_again(rt: HostRuntime) -> Result<(), Fail> {
     let (at_7, at_8) = (known_at(7), known_at(8));
-    assert_eq!(rt; enrolled(rt.alloc(), &[&at_7, ACCEPTED_8])?, Ok(8));
+    expect_enrolled(&rt, rt.alloc(), &[&at_7, ACCEPTED_8], Ok(8))?;
     let replies: [&[u8]; 4] = [&at_7, STALE_8, &at_8, &[0x84, 0, 0, 0, 9]];
-    assert_eq!(rt; enrolled(rt.alloc(), &replies)?, Ok(9));
-    Ok(())
+    expect_enrolled(&rt, rt.alloc(), &replies, Ok(9))
+}
+
+/// The replies to ten tries that each come too late.
+fn stale_replies(alloc: Global) -> Result<Vec<Octets>, Fail> {
+    let mut frames = Vec::new(alloc);
+    for epoch in 1..11_u8 {
+        frames.push(Octets::copy(alloc, &known_at(epoch))?)?;
+        frames.push(Octets::copy(alloc, &[0x89, 0, 0, 0, epoch + 1])?)?;
+    }
+    Ok(frames)
 }
 
 #[test]
 fn nine_stale_tries_are_unsettled(rt: HostRuntime) -> Result<(), Fail> {
-    let user = Name::read(b"alice").ok_or("a name")?;
-    let mut frames = Vec::new(rt.alloc());
-    for epoch in 1..11_u8 {
-        frames.push(Octets::copy(rt.alloc(), &known_at(epoch))?)?;
-        frames.push(Octets::copy(rt.alloc(), &[0x89, 0, 0, 0, epoch + 1])?)?;
-    }
-    let mut peer = FixedPeer::new(frames, Octets::new(rt.alloc()));
-    let fault = OwnerFault::Unsettled {
-        epochs: [1, 2, 3, 4, 5, 6, 7, 8, 9],
-    };
-    assert_eq!(rt; owner().enrol(rt.alloc(), &mut peer, &user), Err(fault));
+    let mut peer = FixedPeer::new(stale_replies(rt.alloc())?, Octets::new(rt.alloc()));
+    let epochs = [1, 2, 3, 4, 5, 6, 7, 8, 9];
+    let unsettled = Err(OwnerFault::Unsettled { epochs });
+    assert_eq!(rt; enrol(rt.alloc(), &mut peer)?, unsettled);
     Ok(())
 }
 
 #[test]
 fn faults_come_of_replies(rt: HostRuntime) -> Result<(), Fail> {
-    let (at_7, at_8) = (known_at(7), known_at(8));
     let refused = Err(OwnerFault::Refused(Refusal::Taken));
-    assert_eq!(rt; enrolled(rt.alloc(), &[&[0x88, 1]])?, refused);
+    expect_enrolled(&rt, rt.alloc(), &[&[0x88, 1]], refused)?;
     let wrong = Err(OwnerFault::BadReply { at: 0 });
-    assert_eq!(rt; enrolled(rt.alloc(), &[STALE_8])?, wrong);
+    expect_enrolled(&rt, rt.alloc(), &[STALE_8], wrong)?;
     // The second Known is at an epoch below the one of the Stale before it.
+    let (at_7, at_8) = (known_at(7), known_at(8));
     let replies: [&[u8]; 3] = [&at_7, &[0x89, 0, 0, 0, 9], &at_8];
-    assert_eq!(rt;
-        enrolled(rt.alloc(), &replies)?,
-        Err(OwnerFault::BadReply { at: 1 })
-    );
-    assert_eq!(rt;
-        enrolled(rt.alloc(), &[&at_7, &[0x8a]])?,
-        Err(OwnerFault::BadTag)
-    );
-    assert_eq!(rt;
-        enrolled(rt.alloc(), &[&at_7, &[0x8d]])?,
-        Err(OwnerFault::Device)
-    );
-    assert_eq!(rt;
-        enrolled(rt.alloc(), &[&at_7, &[0x8e]])?,
-        Err(OwnerFault::Memory)
-    );
-    assert_eq!(rt; enrolled(rt.alloc(), &[&at_7])?, Err(OwnerFault::Link));
-    Ok(())
+    let behind = Err(OwnerFault::BadReply { at: 1 });
+    expect_enrolled(&rt, rt.alloc(), &replies, behind)
+}
+
+/// Makes sure of what comes of this reply to the update, or of none.
+fn expect_fault(
+    rt: &impl Abort,
+    alloc: Global,
+    reply: Option<&[u8]>,
+    fault: OwnerFault,
+) -> Result<(), Fail> {
+    let at_7 = known_at(7);
+    match reply {
+        Some(reply) => expect_enrolled(rt, alloc, &[&at_7, reply], Err(fault)),
+        None => expect_enrolled(rt, alloc, &[&at_7], Err(fault)),
+    }
+}
+
+#[test]
+fn faults_come_of_replies_to_updates(rt: HostRuntime) -> Result<(), Fail> {
+    expect_fault(&rt, rt.alloc(), Some(&[0x8a]), OwnerFault::BadTag)?;
+    expect_fault(&rt, rt.alloc(), Some(&[0x8d]), OwnerFault::Device)?;
+    expect_fault(&rt, rt.alloc(), Some(&[0x8e]), OwnerFault::Memory)?;
+    expect_fault(&rt, rt.alloc(), None, OwnerFault::Link)
 }
 
 /// A peer that gives every second of these frames, each behind its length field, and puts all.
@@ -119,12 +192,7 @@ fn tracing(alloc: Global, frames: &[u8]) -> Result<Traced<FixedPeer, MemSink>, F
 #[test]
 fn a_creation_is_sent_as_another_program_does(rt: HostRuntime) -> Result<(), Fail> {
     let mut peer = tracing(rt.alloc(), CREATION)?;
-    let file = Name::read(b"f1").ok_or("a name")?;
-    let mut list = Names::new(rt.alloc());
-    list.insert(Name::read(b"a").ok_or("a name")?)?;
-    list.insert(Name::read(b"b").ok_or("a name")?)?;
-    let epoch = owner().create(rt.alloc(), &mut peer, &file, &list, b"x1");
-    assert_eq!(rt; epoch, Ok(4));
+    assert_eq!(rt; create(rt.alloc(), &mut peer)?, Ok(4));
     assert_eq!(rt; peer.sink.written(), CREATION);
     Ok(())
 }
@@ -132,9 +200,7 @@ fn a_creation_is_sent_as_another_program_does(rt: HostRuntime) -> Result<(), Fai
 #[test]
 fn a_grant_is_sent_as_another_program_does(rt: HostRuntime) -> Result<(), Fail> {
     let mut peer = tracing(rt.alloc(), GRANT)?;
-    let user = Name::read(b"c").ok_or("a name")?;
-    let file = Name::read(b"f1").ok_or("a name")?;
-    assert_eq!(rt; owner().grant(rt.alloc(), &mut peer, &user, &file), Ok(6));
+    assert_eq!(rt; grant(rt.alloc(), &mut peer)?, Ok(6));
     assert_eq!(rt; peer.sink.written(), GRANT);
     Ok(())
 }
@@ -142,33 +208,31 @@ fn a_grant_is_sent_as_another_program_does(rt: HostRuntime) -> Result<(), Fail> 
 #[test]
 fn a_revocation_is_sent_as_another_program_does(rt: HostRuntime) -> Result<(), Fail> {
     let mut peer = tracing(rt.alloc(), REVOCATION)?;
-    let user = Name::read(b"c").ok_or("a name")?;
-    let file = Name::read(b"f1").ok_or("a name")?;
-    assert_eq!(rt; owner().revoke(rt.alloc(), &mut peer, &user, &file), Ok(7));
+    assert_eq!(rt; revoke(rt.alloc(), &mut peer)?, Ok(7));
     assert_eq!(rt; peer.sink.written(), REVOCATION);
     Ok(())
 }
 
+/// A Welcome of mode Delta at epoch 6, whose check value is 32 bytes 7.
+const WELCOME: &[u8] = b"\x81\x01\0\0\0\x06\
+    \x07\x07\x07\x07\x07\x07\x07\x07\x07\x07\x07\x07\x07\x07\x07\x07\
+    \x07\x07\x07\x07\x07\x07\x07\x07\x07\x07\x07\x07\x07\x07\x07\x07";
+
+/// The list of a and b.
+const LISTED: &[u8] = b"\x8f\0\x02\x01a\x01b";
+
 #[test]
 fn questions_are_answered(rt: HostRuntime) -> Result<(), Fail> {
-    let mut welcome = [7; 38];
-    welcome[..6].copy_from_slice(&[0x81, 1, 0, 0, 0, 6]);
-    let listed: &[u8] = &[0x8f, 0, 2, 1, b'a', 1, b'b'];
-    let mut peer = replying(rt.alloc(), &[&welcome, listed, &[0x88, 3]])?;
-    let told = owner()
-        .hello(rt.alloc(), &mut peer)
-        .map_err(|_| "a Welcome")?;
+    let mut peer = replying(rt.alloc(), &[WELCOME, LISTED, &[0x88, 3]])?;
+    let told = hello(rt.alloc(), &mut peer).ok().ok_or("a Welcome")?;
     assert_eq!(rt; told.mode, Mode::Delta);
     assert_eq!(rt; told.epoch, 6);
     assert_eq!(rt; told.base_check, [7; 32]);
-    let file = Name::read(b"f1").ok_or("a name")?;
-    let names = owner()
-        .list(rt.alloc(), &mut peer, &file)
-        .map_err(|_| "a list")?;
+    let names = list(rt.alloc(), &mut peer)?.ok().ok_or("a list")?;
     assert_eq!(rt; names.as_slice().len(), 2);
-    match owner().list(rt.alloc(), &mut peer, &file) {
+    match list(rt.alloc(), &mut peer)? {
         Err(OwnerFault::Refused(Refusal::NoFile)) => Ok(()),
-        _ => Err("a refusal")?,
+        _ => Err(Fail::from("a refusal")),
     }
 }
 
