@@ -47,25 +47,6 @@ fn enrol<P: Peer>(alloc: Global, peer: &mut P) -> Result<Result<u32, OwnerFault>
     Ok(owner().enrol(alloc, peer, &user))
 }
 
-/// The list of a and b.
-fn two_names(alloc: Global) -> Result<Names, Fail> {
-    let mut list = Names::new(alloc);
-    list.insert(name(b"a")?)?;
-    list.insert(name(b"b")?)?;
-    Ok(list)
-}
-
-/// Creates `f1` with the text `x1` for a and b.
-fn create<P: Peer>(alloc: Global, peer: &mut P) -> Result<Result<u32, OwnerFault>, Fail> {
-    let file = name(b"f1")?;
-    let list = two_names(alloc)?;
-    if list.as_slice().len() <= 256 {
-        Ok(owner().create(alloc, peer, &file, &list, b"x1"))
-    } else {
-        Err(Fail::from("a list"))
-    }
-}
-
 /// Grants `f1` to c.
 fn grant<P: Peer>(alloc: Global, peer: &mut P) -> Result<Result<u32, OwnerFault>, Fail> {
     let (user, file) = (name(b"c")?, name(b"f1")?);
@@ -192,7 +173,12 @@ fn tracing(alloc: Global, frames: &[u8]) -> Result<Traced<FixedPeer, MemSink>, F
 #[test]
 fn a_creation_is_sent_as_another_program_does(rt: HostRuntime) -> Result<(), Fail> {
     let mut peer = tracing(rt.alloc(), CREATION)?;
-    assert_eq!(rt; create(rt.alloc(), &mut peer)?, Ok(4));
+    let file = Name::read(b"f1").ok_or("a name")?;
+    let mut list = Names::new(rt.alloc());
+    list.insert(Name::read(b"a").ok_or("a name")?)?;
+    list.insert(Name::read(b"b").ok_or("a name")?)?;
+    let epoch = owner().create(rt.alloc(), &mut peer, &file, &list, b"x1");
+    assert_eq!(rt; epoch, Ok(4));
     assert_eq!(rt; peer.sink.written(), CREATION);
     Ok(())
 }
