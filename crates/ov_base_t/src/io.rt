@@ -8,8 +8,10 @@ use ov_io::{
     Fault, FileSink, FileSource, MemSink, MemSource, MemStream, Sink, Source, StdSink, StdSource,
     StdStream, Stream,
 };
+use std::alloc::Global;
 use std::fs;
 use std::io::{self, Cursor, ErrorKind, Read, Write};
+use std::process::Abort;
 use std::test::Fail;
 
 // Sends back what one take gives. Its clauses need the laws of a stream.
@@ -30,22 +32,29 @@ fn echo<L: Stream>(stream: &mut L, buf: &mut [u8]) -> Result<usize, Fault>
     Ok(count)
 }
 
+// A stream with five bytes, which come two at a time. Its second take fails, and its second put. No
+// clause says so, so that no proof computes what comes of it.
+fn stream_of(alloc: Global) -> Result<MemStream, Fail> {
+    let bytes = Octets::copy(alloc, b"hello")?;
+    let source = MemSource::new(bytes, 2, Octets::copy(alloc, &[1])?);
+    let sink = MemSink::new(alloc, Octets::copy(alloc, &[1])?);
+    Ok(MemStream { source, sink })
+}
+
+// The first pieces, with the faults between them.
+fn expect_pieces<L: Stream>(rt: &impl Abort, stream: &mut L, buf: &mut [u8; 4]) {
+    assert_eq!(rt; echo(stream, buf), Ok(2));
+    assert_eq!(rt; *buf, *b"he\0\0");
+    assert!(rt; stream.take(buf).is_err());
+    assert!(rt; stream.put(b"x").is_err());
+    assert_eq!(rt; echo(stream, buf), Ok(2));
+}
+
 #[test]
 fn in_memory(rt: HostRuntime) -> Result<(), Fail> {
-    let alloc = rt.alloc();
     let mut buf = [0u8; 4];
-    let source = MemSource::new(
-        Octets::copy(alloc, b"hello")?,
-        2,
-        Octets::copy(alloc, &[1])?,
-    );
-    let sink = MemSink::new(alloc, Octets::copy(alloc, &[1])?);
-    let mut stream = MemStream { source, sink };
-    assert_eq!(rt; echo(&mut stream, &mut buf), Ok(2));
-    assert_eq!(rt; buf, *b"he\0\0");
-    assert!(rt; stream.take(&mut buf).is_err());
-    assert!(rt; stream.put(b"x").is_err());
-    assert_eq!(rt; echo(&mut stream, &mut buf), Ok(2));
+    let mut stream = stream_of(rt.alloc())?;
+    expect_pieces(&rt, &mut stream, &mut buf);
     assert_eq!(rt; echo(&mut (&mut stream), &mut buf), Ok(1));
     assert_eq!(rt; stream.take(&mut buf), Ok(0));
     assert!(rt; stream.put(b", hello").is_ok());
@@ -110,24 +119,28 @@ fn over_readers_and_writers(rt: HostRuntime) {
     assert_eq!(rt; echo(&mut stream, &mut buf), Ok(1));
 }
 
+// Makes sure that a take gives so many bytes, and of a buffer of zeros makes these.
+fn expect_take<S: Source>(rt: &impl Abort, source: &mut S, count: usize, want: &[u8; 8]) {
+    let mut buf = [0u8; 8];
+    assert_eq!(rt; source.take(&mut buf), Ok(count));
+    assert_eq!(rt; buf, *want);
+}
+
 #[test]
 fn a_file_that_is_missing_then_grows_and_a_folder(rt: HostRuntime) -> Result<(), Fail> {
     let path = "a_file_that_grows.bytes";
-    let mut buf = [0u8; 8];
     let mut source = FileSource::new(rt, path)?;
-    assert!(rt; source.take(&mut buf).is_err());
+    assert!(rt; source.take(&mut [0u8; 8]).is_err());
     fs::write(&rt, path, b"hello".as_slice())?;
-    assert_eq!(rt; source.take(&mut buf), Ok(5));
-    assert_eq!(rt; buf, *b"hello\0\0\0");
-    assert_eq!(rt; source.take(&mut buf), Ok(0));
+    expect_take(&rt, &mut source, 5, b"hello\0\0\0");
+    expect_take(&rt, &mut source, 0, &[0; 8]);
     fs::write(&rt, path, b"hello, you".as_slice())?;
-    assert_eq!(rt; source.take(&mut buf), Ok(5));
-    assert_eq!(rt; buf, *b", you\0\0\0");
+    expect_take(&rt, &mut source, 5, b", you\0\0\0");
     fs::remove_file(&rt, path)?;
     let path = "a_folder";
     fs::create_dir(&rt, path)?;
     let mut source = FileSource::new(rt, path)?;
-    let read = source.take(&mut buf);
+    let read = source.take(&mut [0u8; 8]);
     fs::remove_dir(&rt, path)?;
     assert!(rt; read.is_err());
     Ok(())

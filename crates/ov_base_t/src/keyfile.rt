@@ -1,8 +1,9 @@
 //! Key files, and others that are none.
 
 use ov_base::Octets;
-use ov_io::MemSource;
+use ov_io::{MemSource, Source};
 use ov_keyfile::*;
+use std::alloc::Global;
 use std::test::Fail;
 
 const LOW: &[u8] = b"000102030405060708090a0b0c0d0e0f101112131415161718191a1b1c1d1e1f";
@@ -34,19 +35,27 @@ const OTHERS: [&[&[u8]]; 9] = [
     &[SHORT, b"g\n", HIGH, b"\n"],
 ];
 
-/// What is read of these parts, joined and given in pieces of seven bytes.
-fn read(rt: HostRuntime, parts: &[&[u8]]) -> Result<Option<Masters>, Fail> {
-    let mut bytes = Vec::new(rt.alloc());
+/// These parts, joined.
+fn joined(alloc: Global, parts: &[&[u8]]) -> Result<Octets, Fail> {
+    let mut bytes = Vec::new(alloc);
     for part in parts {
         bytes.extend_from_slice(part)?;
     }
-    let bytes = Octets::copy(rt.alloc(), &bytes)?;
-    let mut source = MemSource::new(bytes, 7, Octets::copy(rt.alloc(), b"")?);
-    Ok(
-        read_masters(&mut source)
-            .ok()
-            .ok_or("a source without faults")?,
-    )
+    Ok(Octets::from_vec(bytes))
+}
+
+/// What is read of a source without faults.
+fn read_of<S: Source>(source: &mut S) -> Result<Option<Masters>, Fail> {
+    match read_masters(source) {
+        Ok(masters) => Ok(masters),
+        Err(_) => Err(Fail::from("a source without faults")),
+    }
+}
+
+/// What is read of these parts, joined and given in pieces of seven bytes.
+fn read(rt: HostRuntime, parts: &[&[u8]]) -> Result<Option<Masters>, Fail> {
+    let none = Octets::new(rt.alloc());
+    read_of(&mut MemSource::new(joined(rt.alloc(), parts)?, 7, none))
 }
 
 #[test]

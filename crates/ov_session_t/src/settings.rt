@@ -1,6 +1,6 @@
 //! Settings files, and others that are none.
-use ov_base::{Mode, Octets};
-use ov_io::MemSource;
+use ov_base::{Memory, Mode, Octets};
+use ov_io::{MemSource, Source};
 use ov_settings::{MAX_SESSIONS, Settings, read_settings};
 use std::alloc::{AllocError, Global};
 use std::process::Abort;
@@ -94,19 +94,27 @@ fn words_of(alloc: Global, count: usize) -> Result<Vec<String>, AllocError> {
     Ok(words)
 }
 
-// What is read of these bytes, in pieces of 1,000, where a call may fail.
+// These bytes in pieces of 1,000, where a call may fail.
+fn source_of(alloc: Global, bytes: &[u8], fails: &[u8]) -> Result<MemSource, Memory> {
+    let bytes = Octets::copy(alloc, bytes)?;
+    let fails = Octets::copy(alloc, fails)?;
+    Ok(MemSource::new(bytes, 1000, fails))
+}
+
+// What is read of any source, with so many words.
+fn read_from<S: Source>(alloc: Global, words: usize, source: &mut S) -> Result<Settings, u8> {
+    match words_of(alloc, words) {
+        Ok(words) => read_settings(alloc, &words, source),
+        Err(_) => Err(7),
+    }
+}
+
+// What is read of these bytes.
 fn read(alloc: Global, words: usize, bytes: &[u8], fails: &[u8]) -> Result<Settings, u8> {
-    let Ok(bytes) = Octets::copy(alloc, bytes) else {
-        return Err(7);
-    };
-    let Ok(fails) = Octets::copy(alloc, fails) else {
-        return Err(7);
-    };
-    let Ok(words) = words_of(alloc, words) else {
-        return Err(7);
-    };
-    let mut source = MemSource::new(bytes, 1000, fails);
-    read_settings(alloc, &words, &mut source)
+    match source_of(alloc, bytes, fails) {
+        Ok(mut source) => read_from(alloc, words, &mut source),
+        Err(_) => Err(7),
+    }
 }
 
 // The status of reading: 0 where there are settings.

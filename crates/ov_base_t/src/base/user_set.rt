@@ -1,10 +1,28 @@
 //! Sets of users, and their bytes.
 
-ghost use Rattle.std.specs.Prelude.{◌≡◌, ◌≤◌, ◌*◌, length};
+ghost use Rattle.std.specs.Prelude.{◌≡◌, ◌≤◌, ◌*◌, ◌<◌, length};
 ghost use Rattle.ov_base.specs.declared.limits.TheConstants.{MAX_SET_WORDS};
 
 use ov_base::UserSet;
 use std::process::Abort;
+
+/// Makes sure of a set of the first user alone, and of one with the last user too.
+fn expect_users<const W: usize>(
+    rt: &impl Abort,
+    first_only: &UserSet<W>,
+    both: &UserSet<W>,
+    last: u32,
+)
+    requires last { last < 64 * W }
+    requires width { W ≤ MAX_SET_WORDS }
+{
+    assert!(rt; both.contains(0) && both.contains(last));
+    assert!(rt; !both.contains(1) && !both.contains(last + 1) && !both.contains(u32::MAX));
+    assert!(rt; first_only.within(both) && !both.within(first_only));
+    assert!(rt; both.without(last) == *first_only);
+    assert!(rt; both.copy() == first_only.union(both) && *both != *first_only);
+    assert_eq!(rt; both.count(), 2);
+}
 
 /// The first and the last user of a width, and the bytes of the two.
 fn ends_of_a_width<const W: usize>(rt: &impl Abort, bytes: &mut [u8])
@@ -14,12 +32,7 @@ fn ends_of_a_width<const W: usize>(rt: &impl Abort, bytes: &mut [u8])
     let last = (64 * W - 1) as u32;
     let first_only = UserSet::<W>::empty().with(0);
     let both = first_only.with(last);
-    assert!(rt; both.contains(0) && both.contains(last));
-    assert!(rt; !both.contains(1) && !both.contains(last + 1) && !both.contains(u32::MAX));
-    assert!(rt; first_only.within(&both) && !both.within(&first_only));
-    assert!(rt; both.without(last) == first_only);
-    assert!(rt; both.copy() == first_only.union(&both) && both != first_only);
-    assert_eq!(rt; both.count(), 2);
+    expect_users(rt, &first_only, &both, last);
     both.write(bytes);
     assert_eq!(rt; bytes[0], 1);
     assert_eq!(rt; bytes[8 * W - 1], 0x80);
