@@ -4,40 +4,62 @@
 mod rows;
 
 use ov_base::{Key, Mode, Name, Octets};
-use ov_disk::MemDisk;
-use ov_listing::{Question, answer};
+use ov_disk::{Disk, MemDisk};
+use ov_listing::{ListingFault, Question, answer};
 use ov_peer::{FixedPeer, Peer};
 use ov_server::{LocalPeer, Server};
 use ov_store::Store;
 use rows::{Asked, Row, questions, rows, updates};
 use std::alloc::Global;
+use std::process::Abort;
 use std::test::Fail;
 
-/// A server over a store in mode Delta, which the updates were sent to.
-fn served(alloc: Global) -> Result<LocalPeer<MemDisk>, Fail> {
-    let bytes = [0x22; 32];
-    let disk = MemDisk::new(alloc);
-    let store = match Store::begin(alloc, disk, Key { bytes }, [0x33; 32], Mode::Delta) {
-        Ok(store) => store,
-        Err(_) => Err("a store")?,
-    };
-    let mut peer = LocalPeer::new(Server::new(store, Key { bytes }));
-    let mut reply = Vec::new(alloc);
-    for update in updates() {
-        if update.is_empty() || update.len() > 1000 {
-            return Err("a frame")?;
-        }
-        peer.ask(update, &mut reply).map_err(|_| "memory")?;
+const BASE_CHECK: [u8; 32] = [0x33; 32];
+
+/// A server over a store in mode Delta that begins on this disk, under this surface master.
+fn server_over<D: Disk + Drop>(
+    alloc: Global,
+    disk: D,
+    surface: [u8; 32],
+) -> Result<LocalPeer<D>, Fail> {
+    let key = Key { bytes: surface };
+    match Store::begin(alloc, disk, key, BASE_CHECK, Mode::Delta) {
+        Ok(store) => Ok(LocalPeer::new(Server::new(store, Key { bytes: surface }))),
+        Err(_) => Err(Fail::from("a store")),
     }
-    Ok(peer)
 }
 
-/// The text that answers a question, `none` where it names no user, or the fault.
-fn told<P: Peer>(alloc: Global, peer: &mut P, question: &Question) -> Result<String, Fail> {
-    match answer(alloc, peer, question) {
+/// Has a peer make these updates.
+fn update<P: Peer>(peer: &mut P, alloc: Global, updates: &[&[u8]]) -> Result<(), Fail> {
+    let mut reply = Vec::new(alloc);
+    for update in updates {
+        if 1 <= update.len() && update.len() <= 1000 {
+            match peer.ask(update, &mut reply) {
+                Ok(()) => {}
+                Err(_) => return Err(Fail::from("memory")),
+            }
+        } else {
+            return Err(Fail::from("a frame"));
+        }
+    }
+    Ok(())
+}
+
+/// The text that answers a question, or why there is none.
+fn asked<P: Peer>(
+    alloc: Global,
+    peer: &mut P,
+    question: &Question,
+) -> Result<Option<Octets>, ListingFault> {
+    answer(alloc, peer, question)
+}
+
+/// What an answer is, as a text: `none` where the question names no user.
+fn told(alloc: Global, found: Result<Option<Octets>, ListingFault>) -> Result<String, Fail> {
+    match found {
         Ok(Some(text)) => match str::from_utf8(text.as_slice()) {
             Ok(text) => Ok(String::from_str(alloc, text)?),
-            Err(_) => Err("a text")?,
+            Err(_) => Err(Fail::from("a text")),
         },
         Ok(None) => Ok(String::from_str(alloc, "none")?),
         Err(fault) => Ok(format!(in alloc; "{fault:?}")?),
@@ -55,15 +77,31 @@ fn question_of(row: &Asked) -> Question {
     }
 }
 
-#[test]
-fn a_served_store_is_listed(rt: HostRuntime) -> Result<(), Fail> {
-    let alloc = rt.alloc();
-    let mut peer = served(alloc)?;
-    for row in questions() {
-        let text = told(alloc, &mut peer, &question_of(row))?;
+/// Makes sure that a peer answers each of these questions as its row says.
+fn expect_answers<P: Peer>(
+    rt: &impl Abort,
+    alloc: Global,
+    peer: &mut P,
+    rows: &[Asked],
+) -> Result<(), Fail> {
+    for row in rows {
+        let text = told(alloc, asked(alloc, peer, &question_of(row)))?;
         assert_eq!(rt; text.as_str(), row.text, "{}", row.command);
     }
     Ok(())
+}
+
+/// Makes sure of the answers of a store that has made the updates.
+fn expect_store<P: Peer>(rt: &impl Abort, alloc: Global, peer: &mut P) -> Result<(), Fail> {
+    update(peer, alloc, updates())?;
+    expect_answers(rt, alloc, peer, questions())
+}
+
+#[test]
+fn a_served_store_is_listed(rt: HostRuntime) -> Result<(), Fail> {
+    let alloc = rt.alloc();
+    let mut peer = server_over(alloc, MemDisk::new(alloc), [0x22; 32])?;
+    expect_store(&rt, alloc, &mut peer)
 }
 
 /// The peer of a row.
@@ -79,13 +117,24 @@ fn peer_of(alloc: Global, row: &Row) -> Result<FixedPeer, Fail> {
     Ok(FixedPeer::new(all, Octets::new(alloc)))
 }
 
+/// Makes sure that a question for the users, asked of this peer, ends so.
+fn expect_end<P: Peer>(
+    rt: &impl Abort,
+    alloc: Global,
+    peer: &mut P,
+    text: &str,
+) -> Result<(), Fail> {
+    let found = told(alloc, asked(alloc, peer, &Question::Users))?;
+    assert_eq!(rt; found.as_str(), text);
+    Ok(())
+}
+
 #[test]
 fn each_end_has_its_replies(rt: HostRuntime) -> Result<(), Fail> {
     let alloc = rt.alloc();
     for row in rows() {
         let mut peer = peer_of(alloc, row)?;
-        let text = told(alloc, &mut peer, &Question::Users)?;
-        assert_eq!(rt; text.as_str(), row.text);
+        expect_end(&rt, alloc, &mut peer, row.text)?;
     }
     Ok(())
 }
