@@ -83,8 +83,8 @@ pub record EndsWriting {A : Type 0} (tells : AskerTells A) (a b : A) (old new : 
       (bytes ++ take front (framed (answer_for last.reply)))
   pub rose : Rose old.write_faults new.write_faults
 
--- No memory for reading on. All frames that were whole before the last piece were answered. What
--- came of a frame before it, and the piece itself, were taken, and nothing of them was asked.
+-- No memory for reading on. What was taken and not asked is at most an unfinished frame and one
+-- piece behind it.
 pub record EndsWanting {A : Type 0} (tells : AskerTells A) (a b : A) (old new : Link) : Type 0 where
   pub taken : List ℕ
   pub part : List ℕ

@@ -12,7 +12,7 @@ pub enum SessionEnd {
     Bad { at: u64 },
     /// The asker has asked as often as it may.
     Spent,
-    /// There was no memory to read on. Nothing of the last piece was asked, nor of the part of a
-    /// frame that stood before it.
+    /// There was no memory to read on. What was taken and not asked is at most an unfinished frame
+    /// and one piece behind it.
     Memory,
 }

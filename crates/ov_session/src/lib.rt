@@ -7,9 +7,8 @@
 //! is a peer behind a stream, whatever is at its other end.
 //!
 //! No memory is taken between an answer and its writing, so an answer that was given is sent or
-//! the session ends. Where memory is refused as a session reads on, it ends, and no frame of the
-//! last piece was asked, whole or not; each frame that was whole before has its answer. A
-//! [`NetPeer`] takes no byte past the reply that it waits for, so nothing that comes early is lost.
+//! the session ends. Where memory is refused as a session reads on, it ends, and what was taken and
+//! not asked is at most an unfinished frame and one piece behind it. A [`NetPeer`] takes no byte past the reply that it waits for, so nothing that comes early is lost.
 //!
 //! * [`MemDoor`] is a door in memory: it gives the streams that it was made with, keeps what
 //!   comes back, and fails at the calls that it is told to.

@@ -62,6 +62,8 @@ pub struct Log<R> {
     answered: Heads,
     // The kinds of the updates that are asked for and not answered yet, 0 for other requests.
     waiting: VecDeque<u8>,
+    // Whether memory was refused for one of them, after which no kind is told from another.
+    is_blind: bool,
 }
 
 impl<R: Eprint + Clock + AllocGlobal> Log<R> {
@@ -74,6 +76,7 @@ impl<R: Eprint + Clock + AllocGlobal> Log<R> {
             asked: Heads::new(),
             answered: Heads::new(),
             waiting,
+            is_blind: false,
         }
     }
 
@@ -88,8 +91,9 @@ impl<R: Eprint + Clock + AllocGlobal> Log<R> {
     fn ask(&mut self, request: Head) {
         let [kind, _, _, _, _, update] = request;
         let wanted = if kind == UPDATE { update } else { 0 };
-        // Without memory for it the kind of an update isn't said.
-        let _ = self.waiting.push_back(wanted);
+        if self.waiting.push_back(wanted).is_err() {
+            self.is_blind = true;
+        }
     }
 
     // Says so where an update was made.
@@ -98,7 +102,8 @@ impl<R: Eprint + Clock + AllocGlobal> Log<R> {
         let [kind, a, b, c, d, _] = reply;
         if kind == MADE {
             let stamp = self.stamp();
-            let word = word_of(update.unwrap_or(0));
+            let told = if self.is_blind { None } else { update };
+            let word = word_of(told.unwrap_or(0));
             let epoch = u32::from_be_bytes([a, b, c, d]);
             let _ = eprintln!(self.rt; "overstored: log: {stamp} {word} {epoch}");
         }

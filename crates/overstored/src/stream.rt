@@ -38,10 +38,11 @@ impl<S: Sink, R: Eprint + Clock + AllocGlobal> Sink for LoggedStream<S, R> {
     } };
 
     fn put(&mut self, bytes: &[u8]) -> Result<(), Fault> {
-        if let Some(log) = &mut self.log {
+        let put = self.stream.put(bytes);
+        if let (Ok(()), Some(log)) = (put, &mut self.log) {
             log.put(bytes);
         }
-        self.stream.put(bytes)
+        put
     }
 }
 
