@@ -185,8 +185,8 @@ fn answer_with_keys<K: Source, I: Source, O: Sink, T: Sink, D: Disk + Drop>(
 ///
 /// A clause on the bytes of a source, the sink or the disk holds where that one tells them: `opened`
 /// and `image` where the disk does too, and `script`, `keys` and `words` whatever the disk tells.
-/// Those on the counts of faults hold always. Each update
-/// is on the disk before its reply line is put, and each line is put by itself.
+/// Standard input tells nothing. Clauses on the counts of faults hold always. Each update is on the
+/// disk before its reply line is put, and each line is put by itself.
 pub fn run<K: Source, I: Source, O: Sink, T: Sink, D: Disk>(
     alloc: Global,
     words: &[String],
