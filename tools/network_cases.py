@@ -422,9 +422,9 @@ def memory_that_is_refused():
 
 
 def a_file_over_the_network():
-    """Enrol, create, key and read: four sessions, and the same bytes come back."""
+    """Enrol, create, key and read, grant and revoke: the same bytes come back, and the log has each update."""
     folder = new_folder()
-    server = Server(folder, 4)
+    server = Server(folder, 7, "--log")
     shutil.copy(KEYS, folder / "keys.hex")
     (folder / "file").write_bytes(random.Random(24).randbytes(70_000))
 
@@ -437,7 +437,14 @@ def a_file_over_the_network():
     assert client("create", server.address, "keys.hex", "report", "alice", "file") == b"ok 2\n"
     (folder / "alice.key").write_bytes(client("key", server.address, "keys.hex", "alice"))
     assert client("read", server.address, "alice.key", "report") == (folder / "file").read_bytes()
-    assert server.end(4) == []
+    assert client("enrol", server.address, "keys.hex", "bob") == b"ok 3\n"
+    assert client("grant", server.address, "keys.hex", "bob", "report") == b"ok 4\n"
+    assert client("revoke", server.address, "keys.hex", "bob", "report") == b"ok 5\n"
+    logged = [line.split(" ", 4)[4] for line in server.end(7)]
+    assert [it for it in logged if not it.startswith("end of session")] == [
+        "user 1", "create 2", "user 3", "grant 4", "revoke 5"
+    ], logged
+    assert logged.count("end of session 6") == 1, logged
 
 
 def a_write_that_fails():

@@ -104,16 +104,23 @@ fn a_served_store_is_listed(rt: HostRuntime) -> Result<(), Fail> {
     expect_store(&rt, alloc, &mut peer)
 }
 
+/// Appends these replies, each as often as its count says.
+fn append(alloc: Global, all: &mut Vec<Octets>, replies: &[(usize, &[u8])]) -> Result<(), Fail> {
+    for (count, reply) in replies {
+        for _ in 0..*count {
+            all.push(Octets::copy(alloc, reply)?)?;
+        }
+    }
+    Ok(())
+}
+
 /// The peer of a row.
 fn peer_of(alloc: Global, row: &Row) -> Result<FixedPeer, Fail> {
     let mut all = Vec::new(alloc);
     for _ in 0..row.rounds {
-        for (count, reply) in row.replies {
-            for _ in 0..*count {
-                all.push(Octets::copy(alloc, reply)?)?;
-            }
-        }
+        append(alloc, &mut all, row.replies)?;
     }
+    append(alloc, &mut all, row.last)?;
     Ok(FixedPeer::new(all, Octets::new(alloc)))
 }
 

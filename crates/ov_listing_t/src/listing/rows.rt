@@ -109,15 +109,16 @@ pub fn questions() -> &'static [Asked] {
     &ASKED
 }
 
-/// Replies, each so often in turn and all of them in so many rounds, and what comes of a question for
-/// the users.
+/// Replies, each this often in turn and all of them in this many rounds, the replies behind them, and
+/// what comes of a question for the users.
 pub struct Row {
     pub rounds: usize,
     pub replies: &'static [(usize, &'static [u8])],
+    pub last: &'static [(usize, &'static [u8])],
     pub text: &'static str,
 }
 
-static ROWS: [Row; 9] = [
+static ROWS: [Row; 10] = [
     // A store that moves once, and one that moves in each of nine tries.
     Row {
         rounds: 1,
@@ -129,49 +130,65 @@ static ROWS: [Row; 9] = [
             (1, NO_PAGE),
             (1, HELLO_7),
         ],
+        last: &[],
         text: "b\n",
     },
     Row {
         rounds: 9,
         replies: &[(1, HELLO_6), (1, NO_PAGE), (1, HELLO_7)],
+        last: &[],
         text: "Unsettled",
+    },
+    // A store that moves in each of eight tries, and not in the ninth.
+    Row {
+        rounds: 8,
+        replies: &[(1, HELLO_6), (1, NO_PAGE), (1, HELLO_7)],
+        last: &[(1, HELLO_7), (1, USER), (1, NO_PAGE), (1, HELLO_7)],
+        text: "b\n",
     },
     // More users than a store can have.
     Row {
         rounds: 1,
         replies: &[(1, HELLO_6), (300, USER)],
+        last: &[],
         text: "BadReply { at: 1 }",
     },
     // Answers to other requests, an entry of another part, and a reply that is none.
     Row {
         rounds: 1,
         replies: &[(1, NO_PAGE)],
+        last: &[],
         text: "BadReply { at: 0 }",
     },
     Row {
         rounds: 1,
         replies: &[(1, HELLO_6), (1, LIST)],
+        last: &[],
         text: "BadReply { at: 0 }",
     },
     Row {
         rounds: 1,
         replies: &[(1, HELLO_6), (1, FILE)],
+        last: &[],
         text: "BadReply { at: 13 }",
     },
     Row {
         rounds: 1,
         replies: &[(1, HELLO_6), (1, HELLO_6)],
+        last: &[],
         text: "BadReply { at: 0 }",
     },
     // No reply, and a server without memory.
     Row {
         rounds: 1,
         replies: &[(1, HELLO_6)],
+        last: &[],
         text: "Link",
     },
     Row {
         rounds: 1,
         replies: &[(1, NO_MEMORY)],
+        last: &[],
         text: "Memory",
     },
 ];
