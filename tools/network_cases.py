@@ -471,14 +471,14 @@ def a_base_master_that_is_shown():
     """Settings that have it for the check value: the owner is told that it is public."""
     folder = new_folder()
     shutil.copy(KEYS, folder / "keys.hex")
-    server = Server(folder, 2, base_check=BASE_MASTER.hex())
+    server = Server(folder, 1, base_check=BASE_MASTER.hex())
     done = subprocess.run([CLIENT, "enrol", server.address, "keys.hex", "alice"], cwd=folder, capture_output=True, timeout=SECONDS)
     assert (done.returncode, done.stdout) == (9, b""), done
     assert [line for line in done.stderr.decode().splitlines() if ": warning: " not in line and "chmod" not in line] == [
         "overctl: error: %s has the base master where its check value should be" % server.address,
         "overctl: hint: the server shows it to everyone: make new keys and a new store",
     ], done.stderr
-    assert server.end(2) == []
+    assert server.end(1) == []
 
 
 CASES = [

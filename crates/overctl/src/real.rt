@@ -4,7 +4,7 @@ ghost use Rattle.ov_acts.specs.Files.{HasListLimits};
 use crate::asks::{Asks, asks_of, file_of, stores};
 use crate::ending::{Ending, Hint};
 use crate::heard::Heard;
-use crate::leaked::shows_base;
+use crate::leaked::{WatchedLink, is_base};
 use crate::question::{Asked, stop_of, user_of};
 use crate::usage::say;
 use ov_acts::{Act, Job, Status, Stop, act, finish};
@@ -112,12 +112,14 @@ fn link_fault(rt: &HostRuntime, address: &str, reason: Option<ErrorKind>) -> Opt
     }
 }
 
-/// What a job came to: its status, why the stream failed where it did, and which refusal was put.
+/// What a job came to: its status, why the stream failed where it did, which refusal was put, and
+/// whether the server shows the base master.
 #[derive(Drop)]
 struct Outcome {
     code: u8,
     link: Option<ErrorKind>,
     refusal: Option<Refusal>,
+    leaked: bool,
 }
 
 // How a job ended.
@@ -136,7 +138,7 @@ fn ending_of<'a>(rt: &HostRuntime, job: &'a Job, status: Status, outcome: &Outco
         path,
         reason,
         refusal: outcome.refusal,
-        leaked: status == Status::OtherKeys && shows_base(rt, address, text_of(&job.keys)),
+        leaked: outcome.leaked,
     }
 }
 
@@ -148,6 +150,14 @@ fn explain(rt: &HostRuntime, end: &Ending<'_>) {
     say(rt, end, &Hint(end));
 }
 
+// Whether what the server shows for its check value is the base master of the job.
+fn shows_base(rt: &HostRuntime, shown: Option<&[u8]>, job: &Job) -> bool {
+    match shown {
+        Some(shown) => is_base(rt, shown, text_of(&job.keys)),
+        None => false,
+    }
+}
+
 // Does the job over the real stream, with the bytes to be stored from this source.
 fn do_with<B: Source>(rt: &HostRuntime, job: &Job, body: &mut B) -> Result<Outcome, Memory>
     requires list { HasListLimits job.now.act }
@@ -155,19 +165,23 @@ fn do_with<B: Source>(rt: &HostRuntime, job: &Job, body: &mut B) -> Result<Outco
     let alloc = rt.alloc();
     let mut keys = FileSource::new(*rt, text_of(&job.keys))?;
     let mut out = Heard::new(StdSink::new(rt.stdout()));
-    let (code, link) = if matches!(&job.act, Act::Check) {
+    let (code, link, leaked) = if matches!(&job.act, Act::Check) {
         let mut peer = FixedPeer::new(Vec::new(alloc), Octets::new(alloc));
         let code = act(alloc, job, &mut keys, body, &mut out, &mut peer);
-        (code, None)
+        (code, None, false)
     } else {
-        let mut peer = NetPeer::new(TcpLink::new(*rt, text_of(&job.address))?)?;
+        let link = TcpLink::new(*rt, text_of(&job.address))?;
+        let mut peer = NetPeer::new(WatchedLink::new(link))?;
         let code = act(alloc, job, &mut keys, body, &mut out, &mut peer);
-        (code, peer.link().reason())
+        let link = peer.link();
+        let leaked = code == Status::OtherKeys.code() && shows_base(rt, link.shown(), job);
+        (code, link.link.reason(), leaked)
     };
     Ok(Outcome {
         code,
         link,
         refusal: out.refusal(),
+        leaked,
     })
 }
 
@@ -187,6 +201,7 @@ fn out_of_memory() -> Outcome {
         code: Status::OutOfMemory.code(),
         link: None,
         refusal: None,
+        leaked: false,
     }
 }
 
@@ -220,6 +235,7 @@ fn do_ask(rt: &HostRuntime, asked: &Asked<'_>) -> Result<Outcome, Memory> {
         code: finish(alloc, found, &mut out),
         link: peer.link().reason(),
         refusal: out.refusal(),
+        leaked: false,
     })
 }
 
