@@ -119,12 +119,12 @@ def requests():
         "Update, ext4 on a disk of the machine": "Update, on a disk",
     }
     found = table_of("Over the network", "| | `overstored`")
-    rows = [(kinds[row[0]], number(row[1]), number(row[5])) for row in found if row[0] in kinds]
-    figure = Figure("Requests a second, one session over the loopback", (0, len(rows), float), (0, 45_000, float))
+    rows = [(kinds[row[0]], number(row[1]), number(row[3])) for row in found if row[0] in kinds]
+    figure = Figure("Requests a second, one session over the loopback", (0, len(rows), float), (0, 60_000, float))
     figure.axes(
         [(at + 0.5, row[0]) for at, row in enumerate(rows)],
-        [(value, f"{value:,}") for value in range(0, 45_001, 15_000)],
-        ("left: overstored; right: an echo in plain Rust by two writes", "a second"),
+        [(value, f"{value:,}") for value in range(0, 60_001, 20_000)],
+        ("left: overstored; right: an echo in plain Rust", "a second"),
     )
     for at, (_, served, echoed) in enumerate(rows):
         figure.bar(figure.x(at + 0.12), 48, served, BLUE, f"{served:,.0f}")
