@@ -30,7 +30,7 @@ restored-none master from to number =
     nil_from_length (restored master from to number []) (length-restored master from to number [])
 
 -- a rewrite to the surface that a file has changes nothing
-restored-same : (master : List ℕ) (surface : Option ℕ) (number : ℕ) (bytes : List ℕ)
+pub restored-same : (master : List ℕ) (surface : Option ℕ) (number : ℕ) (bytes : List ℕ)
     → restored master surface surface number bytes ≡ bytes
 restored-same master surface number bytes =
     coated-coated (surface_key master surface) number 0 bytes

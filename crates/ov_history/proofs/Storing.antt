@@ -58,18 +58,18 @@ settled_size epoch sets (want ∷ wants) (f ∷ files) zero =
     refiled_size (same_surface f.surface surface) epoch surface f
 settled_size epoch sets (want ∷ wants) (f ∷ files) (suc n) = settled_size epoch sets wants files n
 
-abbrev surface_in : List Filed → ℕ → Option ℕ
+abbrev pub surface_in : List Filed → ℕ → Option ℕ
 surface_in files n = (slice_index_or files n no_filed).surface
 
 -- These stored bytes are of the files now, each its text under the coat of its old surface, and
 -- each text has as many bytes as its file now.
-record HasCoats (master : List ℕ) (old now : List Filed) (texts stored : List (List ℕ))
+pub record HasCoats (master : List ℕ) (old now : List Filed) (texts stored : List (List ℕ))
     : Type 0 where
-  texts_many : length texts ≡ length now
-  stored_many : length stored ≡ length now
-  sizes : (n : ℕ) → n < length now
+  pub texts_many : length texts ≡ length now
+  pub stored_many : length stored ≡ length now
+  pub sizes : (n : ℕ) → n < length now
       → length (slice_index_or texts n []) ≡ (slice_index_or now n no_filed).length
-  coats : (n : ℕ) → n < length now
+  pub coats : (n : ℕ) → n < length now
       → slice_index_or stored n []
       ≡ stored_under (surface_key master (surface_in old n)) n (slice_index_or texts n [])
 
@@ -204,7 +204,7 @@ coats_all master c texts stored (u ∷ updates) has =
     (stored_after master (rewrites_of c (brief u)) (text_of u) stored) updates
     (coats_after master c texts stored u has)
 
-coats_of : (master : List ℕ) (g : SealedHistory)
+pub coats_of : (master : List ℕ) (g : SealedHistory)
     → let files = (catalogue_of master g).files in
     HasCoats master files files (sent_of g) (stored_of master g)
 coats_of master g =
@@ -217,7 +217,7 @@ coats_of master g =
 
 -- ---- the law
 
-coated : (master : List ℕ) (files : List Filed) (texts stored : List (List ℕ))
+pub coated : (master : List ℕ) (files : List Filed) (texts stored : List (List ℕ))
     → HasCoats master files files texts stored → AreCoated master files texts stored
 coated master files texts stored has = record {
   each = has.stored_many;
