@@ -31,7 +31,7 @@ use Rattle.ov_wire.specs.Requests.{HasRequestForm, request_bytes}
 use Rattle.ov_wire.specs.declared.answer.Answer.{Answer}
 use Rattle.ov_wire.specs.declared.request.Request.{Request}
 use Rattle.ov_wire.specs.declared.request.Request.TheVariants as requests
-use Rattle.ov_acts.specs.Completeness.{IsAlone}
+use Rattle.ov_peer.specs.Alone.{IsAlone}
 
 -- the question needs no disk, and its answers are in the grammar
 pub record IsPlainQuestion (request : Request) : Type 0 where

@@ -40,7 +40,8 @@ use Rattle.ov_acts.specs.Acts.{admitted, admitted_if, list_line, read_outcome, u
 use Rattle.ov_acts.specs.Completeness.{AsksByName}
 use Rattle.ov_acts.proofs.FailingDisks.{fails_later, update_fails}
 use Rattle.ov_acts.proofs.FailingReads.{read_fails}
-use Rattle.ov_acts.specs.Completeness.{FailsDisk, IsAlone, IsAnsweredOr, IsStoreOf}
+use Rattle.ov_peer.specs.Alone.{IsAlone}
+use Rattle.ov_acts.specs.Completeness.{FailsDisk, IsAnsweredOr, IsStoreOf}
 use Rattle.ov_acts.specs.Stops.{Outcome}
 use Rattle.ov_acts.specs.declared.job.Act.{Act}
 use Rattle.ov_acts.specs.declared.job.Act.TheVariants as acts

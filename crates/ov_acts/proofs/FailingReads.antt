@@ -2,7 +2,7 @@
 use Rattle.std.proofs.Common.{◌≡◌, ℕ, List, [], ◌∷◌, ◌++◌, length, Bool, true, false}
 use Rattle.std.proofs.Common.{Option, Some, None, Result, Ok, Err, refl, sym, subst, inl, inr}
 use Rattle.ov_surface.specs.Tags.{tag_of_file}
-use Rattle.std.specs.Prelude.{◌⊎◌, ◌+◌, min, nat_lt, ◌==◌, bytes_eq, if◌then◌else◌, slice_get}
+use Rattle.std.specs.Prelude.{◌⊎◌, ◌+◌, min, nat_lt, ◌==◌, bytes_eq, if◌then◌else◌}
 use Rattle.std.specs.Prelude.{slice_index_or}
 use Rattle.ov_base.specs.declared.limits.TheConstants.{MAX_CHUNK_BYTES}
 use Rattle.ov_client.specs.Readers.{Reader, judged, keys_along, uncovered}
@@ -17,6 +17,7 @@ use Rattle.ov_client.specs.declared.fault.ClientFault.TheVariants as client
 use Rattle.ov_client.specs.declared.telling.Fetched.TheVariants.{Bytes}
 use Rattle.ov_fields.specs.Fronts.{AreAllBytes}
 use Rattle.ov_history.specs.Catalogue.{Filed}
+use Rattle.ov_history.specs.Places.{living_at}
 use Rattle.ov_owner.specs.Talks.{start}
 use Rattle.ov_peer.specs.Asks.{Ask, EndsAt, Leads}
 use Rattle.ov_peer.specs.Tells.{PeerTells}
@@ -34,7 +35,8 @@ use Rattle.ov_wire.specs.declared.answer.Chained.{Chained}
 use Rattle.ov_wire.specs.declared.request.Request.{Request}
 use Rattle.ov_wire.specs.declared.request.Request.TheVariants as requests
 use Rattle.ov_acts.proofs.FailingDisks.{fails_later}
-use Rattle.ov_acts.specs.Completeness.{FailsDisk, IsAlone}
+use Rattle.ov_peer.specs.Alone.{IsAlone}
+use Rattle.ov_acts.specs.Completeness.{FailsDisk}
 
 -- a stage that isn't the end by a fault of the disk
 abbrev IsOther : ReadStage → Type 0
@@ -105,7 +107,7 @@ chunk_other s r tries c stored (answers.Moved now) is =
     again_other (tries ++ c.generation ∷ []) now
 chunk_other s r tries c stored (answers.Refused why) is = tt
 chunk_other s r tries c stored answers.DeviceFault is =
-    absurd (no_fault (slice_get s.catalogue.files c.file) (slice_index_or s.stored c.file [])
+    absurd (no_fault (living_at s.catalogue.files c.file) (slice_index_or s.stored c.file [])
     c.generation (length stored) MAX_CHUNK_BYTES is)
 chunk_other s r tries c stored answers.NoMemory is = tt
 chunk_other s r tries c stored a is = tt

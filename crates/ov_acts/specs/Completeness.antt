@@ -9,12 +9,13 @@ use Rattle.ov_client.specs.Readers.{Reader}
 use Rattle.ov_history.specs.Masters.{Masters}
 use Rattle.ov_history.specs.Plain.{PlainHistory, history_of}
 use Rattle.ov_history.specs.Refusals.{IsLegal}
-use Rattle.ov_history.specs.Sealing.{sealed}
+use Rattle.ov_history.specs.Sealing.{IsSealedAs}
 use Rattle.ov_keyfile.specs.KeyFile.{IsKeyFile}
+use Rattle.ov_peer.specs.Alone.{IsAlone}
 use Rattle.ov_peer.specs.Asks.{Ask, Leads}
 use Rattle.ov_peer.specs.Disks.{IsDiskFault}
-use Rattle.ov_peer.specs.Tells.{IsReplyAt, PeerTells}
-use Rattle.ov_protocol.specs.Serving.{Service, later, served}
+use Rattle.ov_peer.specs.Tells.{PeerTells}
+use Rattle.ov_protocol.specs.Serving.{Service, served}
 use Rattle.ov_record.specs.Updates.{SealedUpdate}
 use Rattle.ov_acts.specs.Machine.{StoresBytes}
 use Rattle.ov_acts.specs.Stops.{Outcome}
@@ -23,14 +24,6 @@ use Rattle.ov_acts.specs.declared.job.Act.TheVariants.{Check, Key, List as ListN
 use Rattle.ov_acts.specs.declared.stop.Stop.TheVariants as stops
 
 -- ---- the server
-
--- Nobody else updates what this peer serves: whatever it is asked, it replies by just the history
--- that it serves, or that its disk failed, and then serves that with what the request made.
-abbrev pub IsAlone : {P : Type 0} → PeerTells P → Type 0
-IsAlone {P} peer =
-    (p q : P) (request reply : List ℕ) (v : Service)
-    → peer.asked p request reply q → peer.serves p v
-    → (made : List SealedUpdate) × IsReplyAt v request reply made × peer.serves q (later v made)
 
 -- Between the one value of the peer and the other it replied that its disk failed, to an ask that
 -- needs the disk at what it served.
@@ -55,7 +48,7 @@ pub record IsStoreOf (k : Masters) (h : PlainHistory) (v : Service) : Type 0 whe
   pub surface : v.surface ≡ k.surface
   pub check : v.base_check ≡ check_value_of k.base
   pub legal : IsLegal (history_of h)
-  pub history : v.history ≡ sealed k h
+  pub history : IsSealedAs k h v.history
 
 -- ---- the files
 

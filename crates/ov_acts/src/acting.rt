@@ -121,10 +121,7 @@ fn check<K: Source>(alloc: Global, keys: &mut K) -> Result<Octets, Stop>
         (IfSome (K.tells.left keys.old) (λ file. HasMasters file → ⊥)) ⊥ result }
     ensures takes { TakesUpTo K.tells 131 keys.old keys.new }
 {
-    let masters = match masters_of(keys) {
-        Ok(masters) => masters,
-        Err(stop) => return Err(stop),
-    };
+    let masters = masters_of(keys)?;
     match line_on_check(alloc, &check_value(&Master::new(&masters.base))) {
         Ok(line) => Ok(line),
         Err(Memory) => Err(Stop::Memory),

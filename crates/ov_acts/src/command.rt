@@ -187,8 +187,6 @@ pub fn greet_and_command<P: Peer>(
     ensures cause { StopsFor ⊥ (Rose (P.tells.faults peer.old) (P.tells.faults peer.new)) ⊥ ⊥
         result }
 {
-    match admitted(base, owner.hello(alloc, peer)) {
-        Ok(()) => command(alloc, owner, act, bytes, peer),
-        Err(stop) => Err(stop),
-    }
+    admitted(base, owner.hello(alloc, peer))?;
+    command(alloc, owner, act, bytes, peer)
 }

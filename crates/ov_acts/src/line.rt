@@ -48,8 +48,6 @@ fn command<'a>(alloc: Global, lines: &'a [help::Line]) -> Result<Command<'a>, Al
 /// Whether clap takes the words, or why it doesn't: help may be asked for.
 pub fn judge(alloc: Global, words: &[String]) -> Result<(), Error> {
     let command = command(alloc, help::LINES.as_slice())?;
-    match command.try_get_matches_from(words) {
-        Ok(_matches) => Ok(()),
-        Err(error) => Err(error),
-    }
+    command.try_get_matches_from(words)?;
+    Ok(())
 }

@@ -1,6 +1,6 @@
 -- What a stop leaves of a script that is answered, and what lasts of it.
 use Rattle.std.specs.Prelude.{◌≡◌, ◌↔◌, ◌⊎◌, ℕ, ◌<◌, true, List, [], ◌∷◌, ◌++◌, length}
-use Rattle.std.specs.Prelude.{slice_get, Option, Some}
+use Rattle.std.specs.Prelude.{Option, Some}
 use Rattle.std.specs.Io.KnownBytes.{Appends}
 use Rattle.ov_base.specs.declared.mode.Mode.{Mode}
 use Rattle.ov_disk.specs.Disk.{Image, Only}
@@ -16,6 +16,7 @@ use Rattle.ov_history.specs.History.{Matrix, matrix_of}
 use Rattle.ov_history.specs.Keys.{AreTrueTokens, DerivesKey, IsKeyOf}
 use Rattle.ov_history.specs.Lists.{is_listed}
 use Rattle.ov_history.specs.Masters.{Masters}
+use Rattle.ov_history.specs.Places.{living_at}
 use Rattle.ov_history.specs.Plain.{PlainHistory, history_of}
 use Rattle.ov_history.specs.Refusals.{IsLegal}
 use Rattle.ov_history.specs.Sealed.{SealedHistory, catalogue_of}
@@ -59,7 +60,7 @@ pub record PublishesMatrix (k : Masters) (m : Matrix) (c : Catalogue) : Type 0 w
   pub derived : (user : ℕ) (label : Label) (key : List ℕ)
       → DerivesKey k c user label key ↔ IsKeyOf k (HoldsLabel c user) label key
   pub matrix : (user file : ℕ) (f : Filed) → user < length m.users
-      → slice_get c.files file ≡ Some f → HoldsFile c user f ↔ (is_listed m user file ≡ true)
+      → living_at c.files file ≡ Some f → HoldsFile c user f ↔ (is_listed m user file ≡ true)
 
 -- Whatever history this image keeps under the two masters, what a store publishes after that one
 -- is the matrix of the history p.

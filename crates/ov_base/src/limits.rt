@@ -22,7 +22,13 @@ pub const MAX_ACCESS_TOKENS: u32 = 1_048_576;
 /// The last epoch: no update is accepted at it.
 pub const LAST_EPOCH: u32 = 4_294_967_295;
 
-/// Words of a set of users, with 64 users each.
+/// Words of a set of users of a store, with 64 users each: as many as hold `MAX_USERS`.
+pub const SET_WORDS: usize = 4;
+
+/// Bytes of a set of users of a store.
+pub const SET_BYTES: usize = 8 * SET_WORDS;
+
+/// Words of any set of users, with 64 users each.
 pub const MAX_SET_WORDS: usize = 1_024;
 
 /// Bytes of a name.

@@ -8,6 +8,7 @@ ghost use Rattle.ov_base.specs.Words.{set_of_words};
 
 mod words;
 
+use crate::limits::SET_WORDS;
 use std::cmp::Ordering;
 use std::marker::Model;
 
@@ -20,8 +21,8 @@ pub struct UserSet<const W: usize> {
     words: [u64; W],
 }
 
-/// Sets of at most 256 users.
-pub type Users = UserSet<4>;
+/// Sets of users of a store.
+pub type Users = UserSet<SET_WORDS>;
 
 impl<const W: usize> Model for UserSet<W> {
     ghost Value = { ℕ };

@@ -1,22 +1,15 @@
 -- Changes of Blobs in a range, one after the other, and what a crash leaves of a write to an extent.
-use Rattle.std.proofs.Common.{◌≡◌, ◌⊎◌, inl, inr, ℕ, ◌+◌, ◌-◌, ◌≤◌, ◌<◌, List, get_or, refl, sym, ◌∙◌, ap, arith}
-use Rattle.std.proofs.lemmas.List.{get_or-take, get_or-drop}
-use Rattle.ov_disk.specs.Disk.{Image, Torn, TornIn, Follows}
+use Rattle.std.proofs.Common.{inl, inr, ℕ, refl, ◌∙◌, arith}
+use Rattle.ov_disk.specs.Disk.{Image, TornIn, Follows}
 use Rattle.ov_disk.specs.Moments.{Elapses, LeavesOnly}
 use Rattle.ov_disk.specs.Tells.{DiskTells}
 use Rattle.ov_disk.specs.declared.area.Area.TheVariants.{Blobs}
-use Rattle.ov_disk.proofs.Runs.{started, goes_on}
+use Rattle.ov_disk.proofs.Runs.{started, goes_on, then_on}
+use Rattle.ov_disk.proofs.Unordered.{torn_get}
 use Rattle.ov_blocks.specs.Writes.{IsChangedIn, IsLeftBy}
 use Rattle.ov_blocks.specs.Laws.{AreWithin, ChangesGoOn}
 
 -- ---- one write
-
-torn_get : (at n : ℕ) (old new : List ℕ) → Torn at n old new → (p : ℕ) → (p < at) ⊎ (at + n ≤ p) → get_or new p 0 ≡ get_or old p 0
-torn_get at n old new torn p (inl lt) = sym (get_or-take at new p 0 lt) ∙ ap (λ (l : List ℕ). get_or l p 0) torn.before ∙ get_or-take at old p 0 lt
-torn_get at n old new torn p (inr ge) =
-    let q = p - (at + n) in
-    let here : at + n + q ≡ p = omega (arith, ge) in
-    ap (λ (k : ℕ). get_or new k 0) (sym here) ∙ sym (get_or-drop (at + n) new q 0) ∙ ap (λ (l : List ℕ). get_or l q 0) torn.after ∙ get_or-drop (at + n) old q 0 ∙ ap (λ (k : ℕ). get_or old k 0) here
 
 -- torn there, it is changed there
 pub torn_changes : (at n : ℕ) (old new : Image) → TornIn Blobs at n old new → IsChangedIn at n old new
@@ -47,18 +40,6 @@ changes_go_on at n next m first count i j k one two a b =
 
 -- ---- what a crash leaves
 
--- two runs of calls of one kind, one after the other
-pub follows_then : (step : Image → Image → Type 0) (old mid new : Image → Type 0) → ((i j k : Image) → step i j → step j k → step i k)
-    → Follows step old mid → Follows step mid new → Follows step old new
-follows_then step old mid new then one two c left =
-    let second = two c left in
-    let first = one second.0 second.1 in
-    (first.0, first.1, then first.0 second.0 c first.2 second.2)
-
--- a step that says less
-pub follows_weaker : (step less : Image → Image → Type 0) (old new : Image → Type 0) → ((i k : Image) → step i k → less i k) → Follows step old new → Follows less old new
-follows_weaker step less old new says follows c left = let from = follows c left in (from.0, from.1, says from.0 c from.2)
-
 -- one call that makes such a step, at any moment
 pub left_by : {D : Type 0} (tells : DiskTells D) (step : Image → Image → Type 0) (old new : D) → ((i : Image) → step i i)
     → Elapses tells old new → Follows step (tells.may_leave old) (tells.may_leave new) → LeavesOnly tells old new (IsLeftBy step (tells.may_leave old))
@@ -66,3 +47,11 @@ left_by tells step old new same time crash =
     goes_on tells old old new (IsLeftBy step (tells.may_leave old))
     (started tells old (IsLeftBy step (tells.may_leave old)) (λ c now. (c, now, same c)))
     time crash
+
+-- one run of such steps after another, at any moment, where two steps one after the other are one
+pub left_then : {D : Type 0} (tells : DiskTells D) (step : Image → Image → Type 0) (d0 d1 d2 : D) → ((i j k : Image) → step i j → step j k → step i k)
+    → LeavesOnly tells d0 d1 (IsLeftBy step (tells.may_leave d0)) → Follows step (tells.may_leave d0) (tells.may_leave d1)
+    → LeavesOnly tells d1 d2 (IsLeftBy step (tells.may_leave d1)) → LeavesOnly tells d0 d2 (IsLeftBy step (tells.may_leave d0))
+left_then tells step d0 d1 d2 then past crash next =
+    then_on tells d0 d1 d2 (IsLeftBy step (tells.may_leave d0)) (IsLeftBy step (tells.may_leave d1)) past next
+    (λ c left. let from = crash left.0 left.1 in (from.0, from.1, then from.0 left.0 c from.2 left.2))

@@ -39,18 +39,12 @@ others held first start count old new all inside changed other is differ p low h
 pub puts_into : (held : List Extent) (first start count : ℕ) (old new : Image) → AreApart 0 held → IsInside first start count held → IsChangedIn (place_in_blobs first start) count old new → PutsInto first start count held old new
 puts_into held first start count old new all inside changed = record { range = changed; others = others held first start count old new all inside changed }
 
--- a block that two extents have
+-- the places of two extents that have a block in common
 pub share_no_block : (held : List Extent) → AreApart 0 held → ShareNoBlock held
-share_no_block held all block e other is also here there = elim (cases_eq is.0 also.0) [
-  | inl same ↦ sym is.2 ∙ ap (λ (k : ℕ). get_or held k e) same ∙ get_or_default held also.0 e other also.1 ∙ also.2
-  | inr not ↦ elim (cases_lt is.0 also.0) [
-    | inl lt ↦ absurd (
-        let le = in_order 0 held is.0 also.0 e all lt also.1 in
-        let that : get_or held also.0 e ≡ other = get_or_default held also.0 e other also.1 ∙ also.2 in
-        omega (arith, le, ap (λ (x : Extent). x.first) is.2, ap (λ (x : Extent). x.length) is.2, ap (λ (x : Extent). x.first) that, here, there))
-    | inr ge ↦ absurd (
-        let le = in_order 0 held also.0 is.0 e all (omega (arith, ge, not)) is.1 in
-        let that : get_or held also.0 e ≡ other = get_or_default held also.0 e other also.1 ∙ also.2 in
-        omega (arith, le, ap (λ (x : Extent). x.first) is.2, ap (λ (x : Extent). x.first) that, ap (λ (x : Extent). x.length) that, here, there))
+share_no_block held all block i j d in_i in_j here there = elim (cases_eq i j) [
+  | inl same ↦ same
+  | inr not ↦ elim (cases_lt i j) [
+    | inl lt ↦ absurd (omega (arith, in_order 0 held i j d all lt in_j, here, there))
+    | inr ge ↦ absurd (omega (arith, in_order 0 held j i d all (omega (arith, ge, not)) in_i, here, there))
   ]
 ]

@@ -1,7 +1,13 @@
 -- Extents that are held in Blobs, in the order of their places, and runs of blocks that are free.
-use Rattle.std.specs.Prelude.{◌≡◌, ◌⊎◌, ℕ, ◌+◌, ◌*◌, ◌≤◌, ◌<◌, List, [], ◌∷◌, ◌++◌, length, All, Contains, Bool, true, false, ⊤}
+use Rattle.std.specs.Prelude.{◌≡◌, ◌⊎◌, ℕ, ◌+◌, ◌-◌, ◌*◌, ◌/◌, ◌≤◌, ◌<◌, List, [], ◌∷◌, ◌++◌, length, All, Contains, Bool, true, false, ⊤, slice_index_or}
 use Rattle.ov_blocks.specs.declared.extents.Extent.{Extent}
 use Rattle.ov_blocks.specs.declared.extents.TheConstants.{BLOCK_BYTES, MAX_BLOCKS, MAX_EXTENT_BLOCKS, MAX_HELD}
+
+-- ---- blocks of bytes
+
+-- how many blocks take so many bytes
+abbrev pub blocks_of : ℕ → ℕ
+blocks_of count = (count + (BLOCK_BYTES - 1)) / BLOCK_BYTES
 
 -- ---- what is held
 
@@ -20,11 +26,11 @@ end_from from (e ∷ held) = end_from (e.first + e.length) held
 abbrev pub IsBlockOf : ℕ → Extent → Type 0
 IsBlockOf block e = (e.first ≤ block) × (block < e.first + e.length)
 
--- a block is in one of these extents at most
+-- a block is in the extent at one place of this list at most, so no extent stands in it twice
 abbrev pub ShareNoBlock : List Extent → Type 0
 ShareNoBlock held =
-    (block : ℕ) (e other : Extent) → Contains held e → Contains held other
-    → IsBlockOf block e → IsBlockOf block other → e ≡ other
+    (block i j : ℕ) (d : Extent) → i < length held → j < length held
+    → IsBlockOf block (slice_index_or held i d) → IsBlockOf block (slice_index_or held j d) → i ≡ j
 
 -- ---- runs that are free
 

@@ -1,6 +1,6 @@
 //! The extents that are held.
 ghost use Rattle.std.specs.Prelude.{◌≡◌, ◌≤◌, ◌<◌, ◌+◌, ℕ, [], IfOk, OnErr, Contains};
-ghost use Rattle.ov_blocks.specs.Extents.{AreApart, HasPlace, Holds, IsFree, IsWith, ShareNoBlock, end_from};
+ghost use Rattle.ov_blocks.specs.Extents.{AreApart, HasPlace, Holds, IsFree, IsWith, ShareNoBlock, blocks_of, end_from};
 
 use crate::free::{count_before, is_free, lowest_run};
 use ov_base::Memory;
@@ -18,6 +18,13 @@ pub const MAX_EXTENT_BLOCKS: u32 = 4_096;
 
 /// Extents that are held while a place is found for another, at most.
 pub const MAX_HELD: u32 = 65_535;
+
+/// How many blocks take so many bytes.
+pub fn blocks_of(count: u32) -> u32
+    ensures { result ≡ blocks_of count }
+{
+    count / BLOCK_BYTES + u32::from(count % BLOCK_BYTES > 0)
+}
 
 /// Blocks that follow one another: the number of the first, and how many they are.
 #[derive(Clone, Copy, Debug, PartialEq, Eq)]

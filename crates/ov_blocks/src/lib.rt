@@ -4,13 +4,14 @@
 //! A *block* is 4,096 bytes of Blobs, and an *extent* is a number of blocks that follow one another.
 //! [`Extents`] keeps, in memory, the extents that are held. A caller that replaces bytes puts the new
 //! ones into another extent, and gives up the old one afterwards: so blocks are used again, and Blobs
-//! grows only where no gap is long enough. No crate names this one yet: the store keeps its files'
-//! bytes in memory.
+//! grows only where no gap is long enough. `ov_moves` does that, and `ov_images` says which history an
+//! image with extents keeps; the store doesn't name them yet, and keeps its files' bytes in memory.
 //!
 //! **What a contract sees** is the list of the extents that are held, in the order of their places. In
 //! all calls a length counts blocks, a start counts bytes, and an extent ends at the block behind its
 //! last.
 //!
+//! * [`blocks_of`] tells how many blocks take so many bytes.
 //! * [`Extents::place`] answers the lowest run of free blocks that is long enough. Behind the last
 //!   extent all blocks are free, whatever the length of Blobs. It takes no memory and walks over the
 //!   held extents at most once: at 16,384 of them that is 16,384 steps.
@@ -18,7 +19,8 @@
 //!   the range; [`Extents::release`] gives one up, and takes no memory. Both find the place by halves
 //!   and move what stands behind it.
 //! * [`Extents::held`] gives the list. [`Extents::known`] does nothing; its contract is what holds of
-//!   every such list: no block is in two extents.
+//!   every such list: a block is in the extent at one place of it at most, so that no two extents
+//!   share one and none stands there twice.
 //! * [`Extents::put`] writes into a held extent by one call of the disk. At every moment since its
 //!   start a crash leaves an image that it could have left at the start, changed in the range alone:
 //!   Book is the same, Blobs is no shorter, and no byte of another held extent has changed. Nothing
@@ -57,5 +59,7 @@ mod extents;
 mod free;
 mod laws;
 
-pub use extents::{BLOCK_BYTES, Extent, Extents, MAX_BLOCKS, MAX_EXTENT_BLOCKS, MAX_HELD};
+pub use extents::{
+    BLOCK_BYTES, Extent, Extents, MAX_BLOCKS, MAX_EXTENT_BLOCKS, MAX_HELD, blocks_of,
+};
 pub use laws::{changes_go_on, what_is_put_stands_there};

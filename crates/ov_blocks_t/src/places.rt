@@ -53,6 +53,20 @@ fn lowest_runs(rt: HostRuntime) -> Result<(), Fail> {
     Ok(())
 }
 
+// As many extents of a block as a store has files, with one free block in front of each but the
+// first: the place for two blocks is behind them all.
+#[test]
+fn many_extents(rt: HostRuntime) -> Result<(), Fail> {
+    let mut extents = Extents::new(rt.alloc());
+    for k in 0..16_384_u32 {
+        assert_eq!(rt; extents.hold(2 * k, 1), Ok(true));
+    }
+    assert_eq!(rt; extents.held().len(), 16_384);
+    assert_eq!(rt; place(&rt, &extents, 1), 1);
+    assert_eq!(rt; place(&rt, &extents, 2), 32_767);
+    Ok(())
+}
+
 // What is held, a range that is to be held besides, and whether it is free.
 const HOLDS: [(&[(u32, u32)], u32, u32, bool); 12] = [
     (&[], 0, 1, true),

@@ -1,5 +1,5 @@
 -- The stages of a read at histories that are right.
-use Rattle.std.proofs.Common.{◌≡◌, ◌∙◌, ◌<◌, ◌≤◌, ℕ, Bool, true, false}
+use Rattle.std.proofs.Common.{◌≡◌, ◌∙◌, ◌≤◌, ℕ, Bool, true, false}
 use Rattle.std.proofs.Common.{List, [], ◌∷◌, ◌++◌, length, take, drop, Option, Some, None}
 use Rattle.std.proofs.Common.{Ok, Err, refl, sym, ap, subst, arith, append_assoc}
 use Rattle.std.specs.Prelude.{◌+◌, min, ◌==◌, nat_lt, if◌then◌else◌, slice_index_or}
@@ -34,7 +34,7 @@ use Rattle.ov_client.specs.declared.reading.TheConstants.{TRIES}
 use Rattle.ov_client.specs.declared.telling.Fetched.TheVariants.{Bytes}
 use Rattle.ov_client.proofs.Leading.{BeginsAt}
 use Rattle.ov_client.proofs.Opening.{file_is, judged_is, length_is, read_named, there}
-use Rattle.ov_client.proofs.Staying.{file_in, found_file, same_file, same_text, stays_followed}
+use Rattle.ov_client.proofs.Staying.{IsIn, file_in, found_file, same_file, same_text, stays_followed}
 use Rattle.ov_client.proofs.Fields.{no_field, no_rest}
 
 module _ (k : Masters) (r : Reader) (file : List ℕ) (holds : HoldsRootKeys k r) where
@@ -88,7 +88,7 @@ module _ (k : Masters) (r : Reader) (file : List ℕ) (holds : HoldsRootKeys k r
           let s : Catalogue = catalogue_of k.surface (sealed k f.plain) in
           let n : ℕ = file_named s file in
           let text : List ℕ = slice_index_or (stored_of k.surface (sealed k f.plain)) n [] in
-          let low : n < length s.files = there k f.plain f.legal (user_named s r.name) n
+          let low : IsIn s.files n = there k f.plain f.legal (user_named s r.name) n
           f.allowed in
           let split : text ≡ stored ++ f.rest =
           ap (λ m. slice_index_or (stored_of k.surface (sealed k f.plain)) m []) (sym f.told.file)
@@ -175,16 +175,16 @@ module _ (k : Masters) (r : Reader) (file : List ℕ) (holds : HoldsRootKeys k r
         ∙ ap (λ (us : List SealedUpdate). record (sealed k f.plain) { updates = us })
         (append_assoc (sealed k f.plain).updates f.more others)
 
-    low : c.file < length before.files
+    low : IsIn before.files c.file
     low =
-        subst (λ n. n < length before.files) (sym f.told.file)
+        subst (λ n. IsIn before.files n) (sym f.told.file)
         (there k f.plain f.legal (user_named before r.name) (file_named before file) f.allowed)
 
-    pub still : c.file < length now.files
+    pub still : IsIn now.files c.file
     still =
-        subst (λ (g : SealedHistory). c.file < length (catalogue_of k.surface g).files)
+        subst (λ (g : SealedHistory). IsIn (catalogue_of k.surface g).files c.file)
         (sym goes_to)
-        (stays_followed k.surface (sealed k f.plain) all_more c.file low).low
+        (stays_followed k.surface (sealed k f.plain) all_more c.file low).is_in
 
     generation_before : c.generation ≡ (file_in before.files c.file).generation
     generation_before =

@@ -2,13 +2,14 @@
 use Rattle.std.proofs.Common.{◌≡◌, ◌∙◌, ℕ, Bool, true, false}
 use Rattle.std.proofs.Common.{List, [], ◌∷◌, length, Option, Some, None}
 use Rattle.std.proofs.Common.{Result, Ok, Err, refl, sym, ap, subst, inl, inr}
-use Rattle.std.specs.Prelude.{◌⊎◌, slice_get, slice_index_or}
+use Rattle.std.specs.Prelude.{◌⊎◌, slice_index_or}
 use Rattle.ov_base.specs.declared.limits.TheConstants.{MAX_CHUNK_BYTES}
 use Rattle.ov_fields.specs.Fronts.{AreAllBytes}
 use Rattle.ov_record.specs.Updates.{SealedUpdate}
 use Rattle.ov_history.specs.Asking.{file_named, user_named}
 use Rattle.ov_history.specs.Catalogue.{Catalogue, Filed}
 use Rattle.ov_history.specs.Masters.{Masters}
+use Rattle.ov_history.specs.Places.{living_at}
 use Rattle.ov_history.specs.Plain.{PlainHistory, history_of}
 use Rattle.ov_history.specs.Refusals.{IsLegal}
 use Rattle.ov_history.specs.Sealed.{SealedHistory, catalogue_of, stored_of}
@@ -108,16 +109,16 @@ module _ (k : Masters) (r : Reader) (file : List ℕ) (holds : HoldsRootKeys k r
         elim (read_at u (requests.Chunk c.file c.generation (length stored) MAX_CHUNK_BYTES) reply
         made answer form bytes reads at_u) [
           | inl (is, none) ↦
-              let files : List Filed = (catalogue_of k.surface (sealed k p)).files in
+              let files : List (Option Filed) = (catalogue_of k.surface (sealed k p)).files in
               let found = found_file files c.file
               (still k r file holds v tries c stored at_one f others p legal at_p) in
-              let at_k : AnswersChunk (slice_get files c.file)
+              let at_k : AnswersChunk (living_at files c.file)
               (slice_index_or (stored_of k.surface (sealed k p)) c.file [])
               c.generation (length stored) MAX_CHUNK_BYTES answer =
-              subst (λ (t : List (List ℕ)). AnswersChunk (slice_get files c.file)
+              subst (λ (t : List (List ℕ)). AnswersChunk (living_at files c.file)
               (slice_index_or t c.file []) c.generation (length stored) MAX_CHUNK_BYTES answer)
               stored_is
-              (subst (λ (d : Catalogue). AnswersChunk (slice_get d.files c.file)
+              (subst (λ (d : Catalogue). AnswersChunk (living_at d.files c.file)
               (slice_index_or (stored_of u.surface u.history) c.file []) c.generation
               (length stored) MAX_CHUNK_BYTES answer)
               catalogue_is is) in

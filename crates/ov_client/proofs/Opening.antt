@@ -1,9 +1,8 @@
 -- What a reader finds of a file, after a history that is right under the masters of its keys.
-use Rattle.std.proofs.Common.{◌≡◌, ◌∙◌, ◌<◌, ℕ, Bool, true, false, List, [], ◌∷◌, length}
-use Rattle.std.proofs.Common.{None, Ok, Err, refl, sym, ap, arith}
+use Rattle.std.proofs.Common.{◌≡◌, ◌∙◌, ℕ, Bool, true, false, List, [], ◌∷◌, length}
+use Rattle.std.proofs.Common.{None, Ok, Err, refl, sym, ap}
 use Rattle.std.specs.Prelude.{slice_index_or, if◌then◌else◌, bytes_eq}
 use Rattle.std.proofs.lemmas.Slice.Eq.{bytes_eq-Decides}
-use Rattle.ov_base.proofs.Tests.{lt_of_true, true_of_not}
 use Rattle.ov_base.specs.declared.refusal.Refusal.TheVariants.{NoUser, NoFile, NoPath}
 use Rattle.ov_tokens.specs.declared.label.Kind.TheVariants.{Derive}
 use Rattle.ov_tokens.specs.Keys.{node_key}
@@ -11,7 +10,7 @@ use Rattle.ov_chain.specs.Walk.{access_along}
 use Rattle.ov_surface.specs.Tags.{tag_of_file}
 use Rattle.ov_wire.specs.declared.answer.Chained.{Chained}
 use Rattle.ov_history.specs.Asking.{file_named, user_named}
-use Rattle.ov_history.specs.Catalogue.{Catalogue, Filed, matrix_shown, outline}
+use Rattle.ov_history.specs.Catalogue.{Catalogue, Filed, matrix_shown}
 use Rattle.ov_history.specs.History.{Matrix, matrix_of}
 use Rattle.ov_history.specs.Kept.{AreKept, IsKept, opened}
 use Rattle.ov_history.specs.Keys.{AreTrueTokens}
@@ -24,7 +23,7 @@ use Rattle.ov_history.specs.Sealed.{catalogue_of, stored_of}
 use Rattle.ov_history.specs.Sealing.{sealed}
 use Rattle.ov_history.proofs.Filing.{readers_get_bytes}
 use Rattle.ov_history.proofs.Keeping.{kept_shows, kept_stands_for}
-use Rattle.ov_history.proofs.SoundTests.{files_shown-length}
+use Rattle.ov_history.proofs.SoundTests.{file_is as file_is_in}
 use Rattle.ov_history.proofs.Storing.{stored_is_coated}
 use Rattle.ov_history.proofs.TrueHistories.{tokens_are_true}
 use Rattle.ov_protocol.specs.Reading.{IsChainedFor}
@@ -33,7 +32,7 @@ use Rattle.ov_client.specs.Readers.{Reader, judged, keys_along, surface_along}
 use Rattle.ov_client.specs.Readers.{uncovered}
 use Rattle.ov_client.specs.declared.fault.ClientFault.TheVariants.{Damaged}
 use Rattle.ov_client.proofs.Leading.{BeginsAt, base_chain_leads, surface_chain_leads}
-use Rattle.ov_client.proofs.Staying.{file_in, found_file}
+use Rattle.ov_client.proofs.Staying.{IsIn, file_in, found_file}
 
 -- ---- tests
 
@@ -80,15 +79,12 @@ module _ (k : Masters) (p : PlainHistory) (legal : IsLegal (history_of p)) where
 
   -- a file that may be read is there
   pub there : (user n : ℕ) → read_refusal (matrix_shown shown) user n ≡ None
-      → n < length shown.files
+      → IsIn shown.files n
   there user n none =
-      let test = true_of_not _ (file_there _ _ _ none) in
-      let low : n < length (matrix_shown shown).files = lt_of_true n
-      (length (matrix_shown shown).files) test in
-      omega (arith, files_shown-length (outline shown) shown.files)
+      file_is_in n shown (file_there _ _ _ none)
 
   -- what is stored of a file has the file's length
-  pub length_is : (n : ℕ) → n < length shown.files
+  pub length_is : (n : ℕ) → IsIn shown.files n
       → length (slice_index_or texts n []) ≡ (file_in shown.files n).length
   length_is n low =
       (stored_is_coated k.surface shown texts (sealed k p) (kept_stands_for k p shown is_kept)
@@ -96,7 +92,7 @@ module _ (k : Masters) (p : PlainHistory) (legal : IsLegal (history_of p)) where
       n (file_in shown.files n) (found_file shown.files n low)
 
   module _ (r : Reader) (holds : HoldsRootKeys k r) (user number : ℕ) (c : Chained)
-      (low : number < length shown.files) (is : IsChainedFor shown user number c)
+      (low : IsIn shown.files number) (is : IsChainedFor shown user number c)
       (base : c.base.root ≡ r.base_root) (surface : BeginsAt r.surface_root c.surface) where
     abbrev filed : Filed
     filed = file_in shown.files number

@@ -1,5 +1,5 @@
 -- The stages of a read at a history that nobody changes.
-use Rattle.std.proofs.Common.{◌≡◌, ◌∙◌, ◌<◌, ◌≤◌, ◌+◌, ℕ, Bool, true, false}
+use Rattle.std.proofs.Common.{◌≡◌, ◌∙◌, ◌≤◌, ◌+◌, ℕ, Bool, true, false}
 use Rattle.std.proofs.Common.{List, [], ◌++◌, length, take, drop, Option, Some, None}
 use Rattle.std.proofs.Common.{Ok, Err, refl, sym, ap, subst, arith, append_assoc}
 use Rattle.std.proofs.Common.{eq-eqb, length-append}
@@ -37,7 +37,7 @@ use Rattle.ov_client.specs.declared.fault.ClientFault.TheVariants as client
 use Rattle.ov_client.specs.declared.telling.Fetched.TheVariants.{Bytes}
 use Rattle.ov_client.proofs.Leading.{BeginsAt}
 use Rattle.ov_client.proofs.Opening.{judged_is, length_is, there}
-use Rattle.ov_client.proofs.Staying.{file_in}
+use Rattle.ov_client.proofs.Staying.{IsIn, file_in}
 use Rattle.ov_client.proofs.Fields.{no_rest, right_field}
 use Rattle.ov_client.proofs.ReadingBack.{base_begins, surface_begins}
 
@@ -67,11 +67,11 @@ module _ (k : Masters) (r : Reader) (file : List ℕ) (p : PlainHistory)
   StandsQuiet (Ends result) = IsAnsweredOrCut result
 
   module _ (c : Chained) (stored : List ℕ) (f : IsFetching c stored) where
-    low : n < length s.files
+    low : IsIn s.files n
     low = there k p legal u n f.allowed
 
-    pub low_told : c.file < length s.files
-    low_told = subst (λ m. m < length s.files) (sym f.told.file) low
+    pub low_told : IsIn s.files c.file
+    low_told = subst (λ m. IsIn s.files m) (sym f.told.file) low
 
     size : length (slice_index_or (stored_of k.surface (sealed k p)) c.file []) ≡ c.length
     size =

@@ -2,12 +2,13 @@
 use Rattle.std.proofs.Common.{◌≡◌, ◌∙◌, ℕ}
 use Rattle.std.proofs.Common.{List, [], ◌∷◌, length, Option, Some, None}
 use Rattle.std.proofs.Common.{Result, Ok, Err, refl, sym, ap, subst, inl, inr}
-use Rattle.std.specs.Prelude.{◌⊎◌, slice_get, slice_index_or}
+use Rattle.std.specs.Prelude.{◌⊎◌, slice_index_or}
 use Rattle.ov_base.specs.declared.limits.TheConstants.{MAX_CHUNK_BYTES}
 use Rattle.ov_record.specs.Updates.{SealedUpdate}
 use Rattle.ov_history.specs.Asking.{file_named, user_named}
 use Rattle.ov_history.specs.Catalogue.{Catalogue, Filed}
 use Rattle.ov_history.specs.Masters.{Masters}
+use Rattle.ov_history.specs.Places.{living_at}
 use Rattle.ov_history.specs.Plain.{PlainHistory, history_of}
 use Rattle.ov_history.specs.Refusals.{IsLegal}
 use Rattle.ov_history.specs.Sealed.{SealedHistory, catalogue_of, stored_of}
@@ -98,17 +99,17 @@ module _ (k : Masters) (r : Reader) (file : List ℕ) (p : PlainHistory)
     chunk_asked tries c stored f reply form replies =
         let request : Request = requests.Chunk c.file c.generation (length stored)
         MAX_CHUNK_BYTES in
-        let at_v : AnswersChunk (slice_get (catalogue_of v.surface v.history).files c.file)
+        let at_v : AnswersChunk (living_at (catalogue_of v.surface v.history).files c.file)
         (slice_index_or (stored_of v.surface v.history) c.file []) c.generation (length stored)
         MAX_CHUNK_BYTES replies.answer =
         answers_so request reply form replies in
-        let at_k : AnswersChunk (slice_get s.files c.file)
+        let at_k : AnswersChunk (living_at s.files c.file)
         (slice_index_or (stored_of k.surface (sealed k p)) c.file [])
         c.generation (length stored) MAX_CHUNK_BYTES replies.answer =
-        subst (λ (t : List (List ℕ)). AnswersChunk (slice_get s.files c.file)
+        subst (λ (t : List (List ℕ)). AnswersChunk (living_at s.files c.file)
         (slice_index_or t c.file []) c.generation (length stored) MAX_CHUNK_BYTES replies.answer)
         stored_is
-        (subst (λ (d : Catalogue). AnswersChunk (slice_get d.files c.file)
+        (subst (λ (d : Catalogue). AnswersChunk (living_at d.files c.file)
         (slice_index_or (stored_of v.surface v.history) c.file []) c.generation (length stored)
         MAX_CHUNK_BYTES replies.answer)
         catalogue_is at_v) in

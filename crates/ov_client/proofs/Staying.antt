@@ -2,7 +2,7 @@
 use Rattle.std.proofs.Common.{◌≡◌, ◌∙◌, ◌<◌, ◌≤◌, ◌+◌, ℕ, zero, suc, Bool, true, false}
 use Rattle.std.proofs.Common.{List, [], ◌∷◌, ◌++◌, length, refl, sym, ap, subst, arith, inl, inr}
 use Rattle.std.proofs.Common.{length-append}
-use Rattle.std.specs.Prelude.{◌⊎◌, Option, Some, None, slice_get, slice_index_or}
+use Rattle.std.specs.Prelude.{◌⊎◌, Option, Some, None, is_some, slice_index_or, unwrap_or}
 use Rattle.std.proofs.lemmas.Bool.{cases_lt}
 use Rattle.std.proofs.lemmas.List.{get_or_append_left}
 use Rattle.ov_graph.proofs.GraphLaws.{last_item}
@@ -12,21 +12,31 @@ use Rattle.ov_history.specs.Briefs.{Brief, BriefCreate, BriefEnrol, BriefGrant, 
 use Rattle.ov_history.specs.Briefs.{outer, text_of}
 use Rattle.ov_history.specs.Catalogue.{Catalogue, Filed, catalogue_after, empty_catalogue}
 use Rattle.ov_history.specs.Catalogue.{grown_catalogue, no_filed, outline, refiled, settled_files}
+use Rattle.ov_history.specs.Places.{living_at}
 use Rattle.ov_history.specs.Layers.{lists_after, lists_of, node_for, same_surface, surface_at}
 use Rattle.ov_history.specs.Layers.{wants_of, with_wants}
 use Rattle.ov_history.specs.Rewrites.{with_text}
 use Rattle.ov_history.specs.Sealed.{SealedHistory, catalogue_all, catalogue_of, sent_all, sent_of}
-use Rattle.ov_history.proofs.Storing.{length-settled_files}
+use Rattle.ov_history.proofs.Storing.{length-settled_files, living_below}
 use Rattle.ov_protocol.specs.Serving.{followed}
 
-abbrev pub file_in : List Filed → ℕ → Filed
-file_in files n = slice_index_or files n no_filed
+abbrev pub file_in : List (Option Filed) → ℕ → Filed
+file_in files n = unwrap_or (living_at files n) no_filed
 
-pub found_file : (files : List Filed) (n : ℕ) → n < length files
-    → slice_get files n ≡ Some (file_in files n)
-found_file [] n low = absurd (omega arith)
-found_file (f ∷ files) zero low = refl
-found_file (f ∷ files) (suc n) low = found_file files n (omega arith)
+-- the file of this number is there, and isn't gone
+abbrev pub IsIn : List (Option Filed) → ℕ → Type 0
+IsIn files n = is_some (living_at files n) ≡ true
+
+found_one : (f : Option Filed) → is_some f ≡ true → f ≡ Some (unwrap_or f no_filed)
+found_one None is = absurd (cc)
+found_one (Some f) is = refl
+
+pub found_file : (files : List (Option Filed)) (n : ℕ) → IsIn files n
+    → living_at files n ≡ Some (file_in files n)
+found_file files n is = found_one (living_at files n) is
+
+in_below : (files : List (Option Filed)) (n : ℕ) → IsIn files n → n < length files
+in_below files n is = living_below files n (file_in files n) (found_file files n is)
 
 -- ---- one update
 
@@ -35,34 +45,52 @@ refiled_each : (b : Bool) (epoch : ℕ) (surface : Option ℕ) (f : Filed)
 refiled_each true epoch surface f = inl refl
 refiled_each false epoch surface f = inr refl
 
-settled_each : (epoch : ℕ) (sets : List ℕ) (wants : List (Option ℕ)) (files : List Filed) (n : ℕ)
+settled_each : (epoch : ℕ) (sets : List ℕ) (wants : List (Option ℕ)) (files : List (Option Filed))
+    (n : ℕ)
     → (file_in (settled_files epoch sets wants files) n ≡ file_in files n)
     ⊎ ((file_in (settled_files epoch sets wants files) n).generation ≡ epoch)
 settled_each epoch sets [] files n = inl refl
 settled_each epoch sets (want ∷ wants) [] n = inl refl
-settled_each epoch sets (want ∷ wants) (f ∷ files) zero =
+settled_each epoch sets (want ∷ wants) (None ∷ files) zero = inl refl
+settled_each epoch sets (want ∷ wants) (Some f ∷ files) zero =
     refiled_each (same_surface f.surface (surface_at sets want)) epoch (surface_at sets want) f
 settled_each epoch sets (want ∷ wants) (f ∷ files) (suc n) = settled_each epoch sets wants files n
 
+-- surfaces that are settled leave the same files there
+settled_in : (epoch : ℕ) (sets : List ℕ) (wants : List (Option ℕ)) (files : List (Option Filed))
+    (n : ℕ)
+    → is_some (living_at (settled_files epoch sets wants files) n) ≡ is_some (living_at files n)
+settled_in epoch sets [] files n = refl
+settled_in epoch sets (want ∷ wants) [] n = refl
+settled_in epoch sets (want ∷ wants) (None ∷ files) zero = refl
+settled_in epoch sets (want ∷ wants) (Some f ∷ files) zero = refl
+settled_in epoch sets (want ∷ wants) (f ∷ files) (suc n) = settled_in epoch sets wants files n
+
+-- what a creation files
+abbrev new_file : Catalogue → List ℕ → ℕ → List ℕ → ℕ → Filed
+new_file c file list tag size = record {
+  name = file;
+  node = node_for c.base.sets list;
+  surface = None;
+  generation = c.epoch + 1;
+  tag = tag;
+  length = size;
+}
+
 -- a file that is there stays until the surfaces are settled
-grown_file : (c : Catalogue) (b : Brief) (n : ℕ) → n < length c.files
+grown_file : (c : Catalogue) (b : Brief) (n : ℕ) → IsIn c.files n
     → (file_in (grown_catalogue c b).files n ≡ file_in c.files n)
-    × (n < length (grown_catalogue c b).files)
-grown_file c (BriefEnrol user) n low = (refl, low)
-grown_file c (BriefCreate file list tokens tag size) n low =
-    let f : Filed = record {
-      name = file;
-      node = node_for c.base.sets list;
-      surface = None;
-      generation = c.epoch + 1;
-      tag = tag;
-      length = size;
-    } in (
-      get_or_append_left c.files (f ∷ []) no_filed n low,
-      omega (arith, length-append c.files (f ∷ [])),
+    × IsIn (grown_catalogue c b).files n
+grown_file c (BriefEnrol user) n is = (refl, is)
+grown_file c (BriefCreate file list tokens tag size) n is =
+    let f : Filed = new_file c file list tag size in
+    let same : living_at (c.files ++ Some f ∷ []) n ≡ living_at c.files n =
+    get_or_append_left c.files (Some f ∷ []) None n (in_below c.files n is) in (
+      ap (λ (o : Option Filed). unwrap_or o no_filed) same,
+      ap (λ (o : Option Filed). is_some o) same ∙ is,
     )
-grown_file c (BriefGrant user file token) n low = (refl, low)
-grown_file c (BriefRevoke user file) n low = (refl, low)
+grown_file c (BriefGrant user file token) n is = (refl, is)
+grown_file c (BriefRevoke user file) n is = (refl, is)
 
 grown_epoch : (c : Catalogue) (b : Brief) → (grown_catalogue c b).epoch ≡ c.epoch + 1
 grown_epoch c (BriefEnrol user) = refl
@@ -71,38 +99,34 @@ grown_epoch c (BriefGrant user file token) = refl
 grown_epoch c (BriefRevoke user file) = refl
 
 -- no file is of a generation past the epoch
-abbrev pub AreUpTo : ℕ → List Filed → Type 0
-AreUpTo epoch files = (n : ℕ) → n < length files → (file_in files n).generation ≤ epoch
+abbrev pub AreUpTo : ℕ → List (Option Filed) → Type 0
+AreUpTo epoch files = (n : ℕ) → IsIn files n → (file_in files n).generation ≤ epoch
 
 grown_up_to : (c : Catalogue) (b : Brief) → AreUpTo c.epoch c.files
     → AreUpTo (c.epoch + 1) (grown_catalogue c b).files
-grown_up_to c (BriefEnrol user) up n low = let was = up n low in omega arith
-grown_up_to c (BriefCreate file list tokens tag size) up n low =
-    let f : Filed = record {
-      name = file;
-      node = node_for c.base.sets list;
-      surface = None;
-      generation = c.epoch + 1;
-      tag = tag;
-      length = size;
-    } in
+grown_up_to c (BriefEnrol user) up n is = let was = up n is in omega arith
+grown_up_to c (BriefCreate file list tokens tag size) up n is =
+    let f : Filed = new_file c file list tag size in
+    let low : n < length (c.files ++ Some f ∷ []) = in_below (c.files ++ Some f ∷ []) n is in
     elim (cases_lt n (length c.files)) [
       | inl old ↦
-          let was = up n old in
-          let same = ap (λ (g : Filed). g.generation)
-          (get_or_append_left c.files (f ∷ []) no_filed n old) in
+          let same : living_at (c.files ++ Some f ∷ []) n ≡ living_at c.files n =
+          get_or_append_left c.files (Some f ∷ []) None n old in
+          let was = up n (ap (λ (o : Option Filed). is_some o) (sym same) ∙ is) in
+          let generation = ap (λ (o : Option Filed). (unwrap_or o no_filed).generation) same in
           omega arith
       | inr past ↦
-          let here : n ≡ length c.files = omega (arith, length-append c.files (f ∷ [])) in
-          let same = ap (λ (g : Filed). g.generation) (last_item c.files f n no_filed here) in
+          let here : n ≡ length c.files = omega (arith, length-append c.files (Some f ∷ [])) in
+          let generation = ap (λ (o : Option Filed). (unwrap_or o no_filed).generation)
+          (last_item c.files (Some f) n None here) in
           omega arith
     ]
-grown_up_to c (BriefGrant user file token) up n low = let was = up n low in omega arith
-grown_up_to c (BriefRevoke user file) up n low = let was = up n low in omega arith
+grown_up_to c (BriefGrant user file token) up n is = let was = up n is in omega arith
+grown_up_to c (BriefRevoke user file) up n is = let was = up n is in omega arith
 
 -- a file stays as it is, or comes to a generation past the epoch
 pub record Stays (c d : Catalogue) (n : ℕ) : Type 0 where
-  pub low : n < length d.files
+  pub is_in : IsIn d.files n
   pub epoch : c.epoch ≤ d.epoch
   pub same : (file_in d.files n ≡ file_in c.files n) ⊎ (c.epoch < (file_in d.files n).generation)
 
@@ -116,45 +140,44 @@ module _ (master : List ℕ) (c : Catalogue) (b : Brief) where
   abbrev sets : List ℕ
   sets = with_wants next.surface.sets wants
 
-  files_low : (n : ℕ) → n < length next.files → n < length (catalogue_after master c b).files
-  files_low n low = omega (arith, length-settled_files next.epoch sets wants next.files)
+  stays_in : (n : ℕ) → is_some (living_at (catalogue_after master c b).files n)
+      ≡ is_some (living_at next.files n)
+  stays_in n = settled_in next.epoch sets wants next.files n
 
-  stays_one : (n : ℕ) → n < length c.files → Stays c (catalogue_after master c b) n
-  stays_one n low =
-      let (same, there) = grown_file c b n low in
+  stays_one : (n : ℕ) → IsIn c.files n → Stays c (catalogue_after master c b) n
+  stays_one n is =
+      let (same, there) = grown_file c b n is in
       let later = grown_epoch c b in record {
-        low = files_low n there;
+        is_in = stays_in n ∙ there;
         epoch = omega (arith, later);
         same = elim (settled_each next.epoch sets wants next.files n) [
-          | inl is ↦ inl (is ∙ same)
+          | inl stays ↦ inl (stays ∙ same)
           | inr now ↦ inr (omega (arith, later, now))
         ];
       }
 
   up_to_one : AreUpTo c.epoch c.files
       → AreUpTo (catalogue_after master c b).epoch (catalogue_after master c b).files
-  up_to_one up n low =
+  up_to_one up n is =
       let later = grown_epoch c b in
-      let there : n < length next.files =
-      omega (arith, length-settled_files next.epoch sets wants next.files) in
-      let was = grown_up_to c b up n there in
+      let was = grown_up_to c b up n (sym (stays_in n) ∙ is) in
       elim (settled_each next.epoch sets wants next.files n) [
-        | inl is ↦
-            let same = ap (λ (g : Filed). g.generation) is in omega (arith, later, was, same)
+        | inl stays ↦
+            let same = ap (λ (g : Filed). g.generation) stays in omega (arith, later, was, same)
         | inr now ↦ omega (arith, later, now)
       ]
 
 -- ---- all updates
 
 pub stays_all : (master : List ℕ) (c : Catalogue) (updates : List SealedUpdate) (n : ℕ)
-    → n < length c.files → Stays c (catalogue_all master c updates) n
-stays_all master c [] n low = record { low = low; epoch = omega arith; same = inl refl }
-stays_all master c (u ∷ updates) n low =
-    let one = stays_one master c (brief u) n low in
-    let all = stays_all master (catalogue_after master c (brief u)) updates n one.low in
+    → IsIn c.files n → Stays c (catalogue_all master c updates) n
+stays_all master c [] n is_in = record { is_in = is_in; epoch = omega arith; same = inl refl }
+stays_all master c (u ∷ updates) n is_in =
+    let one = stays_one master c (brief u) n is_in in
+    let all = stays_all master (catalogue_after master c (brief u)) updates n one.is_in in
     let end : Catalogue = catalogue_all master (catalogue_after master c (brief u)) updates in
     record {
-      low = all.low;
+      is_in = all.is_in;
       epoch = omega (arith, one.epoch, all.epoch);
       same = elim all.same [
         | inr past ↦ inr (omega (arith, one.epoch, past))
@@ -175,7 +198,7 @@ up_to_all master c (u ∷ updates) up =
 up_to_of : (master : List ℕ) (g : SealedHistory)
     → AreUpTo (catalogue_of master g).epoch (catalogue_of master g).files
 up_to_of master g = up_to_all master (empty_catalogue g.mode g.first) g.updates
-    (λ n low. absurd (omega arith))
+    (λ n is. absurd (cc))
 
 catalogue_both : (master : List ℕ) (c : Catalogue) (updates more : List SealedUpdate)
     → catalogue_all master c (updates ++ more)
@@ -209,15 +232,8 @@ many_one : (c : Catalogue) (texts : List (List ℕ)) (u : SealedUpdate)
     → length (with_text texts (text_of u)) ≡ length (grown_catalogue c (brief u)).files
 many_one c texts (SealedEnrol user) many = many
 many_one c texts (SealedCreate file list tokens tag text) many =
-    let f : Filed = record {
-      name = file;
-      node = node_for c.base.sets list;
-      surface = None;
-      generation = c.epoch + 1;
-      tag = tag;
-      length = length text;
-    } in
-    omega (arith, many, length-append texts (text ∷ []), length-append c.files (f ∷ []))
+    let f : Filed = new_file c file list tag (length text) in
+    omega (arith, many, length-append texts (text ∷ []), length-append c.files (Some f ∷ []))
 many_one c texts (SealedGrant user file token) many = many
 many_one c texts (SealedRevoke user file) many = many
 
@@ -235,12 +251,12 @@ many_all master c texts (u ∷ updates) many =
 -- ---- histories
 
 module _ (master : List ℕ) (g : SealedHistory) (updates : List SealedUpdate) (n : ℕ)
-    (low : n < length (catalogue_of master g).files) where
+    (is_in : IsIn (catalogue_of master g).files n) where
   pub stays_followed : Stays (catalogue_of master g) (catalogue_of master (followed g updates)) n
   stays_followed =
       subst (λ (d : Catalogue). Stays (catalogue_of master g) d n)
       (sym (catalogue_both master (empty_catalogue g.mode g.first) g.updates updates))
-      (stays_all master (catalogue_of master g) updates n low)
+      (stays_all master (catalogue_of master g) updates n is_in)
 
   -- a file of the same generation is the same
   pub same_file : (file_in (catalogue_of master (followed g updates)).files n).generation
@@ -250,7 +266,7 @@ module _ (master : List ℕ) (g : SealedHistory) (updates : List SealedUpdate) (
   same_file generation = elim stays_followed.same [
     | inl is ↦ is
     | inr past ↦
-        let up = up_to_of master g n low in absurd (omega (arith, past, up, generation))
+        let up = up_to_of master g n is_in in absurd (omega (arith, past, up, generation))
   ]
 
   -- the texts that were sent stay
@@ -260,4 +276,5 @@ module _ (master : List ℕ) (g : SealedHistory) (updates : List SealedUpdate) (
       let many : length (sent_of g) ≡ length (catalogue_of master g).files =
       many_all master (empty_catalogue g.mode g.first) [] g.updates refl in
       ap (λ (texts : List (List ℕ)). slice_index_or texts n []) (sent_both [] g.updates updates)
-      ∙ sent_stays (sent_of g) updates n (omega (arith, many))
+      ∙ sent_stays (sent_of g) updates n
+      (omega (arith, many, in_below (catalogue_of master g).files n is_in))

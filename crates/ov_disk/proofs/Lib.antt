@@ -2,3 +2,4 @@ pub mod Runs
 pub mod Stops
 pub mod Tapes
 pub mod Unordered
+pub mod Writing

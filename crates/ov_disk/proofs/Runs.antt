@@ -2,7 +2,7 @@
 -- another.
 use Rattle.std.proofs.Common.{◌≡◌, inl, inr, ⊎_elim, Option, Some, None, Result, Ok, Err, OnOk, refl, sym, ◌∙◌, arith}
 use Rattle.std.specs.Option.{option_map}
-use Rattle.ov_disk.specs.Disk.{Image, Narrows}
+use Rattle.ov_disk.specs.Disk.{Image, Follows, Narrows}
 use Rattle.ov_disk.specs.Moments.{Elapses, LeavesOnly, IsUntouched}
 use Rattle.ov_disk.specs.Tells.{DiskTells}
 
@@ -10,6 +10,22 @@ use Rattle.ov_disk.specs.Tells.{DiskTells}
 pub mapped_some : (f : Image → Image) (o : Option Image) (k : Image) → option_map f o ≡ Some k → (i : Image) × (o ≡ Some i) × (k ≡ f i)
 mapped_some f (Some i) k is = let same : f i ≡ k = cc is in (i, refl, sym same)
 mapped_some f None k is = absurd (cc is)
+
+-- what a crash may leave now after calls that write nothing, for a step that may change nothing
+pub follows_same : (step : Image → Image → Type 0) (old new : Image → Type 0) → ((i : Image) → step i i) → Narrows old new → Follows step old new
+follows_same step old new same narrows c left = (c, narrows c left, same c)
+
+-- what it may leave now after two runs of calls, each of which makes such a step, where two steps one after the other are one
+pub follows_then : (step : Image → Image → Type 0) (old mid new : Image → Type 0) → ((i j k : Image) → step i j → step j k → step i k)
+    → Follows step old mid → Follows step mid new → Follows step old new
+follows_then step old mid new then one two c left =
+    let second = two c left in
+    let first = one second.0 second.1 in
+    (first.0, first.1, then first.0 second.0 c first.2 second.2)
+
+-- a step that says less
+pub follows_weaker : (step less : Image → Image → Type 0) (old new : Image → Type 0) → ((i k : Image) → step i k → less i k) → Follows step old new → Follows less old new
+follows_weaker step less old new says follows c left = let from = follows c left in (from.0, from.1, says from.0 c from.2)
 
 module _ {D : Type 0} (tells : DiskTells D) where
   -- before the first call

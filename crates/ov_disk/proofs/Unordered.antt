@@ -16,7 +16,7 @@ TornAfter (r ∷ rs) old new = (mid : List ℕ) × TornAfter rs old mid × Torn 
 
 -- A torn write, place by place.
 
-torn_get : (at n : ℕ) (old new : List ℕ) → Torn at n old new → (p : ℕ) → (p < at) ⊎ (at + n ≤ p) → get_or new p 0 ≡ get_or old p 0
+pub torn_get : (at n : ℕ) (old new : List ℕ) → Torn at n old new → (p : ℕ) → (p < at) ⊎ (at + n ≤ p) → get_or new p 0 ≡ get_or old p 0
 torn_get at n old new torn p (inl lt) = sym (get_or-take at new p 0 lt) ∙ ap (λ (l : List ℕ). get_or l p 0) torn.before ∙ get_or-take at old p 0 lt
 torn_get at n old new torn p (inr ge) =
     let q = p - (at + n) in

@@ -15,7 +15,8 @@
 //! * [`FileDisk`] is over two files. It tells nothing: that files keep what was synced is trusted.
 //! * `&mut D` is a disk where `D` is, with the same meanings.
 //!
-//! Callers prove their calls one step for each: `proofs/Runs` has the steps.
+//! Callers prove their calls one step for each: `proofs/Runs` has the steps and how runs of calls
+//! follow one another, and `proofs/Writing` the bytes of a write by their places.
 #![tactic(auto)]
 
 mod area;

@@ -5,7 +5,8 @@
 //! wrong one, so that it needn't know where it began. A number is wrong at its first byte, and
 //! bytes that end inside a field are wrong at their end. Each `take_..` of this crate gives what
 //! its reader reads, by `Gives` of `specs/Answers`; each `put_..` appends a spelling, to a list of
-//! its caller's own; [`append`] then adds three lists to another, or nothing.
+//! its caller's own; [`append`] then adds three lists to another, or nothing. Each `known_..` does
+//! nothing, and says what is known of a name, a tag or a token by its type.
 //!
 //! `proofs/ReadingLaws` has what each reader keeps (`Reads`): it reads exactly the spellings of its
 //! values, and a wrong byte is near. Laws put readers together: one after another, behind a number,
@@ -18,12 +19,14 @@
 #![tactic(auto)]
 
 mod fault;
+mod known;
 mod name;
 mod reading;
 mod set;
 mod writing;
 
 pub use fault::FieldFault;
+pub use known::{known_name, known_names, known_tag, known_token, known_tokens};
 pub use name::take_name;
 pub use reading::{
     take_byte, take_bytes, take_bytes_or_none, take_flag, take_sized, take_tag, take_token,

@@ -1,4 +1,5 @@
-//! What the system says of the files that a program names: why one can't be used as a file of a
+//! What the three programs ask of the system: the words behind their names, the places of standard
+//! streams, and what it says of the files that the words name: why one can't be used as a file of a
 //! store, whether a store was begun in one, and whether others may read it.
 //!
 //! The three programs ask before or after they use a file, to say on standard error what is wrong.
@@ -6,7 +7,7 @@
 #![tactic(auto)]
 
 use std::fs::{File, OpenOptions};
-use std::io::{ErrorKind, Read};
+use std::io::{self, ErrorKind, Read};
 use std::os::unix::fs::PermissionsExt;
 use std::path::Path;
 use std::{env, fs};
@@ -16,6 +17,25 @@ const OTHERS_READ: u32 = 0o044;
 
 // One byte more than the longest file that counts as no store, whatever its bytes.
 const STORE_LENGTH: usize = 80;
+
+/// The words behind the program's name.
+pub fn words_of(rt: &HostRuntime) -> io::Result<Vec<String>> {
+    let mut words = Vec::new(rt.alloc());
+    for word in env::args(rt)?.skip(1) {
+        words.push(word)?;
+    }
+    Ok(words)
+}
+
+/// Takes the places of standard streams that are closed, so that no other file ends up
+/// there. Where they are open it takes three places that nobody uses.
+pub fn held_places(rt: &HostRuntime) -> (io::Result<File>, io::Result<File>, io::Result<File>) {
+    (
+        File::open(rt, "."),
+        File::open(rt, "."),
+        File::open(rt, "."),
+    )
+}
 
 /// Why a file of a store can't be used.
 #[derive(Clone, Copy, Debug, PartialEq, Eq)]

@@ -1,7 +1,15 @@
 -- Lists with one item changed.
-use Rattle.std.proofs.Common.{◌≡◌, ◌≢◌, ℕ, zero, suc, List, [], ◌∷◌, length, map, refl, ap, sym}
+use Rattle.std.proofs.Common.{◌≡◌, ◌≢◌, ◌<◌, arith, ℕ, zero, suc, List, [], ◌∷◌, length, map, refl, ap, sym}
 use Rattle.std.specs.Prelude.{slice_index_or}
 use Rattle.ov_history.specs.Places.{change_at}
+use Rattle.std.specs.Prelude.{option_map}
+use Rattle.std.specs.Prelude.{Option}
+use Rattle.std.specs.Prelude.{Some}
+use Rattle.std.specs.Prelude.{None}
+use Rattle.std.specs.Prelude.{is_some}
+use Rattle.std.specs.Prelude.{◌++◌}
+use Rattle.std.specs.Prelude.{true}
+use Rattle.ov_history.specs.Places.{living_at}
 
 pub length-change_at : {A : Type 0} (f : A → A) (place : ℕ) (xs : List A)
     → length (change_at f place xs) ≡ length xs
@@ -17,6 +25,30 @@ map-change_at g f h same place [] = refl
 map-change_at g f h same zero (x ∷ xs) = ap (λ y. y ∷ map g xs) (same x)
 map-change_at g f h same (suc place) (x ∷ xs) =
     ap (λ ys. g x ∷ ys) (map-change_at g f h same place xs)
+
+-- what isn't gone is there still, and nothing else
+pub is_some-change : {A : Type 0} (f : A → A) (place : ℕ) (xs : List (Option A)) (n : ℕ)
+    → is_some (living_at (change_at (option_map f) place xs) n) ≡ is_some (living_at xs n)
+is_some-change f place [] n = refl
+is_some-change f zero (None ∷ xs) zero = refl
+is_some-change f zero (Some x ∷ xs) zero = refl
+is_some-change f zero (x ∷ xs) (suc n) = refl
+is_some-change f (suc place) (x ∷ xs) zero = refl
+is_some-change f (suc place) (x ∷ xs) (suc n) = is_some-change f place xs n
+
+-- there is a number for each that isn't gone
+pub below_some : {A : Type 0} (xs : List (Option A)) (n : ℕ) → is_some (living_at xs n) ≡ true
+    → n < length xs
+below_some [] n there = absurd (cc)
+below_some (x ∷ xs) zero there = omega arith
+below_some (x ∷ xs) (suc n) there = omega (arith, below_some xs n there)
+
+-- and it has its number with more behind it
+pub is_some-append : {A : Type 0} (xs more : List (Option A)) (n : ℕ)
+    → is_some (living_at xs n) ≡ true → is_some (living_at (xs ++ more) n) ≡ true
+is_some-append [] more n there = absurd (cc)
+is_some-append (x ∷ xs) more zero there = there
+is_some-append (x ∷ xs) more (suc n) there = is_some-append xs more n there
 
 -- the item at the place is changed, as is what stands for an item that isn't there
 pub change_at-here : {A : Type 0} (f : A → A) (place : ℕ) (xs : List A) (d : A) → f d ≡ d

@@ -1,6 +1,6 @@
 -- Several users together hold what one of them holds, label by label.
 use Rattle.std.proofs.Common.{◌≡◌, ◌<◌, ◌↔◌, ℕ, List, [], ◌∷◌, length}
-use Rattle.std.specs.Prelude.{Contains, slice_get, Option, Some, None}
+use Rattle.std.specs.Prelude.{Contains, Option, Some, None}
 use Rattle.ov_base.specs.Sets.{Has}
 use Rattle.ov_tokens.specs.declared.label.Kind.TheVariants.{Access, Surface}
 use Rattle.ov_tokens.specs.declared.label.Label.{Label}
@@ -12,6 +12,7 @@ use Rattle.ov_history.specs.Closure.{protecting, surface_label}
 use Rattle.ov_history.specs.Sound.{IsSound}
 use Rattle.ov_history.proofs.ClosureHolds.{holds_what_is_due}
 use Rattle.ov_history.proofs.HeldFiles.{held_where_listed}
+use Rattle.ov_history.specs.Places.{living_at}
 
 -- each step has one label before it, and is therefore one member's
 one_reaches : (c : Catalogue) (users : List ℕ) (label : Label)
@@ -58,7 +59,7 @@ module _ (c : Catalogue) (sound : IsSound c) (users : List ℕ)
 -- a file is held by a coalition exactly where its list has one of them
 pub held_by_coalition : (c : Catalogue) (users : List ℕ) (file : ℕ) (f : Filed) → IsSound c
     → ((user : ℕ) → Contains users user → user < length c.users)
-    → slice_get c.files file ≡ Some f
+    → living_at c.files file ≡ Some f
     → ReachesAll c (IsRootOfSome c users) (protecting f)
     ↔ ((user : ℕ) × Contains users user × Has (list_at (outline c) (place_of_file f)) user)
 held_by_coalition c users file f sound there is = (

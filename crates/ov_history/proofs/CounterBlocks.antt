@@ -12,14 +12,18 @@ use Rattle.ov_history.specs.History.{start_of, with_update}
 use Rattle.ov_history.specs.Plain.{history_of, measured_all}
 use Rattle.ov_history.specs.Layers.{layers_of}
 use Rattle.ov_history.specs.Refusals.{AllAccepted, IsLegal, refusal_of, tests_of}
-use Rattle.ov_history.specs.Words.{HasFile, IsPadded, longer_plain}
+use Rattle.ov_history.specs.Words.{IsPadded, longer_plain}
 use Rattle.ov_history.specs.WordLaws.{CounterBlocksDiffer, NoBlockTwice}
 use Rattle.ov_history.proofs.ChangeLaws.{length-change_at}
 use Rattle.ov_history.proofs.Padding.{no_pad_twice}
 use Rattle.ov_history.proofs.PlainLaws.{history_of-longer}
 use Rattle.ov_history.proofs.Pushing.{matrix_of-push, with_updates, with_updates-all}
 use Rattle.ov_history.proofs.SoundTests.{none_applies}
-use Rattle.ov_history.proofs.Staying.{file_stays}
+use Rattle.std.proofs.Common.{◌<◌}
+use Rattle.ov_history.proofs.Staying.{numbers_stay}
+use Rattle.ov_history.proofs.ChangeLaws.{below_some}
+use Rattle.std.specs.Prelude.{option_map}
+use Rattle.std.specs.Prelude.{Some}
 
 -- ---- the number of files
 
@@ -33,11 +37,11 @@ few_after h (Created name list size) none few =
     let new : File = record { name = name; length = size; list = list } in
     let full : nat_le MAX_FILES (length m.files) ≡ false =
     (none_applies (tests_of m (layers_of h) (epoch_of h) (Created name list size)) none).1.1.0 in
-    omega (arith, gt_of_false MAX_FILES (length m.files) full, length-append m.files (new ∷ []))
+    omega (arith, gt_of_false MAX_FILES (length m.files) full, length-append m.files (Some new ∷ []))
 few_after h (Granted user file) none few =
-    omega (arith, length-change_at (listed user) file (matrix_of h).files)
+    omega (arith, length-change_at (option_map (listed user)) file (matrix_of h).files)
 few_after h (Revoked user file) none few =
-    omega (arith, length-change_at (delisted user) file (matrix_of h).files)
+    omega (arith, length-change_at (option_map (delisted user)) file (matrix_of h).files)
 
 few_all : (h : History) (updates : List Update) → AllAccepted h updates
     → length (matrix_of h).files ≤ MAX_FILES
@@ -74,11 +78,14 @@ pub no_block_twice : NoBlockTwice
 no_block_twice k p more label file second text other tag block next legal one two block_fits
     next_fits alike =
     let few = few_files (history_of (longer_plain p more)) legal in
-    let there = subst (λ (h : History). HasFile h file) (sym (history_of-longer p more))
-    (file_stays (history_of p) (measured_all more) file one.0).there in
+    let there = subst (λ (h : History). file < length (matrix_of h).files)
+    (sym (history_of-longer p more))
+    (numbers_stay (history_of p) (measured_all more) file
+    (below_some (matrix_of (history_of p)).files file one.0)) in
+    let there_too = below_some (matrix_of (history_of (longer_plain p more))).files second two.0 in
     let apart =
     counter_blocks_differ tag tag file second block next (omega (arith, few, there))
-    (omega (arith, few, two.0))
+    (omega (arith, few, there_too))
     block_fits next_fits alike in (
       no_pad_twice k p more label file text other one
           (subst (λ n. IsPadded k (longer_plain p more) label n other) (sym apart.1) two),

@@ -1,10 +1,8 @@
 -- The files of a history that its owner seals are kept in their coats and with their tags.
-use Rattle.std.proofs.Common.{◌≡◌, ◌<◌, ◌+◌, ℕ, zero, suc, Bool, true, false, List, [], ◌∷◌, ◌++◌}
+use Rattle.std.proofs.Common.{◌≡◌, ◌+◌, ℕ, List, [], ◌∷◌, ◌++◌}
 use Rattle.std.proofs.Common.{length, refl, sym, ◌∙◌, ap, subst, arith, inl, inr, length-append}
-use Rattle.std.specs.Prelude.{Option, Some, None, slice_get, slice_index_or}
-use Rattle.std.proofs.lemmas.Bool.{cases_lt}
+use Rattle.std.specs.Prelude.{Option, Some, None, slice_index_or}
 use Rattle.std.proofs.lemmas.List.{get_or_append_left}
-use Rattle.std.proofs.lemmas.Option.{get_or_from_slice_get, slice_get_within}
 use Rattle.ov_graph.proofs.GraphLaws.{last_item}
 use Rattle.ov_record.specs.Updates.{SealedUpdate}
 use Rattle.ov_tokens.specs.declared.label.Kind.TheVariants.{Access}
@@ -16,10 +14,10 @@ use Rattle.ov_history.specs.Plain.{PlainCreate, PlainEnrol, PlainGrant, PlainHis
 use Rattle.ov_history.specs.Plain.{PlainUpdate, bytes_of, history_of, texts_after, texts_of}
 use Rattle.ov_history.specs.Plain.{with_plain}
 use Rattle.ov_history.specs.Layers.{Layers, layers_of, lists_after, lists_of, node_for}
-use Rattle.ov_history.specs.Layers.{same_surface, surface_at, wants_of, with_wants}
+use Rattle.ov_history.specs.Layers.{wants_of, with_wants}
 use Rattle.ov_history.specs.Briefs.{brief, outer, text_of}
-use Rattle.ov_history.specs.Catalogue.{Catalogue, Filed, catalogue_after, grown_catalogue, no_filed}
-use Rattle.ov_history.specs.Catalogue.{outline, places, refiled, settled_files}
+use Rattle.ov_history.specs.Catalogue.{Catalogue, Filed, catalogue_after, grown_catalogue}
+use Rattle.ov_history.specs.Catalogue.{outline, places}
 use Rattle.ov_history.specs.Rewrites.{surface_key, with_text}
 use Rattle.ov_history.specs.Masters.{Masters, access_key}
 use Rattle.ov_history.specs.Sealed.{SealedHistory, catalogue_of, sent_of}
@@ -33,7 +31,8 @@ use Rattle.ov_history.proofs.Keeping.{catalogue-sealed, kept_stands_for, layers-
 use Rattle.ov_history.proofs.Outlining.{length-places}
 use Rattle.ov_history.proofs.PlainLaws.{each_plain, texts_of-push}
 use Rattle.ov_history.proofs.Sealing.{sealing_goes_on}
-use Rattle.ov_history.proofs.Storing.{length-settled_files, stored_is_coated}
+use Rattle.ov_history.proofs.Storing.{IsSameFile, settled_still, with_last, length-settled_files, stored_is_coated}
+use Rattle.ov_history.specs.Places.{living_at}
 
 -- ---- one file
 
@@ -43,70 +42,58 @@ record IsSentAs (k : Masters) (number : ℕ) (f : Filed) (bytes text : List ℕ)
   base : text ≡ base_text (access_key k.base f.node) number bytes
   tag : f.tag ≡ tag_of_file (access_key k.base f.node) number bytes
 
-refiled_sent : (k : Masters) (b : Bool) (epoch : ℕ) (surface : Option ℕ) (number : ℕ) (f : Filed)
-    (bytes text : List ℕ)
-    → IsSentAs k number f bytes text → IsSentAs k number (refiled b epoch surface f) bytes text
-refiled_sent k true epoch surface number f bytes text sent = sent
-refiled_sent k false epoch surface number f bytes text sent =
-    record { base = sent.base; tag = sent.tag }
-
 -- a new surface is no change of a file's text and tag
-settled_sent : (k : Masters) (epoch : ℕ) (sets : List ℕ) (wants : List (Option ℕ))
-    (files : List Filed) (place number : ℕ)
-    (bytes text : List ℕ)
-    → IsSentAs k number (slice_index_or files place no_filed) bytes text
-    → IsSentAs k number (slice_index_or (settled_files epoch sets wants files) place no_filed) bytes
-    text
-settled_sent k epoch sets [] files place number bytes text sent = sent
-settled_sent k epoch sets (want ∷ wants) [] place number bytes text sent = sent
-settled_sent k epoch sets (want ∷ wants) (f ∷ files) zero number bytes text sent =
-    refiled_sent k (same_surface f.surface (surface_at sets want)) epoch (surface_at sets want)
-    number f bytes text sent
-settled_sent k epoch sets (want ∷ wants) (f ∷ files) (suc place) number bytes text sent =
-    settled_sent k epoch sets wants files place number bytes text sent
+still_sent : (k : Masters) (number : ℕ) (f now : Filed) (bytes text : List ℕ) → IsSameFile f now
+    → IsSentAs k number f bytes text → IsSentAs k number now bytes text
+still_sent k number f now bytes text still sent = record {
+  base = sent.base ∙ ap (λ n. base_text (access_key k.base n) number bytes) (sym still.node);
+  tag =
+      still.tag ∙ sent.tag
+      ∙ ap (λ n. tag_of_file (access_key k.base n) number bytes) (sym still.node);
+}
 
 -- ---- all files
 
--- each file came as it should: its text is its bytes in the coat of its base node, and its tag is
--- theirs
-record AllSent (k : Masters) (files : List Filed) (bytes texts : List (List ℕ)) : Type 0 where
+-- each file that is there came as it should: its text is its bytes in the coat of its base node, and
+-- its tag is theirs
+record AllSent (k : Masters) (files : List (Option Filed)) (bytes texts : List (List ℕ))
+    : Type 0 where
   bytes_many : length bytes ≡ length files
   texts_many : length texts ≡ length files
-  each : (n : ℕ) → n < length files
-      → IsSentAs k n (slice_index_or files n no_filed) (slice_index_or bytes n [])
-      (slice_index_or texts n [])
+  each : (n : ℕ) (f : Filed) → living_at files n ≡ Some f
+      → IsSentAs k n f (slice_index_or bytes n []) (slice_index_or texts n [])
 
-module _ (k : Masters) (files : List Filed) (bytes texts : List (List ℕ)) (f : Filed)
+module _ (k : Masters) (files : List (Option Filed)) (bytes texts : List (List ℕ)) (f : Filed)
     (plain text : List ℕ) where
   more_sent : AllSent k files bytes texts → IsSentAs k (length files) f plain text
-      → AllSent k (files ++ f ∷ []) (bytes ++ plain ∷ []) (texts ++ text ∷ [])
+      → AllSent k (files ++ Some f ∷ []) (bytes ++ plain ∷ []) (texts ++ text ∷ [])
   more_sent all one = record {
     bytes_many =
-        omega (arith, all.bytes_many, length-append bytes (plain ∷ []), length-append files (f ∷ []));
+        omega (arith, all.bytes_many, length-append bytes (plain ∷ []), length-append files (Some f ∷ []));
     texts_many =
-        omega (arith, all.texts_many, length-append texts (text ∷ []), length-append files (f ∷ []));
-    each = λ n below. elim (cases_lt n (length files)) [
+        omega (arith, all.texts_many, length-append texts (text ∷ []), length-append files (Some f ∷ []));
+    each = λ n g is. elim (with_last files (Some f) n g is) [
       | inl old ↦
-          sent_by n (sym (get_or_append_left files (f ∷ []) no_filed n old))
-          (sym (get_or_append_left bytes (plain ∷ []) [] n (omega (arith, all.bytes_many))))
-          (sym (get_or_append_left texts (text ∷ []) [] n (omega (arith, all.texts_many))))
-          (all.each n old)
-      | inr past ↦
-          let here : n ≡ length files = omega (arith, length-append files (f ∷ [])) in
-          sent_by n (sym (last_item files f n no_filed here))
-          (sym (last_item bytes plain n [] (here ∙ sym all.bytes_many)))
-          (sym (last_item texts text n [] (here ∙ sym all.texts_many)))
-          (subst (λ m. IsSentAs k m f plain text) (sym here) one)
+          sent_by n
+          (sym (get_or_append_left bytes (plain ∷ []) [] n (omega (arith, all.bytes_many, old.0))))
+          (sym (get_or_append_left texts (text ∷ []) [] n (omega (arith, all.texts_many, old.0))))
+          (all.each n g old.1)
+      | inr last ↦
+          let same : f ≡ g = cc in
+          sent_by n
+          (sym (last_item bytes plain n [] (last.0 ∙ sym all.bytes_many)))
+          (sym (last_item texts text n [] (last.0 ∙ sym all.texts_many)))
+          (subst (λ (h : Filed). IsSentAs k n h plain text) same
+          (subst (λ m. IsSentAs k m f plain text) (sym last.0) one))
     ];
   } where
-    sent_by : (n : ℕ) {g h : Filed} {these those : List ℕ} {one other : List ℕ} → g ≡ h
+    sent_by : (n : ℕ) {g : Filed} {these those : List ℕ} {one other : List ℕ}
         → these ≡ those → one ≡ other
-        → IsSentAs k n g these one → IsSentAs k n h those other
-    sent_by n {g = g} {h = h} {these = these} {those = those} {one = one} {other = other} file
+        → IsSentAs k n g these one → IsSentAs k n g those other
+    sent_by n {g = g} {these = these} {those = those} {one = one} {other = other}
         plains texts sent =
-        subst (λ (x : List ℕ). IsSentAs k n h those x) texts
-        (subst (λ (x : List ℕ). IsSentAs k n h x one) plains
-        (subst (λ (x : Filed). IsSentAs k n x these one) file sent))
+        subst (λ (x : List ℕ). IsSentAs k n g those x) texts
+        (subst (λ (x : List ℕ). IsSentAs k n g x one) plains sent)
 
 -- a file that was just created has the coat of its base node
 grown_sent : (k : Masters) (c : Catalogue) (bytes texts : List (List ℕ)) (u : PlainUpdate)
@@ -148,11 +135,10 @@ sent_after k c bytes texts u all =
     let many = length-settled_files next.epoch sets wants next.files in record {
       bytes_many = now.bytes_many ∙ sym many;
       texts_many = now.texts_many ∙ sym many;
-      each = λ n below.
-          settled_sent k next.epoch sets wants next.files n n
-          (slice_index_or (texts_after bytes u) n [])
-          (slice_index_or (with_text texts (text_of sent)) n [])
-          (now.each n (omega (arith, many)));
+      each = λ n f is.
+          let (g, was, still) = settled_still next.epoch sets wants next.files n f is in
+          still_sent k n g f (slice_index_or (texts_after bytes u) n [])
+          (slice_index_or (with_text texts (text_of sent)) n []) still (now.each n g was);
     }
 
 -- ---- histories
@@ -196,7 +182,7 @@ keeps_more k p u keeps =
 
 files_kept : (k : Masters) (p : PlainHistory) → KeepsFiles k p
 files_kept k = each_plain (λ (p : PlainHistory). KeepsFiles k p)
-    (λ p. record { bytes_many = refl; texts_many = refl; each = λ n below. absurd (omega arith) })
+    (λ p. record { bytes_many = refl; texts_many = refl; each = λ n f is. absurd (cc) })
     (λ p u keeps. keeps_more k p u keeps)
 
 -- ---- the laws
@@ -206,22 +192,16 @@ each_is_stored k p c stored kept bytes =
     (stored_is_coated k.surface c stored (sealed k p) (kept_stands_for k p c kept) bytes).each
 
 sent_as : (k : Masters) (p : PlainHistory) (file : ℕ) (f : Filed)
-    → slice_get (catalogue_of k.surface (sealed k p)).files file ≡ Some f
+    → living_at (catalogue_of k.surface (sealed k p)).files file ≡ Some f
     → IsSentAs k file f (bytes_of p file) (slice_index_or (sent_of (sealed k p)) file [])
-sent_as k p file f is =
-    let files : List Filed = (catalogue_of k.surface (sealed k p)).files in
-    subst
-    (λ (g : Filed). IsSentAs k file g (bytes_of p file)
-    (slice_index_or (sent_of (sealed k p)) file []))
-    (get_or_from_slice_get files file f no_filed is)
-    ((files_kept k p).each file (slice_get_within files file f is))
+sent_as k p file f is = (files_kept k p).each file f is
 
 pub files_are_filed : FilesAreFiled
 files_are_filed k p c stored file f (legal, same) bytes is =
     let coats =
     stored_is_coated k.surface c stored (sealed k p) (kept_stands_for k p c (legal, same)) bytes in
     let sent =
-    sent_as k p file f (ap (λ (d : Catalogue). slice_get d.files file) (sym same) ∙ is) in record {
+    sent_as k p file f (ap (λ (d : Catalogue). living_at d.files file) (sym same) ∙ is) in record {
       coats =
           coats.coats file f is
           ∙ ap (λ text. stored_under (surface_key k.surface f.surface) file text) sent.base;

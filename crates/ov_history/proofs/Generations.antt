@@ -23,6 +23,7 @@ use Rattle.ov_history.proofs.PlanLaws.{node_for-there, with_wants-keeps}
 use Rattle.ov_history.proofs.Pushing.{layers_of-push}
 use Rattle.ov_history.proofs.Wanting.{IsSettled, file_below, history-settled, length-after}
 use Rattle.ov_history.proofs.Wanting.{place_at, settled_after, wanted_in, wanted_of-is}
+use Rattle.std.specs.Prelude.{unwrap_or}
 
 -- ---- more sets
 
@@ -101,8 +102,9 @@ grown_file y (Enrolled name) file below = (below, refl)
 grown_file y (Created name list size) file below =
     let place : Place =
     record { node = node_for y.base list; surface = None; generation = y.epoch + 1 } in (
-      omega (arith, length-append y.files (place ∷ [])),
-      get_or_append_left y.files (place ∷ []) no_place file below,
+      omega (arith, length-append y.files (Some place ∷ [])),
+      ap (λ (o : Option Place). unwrap_or o no_place)
+          (get_or_append_left y.files (Some place ∷ []) None file below),
     )
 grown_file y (Granted user other) file below = (below, refl)
 grown_file y (Revoked user other) file below = (below, refl)
@@ -181,11 +183,12 @@ generation_begins y name list size =
     let later : Layers = layers_after y u in
     let new : Place =
     record { node = node_for y.base list; surface = None; generation = y.epoch + 1 } in
-    let last : place_at (y.files ++ new ∷ []) (length y.files) ≡ new =
-    last_item y.files new (length y.files) no_place refl in
+    let last : place_at (y.files ++ Some new ∷ []) (length y.files) ≡ new =
+    ap (λ (o : Option Place). unwrap_or o no_place)
+    (last_item y.files (Some new) (length y.files) None refl) in
     let surface : Option ℕ = surface_at later.surface (wanted_in later (length y.files)) in
     ap (λ (p : Place). p.generation)
-    (settled_after y u (length y.files) (omega (arith, length-append y.files (new ∷ [])))
+    (settled_after y u (length y.files) (omega (arith, length-append y.files (Some new ∷ [])))
     ∙ ap (λ (p : Place). settled_at later.epoch later.surface (wanted_in later (length y.files)) p)
     last)
     ∙ moved_new (same_surface None surface) later.epoch surface new refl
@@ -213,7 +216,7 @@ module _ (h : History) (u : Update) where
       ∙ ap (λ (y : Layers). wanted_in y file) (layers_of-push h u)
 
 pub generations_stay : GenerationsStay
-generations_stay h u file there same =
+generations_stay h u file there still same =
     after_update h u
     (λ (y : Layers). (place_at y.files file).generation ≡ (place_in h file).generation)
     (generation_stays (layers_of h) u file (history-settled h) (next_settled h u)
@@ -221,7 +224,7 @@ generations_stay h u file there same =
     (sym (next_wanted h u file) ∙ same ∙ wanted_of-is h file))
 
 pub generations_move : GenerationsMove
-generations_move h u file there other =
+generations_move h u file there still other =
     after_update h u
     (λ (y : Layers). (place_at y.files file).generation ≡ epoch_of (with_update h u))
     (generation_moves (layers_of h) u file (history-settled h) (next_settled h u)

@@ -1,6 +1,6 @@
 -- A user's closure has every label that protects a file exactly where the file's list has the user.
 use Rattle.std.proofs.Common.{◌≡◌, ◌<◌, ◌↔◌, ℕ, ◌∷◌, length}
-use Rattle.std.specs.Prelude.{slice_get, Option, Some, None, IfSome}
+use Rattle.std.specs.Prelude.{Option, Some, None, IfSome}
 use Rattle.ov_base.specs.Sets.{Has, Within}
 use Rattle.ov_tokens.specs.declared.label.Kind.TheVariants.{Access, Surface}
 use Rattle.ov_tokens.specs.Labels.{label_of}
@@ -9,6 +9,7 @@ use Rattle.ov_history.specs.Catalogue.{Catalogue, Filed, outline, place_of_file}
 use Rattle.ov_history.specs.Closure.{HoldsFile, IsRootOf, ReachesAll, surface_label}
 use Rattle.ov_history.specs.Sound.{IsSound}
 use Rattle.ov_history.proofs.ClosureHolds.{holds_what_is_due}
+use Rattle.ov_history.specs.Places.{living_at}
 
 module _ (c : Catalogue) (sound : IsSound c) (user : ℕ) (there : user < length c.users) where
   file_listed : (surface : Option ℕ) (node : ℕ)
@@ -34,7 +35,7 @@ module _ (c : Catalogue) (sound : IsSound c) (user : ℕ) (there : user < length
 -- a file of sound layers is held by exactly the users of its list
 pub held_where_listed : (c : Catalogue) (user file : ℕ) (f : Filed) → IsSound c
     → user < length c.users
-    → slice_get c.files file ≡ Some f
+    → living_at c.files file ≡ Some f
     → HoldsFile c user f ↔ Has (list_at (outline c) (place_of_file f)) user
 held_where_listed c user file f sound there is =
     let placed = sound.files file f is in (

@@ -1,7 +1,6 @@
 -- The matrix of a history and its layers are about the same users and files.
 use Rattle.std.proofs.Common.{◌≡◌, ℕ, ◌+◌, List, [], ◌∷◌, length, map, refl, sym, ◌∙◌, ap, arith}
 use Rattle.std.proofs.Common.{length-append}
-use Rattle.std.specs.Prelude.{slice_index}
 use Rattle.std.proofs.lemmas.List.{length-map, map-append}
 use Rattle.std.proofs.Math.ListN.{get_or-map}
 use Rattle.ov_base.specs.Sets.{has, with, without}
@@ -12,34 +11,59 @@ use Rattle.ov_history.specs.Layers.{Layers, layers_after, layers_of, lists_after
 use Rattle.ov_history.proofs.ChangeLaws.{map-change_at}
 use Rattle.ov_history.proofs.Listing.{length-lists_of, lists_of-layers_after}
 use Rattle.ov_history.proofs.Pushing.{each_history, epoch_of-push, layers_of-push, matrix_of-push}
+use Rattle.std.specs.Prelude.{option_map}
+use Rattle.std.specs.Prelude.{Option}
+use Rattle.std.specs.Prelude.{Some}
+use Rattle.std.specs.Prelude.{None}
+use Rattle.std.specs.Prelude.{unwrap_or}
+use Rattle.ov_history.specs.Places.{living_at}
+use Rattle.ov_base.specs.Sets.{empty as nobody}
 
 -- ---- lists of files
 
 -- the lists of these files
-abbrev pub file_lists : List File → List ℕ
-file_lists files = map (λ (file : File). file.list) files
+abbrev pub file_lists : List (Option File) → List (Option ℕ)
+file_lists files = map (option_map (λ (file : File). file.list)) files
 
 -- the list of the file of a number
 pub file_at-list : (m : Matrix) (file : ℕ)
-    → (file_at m file).list ≡ slice_index (file_lists m.files) file
-file_at-list m file = sym (get_or-map (λ (file : File). file.list) m.files file no_file)
+    → (file_at m file).list ≡ unwrap_or (living_at (file_lists m.files) file) nobody
+file_at-list m file =
+    by_file (living_at m.files file)
+    ∙ ap (λ (o : Option ℕ). unwrap_or o nobody)
+    (sym (get_or-map (option_map (λ (file : File). file.list)) m.files file None)) where
+      by_file : (o : Option File)
+          → (unwrap_or o no_file).list ≡ unwrap_or (option_map (λ (file : File). file.list) o) nobody
+      by_file None = refl
+      by_file (Some f) = refl
 
 pub is_listed-list : (m : Matrix) (user file : ℕ)
-    → is_listed m user file ≡ has (slice_index (file_lists m.files) file) user
+    → is_listed m user file ≡ has (unwrap_or (living_at (file_lists m.files) file) nobody) user
 is_listed-list m user file = ap (λ list. has list user) (file_at-list m file)
+
+-- a change of a file is a change of its list
+changed_list : (on_list : ℕ → ℕ) (on_file : File → File)
+    → ((f : File) → (on_file f).list ≡ on_list f.list)
+    → (o : Option File)
+    → option_map (λ (f : File). f.list) (option_map on_file o)
+    ≡ option_map on_list (option_map (λ (f : File). f.list) o)
+changed_list on_list on_file same None = refl
+changed_list on_list on_file same (Some f) = ap Some (same f)
 
 pub file_lists-changed : (m : Matrix) (u : Update)
     → file_lists (changed m u).files ≡ lists_after (file_lists m.files) u
 file_lists-changed m (Enrolled user) = refl
 file_lists-changed m (Created file list size) =
-    map-append (λ (file : File). file.list) m.files
-    (record { name = file; length = size; list = list } ∷ [])
+    map-append (option_map (λ (file : File). file.list)) m.files
+    (Some (record { name = file; length = size; list = list }) ∷ [])
 file_lists-changed m (Granted user file) =
-    map-change_at (λ (file : File). file.list) (listed user) (λ list. with list user) (λ file. refl)
-    file m.files
+    map-change_at (option_map (λ (file : File). file.list)) (option_map (listed user))
+    (option_map (λ list. with list user))
+    (changed_list (λ list. with list user) (listed user) (λ file. refl)) file m.files
 file_lists-changed m (Revoked user file) =
-    map-change_at (λ (file : File). file.list) (delisted user) (λ list. without list user)
-    (λ file. refl) file m.files
+    map-change_at (option_map (λ (file : File). file.list)) (option_map (delisted user))
+    (option_map (λ list. without list user))
+    (changed_list (λ list. without list user) (delisted user) (λ file. refl)) file m.files
 
 -- the layers of a history have the lists of its matrix
 pub lists_of-layers_of : (h : History) → lists_of (layers_of h) ≡ file_lists (matrix_of h).files
@@ -55,7 +79,7 @@ lists_of-layers_of =
 pub files_of-layers_of : (h : History) → length (layers_of h).files ≡ length (matrix_of h).files
 files_of-layers_of h =
     sym (length-lists_of (layers_of h)) ∙ ap length (lists_of-layers_of h)
-    ∙ length-map (matrix_of h).files (λ (file : File). file.list)
+    ∙ length-map (matrix_of h).files (option_map (λ (file : File). file.list))
 
 -- ---- mode, epoch, users
 

@@ -1,7 +1,7 @@
 -- The outline of a catalogue is the layers of the updates that were sent.
 use Rattle.std.proofs.Common.{◌≡◌, ℕ, zero, suc, ◌+◌, Bool, true, false, not, List, [], ◌∷◌, ◌++◌}
 use Rattle.std.proofs.Common.{length, refl, sym, ◌∙◌, ap, subst, length-append}
-use Rattle.std.specs.Prelude.{slice_index_or, Option, Some, None, is_some}
+use Rattle.std.specs.Prelude.{Option, Some, None, is_some}
 use Rattle.std.proofs.lemmas.Bool.{false≢true}
 use Rattle.std.proofs.lemmas.List.{map-append}
 use Rattle.ov_base.specs.Sets.{has}
@@ -28,6 +28,9 @@ use Rattle.ov_history.specs.Catalogue.{with_surface, with_surfaces}
 use Rattle.ov_history.specs.Sealed.{AllFit, HasParts, IsSealed, SealedHistory, catalogue_all}
 use Rattle.ov_history.specs.Sealed.{catalogue_of, outer_all, outer_of}
 use Rattle.ov_history.proofs.Pushing.{layers_of-push, with_updates, with_updates-all}
+use Rattle.std.specs.Prelude.{option_map}
+use Rattle.std.specs.Prelude.{unwrap_or}
+use Rattle.ov_history.specs.Places.{living_at}
 
 -- ---- sets of nodes
 
@@ -53,44 +56,55 @@ with_surfaces-sets master (Some set ∷ wants) nodes =
 
 -- ---- places of files
 
-pub places-append : (files : List Filed) (f : Filed)
-    → places (files ++ f ∷ []) ≡ places files ++ place_of_file f ∷ []
+pub places-append : (files : List (Option Filed)) (f : Option Filed)
+    → places (files ++ f ∷ []) ≡ places files ++ option_map place_of_file f ∷ []
 places-append [] f = refl
-places-append (first ∷ files) f = ap (λ ps. place_of_file first ∷ ps) (places-append files f)
+places-append (first ∷ files) f =
+    ap (λ (ps : List (Option Place)). option_map place_of_file first ∷ ps) (places-append files f)
 
-pub length-places : (files : List Filed) → length (places files) ≡ length files
+pub length-places : (files : List (Option Filed)) → length (places files) ≡ length files
 length-places [] = refl
 length-places (f ∷ files) = ap suc (length-places files)
 
 -- the place of the file of a number
-pub places-at : (files : List Filed) (file : ℕ)
-    → slice_index_or (places files) file no_place
-    ≡ place_of_file (slice_index_or files file no_filed)
+pub places-at : (files : List (Option Filed)) (file : ℕ)
+    → living_at (places files) file ≡ option_map place_of_file (living_at files file)
 places-at [] file = refl
 places-at (f ∷ files) zero = refl
 places-at (f ∷ files) (suc file) = places-at files file
 
 -- a file is in the outline where the catalogue has it
 pub node-shown : (c : Catalogue) (file : ℕ) → (filed_at c file).node ≡ node_of (outline c) file
-node-shown c file = ap (λ (p : Place). p.node) (sym (places-at c.files file))
+node-shown c file =
+    by_file (living_at c.files file)
+    ∙ ap (λ (p : Option Place). (unwrap_or p no_place).node) (sym (places-at c.files file)) where
+      by_file : (o : Option Filed)
+          → (unwrap_or o no_filed).node ≡ (unwrap_or (option_map place_of_file o) no_place).node
+      by_file None = refl
+      by_file (Some f) = refl
 
 refiled_place : (b : Bool) (epoch : ℕ) (surface : Option ℕ) (f : Filed)
     → place_of_file (refiled b epoch surface f) ≡ moved b epoch surface (place_of_file f)
 refiled_place true epoch surface f = refl
 refiled_place false epoch surface f = refl
 
-settled_place : (epoch : ℕ) (sets : List ℕ) (want : Option ℕ) (f : Filed)
-    → place_of_file (settled_file epoch sets want f) ≡ settled_at epoch sets want (place_of_file f)
-settled_place epoch sets want f =
-    refiled_place (same_surface f.surface (surface_at sets want)) epoch (surface_at sets want) f
+settled_place : (epoch : ℕ) (sets : List ℕ) (want : Option ℕ) (f : Option Filed)
+    → option_map place_of_file (option_map (settled_file epoch sets want) f)
+    ≡ option_map (settled_at epoch sets want) (option_map place_of_file f)
+settled_place epoch sets want None = refl
+settled_place epoch sets want (Some f) =
+    ap Some
+    (refiled_place (same_surface f.surface (surface_at sets want)) epoch (surface_at sets want) f)
 
-pub settled_places : (epoch : ℕ) (sets : List ℕ) (wants : List (Option ℕ)) (files : List Filed)
+pub settled_places : (epoch : ℕ) (sets : List ℕ) (wants : List (Option ℕ)) (files : List (Option Filed))
     → places (settled_files epoch sets wants files) ≡ settled_all epoch sets wants (places files)
 settled_places epoch sets [] files = refl
 settled_places epoch sets (want ∷ wants) [] = refl
 settled_places epoch sets (want ∷ wants) (f ∷ files) =
-    ap (λ p. p ∷ places (settled_files epoch sets wants files)) (settled_place epoch sets want f)
-    ∙ ap (λ ps. settled_at epoch sets want (place_of_file f) ∷ ps)
+    ap (λ (p : Option Place). p ∷ places (settled_files epoch sets wants files))
+    (settled_place epoch sets want f)
+    ∙ ap (λ (ps : List (Option Place)). option_map (settled_at epoch sets want)
+    (option_map place_of_file f) ∷ ps)
     (settled_places epoch sets wants files)
 
 -- ---- surfaces
@@ -98,7 +112,7 @@ settled_places epoch sets (want ∷ wants) (f ∷ files) =
 outline-under : (master : List ℕ) (c : Catalogue) (wants : List (Option ℕ))
     → outline (settled_under master c wants) ≡ settled_by (outline c) wants
 outline-under master c wants =
-    let files : List Filed =
+    let files : List (Option Filed) =
     settled_files c.epoch (with_wants c.surface.sets wants) wants c.files in
     ap (λ sets. record (outline c) { surface = sets; files = places files })
     (with_surfaces-sets master wants c.surface)
@@ -132,9 +146,10 @@ outline-grown c (BriefCreate file list tokens tag size) parts =
       tag = tag;
       length = size;
     } in
-    ap (λ sets. record y { base = sets; files = places (c.files ++ f ∷ []) })
+    ap (λ sets. record y { base = sets; files = places (c.files ++ Some f ∷ []) })
     (with_node-sets c.base list tokens)
-    ∙ ap (λ files. record y { files = files }) (places-append c.files f)
+    ∙ ap (λ (files : List (Option Place)). record y { files = files })
+    (places-append c.files (Some f))
 outline-grown c (BriefGrant user file token) parts =
     let y : Layers = grown (outline c) (Granted user file) in
     let node : ℕ = node_of (outline c) file in
@@ -150,7 +165,7 @@ outline-grown c (BriefRevoke user file) parts = refl
 pub outline-after : (master : List ℕ) (c : Catalogue) (b : Brief) → HasParts (outline c) b
     → outline (catalogue_after master c b) ≡ layers_after (outline c) (outer b)
 outline-after master c b parts =
-    let lists : List ℕ = lists_after (lists_of (outline c)) (outer b) in
+    let lists : List (Option ℕ) = lists_after (lists_of (outline c)) (outer b) in
     let next : Catalogue = grown_catalogue c b in
     outline-under master next (wants_of (outline next) lists)
     ∙ ap (λ (y : Layers). settled y lists) (outline-grown c b parts)

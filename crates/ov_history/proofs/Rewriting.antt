@@ -8,11 +8,14 @@ use Rattle.ov_surface.specs.Coats.{stored_under}
 use Rattle.ov_surface.proofs.CoatLaws.{coated-coated, length-coated}
 use Rattle.ov_history.specs.Places.{change_at}
 use Rattle.ov_history.specs.Layers.{same_surface}
-use Rattle.ov_history.specs.Catalogue.{Filed, no_filed}
+use Rattle.ov_history.specs.Catalogue.{Filed}
 use Rattle.ov_history.specs.Rewrites.{Rewrite, restored, rewrite_unless, rewrites_from}
 use Rattle.ov_history.specs.Rewrites.{rewritten_all, surface_key}
 use Rattle.ov_history.proofs.ChangeLaws.{change_at-here, change_at-other, length-change_at}
 use Rattle.ov_history.proofs.Listing.{same_surface-is}
+use Rattle.std.specs.Prelude.{Some}
+use Rattle.ov_history.specs.Places.{living_at}
+use Rattle.ov_history.specs.Rewrites.{rewrite_of, surface_left}
 
 -- ---- one file
 
@@ -30,7 +33,7 @@ restored-none master from to number =
     nil_from_length (restored master from to number []) (length-restored master from to number [])
 
 -- a rewrite to the surface that a file has changes nothing
-restored-same : (master : List ℕ) (surface : Option ℕ) (number : ℕ) (bytes : List ℕ)
+pub restored-same : (master : List ℕ) (surface : Option ℕ) (number : ℕ) (bytes : List ℕ)
     → restored master surface surface number bytes ≡ bytes
 restored-same master surface number bytes =
     coated-coated (surface_key master surface) number 0 bytes
@@ -57,18 +60,13 @@ module _ (master : List ℕ) where
   abbrev at_number : List (List ℕ) → ℕ → List ℕ
   at_number stored n = slice_index_or stored n []
 
-  -- the stored bytes after the rewrite of one file, where there is one
-  abbrev stepped : Bool → ℕ → Filed → Filed → List (List ℕ) → List (List ℕ)
-  stepped true number f now stored = stored
-  stepped false number f now stored =
-      change_at (restored master f.surface now.surface number) number stored
-
-  rewritten-unless : (b : Bool) (number : ℕ) (f now : Filed) (rewrites : List Rewrite)
-      (stored : List (List ℕ))
-      → rewritten_all master (rewrite_unless b number f now ++ rewrites) stored
-      ≡ rewritten_all master rewrites (stepped b number f now stored)
-  rewritten-unless true number f now rewrites stored = refl
-  rewritten-unless false number f now rewrites stored = refl
+  -- some rewrites and then others
+  rewritten-append : (rewrites more : List Rewrite) (stored : List (List ℕ))
+      → rewritten_all master (rewrites ++ more) stored
+      ≡ rewritten_all master more (rewritten_all master rewrites stored)
+  rewritten-append [] more stored = refl
+  rewritten-append (r ∷ rewrites) more stored =
+      rewritten-append rewrites more (change_at (restored master r.old r.new r.file) r.file stored)
 
   changed-here : (from to : Option ℕ) (number : ℕ) (stored : List (List ℕ))
       → at_number (change_at (restored master from to number) number stored) number
@@ -77,91 +75,127 @@ module _ (master : List ℕ) where
       change_at-here (restored master from to number) number stored []
       (restored-none master from to number)
 
-  stepped-here : (b : Bool) (number : ℕ) (f now : Filed) (stored : List (List ℕ))
+  unless-here : (b : Bool) (number : ℕ) (f now : Filed) (stored : List (List ℕ))
       → same_surface f.surface now.surface ≡ b
-      → at_number (stepped b number f now stored) number
+      → at_number (rewritten_all master (rewrite_unless b number f now) stored) number
       ≡ restored master f.surface now.surface number (at_number stored number)
-  stepped-here true number f now stored is =
+  unless-here true number f now stored is =
       sym (restored-same master f.surface number (at_number stored number))
       ∙ ap (λ to. restored master f.surface to number (at_number stored number))
       (same_surface-is f.surface now.surface is)
-  stepped-here false number f now stored is = changed-here f.surface now.surface number stored
+  unless-here false number f now stored is = changed-here f.surface now.surface number stored
 
-  stepped-other : (b : Bool) (number n : ℕ) (f now : Filed) (stored : List (List ℕ)) → n ≢ number
-      → at_number (stepped b number f now stored) n ≡ at_number stored n
-  stepped-other true number n f now stored other = refl
-  stepped-other false number n f now stored other =
+  unless-other : (b : Bool) (number n : ℕ) (f now : Filed) (stored : List (List ℕ)) → n ≢ number
+      → at_number (rewritten_all master (rewrite_unless b number f now) stored) n
+      ≡ at_number stored n
+  unless-other true number n f now stored other = refl
+  unless-other false number n f now stored other =
       change_at-other (restored master f.surface now.surface number) number n stored [] other
 
+  -- the rewrite of one file that is there afterwards
+  stepped-here : (number : ℕ) (f : Option Filed) (now : Filed) (stored : List (List ℕ))
+      → at_number (rewritten_all master (rewrite_of number f (Some now)) stored) number
+      ≡ restored master (surface_left f) now.surface number (at_number stored number)
+  stepped-here number None now stored = changed-here None now.surface number stored
+  stepped-here number (Some f) now stored =
+      unless-here (same_surface f.surface now.surface) number f now stored refl
+
+  stepped-other : (number n : ℕ) (f now : Option Filed) (stored : List (List ℕ)) → n ≢ number
+      → at_number (rewritten_all master (rewrite_of number f now) stored) n ≡ at_number stored n
+  stepped-other number n f None stored other = refl
+  stepped-other number n None (Some now) stored other =
+      change_at-other (restored master None now.surface number) number n stored [] other
+  stepped-other number n (Some f) (Some now) stored other =
+      unless-other (same_surface f.surface now.surface) number n f now stored other
+
+  before-step : (number : ℕ) (f now : Option Filed) (rewrites : List Rewrite)
+      (stored : List (List ℕ)) (n : ℕ) → n < number
+      → ((next : List (List ℕ))
+      → at_number (rewritten_all master rewrites next) n ≡ at_number next n)
+      → at_number (rewritten_all master (rewrite_of number f now ++ rewrites) stored) n
+      ≡ at_number stored n
+  before-step number f now rewrites stored n low rest =
+      ap (λ (bytes : List (List ℕ)). at_number bytes n)
+      (rewritten-append (rewrite_of number f now) rewrites stored)
+      ∙ rest (rewritten_all master (rewrite_of number f now) stored)
+      ∙ stepped-other number n f now stored (λ same. absurd (omega arith))
+
   -- files before these aren't rewritten
-  rewritten-before : (number : ℕ) (files after : List Filed) (stored : List (List ℕ)) (n : ℕ)
+  rewritten-before : (number : ℕ) (files after : List (Option Filed)) (stored : List (List ℕ))
+      (n : ℕ)
       → n < number
       → at_number (rewritten_all master (rewrites_from number files after) stored) n
       ≡ at_number stored n
   rewritten-before number files [] stored n low = refl
   rewritten-before number [] (now ∷ after) stored n low =
-      let next : List (List ℕ) =
-      change_at (restored master None now.surface number) number stored in
-      rewritten-before (number + 1) [] after next n (omega arith)
-      ∙ change_at-other (restored master None now.surface number) number n stored []
-      (λ same. absurd (omega arith))
+      before-step number None now (rewrites_from (number + 1) [] after) stored n low
+      (λ next. rewritten-before (number + 1) [] after next n (omega arith))
   rewritten-before number (f ∷ files) (now ∷ after) stored n low =
-      let b : Bool = same_surface f.surface now.surface in
-      ap (λ (bytes : List (List ℕ)). at_number bytes n)
-      (rewritten-unless b number f now (rewrites_from (number + 1) files after) stored)
-      ∙ rewritten-before (number + 1) files after (stepped b number f now stored) n (omega arith)
-      ∙ stepped-other b number n f now stored (λ same. absurd (omega arith))
+      before-step number f now (rewrites_from (number + 1) files after) stored n low
+      (λ next. rewritten-before (number + 1) files after next n (omega arith))
 
-  abbrev surface_in : List Filed → ℕ → Option ℕ
-  surface_in files place = (slice_index_or files place no_filed).surface
+  -- the first of these files
+  here-step : (number : ℕ) (f now : Option Filed) (there : Filed) (files after : List (Option Filed))
+      (stored : List (List ℕ)) (n : ℕ) → n ≡ number + 0 → now ≡ Some there
+      → at_number
+      (rewritten_all master (rewrite_of number f now ++ rewrites_from (number + 1) files after)
+      stored) n
+      ≡ restored master (surface_left f) there.surface n (at_number stored n)
+  here-step number f now there files after stored n is living =
+      let here : number ≡ n = omega arith in
+      let next : List (List ℕ) = rewritten_all master (rewrite_of number f now) stored in
+      ap (λ (bytes : List (List ℕ)). at_number bytes n)
+      (rewritten-append (rewrite_of number f now) (rewrites_from (number + 1) files after) stored)
+      ∙ rewritten-before (number + 1) files after next n (omega arith)
+      ∙ ap (λ (o : Option Filed). at_number (rewritten_all master (rewrite_of number f o) stored) n)
+      living
+      ∙ subst
+      (λ m. at_number (rewritten_all master (rewrite_of number f (Some there)) stored) m
+      ≡ restored master (surface_left f) there.surface m (at_number stored m)) here
+      (stepped-here number f there stored)
+
+  -- and a later one
+  later-step : (number : ℕ) (f now : Option Filed) (from to : Option ℕ) (rewrites : List Rewrite)
+      (stored : List (List ℕ)) (n : ℕ) → n ≢ number
+      → ((next : List (List ℕ)) → at_number (rewritten_all master rewrites next) n
+      ≡ restored master from to n (at_number next n))
+      → at_number (rewritten_all master (rewrite_of number f now ++ rewrites) stored) n
+      ≡ restored master from to n (at_number stored n)
+  later-step number f now from to rewrites stored n other rest =
+      ap (λ (bytes : List (List ℕ)). at_number bytes n)
+      (rewritten-append (rewrite_of number f now) rewrites stored)
+      ∙ rest (rewritten_all master (rewrite_of number f now) stored)
+      ∙ ap (λ bytes. restored master from to n bytes) (stepped-other number n f now stored other)
 
   -- the file of a number, where these files begin with this number
-  rewritten-at : (number : ℕ) (files after : List Filed) (stored : List (List ℕ)) (place n : ℕ)
+  rewritten-at : (number : ℕ) (files after : List (Option Filed)) (stored : List (List ℕ))
+      (place n : ℕ) (now : Filed)
       → n ≡ number + place
-      → place < length after
+      → living_at after place ≡ Some now
       → at_number (rewritten_all master (rewrites_from number files after) stored) n
-      ≡ restored master (surface_in files place) (surface_in after place) n (at_number stored n)
-  rewritten-at number files [] stored place n is below = absurd (omega arith)
-  rewritten-at number [] (now ∷ after) stored zero n is below =
-      let next : List (List ℕ) =
-      change_at (restored master None now.surface number) number stored in
-      let here : number ≡ n = omega arith in
-      rewritten-before (number + 1) [] after next n (omega arith)
-      ∙ subst (λ m. at_number next m ≡ restored master None now.surface m (at_number stored m)) here
-      (changed-here None now.surface number stored)
-  rewritten-at number [] (now ∷ after) stored (suc place) n is below =
-      let next : List (List ℕ) =
-      change_at (restored master None now.surface number) number stored in
-      rewritten-at (number + 1) [] after next place n (omega arith) (omega arith)
-      ∙ ap (λ bytes. restored master None (surface_in after place) n bytes)
-      (change_at-other (restored master None now.surface number) number n stored []
-      (λ same. absurd (omega arith)))
-  rewritten-at number (f ∷ files) (now ∷ after) stored zero n is below =
-      let b : Bool = same_surface f.surface now.surface in
-      let next : List (List ℕ) = stepped b number f now stored in
-      let here : number ≡ n = omega arith in
-      ap (λ (bytes : List (List ℕ)). at_number bytes n)
-      (rewritten-unless b number f now (rewrites_from (number + 1) files after) stored)
-      ∙ rewritten-before (number + 1) files after next n (omega arith)
-      ∙ subst (λ m. at_number next m ≡ restored master f.surface now.surface m (at_number stored m))
-      here
-      (stepped-here b number f now stored refl)
-  rewritten-at number (f ∷ files) (now ∷ after) stored (suc place) n is below =
-      let b : Bool = same_surface f.surface now.surface in
-      let next : List (List ℕ) = stepped b number f now stored in
-      ap (λ (bytes : List (List ℕ)). at_number bytes n)
-      (rewritten-unless b number f now (rewrites_from (number + 1) files after) stored)
-      ∙ rewritten-at (number + 1) files after next place n (omega arith) (omega arith)
-      ∙ ap (λ bytes. restored master (surface_in files place) (surface_in after place) n bytes)
-      (stepped-other b number n f now stored (λ same. absurd (omega arith)))
+      ≡ restored master (surface_left (living_at files place)) now.surface n (at_number stored n)
+  rewritten-at number files [] stored place n there is living = absurd (cc)
+  rewritten-at number [] (now ∷ after) stored zero n there is living =
+      here-step number None now there [] after stored n is living
+  rewritten-at number [] (now ∷ after) stored (suc place) n there is living =
+      later-step number None now None there.surface (rewrites_from (number + 1) [] after) stored n
+      (λ same. absurd (omega arith))
+      (λ next. rewritten-at (number + 1) [] after next place n there (omega arith) living)
+  rewritten-at number (f ∷ files) (now ∷ after) stored zero n there is living =
+      here-step number f now there files after stored n is living
+  rewritten-at number (f ∷ files) (now ∷ after) stored (suc place) n there is living =
+      later-step number f now (surface_left (living_at files place)) there.surface
+      (rewrites_from (number + 1) files after) stored n
+      (λ same. absurd (omega arith))
+      (λ next. rewritten-at (number + 1) files after next place n there (omega arith) living)
 
-  -- after the rewrites from some files to others the stored bytes of each file are those before,
-  -- with the coat of its old surface taken off and that of its new one laid
-  pub rewritten-each : (files after : List Filed) (stored : List (List ℕ)) (n : ℕ)
-      → n < length after
+  -- after the rewrites from some files to others the stored bytes of each file that is there are
+  -- those before, with the coat of its old surface taken off and that of its new one laid
+  pub rewritten-each : (files after : List (Option Filed)) (stored : List (List ℕ)) (n : ℕ)
+      (now : Filed)
+      → living_at after n ≡ Some now
       → slice_index_or (rewritten_all master (rewrites_from 0 files after) stored) n []
-      ≡ restored master (slice_index_or files n no_filed).surface
-      (slice_index_or after n no_filed).surface n
+      ≡ restored master (surface_left (living_at files n)) now.surface n
       (slice_index_or stored n [])
-  rewritten-each files after stored n below =
-      rewritten-at 0 files after stored n n (omega arith) below
+  rewritten-each files after stored n now living =
+      rewritten-at 0 files after stored n n now (omega arith) living

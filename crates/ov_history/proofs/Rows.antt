@@ -4,14 +4,15 @@ use Rattle.std.proofs.Common.{refl}
 use Rattle.ov_base.specs.declared.mode.Mode.TheVariants.{Full, Delta}
 use Rattle.ov_history.specs.History.{History, Update, Enrolled, Created, Granted, Revoked}
 use Rattle.ov_history.specs.Layers.{Layers, Place, layers_of}
+use Rattle.std.specs.Prelude.{Option}
 
 -- a place without a surface, and one with
-abbrev bare : ℕ → ℕ → Place
-bare node generation = record { node = node; surface = None; generation = generation }
+abbrev bare : ℕ → ℕ → Option Place
+bare node generation = Some (record { node = node; surface = None; generation = generation })
 
-abbrev under : ℕ → ℕ → ℕ → Place
+abbrev under : ℕ → ℕ → ℕ → Option Place
 under surface node generation =
-    record { node = node; surface = Some surface; generation = generation }
+    Some (record { node = node; surface = Some surface; generation = generation })
 
 -- ---- two files of one base node
 
@@ -24,7 +25,7 @@ shared =
 abbrev in_delta : List Update → Layers
 in_delta updates = layers_of (record { mode = Delta; first = 0; updates = updates })
 
-abbrev three_users : ℕ → List Place → Layers
+abbrev three_users : ℕ → List (Option Place) → Layers
 three_users epoch files = record {
   mode = Delta;
   epoch = epoch;

@@ -22,29 +22,42 @@ use Rattle.ov_history.proofs.Listing.{length-lists_of, lists_of-layers_after}
 use Rattle.ov_history.proofs.MatrixLaws.{epoch_of-layers_of, file_lists, mode_of-layers_of}
 use Rattle.ov_history.proofs.Outlining.{length-places, outline-after, outline-next, outline-shown}
 use Rattle.ov_history.proofs.Pushing.{matrix_of-push, with_updates, with_updates-all}
+use Rattle.std.specs.Prelude.{option_map}
+use Rattle.std.specs.Prelude.{Some}
+use Rattle.ov_history.specs.Catalogue.{settled_file}
 
 -- ---- files with their lists
 
 -- the file of the matrix with this list
-abbrev row : Filed → ℕ → File
-row f list = record { name = f.name; length = f.length; list = list }
+abbrev row_with : Filed → ℕ → File
+row_with f list = record { name = f.name; length = f.length; list = list }
+
+-- so it is with one that may be gone
+abbrev row : Option Filed → Option ℕ → Option File
+row None list = None
+row (Some f) None = None
+row (Some f) (Some list) = Some (row_with f list)
 
 -- the files of the matrix, each with its list
-abbrev rows : List Filed → List ℕ → List File
+abbrev rows : List (Option Filed) → List (Option ℕ) → List (Option File)
 rows [] lists = []
 rows (f ∷ files) [] = []
 rows (f ∷ files) (list ∷ lists) = row f list ∷ rows files lists
 
-shown_rows : (y : Layers) (files : List Filed)
+shown_rows : (y : Layers) (files : List (Option Filed))
     → files_shown y files ≡ rows files (lists_at y (places files))
 shown_rows y [] = refl
-shown_rows y (f ∷ files) = ap (λ (rest : List File). file_shown y f ∷ rest) (shown_rows y files)
+shown_rows y (None ∷ files) = ap (λ (rest : List (Option File)). None ∷ rest) (shown_rows y files)
+shown_rows y (Some f ∷ files) =
+    ap (λ (rest : List (Option File)). Some (file_shown y f) ∷ rest) (shown_rows y files)
 
-lists_shown : (y : Layers) (files : List Filed)
+lists_shown : (y : Layers) (files : List (Option Filed))
     → file_lists (files_shown y files) ≡ lists_at y (places files)
 lists_shown y [] = refl
-lists_shown y (f ∷ files) =
-    ap (λ (lists : List ℕ). (file_shown y f).list ∷ lists) (lists_shown y files)
+lists_shown y (None ∷ files) =
+    ap (λ (lists : List (Option ℕ)). None ∷ lists) (lists_shown y files)
+lists_shown y (Some f ∷ files) =
+    ap (λ (lists : List (Option ℕ)). Some (file_shown y f).list ∷ lists) (lists_shown y files)
 
 -- the lists that are shown are those of the outline
 pub lists_of-shown : (c : Catalogue) → file_lists (matrix_shown c).files ≡ lists_of (outline c)
@@ -52,51 +65,68 @@ lists_of-shown c = lists_shown (outline c) c.files
 
 -- a new surface is no change of a file's name and length
 refiled_row : (b : Bool) (epoch : ℕ) (surface : Option ℕ) (f : Filed) (list : ℕ)
-    → row (refiled b epoch surface f) list ≡ row f list
+    → row_with (refiled b epoch surface f) list ≡ row_with f list
 refiled_row true epoch surface f list = refl
 refiled_row false epoch surface f list = refl
 
-rows_settled : (epoch : ℕ) (sets : List ℕ) (wants : List (Option ℕ)) (files : List Filed)
-    (lists : List ℕ)
+settled_row : (epoch : ℕ) (sets : List ℕ) (want : Option ℕ) (f : Option Filed) (list : Option ℕ)
+    → row (option_map (settled_file epoch sets want) f) list ≡ row f list
+settled_row epoch sets want None list = refl
+settled_row epoch sets want (Some f) None = refl
+settled_row epoch sets want (Some f) (Some list) =
+    ap Some
+    (refiled_row (same_surface f.surface (surface_at sets want)) epoch (surface_at sets want) f
+    list)
+
+rows_settled : (epoch : ℕ) (sets : List ℕ) (wants : List (Option ℕ)) (files : List (Option Filed))
+    (lists : List (Option ℕ))
     → rows (settled_files epoch sets wants files) lists ≡ rows files lists
 rows_settled epoch sets [] files lists = refl
 rows_settled epoch sets (want ∷ wants) [] lists = refl
 rows_settled epoch sets (want ∷ wants) (f ∷ files) [] = refl
 rows_settled epoch sets (want ∷ wants) (f ∷ files) (list ∷ lists) =
-    ap (λ (first : File). first ∷ rows (settled_files epoch sets wants files) lists)
-    (refiled_row (same_surface f.surface (surface_at sets want)) epoch
-    (surface_at sets want) f list)
-    ∙ ap (λ (rest : List File). row f list ∷ rest) (rows_settled epoch sets wants files lists)
+    ap (λ (first : Option File). first ∷ rows (settled_files epoch sets wants files) lists)
+    (settled_row epoch sets want f list)
+    ∙ ap (λ (rest : List (Option File)). row f list ∷ rest)
+    (rows_settled epoch sets wants files lists)
 
 -- ---- what an update adds
 
-rows-append : (files : List Filed) (lists : List ℕ) (f : Filed) (list : ℕ)
+rows-append : (files : List (Option Filed)) (lists : List (Option ℕ)) (f : Option Filed)
+    (list : Option ℕ)
     → length lists ≡ length files
     → rows (files ++ f ∷ []) (lists ++ list ∷ []) ≡ rows files lists ++ row f list ∷ []
 rows-append [] [] f list many = refl
 rows-append [] (other ∷ lists) f list many = absurd (omega arith)
 rows-append (first ∷ files) [] f list many = absurd (omega arith)
 rows-append (first ∷ files) (other ∷ lists) f list many =
-    ap (λ (rest : List File). row first other ∷ rest) (rows-append files lists f list (omega arith))
+    ap (λ (rest : List (Option File)). row first other ∷ rest)
+    (rows-append files lists f list (omega arith))
 
 -- a change of one list is the change of its file
 rows-change : (on_list : ℕ → ℕ) (on_file : File → File)
-    → ((f : Filed) (list : ℕ) → row f (on_list list) ≡ on_file (row f list))
-    → (place : ℕ) (files : List Filed) (lists : List ℕ)
-    → rows files (change_at on_list place lists) ≡ change_at on_file place (rows files lists)
+    → ((f : Filed) (list : ℕ) → row_with f (on_list list) ≡ on_file (row_with f list))
+    → (place : ℕ) (files : List (Option Filed)) (lists : List (Option ℕ))
+    → rows files (change_at (option_map on_list) place lists)
+    ≡ change_at (option_map on_file) place (rows files lists)
 rows-change on_list on_file same place [] lists = refl
 rows-change on_list on_file same place (f ∷ files) [] = refl
 rows-change on_list on_file same zero (f ∷ files) (list ∷ lists) =
-    ap (λ (first : File). first ∷ rows files lists) (same f list)
+    ap (λ (first : Option File). first ∷ rows files lists) (row_change f list) where
+      row_change : (f : Option Filed) (list : Option ℕ)
+          → row f (option_map on_list list) ≡ option_map on_file (row f list)
+      row_change None list = refl
+      row_change (Some f) None = refl
+      row_change (Some f) (Some list) = ap Some (same f list)
 rows-change on_list on_file same (suc place) (f ∷ files) (list ∷ lists) =
-    ap (λ (rest : List File). row f list ∷ rest)
+    ap (λ (rest : List (Option File)). row f list ∷ rest)
     (rows-change on_list on_file same place files lists)
 
 -- the matrix with these lists
-abbrev matrix_with : Catalogue → List ℕ → Matrix
+abbrev matrix_with : Catalogue → List (Option ℕ) → Matrix
 matrix_with c lists = record { users = c.users; files = rows c.files lists }
 
-rows_grown : (c : Catalogue) (b : Brief) (lists : List ℕ) → length lists ≡ length c.files
+rows_grown : (c : Catalogue) (b : Brief) (lists : List (Option ℕ)) → length lists ≡ length c.files
     → matrix_with (grown_catalogue c b) (lists_after lists (outer b))
     ≡ changed (matrix_with c lists) (outer b)
 rows_grown c (BriefEnrol user) lists many = refl
@@ -109,20 +139,20 @@ rows_grown c (BriefCreate file list tokens tag size) lists many =
       tag = tag;
       length = size;
     } in
-    ap (λ (files : List File). record { users = c.users; files = files })
-    (rows-append c.files lists f list many)
+    ap (λ (files : List (Option File)). record { users = c.users; files = files })
+    (rows-append c.files lists (Some f) (Some list) many)
 rows_grown c (BriefGrant user file token) lists many =
-    ap (λ (files : List File). record { users = c.users; files = files })
+    ap (λ (files : List (Option File)). record { users = c.users; files = files })
     (rows-change (λ list. with list user) (listed user) (λ f list. refl) file c.files lists)
 rows_grown c (BriefRevoke user file) lists many =
-    ap (λ (files : List File). record { users = c.users; files = files })
+    ap (λ (files : List (Option File)). record { users = c.users; files = files })
     (rows-change (λ list. without list user) (delisted user) (λ f list. refl) file c.files lists)
 
 -- ---- one update
 
 shown_with : (c : Catalogue) → matrix_shown c ≡ matrix_with c (lists_of (outline c))
 shown_with c =
-    ap (λ (files : List File). record { users = c.users; files = files })
+    ap (λ (files : List (Option File)). record { users = c.users; files = files })
     (shown_rows (outline c) c.files)
 
 -- the matrix that is shown after an update is what the update makes of the one before
@@ -130,13 +160,13 @@ pub matrix-after : (master : List ℕ) (c : Catalogue) (b : Brief) → HasParts 
     → matrix_shown (catalogue_after master c b) ≡ changed (matrix_shown c) (outer b)
 matrix-after master c b parts =
     let next : Catalogue = grown_catalogue c b in
-    let lists : List ℕ = lists_after (lists_of (outline c)) (outer b) in
+    let lists : List (Option ℕ) = lists_after (lists_of (outline c)) (outer b) in
     let wants : List (Option ℕ) = wants_of (outline next) lists in
     let after : Catalogue = catalogue_after master c b in
     shown_with after
     ∙ ap (λ lists. matrix_with after lists)
     (ap lists_of (outline-after master c b parts) ∙ lists_of-layers_after (outline c) (outer b))
-    ∙ ap (λ (files : List File). record { users = next.users; files = files })
+    ∙ ap (λ (files : List (Option File)). record { users = next.users; files = files })
     (rows_settled next.epoch (with_wants next.surface.sets wants) wants next.files lists)
     ∙ rows_grown c b (lists_of (outline c)) (length-lists_of (outline c) ∙ length-places c.files)
     ∙ ap (λ (m : Matrix). changed m (outer b)) (sym (shown_with c))

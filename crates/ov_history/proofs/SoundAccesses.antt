@@ -1,7 +1,6 @@
 -- Each access was given to a user who was no holder.
 use Rattle.std.proofs.Common.{◌≡◌, ℕ, ◌+◌, ◌<◌, Bool, true, false, List, [], ◌∷◌, ◌++◌, length}
 use Rattle.std.proofs.Common.{refl, sym, ◌∙◌, subst, arith, true≢false}
-use Rattle.std.proofs.lemmas.Option.{slice_get-get_or}
 use Rattle.ov_base.specs.Sets.{single, has}
 use Rattle.ov_graph.specs.Contents.{plan_of}
 use Rattle.ov_base_layer.specs.Holders.{Access, accesses_of, AreFirst}
@@ -12,6 +11,13 @@ use Rattle.ov_history.specs.Catalogue.{Catalogue, filed_at, no_filed, outline}
 use Rattle.ov_history.specs.Sound.{IsSound}
 use Rattle.ov_history.proofs.Outlining.{node-shown}
 use Rattle.ov_history.proofs.SoundTests.{IsFine}
+use Rattle.std.specs.Prelude.{Option}
+use Rattle.std.specs.Prelude.{Some}
+use Rattle.std.specs.Prelude.{None}
+use Rattle.std.specs.Prelude.{unwrap_or}
+use Rattle.std.specs.Prelude.{is_some}
+use Rattle.ov_history.specs.Places.{living_at}
+use Rattle.ov_history.specs.Catalogue.{Filed}
 
 first_enrolled : (users : ℕ) (sets : List ℕ) (accesses : List Access) → AreFirst users sets accesses
     → AreFirst (users + 1) (sets ++ single users ∷ []) accesses
@@ -42,12 +48,14 @@ first_given y user node false e low there old =
     (λ held. true≢false (sym held ∙ e))
 
 -- a file that is there has a base node
-node_there : (c : Catalogue) (file : ℕ) → IsSound c → file < length c.files
+node_there : (c : Catalogue) (file : ℕ) → IsSound c → is_some (living_at c.files file) ≡ true
     → node_of (outline c) file < length c.base.sets
 node_there c file sound there =
-    let placed =
-    sound.files file (filed_at c file) (slice_get-get_or c.files file no_filed there) in
-    subst (λ n. n < length c.base.sets) (node-shown c file) placed.base
+    let placed = sound.files file (filed_at c file) (is_there (living_at c.files file) there) in
+    subst (λ n. n < length c.base.sets) (node-shown c file) placed.base where
+      is_there : (o : Option Filed) → is_some o ≡ true → o ≡ Some (unwrap_or o no_filed)
+      is_there None e = absurd (cc)
+      is_there (Some f) e = refl
 
 pub accesses_grown : (c : Catalogue) (b : Brief) → IsSound c → IsFine c b
     → let y = grown (outline c) (outer b) in AreFirst y.users y.base y.accesses

@@ -1,7 +1,7 @@
 -- The files, each with its wanted surface.
 use Rattle.std.proofs.Common.{◌≡◌, ℕ, zero, suc, ◌<◌, Bool, true, false, List, [], ◌∷◌, length}
 use Rattle.std.proofs.Common.{get_or, refl, sym, ◌∙◌, ap, subst}
-use Rattle.std.specs.Prelude.{Contains, Option, Some, None, IfSome, slice_get}
+use Rattle.std.specs.Prelude.{Contains, Option, Some, None, IfSome}
 use Rattle.ov_base.specs.Sets.{Within}
 use Rattle.ov_graph.proofs.ListLaws.{Contains-first, Contains-later}
 use Rattle.ov_surface.specs.Wanted.{wanted_surface}
@@ -13,6 +13,10 @@ use Rattle.ov_history.specs.Sound.{IsPlaced}
 use Rattle.ov_history.proofs.Listing.{same_surface-is}
 use Rattle.ov_history.proofs.PlanLaws.{node_for-there}
 use Rattle.ov_history.proofs.SoundLists.{AreHeld, wanted-is}
+use Rattle.std.specs.Prelude.{option_map}
+use Rattle.ov_history.specs.Places.{living_at}
+use Rattle.ov_history.specs.Layers.{want_at}
+use Rattle.ov_history.specs.Catalogue.{place_of_file}
 
 -- ---- where a file is in the layers
 
@@ -87,28 +91,32 @@ module _ (epoch : ℕ) (c : Catalogue) where
         (subst (λ n. Within set (holders (outline c) n)) (sym stays) inside)
 
   -- all of the files are placed
-  pub all_placed : (y : Layers) (lists : List ℕ) (files : List Filed)
+  pub all_placed : (y : Layers) (lists : List (Option ℕ)) (files : List (Option Filed))
       → AreHeld (outline c) lists (places files)
       → ((set : ℕ) → Contains (wants_at y lists (places files)) (Some set)
       → Contains c.surface.sets set)
       → (file : ℕ) (f : Filed)
-      → slice_get (settled_files epoch c.surface.sets (wants_at y lists (places files)) files) file
+      → living_at (settled_files epoch c.surface.sets (wants_at y lists (places files)) files) file
       ≡ Some f
       → IsPlaced c f
   all_placed y [] [] h known file f is = absurd (cc)
   all_placed y [] (first ∷ files) h known file f is = absurd h
   all_placed y (list ∷ lists) [] h known file f is = absurd h
-  all_placed y (list ∷ lists) (first ∷ files) (there, held, rest) known zero f is =
+  all_placed y (None ∷ lists) (None ∷ files) (one, rest) known zero f is = absurd (cc)
+  all_placed y (None ∷ lists) (Some first ∷ files) (one, rest) known zero f is = absurd one
+  all_placed y (Some list ∷ lists) (None ∷ files) (one, rest) known zero f is = absurd one
+  all_placed y (Some list ∷ lists) (Some first ∷ files) (one, rest) known zero f is =
       let want : Option ℕ = wanted_surface y.mode list (holders y first.node) in
       let wants : List (Option ℕ) = wants_at y lists (places files) in
-      subst (λ (g : Filed). IsPlaced c g) (cc)
-      (settled_placed want list first there held (λ set e. (
+      let same : settled_file epoch c.surface.sets want first ≡ f = cc in
+      subst (λ (g : Filed). IsPlaced c g) same
+      (settled_placed want list first one.0 one.1 (λ set e. (
         wanted-is y.mode list (holders y first.node) set e,
         known set
             (subst (λ (o : Option ℕ). Contains (want ∷ wants) o) e (Contains-first want wants)),
       )))
-  all_placed y (list ∷ lists) (first ∷ files) (there, held, rest) known (suc file) f is =
-      let want : Option ℕ = wanted_surface y.mode list (holders y first.node) in
+  all_placed y (list ∷ lists) (first ∷ files) (one, rest) known (suc file) f is =
+      let want : Option ℕ = want_at y list (option_map place_of_file first) in
       let wants : List (Option ℕ) = wants_at y lists (places files) in
       all_placed y lists files rest
       (λ set later. known set (Contains-later want wants (Some set) later))

@@ -2,7 +2,7 @@
 use Rattle.std.proofs.Common.{◌≡◌, ℕ, zero, suc, ◌+◌, ◌<◌, ◌==◌, Bool, true, false, List, [], ◌∷◌}
 use Rattle.std.proofs.Common.{◌++◌, length, get_or, refl, sym, subst, arith, inl, inr}
 use Rattle.std.proofs.Common.{length-append}
-use Rattle.std.specs.Prelude.{Contains, Some, None, slice_get}
+use Rattle.std.specs.Prelude.{Contains, Some, None}
 use Rattle.std.proofs.lemmas.List.{get_or_append_left}
 use Rattle.std.proofs.lemmas.List.Elements.{Contains-append_left, Contains-append_right}
 use Rattle.ov_base.specs.Sets.{single, has, Has, with, without, Within, IsBelow}
@@ -19,29 +19,47 @@ use Rattle.ov_history.specs.Layers.{Layers, Place, given, grown, holders, list_a
 use Rattle.ov_history.specs.Layers.{lists_at, no_place, node_for, node_of, wants_at}
 use Rattle.ov_history.specs.Catalogue.{Filed, place_of_file, places}
 use Rattle.ov_history.proofs.PlanLaws.{with_set-has, with_set-keeps}
+use Rattle.std.specs.Prelude.{Option}
+use Rattle.std.specs.Prelude.{option_map}
+use Rattle.std.specs.Prelude.{unwrap_or}
+use Rattle.ov_history.specs.Places.{living_at}
+use Rattle.ov_history.specs.Layers.{want_at}
 
--- each place's base node is there, and its holders have each user of the list
-abbrev pub AreHeld : Layers → List ℕ → List Place → Type 0
+-- the base node of a place is there, and its holders have each user of the list
+abbrev pub IsHeld : Layers → Option ℕ → Option Place → Type 0
+IsHeld y None None = Unit {0}
+IsHeld y None (Some p) = ⊥
+IsHeld y (Some list) None = ⊥
+IsHeld y (Some list) (Some p) = (p.node < length y.base) × Within list (holders y p.node)
+
+-- so it is of each file
+abbrev pub AreHeld : Layers → List (Option ℕ) → List (Option Place) → Type 0
 AreHeld y [] [] = Unit {0}
 AreHeld y [] (p ∷ placed) = ⊥
 AreHeld y (list ∷ lists) [] = ⊥
-AreHeld y (list ∷ lists) (p ∷ placed) =
-    (p.node < length y.base) × Within list (holders y p.node) × AreHeld y lists placed
+AreHeld y (list ∷ lists) (p ∷ placed) = IsHeld y list p × AreHeld y lists placed
 
 -- each base node stays, with its holders and perhaps more
 abbrev pub Grows : Layers → Layers → Type 0
 Grows y z = (node : ℕ) → node < length y.base
     → (node < length z.base) × Within (holders y node) (holders z node)
 
-pub still_held : (y z : Layers) (lists : List ℕ) (placed : List Place) → Grows y z
+still_one : (y z : Layers) (list : Option ℕ) (p : Option Place) → Grows y z → IsHeld y list p
+    → IsHeld z list p
+still_one y z None None more h = tt
+still_one y z None (Some p) more h = absurd h
+still_one y z (Some list) None more h = absurd h
+still_one y z (Some list) (Some p) more (there, held) =
+    let grows = more p.node there in (grows.0, λ user one. grows.1 user (held user one))
+
+pub still_held : (y z : Layers) (lists : List (Option ℕ)) (placed : List (Option Place)) → Grows y z
     → AreHeld y lists placed
     → AreHeld z lists placed
 still_held y z [] [] more h = tt
 still_held y z [] (p ∷ placed) more h = absurd h
 still_held y z (list ∷ lists) [] more h = absurd h
-still_held y z (list ∷ lists) (p ∷ placed) more (there, held, rest) =
-    let grows = more p.node there in
-    (grows.0, (λ user one. grows.1 user (held user one)), still_held y z lists placed more rest)
+still_held y z (list ∷ lists) (p ∷ placed) more (one, rest) =
+    (still_one y z list p more one, still_held y z lists placed more rest)
 
 -- ---- the updates
 
@@ -87,38 +105,59 @@ grant_holds y user file = by_test (has (holders y (node_of y file)) user) refl w
       (inr (Contains-append_right y.accesses (new ∷ []) new (Contains-first new [])))
 
 -- a user who holds the node of a file may join its list
-listed_held : (y : Layers) (user file : ℕ) (lists : List ℕ) (placed : List Place)
-    → Has (holders y (get_or placed file no_place).node) user → AreHeld y lists placed
-    → AreHeld y (change_at (λ list. with list user) file lists) placed
+listed_one : (y : Layers) (user : ℕ) (list : Option ℕ) (p : Option Place)
+    → Has (holders y (unwrap_or p no_place).node) user → IsHeld y list p
+    → IsHeld y (option_map (λ list. with list user) list) p
+listed_one y user None None own h = tt
+listed_one y user None (Some p) own h = absurd h
+listed_one y user (Some list) None own h = absurd h
+listed_one y user (Some list) (Some p) own (there, held) =
+    (there, with_within list user (holders y p.node) held own)
+
+listed_held : (y : Layers) (user file : ℕ) (lists : List (Option ℕ)) (placed : List (Option Place))
+    → Has (holders y (unwrap_or (living_at placed file) no_place).node) user
+    → AreHeld y lists placed
+    → AreHeld y (change_at (option_map (λ list. with list user)) file lists) placed
 listed_held y user file [] [] own h = tt
 listed_held y user file [] (p ∷ placed) own h = absurd h
 listed_held y user file (list ∷ lists) [] own h = absurd h
-listed_held y user zero (list ∷ lists) (p ∷ placed) own (there, held, rest) =
-    (there, with_within list user (holders y p.node) held own, rest)
-listed_held y user (suc file) (list ∷ lists) (p ∷ placed) own (there, held, rest) =
-    (there, held, listed_held y user file lists placed own rest)
+listed_held y user zero (list ∷ lists) (p ∷ placed) own (one, rest) =
+    (listed_one y user list p own one, rest)
+listed_held y user (suc file) (list ∷ lists) (p ∷ placed) own (one, rest) =
+    (one, listed_held y user file lists placed own rest)
 
-delisted_held : (y : Layers) (user file : ℕ) (lists : List ℕ) (placed : List Place)
-    → AreHeld y lists placed → AreHeld y (change_at (λ list. without list user) file lists) placed
+delisted_one : (y : Layers) (user : ℕ) (list : Option ℕ) (p : Option Place) → IsHeld y list p
+    → IsHeld y (option_map (λ list. without list user) list) p
+delisted_one y user None None h = tt
+delisted_one y user None (Some p) h = absurd h
+delisted_one y user (Some list) None h = absurd h
+delisted_one y user (Some list) (Some p) (there, held) =
+    (there, λ u one. held u (without_within list user u one))
+
+delisted_held : (y : Layers) (user file : ℕ) (lists : List (Option ℕ))
+    (placed : List (Option Place))
+    → AreHeld y lists placed
+    → AreHeld y (change_at (option_map (λ list. without list user)) file lists) placed
 delisted_held y user file [] [] h = tt
 delisted_held y user file [] (p ∷ placed) h = absurd h
 delisted_held y user file (list ∷ lists) [] h = absurd h
-delisted_held y user zero (list ∷ lists) (p ∷ placed) (there, held, rest) =
-    (there, (λ u one. held u (without_within list user u one)), rest)
-delisted_held y user (suc file) (list ∷ lists) (p ∷ placed) (there, held, rest) =
-    (there, held, delisted_held y user file lists placed rest)
+delisted_held y user zero (list ∷ lists) (p ∷ placed) (one, rest) =
+    (delisted_one y user list p one, rest)
+delisted_held y user (suc file) (list ∷ lists) (p ∷ placed) (one, rest) =
+    (one, delisted_held y user file lists placed rest)
 
-more_held : (y : Layers) (list : ℕ) (p : Place) (lists : List ℕ) (placed : List Place)
-    → p.node < length y.base → Within list (holders y p.node) → AreHeld y lists placed
+more_held : (y : Layers) (list : Option ℕ) (p : Option Place) (lists : List (Option ℕ))
+    (placed : List (Option Place))
+    → IsHeld y list p → AreHeld y lists placed
     → AreHeld y (lists ++ list ∷ []) (placed ++ p ∷ [])
-more_held y list p [] [] there held h = (there, held, tt)
-more_held y list p [] (q ∷ placed) there held h = absurd h
-more_held y list p (other ∷ lists) [] there held h = absurd h
-more_held y list p (other ∷ lists) (q ∷ placed) there held (first, within, rest) =
-    (first, within, more_held y list p lists placed there held rest)
+more_held y list p [] [] one h = (one, tt)
+more_held y list p [] (q ∷ placed) one h = absurd h
+more_held y list p (other ∷ lists) [] one h = absurd h
+more_held y list p (other ∷ lists) (q ∷ placed) one (first, rest) =
+    (first, more_held y list p lists placed one rest)
 
 -- the lists after an update lie within the holders after it
-pub held_after : (y : Layers) (lists : List ℕ) (u : Update) → AreHeld y lists y.files
+pub held_after : (y : Layers) (lists : List (Option ℕ)) (u : Update) → AreHeld y lists y.files
     → AreHeld (grown y u) (lists_after lists u) (grown y u).files
 held_after y lists (Enrolled user) h =
     still_held y (grown y (Enrolled user)) lists y.files (enrol_grows y user) h
@@ -126,10 +165,12 @@ held_after y lists (Created file list size) h =
     let z : Layers = grown y (Created file list size) in
     let node : ℕ = node_for y.base list in
     let own = with_set-has y.base list in
-    more_held z list (record { node = node; surface = None; generation = y.epoch + 1 }) lists
-    y.files own.0
-    (λ u one. (holders_are z.base y.accesses node u).1
-    (inl (subst (λ set. Has set u) (sym own.1) one)))
+    more_held z (Some list)
+    (Some (record { node = node; surface = None; generation = y.epoch + 1 })) lists y.files (
+      own.0,
+      λ u one. (holders_are z.base y.accesses node u).1
+          (inl (subst (λ set. Has set u) (sym own.1) one)),
+    )
     (still_held y z lists y.files (create_grows y file list size) h)
 held_after y lists (Granted user file) h =
     let z : Layers = grown y (Granted user file) in
@@ -142,14 +183,14 @@ held_after y lists (Revoked user file) h =
 
 -- ---- files that are placed
 
-pub held_files : (y : Layers) (files : List Filed)
-    → ((file : ℕ) (f : Filed) → slice_get files file ≡ Some f
+pub held_files : (y : Layers) (files : List (Option Filed))
+    → ((file : ℕ) (f : Filed) → living_at files file ≡ Some f
     → (f.node < length y.base) × Within (list_at y (place_of_file f)) (holders y f.node))
     → AreHeld y (lists_at y (places files)) (places files)
 held_files y [] each = tt
-held_files y (f ∷ files) each =
-    let first = each 0 f refl in
-    (first.0, first.1, held_files y files (λ file g is. each (suc file) g is))
+held_files y (None ∷ files) each = (tt, held_files y files (λ file g is. each (suc file) g is))
+held_files y (Some f ∷ files) each =
+    (each 0 f refl, held_files y files (λ file g is. each (suc file) g is))
 
 -- ---- holders are users
 
@@ -175,17 +216,24 @@ pub wanted-is : (mode : Mode) (list held set : ℕ) → wanted_surface mode list
 wanted-is Full list held set e = cc
 wanted-is Delta list held set e = none_where-is (list == held) list set e
 
-pub wants_below : (users : ℕ) (y : Layers) (lists : List ℕ) (placed : List Place)
+want_below : (users : ℕ) (y : Layers) (list : Option ℕ) (p : Option Place) → IsHeld y list p
+    → ((node : ℕ) → node < length y.base → IsBelow users (holders y node))
+    → (set : ℕ) → want_at y list p ≡ Some set → IsBelow users set
+want_below users y None None h below set is = absurd (cc)
+want_below users y None (Some p) h below set is = absurd h
+want_below users y (Some list) None h below set is = absurd h
+want_below users y (Some list) (Some p) (node, held) below set is =
+    subst (λ s. IsBelow users s) (wanted-is y.mode list (holders y p.node) set is)
+    (IsBelow-Within users list (holders y p.node) held (below p.node node))
+
+pub wants_below : (users : ℕ) (y : Layers) (lists : List (Option ℕ)) (placed : List (Option Place))
     → AreHeld y lists placed
     → ((node : ℕ) → node < length y.base → IsBelow users (holders y node))
     → (set : ℕ) → Contains (wants_at y lists placed) (Some set) → IsBelow users set
 wants_below users y [] placed h below set there = absurd (Contains-none (Some set) there)
 wants_below users y (list ∷ lists) [] h below set there = absurd h
-wants_below users y (list ∷ lists) (p ∷ placed) (node, held, rest) below set there =
-    elim
-    (Contains-cases (wanted_surface y.mode list (holders y p.node)) (wants_at y lists placed)
-    (Some set) there) [
-      | inl is ↦ subst (λ s. IsBelow users s) (wanted-is y.mode list (holders y p.node) set is)
-          (IsBelow-Within users list (holders y p.node) held (below p.node node))
+wants_below users y (list ∷ lists) (p ∷ placed) (one, rest) below set there =
+    elim (Contains-cases (want_at y list p) (wants_at y lists placed) (Some set) there) [
+      | inl is ↦ want_below users y list p one below set is
       | inr later ↦ wants_below users y lists placed rest below set later
     ]

@@ -1,7 +1,7 @@
 -- What a store shows stays sound.
 use Rattle.std.proofs.Common.{◌≡◌, ℕ, ◌≤◌, List, [], ◌∷◌, length, refl, sym, subst, arith}
 use Rattle.std.proofs.Common.{length-append}
-use Rattle.std.specs.Prelude.{Contains, Option, Some, slice_get}
+use Rattle.std.specs.Prelude.{Contains, Option, Some}
 use Rattle.ov_base.specs.Sets.{IsBelow}
 use Rattle.ov_base.specs.declared.limits.TheConstants.{MAX_LAYER_NODES}
 use Rattle.ov_graph.proofs.ListLaws.{Contains-none}
@@ -22,9 +22,10 @@ use Rattle.ov_history.proofs.SoundLayers.{formed_with, layer-formed}
 use Rattle.ov_history.proofs.SoundLists.{AreHeld, held_after, held_files, holders_below, still_held}
 use Rattle.ov_history.proofs.SoundLists.{wants_below}
 use Rattle.ov_history.proofs.SoundTests.{IsFine, accepted}
+use Rattle.ov_history.specs.Places.{living_at}
 
 -- what is shown while its files have yet to get their wanted surfaces for these lists
-pub record IsReady (c : Catalogue) (lists : List ℕ) : Type 0 where
+pub record IsReady (c : Catalogue) (lists : List (Option ℕ)) : Type 0 where
   pub base : IsFormed (length c.users) c.base
   pub surface : IsFormed (length c.users) c.surface
   pub accesses : AreFirst (length c.users) c.base.sets (accesses_of c.grants)
@@ -80,7 +81,7 @@ ready_after c b sound fine parts = record {
       held_files (outline c) c.files
       (λ file f is. let placed = sound.files file f is in (placed.base, placed.list))
 
-settled_sound : (master : List ℕ) (c : Catalogue) (lists : List ℕ) → IsReady c lists
+settled_sound : (master : List ℕ) (c : Catalogue) (lists : List (Option ℕ)) → IsReady c lists
     → length c.base.sets ≤ MAX_LAYER_NODES
     → length (with_wants c.surface.sets (wants_of (outline c) lists)) ≤ MAX_LAYER_NODES
     → IsSound (settled_catalogue master c lists)
@@ -105,7 +106,7 @@ settled_sound master c lists ready few_base few_surface = record {
   wanted_below = wants_below (length c.users) (outline c) lists (places c.files) ready.held
       (holders_below (length c.users) (outline c) ready.base.below ready.accesses)
 
-  placed : (file : ℕ) (f : Filed) → slice_get after.files file ≡ Some f → IsPlaced after f
+  placed : (file : ℕ) (f : Filed) → living_at after.files file ≡ Some f → IsPlaced after f
   placed file f is =
       all_placed c.epoch after (outline c) lists c.files
       (still_held (outline c) (outline after) lists (places c.files)
@@ -113,14 +114,14 @@ settled_sound master c lists ready few_base few_surface = record {
       (λ set there. subst (λ sets. Contains sets set) (sym same)
       (with_wants-Contains wants c.surface.sets set there))
       file f
-      (subst (λ sets. slice_get (settled_files c.epoch sets wants c.files) file ≡ Some f)
+      (subst (λ sets. living_at (settled_files c.epoch sets wants c.files) file ≡ Some f)
       (sym same) is)
 
 pub sound_after : SoundGoesOn
 sound_after master c b sound refused parts =
     let passed = accepted c b refused in
     let grows = outline-grown c b parts in
-    let lists : List ℕ = lists_after (lists_of (outline c)) (outer b) in
+    let lists : List (Option ℕ) = lists_after (lists_of (outline c)) (outer b) in
     settled_sound master (grown_catalogue c b) lists (ready_after c b sound passed.0 parts)
     (subst (λ (y : Layers). length y.base ≤ MAX_LAYER_NODES) (sym grows) passed.1.base)
     (subst (λ (y : Layers). length (with_wants y.surface (wants_of y lists)) ≤ MAX_LAYER_NODES)

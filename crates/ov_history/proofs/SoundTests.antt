@@ -1,6 +1,6 @@
 -- What holds of an update that isn't refused.
 use Rattle.std.proofs.Common.{◌≡◌, ℕ, suc, ◌<◌, ◌≤◌, true, false, List, [], ◌∷◌, length, refl, ap}
-use Rattle.std.proofs.Common.{arith, inl, inr}
+use Rattle.std.proofs.Common.{arith, inl, inr, ◌∙◌}
 use Rattle.std.specs.Prelude.{not, nat_lt, None}
 use Rattle.std.proofs.lemmas.Bool.{cases_lt, or_parts}
 use Rattle.std.proofs.lemmas.Nat.Bits.{bit_at_ones_above}
@@ -14,12 +14,24 @@ use Rattle.ov_history.specs.Refusals.{Test, first_of_tests, is_past_nodes, tests
 use Rattle.ov_history.specs.Briefs.{Brief, BriefCreate, BriefEnrol, BriefGrant, BriefRevoke, outer}
 use Rattle.ov_history.specs.Catalogue.{Catalogue, Filed, files_shown, matrix_shown, outline}
 use Rattle.ov_history.specs.Sealed.{refusal_shown}
+use Rattle.std.specs.Prelude.{Option}
+use Rattle.ov_history.specs.Lists.{no_file}
+use Rattle.std.specs.Prelude.{option_map}
+use Rattle.std.specs.Prelude.{Some}
+use Rattle.std.specs.Prelude.{is_some}
+use Rattle.std.specs.Prelude.{zero}
+use Rattle.ov_history.specs.Places.{living_at}
+use Rattle.ov_history.specs.History.{File}
+use Rattle.ov_history.specs.Catalogue.{file_shown}
+use Rattle.ov_history.specs.Lists.{is_file}
+use Rattle.std.proofs.Common.{sym}
 
 -- the users and the file of the update are there
 abbrev pub IsFine : Catalogue → Brief → Type 0
 IsFine c (BriefEnrol user) = Unit {0}
 IsFine c (BriefCreate file list tokens tag size) = IsBelow (length c.users) list
-IsFine c (BriefGrant user file token) = (user < length c.users) × (file < length c.files)
+IsFine c (BriefGrant user file token) =
+    (user < length c.users) × (is_some (living_at c.files file) ≡ true)
 IsFine c (BriefRevoke user file) = Unit {0}
 
 -- neither layer has too many nodes
@@ -54,7 +66,7 @@ everyone_below users user one = elim (cases_lt user users) [
       absurd (omega (arith, bit_at_ones_above users user above, Has-bit (everyone users) user one))
 ]
 
-pub files_shown-length : (y : Layers) (files : List Filed)
+pub files_shown-length : (y : Layers) (files : List (Option Filed))
     → length (files_shown y files) ≡ length files
 files_shown-length y [] = refl
 files_shown-length y (f ∷ files) = ap suc (files_shown-length y files)
@@ -62,15 +74,23 @@ files_shown-length y (f ∷ files) = ap suc (files_shown-length y files)
 pub is_below : (n many : ℕ) → not (nat_lt n many) ≡ false → n < many
 is_below n many e = lt_of_true n many (true_of_not (nat_lt n many) e)
 
-file_is : (file : ℕ) (c : Catalogue)
-    → not (nat_lt file (length (files_shown (outline c) c.files))) ≡ false
-    → file < length c.files
+-- a file is shown where the catalogue has it
+pub shown_there : (y : Layers) (files : List (Option Filed)) (file : ℕ)
+    → living_at (files_shown y files) file ≡ option_map (file_shown y) (living_at files file)
+shown_there y [] file = refl
+shown_there y (f ∷ files) zero = refl
+shown_there y (f ∷ files) (suc file) = shown_there y files file
+
+pub is_some-map : {A B : Type 0} (f : A → B) (o : Option A) → is_some (option_map f o) ≡ is_some o
+is_some-map f None = refl
+is_some-map f (Some x) = refl
+
+pub file_is : (file : ℕ) (c : Catalogue) → not (is_file (matrix_shown c) file) ≡ false
+    → is_some (living_at c.files file) ≡ true
 file_is file c e =
-    omega (
-      arith,
-      is_below file (length (files_shown (outline c) c.files)) e,
-      files_shown-length (outline c) c.files,
-    )
+    sym (is_some-map (file_shown (outline c)) (living_at c.files file))
+    ∙ ap (λ (o : Option File). is_some o) (sym (shown_there (outline c) c.files file))
+    ∙ true_of_not (is_file (matrix_shown c) file) e
 
 -- an update that isn't refused is fine, and leaves few nodes
 pub accepted : (c : Catalogue) (b : Brief) → refusal_shown c b ≡ None

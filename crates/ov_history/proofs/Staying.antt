@@ -14,13 +14,19 @@ use Rattle.ov_history.specs.Layers.{lists_after, lists_of, no_place, node_for, w
 use Rattle.ov_history.specs.Layers.{with_wants}
 use Rattle.ov_history.specs.Words.{HasFile, longer, place_in}
 use Rattle.ov_history.specs.WordLaws.{BaseNodeIsOfList, NodesStay}
-use Rattle.ov_history.proofs.ChangeLaws.{length-change_at}
+use Rattle.ov_history.proofs.ChangeLaws.{below_some, is_some-change, length-change_at}
+use Rattle.std.proofs.lemmas.List.{get_or_append_left}
 use Rattle.ov_history.proofs.Generations.{grown_file}
 use Rattle.ov_history.proofs.Listing.{settled_at-node}
 use Rattle.ov_history.proofs.MatrixLaws.{files_of-layers_of}
 use Rattle.ov_history.proofs.PlanLaws.{with_set-has}
 use Rattle.ov_history.proofs.Pushing.{layers_of-push, matrix_of-push, with_updates, with_updates-is}
 use Rattle.ov_history.proofs.Wanting.{file_below, place_at, settled_after, wanted_in}
+use Rattle.std.specs.Prelude.{option_map}
+use Rattle.std.specs.Prelude.{unwrap_or}
+use Rattle.std.specs.Prelude.{is_some}
+use Rattle.ov_history.specs.History.{File}
+use Rattle.ov_history.specs.Lists.{is_file}
 
 -- ---- sets
 
@@ -90,15 +96,55 @@ nodes_stay h more node set = let both = longer_stays h more in (both.0 node set,
 
 -- ---- files
 
-files_stay : (m : Matrix) (u : Update) (file : ℕ) → file < length m.files
+-- a number that was given stays given
+number_stays : (m : Matrix) (u : Update) (file : ℕ) → file < length m.files
     → file < length (changed m u).files
-files_stay m (Enrolled name) file below = below
-files_stay m (Created name list size) file below =
-    omega (arith, length-append m.files (record { name = name; length = size; list = list } ∷ []))
-files_stay m (Granted user place) file below =
-    omega (arith, length-change_at (listed user) place m.files)
-files_stay m (Revoked user place) file below =
-    omega (arith, length-change_at (delisted user) place m.files)
+number_stays m (Enrolled name) file below = below
+number_stays m (Created name list size) file below =
+    omega (
+      arith,
+      length-append m.files (Some (record { name = name; length = size; list = list }) ∷ []),
+    )
+number_stays m (Granted user place) file below =
+    omega (arith, length-change_at (option_map (listed user)) place m.files)
+number_stays m (Revoked user place) file below =
+    omega (arith, length-change_at (option_map (delisted user)) place m.files)
+
+pub numbers_stay : (h : History) (more : List Update) (file : ℕ)
+    → file < length (matrix_of h).files → file < length (matrix_of (longer h more)).files
+numbers_stay h more file below =
+    subst (λ (g : History). file < length (matrix_of g).files) (with_updates-is h more)
+    (along h more below) where
+      along : (h : History) (more : List Update) → file < length (matrix_of h).files
+          → file < length (matrix_of (with_updates h more)).files
+      along h [] below = below
+      along h (u ∷ more) below =
+          along (with_update h u) more
+          (subst (λ (m : Matrix). file < length m.files) (sym (matrix_of-push h u))
+          (number_stays (matrix_of h) u file below))
+
+-- and a file that was gone stays gone
+was_there : (m : Matrix) (u : Update) (file : ℕ) → file < length m.files
+    → is_file (changed m u) file ≡ true → is_file m file ≡ true
+was_there m (Enrolled name) file below there = there
+was_there m (Created name list size) file below there =
+    ap (λ (o : Option File). is_some o)
+    (sym (get_or_append_left m.files
+    (Some (record { name = name; length = size; list = list }) ∷ []) None file below)) ∙ there
+was_there m (Granted user place) file below there =
+    sym (is_some-change (listed user) place m.files file) ∙ there
+was_there m (Revoked user place) file below there =
+    sym (is_some-change (delisted user) place m.files file) ∙ there
+
+pub was_there-all : (h : History) (more : List Update) (file : ℕ)
+    → file < length (matrix_of h).files → HasFile (with_updates h more) file → HasFile h file
+was_there-all h [] file below there = there
+was_there-all h (u ∷ more) file below there =
+    was_there (matrix_of h) u file below
+    (subst (λ (m : Matrix). is_file m file ≡ true) (matrix_of-push h u)
+    (was_there-all (with_update h u) more file
+    (subst (λ (m : Matrix). file < length m.files) (sym (matrix_of-push h u))
+    (number_stays (matrix_of h) u file below)) there))
 
 node_stays : (y : Layers) (u : Update) (file : ℕ) → file < length y.files
     → (place_at (layers_after y u).files file).node ≡ (place_at y.files file).node
@@ -109,36 +155,34 @@ node_stays y u file below =
     (wanted_in (layers_after y u) file) (place_at (grown y u).files file)
     ∙ ap (λ (p : Place). p.node) there.1
 
--- a file is there still, and has its base node
-pub record IsStill (h next : History) (file : ℕ) : Type 0 where
-  pub there : HasFile next file
-  pub node : (place_in next file).node ≡ (place_in h file).node
+-- a file that is there still has its base node
+node-push : (h : History) (u : Update) (file : ℕ) → HasFile h file
+    → HasFile (with_update h u) file
+    → (place_in (with_update h u) file).node ≡ (place_in h file).node
+node-push h u file there still =
+    subst (λ (y : Layers). (place_at y.files file).node ≡ (place_in h file).node)
+    (sym (layers_of-push h u))
+    (node_stays (layers_of h) u file (file_below h file there))
 
-still-push : (h : History) (u : Update) (file : ℕ) → HasFile h file
-    → IsStill h (with_update h u) file
-still-push h u file there = record {
-  there =
-      subst (λ (m : Matrix). file < length m.files) (sym (matrix_of-push h u))
-      (files_stay (matrix_of h) u file there);
-  node =
-      subst (λ (y : Layers). (place_at y.files file).node ≡ (place_in h file).node)
-      (sym (layers_of-push h u))
-      (node_stays (layers_of h) u file (file_below h file there));
-}
-
-still-all : (h : History) (more : List Update) (file : ℕ) → HasFile h file
-    → IsStill h (with_updates h more) file
-still-all h [] file there = record { there = there; node = refl }
-still-all h (u ∷ more) file there =
-    let one = still-push h u file there in
-    let all = still-all (with_update h u) more file one.there in
-    record { there = all.there; node = all.node ∙ one.node }
+node-all : (h : History) (more : List Update) (file : ℕ) → HasFile h file
+    → HasFile (with_updates h more) file
+    → (place_in (with_updates h more) file).node ≡ (place_in h file).node
+node-all h [] file there still = refl
+node-all h (u ∷ more) file there still =
+    let below : file < length (matrix_of (with_update h u)).files =
+    subst (λ (m : Matrix). file < length m.files) (sym (matrix_of-push h u))
+    (number_stays (matrix_of h) u file (below_some (matrix_of h).files file there)) in
+    let next : HasFile (with_update h u) file =
+    was_there-all (with_update h u) more file below still in
+    node-all (with_update h u) more file next still ∙ node-push h u file there next
 
 pub file_stays : (h : History) (more : List Update) (file : ℕ) → HasFile h file
-    → IsStill h (longer h more) file
-file_stays h more file there =
-    subst (λ (next : History). IsStill h next file) (with_updates-is h more)
-    (still-all h more file there)
+    → HasFile (longer h more) file
+    → (place_in (longer h more) file).node ≡ (place_in h file).node
+file_stays h more file there still =
+    subst (λ (next : History). HasFile next file
+    → (place_in next file).node ≡ (place_in h file).node) (with_updates-is h more)
+    (node-all h more file there) still
 
 -- ---- the node of a list
 
@@ -151,12 +195,13 @@ created_at y name list size =
     let n : ℕ = length y.files in
     let new : Place =
     record { node = node_for y.base list; surface = None; generation = y.epoch + 1 } in
-    let below : n < length (y.files ++ new ∷ []) =
-    omega (arith, length-append y.files (new ∷ [])) in
+    let below : n < length (y.files ++ Some new ∷ []) =
+    omega (arith, length-append y.files (Some new ∷ [])) in
     ap (λ (p : Place). p.node) (settled_after y u n below)
     ∙ settled_at-node (grown y u).epoch (layers_after y u).surface (wanted_in (layers_after y u) n)
     (place_at (grown y u).files n)
-    ∙ ap (λ (p : Place). p.node) (last_item y.files new n no_place refl)
+    ∙ ap (λ (o : Option Place). (unwrap_or o no_place).node)
+    (last_item y.files (Some new) n None refl)
 
 -- the node of a new file has the file's list
 created_list : (h : History) (name : List ℕ) (list size : ℕ)
@@ -180,16 +225,14 @@ created_list h name list size =
     (sym (created_at y name list size)) found))
 
 pub base_node_is_of_list : BaseNodeIsOfList
-base_node_is_of_list h name list size more =
+base_node_is_of_list h name list size more still =
     let next : History = with_update h (Created name list size) in
     let n : ℕ = length (matrix_of h).files in
     let there : HasFile next n =
-    subst (λ (m : Matrix). n < length m.files) (sym (matrix_of-push h (Created name list size)))
-    (omega (
-      arith,
-      length-append (matrix_of h).files
-          (record { name = name; length = size; list = list } ∷ []),
-    )) in
+    subst (λ (m : Matrix). is_file m n ≡ true) (sym (matrix_of-push h (Created name list size)))
+    (ap (λ (o : Option File). is_some o)
+    (last_item (matrix_of h).files (Some (record { name = name; length = size; list = list })) n None
+    refl)) in
     subst (λ node. slice_get (layers_of (longer next more)).base node ≡ Some list)
-    (sym (file_stays next more n there).node)
+    (sym (file_stays next more n there still))
     ((longer_stays next more).0 (place_in next n).node list (created_list h name list size))

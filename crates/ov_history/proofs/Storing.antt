@@ -1,10 +1,9 @@
 -- What is stored of a file is its text as it was sent, under the coat of its surface.
-use Rattle.std.proofs.Common.{◌≡◌, ◌<◌, ◌+◌, ℕ, zero, suc, Bool, true, false, List, [], ◌∷◌, ◌++◌, length, refl, sym, ◌∙◌}
+use Rattle.std.proofs.Common.{◌≡◌, ◌⊎◌, ◌≤◌, ◌<◌, ◌+◌, ℕ, zero, suc, Bool, true, false, List, [], ◌∷◌, ◌++◌, length, refl, sym, ◌∙◌}
 use Rattle.std.proofs.Common.{ap, subst, arith, inl, inr, length-append}
 use Rattle.std.specs.Prelude.{Option, None, slice_index_or}
 use Rattle.std.proofs.lemmas.Bool.{cases_lt}
 use Rattle.std.proofs.lemmas.List.{get_or_append_left, get_or_past}
-use Rattle.std.proofs.lemmas.Option.{get_or_from_slice_get, slice_get_within}
 use Rattle.ov_graph.proofs.GraphLaws.{last_item}
 use Rattle.ov_record.specs.Updates.{SealedUpdate, SealedEnrol, SealedCreate, SealedGrant}
 use Rattle.ov_record.specs.Updates.{SealedRevoke}
@@ -14,18 +13,28 @@ use Rattle.ov_history.specs.Layers.{lists_after, lists_of, node_for, same_surfac
 use Rattle.ov_history.specs.Layers.{wants_of, with_wants}
 use Rattle.ov_history.specs.Briefs.{Brief, brief, outer, text_of}
 use Rattle.ov_history.specs.Catalogue.{Catalogue, Filed, catalogue_after, empty_catalogue}
-use Rattle.ov_history.specs.Catalogue.{grown_catalogue, no_filed, outline, refiled, settled_files}
+use Rattle.ov_history.specs.Catalogue.{grown_catalogue, outline, refiled, settled_files}
 use Rattle.ov_history.specs.Rewrites.{AreCoated, files_after, restored, rewrites_from, rewrites_of}
 use Rattle.ov_history.specs.Rewrites.{rewritten_all, stored_after, surface_key, with_text}
 use Rattle.ov_history.specs.Sealed.{SealedHistory, catalogue_all, catalogue_of, sent_all, sent_of}
 use Rattle.ov_history.specs.Sealed.{stored_all, stored_of}
 use Rattle.ov_history.specs.KeptLaws.{StoredIsCoated}
 use Rattle.ov_history.proofs.Rewriting.{length-rewritten_all, restored-under, rewritten-each}
+use Rattle.std.specs.Prelude.{Some}
+use Rattle.ov_history.specs.Rewrites.{surface_left}
+use Rattle.ov_history.specs.Places.{living_at}
 
 -- ---- files and texts
 
+-- a file that is there has a number below how many there are
+pub living_below : {A : Type 0} (xs : List (Option A)) (n : ℕ) (x : A) → living_at xs n ≡ Some x
+    → n < length xs
+living_below [] n x is = absurd (cc)
+living_below (y ∷ xs) zero x is = omega arith
+living_below (y ∷ xs) (suc n) x is = omega (arith, living_below xs n x is)
+
 pub length-settled_files : (epoch : ℕ) (sets : List ℕ) (wants : List (Option ℕ))
-    (files : List Filed)
+    (files : List (Option Filed))
     → length (settled_files epoch sets wants files) ≡ length files
 length-settled_files epoch sets [] files = refl
 length-settled_files epoch sets (want ∷ wants) [] = refl
@@ -41,41 +50,71 @@ length-files_after c b =
     wants_of (outline next) (lists_after (lists_of (outline c)) (outer b)) in
     length-settled_files next.epoch (with_wants next.surface.sets wants) wants next.files
 
--- a new surface is no change of a file's number of bytes
-refiled_size : (b : Bool) (epoch : ℕ) (surface : Option ℕ) (f : Filed)
-    → (refiled b epoch surface f).length ≡ f.length
-refiled_size true epoch surface f = refl
-refiled_size false epoch surface f = refl
+-- the same file, with another surface perhaps
+pub record IsSameFile (f now : Filed) : Type 0 where
+  pub name : now.name ≡ f.name
+  pub node : now.node ≡ f.node
+  pub tag : now.tag ≡ f.tag
+  pub length_is : now.length ≡ f.length
 
-pub settled_size : (epoch : ℕ) (sets : List ℕ) (wants : List (Option ℕ)) (files : List Filed)
-    (n : ℕ)
-    → (slice_index_or (settled_files epoch sets wants files) n no_filed).length
-    ≡ (slice_index_or files n no_filed).length
-settled_size epoch sets [] files n = refl
-settled_size epoch sets (want ∷ wants) [] n = refl
-settled_size epoch sets (want ∷ wants) (f ∷ files) zero =
+refiled_still : (b : Bool) (epoch : ℕ) (surface : Option ℕ) (f : Filed)
+    → IsSameFile f (refiled b epoch surface f)
+refiled_still true epoch surface f =
+    record { name = refl; node = refl; tag = refl; length_is = refl }
+refiled_still false epoch surface f =
+    record { name = refl; node = refl; tag = refl; length_is = refl }
+
+-- a file that is settled was there, and is the same
+abbrev pub WasThere : List (Option Filed) → ℕ → Filed → Type 0
+WasThere files n now = (f : Filed) × (living_at files n ≡ Some f) × IsSameFile f now
+
+pub settled_still : (epoch : ℕ) (sets : List ℕ) (wants : List (Option ℕ))
+    (files : List (Option Filed)) (n : ℕ) (now : Filed)
+    → living_at (settled_files epoch sets wants files) n ≡ Some now → WasThere files n now
+settled_still epoch sets [] files n now is =
+    (now, is, record { name = refl; node = refl; tag = refl; length_is = refl })
+settled_still epoch sets (want ∷ wants) [] n now is = absurd (cc)
+settled_still epoch sets (want ∷ wants) (None ∷ files) zero now is = absurd (cc)
+settled_still epoch sets (want ∷ wants) (Some f ∷ files) zero now is =
     let surface : Option ℕ = surface_at sets want in
-    refiled_size (same_surface f.surface surface) epoch surface f
-settled_size epoch sets (want ∷ wants) (f ∷ files) (suc n) = settled_size epoch sets wants files n
-
-abbrev surface_in : List Filed → ℕ → Option ℕ
-surface_in files n = (slice_index_or files n no_filed).surface
+    let same : refiled (same_surface f.surface surface) epoch surface f ≡ now = cc in (
+      f,
+      refl,
+      subst (λ (g : Filed). IsSameFile f g) same
+          (refiled_still (same_surface f.surface surface) epoch surface f),
+    )
+settled_still epoch sets (want ∷ wants) (f ∷ files) (suc n) now is =
+    settled_still epoch sets wants files n now is
 
 -- These stored bytes are of the files now, each its text under the coat of its old surface, and
--- each text has as many bytes as its file now.
-record HasCoats (master : List ℕ) (old now : List Filed) (texts stored : List (List ℕ))
+-- each text has as many bytes as its file now. Nothing is said of files that are gone.
+pub record HasCoats (master : List ℕ) (old now : List (Option Filed)) (texts stored : List (List ℕ))
     : Type 0 where
-  texts_many : length texts ≡ length now
-  stored_many : length stored ≡ length now
-  sizes : (n : ℕ) → n < length now
-      → length (slice_index_or texts n []) ≡ (slice_index_or now n no_filed).length
-  coats : (n : ℕ) → n < length now
+  pub texts_many : length texts ≡ length now
+  pub stored_many : length stored ≡ length now
+  pub sizes : (n : ℕ) (f : Filed) → living_at now n ≡ Some f
+      → length (slice_index_or texts n []) ≡ f.length
+  pub coats : (n : ℕ) (f : Filed) → living_at now n ≡ Some f
       → slice_index_or stored n []
-      ≡ stored_under (surface_key master (surface_in old n)) n (slice_index_or texts n [])
+      ≡ stored_under (surface_key master (surface_left (living_at old n))) n
+      (slice_index_or texts n [])
 
 -- ---- one update
 
-module _ (master : List ℕ) (files : List Filed) (texts stored : List (List ℕ)) (f : Filed)
+-- the file of a number among these and one more
+pub with_last : (files : List (Option Filed)) (last : Option Filed) (n : ℕ) (f : Filed)
+    → living_at (files ++ last ∷ []) n ≡ Some f
+    → ((n < length files) × (living_at files n ≡ Some f))
+    ⊎ ((n ≡ length files) × (last ≡ Some f))
+with_last files last n f is = elim (cases_lt n (length files)) [
+  | inl old ↦ inl (old, sym (get_or_append_left files (last ∷ []) None n old) ∙ is)
+  | inr past ↦
+      let below : n < length (files ++ last ∷ []) = living_below (files ++ last ∷ []) n f is in
+      let here : n ≡ length files = omega (arith, length-append files (last ∷ [])) in
+      inr (here, sym (last_item files last n None here) ∙ is)
+]
+
+module _ (master : List ℕ) (files : List (Option Filed)) (texts stored : List (List ℕ)) (new : Filed)
     (text : List ℕ) (has : HasCoats master files files texts stored) where
   text_there : (n : ℕ) → n < length files
       → slice_index_or texts n [] ≡ slice_index_or (texts ++ text ∷ []) n []
@@ -84,43 +123,40 @@ module _ (master : List ℕ) (files : List Filed) (texts stored : List (List ℕ
   text_last : (n : ℕ) → n ≡ length files → text ≡ slice_index_or (texts ++ text ∷ []) n []
   text_last n here = sym (last_item texts text n [] (here ∙ sym has.texts_many))
 
-  more_sizes : length text ≡ f.length → (n : ℕ) → n < length (files ++ f ∷ [])
-      → length (slice_index_or (texts ++ text ∷ []) n [])
-      ≡ (slice_index_or (files ++ f ∷ []) n no_filed).length
-  more_sizes size n below = elim (cases_lt n (length files)) [
-    | inl old ↦
-        ap length (sym (text_there n old)) ∙ has.sizes n old
-        ∙ ap (λ (g : Filed). g.length) (sym (get_or_append_left files (f ∷ []) no_filed n old))
-    | inr past ↦
-        let here : n ≡ length files = omega (arith, length-append files (f ∷ [])) in
-        ap length (sym (text_last n here)) ∙ size
-        ∙ ap (λ (g : Filed). g.length) (sym (last_item files f n no_filed here))
+  more_sizes : length text ≡ new.length → (n : ℕ) (f : Filed)
+      → living_at (files ++ Some new ∷ []) n ≡ Some f
+      → length (slice_index_or (texts ++ text ∷ []) n []) ≡ f.length
+  more_sizes size n f is = elim (with_last files (Some new) n f is) [
+    | inl old ↦ ap length (sym (text_there n old.0)) ∙ has.sizes n f old.1
+    | inr last ↦
+        let same : new ≡ f = cc in
+        ap length (sym (text_last n last.0)) ∙ size ∙ ap (λ (g : Filed). g.length) same
   ]
 
   -- a new file has no surface yet
-  more_stored : (n : ℕ) → n < length (files ++ f ∷ [])
+  more_stored : (n : ℕ) (f : Filed) → living_at (files ++ Some new ∷ []) n ≡ Some f
       → slice_index_or (stored ++ text ∷ []) n []
-      ≡ stored_under (surface_key master (surface_in files n)) n
+      ≡ stored_under (surface_key master (surface_left (living_at files n))) n
       (slice_index_or (texts ++ text ∷ []) n [])
-  more_stored n below = elim (cases_lt n (length files)) [
+  more_stored n f is = elim (with_last files (Some new) n f is) [
     | inl old ↦
-        get_or_append_left stored (text ∷ []) [] n (omega (arith, has.stored_many))
-        ∙ has.coats n old
-        ∙ ap (λ plain. stored_under (surface_key master (surface_in files n)) n plain)
-        (text_there n old)
-    | inr past ↦
-        let here : n ≡ length files = omega (arith, length-append files (f ∷ [])) in
-        last_item stored text n [] (here ∙ sym has.stored_many)
-        ∙ ap (λ (g : Filed). stored_under (surface_key master g.surface) n text)
-        (sym (get_or_past files n no_filed past))
-        ∙ ap (λ plain. stored_under (surface_key master (surface_in files n)) n plain)
-        (text_last n here)
+        get_or_append_left stored (text ∷ []) [] n (omega (arith, has.stored_many, old.0))
+        ∙ has.coats n f old.1
+        ∙ ap (λ plain. stored_under (surface_key master (surface_left (living_at files n))) n plain)
+        (text_there n old.0)
+    | inr last ↦
+        let past : length files ≤ n = omega (arith, last.0) in
+        last_item stored text n [] (last.0 ∙ sym has.stored_many)
+        ∙ ap (λ (o : Option Filed). stored_under (surface_key master (surface_left o)) n text)
+        (sym (get_or_past files n None past))
+        ∙ ap (λ plain. stored_under (surface_key master (surface_left (living_at files n))) n plain)
+        (text_last n last.0)
   ]
 
-  more_coats : length text ≡ f.length
-      → HasCoats master files (files ++ f ∷ []) (texts ++ text ∷ []) (stored ++ text ∷ [])
+  more_coats : length text ≡ new.length
+      → HasCoats master files (files ++ Some new ∷ []) (texts ++ text ∷ []) (stored ++ text ∷ [])
   more_coats size =
-      let many = length-append files (f ∷ []) in record {
+      let many = length-append files (Some new ∷ []) in record {
         texts_many = omega (arith, has.texts_many, many, length-append texts (text ∷ []));
         stored_many = omega (arith, has.stored_many, many, length-append stored (text ∷ []));
         sizes = more_sizes size;
@@ -147,7 +183,7 @@ grown_coats master c texts stored (SealedGrant user file token) has = has
 grown_coats master c texts stored (SealedRevoke user file) has = has
 
 -- the files come to their new surfaces
-settled_coats : (master : List ℕ) (old files : List Filed) (texts stored : List (List ℕ))
+settled_coats : (master : List ℕ) (old files : List (Option Filed)) (texts stored : List (List ℕ))
     (epoch : ℕ) (sets : List ℕ) (wants : List (Option ℕ))
     → HasCoats master old files texts stored
     → HasCoats master old (settled_files epoch sets wants files) texts stored
@@ -155,25 +191,30 @@ settled_coats master old files texts stored epoch sets wants has =
     let many = length-settled_files epoch sets wants files in record {
       texts_many = has.texts_many ∙ sym many;
       stored_many = has.stored_many ∙ sym many;
-      sizes = λ n below.
-          has.sizes n (omega (arith, many)) ∙ sym (settled_size epoch sets wants files n);
-      coats = λ n below. has.coats n (omega (arith, many));
+      sizes = λ n now is.
+          let (f, was, still) = settled_still epoch sets wants files n now is in
+          has.sizes n f was ∙ sym still.length_is;
+      coats = λ n now is.
+          let (f, was, still) = settled_still epoch sets wants files n now is in
+          has.coats n f was;
     }
 
 -- after the rewrites all bytes are under the coats of the files' new surfaces
-rewritten_coats : (master : List ℕ) (old now : List Filed) (texts stored : List (List ℕ))
+rewritten_coats : (master : List ℕ) (old now : List (Option Filed)) (texts stored : List (List ℕ))
     → HasCoats master old now texts stored
     → HasCoats master now now texts (rewritten_all master (rewrites_from 0 old now) stored)
 rewritten_coats master old now texts stored has = record {
   texts_many = has.texts_many;
   stored_many = length-rewritten_all master (rewrites_from 0 old now) stored ∙ has.stored_many;
   sizes = has.sizes;
-  coats = λ n below.
-      let from : Option ℕ = surface_in old n in
-      let to : Option ℕ = surface_in now n in
-      rewritten-each master old now stored n below
-      ∙ ap (λ bytes. restored master from to n bytes) (has.coats n below)
-      ∙ restored-under master from to n (slice_index_or texts n []);
+  coats = λ n f is.
+      let from : Option ℕ = surface_left (living_at old n) in
+      let text : List ℕ = slice_index_or texts n [] in
+      rewritten-each master old now stored n f is
+      ∙ ap (λ bytes. restored master from f.surface n bytes) (has.coats n f is)
+      ∙ restored-under master from f.surface n text
+      ∙ ap (λ (o : Option Filed). stored_under (surface_key master (surface_left o)) n text)
+      (sym is);
 }
 
 coats_after : (master : List ℕ) (c : Catalogue) (texts stored : List (List ℕ)) (u : SealedUpdate)
@@ -204,40 +245,37 @@ coats_all master c texts stored (u ∷ updates) has =
     (stored_after master (rewrites_of c (brief u)) (text_of u) stored) updates
     (coats_after master c texts stored u has)
 
-coats_of : (master : List ℕ) (g : SealedHistory)
+pub coats_of : (master : List ℕ) (g : SealedHistory)
     → let files = (catalogue_of master g).files in
     HasCoats master files files (sent_of g) (stored_of master g)
 coats_of master g =
     coats_all master (empty_catalogue g.mode g.first) [] [] g.updates (record {
       texts_many = refl;
       stored_many = refl;
-      sizes = λ n below. absurd (omega arith);
-      coats = λ n below. absurd (omega arith);
+      sizes = λ n f is. absurd (cc);
+      coats = λ n f is. absurd (cc);
     })
 
 -- ---- the law
 
-coated : (master : List ℕ) (files : List Filed) (texts stored : List (List ℕ))
+pub coated : (master : List ℕ) (files : List (Option Filed)) (texts stored : List (List ℕ))
     → HasCoats master files files texts stored → AreCoated master files texts stored
 coated master files texts stored has = record {
   each = has.stored_many;
   lengths = λ file f is.
-      let below = slice_get_within files file f is in
-      let key : Option (List ℕ) = surface_key master (surface_in files file) in
-      ap length (has.coats file below)
+      let key : Option (List ℕ) = surface_key master (surface_left (living_at files file)) in
+      ap length (has.coats file f is)
       ∙ length-coated key file 0 (slice_index_or texts file [])
-      ∙ has.sizes file below
-      ∙ ap (λ (g : Filed). g.length) (get_or_from_slice_get files file f no_filed is);
+      ∙ has.sizes file f is;
   coats = λ file f is.
       let text : List ℕ = slice_index_or texts file [] in
-      has.coats file (slice_get_within files file f is)
-      ∙ ap (λ (g : Filed). stored_under (surface_key master g.surface) file text)
-      (get_or_from_slice_get files file f no_filed is);
+      has.coats file f is
+      ∙ ap (λ (o : Option Filed). stored_under (surface_key master (surface_left o)) file text) is;
 }
 
 pub stored_is_coated : StoredIsCoated
 stored_is_coated master c stored g (fit, is) kept =
-    let files : List Filed = (catalogue_of master g).files in
+    let files : List (Option Filed) = (catalogue_of master g).files in
     subst (λ (d : Catalogue). AreCoated master d.files (sent_of g) stored) (sym is)
     (subst (λ (bytes : List (List ℕ)). AreCoated master files (sent_of g) bytes) (sym kept)
     (coated master files (sent_of g) (stored_of master g) (coats_of master g)))

@@ -1,6 +1,6 @@
 -- The catalogue: all that a store publishes.
 use Rattle.std.specs.Prelude.{ℕ, ◌+◌, Bool, true, false, List, [], ◌∷◌, ◌++◌, length}
-use Rattle.std.specs.Prelude.{slice_index_or, Option, Some, None}
+use Rattle.std.specs.Prelude.{Option, Some, None, option_map, unwrap_or}
 use Rattle.ov_base.specs.Sets.{single}
 use Rattle.ov_base.specs.declared.mode.Mode.{Mode}
 use Rattle.ov_tokens.specs.declared.edge.Edge.{Edge}
@@ -11,6 +11,7 @@ use Rattle.ov_graph.specs.Contents.{joined, plan_of}
 use Rattle.ov_base_layer.specs.declared.grant.Grant.{Grant}
 use Rattle.ov_base_layer.specs.Holders.{accesses_of}
 use Rattle.ov_base_layer.specs.Seals.{cover_tokens}
+use Rattle.ov_history.specs.Places.{living_at}
 use Rattle.ov_history.specs.History.{File, Matrix}
 use Rattle.ov_history.specs.Layers.{Place, Layers, node_for, with_wants, wants_of, surface_at}
 use Rattle.ov_history.specs.Layers.{same_surface, lists_of, lists_after, list_at}
@@ -32,7 +33,7 @@ pub record Filed : Type 0 where
   pub length : ℕ
 
 -- the users by number, both layers, the access tokens in the order in which they were published,
--- and the files by number
+-- and the files by number, but for those that are gone
 pub record Catalogue : Type 0 where
   pub mode : Mode
   pub epoch : ℕ
@@ -40,7 +41,7 @@ pub record Catalogue : Type 0 where
   pub base : Nodes
   pub surface : Nodes
   pub grants : List Grant
-  pub files : List Filed
+  pub files : List (Option Filed)
 
 -- a layer without nodes
 abbrev pub no_nodes : Nodes
@@ -64,7 +65,7 @@ no_filed = record { name = []; node = 0; surface = None; generation = 0; tag = [
 
 -- the file of this number
 abbrev pub filed_at : Catalogue → ℕ → Filed
-filed_at c file = slice_index_or c.files file no_filed
+filed_at c file = unwrap_or (living_at c.files file) no_filed
 
 -- ---- what it says of layers and matrix
 
@@ -73,9 +74,9 @@ abbrev pub place_of_file : Filed → Place
 place_of_file f = record { node = f.node; surface = f.surface; generation = f.generation }
 
 -- where each of the files is in the layers
-abbrev pub places : List Filed → List Place
+abbrev pub places : List (Option Filed) → List (Option Place)
 places [] = []
-places (f ∷ files) = place_of_file f ∷ places files
+places (f ∷ files) = option_map place_of_file f ∷ places files
 
 -- the layers, without tokens and names
 abbrev pub outline : Catalogue → Layers
@@ -94,9 +95,9 @@ abbrev pub file_shown : Layers → Filed → File
 file_shown y f = record { name = f.name; length = f.length; list = list_at y (place_of_file f) }
 
 -- the files of the matrix, whose lists are read off the layers
-abbrev pub files_shown : Layers → List Filed → List File
+abbrev pub files_shown : Layers → List (Option Filed) → List (Option File)
 files_shown y [] = []
-files_shown y (f ∷ files) = file_shown y f ∷ files_shown y files
+files_shown y (f ∷ files) = option_map (file_shown y) f ∷ files_shown y files
 
 -- the matrix that the catalogue shows
 abbrev pub matrix_shown : Catalogue → Matrix
@@ -137,14 +138,14 @@ grown_catalogue c (BriefCreate file list tokens tag size) = record c {
   epoch = c.epoch + 1;
   base = with_node c.base list tokens;
   files = c.files
-      ++ record {
+      ++ Some (record {
         name = file;
         node = node_for c.base.sets list;
         surface = None;
         generation = c.epoch + 1;
         tag = tag;
         length = size;
-      }
+      })
       ∷ [];
 }
 grown_catalogue c (BriefGrant user file token) = record c {
@@ -178,11 +179,12 @@ settled_file epoch sets want f =
     refiled (same_surface f.surface (surface_at sets want)) epoch (surface_at sets want) f
 
 -- each of the files under the surface of its wanted set
-abbrev pub settled_files : ℕ → List ℕ → List (Option ℕ) → List Filed → List Filed
+abbrev pub settled_files : ℕ → List ℕ → List (Option ℕ) → List (Option Filed)
+    → List (Option Filed)
 settled_files epoch sets [] files = files
 settled_files epoch sets (want ∷ wants) [] = []
 settled_files epoch sets (want ∷ wants) (f ∷ files) =
-    settled_file epoch sets want f ∷ settled_files epoch sets wants files
+    option_map (settled_file epoch sets want) f ∷ settled_files epoch sets wants files
 
 -- the catalogue, where each file has the surface of its wanted set, under the surface master
 abbrev pub settled_under : List ℕ → Catalogue → List (Option ℕ) → Catalogue
@@ -192,7 +194,7 @@ settled_under master c wants = record c {
 }
 
 -- each file has its wanted surface for these lists, under the surface master
-abbrev pub settled_catalogue : List ℕ → Catalogue → List ℕ → Catalogue
+abbrev pub settled_catalogue : List ℕ → Catalogue → List (Option ℕ) → Catalogue
 settled_catalogue master c lists = settled_under master c (wants_of (outline c) lists)
 
 -- ---- one update

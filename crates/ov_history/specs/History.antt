@@ -1,5 +1,5 @@
 -- Histories of updates, and the access matrix that they make.
-use Rattle.std.specs.Prelude.{ℕ, ◌+◌, List, [], ◌∷◌, ◌++◌, length}
+use Rattle.std.specs.Prelude.{ℕ, ◌+◌, List, [], ◌∷◌, ◌++◌, length, Option, Some, option_map}
 use Rattle.ov_base.specs.Sets.{with, without}
 use Rattle.ov_base.specs.declared.mode.Mode.{Mode}
 use Rattle.ov_history.specs.Places.{change_at}
@@ -24,10 +24,10 @@ pub record File : Type 0 where
   pub length : ℕ
   pub list : ℕ
 
--- the names of the users and the files, each by number
+-- the names of the users and the files, each by number; of a file that is gone its number is left
 pub record Matrix : Type 0 where
   pub users : List (List ℕ)
-  pub files : List File
+  pub files : List (Option File)
 
 -- the file with the user in its list
 abbrev pub listed : ℕ → File → File
@@ -41,9 +41,11 @@ delisted user file = record file { list = without file.list user }
 abbrev pub changed : Matrix → Update → Matrix
 changed m (Enrolled user) = record m { users = m.users ++ user ∷ [] }
 changed m (Created file list size) =
-    record m { files = m.files ++ record { name = file; length = size; list = list } ∷ [] }
-changed m (Granted user file) = record m { files = change_at (listed user) file m.files }
-changed m (Revoked user file) = record m { files = change_at (delisted user) file m.files }
+    record m { files = m.files ++ Some (record { name = file; length = size; list = list }) ∷ [] }
+changed m (Granted user file) =
+    record m { files = change_at (option_map (listed user)) file m.files }
+changed m (Revoked user file) =
+    record m { files = change_at (option_map (delisted user)) file m.files }
 
 -- what all these updates make of the matrix, in order
 abbrev pub changed_all : Matrix → List Update → Matrix

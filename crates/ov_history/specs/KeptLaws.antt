@@ -1,9 +1,10 @@
 -- The laws of sealing, and of stores that keep a legal history that is sealed under two masters.
-use Rattle.std.specs.Prelude.{◌≡◌, ◌↔◌, ℕ, ◌<◌, List, [], ◌∷◌, length, slice_get, slice_index_or}
+use Rattle.std.specs.Prelude.{◌≡◌, ◌↔◌, ℕ, ◌<◌, List, [], ◌∷◌, length, slice_index_or}
 use Rattle.std.specs.Prelude.{Some, None, true}
 use Rattle.ov_base.specs.declared.mode.Mode.{Mode}
 use Rattle.ov_record.specs.Updates.{SealedUpdate}
 use Rattle.ov_surface.specs.Tags.{tag_of_file}
+use Rattle.ov_history.specs.Places.{living_at}
 use Rattle.ov_history.specs.History.{History, matrix_of, start_of, with_update}
 use Rattle.ov_history.specs.Plain.{PlainUpdate, PlainHistory, bytes_of, empty_plain, history_of}
 use Rattle.ov_history.specs.Plain.{measured, with_plain}
@@ -109,7 +110,7 @@ abbrev pub PublishedIsMatrix : Type 0
 PublishedIsMatrix =
     (k : Masters) (p : PlainHistory) (user file : ℕ) (f : Filed)
     → IsLegal (history_of p) → user < length (matrix_of (history_of p)).users
-    → slice_get (catalogue_of k.surface (sealed k p)).files file ≡ Some f
+    → living_at (catalogue_of k.surface (sealed k p)).files file ≡ Some f
     → HoldsFile (catalogue_of k.surface (sealed k p)) user f
     ↔ (is_listed (matrix_of (history_of p)) user file ≡ true)
 
@@ -140,7 +141,7 @@ EachIsStored =
 abbrev pub FilesAreFiled : Type 0
 FilesAreFiled =
     (k : Masters) (p : PlainHistory) (c : Catalogue) (stored : List (List ℕ)) (file : ℕ) (f : Filed)
-    → IsKept k p c → AreKept k p stored → slice_get c.files file ≡ Some f
+    → IsKept k p c → AreKept k p stored → living_at c.files file ≡ Some f
     → IsFiledAs k file (bytes_of p file) f (slice_index_or stored file [])
 
 -- what is stored of a file is its bytes under the pads of the keys of the labels that protect it,
@@ -148,7 +149,7 @@ FilesAreFiled =
 abbrev pub BytesLieUnderPads : Type 0
 BytesLieUnderPads =
     (k : Masters) (p : PlainHistory) (c : Catalogue) (stored : List (List ℕ)) (file : ℕ) (f : Filed)
-    → IsKept k p c → AreKept k p stored → slice_get c.files file ≡ Some f
+    → IsKept k p c → AreKept k p stored → living_at c.files file ≡ Some f
     → slice_index_or stored file [] ≡ padded k file (protecting f) (bytes_of p file)
 
 -- a reader who has the access key of a file's base node, and the key of its surface, where it has
@@ -156,7 +157,7 @@ BytesLieUnderPads =
 abbrev pub ReadersGetBytes : Type 0
 ReadersGetBytes =
     (k : Masters) (p : PlainHistory) (c : Catalogue) (stored : List (List ℕ)) (file : ℕ) (f : Filed)
-    → IsKept k p c → AreKept k p stored → slice_get c.files file ≡ Some f
+    → IsKept k p c → AreKept k p stored → living_at c.files file ≡ Some f
     → let text = slice_index_or stored file [] in
     let bytes = opened (access_key k.base f.node) (surface_key k.surface f.surface) file text in
     (bytes ≡ bytes_of p file) × (f.tag ≡ tag_of_file (access_key k.base f.node) file bytes)

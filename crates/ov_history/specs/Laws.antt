@@ -8,6 +8,7 @@ use Rattle.ov_base.specs.Refusals.{refusal_number}
 use Rattle.ov_record.specs.Updates.{SealedUpdate}
 use Rattle.ov_tokens.specs.declared.label.Kind.TheVariants.{Surface}
 use Rattle.ov_tokens.specs.declared.label.Label.{Label}
+use Rattle.ov_history.specs.Places.{living_at}
 use Rattle.ov_history.specs.History.{History, Matrix, Update, epoch_of, matrix_of}
 use Rattle.ov_history.specs.Lists.{is_listed}
 use Rattle.ov_history.specs.Layers.{layers_of}
@@ -30,7 +31,7 @@ abbrev pub ClosureIsMatrix : Type 0
 ClosureIsMatrix =
     (master : List ℕ) (g : SealedHistory) (user file : ℕ) (f : Filed)
     → IsSealed g → user < length (matrix_of (outer_of g)).users
-    → slice_get (catalogue_of master g).files file ≡ Some f
+    → living_at (catalogue_of master g).files file ≡ Some f
     → HoldsFile (catalogue_of master g) user f
     ↔ (is_listed (matrix_of (outer_of g)) user file ≡ true)
 
@@ -40,7 +41,7 @@ abbrev pub CoalitionIsMatrix : Type 0
 CoalitionIsMatrix =
     (master : List ℕ) (g : SealedHistory) (users : List ℕ) (file : ℕ) (f : Filed)
     → IsSealed g → ((user : ℕ) → Contains users user → user < length (matrix_of (outer_of g)).users)
-    → slice_get (catalogue_of master g).files file ≡ Some f
+    → living_at (catalogue_of master g).files file ≡ Some f
     → ReachesAll (catalogue_of master g) (IsRootOfSome (catalogue_of master g) users) (protecting f)
     ↔ ((user : ℕ) × Contains users user × (is_listed (matrix_of (outer_of g)) user file ≡ true))
 
@@ -137,15 +138,16 @@ HistoriesAreSound =
 -- a file that was there has another surface after the update, and this is its rewrite
 abbrev pub IsResurfaced : Catalogue → Brief → Rewrite → Type 0
 IsResurfaced c b r =
-    (f now : Filed) × (slice_get c.files r.file ≡ Some f)
-    × (slice_get (files_after c b) r.file ≡ Some now)
+    (f now : Filed) × (living_at c.files r.file ≡ Some f)
+    × (living_at (files_after c b) r.file ≡ Some now)
     × (f.surface ≢ now.surface)
     × (r ≡ record { file = r.file; length = now.length; old = f.surface; new = now.surface })
 
 -- a file is new with the update, and this is its rewrite
 abbrev pub IsNewFile : Catalogue → Brief → Rewrite → Type 0
 IsNewFile c b r =
-    (now : Filed) × (length c.files ≤ r.file) × (slice_get (files_after c b) r.file ≡ Some now)
+    (now : Filed) × (living_at c.files r.file ≡ None)
+    × (living_at (files_after c b) r.file ≡ Some now)
     × (r ≡ record { file = r.file; length = now.length; old = None; new = now.surface })
 
 -- the rewrites of an update are exactly those of the files that have another surface and of a new

@@ -1,12 +1,12 @@
 -- The two layers of sets that a history makes, and where each file is in them.
 use Rattle.std.specs.Prelude.{ℕ, ◌+◌, ◌==◌, Bool, true, false, List, [], ◌∷◌, ◌++◌, slice_index}
-use Rattle.std.specs.Prelude.{slice_index_or, Option, Some, None}
+use Rattle.std.specs.Prelude.{Option, Some, None, option_map, unwrap_or}
 use Rattle.ov_base.specs.Sets.{single, has, with, without}
 use Rattle.ov_base.specs.declared.mode.Mode.{Mode}
 use Rattle.ov_base_layer.specs.Holders.{Access, holders_in}
 use Rattle.ov_graph.specs.Contents.{plan_of}
 use Rattle.ov_surface.specs.Wanted.{wanted_surface}
-use Rattle.ov_history.specs.Places.{change_at}
+use Rattle.ov_history.specs.Places.{change_at, living_at}
 use Rattle.ov_history.specs.History.{Update, Enrolled, Created, Granted, Revoked, History}
 
 -- ---- sets of a layer
@@ -38,7 +38,7 @@ pub record Place : Type 0 where
   pub generation : ℕ
 
 -- The mode and the epoch, how many users there are, the sets of each layer by node, the accesses
--- that were given in addition, in order, and the files by number.
+-- that were given in addition, in order, and the files by number, but for those that are gone.
 pub record Layers : Type 0 where
   pub mode : Mode
   pub epoch : ℕ
@@ -46,7 +46,7 @@ pub record Layers : Type 0 where
   pub base : List ℕ
   pub surface : List ℕ
   pub accesses : List Access
-  pub files : List Place
+  pub files : List (Option Place)
 
 -- the layers of a store that begins empty
 abbrev pub no_layers : Mode → ℕ → Layers
@@ -70,7 +70,7 @@ no_place = record { node = 0; surface = None; generation = 0 }
 
 -- the base node of a file
 abbrev pub node_of : Layers → ℕ → ℕ
-node_of y file = (slice_index_or y.files file no_place).node
+node_of y file = (unwrap_or (living_at y.files file) no_place).node
 
 -- ---- who may read
 
@@ -84,20 +84,21 @@ abbrev pub list_at : Layers → Place → ℕ
 list_at y p = set_or y.surface p.surface (holders y p.node)
 
 -- the lists of the files at these places in the layers
-abbrev pub lists_at : Layers → List Place → List ℕ
+abbrev pub lists_at : Layers → List (Option Place) → List (Option ℕ)
 lists_at y [] = []
-lists_at y (p ∷ places) = list_at y p ∷ lists_at y places
+lists_at y (p ∷ places) = option_map (list_at y) p ∷ lists_at y places
 
 -- the lists of all files, by number
-abbrev pub lists_of : Layers → List ℕ
+abbrev pub lists_of : Layers → List (Option ℕ)
 lists_of y = lists_at y y.files
 
 -- the lists after an update
-abbrev pub lists_after : List ℕ → Update → List ℕ
+abbrev pub lists_after : List (Option ℕ) → Update → List (Option ℕ)
 lists_after lists (Enrolled user) = lists
-lists_after lists (Created file list size) = lists ++ list ∷ []
-lists_after lists (Granted user file) = change_at (λ list. with list user) file lists
-lists_after lists (Revoked user file) = change_at (λ list. without list user) file lists
+lists_after lists (Created file list size) = lists ++ Some list ∷ []
+lists_after lists (Granted user file) = change_at (option_map (λ list. with list user)) file lists
+lists_after lists (Revoked user file) =
+    change_at (option_map (λ list. without list user)) file lists
 
 -- ---- what an update adds
 
@@ -119,7 +120,8 @@ grown y (Created file list size) = record y {
   epoch = y.epoch + 1;
   base = with_set y.base list;
   files = y.files
-      ++ record { node = node_for y.base list; surface = None; generation = y.epoch + 1 } ∷ [];
+      ++ Some (record { node = node_for y.base list; surface = None; generation = y.epoch + 1 })
+      ∷ [];
 }
 grown y (Granted user file) = record y {
   epoch = y.epoch + 1;
@@ -129,15 +131,21 @@ grown y (Revoked user file) = record y { epoch = y.epoch + 1 }
 
 -- ---- surfaces
 
+-- the surface set that a file should have, from its list; none is wanted where it is gone
+abbrev pub want_at : Layers → Option ℕ → Option Place → Option ℕ
+want_at y None p = None
+want_at y (Some list) None = None
+want_at y (Some list) (Some p) = wanted_surface y.mode list (holders y p.node)
+
 -- the surface set that each file should have, from its list
-abbrev pub wants_at : Layers → List ℕ → List Place → List (Option ℕ)
+abbrev pub wants_at : Layers → List (Option ℕ) → List (Option Place) → List (Option ℕ)
 wants_at y [] places = []
 wants_at y (list ∷ lists) [] = []
 wants_at y (list ∷ lists) (p ∷ places) =
-    wanted_surface y.mode list (holders y p.node) ∷ wants_at y lists places
+    want_at y list p ∷ wants_at y lists places
 
 -- the surface set that each file should have, for these lists
-abbrev pub wants_of : Layers → List ℕ → List (Option ℕ)
+abbrev pub wants_of : Layers → List (Option ℕ) → List (Option ℕ)
 wants_of y lists = wants_at y lists y.files
 
 -- the sets, with each wanted set that is new, in order
@@ -169,11 +177,11 @@ settled_at epoch sets want p =
     moved (same_surface p.surface (surface_at sets want)) epoch (surface_at sets want) p
 
 -- each of the places with the surface of its wanted set
-abbrev pub settled_all : ℕ → List ℕ → List (Option ℕ) → List Place → List Place
+abbrev pub settled_all : ℕ → List ℕ → List (Option ℕ) → List (Option Place) → List (Option Place)
 settled_all epoch sets [] places = places
 settled_all epoch sets (want ∷ wants) [] = []
 settled_all epoch sets (want ∷ wants) (p ∷ places) =
-    settled_at epoch sets want p ∷ settled_all epoch sets wants places
+    option_map (settled_at epoch sets want) p ∷ settled_all epoch sets wants places
 
 -- the layers, where each file has the surface of its wanted set
 abbrev pub settled_by : Layers → List (Option ℕ) → Layers
@@ -183,7 +191,7 @@ settled_by y wants = record y {
 }
 
 -- the layers, where each file has its wanted surface for these lists
-abbrev pub settled : Layers → List ℕ → Layers
+abbrev pub settled : Layers → List (Option ℕ) → Layers
 settled y lists = settled_by y (wants_of y lists)
 
 -- ---- histories

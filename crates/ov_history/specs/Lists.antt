@@ -1,14 +1,19 @@
 -- The users, files and access lists of the matrix, by number and by name.
 use Rattle.std.specs.Prelude.{ℕ, ◌+◌, ◌-◌, ◌^◌, Bool, true, false, nat_lt, List, [], ◌∷◌, ◌++◌}
-use Rattle.std.specs.Prelude.{length, slice_index_or}
+use Rattle.std.specs.Prelude.{length, Option, Some, None, is_some, unwrap_or}
 use Rattle.ov_base.specs.Sets.{empty as nobody, has, with}
 use Rattle.ov_history.specs.History.{File, Matrix}
-use Rattle.ov_history.specs.Places.{place_of}
+use Rattle.ov_history.specs.Places.{living_at, place_of}
+
+-- the name of a file; one that is gone has the empty one, which is no file's name
+abbrev pub name_left : Option File → List ℕ
+name_left None = []
+name_left (Some file) = file.name
 
 -- the names of these files
-abbrev pub file_names : List File → List (List ℕ)
+abbrev pub file_names : List (Option File) → List (List ℕ)
 file_names [] = []
-file_names (file ∷ files) = file.name ∷ file_names files
+file_names (file ∷ files) = name_left file ∷ file_names files
 
 -- The number of a user by name. Of a name that isn't there it is one past the last number.
 abbrev pub user_number : Matrix → List ℕ → ℕ
@@ -22,9 +27,9 @@ file_number m name = place_of name (file_names m.files)
 abbrev pub is_user : Matrix → ℕ → Bool
 is_user m user = nat_lt user (length m.users)
 
--- whether there is a file of this number
+-- whether there is a file of this number, which isn't gone
 abbrev pub is_file : Matrix → ℕ → Bool
-is_file m file = nat_lt file (length m.files)
+is_file m file = is_some (living_at m.files file)
 
 -- what stands for a file that isn't there
 abbrev pub no_file : File
@@ -32,7 +37,7 @@ no_file = record { name = []; length = 0; list = nobody }
 
 -- the file of this number
 abbrev pub file_at : Matrix → ℕ → File
-file_at m file = slice_index_or m.files file no_file
+file_at m file = unwrap_or (living_at m.files file) no_file
 
 -- whether the user is in the file's list
 abbrev pub is_listed : Matrix → ℕ → ℕ → Bool
@@ -66,7 +71,12 @@ names_from set number (name ∷ names) =
 abbrev pub names_in : ℕ → List (List ℕ) → List (List ℕ)
 names_in set users = names_from set 0 users
 
+-- the bytes of a file, of which none are left where it is gone
+abbrev pub bytes_left : Option File → ℕ
+bytes_left None = 0
+bytes_left (Some file) = file.length
+
 -- the bytes of all files together
-abbrev pub byte_sum : List File → ℕ
+abbrev pub byte_sum : List (Option File) → ℕ
 byte_sum [] = 0
-byte_sum (file ∷ files) = file.length + byte_sum files
+byte_sum (file ∷ files) = bytes_left file + byte_sum files

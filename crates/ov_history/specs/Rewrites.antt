@@ -1,13 +1,25 @@
 -- The stored bytes of files, by number, and what an update makes of them.
 use Rattle.std.specs.Prelude.{◌≡◌, ℕ, ◌+◌, Bool, true, false, List, [], ◌∷◌, ◌++◌, length}
-use Rattle.std.specs.Prelude.{slice_get, slice_index_or, Option, Some, None}
+use Rattle.std.specs.Prelude.{slice_index_or, Option, Some, None}
 use Rattle.ov_tokens.specs.declared.label.Kind.TheVariants.{Surface as SurfaceLabels}
 use Rattle.ov_tokens.specs.Keys.{node_key}
 use Rattle.ov_surface.specs.Coats.{stored_under}
-use Rattle.ov_history.specs.Places.{change_at}
+use Rattle.ov_history.specs.Places.{change_at, living_at}
 use Rattle.ov_history.specs.Layers.{lists_of, lists_after, same_surface, wants_of, with_wants}
 use Rattle.ov_history.specs.Briefs.{Brief, outer}
 use Rattle.ov_history.specs.Catalogue.{Filed, Catalogue, grown_catalogue, outline, settled_files}
+
+-- ---- what a file has
+
+-- the surface of a file, where it has one; a file that is gone has none
+abbrev pub surface_left : Option Filed → Option ℕ
+surface_left None = None
+surface_left (Some f) = f.surface
+
+-- the number of bytes of a file; of one that is gone none are left
+abbrev pub length_left : Option Filed → ℕ
+length_left None = 0
+length_left (Some f) = f.length
 
 -- ---- which stored bytes are new
 
@@ -25,19 +37,25 @@ rewrite_unless true number f now = []
 rewrite_unless false number f now =
     record { file = number; length = now.length; old = f.surface; new = now.surface } ∷ []
 
+-- the rewrite of a file that is there afterwards: of a new one, and of one that has another surface
+abbrev pub rewrite_of : ℕ → Option Filed → Option Filed → List Rewrite
+rewrite_of number f None = []
+rewrite_of number None (Some now) =
+    record { file = number; length = now.length; old = None; new = now.surface } ∷ []
+rewrite_of number (Some f) (Some now) =
+    rewrite_unless (same_surface f.surface now.surface) number f now
+
 -- The rewrites from some files to what they are afterwards, of which the first has this number: of
--- each that has another surface, and of each new one behind them.
-abbrev pub rewrites_from : ℕ → List Filed → List Filed → List Rewrite
+-- each that has another surface, and of each new one behind them. One that is gone has none.
+abbrev pub rewrites_from : ℕ → List (Option Filed) → List (Option Filed) → List Rewrite
 rewrites_from number files [] = []
 rewrites_from number [] (now ∷ after) =
-    record { file = number; length = now.length; old = None; new = now.surface }
-    ∷ rewrites_from (number + 1) [] after
+    rewrite_of number None now ++ rewrites_from (number + 1) [] after
 rewrites_from number (f ∷ files) (now ∷ after) =
-    rewrite_unless (same_surface f.surface now.surface) number f now
-    ++ rewrites_from (number + 1) files after
+    rewrite_of number f now ++ rewrites_from (number + 1) files after
 
 -- the files after an update, which no master is needed for
-abbrev pub files_after : Catalogue → Brief → List Filed
+abbrev pub files_after : Catalogue → Brief → List (Option Filed)
 files_after c b = let grown = grown_catalogue c b in
     let wants = wants_of (outline grown) (lists_after (lists_of (outline c)) (outer b)) in
     settled_files grown.epoch (with_wants grown.surface.sets wants) wants grown.files
@@ -80,11 +98,11 @@ stored_after master rewrites text stored = rewritten_all master rewrites (with_t
 
 -- Stored bytes of files that came with these texts: there are some for each file, as many as the
 -- catalogue says, and they are the file's text under the coat of its surface, where it has one.
-pub record AreCoated (master : List ℕ) (files : List Filed) (texts stored : List (List ℕ))
+pub record AreCoated (master : List ℕ) (files : List (Option Filed)) (texts stored : List (List ℕ))
     : Type 0 where
   pub each : length stored ≡ length files
-  pub lengths : (file : ℕ) (f : Filed) → slice_get files file ≡ Some f
+  pub lengths : (file : ℕ) (f : Filed) → living_at files file ≡ Some f
       → length (slice_index_or stored file []) ≡ f.length
-  pub coats : (file : ℕ) (f : Filed) → slice_get files file ≡ Some f
+  pub coats : (file : ℕ) (f : Filed) → living_at files file ≡ Some f
       → slice_index_or stored file []
       ≡ stored_under (surface_key master f.surface) file (slice_index_or texts file [])

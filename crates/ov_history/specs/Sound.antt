@@ -1,9 +1,10 @@
 -- What holds of every catalogue, after any sealed history.
-use Rattle.std.specs.Prelude.{◌≡◌, ℕ, ◌<◌, ◌≤◌, length, slice_get, Contains, Some, IfSome}
+use Rattle.std.specs.Prelude.{◌≡◌, ℕ, ◌<◌, ◌≤◌, length, Contains, Some, IfSome}
 use Rattle.ov_base.specs.Sets.{single, IsBelow, Within}
 use Rattle.ov_base.specs.declared.limits.TheConstants.{MAX_LAYER_NODES}
 use Rattle.ov_base_layer.specs.Holders.{accesses_of, AreFirst}
 use Rattle.ov_graph.specs.Contents.{IsGraph}
+use Rattle.ov_history.specs.Places.{living_at}
 use Rattle.ov_history.specs.Layers.{holders, list_at}
 use Rattle.ov_history.specs.Catalogue.{Nodes, Filed, Catalogue, outline, place_of_file}
 
@@ -26,4 +27,4 @@ pub record IsSound (c : Catalogue) : Type 0 where
   pub base : IsLayer (length c.users) c.base
   pub surface : IsLayer (length c.users) c.surface
   pub accesses : AreFirst (length c.users) c.base.sets (accesses_of c.grants)
-  pub files : (file : ℕ) (f : Filed) → slice_get c.files file ≡ Some f → IsPlaced c f
+  pub files : (file : ℕ) (f : Filed) → living_at c.files file ≡ Some f → IsPlaced c f

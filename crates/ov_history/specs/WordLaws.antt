@@ -38,7 +38,8 @@ WantedIsThere =
 abbrev pub GenerationsStay : Type 0
 GenerationsStay =
     (h : History) (u : Update) (file : ℕ)
-    → HasFile h file → wanted_of (with_update h u) file ≡ wanted_of h file
+    → HasFile h file → HasFile (with_update h u) file
+    → wanted_of (with_update h u) file ≡ wanted_of h file
     → (place_in (with_update h u) file).generation ≡ (place_in h file).generation
 
 -- with one more update a file that has another wanted set has the epoch after the update for its
@@ -46,7 +47,8 @@ GenerationsStay =
 abbrev pub GenerationsMove : Type 0
 GenerationsMove =
     (h : History) (u : Update) (file : ℕ)
-    → HasFile h file → wanted_of (with_update h u) file ≢ wanted_of h file
+    → HasFile h file → HasFile (with_update h u) file
+    → wanted_of (with_update h u) file ≢ wanted_of h file
     → (place_in (with_update h u) file).generation ≡ epoch_of (with_update h u)
 
 -- a new file has the epoch after its creation for its generation
@@ -79,7 +81,9 @@ abbrev pub BaseNodeIsOfList : Type 0
 BaseNodeIsOfList =
     (h : History) (name : List ℕ) (list size : ℕ) (more : List Update)
     → let after = longer (with_update h (Created name list size)) more in
-    slice_get (layers_of after).base (place_in after (length (matrix_of h).files)).node ≡ Some list
+    HasFile after (length (matrix_of h).files)
+    → slice_get (layers_of after).base (place_in after (length (matrix_of h).files)).node
+    ≡ Some list
 
 -- ---- pads
 

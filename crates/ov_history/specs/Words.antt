@@ -1,11 +1,12 @@
 -- What the layers of a history are, in the words of its updates.
-use Rattle.std.specs.Prelude.{◌≡◌, ℕ, ◌<◌, List, ◌∷◌, ◌++◌, length, slice_index, slice_index_or}
-use Rattle.std.specs.Prelude.{Option}
+use Rattle.std.specs.Prelude.{◌≡◌, ℕ, ◌<◌, true, List, ◌∷◌, ◌++◌, length, slice_index, Option}
+use Rattle.std.specs.Prelude.{Some, None, unwrap_or}
 use Rattle.ov_surface.specs.Wanted.{wanted_surface}
 use Rattle.ov_tokens.specs.declared.label.Label.{Label}
-use Rattle.ov_history.specs.History.{Update, Granted, History, matrix_of}
+use Rattle.ov_history.specs.History.{File, Update, Granted, History, matrix_of}
 use Rattle.ov_history.specs.Plain.{PlainUpdate, PlainHistory, bytes_of, history_of}
-use Rattle.ov_history.specs.Lists.{file_at}
+use Rattle.ov_history.specs.Lists.{is_file}
+use Rattle.ov_history.specs.Places.{living_at}
 use Rattle.ov_history.specs.Layers.{Place, no_place, node_of, holders, layers_of}
 use Rattle.ov_history.specs.Catalogue.{filed_at}
 use Rattle.ov_history.specs.Closure.{protecting}
@@ -35,19 +36,23 @@ WasGranted h node user =
 
 -- ---- files
 
--- the file is there
+-- the file is there, and isn't gone
 abbrev pub HasFile : History → ℕ → Type 0
-HasFile h file = file < length (matrix_of h).files
+HasFile h file = is_file (matrix_of h) file ≡ true
 
 -- where a file is in the layers after the history
 abbrev pub place_in : History → ℕ → Place
-place_in h file = slice_index_or (layers_of h).files file no_place
+place_in h file = unwrap_or (living_at (layers_of h).files file) no_place
 
--- the surface set that a file should have: by its list, and by the holders of its base node
+-- the surface set that a file which stands so should have: by its list, and by the holders of its
+-- base node; one that is gone should have none
+abbrev pub want_of : History → Place → Option File → Option ℕ
+want_of h p None = None
+want_of h p (Some f) = wanted_surface h.mode f.list (holders (layers_of h) p.node)
+
+-- the surface set that a file should have
 abbrev pub wanted_of : History → ℕ → Option ℕ
-wanted_of h file =
-    wanted_surface h.mode (file_at (matrix_of h) file).list
-    (holders (layers_of h) (place_in h file).node)
+wanted_of h file = want_of h (place_in h file) (living_at (matrix_of h).files file)
 
 -- ---- sets
 

@@ -2,7 +2,8 @@
 -- does is the lowest.
 use Rattle.std.proofs.Common.{◌≡◌, ℕ, suc, ◌+◌, ◌<◌, ◌≤◌, Bool, true, false, List, [], ◌∷◌, length, refl}
 use Rattle.std.proofs.Common.{sym, ◌∙◌, ap, subst, arith, inl, inr, ◌⊎◌, true≢false}
-use Rattle.std.specs.Prelude.{Contains, nat_le, nat_lt, not}
+use Rattle.std.specs.Prelude.{◌++◌, zero, Contains, nat_le, nat_lt, not}
+use Rattle.std.specs.Prelude.{Option, Some, None, is_some, option_map}
 use Rattle.std.specs.Str.{bytes_eq}
 use Rattle.std.specs.Prelude.{Decides}
 use Rattle.std.proofs.lemmas.Bool.{leb-true, le-leb}
@@ -21,14 +22,14 @@ use Rattle.ov_base.proofs.SetLaws.{Within-within, within-Within}
 use Rattle.ov_base.proofs.Tests.{lt_is_true, lt_of_true}
 use Rattle.ov_graph.proofs.ListLaws.{Contains-cases, Contains-first, Contains-later, Contains-none}
 use Rattle.ov_history.specs.History.{Update, Enrolled, Created, Granted, Revoked, History, Matrix}
-use Rattle.ov_history.specs.History.{File, epoch_of, matrix_of}
+use Rattle.ov_history.specs.History.{File, changed, delisted, epoch_of, listed as listed_in, matrix_of}
 use Rattle.ov_history.specs.Layers.{Layers, layers_after, layers_of}
 use Rattle.ov_history.specs.Lists.{byte_sum, everyone, file_at, file_names}
 use Rattle.ov_history.specs.Lists.{file_number, is_file}
-use Rattle.ov_history.specs.Places.{here_or_after, place_of}
+use Rattle.ov_history.specs.Places.{change_at, here_or_after, living_at, place_of}
 use Rattle.ov_history.specs.Refusals.{Test, first_of_tests, is_past_nodes, read_tests, tests_of}
 use Rattle.ov_history.proofs.PlaceLaws.{everyone-Has, everyone-below}
-use Rattle.ov_history.proofs.Pushing.{layers_of-push}
+use Rattle.ov_history.proofs.Pushing.{each_history, layers_of-push, matrix_of-push}
 use Rattle.ov_history.proofs.RefusalOrder.{RiseFrom, read_tests_rise, tests_rise}
 use Rattle.ov_history_t.specs.Refusing.{Applies, AppliesToList, AppliesToRead, IsLowest}
 use Rattle.ov_history_t.specs.Refusing.{ListsAreRefused, PassesNodes, ReadsAreRefused}
@@ -119,17 +120,75 @@ among name [] = (λ e. absurd (true≢false (sym e)), λ c. absurd (Contains-non
 among name (first ∷ names) =
     among_step (bytes_eq name first) name first names refl (among name names)
 
-length-names : (files : List File) → length (file_names files) ≡ length files
+-- ---- files of a history
+
+-- none of these files is gone
+abbrev AllHere : List (Option File) → Type 0
+AllHere [] = Unit {0}
+AllHere (None ∷ files) = ⊥
+AllHere (Some f ∷ files) = AllHere files
+
+here_below : (files : List (Option File)) (n : ℕ) → AllHere files
+    → Decides (is_some (living_at files n)) (n < length files)
+here_below [] n all = (λ e. absurd (cc), λ low. absurd (omega (arith, low)))
+here_below (None ∷ files) n all = absurd all
+here_below (Some f ∷ files) zero all = (λ e. omega arith, λ low. refl)
+here_below (Some f ∷ files) (suc n) all =
+    let rest = here_below files n all in
+    (λ e. omega (arith, rest.0 e), λ low. rest.1 (omega (arith, low)))
+
+here_more : (files : List (Option File)) (f : File) → AllHere files
+    → AllHere (files ++ Some f ∷ [])
+here_more [] f all = tt
+here_more (None ∷ files) f all = absurd all
+here_more (Some g ∷ files) f all = here_more files f all
+
+here_changed : (change : File → File) (n : ℕ) (files : List (Option File)) → AllHere files
+    → AllHere (change_at (option_map change) n files)
+here_changed change n [] all = tt
+here_changed change n (None ∷ files) all = absurd all
+here_changed change zero (Some f ∷ files) all = all
+here_changed change (suc n) (Some f ∷ files) all = here_changed change n files all
+
+here_after : (m : Matrix) (u : Update) → AllHere m.files → AllHere (changed m u).files
+here_after m (Enrolled user) all = all
+here_after m (Created file list size) all =
+    here_more m.files (record { name = file; length = size; list = list }) all
+here_after m (Granted user file) all = here_changed (listed_in user) file m.files all
+here_after m (Revoked user file) all = here_changed (delisted user) file m.files all
+
+-- no update makes a file gone, so each file of a history is there
+all_here : (h : History) → AllHere (matrix_of h).files
+all_here =
+    each_history (λ (h : History). AllHere (matrix_of h).files) (λ h. tt)
+    (λ h u all. subst (λ (m : Matrix). AllHere m.files) (sym (matrix_of-push h u))
+    (here_after (matrix_of h) u all))
+
+length-names : (files : List (Option File)) → length (file_names files) ≡ length files
 length-names [] = refl
 length-names (file ∷ files) = ap suc (length-names files)
 
 -- the name of a file has a number exactly where it is there
-file_among : (m : Matrix) (name : List ℕ)
+file_among : (m : Matrix) (name : List ℕ) → AllHere m.files
     → Decides (is_file m (file_number m name)) (Contains (file_names m.files) name)
-file_among m name =
-    subst
-    (λ many. Decides (nat_lt (file_number m name) many) (Contains (file_names m.files) name))
-    (length-names m.files) (among name (file_names m.files))
+file_among m name all =
+    let number : ℕ = file_number m name in
+    let files = here_below m.files number all in
+    let names = among name (file_names m.files) in
+    let many = length-names m.files in (
+      λ e. names.0
+          (lt_is_true number (length (file_names m.files)) (omega (arith, many, files.0 e))),
+      λ c. files.1
+          (omega (arith, many, lt_of_true number (length (file_names m.files)) (names.1 c))),
+    )
+
+-- a file isn't there exactly where there is none of its number
+lacks : (o : Option File) → Decides (not (is_some o)) (o ≡ None)
+lacks None = (λ e. refl, λ e. refl)
+lacks (Some f) = (λ e. absurd (cc), λ e. absurd (cc))
+
+no_file_at : (m : Matrix) (file : ℕ) → Decides (not (is_file m file)) (living_at m.files file ≡ None)
+no_file_at m file = lacks (living_at m.files file)
 
 -- a list has users alone exactly where it is within the set of all
 all_users : (users list : ℕ) → Decides (within list (everyone users)) (IsBelow users list)
@@ -175,7 +234,7 @@ decided h (Enrolled name) =
     )
 decided h (Created name list size) =
     let m = matrix_of h in (
-      file_among m name,
+      file_among m name (all_here h),
       (
         Decides-not (within list (everyone (length m.users))) (all_users (length m.users) list),
         (
@@ -191,7 +250,7 @@ decided h (Granted user file) =
     let m = matrix_of h in (
       past user (length m.users),
       (
-        past file (length m.files),
+        no_file_at m file,
         (in_list m user file, (nodes h (Granted user file), (spent h, tt))),
       ),
     )
@@ -199,7 +258,7 @@ decided h (Revoked user file) =
     let m = matrix_of h in (
       past user (length m.users),
       (
-        past file (length m.files),
+        no_file_at m file,
         (out_of_list m user file, (nodes h (Revoked user file), (spent h, tt))),
       ),
     )
@@ -277,13 +336,13 @@ pub reads_are_refused : ReadsAreRefused
 reads_are_refused m user file =
     lowest (AppliesToRead m user file) 0 (read_tests m user file) (read_tests_rise m user file) (
       past user (length m.users),
-      (past file (length m.files), (out_of_list m user file, tt)),
+      (no_file_at m file, (out_of_list m user file, tt)),
     )
     (listed_to_read m user file)
 
 -- the tests of a question for a list
 abbrev list_tests : Matrix → ℕ → List Test
-list_tests m file = (NoFile, not (nat_lt file (length m.files))) ∷ []
+list_tests m file = (NoFile, not (is_file m file)) ∷ []
 
 listed_to_list : (m : Matrix) (file : ℕ) (why : Refusal) → AppliesToList m file why
     → IsTested why (list_tests m file)
@@ -302,4 +361,4 @@ listed_to_list m file Spent p = absurd p
 pub lists_are_refused : ListsAreRefused
 lists_are_refused m file =
     lowest (AppliesToList m file) 0 (list_tests m file) (omega (arith), tt)
-    (past file (length m.files), tt) (listed_to_list m file)
+    (no_file_at m file, tt) (listed_to_list m file)

@@ -1,7 +1,7 @@
 -- Wanted sets are added in the order of their files, each that isn't there yet.
 use Rattle.std.proofs.Common.{◌≡◌, ◌≢◌, ℕ, zero, suc, ◌<◌, ◌≤◌, Bool, true, false, List, []}
-use Rattle.std.proofs.Common.{◌∷◌, length, refl, sym, ◌∙◌, ap, arith, inl, inr, length-append}
-use Rattle.std.specs.Prelude.{Option, Some, None, slice_get, slice_index}
+use Rattle.std.proofs.Common.{◌∷◌, length, refl, sym, ◌∙◌, ap, subst, arith, inl, inr, length-append}
+use Rattle.std.specs.Prelude.{Option, Some, None, is_some, option_map, slice_get, slice_index}
 use Rattle.std.proofs.lemmas.Bool.{cases_lt}
 use Rattle.std.proofs.lemmas.Option.{get_or_from_slice_get, slice_get_within}
 use Rattle.ov_base.specs.Sets.{single}
@@ -9,17 +9,16 @@ use Rattle.ov_graph.specs.Contents.{plan_of}
 use Rattle.ov_graph.proofs.GraphLaws.{last_item}
 use Rattle.ov_surface.specs.Wanted.{wanted_surface}
 use Rattle.ov_history.specs.History.{Update, Enrolled, Created, Granted, Revoked, History}
-use Rattle.ov_history.specs.History.{matrix_of, with_update}
+use Rattle.ov_history.specs.History.{File, matrix_of, with_update}
 use Rattle.ov_history.specs.Layers.{Layers, Place, appended, grown, holders, layers_after, layers_of}
 use Rattle.ov_history.specs.Layers.{lists_after, lists_of, node_for, wants_at, wants_of, with_set}
-use Rattle.ov_history.specs.Layers.{with_wants}
-use Rattle.ov_history.specs.Words.{wanted_of}
+use Rattle.ov_history.specs.Layers.{settled_all, settled_at, want_at, with_wants}
+use Rattle.ov_history.specs.Places.{living_at}
+use Rattle.ov_history.specs.Words.{HasFile, place_in, want_of, wanted_of}
 use Rattle.ov_history.proofs.Listing.{length-lists_after, lists_of-layers_after, settled_at-node}
-use Rattle.ov_history.proofs.MatrixLaws.{files_of-layers_of}
 use Rattle.ov_history.proofs.PlanLaws.{plan-fresh, with_set-has, with_wants-keeps}
 use Rattle.ov_history.proofs.Pushing.{layers_of-push}
-use Rattle.ov_history.proofs.Wanting.{length-after, place_at, settled_after, wanted_at, wanted_in}
-use Rattle.ov_history.proofs.Wanting.{wanted_of-is}
+use Rattle.ov_history.proofs.Wanting.{file_below, length-after, wanted_at, wanted_in, wanted_of-is}
 use Rattle.ov_history_t.specs.Ordering.{NewSetsAreInOrder, NewSetsAreNew, NewSetsAreWanted, HasSet}
 use Rattle.ov_history_t.specs.Ordering.{Wants, first_new}
 
@@ -151,7 +150,7 @@ in_order (Some one ∷ wants) sets node next set later past before at then =
 
 -- ---- files
 
-got : (y : Layers) (lists : List ℕ) (places : List Place) (file : ℕ)
+got : (y : Layers) (lists : List (Option ℕ)) (places : List (Option Place)) (file : ℕ)
     → length lists ≡ length places → file < length places
     → slice_get (wants_at y lists places) file ≡ Some (wanted_at y lists places file)
 got y lists [] file many below = absurd (omega arith)
@@ -160,7 +159,8 @@ got y (list ∷ lists) (p ∷ places) zero many below = refl
 got y (list ∷ lists) (p ∷ places) (suc file) many below =
     got y lists places file (omega arith) (omega arith)
 
-length-wants : (y : Layers) (lists : List ℕ) (places : List Place) → length lists ≡ length places
+length-wants : (y : Layers) (lists : List (Option ℕ)) (places : List (Option Place))
+    → length lists ≡ length places
     → length (wants_at y lists places) ≡ length places
 length-wants y [] [] many = refl
 length-wants y [] (p ∷ places) many = absurd (omega arith)
@@ -168,11 +168,39 @@ length-wants y (list ∷ lists) [] many = absurd (omega arith)
 length-wants y (list ∷ lists) (p ∷ places) many =
     ap suc (length-wants y lists places (omega arith))
 
+-- a file that is settled wants the set that it wanted, since it keeps its node
+kept_one : (y : Layers) (epoch : ℕ) (sets : List ℕ) (want list : Option ℕ) (p : Option Place)
+    → want_at y list (option_map (settled_at epoch sets want) p) ≡ want_at y list p
+kept_one y epoch sets want None p = refl
+kept_one y epoch sets want (Some list) None = refl
+kept_one y epoch sets want (Some list) (Some p) =
+    ap (λ n. wanted_surface y.mode list (holders y n)) (settled_at-node epoch sets want p)
+
+want_kept : (y : Layers) (epoch : ℕ) (sets : List ℕ) (lists : List (Option ℕ))
+    (places : List (Option Place)) (file : ℕ) → length lists ≡ length places
+    → want_at y (living_at lists file)
+    (living_at (settled_all epoch sets (wants_at y lists places) places) file)
+    ≡ wanted_at y lists places file
+want_kept y epoch sets [] [] file many = refl
+want_kept y epoch sets [] (p ∷ places) file many = absurd (omega arith)
+want_kept y epoch sets (list ∷ lists) [] file many = absurd (omega arith)
+want_kept y epoch sets (list ∷ lists) (p ∷ places) zero many =
+    kept_one y epoch sets (want_at y list p) list p
+want_kept y epoch sets (list ∷ lists) (p ∷ places) (suc file) many =
+    want_kept y epoch sets lists places file (omega arith)
+
+-- a set is wanted of a file that is there alone
+wanted_here : (h : History) (file set : ℕ) → wanted_of h file ≡ Some set → HasFile h file
+wanted_here h file set is = by_file (living_at (matrix_of h).files file) is where
+  by_file : (f : Option File) → want_of h (place_in h file) f ≡ Some set → is_some f ≡ true
+  by_file None e = absurd (cc e)
+  by_file (Some f) e = refl
+
 module _ (h : History) (u : Update) where
   abbrev y : Layers
   y = layers_of h
 
-  abbrev lists : List ℕ
+  abbrev lists : List (Option ℕ)
   lists = lists_after (lists_of y) u
 
   abbrev wants : List (Option ℕ)
@@ -181,29 +209,22 @@ module _ (h : History) (u : Update) where
   abbrev next : History
   next = with_update h u
 
-  files_are : length (matrix_of next).files ≡ length (grown y u).files
-  files_are =
-      sym (files_of-layers_of next) ∙ ap (λ (z : Layers). length z.files) (layers_of-push h u)
-      ∙ length-after y u
-
-  want-is : (file : ℕ) → file < length (grown y u).files
-      → wanted_at (grown y u) lists (grown y u).files file ≡ wanted_of next file
-  want-is file below =
-      let want = wanted_in (layers_after y u) file in
-      let node : (place_at (layers_after y u).files file).node
-      ≡ (place_at (grown y u).files file).node =
-      ap (λ (p : Place). p.node) (settled_after y u file below)
-      ∙ settled_at-node (grown y u).epoch (layers_after y u).surface want
-      (place_at (grown y u).files file) in
-      ap (λ ls. wanted_at (grown y u) ls (grown y u).files file) (sym (lists_of-layers_after y u))
-      ∙ ap
-      (λ n. wanted_surface (grown y u).mode (slice_index (lists_of (layers_after y u)) file)
-      (holders (grown y u) n)) (sym node)
-      ∙ ap (λ (z : Layers). wanted_in z file) (sym (layers_of-push h u))
-      ∙ sym (wanted_of-is next file)
+  files_are : length (layers_of next).files ≡ length (grown y u).files
+  files_are = ap (λ (z : Layers). length z.files) (layers_of-push h u) ∙ length-after y u
 
   many : length lists ≡ length (grown y u).files
   many = length-lists_after y u
+
+  want-is : (file : ℕ) → wanted_at (grown y u) lists (grown y u).files file ≡ wanted_of next file
+  want-is file =
+      let after : Option Place = living_at (layers_after y u).files file in
+      sym
+      (want_kept (grown y u) (grown y u).epoch (layers_after y u).surface lists (grown y u).files
+      file many)
+      ∙ ap (λ (ls : List (Option ℕ)). want_at (grown y u) (living_at ls file) after)
+      (sym (lists_of-layers_after y u))
+      ∙ ap (λ (z : Layers). wanted_in z file) (sym (layers_of-push h u))
+      ∙ sym (wanted_of-is next file)
 
   -- a wanted set that is in the list is that of its file
   to_file : (i set : ℕ) → slice_get wants i ≡ Some (Some set) → Wants h u i set
@@ -216,15 +237,17 @@ module _ (h : History) (u : Update) where
       ) in
       let want : wanted_at (grown y u) lists (grown y u).files i ≡ Some set =
       same_want (sym (got (grown y u) lists (grown y u).files i many below) ∙ is) in
-      (omega (arith, below, files_are), sym (want-is i below) ∙ want)
+      let wants_it : wanted_of next i ≡ Some set = sym (want-is i) ∙ want in
+      (wanted_here next i set wants_it, wants_it)
     where
       same_want : {a b : Option ℕ} → Some a ≡ Some b → a ≡ b
       same_want e = cc
 
   of_file : (i set : ℕ) → Wants h u i set → slice_get wants i ≡ Some (Some set)
   of_file i set (there, is) =
-      let below : i < length (grown y u).files = omega (arith, there, files_are) in
-      got (grown y u) lists (grown y u).files i many below ∙ ap Some (want-is i below ∙ is)
+      let below : i < length (grown y u).files =
+      subst (λ n. i < n) files_are (file_below next i there) in
+      got (grown y u) lists (grown y u).files i many below ∙ ap Some (want-is i ∙ is)
 
   at_node : (node set : ℕ) → HasSet h u node set
       → IsAt (with_wants (grown y u).surface wants) node set

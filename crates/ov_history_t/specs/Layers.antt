@@ -1,5 +1,5 @@
 -- Rows of layers: their definitions at histories of a few updates, and at single nodes.
-use Rattle.std.specs.Prelude.{◌≡◌, ℕ, List, [], ◌∷◌, Some, None}
+use Rattle.std.specs.Prelude.{◌≡◌, ℕ, List, [], ◌∷◌, Option, Some, None}
 use Rattle.ov_base.specs.declared.mode.Mode.TheVariants.{Delta}
 use Rattle.ov_tokens.specs.declared.label.Kind.TheVariants.{Derive, Surface as SurfaceLabels}
 use Rattle.ov_tokens.specs.Keys.{access_key_of, node_key}
@@ -19,13 +19,13 @@ two_files updates =
     Enrolled (97 ∷ []) ∷ Enrolled (98 ∷ []) ∷ Enrolled (99 ∷ []) ∷ Created (102 ∷ 49 ∷ []) 3 0
     ∷ Created (102 ∷ 50 ∷ []) 3 0 ∷ updates
 
--- a place without a surface, and one with
-abbrev pub bare : ℕ → ℕ → Place
-bare node generation = record { node = node; surface = None; generation = generation }
+-- the place of a file that is there: without a surface, and with one
+abbrev pub bare : ℕ → ℕ → Option Place
+bare node generation = Some (record { node = node; surface = None; generation = generation })
 
-abbrev pub under : ℕ → ℕ → ℕ → Place
+abbrev pub under : ℕ → ℕ → ℕ → Option Place
 under surface node generation =
-    record { node = node; surface = Some surface; generation = generation }
+    Some (record { node = node; surface = Some surface; generation = generation })
 
 -- The third user was granted the first file, so all three hold its node. By the node's set alone
 -- the first two would.

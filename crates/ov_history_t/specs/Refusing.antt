@@ -16,6 +16,7 @@ use Rattle.ov_history.specs.History.{Update, Enrolled, Created, Granted, Revoked
 use Rattle.ov_history.specs.History.{epoch_of, matrix_of, with_update}
 use Rattle.ov_history.specs.Layers.{Layers, layers_of}
 use Rattle.ov_history.specs.Lists.{byte_sum, file_at, file_names}
+use Rattle.ov_history.specs.Places.{living_at}
 use Rattle.ov_history.specs.Refusals.{list_refusal, read_refusal, refusal_of}
 
 -- ---- an update
@@ -38,8 +39,8 @@ LacksUser m (Revoked user file) = length m.users ≤ user
 abbrev pub LacksFile : Matrix → Update → Type 0
 LacksFile m (Enrolled user) = ⊥
 LacksFile m (Created file list size) = ⊥
-LacksFile m (Granted user file) = length m.files ≤ file
-LacksFile m (Revoked user file) = length m.files ≤ file
+LacksFile m (Granted user file) = living_at m.files file ≡ None
+LacksFile m (Revoked user file) = living_at m.files file ≡ None
 
 -- the user who is to be granted the file is in its list
 abbrev pub IsInList : Matrix → Update → Type 0
@@ -100,13 +101,13 @@ Applies h u Spent = LAST_EPOCH ≤ epoch_of h
 -- the refusal applies to a read of the file by the user
 abbrev pub AppliesToRead : Matrix → ℕ → ℕ → Refusal → Type 0
 AppliesToRead m user file NoUser = length m.users ≤ user
-AppliesToRead m user file NoFile = length m.files ≤ file
+AppliesToRead m user file NoFile = living_at m.files file ≡ None
 AppliesToRead m user file NoPath = Has (file_at m file).list user → ⊥
 AppliesToRead m user file why = ⊥
 
 -- the refusal applies to a question for the file's list
 abbrev pub AppliesToList : Matrix → ℕ → Refusal → Type 0
-AppliesToList m file NoFile = length m.files ≤ file
+AppliesToList m file NoFile = living_at m.files file ≡ None
 AppliesToList m file why = ⊥
 
 -- ---- what is answered

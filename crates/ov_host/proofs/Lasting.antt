@@ -17,6 +17,7 @@ use Rattle.ov_protocol.specs.Updating.{AnswersUpdate, owner_tag, spelled_by, upd
 use Rattle.ov_protocol.specs.Replies.{AnswersRead, made_of, updates_asked}
 use Rattle.ov_peer.specs.Disks.{AsksBytes, HasUpdate}
 use Rattle.ov_peer.specs.Spellings.{longer_if, says_accepted, spelling_in, spelling_of, with_accepted}
+use Rattle.ov_peer.proofs.Following.{followed-nil}
 use Rattle.ov_base.specs.Causes.{Rose}
 use Rattle.ov_store.specs.Opened.{Opened, Serves}
 use Rattle.ov_store.specs.Updating.{IsCallOf}
@@ -35,9 +36,6 @@ rose_still : (first mid last : ℕ) → Rose first mid → mid ≤ last → Rose
 rose_still first mid last rose low = grind arith
 
 -- ---- histories with updates behind them
-
-pub followed-nil : (g : SealedHistory) → followed g [] ≡ g
-followed-nil g = ap (λ (us : List SealedUpdate). record g { updates = us }) (append-nil g.updates)
 
 followed-append : (g : SealedHistory) (us more : List SealedUpdate) → followed (followed g us) more ≡ followed g (us ++ more)
 followed-append g us more = ap (λ (all : List SealedUpdate). record g { updates = all }) (append_assoc g.updates us more)

@@ -7,7 +7,8 @@ use Rattle.ov_fields.proofs.WholeLaws.{all_again, no_front}
 use Rattle.ov_record.specs.Updates.{SealedUpdate}
 use Rattle.ov_record.specs.Spelling.{spelling, HasForm}
 use Rattle.ov_record.specs.Reading.{update_of}
-use Rattle.ov_record.proofs.UpdateLaws.{update_reads}
+use Rattle.ov_record.proofs.UpdateLaws.{update_reads, first_has_room}
+use Rattle.ov_record.specs.Forms.{first_form}
 use Rattle.ov_history.specs.History.{History, with_update}
 use Rattle.ov_history.specs.Briefs.{brief, outer}
 use Rattle.ov_history.specs.Sealed.{SealedHistory, AllFit, IsSealed, with_sealed}
@@ -21,26 +22,26 @@ use Rattle.ov_images.proofs.Keeping.{mode_of-spelled, first_of-spelled}
 -- ---- updates and their bodies
 
 -- updates with one spelling are one
-one_spelling : (u v : SealedUpdate) → HasForm 32 u → HasForm 32 v
-    → spelling 32 u ≡ spelling 32 v → u ≡ v
+one_spelling : (u v : SealedUpdate) → HasForm first_form u → HasForm first_form v
+    → spelling first_form u ≡ spelling first_form v → u ≡ v
 one_spelling u v fu fv same =
-    (no_front (update_reads 32) u v [] [] fu fv (ap (λ (l : List ℕ). l ++ []) same)).0
+    (no_front (update_reads first_form first_has_room) u v [] [] fu fv (ap (λ (l : List ℕ). l ++ []) same)).0
 
 -- reading a spelling stops nowhere
-never_stops : (u : SealedUpdate) (body : List ℕ) (at_byte : ℕ) → HasForm 32 u
-    → body ≡ spelling 32 u → update_of 32 body ≡ Err at_byte → ⊥
+never_stops : (u : SealedUpdate) (body : List ℕ) (at_byte : ℕ) → HasForm first_form u
+    → body ≡ spelling first_form u → update_of first_form body ≡ Err at_byte → ⊥
 never_stops u body at_byte form bytes stops =
-    let read : update_of 32 (spelling 32 u) ≡ Ok u =
-    ap (placed (length (spelling 32 u))) (all_again (update_reads 32) u form) in
-    absurd (cc (sym stops ∙ ap (update_of 32) bytes ∙ read))
+    let read : update_of first_form (spelling first_form u) ≡ Ok u =
+    ap (placed (length (spelling first_form u))) (all_again (update_reads first_form first_has_room) u form) in
+    absurd (cc (sym stops ∙ ap (update_of first_form) bytes ∙ read))
 
 -- some updates, then one whose body is this, and others
 record Cut (all front : List SealedUpdate) (body : List ℕ) : Type 0 where
   next : SealedUpdate
   more : List SealedUpdate
   is : all ≡ front ++ next ∷ more
-  form : HasForm 32 next
-  bytes : body ≡ spelling 32 next
+  form : HasForm first_form next
+  bytes : body ≡ spelling first_form next
 
 -- some updates, then one whose body is this, and others, behind one update more
 cut_behind : (u v : SealedUpdate) (all front : List SealedUpdate) (body : List ℕ) → u ≡ v
@@ -58,10 +59,10 @@ cut : (all front : List SealedUpdate) (body : List ℕ) (rest : List (List ℕ))
 cut [] [] body rest fa ff same = absurd (cc same)
 cut [] (v ∷ front) body rest fa ff same = absurd (cc same)
 cut (u ∷ all) [] body rest fa ff same =
-    let one : spelling 32 u ≡ body = cc same in
+    let one : spelling first_form u ≡ body = cc same in
     record { next = u; more = all; is = refl; form = fa.0; bytes = sym one }
 cut (u ∷ all) (v ∷ front) body rest fa ff same =
-    let one : spelling 32 u ≡ spelling 32 v = cc same in
+    let one : spelling first_form u ≡ spelling first_form v = cc same in
     let others : bodies_of all ≡ bodies_of front ++ body ∷ rest = cc same in
     cut_behind u v all front body (one_spelling u v fa.0 ff.0 one)
     (cut all front body rest fa.1 ff.1 others)
@@ -77,13 +78,13 @@ either : (us vs : List SealedUpdate) (body other : List ℕ) (rest more : List (
 either [] [] body other rest more fu fv same =
     let one : body ≡ other = cc same in inl (refl, one)
 either [] (v ∷ vs) body other rest more fu fv same =
-    let one : body ≡ spelling 32 v = cc same in
+    let one : body ≡ spelling first_form v = cc same in
     inr (inl (record { next = v; more = vs; is = refl; form = fv.0; bytes = one }))
 either (u ∷ us) [] body other rest more fu fv same =
-    let one : spelling 32 u ≡ other = cc same in
+    let one : spelling first_form u ≡ other = cc same in
     inr (inr (record { next = u; more = us; is = refl; form = fu.0; bytes = sym one }))
 either (u ∷ us) (v ∷ vs) body other rest more fu fv same =
-    let one : spelling 32 u ≡ spelling 32 v = cc same in
+    let one : spelling first_form u ≡ spelling first_form v = cc same in
     let others : bodies_of us ++ body ∷ rest ≡ bodies_of vs ++ other ∷ more = cc same in
     let first = one_spelling u v fu.0 fv.0 one in
     ⊎_elim (λ is. inl (λ j. first j ∷ is.0 j, is.1))

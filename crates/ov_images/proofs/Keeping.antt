@@ -9,13 +9,14 @@ use Rattle.ov_keyed.proofs.HmacLemmas.{length-hmac}
 use Rattle.ov_fields.proofs.WholeLaws.{no_front}
 use Rattle.ov_record.specs.Updates.{SealedUpdate}
 use Rattle.ov_record.specs.Spelling.{spelling, HasForm}
-use Rattle.ov_record.proofs.UpdateLaws.{update_reads}
+use Rattle.ov_record.proofs.UpdateLaws.{update_reads, first_has_room}
+use Rattle.ov_record.specs.Forms.{first_form}
 use Rattle.ov_history.specs.Sealed.{SealedHistory}
 use Rattle.ov_disk.specs.Disk.{Image}
 use Rattle.ov_journal.specs.declared.header.Header.{Header}
-use Rattle.ov_journal.specs.Book.{Contents, header_bytes, magic, spelled, born}
+use Rattle.ov_journal.specs.Book.{Contents, contents_of, header_bytes, magic, spelled, born}
 use Rattle.ov_journal.specs.Book.{records_after, with_body, HasHeaderForm}
-use Rattle.ov_journal.specs.Standing.{HasMagic}
+use Rattle.ov_journal.specs.Standing.{HasMagic, IsUnborn}
 use Rattle.ov_journal.proofs.Headers.{spelled_apart}
 use Rattle.ov_images.specs.Images.{Keys, header_of, bodies_of, AllHaveForm, Keeps}
 use Rattle.ov_images.specs.Laws.{KeepingGoesOn, KeepsOnce, KeptIsBorn, KeysAreKept}
@@ -24,13 +25,13 @@ use Rattle.ov_images.specs.Laws.{SameContentsKeepTheSame}
 -- ---- one update more
 
 pub bodies-push : (updates : List SealedUpdate) (u : SealedUpdate)
-    → bodies_of (updates ++ u ∷ []) ≡ bodies_of updates ++ spelling 32 u ∷ []
+    → bodies_of (updates ++ u ∷ []) ≡ bodies_of updates ++ spelling first_form u ∷ []
 bodies-push [] u = refl
 bodies-push (v ∷ updates) u =
-    ap (λ (l : List (List ℕ)). spelling 32 v ∷ l) (bodies-push updates u)
+    ap (λ (l : List (List ℕ)). spelling first_form v ∷ l) (bodies-push updates u)
 
 pub form-push : (updates : List SealedUpdate) (u : SealedUpdate)
-    → AllHaveForm updates → HasForm 32 u → AllHaveForm (updates ++ u ∷ [])
+    → AllHaveForm updates → HasForm first_form u → AllHaveForm (updates ++ u ∷ [])
 form-push [] u all form = (form, tt)
 form-push (v ∷ updates) u all form = (all.0, form-push updates u all.1 form)
 
@@ -47,7 +48,7 @@ keeps_more k g u i c keeps sealed form is = record {
   sealed = sealed;
   first = keeps.first;
   form = form-push g.updates u keeps.form form;
-  book = is ∙ ap (with_body (spelling 32 u)) keeps.book
+  book = is ∙ ap (with_body (spelling first_form u)) keeps.book
       ∙ ap (born (header_of k g)) (sym (bodies-push g.updates u));
 }
 
@@ -59,9 +60,9 @@ bodies_once [] [] fu fv same = refl
 bodies_once [] (v ∷ vs) fu fv same = absurd (cc same)
 bodies_once (u ∷ us) [] fu fv same = absurd (cc same)
 bodies_once (u ∷ us) (v ∷ vs) fu fv same =
-    let one : spelling 32 u ≡ spelling 32 v = cc same in
+    let one : spelling first_form u ≡ spelling first_form v = cc same in
     let rest : bodies_of us ≡ bodies_of vs = cc same in
-    let first = (no_front (update_reads 32) u v [] [] fu.0 fv.0
+    let first = (no_front (update_reads first_form first_has_room) u v [] [] fu.0 fv.0
     (ap (λ (l : List ℕ). l ++ []) one)).0 in
     let others = bodies_once us vs fu.1 fv.1 rest in
     λ i. first i ∷ others i
@@ -129,20 +130,24 @@ has_gate skip [] whole = absurd (cc whole)
 has_gate zero (gate ∷ rest) whole = omega arith
 has_gate (suc skip) (byte ∷ rest) whole = omega (arith, has_gate skip rest whole)
 
-pub is_born : KeptIsBorn
-is_born k g i keeps =
-    let head : take 78 i.book ≡ spelled (header_of k g) =
-    ap (λ (c : Contents). c.head) keeps.book in
-    let long : 79 ≤ length i.book =
-    has_gate 78 i.book (ap (λ (c : Contents). c.records.bad) keeps.book) in
-    let gate : get_or i.book 0 0 ≡ 1 =
-    sym (get_or-take 78 i.book 0 0 (lit< tt)) ∙ ap (λ (l : List ℕ). get_or l 0 0) head in
-    let bytes : take 8 (drop 1 i.book) ≡ magic =
-    sym (take-take 8 77 (drop 1 i.book) (omega arith))
-    ∙ ap (λ (l : List ℕ). take 8 l) (sym (drop-take 1 77 i.book))
+-- a Book with this header and these records is a store, and not one where none was begun
+pub born_is_store : (h : Header) (bodies : List (List ℕ)) (book : List ℕ)
+    → contents_of book ≡ born h bodies → HasMagic book × (IsUnborn book → ⊥)
+born_is_store h bodies book is =
+    let head : take 78 book ≡ spelled h = ap (λ (c : Contents). c.head) is in
+    let long : 79 ≤ length book =
+    has_gate 78 book (ap (λ (c : Contents). c.records.bad) is) in
+    let gate : get_or book 0 0 ≡ 1 =
+    sym (get_or-take 78 book 0 0 (lit< tt)) ∙ ap (λ (l : List ℕ). get_or l 0 0) head in
+    let bytes : take 8 (drop 1 book) ≡ magic =
+    sym (take-take 8 77 (drop 1 book) (omega arith))
+    ∙ ap (λ (l : List ℕ). take 8 l) (sym (drop-take 1 77 book))
     ∙ ap (λ (l : List ℕ). take 8 (drop 1 l)) head in
-    let store : HasMagic i.book =
+    let store : HasMagic book =
     record { long = long; open_gate = gate; magic_bytes = bytes } in (
       store,
       ⊎_elim (λ short. omega (arith, short, long)) (λ unborn. unborn.1 gate),
     )
+
+pub is_born : KeptIsBorn
+is_born k g i keeps = born_is_store (header_of k g) (bodies_of g.updates) i.book keeps.book

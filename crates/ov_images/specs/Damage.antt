@@ -5,6 +5,7 @@ use Rattle.ov_tokens.specs.Keys.{check_value_of}
 use Rattle.ov_record.specs.Updates.{SealedUpdate}
 use Rattle.ov_record.specs.Spelling.{spelling, HasForm}
 use Rattle.ov_record.specs.Reading.{update_of}
+use Rattle.ov_record.specs.Forms.{first_form}
 use Rattle.ov_history.specs.Sealed.{SealedHistory, IsSealed, with_sealed}
 use Rattle.ov_disk.specs.Disk.{Image}
 use Rattle.ov_journal.specs.Book.{Records, contents_of, spelled}
@@ -31,14 +32,14 @@ pub record IsFor (k : Keys) (mode : Mode) (h : Header) : Type 0 where
 -- reading it ends: of the first field that no spelling goes on with, or of the body's end.
 pub record IsMisspelled (body : List ℕ) (gate place : ℕ) : Type 0 where
   pub at_byte : ℕ
-  pub stops : update_of 32 body ≡ Err at_byte
+  pub stops : update_of first_form body ≡ Err at_byte
   pub place_is : place ≡ gate + 5 + at_byte
 
 -- The body spells an update with which this history doesn't go on. The place is that of the gate.
 pub record IsUnfit (g : SealedHistory) (body : List ℕ) (gate place : ℕ) : Type 0 where
   pub update : SealedUpdate
-  pub form : HasForm 32 update
-  pub bytes : body ≡ spelling 32 update
+  pub form : HasForm first_form update
+  pub bytes : body ≡ spelling first_form update
   pub unfit : IsSealed (with_sealed g update) → ⊥
   pub place_is : place ≡ gate
 

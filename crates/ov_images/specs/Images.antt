@@ -4,6 +4,7 @@ use Rattle.ov_base.specs.declared.mode.Mode.{Mode}
 use Rattle.ov_tokens.specs.Keys.{check_value_of}
 use Rattle.ov_record.specs.Updates.{SealedUpdate}
 use Rattle.ov_record.specs.Spelling.{spelling, HasForm}
+use Rattle.ov_record.specs.Forms.{first_form}
 use Rattle.ov_history.specs.Plain.{PlainHistory, history_of}
 use Rattle.ov_history.specs.Refusals.{IsLegal}
 use Rattle.ov_history.specs.Masters.{Masters}
@@ -43,12 +44,12 @@ header_of k g = record {
 -- the bodies of the records that keep these updates, whose sets of users take 32 bytes
 abbrev pub bodies_of : List SealedUpdate → List (List ℕ)
 bodies_of [] = []
-bodies_of (u ∷ updates) = spelling 32 u ∷ bodies_of updates
+bodies_of (u ∷ updates) = spelling first_form u ∷ bodies_of updates
 
 -- each of these updates has a spelling
 abbrev pub AllHaveForm : List SealedUpdate → Type 0
 AllHaveForm [] = Unit {0}
-AllHaveForm (u ∷ updates) = HasForm 32 u × AllHaveForm updates
+AllHaveForm (u ∷ updates) = HasForm first_form u × AllHaveForm updates
 
 -- ---- what an image stands for
 

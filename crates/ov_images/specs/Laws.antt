@@ -3,6 +3,7 @@ use Rattle.std.specs.Prelude.{◌≡◌, length}
 use Rattle.ov_tokens.specs.Keys.{check_value_of}
 use Rattle.ov_record.specs.Updates.{SealedUpdate}
 use Rattle.ov_record.specs.Spelling.{spelling, HasForm}
+use Rattle.ov_record.specs.Forms.{first_form}
 use Rattle.ov_history.specs.Sealed.{SealedHistory, IsSealed, with_sealed}
 use Rattle.ov_disk.specs.Disk.{Image}
 use Rattle.ov_journal.specs.Book.{contents_of, with_body}
@@ -39,6 +40,6 @@ SameContentsKeepTheSame =
 abbrev pub KeepingGoesOn : Type 0
 KeepingGoesOn =
     (k : Keys) (g : SealedHistory) (u : SealedUpdate) (i c : Image)
-    → Keeps k g i → IsSealed (with_sealed g u) → HasForm 32 u
-    → contents_of c.book ≡ with_body (spelling 32 u) (contents_of i.book)
+    → Keeps k g i → IsSealed (with_sealed g u) → HasForm first_form u
+    → contents_of c.book ≡ with_body (spelling first_form u) (contents_of i.book)
     → Keeps k (with_sealed g u) c

@@ -5,3 +5,4 @@ pub mod AllOfThem
 pub mod OneEpoch
 pub mod TextsTold
 pub mod Settling
+pub mod Blaming

@@ -2,6 +2,7 @@
 use Rattle.std.proofs.Common.{◌≡◌, ◌∙◌, ℕ, List, [], Bool, true, false, Option, Some, None}
 use Rattle.std.proofs.Common.{Result, Ok, Err, refl, sym, subst, inl, inr}
 use Rattle.ov_record.specs.Updates.{SealedUpdate}
+use Rattle.ov_history.proofs.Living.{there-of}
 use Rattle.ov_wire.specs.Requests.{HasRequestForm, request_bytes}
 use Rattle.ov_wire.specs.declared.answer.Answer.{Answer}
 use Rattle.ov_wire.specs.declared.answer.Answer.TheVariants as answers
@@ -94,7 +95,13 @@ module _ {P : Type 0} (peer : PeerTells P) (p q : P) (alone : Bool) (v : Service
   name_told part number form a (Ok None) answered is_page =
       let (others, may, then, is) = answered_at peer p q (requests.Page (part_number part) number)
       (quiet_page (part_number part) number) form alone v a answered is_alone serves in
-      (others, may, then, no_page part (served (later v others)).catalogue number (cc (is, is_page)))
+      let now : Service = later v others in (
+        others,
+        may,
+        then,
+        no_page part (served now).catalogue number (there-of now.surface now.history)
+            (cc (is, is_page)),
+      )
   name_told part number form a (Err fault) answered named = tt
 
   pub list_told : (file : List ℕ) → HasRequestForm (requests.List file) → (a : Answer)

@@ -2,7 +2,8 @@
 use Rattle.std.proofs.Common.{◌≡◌, ◌∙◌, ℕ, zero, suc, List, [], ◌∷◌, ◌++◌, length, take}
 use Rattle.std.proofs.Common.{Option, Some, None, refl, sym, ap, subst, arith, drop, get_or}
 use Rattle.std.proofs.Common.{◌≤◌, ◌-◌}
-use Rattle.std.specs.Prelude.{IfSome, slice_get}
+use Rattle.std.specs.Prelude.{◌↔◌, IfNone, IfSome, IsSome, slice_get}
+use Rattle.ov_base.specs.Names.{IsName}
 use Rattle.std.proofs.Math.Seq.{take-append_seam, take-length}
 use Rattle.std.proofs.lemmas.List.{append_assoc, append-nil, take-append-drop}
 use Rattle.std.proofs.lemmas.Option.{same_Some}
@@ -10,9 +11,11 @@ use Rattle.ov_fields.specs.Spelling.{name_field, optional, u32}
 use Rattle.ov_history.specs.Catalogue.{Catalogue, Filed, files_shown, matrix_shown, outline}
 use Rattle.ov_history.specs.Layers.{Layers, root_of}
 use Rattle.ov_history.specs.Lists.{file_names}
+use Rattle.ov_history.specs.Places.{living_at}
+use Rattle.ov_history.proofs.Living.{AllThere}
 use Rattle.ov_wire.specs.Entries.{File, User, entry_bytes}
 use Rattle.ov_protocol.specs.Pages.{entry_of, file_entry_of, page_of, user_entry_of}
-use Rattle.ov_listing.specs.Questions.{names_in_part, part_number}
+use Rattle.ov_listing.specs.Questions.{HasNoName, names_in_part, part_number}
 use Rattle.ov_listing.specs.declared.part.Part.{Part}
 use Rattle.ov_listing.specs.declared.part.Part.TheVariants.{Files, Users}
 
@@ -60,16 +63,21 @@ same_front x y r s same =
 one_name : (x y bytes : List ℕ) → Begins x bytes → Begins y bytes → x ≡ y
 one_name x y bytes (r, one) (s, other) = same_front x y r s (sym one ∙ other)
 
--- the name of a file, where there is one
-abbrev name_of : Option Filed → Option (List ℕ)
-name_of None = None
-name_of (Some f) = Some f.name
+-- where the bytes behind the length are no name, the entry begins with none
+pub no_name : (entry word : List ℕ) (read : Option (List ℕ)) → (IsSome read ↔ IsName word)
+    → Begins word entry → IfNone read (HasNoName entry)
+no_name entry word (Some name) form begins = tt
+no_name entry word None form begins = λ name rest named is.
+    absurd (cc (form.1 (subst IsName (one_name name word entry (rest, is) begins) named)))
 
-shown_name : (y : Layers) (files : List Filed) (n : ℕ)
-    → slice_get (file_names (files_shown y files)) n ≡ name_of (slice_get files n)
-shown_name y [] n = refl
-shown_name y (f ∷ files) zero = refl
-shown_name y (f ∷ files) (suc n) = shown_name y files n
+-- a file that is there is shown with its name
+shown_name : (y : Layers) (files : List (Option Filed)) (n : ℕ) (f : Filed)
+    → living_at files n ≡ Some f → slice_get (file_names (files_shown y files)) n ≡ Some f.name
+shown_name y [] n f is = absurd (cc is)
+shown_name y (None ∷ files) zero f is = absurd (cc is)
+shown_name y (Some g ∷ files) zero f is =
+    ap (λ (h : Filed). Some h.name) (same_Some g f is)
+shown_name y (g ∷ files) (suc n) f is = shown_name y files n f is
 
 user_page : (c : Catalogue) (number : ℕ) (name entry rest : List ℕ) (found : Option (List ℕ))
     → page_of (user_entry_of c number found) ≡ Some entry → entry ≡ name_field name ++ rest
@@ -85,7 +93,7 @@ user_page c number name entry rest (Some x) page begins =
 
 file_page : (name entry rest : List ℕ) (found : Option Filed)
     → page_of (file_entry_of found) ≡ Some entry → entry ≡ name_field name ++ rest
-    → name_of found ≡ Some name
+    → (f : Filed) × (found ≡ Some f) × (f.name ≡ name)
 file_page name entry rest None page begins = absurd (cc page)
 file_page name entry rest (Some f) page begins =
     let bytes = entry_bytes (File f.name f.node f.length f.generation f.tag f.surface) in
@@ -98,7 +106,7 @@ file_page name entry rest (Some f) page begins =
     let front : Begins f.name bytes =
     further f.name (head ++ u32 f.node ++ u32 f.length ++ u32 f.generation ++ f.tag)
     (optional u32 f.surface) four in
-    ap Some (one_name f.name name bytes front (rest, is ∙ begins))
+    (f, refl, one_name f.name name bytes front (rest, is ∙ begins))
 
 pub page_named : (part : Part) (c : Catalogue) (number : ℕ) (name entry rest : List ℕ)
     → page_of (entry_of c (part_number part) number) ≡ Some entry
@@ -107,21 +115,25 @@ pub page_named : (part : Part) (c : Catalogue) (number : ℕ) (name entry rest :
 page_named Users c number name entry rest page begins =
     user_page c number name entry rest (slice_get c.users number) page begins
 page_named Files c number name entry rest page begins =
-    shown_name (outline c) c.files number
-    ∙ file_page name entry rest (slice_get c.files number) page begins
+    let (f, is, same) = file_page name entry rest (living_at c.files number) page begins in
+    shown_name (outline c) c.files number f is ∙ ap Some same
 
 no_user : (c : Catalogue) (number : ℕ) (found : Option (List ℕ))
     → page_of (user_entry_of c number found) ≡ None → found ≡ None
 no_user c number None page = refl
 no_user c number (Some x) page = absurd (cc page)
 
-no_file : (found : Option Filed) → page_of (file_entry_of found) ≡ None → name_of found ≡ None
-no_file None page = refl
-no_file (Some f) page = absurd (cc page)
+-- where no file is gone, there is no page past the last alone
+no_file : (y : Layers) (files : List (Option Filed)) (n : ℕ) → AllThere files
+    → page_of (file_entry_of (living_at files n)) ≡ None
+    → slice_get (file_names (files_shown y files)) n ≡ None
+no_file y [] n all page = refl
+no_file y (None ∷ files) n all page = absurd all
+no_file y (Some f ∷ files) zero all page = absurd (cc page)
+no_file y (Some f ∷ files) (suc n) all page = no_file y files n all page
 
-pub no_page : (part : Part) (c : Catalogue) (number : ℕ)
+pub no_page : (part : Part) (c : Catalogue) (number : ℕ) → AllThere c.files
     → page_of (entry_of c (part_number part) number) ≡ None
     → slice_get (names_in_part part (matrix_shown c)) number ≡ None
-no_page Users c number page = no_user c number (slice_get c.users number) page
-no_page Files c number page =
-    shown_name (outline c) c.files number ∙ no_file (slice_get c.files number) page
+no_page Users c number all page = no_user c number (slice_get c.users number) page
+no_page Files c number all page = no_file (outline c) c.files number all page

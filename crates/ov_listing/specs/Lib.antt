@@ -4,3 +4,4 @@ pub mod Telling
 pub mod Questions
 pub mod Texts
 pub mod Answers
+pub mod Reasons

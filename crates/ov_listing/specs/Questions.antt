@@ -1,7 +1,9 @@
--- Inner: no public contract needs this but for `IsWelcomeAt`. What is taken of one answer, and of
+-- Inner, but for `IsWelcomeAt` and for what `Reasons` names. What is taken of one answer, and of
 -- several.
 use Rattle.std.specs.Prelude.{◌≡◌, ℕ, List, ◌++◌, map, slice_get}
 use Rattle.std.specs.Prelude.{Option, Some, None, Result, Ok, Err}
+use Rattle.ov_base.specs.Names.{IsName}
+use Rattle.ov_base.specs.declared.limits.TheConstants.{MAX_FILES, MAX_USERS}
 use Rattle.ov_fields.specs.Spelling.{name_field}
 use Rattle.ov_history.specs.Catalogue.{matrix_shown}
 use Rattle.ov_history.specs.History.{Matrix}
@@ -34,13 +36,25 @@ listed_in (answers.Listed names) = Ok names
 listed_in answers.NoMemory = Err Memory
 listed_in answer = Err (BadReply 0)
 
+-- the entry begins with no name
+abbrev pub HasNoName : List ℕ → Type 0
+HasNoName entry = (name rest : List ℕ) → IsName name → entry ≡ name_field name ++ rest → ⊥
+
+-- No name is told of the answer to a question for a page: it is of another kind, which is wrong at
+-- 0, or the entry begins with no name, which is wrong at 2.
+abbrev pub IsNoPage : Answer → ℕ → Type 0
+IsNoPage (answers.PageOf (Some entry)) place = (place ≡ 2) × HasNoName entry
+IsNoPage (answers.PageOf None) place = ⊥
+IsNoPage answers.NoMemory place = ⊥
+IsNoPage answer place = place ≡ 0
+
 -- the page's entry begins with this name, or there is no page; or why neither is told
 abbrev pub NamedIn : Answer → Result (Option (List ℕ)) ListingFault → Type 0
 NamedIn answer (Ok (Some name)) =
     (entry rest : List ℕ) × (answer ≡ answers.PageOf (Some entry))
     × (entry ≡ name_field name ++ rest)
 NamedIn answer (Ok None) = answer ≡ answers.PageOf None
-NamedIn answer (Err (BadReply place)) = Unit {0}
+NamedIn answer (Err (BadReply place)) = IsNoPage answer place
 NamedIn answer (Err Memory) = answer ≡ answers.NoMemory
 NamedIn answer (Err fault) = ⊥
 
@@ -48,6 +62,11 @@ NamedIn answer (Err fault) = ⊥
 abbrev pub part_number : Part → ℕ
 part_number Users = 1
 part_number Files = 5
+
+-- how many names a store can have in a part
+abbrev pub most_in : Part → ℕ
+most_in Users = MAX_USERS
+most_in Files = MAX_FILES
 
 -- ---- by the matrix that is shown
 

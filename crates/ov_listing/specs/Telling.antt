@@ -2,18 +2,11 @@
 use Rattle.std.specs.Prelude.{◌≡◌, ℕ, Bool, true, false, List, [], Result, Ok, Err}
 use Rattle.ov_record.specs.Updates.{SealedUpdate}
 use Rattle.ov_protocol.specs.Serving.{Service, later}
-use Rattle.ov_peer.specs.Tells.{IsReplyAt, PeerTells}
+use Rattle.ov_peer.specs.Alone.{IsAlone}
+use Rattle.ov_peer.specs.Tells.{PeerTells}
 use Rattle.ov_listing.specs.declared.fault.ListingFault.{ListingFault}
 
--- Nobody else updates what this peer serves: whatever it is asked, it replies by just the history
--- that it serves, or that its disk failed, and then serves that with what the request made.
-abbrev pub IsAlone : {P : Type 0} → PeerTells P → Type 0
-IsAlone {P} peer =
-    (p q : P) (request reply : List ℕ) (v : Service)
-    → peer.asked p request reply q → peer.serves p v
-    → (made : List SealedUpdate) × IsReplyAt v request reply made × peer.serves q (later v made)
-
--- the same, where the test says so
+-- nobody else updates what this peer serves, where the test says so
 abbrev pub IsAloneIf : {P : Type 0} → Bool → PeerTells P → Type 0
 IsAloneIf true peer = IsAlone peer
 IsAloneIf false peer = Unit {0}

@@ -1,11 +1,13 @@
 //! The text that answers a question.
-ghost use Rattle.std.specs.Prelude.{◌≡◌, Bool, IfOk, OnOk, Some};
+ghost use Rattle.std.specs.Prelude.{◌≡◌, Bool, IfErr, IfOk, OnOk, Some};
 ghost use Rattle.ov_base.specs.NameLists.{is_among};
 ghost use Rattle.ov_protocol.specs.Serving.{Service};
 ghost use Rattle.ov_listing.specs.Answers.{IsTextAt, files_answer, given_text};
 ghost use Rattle.ov_listing.specs.Causes.{HasListingCause, IsSettled};
-ghost use Rattle.ov_listing.specs.Telling.{IsAlone, IsAloneIf, Told};
+ghost use Rattle.ov_listing.specs.Reasons.{BlamesChanges, BlamesReply};
+ghost use Rattle.ov_listing.specs.Telling.{IsAloneIf, Told};
 ghost use Rattle.ov_listing.specs.Texts.{epoch_text, users_text};
+ghost use Rattle.ov_peer.specs.Alone.{IsAlone};
 
 use crate::asking::ask_welcome;
 use crate::texts::{put_epoch, put_files, put_files_of, put_users};
@@ -96,6 +98,8 @@ pub fn answer<P: Peer>(
         → Told alone v (P.tells.serves peer.new) (IsTextAt question.now) result }
     ensures once { IsAlone P.tells → (v : Service) → P.tells.serves peer.old v
         → IsSettled result }
+    ensures blames { IfErr result (BlamesReply P.tells peer.new) }
+    ensures changes { IfErr result (BlamesChanges P.tells peer.old peer.new) }
     ensures same { P.tells.borrow peer.new ≡ P.tells.borrow peer.old }
     ensures cause { HasListingCause (P.tells.faults peer.old) (P.tells.faults peer.new) result }
 {

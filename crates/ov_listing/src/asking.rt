@@ -1,10 +1,12 @@
 //! The three questions of a listing.
-ghost use Rattle.std.specs.Prelude.{◌≡◌, Bool, IfSome, List, ℕ, ◌++◌};
+ghost use Rattle.std.specs.Prelude.{◌≡◌, Bool, IfErr, IfNone, IfOk, IfSome, List, ℕ, ◌++◌};
 ghost use Rattle.ov_fields.specs.Spelling.{name_field};
 ghost use Rattle.ov_protocol.specs.Serving.{Service};
 ghost use Rattle.ov_listing.specs.Causes.{HasListingCause, IsSettled};
-ghost use Rattle.ov_listing.specs.Questions.{NamedIn, listed_in, welcome_in};
+ghost use Rattle.ov_listing.specs.Questions.{HasNoName, NamedIn, listed_in, part_number};
+ghost use Rattle.ov_listing.specs.Questions.{welcome_in};
 ghost use Rattle.ov_listing.specs.Questions.{IsListAt, IsNameAt, IsWelcomeAt};
+ghost use Rattle.ov_listing.specs.Reasons.{BlamesReply, Greets, IsOnPage};
 ghost use Rattle.ov_listing.specs.Telling.{IsAloneIf, Told};
 
 use crate::ListingFault;
@@ -32,6 +34,8 @@ pub fn ask_welcome<P: Peer>(alloc: Global, peer: &mut P) -> Result<Welcome, List
         → P.tells.serves peer.old v
         → Told alone v (P.tells.serves peer.new) IsWelcomeAt result }
     ensures settled { IsSettled result }
+    ensures blames { IfErr result (BlamesReply P.tells peer.new) }
+    ensures greets { IfOk result (Greets P.tells peer.old peer.new) }
     ensures same { P.tells.borrow peer.new ≡ P.tells.borrow peer.old }
     ensures cause { HasListingCause (P.tells.faults peer.old) (P.tells.faults peer.new) result }
 {
@@ -43,7 +47,8 @@ pub fn ask_welcome<P: Peer>(alloc: Global, peer: &mut P) -> Result<Welcome, List
 
 /// The name with which an entry begins, behind its length.
 fn name_in(entry: &[u8]) -> Option<Name>
-    ensures { IfSome result (λ name. (rest : List ℕ) × (entry.now ≡ name_field name ++ rest)) }
+    ensures some { IfSome result (λ name. (rest : List ℕ) × (entry.now ≡ name_field name ++ rest)) }
+    ensures none { IfNone result (HasNoName entry.now) }
 {
     match entry {
         [count, rest @ ..] => {
@@ -80,6 +85,8 @@ pub fn name_at<P: Peer>(
         → P.tells.serves peer.old v
         → Told alone v (P.tells.serves peer.new) (IsNameAt part number) result }
     ensures settled { IsSettled result }
+    ensures blames { IfErr result (BlamesReply P.tells peer.new) }
+    ensures page { IfOk result (IsOnPage P.tells (part_number part) number peer.new) }
     ensures same { P.tells.borrow peer.new ≡ P.tells.borrow peer.old }
     ensures cause { HasListingCause (P.tells.faults peer.old) (P.tells.faults peer.new) result }
 {
@@ -110,6 +117,7 @@ pub fn list_of<P: Peer>(alloc: Global, peer: &mut P, file: &Name) -> Result<Name
         → P.tells.serves peer.old v
         → Told alone v (P.tells.serves peer.new) (IsListAt file.now) result }
     ensures settled { IsSettled result }
+    ensures blames { IfErr result (BlamesReply P.tells peer.new) }
     ensures same { P.tells.borrow peer.new ≡ P.tells.borrow peer.old }
     ensures cause { HasListingCause (P.tells.faults peer.old) (P.tells.faults peer.new) result }
 {

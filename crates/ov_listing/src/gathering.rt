@@ -1,8 +1,9 @@
 //! All names of a part of the catalogue, and the lists of all files.
-ghost use Rattle.std.specs.Prelude.{◌≡◌, Bool};
+ghost use Rattle.std.specs.Prelude.{◌≡◌, Bool, IfErr};
 ghost use Rattle.ov_protocol.specs.Serving.{Service};
 ghost use Rattle.ov_listing.specs.Causes.{HasListingCause, IsSettled};
 ghost use Rattle.ov_listing.specs.Questions.{AreListsAt, AreNamesAt};
+ghost use Rattle.ov_listing.specs.Reasons.{BlamesReply};
 ghost use Rattle.ov_listing.specs.Telling.{IsAloneIf, ToldOfOne};
 
 use crate::asking::{list_of, name_at};
@@ -20,6 +21,7 @@ pub fn names_of<P: Peer>(alloc: Global, peer: &mut P, part: Part) -> Result<Vec<
         → ToldOfOne alone v (P.tells.serves peer.new) (λ names. AreNamesAt part names.items)
         result }
     ensures settled { IsSettled result }
+    ensures blames { IfErr result (BlamesReply P.tells peer.new) }
     ensures same { P.tells.borrow peer.new ≡ P.tells.borrow peer.old }
     ensures cause { HasListingCause (P.tells.faults peer.old) (P.tells.faults peer.new) result }
 {
@@ -48,6 +50,7 @@ pub fn lists_of<P: Peer>(
         → ToldOfOne alone v (P.tells.serves peer.new) (λ lists. AreListsAt files.now lists.items)
         result }
     ensures settled { IsSettled result }
+    ensures blames { IfErr result (BlamesReply P.tells peer.new) }
     ensures same { P.tells.borrow peer.new ≡ P.tells.borrow peer.old }
     ensures cause { HasListingCause (P.tells.faults peer.old) (P.tells.faults peer.new) result }
 {

@@ -26,6 +26,7 @@
 //! | `Telling` | what an answer is worth over a peer that tells its history |
 //! | `Questions` | what is taken of one answer |
 //! | `Causes` | where a fault of the link comes; that one try was enough |
+//! | `Reasons` | where a reply is a bad one, and where the store is said to have changed |
 //! | `Texts`, `Answers` | the lines of a listing, and the text that answers a question |
 //!
 //! Nothing is claimed of a peer that tells nothing: it may show any users and any lists.

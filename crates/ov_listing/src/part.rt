@@ -1,6 +1,6 @@
 //! The parts of the catalogue that have names.
-ghost use Rattle.std.specs.Prelude.{◌≡◌};
-ghost use Rattle.ov_listing.specs.Questions.{part_number};
+ghost use Rattle.std.specs.Prelude.{◌≡◌, ◌+◌};
+ghost use Rattle.ov_listing.specs.Questions.{most_in, part_number};
 
 use ov_base::limits::{MAX_FILES, MAX_USERS};
 
@@ -25,7 +25,9 @@ impl Part {
     }
 
     /// How many pages are asked for at most: one more than it can have.
-    pub fn pages(self) -> u32 {
+    pub fn pages(self) -> u32
+        ensures { result ≡ most_in self + 1 }
+    {
         match self {
             Part::Users => MAX_USERS + 1,
             Part::Files => MAX_FILES + 1,

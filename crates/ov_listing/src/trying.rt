@@ -1,10 +1,12 @@
 //! A listing of one epoch.
-ghost use Rattle.std.specs.Prelude.{◌≡◌, Bool};
+ghost use Rattle.std.specs.Prelude.{◌≡◌, Bool, IfErr, IfOk};
 ghost use Rattle.ov_protocol.specs.Serving.{Service};
 ghost use Rattle.ov_listing.specs.Causes.{HasListingCause, IsOneTry, IsSettled};
 ghost use Rattle.ov_listing.specs.Listings.{IsListingAt};
 ghost use Rattle.ov_listing.specs.Questions.{AreFilesAt, IsTryAt};
-ghost use Rattle.ov_listing.specs.Telling.{IsAlone, IsAloneIf, Told, ToldOfOne};
+ghost use Rattle.ov_listing.specs.Reasons.{BlamesChanges, BlamesReply, IsNoneByChange};
+ghost use Rattle.ov_listing.specs.Telling.{IsAloneIf, Told, ToldOfOne};
+ghost use Rattle.ov_peer.specs.Alone.{IsAlone};
 
 use crate::asking::ask_welcome;
 use crate::gathering::{lists_of, names_of};
@@ -27,6 +29,7 @@ fn files_of<P: Peer>(
         → ToldOfOne alone v (P.tells.serves peer.new) (λ files. AreFilesAt wanted files.items)
         result }
     ensures settled { IsSettled result }
+    ensures blames { IfErr result (BlamesReply P.tells peer.new) }
     ensures same { P.tells.borrow peer.new ≡ P.tells.borrow peer.old }
     ensures cause { HasListingCause (P.tells.faults peer.old) (P.tells.faults peer.new) result }
 {
@@ -50,6 +53,9 @@ fn try_once<P: Peer>(
         → Told alone v (P.tells.serves peer.new) (IsTryAt wanted) result }
     ensures once { IsAlone P.tells → (v : Service) → P.tells.serves peer.old v
         → IsOneTry result }
+    ensures settled { IsSettled result }
+    ensures blames { IfErr result (BlamesReply P.tells peer.new) }
+    ensures changed { IfOk result (IsNoneByChange P.tells peer.old peer.new) }
     ensures same { P.tells.borrow peer.new ≡ P.tells.borrow peer.old }
     ensures cause { HasListingCause (P.tells.faults peer.old) (P.tells.faults peer.new) result }
 {
@@ -93,6 +99,8 @@ pub fn ask_listing<P: Peer>(
         → Told alone v (P.tells.serves peer.new) (IsListingAt wanted) result }
     ensures once { IsAlone P.tells → (v : Service) → P.tells.serves peer.old v
         → IsSettled result }
+    ensures blames { IfErr result (BlamesReply P.tells peer.new) }
+    ensures changes { IfErr result (BlamesChanges P.tells peer.old peer.new) }
     ensures same { P.tells.borrow peer.new ≡ P.tells.borrow peer.old }
     ensures cause { HasListingCause (P.tells.faults peer.old) (P.tells.faults peer.new) result }
 {

@@ -1,13 +1,12 @@
 -- How a read goes over the machine's server, whatever history it serves.
-use Rattle.std.proofs.Common.{◌≡◌, ◌∙◌, ◌<◌, ◌+◌, ℕ, Bool, true, false}
+use Rattle.std.proofs.Common.{◌≡◌, ◌∙◌, ◌+◌, ℕ, Bool, true, false}
 use Rattle.std.proofs.Common.{List, [], ◌∷◌, ◌++◌, length, take, drop, Option, Some, None}
 use Rattle.std.proofs.Common.{Result, Ok, Err, refl, sym, ap, subst, arith, append_assoc, inl, inr}
 use Rattle.std.proofs.Common.{eq-eqb, length-append, true≢false}
 use Rattle.std.proofs.lemmas.Slice.Eq.{bytes_eq-Decides}
-use Rattle.std.specs.Prelude.{◌⊎◌, ◌≢◌, bytes_eq, min, nat_lt, if◌then◌else◌, slice_get, slice_index, slice_index_or}
+use Rattle.std.specs.Prelude.{◌⊎◌, ◌≢◌, bytes_eq, min, nat_lt, if◌then◌else◌, slice_index, slice_index_or}
 use Rattle.std.proofs.Math.Seq.{drop-append_seam}
 use Rattle.std.proofs.lemmas.List.{length-take, take-append-drop}
-use Rattle.ov_base.proofs.Tests.{lt_of_true, true_of_not}
 use Rattle.ov_base.specs.Causes.{Rose}
 use Rattle.ov_base.specs.declared.limits.TheConstants.{MAX_CHUNK_BYTES}
 use Rattle.ov_base.specs.declared.refusal.Refusal.TheVariants.{NoUser, NoFile, NoPath}
@@ -15,10 +14,11 @@ use Rattle.ov_base.specs.Sets.{has}
 use Rattle.ov_disk.specs.Tells.{DiskTells}
 use Rattle.ov_surface.specs.Tags.{tag_of_file}
 use Rattle.ov_history.specs.Asking.{file_named, user_named}
-use Rattle.ov_history.specs.Catalogue.{Catalogue, Filed, matrix_shown, outline}
+use Rattle.ov_history.specs.Catalogue.{Catalogue, Filed, matrix_shown}
 use Rattle.ov_history.specs.Layers.{root_of}
+use Rattle.ov_history.specs.Places.{living_at}
 use Rattle.ov_history.specs.Refusals.{first_of_tests, read_refusal}
-use Rattle.ov_history.proofs.SoundTests.{files_shown-length}
+use Rattle.ov_history.proofs.SoundTests.{file_is}
 use Rattle.ov_wire.specs.declared.request.Request.{Request}
 use Rattle.ov_wire.specs.declared.request.Request.TheVariants as requests
 use Rattle.ov_wire.specs.declared.answer.Answer.{Answer}
@@ -42,7 +42,7 @@ use Rattle.ov_client.specs.declared.fault.ClientFault.{ClientFault}
 use Rattle.ov_client.specs.declared.fault.ClientFault.TheVariants as client
 use Rattle.ov_client.specs.declared.telling.Fetched.TheVariants.{Bytes}
 use Rattle.ov_client.proofs.Leading.{BeginsAt}
-use Rattle.ov_client.proofs.Staying.{file_in, found_file}
+use Rattle.ov_client.proofs.Staying.{IsIn, file_in, found_file}
 use Rattle.ov_client.proofs.Fields.{right_field}
 use Rattle.ov_client.proofs.ReadingBack.{base_begins, chain_is_answer, reads_back, surface_begins}
 use Rattle.ov_machine.specs.Seats.{AllStay, LeftBy, served, store_peer}
@@ -57,16 +57,13 @@ file_there false false c none = refl
 
 -- a file that may be read is there
 pub there : (c : Catalogue) (user n : ℕ) → read_refusal (matrix_shown c) user n ≡ None
-    → n < length c.files
-there c user n none =
-    let test = true_of_not _ (file_there _ _ _ none) in
-    let low : n < length (matrix_shown c).files = lt_of_true n (length (matrix_shown c).files) test in
-    omega (arith, files_shown-length (outline c) c.files)
+    → IsIn c.files n
+there c user n none = file_is n c (file_there _ _ _ none)
 
 -- what is stored of each file has its length
 abbrev pub HasLengths : {D : Type 0} → Opened D → Type 0
 HasLengths s =
-    (n : ℕ) (f : Filed) → slice_get s.catalogue.files n ≡ Some f
+    (n : ℕ) (f : Filed) → living_at s.catalogue.files n ≡ Some f
     → length (slice_index_or s.stored n []) ≡ f.length
 
 -- the reader's roots are those of the user of its name there
@@ -123,11 +120,11 @@ module _ {D : Type 0} (tells : DiskTells D) (s : Opened D) (sizes : HasLengths s
         by_test false is = λ same. true≢false (sym ((bytes_eq-Decides computed told.tag).1 same) ∙ is)
 
   module _ (told : Chained) (stored : List ℕ) (f : IsFetching told stored) where
-    low : n < length c.files
+    low : IsIn c.files n
     low = there c u n f.allowed
 
-    pub low_told : told.file < length c.files
-    low_told = subst (λ m. m < length c.files) (sym f.chained.file) low
+    pub low_told : IsIn c.files told.file
+    low_told = subst (λ m. IsIn c.files m) (sym f.chained.file) low
 
     size : length (slice_index_or s.stored told.file []) ≡ told.length
     size =

@@ -42,7 +42,7 @@ use Rattle.ov_client.specs.declared.fault.ClientFault.TheVariants as client
 use Rattle.ov_client.proofs.Machine.{reads_are_the_machines}
 use Rattle.ov_owner.specs.Clients.{reader_in, reader_of}
 use Rattle.ov_owner.specs.declared.fault.OwnerFault.TheVariants as faults
-use Rattle.ov_owner.proofs.Histories.{followed-nil}
+use Rattle.ov_peer.proofs.Following.{followed-nil}
 use Rattle.ov_machine.specs.Machine.{Kept, KeptOn, StandsFor, opened_of}
 use Rattle.ov_machine.specs.Seats.{AllStay, served}
 use Rattle.ov_machine.proofs.Fetching.{HasRootsAt}

@@ -3,10 +3,11 @@ use Rattle.std.proofs.Common.{◌≡◌, ℕ, zero, suc, ◌+◌, ◌-◌, ◌*�
 use Rattle.std.specs.Int.{w16}
 use Rattle.std.proofs.lemmas.Bool.{ltb-true, ltb-false, le-ltb}
 use Rattle.std.proofs.lemmas.Bool.Decides.{nat_tests}
-use Rattle.ov_base.specs.declared.limits.TheConstants.{MAX_USERS, MAX_FILE_BYTES}
+use Rattle.ov_base.specs.declared.limits.TheConstants.{MAX_USERS, MAX_FILE_BYTES, SET_BYTES}
 use Rattle.ov_base.specs.Sets.{set_of_bytes}
 use Rattle.ov_fields.specs.Reading.{Read, ◌>>=◌, ◌>>◌, made, spanned, rest_of, at_most, bytes_at, number_that, many_at, counted_at, flag_at, some_at, optional_at, set_at, token_at, token_of, name_at, sized_at}
 use Rattle.ov_record.specs.Reading as record_reading
+use Rattle.ov_record.specs.Forms.{first_form}
 use Rattle.ov_wire.specs.Updates as wire_reading
 use Rattle.ov_wire.specs.RequestReading.{spelling_at}
 
@@ -45,8 +46,8 @@ then_alike r r' s s' one two bytes =
 same : {A : Type 0} (r : List ℕ → Read A) → AreAlike r r
 same r bytes = refl
 
-set_alike : AreAlike (bytes_at 32) (set_at 32)
-set_alike bytes = sym (rest-made set_of_bytes (bytes_at 32 bytes))
+set_alike : AreAlike (bytes_at SET_BYTES) (set_at SET_BYTES)
+set_alike bytes = sym (rest-made set_of_bytes (bytes_at SET_BYTES bytes))
 
 -- the bytes of this many tokens, at once and one after the other
 -- (as what is left, or none where they are too few)
@@ -114,23 +115,23 @@ token_alike : AreAlike (optional_at (bytes_at 32)) (optional_at token_at)
 unfolding optional_at
 token_alike bytes = behind_flag (flag_at bytes)
 
-creation_alike : AreAlike wire_reading.creation_at (record_reading.creation_at 32)
+creation_alike : AreAlike wire_reading.creation_at (record_reading.creation_at first_form)
 creation_alike =
     then_alike _ _ (sized_at MAX_FILE_BYTES) (sized_at MAX_FILE_BYTES)
     (then_alike _ _ (bytes_at 32) (bytes_at 32)
     (then_alike _ _ (wire_reading.tokens_at MAX_USERS) (counted_at MAX_USERS token_at)
-    (then_alike name_at name_at (bytes_at 32) (set_at 32) (same name_at) set_alike) tokens_alike) (same (bytes_at 32))) (same (sized_at MAX_FILE_BYTES))
+    (then_alike name_at name_at (bytes_at SET_BYTES) (set_at SET_BYTES) (same name_at) set_alike) tokens_alike) (same (bytes_at 32))) (same (sized_at MAX_FILE_BYTES))
 
 grant_alike : AreAlike wire_reading.grant_at record_reading.grant_at
 grant_alike = then_alike _ _ (optional_at (bytes_at 32)) (optional_at token_at) (same wire_reading.revocation_at) token_alike
 
-updates_alike : AreAlike wire_reading.fields_at (record_reading.update_at 32)
+updates_alike : AreAlike wire_reading.fields_at (record_reading.update_at first_form)
 unfolding wire_reading.fields_at record_reading.update_at
 updates_alike [] = refl
 updates_alike (zero ∷ bytes) = refl
 updates_alike (suc zero ∷ bytes) = rest-made _ (name_at bytes) ∙ sym (rest-made _ (name_at bytes))
 updates_alike (suc (suc zero) ∷ bytes) =
-    rest-made wire_reading.creation (wire_reading.creation_at bytes) ∙ creation_alike bytes ∙ sym (rest-made record_reading.creation (record_reading.creation_at 32 bytes))
+    rest-made wire_reading.creation (wire_reading.creation_at bytes) ∙ creation_alike bytes ∙ sym (rest-made record_reading.creation (record_reading.creation_at first_form bytes))
 updates_alike (suc (suc (suc zero)) ∷ bytes) =
     rest-made wire_reading.grant (wire_reading.grant_at bytes) ∙ grant_alike bytes ∙ sym (rest-made record_reading.grant (record_reading.grant_at bytes))
 updates_alike (suc (suc (suc (suc zero))) ∷ bytes) =
@@ -145,6 +146,6 @@ span-rest : {A : Type 0} (bytes : List ℕ) (read : Read A) → (read >>= λ a. 
 span-rest bytes (Ok a) = refl
 span-rest bytes (Err left) = refl
 
-pub spellings_agree : (bytes : List ℕ) → spelling_at bytes ≡ spanned (record_reading.update_at 32) bytes
+pub spellings_agree : (bytes : List ℕ) → spelling_at bytes ≡ spanned (record_reading.update_at first_form) bytes
 spellings_agree bytes =
-    span-rest bytes (wire_reading.fields_at bytes) ∙ ap (span_to bytes) (updates_alike bytes) ∙ sym (span-rest bytes (record_reading.update_at 32 bytes))
+    span-rest bytes (wire_reading.fields_at bytes) ∙ ap (span_to bytes) (updates_alike bytes) ∙ sym (span-rest bytes (record_reading.update_at first_form bytes))

@@ -3,10 +3,12 @@ use Rattle.std.proofs.Common.{◌≡◌, ℕ, ◌+◌, ◌*◌, ◌/◌, List, [
 use Rattle.std.specs.List.{flat_map, AllByRecursion}
 use Rattle.ov_base.specs.Sets.{bytes_of}
 use Rattle.ov_base.proofs.SetBytes.{length-bytes_of}
+use Rattle.ov_base.specs.declared.limits.TheConstants.{SET_BYTES}
 use Rattle.ov_tokens.specs.declared.token.Token.{Token}
 use Rattle.ov_fields.specs.Spelling.{u16, name_field, token_field, sized, IsToken}
 use Rattle.ov_record.specs.Updates.{SealedUpdate, SealedEnrol, SealedCreate, SealedGrant, SealedRevoke}
 use Rattle.ov_record.specs.Spelling.{spelling, HasForm}
+use Rattle.ov_record.specs.Forms.{first_form}
 use Rattle.ov_wire.specs.Updates.{Enrolment, Creation, Grant, Revocation, IsSpelling}
 
 tokens_len : (tokens : List Token) → AllByRecursion IsToken tokens → length (flat_map token_field tokens) ≡ 32 * length tokens
@@ -19,15 +21,15 @@ tokens_len (token ∷ tokens) all =
 blocks : (len n : ℕ) → len ≡ 32 * n → len / 32 ≡ n
 blocks len n is = omega (arith, is)
 
-pub is_spelling : (u : SealedUpdate) → HasForm 32 u → IsSpelling (spelling 32 u)
+pub is_spelling : (u : SealedUpdate) → HasForm first_form u → IsSpelling (spelling first_form u)
 is_spelling (SealedEnrol name) fits = record { fields = Enrolment name; form = fits; spelled = refl }
 is_spelling (SealedCreate name list tokens tag bytes) fits =
     let len = tokens_len tokens fits.3 in
     let count : length (flat_map token_field tokens) / 32 ≡ length tokens = blocks (length (flat_map token_field tokens)) (length tokens) len in
     record {
-      fields = Creation name (bytes_of 32 list) (flat_map token_field tokens) tag bytes;
-      form = (fits.0, length-bytes_of 32 list, (omega (arith, len, count), omega (arith, count, fits.2)), fits.4, fits.5);
-      spelled = ap (λ (n : ℕ). 2 ∷ name_field name ++ bytes_of 32 list ++ (u16 n ++ flat_map token_field tokens) ++ tag ++ sized bytes) (sym count);
+      fields = Creation name (bytes_of SET_BYTES list) (flat_map token_field tokens) tag bytes;
+      form = (fits.0, length-bytes_of SET_BYTES list, (omega (arith, len, count), omega (arith, count, fits.2)), fits.4, fits.5);
+      spelled = ap (λ (n : ℕ). 2 ∷ name_field name ++ bytes_of SET_BYTES list ++ (u16 n ++ flat_map token_field tokens) ++ tag ++ sized bytes) (sym count);
     }
 is_spelling (SealedGrant user file None) fits = record { fields = Grant user file None; form = fits; spelled = refl }
 is_spelling (SealedGrant user file (Some token)) fits = record { fields = Grant user file (Some token.bytes); form = fits; spelled = refl }

@@ -1,15 +1,12 @@
 -- Histories at one epoch.
 use Rattle.std.proofs.Common.{◌≡◌, ℕ, ◌+◌, ◌∙◌, List, [], ◌∷◌, ◌++◌, length, refl, ap, arith}
-use Rattle.std.proofs.lemmas.List.{append-nil, length-append}
+use Rattle.std.proofs.lemmas.List.{length-append}
 use Rattle.ov_record.specs.Updates.{SealedUpdate}
 use Rattle.ov_history.specs.Catalogue.{empty_catalogue}
 use Rattle.ov_history.specs.Sealed.{SealedHistory, catalogue_of}
 use Rattle.ov_protocol.specs.Serving.{followed}
 use Rattle.ov_protocol.proofs.GoingOn.{epochs_all}
-
-pub followed-nil : (g : SealedHistory) → followed g [] ≡ g
-followed-nil g =
-    ap (λ (us : List SealedUpdate). record g { updates = us }) (append-nil g.updates)
+use Rattle.ov_peer.proofs.Following.{followed-nil}
 
 no_updates : (us : List SealedUpdate) → length us ≡ 0 → us ≡ []
 no_updates [] none = refl

@@ -4,6 +4,7 @@ use Rattle.std.specs.Prelude.{◌⊎◌, nat_lt, ◌==◌, Bool, true, false, le
 use Rattle.ov_fields.specs.Fronts.{AreAllBytes}
 use Rattle.ov_record.specs.Spelling.{HasForm}
 use Rattle.ov_record.specs.Updates.{SealedUpdate}
+use Rattle.ov_record.specs.Forms.{first_form}
 use Rattle.ov_script.specs.declared.command.Command.{Command}
 use Rattle.ov_script.specs.declared.reply.Reply.{Reply}
 use Rattle.ov_script.specs.declared.reply.Reply.TheVariants as replies
@@ -38,7 +39,7 @@ use Rattle.ov_owner.specs.Talks.{Asks, Closes, Ends, Goes, IsAfter, IsDue, Moves
 use Rattle.ov_owner.specs.declared.limits.TheConstants.{MAX_TRIES}
 use Rattle.ov_owner.specs.declared.fault.OwnerFault.{OwnerFault}
 use Rattle.ov_owner.specs.declared.fault.OwnerFault.TheVariants as faults
-use Rattle.ov_owner.proofs.Histories.{followed-nil}
+use Rattle.ov_peer.proofs.Following.{followed-nil}
 use Rattle.ov_owner.proofs.Stepping.{read_back}
 use Rattle.ov_owner.proofs.Doing.{Does, does}
 use Rattle.ov_owner.proofs.Telling.{under}
@@ -86,7 +87,7 @@ module _ (k : Masters) (command : Command) (e : Errand) (d : Does k command e) (
 
   -- an update makes nothing, or the plain update
   update_makes : (g : SealedHistory) (epoch : ℕ) (u : SealedUpdate) (made : List SealedUpdate)
-      → g ≡ sealed k p → IsReady epoch u → HasForm 32 u
+      → g ≡ sealed k p → IsReady epoch u → HasForm first_form u
       → HasRequestForm (update_request k.surface epoch u)
       → MayMake (request_bytes (update_request k.surface epoch u)) made
       → IsOneOrNone k p command (followed g made)

@@ -6,6 +6,7 @@ use Rattle.ov_fields.specs.Spelling.{u32}
 use Rattle.ov_record.specs.Reading.{update_of}
 use Rattle.ov_record.specs.Spelling.{HasForm, spelling}
 use Rattle.ov_record.specs.Updates.{SealedUpdate}
+use Rattle.ov_record.specs.Forms.{first_form}
 use Rattle.ov_script.specs.declared.command.Command.{Command}
 use Rattle.ov_script.specs.declared.command.Command.TheVariants as commands
 use Rattle.ov_history.specs.Catalogue.{Catalogue}
@@ -61,15 +62,15 @@ update_answer_short : (surface : List ℕ) (c : Catalogue) (epoch : ℕ) (spelle
 update_answer_short surface c epoch spelled tag answers.BadTag is = omega arith
 update_answer_short surface c epoch spelled tag (answers.Stale now) is = omega arith
 update_answer_short surface c epoch spelled tag a (tagged, now, is) =
-    spelled_answer_short c (update_of 32 spelled) a is
+    spelled_answer_short c (update_of first_form spelled) a is
 
 update_length : (surface : List ℕ) (epoch : ℕ) (u : SealedUpdate)
     → HasRequestForm (update_request surface epoch u)
-    → length (request_bytes (update_request surface epoch u)) ≡ 37 + length (spelling 32 u)
+    → length (request_bytes (update_request surface epoch u)) ≡ 37 + length (spelling first_form u)
 update_length surface epoch u form =
-    let tag = owner_tag surface epoch (spelling 32 u) in
+    let tag = owner_tag surface epoch (spelling first_form u) in
     let all : length tag ≡ 32 = form.is_request.2 in
-    omega (arith, all, length-append (u32 epoch ++ spelling 32 u) tag, length-append (u32 epoch) (spelling 32 u))
+    omega (arith, all, length-append (u32 epoch ++ spelling first_form u) tag, length-append (u32 epoch) (spelling first_form u))
 
 module _ (k : Masters) (command : Command) (e : Errand) (d : Does k command e) (base_check : List ℕ) (p : PlainHistory) (legal : IsLegal (history_of p))
     (first told sent : ℕ) (some : 1 ≤ told)
@@ -77,7 +78,7 @@ module _ (k : Masters) (command : Command) (e : Errand) (d : Does k command e) (
     (told_short : (a : Answer) → Answers (served (under k.surface base_check (sealed k p))) e.first a
     → length (answer_bytes a) ≤ told)
     (sent_short : let u = sealed_update k (layers_of (history_of p)) (d.plain p) in
-    HasForm 32 u → length (spelling 32 u) ≤ sent) where
+    HasForm first_form u → length (spelling first_form u) ≤ sent) where
   abbrev At : Stage → SealedHistory → Type 0
   At stage g = Serves k command e d base_check p legal stage g
 
@@ -173,15 +174,15 @@ module _ (k : Masters) (command : Command) (e : Errand) (d : Does k command e) (
       let frame : a.request ≡ request_bytes request = moves.asked.spelled ∙ ap request_bytes (sym ours) in
       let replied_so : IsReplyAt (here g) (request_bytes request) a.reply made =
       subst (λ (x : List ℕ). IsReplyAt (here g) x a.reply made) frame replied in
-      let one : length a.request ≡ 37 + length (spelling 32 u) =
+      let one : length a.request ≡ 37 + length (spelling first_form u) =
       ap length frame ∙ update_length k.surface epoch u moves.asked.form.1 in
-      let two : length (spelling 32 u) ≤ sent =
-      subst (λ (x : SealedUpdate). length (spelling 32 x) ≤ sent) (sym ready.is_sealed)
-      (sent_short (subst (HasForm 32) ready.is_sealed moves.asked.form.0)) in
+      let two : length (spelling first_form u) ≤ sent =
+      subst (λ (x : SealedUpdate). length (spelling first_form x) ≤ sent) (sym ready.is_sealed)
+      (sent_short (subst (HasForm first_form) ready.is_sealed moves.asked.form.0)) in
       let three : length a.reply ≤ 5 =
       reply_short (here g) request a.reply made 5 moves.asked.form.1 (omega arith)
-      (λ x is. update_answer_short k.surface (catalogue_of k.surface g) epoch (spelling 32 u)
-      (owner_tag k.surface epoch (spelling 32 u)) x is)
+      (λ x is. update_answer_short k.surface (catalogue_of k.surface g) epoch (spelling first_form u)
+      (owner_tag k.surface epoch (spelling first_form u)) x is)
       replied_so in
       let four : most next ≡ 0 = by_next replied_so then in
       omega (arith, one, two, three, four) where
@@ -222,7 +223,7 @@ by_sizes : (k : Masters) (command : Command) (e : Errand) (d : Does k command e)
     → ((a : Answer) → Answers (served (under k.surface v.base_check (sealed k p))) e.first a
     → length (answer_bytes a) ≤ told)
     → (let u = sealed_update k (layers_of (history_of p)) (d.plain p) in
-    HasForm 32 u → length (spelling 32 u) ≤ sent)
+    HasForm first_form u → length (spelling first_form u) ≤ sent)
     → frame_bytes asks ≤ first + told + sent + 58
 by_sizes k command e d asks unanswered result v last p first told sent talks same legal right
     alone some first_short told_short sent_short =

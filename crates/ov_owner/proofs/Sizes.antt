@@ -6,6 +6,7 @@ use Rattle.ov_base.specs.Names.{IsName}
 use Rattle.ov_base.specs.Sets.{bytes_of, empty, single, size, with}
 use Rattle.ov_base.proofs.SetBytes.{length-bytes_of}
 use Rattle.ov_base.proofs.SetSizes.{size-empty, size-single, size-union-le}
+use Rattle.ov_base.specs.declared.limits.TheConstants.{SET_BYTES}
 use Rattle.ov_ctr.proofs.Pad.{length-xor_pad}
 use Rattle.ov_fields.specs.Spelling.{counted, flag, name_field, sized, token_field, u32, u8}
 use Rattle.ov_fields.proofs.ListLaws.{many_reads}
@@ -16,6 +17,7 @@ use Rattle.ov_graph.proofs.GraphLaws.{plan-few}
 use Rattle.ov_base_layer.specs.Seals.{cover_tokens}
 use Rattle.ov_record.specs.Spelling.{HasForm, spelling}
 use Rattle.ov_record.specs.Updates.{SealedCreate, SealedEnrol, SealedGrant, SealedRevoke, SealedUpdate}
+use Rattle.ov_record.specs.Forms.{first_form}
 use Rattle.ov_surface.specs.Coats.{base_text}
 use Rattle.ov_surface.specs.Tags.{tag_of_file}
 use Rattle.ov_history.specs.Catalogue.{Catalogue}
@@ -91,12 +93,12 @@ cover_short file len names form =
 
 plan_short : (plan : Plan) → length (answer_bytes (answers.Plan plan)) ≡ 48 + 4 * length plan.from
 plan_short plan =
-    let set = bytes_of 32 plan.list in
+    let set = bytes_of SET_BYTES plan.list in
     let fresh = u8 (flag plan.fresh) in
     let a = length-append set (u32 plan.node) in
     let b = length-append (set ++ u32 plan.node) fresh in
     let c = length-append (set ++ u32 plan.node ++ fresh) (counted u32 plan.from) in
-    omega (arith, numbers_short plan.from, length-bytes_of 32 plan.list, a, b, c)
+    omega (arith, numbers_short plan.from, length-bytes_of SET_BYTES plan.list, a, b, c)
 
 pub cover_answer_short : (c : Catalogue) (file : List ℕ) (len : ℕ) (list most : ℕ) (a : Answer)
     → AnswersCover c file len list a → size list ≤ most → length (answer_bytes a) ≤ 48 + 4 * most
@@ -108,36 +110,36 @@ cover_answer_short c file len list most a is few = absurd is
 
 -- ---- updates, and their answers
 
-grant_short : (user file : ℕ) (token : Option _) → HasForm 32 (SealedGrant user file token)
-    → length (spelling 32 (SealedGrant user file token)) ≤ 66
+grant_short : (user file : ℕ) (token : Option _) → HasForm first_form (SealedGrant user file token)
+    → length (spelling first_form (SealedGrant user file token)) ≤ 66
 grant_short user file None form = omega arith
 grant_short user file (Some token) form = let is : length token.bytes ≡ 32 = form.2 in omega arith
 
-pub short_update : (u : SealedUpdate) → HasForm 32 u
+pub short_update : (u : SealedUpdate) → HasForm first_form u
     → ((name : List ℕ) (list : ℕ) (tokens : List _) (tag bytes : List ℕ) → u ≡ SealedCreate name list tokens tag bytes → ⊥)
-    → length (spelling 32 u) ≤ 66
+    → length (spelling first_form u) ≤ 66
 short_update (SealedEnrol name) form other = omega (arith, name_short name form)
 short_update (SealedCreate name list tokens tag bytes) form other = absurd (other name list tokens tag bytes refl)
 short_update (SealedGrant user file token) form other = grant_short user file token form
 short_update (SealedRevoke user file) form other = omega arith
 
 creation_length : (name : List ℕ) (list : ℕ) (tokens : List _) (tag bytes : List ℕ)
-    → HasForm 32 (SealedCreate name list tokens tag bytes)
-    → length (spelling 32 (SealedCreate name list tokens tag bytes))
+    → HasForm first_form (SealedCreate name list tokens tag bytes)
+    → length (spelling first_form (SealedCreate name list tokens tag bytes))
     ≤ 136 + 32 * length tokens + length bytes
 creation_length name list tokens tag bytes form =
     let one = name_short name form.0 in
     let all = (many_reads token_reads (length tokens)).short tokens (form.3, refl) in
-    let a = length-append (name_field name) (bytes_of 32 list) in
-    let b = length-append (name_field name ++ bytes_of 32 list) (counted token_field tokens) in
-    let c = length-append (name_field name ++ bytes_of 32 list ++ counted token_field tokens) tag in
-    let d = length-append (name_field name ++ bytes_of 32 list ++ counted token_field tokens ++ tag) (sized bytes) in
-    omega (arith, one, all, a, b, c, d, length-bytes_of 32 list, form.4)
+    let a = length-append (name_field name) (bytes_of SET_BYTES list) in
+    let b = length-append (name_field name ++ bytes_of SET_BYTES list) (counted token_field tokens) in
+    let c = length-append (name_field name ++ bytes_of SET_BYTES list ++ counted token_field tokens) tag in
+    let d = length-append (name_field name ++ bytes_of SET_BYTES list ++ counted token_field tokens ++ tag) (sized bytes) in
+    omega (arith, one, all, a, b, c, d, length-bytes_of SET_BYTES list, form.4)
 
 pub creation_short : (k : Masters) (y : Layers) (file : List ℕ) (list most : ℕ) (bytes : List ℕ)
     → size list ≤ most
-    → HasForm 32 (sealed_update k y (PlainCreate file list bytes))
-    → length (spelling 32 (sealed_update k y (PlainCreate file list bytes))) ≤ 136 + 32 * most + length bytes
+    → HasForm first_form (sealed_update k y (PlainCreate file list bytes))
+    → length (spelling first_form (sealed_update k y (PlainCreate file list bytes))) ≤ 136 + 32 * most + length bytes
 creation_short k y file list most bytes few form =
     let access = access_key k.base (node_for y.base list) in
     let number = length y.files in

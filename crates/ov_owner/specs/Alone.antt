@@ -5,7 +5,7 @@ use Rattle.ov_script.specs.declared.command.Command.{Command}
 use Rattle.ov_history.specs.Masters.{Masters}
 use Rattle.ov_history.specs.Plain.{PlainHistory}
 use Rattle.ov_history.specs.Sealed.{SealedHistory}
-use Rattle.ov_history.specs.Sealing.{sealed}
+use Rattle.ov_history.specs.Sealing.{IsSealedAs}
 use Rattle.ov_model.specs.Step.{after}
 use Rattle.ov_protocol.specs.Serving.{Service, later}
 use Rattle.ov_protocol.specs.Replies.{MayMake}
@@ -32,4 +32,4 @@ AskedAlone v asks unanswered last =
 
 -- the history is the one of before, or it with the update of this command
 abbrev pub IsOneOrNone : Masters → PlainHistory → Command → SealedHistory → Type 0
-IsOneOrNone k p command now = (now ≡ sealed k p) ⊎ (now ≡ sealed k (after p command))
+IsOneOrNone k p command now = IsSealedAs k p now ⊎ IsSealedAs k (after p command) now

@@ -9,7 +9,7 @@ use Rattle.ov_history.specs.Lists.{is_user, user_number}
 use Rattle.ov_history.specs.Masters.{Masters}
 use Rattle.ov_history.specs.Plain.{PlainHistory, history_of}
 use Rattle.ov_history.specs.Refusals.{IsLegal}
-use Rattle.ov_history.specs.Sealing.{sealed}
+use Rattle.ov_history.specs.Sealing.{IsSealedAs}
 use Rattle.ov_wire.specs.declared.answer.Answer.{Answer}
 use Rattle.ov_wire.specs.declared.answer.Known.{Known}
 use Rattle.ov_protocol.specs.Serving.{Service, later}
@@ -56,7 +56,7 @@ abbrev pub IsSoThere : Masters → Service → (Service → Type 0) → (PlainHi
 IsSoThere k v Then IsSo =
     (others : List SealedUpdate) × Then (later v others)
     × ((p : PlainHistory) → v.surface ≡ k.surface → IsLegal (history_of p)
-    → (later v others).history ≡ sealed k p → IsSo p)
+    → IsSealedAs k p (later v others).history → IsSo p)
 
 -- the reader holds just this user's two root keys at what is served, and a user who is refused
 -- isn't there

@@ -7,7 +7,7 @@ use Rattle.ov_history.specs.Masters.{Masters}
 use Rattle.ov_history.specs.Plain.{PlainHistory, history_of}
 use Rattle.ov_history.specs.Refusals.{IsLegal}
 use Rattle.ov_history.specs.Sealed.{SealedHistory}
-use Rattle.ov_history.specs.Sealing.{sealed}
+use Rattle.ov_history.specs.Sealing.{IsSealedAs}
 use Rattle.ov_wire.specs.Frames.{framed}
 use Rattle.ov_protocol.specs.Serving.{Service}
 use Rattle.ov_peer.specs.Asks.{Along, AreRight, Ask}
@@ -47,7 +47,7 @@ OneUpdateAtMost =
     (k : Masters) (command : Command) (e : Errand) (asks : List Ask) (unanswered : Option (List ℕ))
     (result : Result ℕ OwnerFault) (v last : Service) (p : PlainHistory)
     → IsErrandFor k.base command e → Talks k.surface e asks unanswered result
-    → v.surface ≡ k.surface → IsLegal (history_of p) → v.history ≡ sealed k p
+    → v.surface ≡ k.surface → IsLegal (history_of p) → IsSealedAs k p v.history
     → AskedAlone v asks unanswered last → IsOneOrNone k p command last.history
 
 -- how many bytes the frames of these asks have, with their length fields
@@ -68,7 +68,7 @@ TalksAreShort =
     (k : Masters) (command : Command) (e : Errand) (asks : List Ask) (unanswered : Option (List ℕ))
     (result : Result ℕ OwnerFault) (v last : Service) (p : PlainHistory)
     → IsErrandFor k.base command e → Talks k.surface e asks unanswered result
-    → v.surface ≡ k.surface → IsLegal (history_of p) → v.history ≡ sealed k p
+    → v.surface ≡ k.surface → IsLegal (history_of p) → IsSealedAs k p v.history
     → AskedAlone v asks unanswered last → frame_bytes asks ≤ most_bytes command
 
 -- the result is neither a wrong reply, nor a wrong tag, nor tries that were all stale
@@ -85,5 +85,5 @@ TalksAreProper =
     (k : Masters) (command : Command) (e : Errand) (asks : List Ask) (unanswered : Option (List ℕ))
     (result : Result ℕ OwnerFault) (v last : Service) (p : PlainHistory)
     → IsErrandFor k.base command e → Talks k.surface e asks unanswered result
-    → v.surface ≡ k.surface → IsLegal (history_of p) → v.history ≡ sealed k p
+    → v.surface ≡ k.surface → IsLegal (history_of p) → IsSealedAs k p v.history
     → AskedAlone v asks unanswered last → IsProper result

@@ -4,7 +4,7 @@ use Rattle.ov_record.specs.Updates.{SealedUpdate}
 use Rattle.ov_history.specs.Masters.{Masters}
 use Rattle.ov_history.specs.Plain.{PlainHistory, history_of}
 use Rattle.ov_history.specs.Refusals.{IsLegal}
-use Rattle.ov_history.specs.Sealing.{sealed}
+use Rattle.ov_history.specs.Sealing.{IsSealedAs}
 use Rattle.ov_wire.specs.declared.request.Request.{Request}
 use Rattle.ov_wire.specs.declared.answer.Welcome.{Welcome}
 use Rattle.ov_wire.specs.declared.answer.Answer.{Answer}
@@ -67,7 +67,7 @@ abbrev pub RepliesThere : Service → (Service → Type 0) → Command → Reply
 RepliesThere v Then command reply =
     (others : List SealedUpdate) × Then (later v others)
     × ((k : Masters) (p : PlainHistory) → v.surface ≡ k.surface → IsLegal (history_of p)
-    → (later v others).history ≡ sealed k p → reply_to p command ≡ reply)
+    → IsSealedAs k p (later v others).history → reply_to p command ≡ reply)
 
 -- names that are listed, and a refusal, are the machine's reply at what is served
 abbrev pub IsListOf : Service → (Service → Type 0) → List ℕ → Result (List (List ℕ)) OwnerFault

@@ -8,7 +8,7 @@ use Rattle.ov_history.specs.Masters.{Masters}
 use Rattle.ov_history.specs.Plain.{PlainHistory, history_of}
 use Rattle.ov_history.specs.Refusals.{IsLegal}
 use Rattle.ov_history.specs.Sealed.{SealedHistory}
-use Rattle.ov_history.specs.Sealing.{sealed}
+use Rattle.ov_history.specs.Sealing.{IsSealedAs}
 use Rattle.ov_model.specs.Step.{after, reply_to}
 use Rattle.ov_protocol.specs.Serving.{Service}
 use Rattle.ov_peer.specs.Asks.{Along, AreRight, Ask}
@@ -30,9 +30,9 @@ pub record IsStep (k : Masters) (command : Command) (reply : Reply)
     (answered last : SealedHistory) : Type 0 where
   pub before : PlainHistory
   pub legal : IsLegal (history_of before)
-  pub same : answered ≡ sealed k before
+  pub same : IsSealedAs k before answered
   pub replied : reply_to before command ≡ reply
-  pub next : last ≡ sealed k (after before command)
+  pub next : IsSealedAs k (after before command) last
 
 -- The machine replies so to the command at the last of these histories, and what is served then is
 -- that of the history after it.

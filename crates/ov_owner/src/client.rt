@@ -41,10 +41,8 @@ impl Owner {
         requires { IsAnswer (Ask (AsksKey user.now)) answer }
         ensures { result ≡ reader_in self.now user.now answer }
     {
-        match known_of(answer) {
-            Ok(known) => Ok(self.reader_of(user, &known)),
-            Err(fault) => Err(fault),
-        }
+        let known = known_of(answer)?;
+        Ok(self.reader_of(user, &known))
     }
 
     /// The reader of a user, who has the keys of the user's two roots and no other. Asks for the

@@ -3,6 +3,7 @@ ghost use Rattle.std.specs.Prelude.{◌≡◌, ◌≤◌, length, IfOk};
 ghost use Rattle.ov_base.specs.declared.limits.TheConstants.{MAX_FILE_BYTES, MAX_USERS};
 ghost use Rattle.ov_record.specs.Spelling.{IsWithinLimits};
 ghost use Rattle.ov_record.specs.Updates.{sealed_update};
+ghost use Rattle.ov_record.specs.Forms.{first_form};
 ghost use Rattle.ov_surface.specs.Coats.{base_text};
 ghost use Rattle.ov_wire.specs.AnswersTo.{IsAnswer};
 ghost use Rattle.ov_owner.specs.Errands.{created, granted, known_of, plan_of};
@@ -11,6 +12,7 @@ ghost use Rattle.ov_owner.specs.Helpers.{Seals};
 
 use crate::OwnerFault;
 use crate::change::Change;
+use ov_base::limits::SET_WORDS;
 use ov_base::{Key, Memory, Name, Octets};
 use ov_base_layer::{seal_access, seal_cover};
 use ov_graph::Cover;
@@ -24,7 +26,7 @@ use std::alloc::Global;
 #[derive(Drop)]
 pub struct Sealed {
     pub epoch: u32,
-    pub update: Update<4>,
+    pub update: Update<SET_WORDS>,
 }
 
 /// The numbers that are told, or why the call ends.
@@ -69,12 +71,12 @@ fn seal_creation(
     file: &Name,
     bytes: &[u8],
     plan: Plan,
-) -> Result<Update<4>, Memory>
+) -> Result<Update<SET_WORDS>, Memory>
     requires bytes { length bytes.now ≤ MAX_FILE_BYTES }
     requires edges { length plan.from ≤ MAX_USERS }
     ensures update { IfOk result (λ update.
         sealed_update update ≡ created base.now.bytes file.now bytes.now plan) }
-    ensures limits { IfOk result (λ update. IsWithinLimits (sealed_update update)) }
+    ensures limits { IfOk result (λ update. IsWithinLimits first_form (sealed_update update)) }
 {
     let Plan {
         file: number,
@@ -97,7 +99,7 @@ fn seal_creation(
 
 /// A grant, by the numbers that were told, with an access token where one is wanted. It takes no
 /// memory.
-fn seal_grant(base: &Master, known: &Known) -> Update<4>
+fn seal_grant(base: &Master, known: &Known) -> Update<SET_WORDS>
     ensures { sealed_update result ≡ granted base.now.bytes known.now }
 {
     let token = if known.wants {
@@ -122,7 +124,7 @@ pub fn seal(
     requires limits { HasChangeLimits change.now }
     requires answer { let e = errand_of base.now.bytes change.now in IsAnswer e.first answer }
     ensures sealed { Seals ((errand_of base.now.bytes change.now).sealed answer) result }
-    ensures limits { IfOk result (λ made. IsWithinLimits (sealed_update made.update)) }
+    ensures limits { IfOk result (λ made. IsWithinLimits first_form (sealed_update made.update)) }
 {
     match change {
         Change::Enrol { user } => {

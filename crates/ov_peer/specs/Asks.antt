@@ -5,7 +5,7 @@ use Rattle.ov_history.specs.Plain.{PlainHistory, history_of}
 use Rattle.ov_history.specs.Refusals.{IsLegal}
 use Rattle.ov_history.specs.Masters.{Masters}
 use Rattle.ov_history.specs.Sealed.{SealedHistory}
-use Rattle.ov_history.specs.Sealing.{sealed}
+use Rattle.ov_history.specs.Sealing.{IsSealedAs}
 use Rattle.ov_protocol.specs.Serving.{Service, followed, later}
 use Rattle.ov_peer.specs.Tells.{IsReplyAt, PeerTells}
 
@@ -56,7 +56,7 @@ Along v (a ∷ asks) (at_one ∷ more) last =
 
 -- a history is right under these masters: it is the sealed form of a legal one
 abbrev pub IsRight : Masters → SealedHistory → Type 0
-IsRight k g = (p : PlainHistory) × IsLegal (history_of p) × (g ≡ sealed k p)
+IsRight k g = (p : PlainHistory) × IsLegal (history_of p) × IsSealedAs k p g
 
 -- each of these histories is right under these masters: it is the sealed form of a legal one
 abbrev pub AreRight : Masters → List SealedHistory → Type 0

@@ -1,8 +1,10 @@
 -- Requests to which a server may reply that its disk failed.
-use Rattle.std.specs.Prelude.{◌≡◌, ◌⊎◌, ℕ, List, slice_get, Some, Ok}
+use Rattle.std.specs.Prelude.{◌≡◌, ◌⊎◌, ℕ, List, Some, Ok}
 use Rattle.ov_record.specs.Reading.{update_of}
 use Rattle.ov_record.specs.Updates.{SealedUpdate}
+use Rattle.ov_record.specs.Forms.{first_form}
 use Rattle.ov_history.specs.Catalogue.{Catalogue, Filed}
+use Rattle.ov_history.specs.Places.{living_at}
 use Rattle.ov_wire.specs.declared.request.Request.{Request}
 use Rattle.ov_wire.specs.declared.request.Request.TheVariants as requests
 use Rattle.ov_wire.specs.declared.answer.Answer.TheVariants.{DeviceFault}
@@ -18,12 +20,12 @@ pub record HasUpdate (s : Serving) (request : List ℕ) (u : SealedUpdate) : Typ
   pub tag : List ℕ
   pub is : request_of request ≡ Ok (requests.Update s.catalogue.epoch spelling tag)
   pub right : tag ≡ owner_tag s.surface s.catalogue.epoch spelling
-  pub spells : update_of 32 spelling ≡ Ok u
+  pub spells : update_of first_form spelling ≡ Ok u
 
 -- the file of this number is there, with this generation
 abbrev pub IsOfGeneration : Catalogue → (file generation : ℕ) → Type 0
 IsOfGeneration c file generation =
-    (f : Filed) × (slice_get c.files file ≡ Some f) × (f.generation ≡ generation)
+    (f : Filed) × (living_at c.files file ≡ Some f) × (f.generation ≡ generation)
 
 -- the frame asks for stored bytes of a file that is there, with the file's generation
 pub record AsksBytes (s : Serving) (request : List ℕ) : Type 0 where

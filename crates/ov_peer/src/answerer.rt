@@ -5,6 +5,7 @@ ghost use Rattle.ov_peer.specs.Spellings.{IsUpdate, says_accepted, with_accepted
 ghost use Rattle.ov_peer.specs.Tells.{AnswererTells};
 
 use ov_base::Memory;
+use ov_wire::kinds;
 
 /// A value that answers one request at a time. What it answers follows from the value that it began
 /// as and the spellings of the updates that it accepted since, in order.
@@ -39,7 +40,7 @@ pub fn is_accepted(reply: &[u8]) -> bool
     ensures { result ≡ says_accepted reply.now }
 {
     match reply {
-        [kind, ..] => *kind == 0x84,
+        [kind, ..] => *kind == kinds::ACCEPTED,
         [] => false,
     }
 }

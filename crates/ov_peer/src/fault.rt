@@ -1,4 +1,4 @@
-//! Why an ask has no answer.
+//! Why an ask has no answer, by whom it was asked.
 
 use thiserror::Error;
 
@@ -23,6 +23,17 @@ pub enum ExchangeFault {
     /// byte.
     #[error("the reply is no answer (byte {at})")]
     BadReply { at: u32 },
+    /// Memory was refused.
+    #[error("out of memory")]
+    Memory,
+}
+
+/// Why there is no reply to what a session asks.
+#[derive(Clone, Copy, Debug, PartialEq, Eq, Error)]
+pub enum AskFault {
+    /// The asker has asked as often as it may, and didn't ask.
+    #[error("asked as often as may be")]
+    Spent,
     /// Memory was refused.
     #[error("out of memory")]
     Memory,

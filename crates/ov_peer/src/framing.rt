@@ -36,6 +36,7 @@ pub fn put_frame<T: Sink>(sink: &mut T, frame: &[u8]) -> Result<(), Fault>
     ensures same { T.tells.borrow sink.new ≡ T.tells.borrow sink.old }
     ensures cause { HasCause (T.tells.faults sink.old) (T.tells.faults sink.new) result }
     ensures steps { PutsOnceOrTwice T.tells sink.old sink.new }
+    ensures short { length frame.now ≤ 508 → T.tells.puts sink.old sink.new }
 {
     if frame.len() <= SHORT {
         return put_short(sink, frame);

@@ -14,6 +14,7 @@
 //! clauses hold of it with nothing told.
 //!
 //! * [`exchange`] writes a request, asks it, and reads the answer.
+//! * [`AskFault`] is why an asker of an answerer, as a session has one, has no reply.
 //! * [`put_frame`] puts a frame to a sink behind its length field, a short one in one call.
 //! * [`Traced`] puts each frame of a peer to a sink, and tells what its peer tells.
 //! * [`FixedPeer`] gives the replies that it was made with, and fails where it is told to.
@@ -21,6 +22,7 @@
 //!
 //! | file in `specs/` | says |
 //! |---|---|
+//! | `Alone` | a peer that nobody else updates |
 //! | `Asks` | lists of asks; replies of a peer that tells its history |
 //! | `Causes` | a fault of the link comes only where the count of faults rose |
 //! | `Disks` | which requests need the server's disk, and how a fault of it is told |
@@ -42,7 +44,7 @@ mod traced;
 
 pub use answerer::{Answerer, is_accepted};
 pub use asking::exchange;
-pub use fault::{ExchangeFault, PeerFault};
+pub use fault::{AskFault, ExchangeFault, PeerFault};
 pub use fixed::FixedPeer;
 pub use framing::put_frame;
 pub use laws::asks_are_told;

@@ -1,14 +1,17 @@
 -- A server has one answer to each request.
 use Rattle.std.proofs.Common.{◌≡◌, ◌≢◌, ◌∙◌, ◌+◌, ℕ, List, [], take, drop}
 use Rattle.std.proofs.Common.{Result, Ok, Err, refl, sym, ap}
-use Rattle.std.specs.Prelude.{Option, Some, None, length, slice_get, slice_index_or}
+use Rattle.std.specs.Prelude.{Option, Some, None, length, slice_index_or}
 use Rattle.ov_base.specs.declared.refusal.Refusal.{Refusal}
+use Rattle.ov_base.specs.declared.limits.TheConstants.{SET_WORDS}
 use Rattle.ov_base_layer.specs.Holders.{AreFirst, accesses_of}
 use Rattle.ov_record.specs.Reading.{update_of}
 use Rattle.ov_record.specs.Updates.{SealedUpdate}
+use Rattle.ov_record.specs.Forms.{first_form}
 use Rattle.ov_history.specs.Briefs.{brief}
 use Rattle.ov_history.specs.History.{Created}
 use Rattle.ov_history.specs.Lists.{file_at, names_in, set_named}
+use Rattle.ov_history.specs.Places.{living_at}
 use Rattle.ov_history.specs.Refusals.{list_refusal, read_refusal}
 use Rattle.ov_history.specs.Catalogue.{Catalogue, Filed, matrix_shown, outline}
 use Rattle.ov_history.specs.Sealed.{HasParts, refusal_shown}
@@ -72,7 +75,7 @@ data Judged (c : Catalogue) (u : SealedUpdate) (a : Answer) : Type 0 where
   accepted : refusal_shown c (brief u) ≡ None → HasParts (outline c) (brief u)
       → a ≡ answers.Accepted (c.epoch + 1) → Judged c u a
   unfit : refusal_shown c (brief u) ≡ None → (HasParts (outline c) (brief u) → ⊥)
-      → a ≡ answers.BadRequest (spelling_place + part_place 4 (brief u)) → Judged c u a
+      → a ≡ answers.BadRequest (spelling_place + part_place SET_WORDS (brief u)) → Judged c u a
 
 judged : (c : Catalogue) (u : SealedUpdate) (a : Answer) → AnswersSealed c u a → Judged c u a
 judged c u (answers.Accepted epoch) (none, parts, is) =
@@ -118,7 +121,7 @@ data Tagged (surface : List ℕ) (c : Catalogue) (epoch : ℕ) (spelling tag : L
   wrong_epoch : tag ≡ owner_tag surface epoch spelling → epoch ≢ c.epoch → a ≡ answers.Stale c.epoch
       → Tagged surface c epoch spelling tag a
   right : tag ≡ owner_tag surface epoch spelling → epoch ≡ c.epoch
-      → AnswersSpelled c (update_of 32 spelling) a → Tagged surface c epoch spelling tag a
+      → AnswersSpelled c (update_of first_form spelling) a → Tagged surface c epoch spelling tag a
 
 tagged : (surface : List ℕ) (c : Catalogue) (epoch : ℕ) (spelling tag : List ℕ) (a : Answer)
     → AnswersUpdate surface c epoch spelling tag a → Tagged surface c epoch spelling tag a
@@ -145,7 +148,7 @@ tagged_once surface c epoch spelling tag one other (right t e is) (wrong_tag u t
 tagged_once surface c epoch spelling tag one other (right t e is) (wrong_epoch u f too) =
     absurd (f e)
 tagged_once surface c epoch spelling tag one other (right t e is) (right u f too) =
-    spelled_once c (update_of 32 spelling) one other is too
+    spelled_once c (update_of first_form spelling) one other is too
 
 -- ---- Chain and Chunk
 
@@ -230,7 +233,7 @@ one_answer s v (requests.Chain user file) one other is p q =
     (chain_is c (user_named c user) (file_named c file) one p)
     (chain_is c (user_named c user) (file_named c file) other q)
 one_answer s v (requests.Chunk file generation start count) one other is p q =
-    chunk_once (slice_get s.catalogue.files file) (slice_index_or s.stored file []) generation start
+    chunk_once (living_at s.catalogue.files file) (slice_index_or s.stored file []) generation start
     count one other p q
 one_answer s v (requests.Page part number) one other is p q = p ∙ sym q
 one_answer s v (requests.List file) one other is p q =

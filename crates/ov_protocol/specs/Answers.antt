@@ -1,5 +1,5 @@
 -- What a server answers to each request, and the updates that it makes by that.
-use Rattle.std.specs.Prelude.{◌≡◌, List, [], slice_get, slice_index_or}
+use Rattle.std.specs.Prelude.{◌≡◌, List, [], slice_index_or}
 use Rattle.ov_record.specs.Updates.{SealedUpdate}
 use Rattle.ov_history.specs.Lists.{set_named}
 use Rattle.ov_wire.specs.declared.request.Request.{Request}
@@ -10,6 +10,7 @@ use Rattle.ov_wire.specs.declared.answer.Welcome.{Welcome}
 use Rattle.ov_protocol.specs.Serving.{Serving}
 use Rattle.ov_protocol.specs.Asking.{AnswersAsk, AnswersCover}
 use Rattle.ov_history.specs.Asking.{file_named, user_named}
+use Rattle.ov_history.specs.Places.{living_at}
 use Rattle.ov_protocol.specs.Updating.{AnswersUpdate, updates_in}
 use Rattle.ov_protocol.specs.Reading.{AnswersChain, AnswersChunk, AnswersList}
 use Rattle.ov_protocol.specs.Pages.{entry_of, page_of}
@@ -34,7 +35,7 @@ Answers s (requests.Update epoch spelling tag) answer =
 Answers s (requests.Chain user file) answer =
     AnswersChain s.catalogue (user_named s.catalogue user) (file_named s.catalogue file) answer
 Answers s (requests.Chunk file generation start count) answer =
-    AnswersChunk (slice_get s.catalogue.files file) (slice_index_or s.stored file [])
+    AnswersChunk (living_at s.catalogue.files file) (slice_index_or s.stored file [])
     generation start count answer
 Answers s (requests.Page part number) answer =
     answer ≡ answers.PageOf (page_of (entry_of s.catalogue part number))

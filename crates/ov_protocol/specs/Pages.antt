@@ -3,6 +3,7 @@ use Rattle.std.specs.Prelude.{ℕ, zero, suc, List, [], slice_get, slice_index_o
 use Rattle.std.specs.Prelude.{Option, Some, None}
 use Rattle.ov_base_layer.specs.declared.grant.Grant.{Grant}
 use Rattle.ov_history.specs.Layers.{root_of}
+use Rattle.ov_history.specs.Places.{living_at}
 use Rattle.ov_history.specs.Catalogue.{Catalogue, Filed, Nodes}
 use Rattle.ov_wire.specs.Entries.{Entry, User, Node, Access, File, entry_bytes}
 
@@ -22,7 +23,7 @@ abbrev pub access_entry_of : Option Grant → Option Entry
 access_entry_of None = None
 access_entry_of (Some grant) = Some (Access grant.user grant.node grant.token)
 
--- the entry of this file, where there is one
+-- the entry of this file, where there is one; of one that is gone there is none
 abbrev pub file_entry_of : Option Filed → Option Entry
 file_entry_of None = None
 file_entry_of (Some f) = Some (File f.name f.node f.length f.generation f.tag f.surface)
@@ -36,7 +37,7 @@ entry_of c (suc (suc zero)) number =
 entry_of c (suc (suc (suc zero))) number =
     node_entry_of c.surface number (slice_get c.surface.sets number)
 entry_of c (suc (suc (suc (suc zero)))) number = access_entry_of (slice_get c.grants number)
-entry_of c (suc (suc (suc (suc (suc zero))))) number = file_entry_of (slice_get c.files number)
+entry_of c (suc (suc (suc (suc (suc zero))))) number = file_entry_of (living_at c.files number)
 entry_of c part number = None
 
 -- an entry as it stands in an answer

@@ -1,11 +1,13 @@
 -- What is answered to an update, and what a server makes by it.
-use Rattle.std.specs.Prelude.{◌≡◌, ◌≢◌, ℕ, ◌+◌, List, [], ◌∷◌, ◌++◌, length}
+use Rattle.std.specs.Prelude.{◌≡◌, ◌≢◌, ℕ, ◌+◌, List, [], ◌∷◌, ◌++◌}
 use Rattle.std.specs.Prelude.{Some, None, Result, Ok, Err}
+use Rattle.ov_base.specs.declared.limits.TheConstants.{SET_WORDS}
 use Rattle.ov_fields.specs.Spelling.{u32}
 use Rattle.ov_keyed.specs.Hmac.{hmac}
 use Rattle.ov_tokens.specs.Keys.{update_key_of}
 use Rattle.ov_record.specs.Reading.{update_of}
 use Rattle.ov_record.specs.Updates.{SealedUpdate}
+use Rattle.ov_record.specs.Forms.{first_form}
 use Rattle.ov_history.specs.Briefs.{brief, part_place}
 use Rattle.ov_history.specs.Catalogue.{Catalogue, outline}
 use Rattle.ov_history.specs.Sealed.{HasParts, refusal_shown}
@@ -28,7 +30,7 @@ AnswersSealed c u (answers.Accepted epoch) =
 AnswersSealed c u (answers.Refused why) = refusal_shown c (brief u) ≡ Some why
 AnswersSealed c u (answers.BadRequest place) =
     (refusal_shown c (brief u) ≡ None) × (HasParts (outline c) (brief u) → ⊥)
-    × (place ≡ spelling_place + part_place 4 (brief u))
+    × (place ≡ spelling_place + part_place SET_WORDS (brief u))
 AnswersSealed c u answer = ⊥
 
 -- The answer to an update of which the spelling was read by a record's reader: a wrong spelling is
@@ -44,7 +46,7 @@ AnswersUpdate surface c epoch spelling tag (answers.Stale now) =
     (tag ≡ owner_tag surface epoch spelling) × (epoch ≢ c.epoch) × (now ≡ c.epoch)
 AnswersUpdate surface c epoch spelling tag answer =
     (tag ≡ owner_tag surface epoch spelling) × (epoch ≡ c.epoch)
-    × AnswersSpelled c (update_of 32 spelling) answer
+    × AnswersSpelled c (update_of first_form spelling) answer
 
 -- the update that was read of some bytes, where they spell one
 abbrev pub spelled_by : Result SealedUpdate ℕ → List SealedUpdate
@@ -53,7 +55,7 @@ spelled_by (Err place) = []
 
 -- the update that these bytes spell, as a record's reader reads them, where they spell one
 abbrev pub updates_in : List ℕ → List SealedUpdate
-updates_in spelling = spelled_by (update_of 32 spelling)
+updates_in spelling = spelled_by (update_of first_form spelling)
 
 -- the updates of a list of spellings, in order
 abbrev pub updates_of : List (List ℕ) → List SealedUpdate

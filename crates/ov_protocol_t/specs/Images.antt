@@ -5,6 +5,7 @@ use Rattle.ov_base.specs.declared.mode.Mode.TheVariants.{Full}
 use Rattle.ov_tokens.specs.Keys.{check_value_of}
 use Rattle.ov_record.specs.Spelling.{spelling}
 use Rattle.ov_record.specs.Updates.{SealedUpdate, SealedEnrol, SealedRevoke}
+use Rattle.ov_record.specs.Forms.{first_form}
 use Rattle.ov_history.specs.Masters.{Masters}
 use Rattle.ov_history.specs.Sealed.{SealedHistory, IsSealed, blank, with_sealed}
 use Rattle.ov_disk.specs.Disk.{Image}
@@ -59,5 +60,5 @@ abbrev pub UnfitIsNotNext : Type 0
 UnfitIsNotNext =
     (g : SealedHistory) (body : List ℕ) (gate place : ℕ)
     → IsUnfit g body gate place
-    → (update : SealedUpdate) × (body ≡ spelling 32 update)
+    → (update : SealedUpdate) × (body ≡ spelling first_form update)
     × (IsSealed (with_sealed g update) → ⊥)

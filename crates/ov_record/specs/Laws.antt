@@ -1,26 +1,76 @@
 -- What holds of all spellings.
-use Rattle.std.specs.Prelude.{ℕ, ◌≡◌, ◌≤◌, ◌*◌, List, ◌++◌, length, Ok}
-use Rattle.ov_base.specs.declared.limits.TheConstants.{MAX_SET_WORDS, MAX_RECORD_BYTES}
+use Rattle.std.specs.Prelude.{ℕ, ◌≡◌, ◌≤◌, List, ◌++◌, length, Ok}
+use Rattle.ov_base.specs.declared.limits.TheConstants.{MAX_FILES, MAX_RECORD_BYTES}
+use Rattle.ov_record.specs.Briefs.{Brief, brief}
+use Rattle.ov_record.specs.Forms.{Form, HasRoom, longest_spelling}
 use Rattle.ov_record.specs.Updates.{SealedUpdate}
-use Rattle.ov_record.specs.Spelling.{spelling, HasForm}
-use Rattle.ov_record.specs.Reading.{update_of}
+use Rattle.ov_record.specs.Spelling.{spelling, body_of, HasForm}
+use Rattle.ov_record.specs.Stored.{Stored, brief_spelling, longest_stored, stored_spelling, HasBriefForm, HasStoredForm}
+use Rattle.ov_record.specs.Reading.{brief_of, stored_of, update_of}
 
 -- no update's spelling is the front of another's, and none spells two updates
 abbrev pub UpdatesAreSpelledApart : Type 0
 UpdatesAreSpelledApart =
-    (set_bytes : ℕ) (a b : SealedUpdate) (x y : List ℕ)
-    → HasForm set_bytes a → HasForm set_bytes b
-    → spelling set_bytes a ++ x ≡ spelling set_bytes b ++ y → (a ≡ b) × (x ≡ y)
+    (form : Form) (a b : SealedUpdate) (x y : List ℕ)
+    → HasRoom form → HasForm form a → HasForm form b
+    → spelling form a ++ x ≡ spelling form b ++ y → (a ≡ b) × (x ≡ y)
 
 -- each update with form is read from its spelling
 abbrev pub SpellingsAreRead : Type 0
 SpellingsAreRead =
-    (set_bytes : ℕ) (u : SealedUpdate)
-    → HasForm set_bytes u → update_of set_bytes (spelling set_bytes u) ≡ Ok u
+    (form : Form) (u : SealedUpdate)
+    → HasRoom form → HasForm form u → update_of form (spelling form u) ≡ Ok u
 
--- a spelling has a byte at least, and no more than a record may have
+-- a spelling has a byte at least, and no more than a record may have where the longest one of its
+-- form has no more
 abbrev pub SpellingsFitRecords : Type 0
 SpellingsFitRecords =
-    (set_bytes : ℕ) (u : SealedUpdate)
-    → set_bytes ≤ 8 * MAX_SET_WORDS → HasForm set_bytes u
-    → (1 ≤ length (spelling set_bytes u)) × (length (spelling set_bytes u) ≤ MAX_RECORD_BYTES)
+    (form : Form) (u : SealedUpdate)
+    → HasRoom form → longest_spelling form ≤ MAX_RECORD_BYTES → HasForm form u
+    → (1 ≤ length (spelling form u)) × (length (spelling form u) ≤ MAX_RECORD_BYTES)
+
+-- ---- records without the bytes of a file
+
+-- an update is spelled as its brief, and then the bytes of its file
+abbrev pub BriefsBeginSpellings : Type 0
+BriefsBeginSpellings =
+    (form : Form) (u : SealedUpdate) → spelling form u ≡ brief_spelling form (brief u) ++ body_of u
+
+-- no brief's spelling is the front of another's, and none spells two briefs
+abbrev pub BriefsAreSpelledApart : Type 0
+BriefsAreSpelledApart =
+    (form : Form) (a b : Brief) (x y : List ℕ)
+    → HasRoom form → HasBriefForm form a → HasBriefForm form b
+    → brief_spelling form a ++ x ≡ brief_spelling form b ++ y → (a ≡ b) × (x ≡ y)
+
+-- each brief with form is read from the front of its spelling and whatever follows it
+abbrev pub BriefsAreRead : Type 0
+BriefsAreRead =
+    (form : Form) (b : Brief) (rest : List ℕ)
+    → HasRoom form → HasBriefForm form b
+    → brief_of form (brief_spelling form b ++ rest) ≡ Ok (b, length (brief_spelling form b))
+
+-- of records with as many first blocks none's spelling is the front of another's, and none spells
+-- two
+abbrev pub RecordsAreSpelledApart : Type 0
+RecordsAreSpelledApart =
+    (form : Form) (count : ℕ) (a b : Stored) (x y : List ℕ)
+    → HasRoom form → HasStoredForm form count a → HasStoredForm form count b
+    → stored_spelling form a ++ x ≡ stored_spelling form b ++ y → (a ≡ b) × (x ≡ y)
+
+-- each record with form is read from its spelling
+abbrev pub RecordsAreRead : Type 0
+RecordsAreRead =
+    (form : Form) (count : ℕ) (s : Stored)
+    → HasRoom form → HasStoredForm form count s
+    → stored_of form count (stored_spelling form s) ≡ Ok s
+
+-- a record has a byte at least, and no more than it may have where the longest one of its form has
+-- no more
+abbrev pub RecordsFit : Type 0
+RecordsFit =
+    (form : Form) (count : ℕ) (s : Stored)
+    → HasRoom form → longest_stored form ≤ MAX_RECORD_BYTES → count ≤ MAX_FILES
+    → HasStoredForm form count s
+    → (1 ≤ length (stored_spelling form s))
+    × (length (stored_spelling form s) ≤ MAX_RECORD_BYTES)

@@ -1,40 +1,40 @@
--- The one spelling of each update, with sets in a given number of bytes.
+-- The one spelling of each update, in a given form.
 use Rattle.std.specs.Prelude.{ℕ, ◌≡◌, ◌≤◌, ◌<◌, ◌*◌, ◌^◌, List, [], ◌∷◌, ◌++◌, length, IfSome}
 use Rattle.std.specs.List.{AllByRecursion}
-use Rattle.ov_base.specs.declared.limits.TheConstants.{MAX_USERS, MAX_FILE_BYTES}
 use Rattle.ov_base.specs.Names.{IsName}
 use Rattle.ov_base.specs.Sets.{IsBelow, bytes_of}
 use Rattle.ov_fields.specs.Spelling.{u32, name_field, token_field, sized, optional, counted, IsToken}
+use Rattle.ov_record.specs.Forms.{Form, set_bytes}
 use Rattle.ov_record.specs.Updates.{SealedUpdate, SealedEnrol, SealedCreate, SealedGrant, SealedRevoke}
 
 -- a kind byte, and the update's fields in order
-abbrev pub spelling : ℕ → SealedUpdate → List ℕ
-spelling set_bytes (SealedEnrol name) = 1 ∷ name_field name
-spelling set_bytes (SealedCreate name list tokens tag bytes) =
-    2 ∷ name_field name ++ bytes_of set_bytes list ++ counted token_field tokens ++ tag
+abbrev pub spelling : Form → SealedUpdate → List ℕ
+spelling form (SealedEnrol name) = 1 ∷ name_field name
+spelling form (SealedCreate name list tokens tag bytes) =
+    2 ∷ name_field name ++ bytes_of (set_bytes form) list ++ counted token_field tokens ++ tag
     ++ sized bytes
-spelling set_bytes (SealedGrant user file token) =
+spelling form (SealedGrant user file token) =
     3 ∷ u32 user ++ u32 file ++ optional token_field token
-spelling set_bytes (SealedRevoke user file) = 4 ∷ u32 user ++ u32 file
+spelling form (SealedRevoke user file) = 4 ∷ u32 user ++ u32 file
 
--- which updates have a spelling: a creation has at most a token for each user, and the bytes of a
+-- which updates have a spelling: a creation has at most so many tokens, and so many bytes of its
 -- file
-abbrev pub HasForm : ℕ → SealedUpdate → Type 0
-HasForm set_bytes (SealedEnrol name) = IsName name
-HasForm set_bytes (SealedCreate name list tokens tag bytes) =
-    IsName name × IsBelow (8 * set_bytes) list × (length tokens ≤ MAX_USERS)
-    × AllByRecursion IsToken tokens × (length tag ≡ 32) × (length bytes ≤ MAX_FILE_BYTES)
-HasForm set_bytes (SealedGrant user file token) =
+abbrev pub HasForm : Form → SealedUpdate → Type 0
+HasForm form (SealedEnrol name) = IsName name
+HasForm form (SealedCreate name list tokens tag bytes) =
+    IsName name × IsBelow (8 * set_bytes form) list × (length tokens ≤ form.most_tokens)
+    × AllByRecursion IsToken tokens × (length tag ≡ 32) × (length bytes ≤ form.longest)
+HasForm form (SealedGrant user file token) =
     (user < 2 ^ 32) × (file < 2 ^ 32) × IfSome token IsToken
-HasForm set_bytes (SealedRevoke user file) = (user < 2 ^ 32) × (file < 2 ^ 32)
+HasForm form (SealedRevoke user file) = (user < 2 ^ 32) × (file < 2 ^ 32)
 
 -- what a caller sees to before it writes an update: the limits of a creation
-abbrev pub IsWithinLimits : SealedUpdate → Type 0
-IsWithinLimits (SealedEnrol name) = Unit {0}
-IsWithinLimits (SealedCreate name list tokens tag bytes) =
-    (length tokens ≤ MAX_USERS) × (length bytes ≤ MAX_FILE_BYTES)
-IsWithinLimits (SealedGrant user file token) = Unit {0}
-IsWithinLimits (SealedRevoke user file) = Unit {0}
+abbrev pub IsWithinLimits : Form → SealedUpdate → Type 0
+IsWithinLimits form (SealedEnrol name) = Unit {0}
+IsWithinLimits form (SealedCreate name list tokens tag bytes) =
+    (length tokens ≤ form.most_tokens) × (length bytes ≤ form.longest)
+IsWithinLimits form (SealedGrant user file token) = Unit {0}
+IsWithinLimits form (SealedRevoke user file) = Unit {0}
 
 -- the file's bytes, with which the spelling of a creation ends
 abbrev pub body_of : SealedUpdate → List ℕ

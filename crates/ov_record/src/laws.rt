@@ -1,5 +1,7 @@
 //! What holds of all spellings.
 
+ghost use Rattle.ov_record.specs.Laws.{BriefsAreRead, BriefsAreSpelledApart, BriefsBeginSpellings};
+ghost use Rattle.ov_record.specs.Laws.{RecordsAreRead, RecordsAreSpelledApart, RecordsFit};
 ghost use Rattle.ov_record.specs.Laws.{SpellingsAreRead, SpellingsFitRecords, UpdatesAreSpelledApart};
 
 /// The law of spellings: no update's spelling is the front of another's, and none spells two
@@ -13,7 +15,38 @@ pub fn spellings_are_read()
     ensures { SpellingsAreRead }
 {}
 
-/// The law of records: at each width of a set that this crate takes, a spelling fits into one.
+/// The law of records: in each form of which the longest spelling fits into one, each does.
 pub fn spellings_fit_records()
     ensures { SpellingsFitRecords }
+{}
+
+/// An update's spelling is that of its brief, and then the bytes of its file.
+pub fn briefs_begin_spellings()
+    ensures { BriefsBeginSpellings }
+{}
+
+/// No brief's spelling is the front of another's, and none spells two briefs.
+pub fn briefs_are_spelled_apart()
+    ensures { BriefsAreSpelledApart }
+{}
+
+/// Each brief with form is read from the front of its spelling and whatever follows it.
+pub fn briefs_are_read()
+    ensures { BriefsAreRead }
+{}
+
+/// Of records with as many first blocks none's spelling is the front of another's, and none spells
+/// two.
+pub fn records_are_spelled_apart()
+    ensures { RecordsAreSpelledApart }
+{}
+
+/// Each record with form is read from its spelling.
+pub fn records_are_read()
+    ensures { RecordsAreRead }
+{}
+
+/// In each form of which the longest record fits, each does.
+pub fn records_fit()
+    ensures { RecordsFit }
 {}

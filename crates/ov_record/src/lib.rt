@@ -2,29 +2,54 @@
 //!
 //! An [`Update`] is one change of a store: what its owner sends, and what its journal keeps. A
 //! contract sees it by `sealed_update` of `specs/Updates`, as a value that knows nothing of the
-//! width of the set in it. Each update has one spelling (`spelling` in `specs/Spelling`), [`write`]
-//! appends it, and [`read`] gives the update exactly where the bytes are its spelling. Elsewhere
-//! `read` names the place of the first field that no spelling continues, or the end, as
-//! `specs/Reading` says. No spelling is the front of another's ([`updates_are_spelled_apart`]), and
-//! each fits a record ([`spellings_fit_records`]).
+//! width of the set in it. A [`Form`] says how updates are spelled: with how many words in a set,
+//! and with which limits of a creation; that of records and of frames is [`Form::FIRST`]. In each
+//! form an update has one spelling (`spelling` in `specs/Spelling`), [`write`] appends it, and
+//! [`read`] gives the update exactly where the bytes are its spelling. Elsewhere `read` names the
+//! place of the first field that no spelling continues, or the end, as `specs/Reading` says. No
+//! spelling is the front of another's ([`updates_are_spelled_apart`]), and each fits a record
+//! ([`spellings_fit_records`]).
+//!
+//! A store that keeps the bytes of its files apart from its records spells an update as a
+//! [`Brief`], which ends before those bytes, and then the first block of each file whose stored
+//! bytes are new: [`Stored`], by `specs/Stored`. [`read_brief`] gives the update at the front and
+//! how many bytes spell it, by which a caller learns how many first blocks follow; [`read_stored`]
+//! gives the record with as many, and [`write_stored`] appends it. An update's spelling is that of
+//! its brief, and then the bytes of its file ([`briefs_begin_spellings`]). The laws of these
+//! spellings are as those above. No crate above reads or writes such records yet.
 //!
 //! [`user_entry`], [`node_entry`], [`access_entry`] and [`file_entry`] append entries of the public
 //! catalogue, by `specs/Entries` of ov_fields.
 //!
-//! W is from 1 to `MAX_SET_WORDS`, and a set then has `8 * W` bytes; the format's is 4.
+//! W is from 1 to `MAX_SET_WORDS`, and a set then has `8 * W` bytes; a store's have `SET_WORDS`.
 #![tactic(auto)]
 
+mod brief;
 mod entries;
 mod fault;
-mod form;
+mod forms;
 mod laws;
+mod pieces;
 mod reading;
+mod stored;
+mod stored_reading;
+mod stored_writing;
 mod update;
+mod within;
 mod writing;
 
+pub use brief::Brief;
 pub use entries::{access_entry, file_entry, node_entry, user_entry};
 pub use fault::RecordFault;
-pub use laws::{spellings_are_read, spellings_fit_records, updates_are_spelled_apart};
+pub use forms::Form;
+pub use laws::{
+    briefs_are_read, briefs_are_spelled_apart, briefs_begin_spellings, records_are_read,
+    records_are_spelled_apart, records_fit, spellings_are_read, spellings_fit_records,
+    updates_are_spelled_apart,
+};
 pub use reading::read;
+pub use stored::Stored;
+pub use stored_reading::{read_brief, read_stored};
+pub use stored_writing::write_stored;
 pub use update::Update;
 pub use writing::write;

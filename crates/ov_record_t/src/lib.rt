@@ -6,3 +6,5 @@
 mod fields;
 #[cfg(test)]
 mod record;
+#[cfg(test)]
+mod stored;

@@ -1,8 +1,13 @@
 //! Spellings that another program gives, and the places of wrong bytes.
 
+ghost use Rattle.std.specs.Prelude.{◌≡◌};
+ghost use Rattle.ov_record.specs.Forms.{first_form, form_of};
+
+use ov_base::limits::{MAX_FILE_BYTES, MAX_USERS, SET_WORDS};
 use ov_base::{Name, UserSet};
 use ov_record::*;
 use ov_tokens::{Edge, Token};
+use std::alloc::Global;
 use std::process::Abort;
 use std::test::Fail;
 
@@ -35,8 +40,8 @@ fn spellings_are_read_and_written_again(rt: HostRuntime) -> Result<(), Fail> {
     let mut out = Vec::new(rt.alloc());
     for bytes in SPELLINGS {
         out.clear();
-        match read::<4>(rt.alloc(), bytes) {
-            Ok(update) => write(&update, &mut out)?,
+        match read(rt.alloc(), Form::FIRST, bytes) {
+            Ok(update) => write(Form::FIRST, &update, &mut out)?,
             Err(_) => {}
         }
         assert_eq!(rt; out.as_slice(), bytes);
@@ -46,7 +51,7 @@ fn spellings_are_read_and_written_again(rt: HostRuntime) -> Result<(), Fail> {
 
 #[test]
 fn fields_of_a_creation(rt: HostRuntime) {
-    match read::<4>(rt.alloc(), CREATION) {
+    match read(rt.alloc(), Form::FIRST, CREATION) {
         Ok(
             Update::Create {
                 name,
@@ -68,7 +73,7 @@ fn fields_of_a_creation(rt: HostRuntime) {
 
 #[test]
 fn fields_of_a_grant(rt: HostRuntime) {
-    match read::<4>(rt.alloc(), GRANT) {
+    match read(rt.alloc(), Form::FIRST, GRANT) {
         Ok(
             Update::Grant {
                 user,
@@ -110,12 +115,51 @@ const WRONG: [(&[u8], u32); 16] = [
 #[test]
 fn the_first_wrong_byte_is_named(rt: HostRuntime) {
     for (bytes, place) in WRONG {
-        let at = match read::<4>(rt.alloc(), bytes) {
+        let at = match read(rt.alloc(), Form::FIRST, bytes) {
             Err(RecordFault::BadRecord { at }) => Some(at),
             _ => None,
         };
         assert_eq!(rt; at, Some(place));
     }
+}
+
+/// The form of records, which contracts see as `first_form`.
+fn first() -> Form<SET_WORDS>
+    ensures { form_of result ≡ first_form }
+{
+    Form::FIRST
+}
+
+#[test]
+fn limits_of_the_first_form(rt: HostRuntime) {
+    let form = first();
+    assert_eq!(rt;
+        (SET_WORDS, form.most_tokens, form.longest),
+        (4, 256, 1_048_576)
+    );
+    assert_eq!(rt;
+        (MAX_USERS as usize, MAX_FILE_BYTES),
+        (64 * SET_WORDS, form.longest)
+    );
+}
+
+/// The place of the first wrong byte of the creation, in a form with these limits.
+fn creation_wrong_at(alloc: Global, most_tokens: u16, longest: u16) -> Option<u32> {
+    let form = Form::<SET_WORDS> {
+        most_tokens,
+        longest: u32::from(longest),
+    };
+    match read(alloc, form, CREATION) {
+        Err(RecordFault::BadRecord { at }) => Some(at),
+        _ => None,
+    }
+}
+
+#[test]
+fn other_limits_of_a_creation(rt: HostRuntime) {
+    assert_eq!(rt; creation_wrong_at(rt.alloc(), 2, 5), None);
+    assert_eq!(rt; creation_wrong_at(rt.alloc(), 1, 5), Some(36));
+    assert_eq!(rt; creation_wrong_at(rt.alloc(), 2, 4), Some(134));
 }
 
 #[test]
@@ -124,8 +168,16 @@ fn sets_of_another_width(rt: HostRuntime) {
         RecordFault::BadRecord { at } => at,
         RecordFault::Memory => 0,
     };
-    assert_eq!(rt; read::<16>(rt.alloc(), CREATION).err().map(at), Some(132));
-    assert_eq!(rt; read::<1>(rt.alloc(), CREATION).err().map(at), Some(46));
+    let wide = Form::<16> {
+        most_tokens: 256,
+        longest: 1_048_576,
+    };
+    let narrow = Form::<1> {
+        most_tokens: 256,
+        longest: 1_048_576,
+    };
+    assert_eq!(rt; read(rt.alloc(), wide, CREATION).err().map(at), Some(132));
+    assert_eq!(rt; read(rt.alloc(), narrow, CREATION).err().map(at), Some(46));
 }
 
 #[test]

@@ -3,14 +3,16 @@ ghost use Rattle.std.specs.Prelude.{◌≡◌, ℕ, List, ◌+◌, ◌-◌, ◌�
 ghost use Rattle.std.specs.Io.KnownBytes.{Consumes, Keeps, IsAtEnd};
 ghost use Rattle.ov_base.specs.Causes.{HasCause};
 ghost use Rattle.ov_script.specs.Feed.{Fed};
+ghost use Rattle.ov_script.specs.declared.feed.TheConstants.{CAPACITY};
 
 use ov_base::Memory;
 use ov_io::{Fault, Source};
 use std::alloc::Global;
 use std::marker::Model;
 
-// More than the longest line of an item, so that there is always room for the rest of a line.
-const CAPACITY: usize = 32_768;
+/// How many bytes a feed has room for: more than the longest line of an item, so that there is
+/// always room for the rest of a line.
+pub const CAPACITY: usize = 32_768;
 
 /// The room of a feed for bytes that were taken and not yet used.
 #[derive(Drop)]
@@ -23,7 +25,7 @@ impl Model for Buffer {
 
     ghost view = { λ b. b.bytes.items };
 
-    ghost invariant = { λ b. vec_len b.bytes ≡ 32768 };
+    ghost invariant = { λ b. vec_len b.bytes ≡ CAPACITY };
 }
 
 impl Buffer {
@@ -53,7 +55,7 @@ impl<S> Model for Feed<S> {
     } };
 
     ghost invariant = { λ f. (f.start ≤ f.end) × (f.end ≤ vec_len f.buffer)
-        × (vec_len f.buffer ≡ 32768) };
+        × (vec_len f.buffer ≡ CAPACITY) };
 }
 
 // Moves the bytes from `start` to `end` to the front, and says where it ends there.
@@ -117,7 +119,7 @@ impl<S: Source + Drop> Feed<S> {
 
     /// Takes more bytes, and says how many: none at the end of the input.
     pub fn fill(&mut self) -> Result<usize, Fault>
-        requires { length self.old.pending < 32768 }
+        requires { length self.old.pending < CAPACITY }
         ensures taken { MatchResult result
             (λ n. (more : List ℕ) × (self.new.pending ≡ self.old.pending ++ more)
             × (length more ≡ n)

@@ -2,13 +2,15 @@
 use Rattle.std.proofs.Common.{◌≡◌, ◌==◌, ℕ, Bool, true, false, List, [], ◌∷◌, Result, Ok, Err, refl, ap, sym, true≢false}
 use Rattle.ov_record.specs.Reading.{update_of}
 use Rattle.ov_record.specs.Updates.{SealedUpdate}
+use Rattle.ov_record.specs.Forms.{first_form}
 use Rattle.ov_history.specs.Catalogue.{Catalogue}
+use Rattle.ov_history.specs.Places.{living_at}
 use Rattle.ov_wire.specs.declared.request.Request.{Request}
 use Rattle.ov_wire.specs.declared.request.Request.TheVariants as requests
 use Rattle.ov_wire.specs.declared.answer.Answer.{Answer}
 use Rattle.ov_wire.specs.declared.answer.Answer.TheVariants as answers
 use Rattle.ov_wire.specs.AnswerBytes.{answer_bytes}
-use Rattle.std.specs.Prelude.{Option, Some, None, slice_get, slice_index_or}
+use Rattle.std.specs.Prelude.{Option, Some, None, slice_index_or}
 use Rattle.ov_history.specs.Catalogue.{Filed}
 use Rattle.ov_protocol.specs.Serving.{Serving}
 use Rattle.ov_protocol.specs.Reading.{AnswersChunk}
@@ -34,10 +36,10 @@ no_fault s (Ok requests.Hello) is = cc
 no_fault s (Ok (requests.Ask question)) is = is
 no_fault s (Ok (requests.Cover file len names)) is = is
 no_fault s (Ok (requests.Update epoch spelling tag)) is =
-    spelled_fault s.catalogue (update_of 32 spelling) is.2
+    spelled_fault s.catalogue (update_of first_form spelling) is.2
 no_fault s (Ok (requests.Chain user file)) is = is
 no_fault s (Ok (requests.Chunk file generation start count)) is =
-    chunk_fault (slice_get s.catalogue.files file) (slice_index_or s.stored file []) generation
+    chunk_fault (living_at s.catalogue.files file) (slice_index_or s.stored file []) generation
     start count is
 no_fault s (Ok (requests.Page part number)) is = cc
 no_fault s (Ok (requests.List file)) is = is
@@ -82,7 +84,7 @@ pub record IsMade (read : Result Request ℕ) (made : List SealedUpdate) : Type 
   pub tag : List ℕ
   pub update : SealedUpdate
   pub is : read ≡ Ok (requests.Update epoch spelling tag)
-  pub spells : update_of 32 spelling ≡ Ok update
+  pub spells : update_of first_form spelling ≡ Ok update
   pub makes : made ≡ update ∷ []
 
 spelled_made : (c : Catalogue) (read : Result SealedUpdate ℕ) (n : ℕ)
@@ -93,7 +95,7 @@ spelled_made c (Err place) n is = absurd (cc)
 pub accepted_made : (s : Serving) (read : Result Request ℕ) (n : ℕ)
     → AnswersRead s read (answers.Accepted n) → IsMade read (made_of read (answers.Accepted n))
 accepted_made s (Ok (requests.Update epoch spelling tag)) n is =
-    let one = spelled_made s.catalogue (update_of 32 spelling) n is.2 in record {
+    let one = spelled_made s.catalogue (update_of first_form spelling) n is.2 in record {
       epoch = epoch;
       spelling = spelling;
       tag = tag;
@@ -108,7 +110,7 @@ accepted_made s (Ok (requests.Ask question)) n is = absurd is
 accepted_made s (Ok (requests.Cover file len names)) n is = absurd is
 accepted_made s (Ok (requests.Chain user file)) n is = absurd is
 accepted_made s (Ok (requests.Chunk file generation start count)) n is =
-    absurd (chunk_made (slice_get s.catalogue.files file) is) where
+    absurd (chunk_made (living_at s.catalogue.files file) is) where
       chunk_made : (o : Option Filed)
           → AnswersChunk o (slice_index_or s.stored file []) generation start count
           (answers.Accepted n)

@@ -1,26 +1,28 @@
 -- What is told of users and files is within the limits of a store.
-use Rattle.std.proofs.Common.{◌≡◌, ℕ, ◌<◌, ◌≤◌, false, List, [], ◌∷◌, length, sym, subst, arith, length-append}
-use Rattle.std.specs.Prelude.{None, Some, not, slice_get}
-use Rattle.std.proofs.lemmas.Option.{slice_get-get_or}
+use Rattle.std.proofs.Common.{◌≡◌, ℕ, ◌<◌, ◌≤◌, false, List, [], ◌∷◌, length, refl, sym, subst}
+use Rattle.std.proofs.Common.{arith, length-append}
+use Rattle.std.specs.Prelude.{Option, None, Some, true, is_some, not, unwrap_or}
 use Rattle.ov_base.specs.declared.limits.TheConstants.{MAX_USERS, MAX_FILES, MAX_LAYER_NODES}
 use Rattle.ov_base.specs.Sets.{single}
-use Rattle.ov_base.proofs.Tests.{gt_of_false, true_of_not}
+use Rattle.ov_base.proofs.Tests.{gt_of_false}
 use Rattle.ov_history.specs.History.{Enrolled, Granted, Revoked}
 use Rattle.ov_history.specs.Asking.{Numbers, key_refusal, newcomer, of_both, of_grant, of_user, refusal_at}
-use Rattle.ov_history.specs.Catalogue.{Catalogue, Nodes, filed_at, matrix_shown, outline}
+use Rattle.ov_history.specs.Catalogue.{Catalogue, Filed, Nodes, filed_at, matrix_shown}
+use Rattle.ov_history.specs.Catalogue.{no_filed, outline}
 use Rattle.ov_base.specs.declared.refusal.Refusal.TheVariants.{NoUser}
 use Rattle.ov_history.specs.Lists.{is_file, is_user}
 use Rattle.ov_history.specs.Layers.{Layers, grown, layers_after, lists_after, lists_of, node_of, root_of, wants_of}
+use Rattle.ov_history.specs.Places.{living_at}
 use Rattle.ov_history.specs.Refusals.{tests_of}
 use Rattle.ov_history.specs.Sound.{IsLayer, IsPlaced}
 use Rattle.ov_history.specs.Briefs.{BriefEnrol}
 use Rattle.ov_history.proofs.Outlining.{node-shown}
 use Rattle.ov_history.proofs.PlanLaws.{node_for-there, with_wants-keeps}
-use Rattle.ov_history.proofs.SoundTests.{accepted, is_below, none_applies}
+use Rattle.ov_history.proofs.SoundTests.{accepted, file_is as is_shown, is_below, none_applies}
+use Rattle.ov_history.proofs.Storing.{living_below}
 use Rattle.ov_state.specs.Asking.{numbers_of}
 use Rattle.ov_state.specs.Contents.{IsWell}
 use Rattle.ov_state.specs.declared.asking.Asked.{Asked}
-use Rattle.ov_state.proofs.QueryLaws.{file_low}
 use Rattle.ov_wire.specs.AnswerForm.{HasAnswerForm}
 use Rattle.ov_wire.specs.Entries.{IsNode}
 use Rattle.ov_server.specs.Telling.{known_answer}
@@ -55,13 +57,22 @@ root_low users user nodes layer there =
     omega (arith, (node_for-there nodes.sets (single user) (layer.rooted user there)).0, layer.few)
 
 -- a file that is there is the one at its number
-pub filed_there : (c : Catalogue) (file : ℕ) → file < length c.files
-    → slice_get c.files file ≡ Some (filed_at c file)
-filed_there c file there = slice_get-get_or c.files file _ there
+pub filed_there : (c : Catalogue) (file : ℕ) → is_some (living_at c.files file) ≡ true
+    → living_at c.files file ≡ Some (filed_at c file)
+filed_there c file there = found (living_at c.files file) there where
+  found : (o : Option Filed) → is_some o ≡ true → o ≡ Some (unwrap_or o no_filed)
+  found None is = absurd (cc)
+  found (Some f) is = refl
+
+-- the number of a file that is there is below that of the files
+pub filed_below : (c : Catalogue) (file : ℕ) → is_some (living_at c.files file) ≡ true
+    → file < length c.files
+filed_below c file there =
+    living_below c.files file (filed_at c file) (filed_there c file there)
 
 -- a file that is there has a base node
-pub node_low : (limit : ℕ) (c : Catalogue) (file : ℕ) → IsWell limit c → file < length c.files
-    → IsNode (node_of (outline c) file)
+pub node_low : (limit : ℕ) (c : Catalogue) (file : ℕ) → IsWell limit c
+    → is_some (living_at c.files file) ≡ true → IsNode (node_of (outline c) file)
 node_low limit c file well there =
     let placed : IsPlaced c (filed_at c file) =
     well.sound.files file (filed_at c file) (filed_there c file there) in
@@ -78,13 +89,14 @@ user_numbers limit c user well there = record {
 }
 
 pub both_numbers : (limit : ℕ) (c : Catalogue) (user file : ℕ) → IsWell limit c
-    → user < length c.users → file < length c.files → AreNumbers (of_both c user file)
+    → user < length c.users → is_some (living_at c.files file) ≡ true
+    → AreNumbers (of_both c user file)
 both_numbers limit c user file well there kept =
     let roots = user_numbers limit c user well there in record {
       user = roots.user;
       base_root = roots.base_root;
       surface_root = roots.surface_root;
-      file = omega (arith, kept, well.files);
+      file = omega (arith, filed_below c file kept, well.files);
       node = node_low limit c file well kept;
     }
 
@@ -92,8 +104,8 @@ both_numbers limit c user file well there kept =
 
 -- a test that doesn't apply says that the file is there
 pub file_is : (c : Catalogue) (file : ℕ) → not (is_file (matrix_shown c) file) ≡ false
-    → file < length c.files
-file_is c file passes = file_low c file (true_of_not (is_file (matrix_shown c) file) passes)
+    → is_some (living_at c.files file) ≡ true
+file_is c file passes = is_shown file c passes
 
 pub key_numbers : (limit : ℕ) (c : Catalogue) (user : ℕ) → IsWell limit c
     → key_refusal c user ≡ None → AreNumbers (of_user c user)

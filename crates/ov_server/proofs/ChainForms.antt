@@ -1,6 +1,7 @@
 -- Chains that are given are within the limits of a store.
 use Rattle.std.proofs.Common.{◌≡◌, ℕ, zero, suc, ◌<◌, ◌≤◌, ◌==◌, ◌^◌, Bool, true, false, List, [], ◌∷◌, ◌++◌, length, refl, sym, subst, arith, inl, inr, length-append}
-use Rattle.std.specs.Prelude.{None, Option, Some, Contains, IfSome, if◌then◌else◌, slice_index}
+use Rattle.std.specs.Prelude.{None, Option, Some, Contains, IfSome, if◌then◌else◌, is_some}
+use Rattle.std.specs.Prelude.{slice_index}
 use Rattle.std.specs.List.{AllByRecursion}
 use Rattle.ov_base.specs.declared.limits.TheConstants.{MAX_LAYER_NODES}
 use Rattle.ov_base.specs.Sets.{has}
@@ -19,6 +20,7 @@ use Rattle.ov_fields.specs.Spelling.{IsOneOf}
 use Rattle.ov_history.specs.Catalogue.{Catalogue, Filed, Nodes, filed_at, matrix_shown}
 use Rattle.ov_history.specs.Chains.{IsAccessChain, IsBaseChain, IsBaseChainIf, IsEdgeChain, IsSurfaceChain, graph_of}
 use Rattle.ov_history.specs.Layers.{root_of}
+use Rattle.ov_history.specs.Places.{living_at}
 use Rattle.ov_history.specs.Refusals.{read_refusal, read_tests}
 use Rattle.ov_history.specs.Sound.{IsLayer, IsPlaced}
 use Rattle.ov_history.proofs.SoundTests.{is_below, none_applies}
@@ -30,7 +32,7 @@ use Rattle.ov_wire.specs.Chains.{IsChain, IsStep, base_kinds, surface_kinds}
 use Rattle.ov_wire.specs.Entries.{IsNode}
 use Rattle.ov_wire.specs.Updates.{Has32}
 use Rattle.ov_server.specs.Telling.{HaveTokens, chained_answer}
-use Rattle.ov_server.proofs.AskForms.{file_is, filed_there, root_low}
+use Rattle.ov_server.proofs.AskForms.{file_is, filed_below, filed_there, root_low}
 
 -- ---- steps
 
@@ -176,7 +178,7 @@ pub chained_form : (limit : ℕ) (c : Catalogue) (user file : ℕ) (chained : Ch
 chained_form limit c user file chained well none is tag generation base surface =
     let tests = none_applies (read_tests (matrix_shown c) user file) none in
     let there : user < length c.users = is_below user (length c.users) tests.0 in
-    let kept : file < length c.files = file_is c file tests.1.0 in
+    let kept : is_some (living_at c.files file) ≡ true = file_is c file tests.1.0 in
     let f : Filed = filed_at c file in
     let placed : IsPlaced c f = well.sound.files file f (filed_there c file kept) in
     let low = well.each file f (filed_there c file kept) in
@@ -187,7 +189,7 @@ chained_form limit c user file chained well none is tag generation base surface 
     placed.surface is.surface surface) in (
       (
         omega (arith, is.epoch, well.epoch),
-        omega (arith, is.file, kept, well.files),
+        omega (arith, is.file, filed_below c file kept, well.files),
         omega (arith, is.length, low),
         generation,
         tag,

@@ -1,12 +1,13 @@
 -- What is answered to a question for stored bytes.
 use Rattle.std.proofs.Common.{◌≡◌, ◌∙◌, inr, ℕ, ◌≤◌, List, [], ◌++◌, length, Result, Ok, Err, refl, sym, ap, subst, arith}
-use Rattle.std.specs.Prelude.{Option, slice_get, slice_index_or, take, drop}
+use Rattle.std.specs.Prelude.{Option, slice_index_or, take, drop}
 use Rattle.std.proofs.lemmas.List.{length-take}
 use Rattle.ov_base.specs.Causes.{Rose}
 use Rattle.ov_base.specs.declared.memory.Memory.{Memory as NoMemory}
 use Rattle.ov_base.specs.declared.limits.TheConstants.{MAX_CHUNK_BYTES}
 use Rattle.ov_base.specs.declared.refusal.Refusal.TheVariants.{NoFile as NoSuchFile}
 use Rattle.ov_history.specs.Catalogue.{Catalogue, Filed}
+use Rattle.ov_history.specs.Places.{living_at}
 use Rattle.ov_wire.specs.declared.answer.Answer.{Answer}
 use Rattle.ov_wire.specs.declared.answer.Answer.TheVariants as answers
 use Rattle.ov_wire.specs.AnswerForm.{HasAnswerForm}
@@ -30,7 +31,7 @@ module _ (c : Catalogue) (stored : List (List ℕ)) (file generation start count
     (chunks : Chunks c stored file generation start count before after result) where
   -- the answer that this is
   abbrev Says : Answer → Type 0
-  Says = AnswersChunk (slice_get c.files file) (slice_index_or stored file []) generation start count
+  Says = AnswersChunk (living_at c.files file) (slice_index_or stored file []) generation start count
 
   abbrev At : Option Filed → Answer → Type 0
   At o = AnswersChunk o (slice_index_or stored file []) generation start count

@@ -18,6 +18,7 @@ use Rattle.ov_base_layer.specs.Holders.{access_of, accesses_of}
 use Rattle.ov_fields.specs.Spelling.{IsToken}
 use Rattle.ov_history.specs.Asking.{Numbers, of_user}
 use Rattle.ov_history.specs.Catalogue.{Catalogue, Filed, Nodes}
+use Rattle.ov_history.specs.Places.{living_at}
 use Rattle.ov_history.specs.Sound.{IsPlaced}
 use Rattle.ov_state.specs.Contents.{IsWell}
 use Rattle.ov_wire.specs.AnswerForm.{IsSomeEntry}
@@ -122,7 +123,7 @@ node_or_none None count few there = tt
 node_or_none (Some node) count few there = omega (arith, there, few)
 
 pub file_form : (limit : ℕ) (c : Catalogue) (number : ℕ) (f : Filed) → IsWell limit c
-    → slice_get c.files number ≡ Some f → IsName f.name → Has32 f.tag → f.generation < 2 ^ 32
+    → living_at c.files number ≡ Some f → IsName f.name → Has32 f.tag → f.generation < 2 ^ 32
     → IsOfPart 5 (File f.name f.node f.length f.generation f.tag f.surface)
 file_form limit c number f well there named tag generation =
     let placed : IsPlaced c f = well.sound.files number f there in (

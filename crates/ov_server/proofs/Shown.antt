@@ -1,7 +1,6 @@
 -- What a server answers by what it shows, and what it makes by that.
 use Rattle.std.proofs.Common.{◌≡◌, ◌∙◌, inl, ℕ, false, List, [], Result, Ok, Err, refl, sym, ap, subst, arith, true≢false}
 use Rattle.std.specs.Prelude.{IfOk, IsErr, OnErr, OnOk}
-use Rattle.std.proofs.lemmas.List.{append-nil}
 use Rattle.ov_base.specs.declared.memory.Memory.{Memory}
 use Rattle.ov_record.specs.Updates.{SealedUpdate}
 use Rattle.ov_history.specs.Sealed.{SealedHistory}
@@ -14,11 +13,11 @@ use Rattle.ov_wire.specs.declared.answer.Answer.TheVariants as answers
 use Rattle.ov_wire.specs.AnswerBytes.{answer_bytes}
 use Rattle.ov_wire.specs.AnswerForm.{HasAnswerForm}
 use Rattle.ov_wire.specs.RequestReading.{request_of}
-use Rattle.ov_protocol.specs.Serving.{followed}
 use Rattle.ov_protocol.specs.Replies.{AnswersRead, made_of, updates_asked}
 use Rattle.ov_store.specs.Opened.{Opened, Serves}
 use Rattle.ov_store.specs.Updating.{IsCallOf}
 use Rattle.ov_peer.specs.Disks.{HasUpdate}
+use Rattle.ov_peer.proofs.Following.{followed-nil}
 use Rattle.ov_server.specs.Answering.{AsksServer, IsAnswered, IsNewFault, KeepsWith, LeavesAsked, serving_of}
 use Rattle.ov_server.proofs.AnswerKinds.{other_bytes}
 
@@ -74,11 +73,6 @@ always (Ok a) P all = all a
 always (Err why) P all = tt
 
 module _ {D : Type 0} (tells : DiskTells D) where
-  -- the history is the same with no updates
-  nothing_follows : (g : SealedHistory) → followed g [] ≡ g
-  nothing_follows g =
-      ap (λ (us : List SealedUpdate). record g { updates = us }) (append-nil g.updates)
-
   -- where the disk isn't called, a crash leaves what it might have left before
   pub still_leaves : (s : Opened D) (request : List ℕ) → LeavesAsked tells request s s
   still_leaves s request g serves sound i read =
@@ -126,7 +120,7 @@ module _ {D : Type 0} (tells : DiskTells D) where
         next = refl;
       };
       lasts = λ g serves.
-          subst (λ (h : SealedHistory). Serves tells h s) (sym (nothing_follows g)) serves;
+          subst (λ (h : SealedHistory). Serves tells h s) (sym (followed-nil g)) serves;
       untouched = λ nothing. refl;
       told = λ i at. (i, at);
       failed = refl;

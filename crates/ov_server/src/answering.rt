@@ -12,13 +12,13 @@ ghost use Rattle.ov_server.specs.Answering.{IsNewFault, LeavesAsked};
 
 use crate::asking::answer_ask;
 use crate::chaining::answer_chain;
-use crate::form::is_tag;
 use crate::listing::answer_list;
 use crate::paging::answer_page;
 use crate::reply::reply_with;
 use crate::server::Server;
 use ov_base::Memory;
 use ov_disk::Disk;
+use ov_fields::known_tag;
 use ov_wire::{Answer, Request, Welcome, WireFault, read_request};
 
 impl<D: Disk> Server<D> {
@@ -29,7 +29,7 @@ impl<D: Disk> Server<D> {
     {
         let state = self.store.state();
         let base_check = self.store.base_check();
-        is_tag(&base_check);
+        known_tag(&base_check);
         Answer::Welcome(Welcome {
             mode: state.mode(),
             epoch: state.epoch(),

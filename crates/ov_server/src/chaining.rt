@@ -5,8 +5,9 @@ ghost use Rattle.ov_wire.specs.AnswerForm.{HasAnswerForm};
 ghost use Rattle.ov_protocol.specs.Reading.{AnswersChain};
 ghost use Rattle.ov_server.specs.Telling.{chained_answer, HaveTokens};
 
-use crate::form::{is_tag, steps_have_tokens};
+use crate::form::steps_have_tokens;
 use ov_base::{Memory, Name};
+use ov_fields::known_tag;
 use ov_state::{Catalogue, ChainFault, Chained};
 use ov_tokens::Chain;
 use ov_wire::Answer;
@@ -60,7 +61,7 @@ pub fn answer_chain(
     state.known();
     match state.chain(alloc, user, file) {
         Ok(found) => {
-            is_tag(&found.tag);
+            known_tag(&found.tag);
             steps_have_tokens(found.base.steps.as_slice());
             has_tokens(&found.surface);
             Ok(chained(found))

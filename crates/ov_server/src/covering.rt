@@ -1,6 +1,6 @@
 //! What an owner is told before a creation.
 ghost use Rattle.std.specs.Prelude.{◌≡◌, ◌≤◌, ℕ, List, IfOk, IfSome, Ok, Some};
-ghost use Rattle.ov_base.specs.declared.limits.TheConstants.{MAX_FILE_BYTES};
+ghost use Rattle.ov_base.specs.declared.limits.TheConstants.{MAX_FILE_BYTES, SET_WORDS};
 ghost use Rattle.ov_history.specs.Catalogue.{Catalogue};
 ghost use Rattle.ov_history.specs.Lists.{set_named};
 ghost use Rattle.ov_state.specs.Remembering.{IsPlannedIn};
@@ -40,7 +40,7 @@ fn planned_in(answer: Answer) -> Option<Planned<WIDTH>>
     ensures right { (c : Catalogue) (name : List ℕ) (size list : ℕ)
         → AnswersCover c name size list answer
         → IfSome result (IsPlannedIn c.base.sets) }
-    ensures told { (epoch : ℕ) (planned : Planned 4)
+    ensures told { (epoch : ℕ) (planned : Planned SET_WORDS)
         → answer ≡ plan_answer epoch planned → result ≡ Some planned }
 {
     match answer {

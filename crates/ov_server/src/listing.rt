@@ -6,8 +6,8 @@ ghost use Rattle.ov_history.specs.Lists.{names_in};
 ghost use Rattle.ov_wire.specs.AnswerForm.{HasAnswerForm};
 ghost use Rattle.ov_protocol.specs.Reading.{AnswersList};
 
-use crate::form::are_names;
 use ov_base::{Memory, Name, Names, Users};
+use ov_fields::known_names;
 use ov_state::Catalogue;
 use ov_wire::Answer;
 use std::alloc::Global;
@@ -52,7 +52,7 @@ pub fn answer_list(alloc: Global, state: &Catalogue, file: &Name) -> Result<Answ
     match state.list(file) {
         Ok(list) => {
             let names = names_of(alloc, state, &list)?;
-            are_names(&names);
+            known_names(&names);
             Ok(Answer::Listed { names })
         }
         Err(refusal) => Ok(Answer::Refused { refusal }),

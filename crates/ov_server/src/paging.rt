@@ -7,8 +7,9 @@ ghost use Rattle.ov_wire.specs.declared.answer.Answer.TheVariants.{PageOf};
 ghost use Rattle.ov_protocol.specs.Pages.{entry_of, node_entry_of, page_of};
 ghost use Rattle.ov_server.specs.Telling.{IsLayerOfStore, PagesNode};
 
-use crate::form::{edges_have_tokens, is_name, is_tag, is_token};
+use crate::form::edges_have_tokens;
 use ov_base::{Memory, Octets};
+use ov_fields::{known_name, known_tag, known_token};
 use ov_graph::Graph;
 use ov_record::{access_entry, file_entry, node_entry, user_entry};
 use ov_state::{Catalogue, WIDTH};
@@ -26,7 +27,7 @@ fn user_page(alloc: Global, state: &Catalogue, number: u32) -> Result<Option<Oct
     let Some(name) = state.user_at(number) else {
         return Ok(None);
     };
-    is_name(name);
+    known_name(name);
     let roots = state.told_of_user(number);
     let mut bytes = Vec::new(alloc);
     user_entry(name, roots.base_root, roots.surface_root, &mut bytes)?;
@@ -62,7 +63,7 @@ fn access_page(alloc: Global, state: &Catalogue, number: u32) -> Result<Option<O
     let Some(grant) = state.base().accesses().get(number as usize) else {
         return Ok(None);
     };
-    is_token(&grant.token);
+    known_token(&grant.token);
     let mut bytes = Vec::new(alloc);
     access_entry(grant.user, grant.node, &grant.token, &mut bytes)?;
     Ok(Some(Octets::from_vec(bytes)))
@@ -78,8 +79,8 @@ fn file_page(alloc: Global, state: &Catalogue, number: u32) -> Result<Option<Oct
     let Some(file) = state.file_at(number) else {
         return Ok(None);
     };
-    is_name(&file.name);
-    is_tag(&file.tag);
+    known_name(&file.name);
+    known_tag(&file.tag);
     let mut bytes = Vec::new(alloc);
     file_entry(
         &file.name,

@@ -6,7 +6,7 @@ ghost use Rattle.ov_wire.specs.declared.answer.Answer.{Answer};
 ghost use Rattle.ov_wire.specs.declared.answer.Answer.TheVariants.{DeviceFault};
 
 use ov_base::Memory;
-use ov_wire::{Answer, write_answer};
+use ov_wire::{Answer, kinds, write_answer};
 
 /// Puts an answer, or nothing where memory was refused, in place of what was in `reply`.
 pub fn reply_with(answer: Result<Answer, Memory>, reply: &mut Vec<u8>) -> Result<(), Memory>
@@ -28,5 +28,5 @@ pub fn reply_fault(reply: &mut Vec<u8>)
     ensures { reply.new.items ≡ answer_bytes DeviceFault }
 {
     reply.truncate(1);
-    reply[0] = 0x8d;
+    reply[0] = kinds::DEVICE_FAULT;
 }

@@ -3,6 +3,7 @@ ghost use Rattle.std.specs.Prelude.{◌≡◌, ◌≤◌, ◌+◌, ℕ, List, le
 ghost use Rattle.ov_base.specs.declared.limits.TheConstants.{MAX_FRAME_BYTES};
 ghost use Rattle.ov_record.specs.Spelling.{HasForm};
 ghost use Rattle.ov_record.specs.Updates.{sealed_update};
+ghost use Rattle.ov_record.specs.Forms.{first_form};
 ghost use Rattle.ov_wire.specs.declared.request.Request.TheVariants as requests;
 ghost use Rattle.ov_wire.specs.RequestReading.{request_of};
 ghost use Rattle.ov_protocol.specs.Updating.{owner_tag, spelling_place};
@@ -14,7 +15,7 @@ use crate::server::Server;
 use ov_base::Memory;
 use ov_disk::Disk;
 use ov_keyed::same;
-use ov_record::{RecordFault, Update, read};
+use ov_record::{Form, RecordFault, Update, read};
 use ov_state::WIDTH;
 use ov_store::StoreFault;
 use ov_tokens::SurfaceMaster;
@@ -40,7 +41,7 @@ impl<D: Disk> Server<D> {
         update: Update<WIDTH>,
         reply: &mut Vec<u8>,
     ) -> Result<(), Memory>
-        requires { HasForm 32 (sealed_update update) }
+        requires { HasForm first_form (sealed_update update) }
         ensures { (request : List ℕ)
             → HasUpdate (serving_of self.old) request (sealed_update update)
             → AsksServer D.tells self.old self.new request reply.new.items result }
@@ -89,7 +90,7 @@ impl<D: Disk> Server<D> {
             return reply_with(Ok(Answer::Stale { epoch: now }), reply);
         }
         let alloc = *reply.allocator();
-        match read::<WIDTH>(alloc, spelling) {
+        match read(alloc, Form::FIRST, spelling) {
             Ok(update) => self.make(alloc, update, reply),
             Err(RecordFault::BadRecord { at }) => {
                 let at = SPELLING_PLACE + at;

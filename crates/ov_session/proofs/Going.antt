@@ -14,7 +14,6 @@ use Rattle.ov_session.specs.declared.end.SessionEnd.{SessionEnd}
 use Rattle.ov_session.specs.declared.end.SessionEnd.TheVariants as ends
 use Rattle.ov_session.specs.declared.one.Stop.{Stop}
 use Rattle.ov_session.specs.declared.one.Stop.TheVariants as stops
-use Rattle.ov_session.specs.declared.one.TheConstants.{PIECE}
 use Rattle.ov_session.specs.Ends.{Answered, AnswersAll, EndsSpent, EndsWanting, EndsWriting, Serves}
 use Rattle.ov_session.specs.Exchanges.{Exchange, Leads, answer_for, answers, requests}
 use Rattle.ov_session.specs.Links.{IsLater, Link}
@@ -122,7 +121,7 @@ module _ {A : Type 0} (tells : AskerTells A) (a b : A) (old mid : Link)
 
   -- a piece was taken and fed, and its frames were asked
   module _ (took new : Link) (c : A) (piece : List ℕ) (d' : Decoding) (frames : List (List ℕ))
-      (reads : Reads mid took piece) (most : length piece ≤ PIECE) (half : IsWriting took new)
+      (reads : Reads mid took piece) (most : length piece ≤ 8192) (half : IsWriting took new)
       (writes : took.write_faults ≤ new.write_faults) where
     -- all bytes so far
     abbrev bytes : List ℕ

@@ -75,13 +75,10 @@ cut_short old new wanted count buf fits whole short f =
     }
 
 -- what was read before counts too
-rose_before : (a b c : ℕ) → a ≤ b → Rose b c → Rose a c
-rose_before a b c le rose = omega (arith, le, rose)
-
 reason_before : (old mid new : Link) (taken : List ℕ) → old.read_faults ≤ mid.read_faults
     → IsReason mid new taken → IsReason old new taken
 reason_before old mid new taken le (inl rose) =
-    inl (rose_before old.read_faults mid.read_faults new.read_faults le rose)
+    inl (omega (arith, le, rose))
 reason_before old mid new taken le (inr other) = inr other
 
 fails_after : (old mid new : Link) (front : List ℕ) → Reads old mid front

@@ -23,6 +23,11 @@ AnswersOne {V} tells v request reply w =
     → IsReplyAfter tells start list request reply
     × tells.reached start (spellings_after list request reply) w
 
--- an answerer that one session asks by itself: it is asked as often as that wants
+-- an answerer that one session asks by itself: it may always ask, as often as that wants
 abbrev pub alone : {V : Type 0} → AnswererTells V → AskerTells V
-alone tells = record { asks = AnswersOne tells; spent = λ _. ⊥; borrow = λ _. 0 }
+alone tells = record {
+  asks = AnswersOne tells;
+  ready = λ _. Unit {0};
+  spent = λ _. ⊥;
+  borrow = λ _. 0;
+}

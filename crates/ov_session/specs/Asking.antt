@@ -1,7 +1,7 @@
 -- What one ask tells.
 use Rattle.std.specs.Prelude.{◌≡◌, ℕ, List, Some, None, Result, Ok, Err}
-use Rattle.ov_session.specs.declared.fault.AskFault.{AskFault}
-use Rattle.ov_session.specs.declared.fault.AskFault.TheVariants as faults
+use Rattle.ov_peer.specs.declared.fault.AskFault.{AskFault}
+use Rattle.ov_peer.specs.declared.fault.AskFault.TheVariants as faults
 use Rattle.ov_session.specs.Tells.{AskerTells}
 
 -- the asker was asked, and replied or had no memory; or it wasn't asked and is as before

@@ -1,5 +1,6 @@
 -- Where a door listens, and what it tells of the streams that it gave.
-use Rattle.std.specs.Prelude.{◌≡◌, ◌<◌, ◌+◌, ℕ, zero, suc, List, [], ◌∷◌, ◌++◌, slice_get, Bool, false, true}
+use Rattle.std.specs.Prelude.{◌≡◌, ◌<◌, ◌+◌, ◌-◌, ◌^◌, min, ℕ, zero, suc}
+use Rattle.std.specs.Prelude.{List, [], ◌∷◌, ◌++◌, slice_get, Bool, false, true}
 use Rattle.std.specs.Prelude.{Option, Some, None, IfSome, Result, Ok, Err}
 use Rattle.ov_base.specs.Causes.{Rose}
 use Rattle.ov_session.specs.declared.end.SessionEnd.{SessionEnd}
@@ -47,10 +48,12 @@ listening old new = record old { listens_at = new.listens_at }
 abbrev pub OpensAt : {S : Type 0} → Doorway S → Doorway S → List ℕ → Type 0
 OpensAt old new address = (new ≡ listening old new) × IsWhere address new
 
--- A door that failed, and is otherwise as it was. A count of faults at its last value is said to
--- have risen.
+-- A door that failed counts that as one fault, and is otherwise as it was. A count of faults stays
+-- at its last value, and is then said to have risen.
 abbrev pub FailsOnce : {S : Type 0} → Doorway S → Doorway S → Type 0
-FailsOnce old new = (new ≡ record old { faults = new.faults }) × Rose old.faults new.faults
+FailsOnce old new =
+    (new ≡ record old { faults = min (old.faults + 1) (2 ^ 64 - 1) })
+    × Rose old.faults new.faults
 
 -- the door listens, and the address at which it does was appended; or it failed
 abbrev pub Listens : {S E : Type 0} → Doorway S → Doorway S → List ℕ → List ℕ

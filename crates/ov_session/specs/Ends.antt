@@ -5,7 +5,6 @@ use Rattle.ov_base.specs.Causes.{Rose}
 use Rattle.ov_wire.specs.Frames.{IsBadLength, IsCut, IsUnfinished, framed, later}
 use Rattle.ov_session.specs.declared.end.SessionEnd.{SessionEnd}
 use Rattle.ov_session.specs.declared.end.SessionEnd.TheVariants as ends
-use Rattle.ov_session.specs.declared.one.TheConstants.{PIECE}
 use Rattle.ov_session.specs.Exchanges.{Exchange, Leads, answer_for, answers, requests}
 use Rattle.ov_session.specs.Links.{Link}
 use Rattle.ov_session.specs.Tells.{AskerTells}
@@ -91,7 +90,7 @@ pub record EndsWanting {A : Type 0} (tells : AskerTells A) (a b : A) (old new : 
   pub piece : List ℕ
   pub all : AnswersAll tells a b old new taken (part ++ piece)
   pub inside : IsUnfinished part
-  pub most : length piece ≤ PIECE
+  pub most : length piece ≤ 8192
 
 -- the asker has asked as often as it may, and wasn't asked this request
 pub record EndsSpent {A : Type 0} (tells : AskerTells A) (a b : A) (old new : Link) : Type 0 where

@@ -2,9 +2,9 @@
 ghost use Rattle.std.specs.Prelude.{◌≡◌};
 ghost use Rattle.ov_session.specs.Alone.{AnswersOne};
 
-use crate::{AskFault, Asker};
+use crate::Asker;
 use ov_base::Memory;
-use ov_peer::Answerer;
+use ov_peer::{Answerer, AskFault};
 use std::sync::Wait;
 
 /// An asker that asks its answerer by itself, as often as it wants.
@@ -16,6 +16,7 @@ pub struct Alone<'a, V: Answerer> {
 impl<'a, V: Answerer> Asker for Alone<'a, V> {
     ghost tells = { record {
       asks = λ a request reply b. AnswersOne V.tells a.value.now request reply b.value.now;
+      ready = λ _. Unit {0};
       spent = λ _. ⊥;
       borrow = λ a. a.value.ghost_name;
     } };

@@ -8,7 +8,8 @@
 //!
 //! No memory is taken between an answer and its writing, so an answer that was given is sent or
 //! the session ends. Where memory is refused as a session reads on, it ends, and what was taken and
-//! not asked is at most an unfinished frame and one piece behind it. A [`NetPeer`] takes no byte past the reply that it waits for, so nothing that comes early is lost.
+//! not asked is at most an unfinished frame and one piece behind it. A [`NetPeer`] takes no byte
+//! past the reply that it waits for, so nothing that comes early is lost.
 //!
 //! * [`MemDoor`] is a door in memory: it gives the streams that it was made with, keeps what
 //!   comes back, and fails at the calls that it is told to.
@@ -35,7 +36,6 @@ mod asker;
 mod door;
 mod each;
 mod end;
-mod fault;
 mod gate;
 mod laws;
 mod memory;
@@ -50,7 +50,6 @@ pub use asker::Asker;
 pub use door::Door;
 pub use each::serve_each;
 pub use end::SessionEnd;
-pub use fault::AskFault;
 pub use gate::{Gate, OpenGate};
 pub use laws::inputs_end_one_way;
 pub use memory::{MemDoor, Returned};

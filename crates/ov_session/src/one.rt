@@ -7,10 +7,11 @@ ghost use Rattle.ov_session.specs.Links.{IsLater, IsSameLoan, Link, link};
 ghost use Rattle.ov_session.specs.Steps.{AnswersFrame, AnswersFrames, Going, GoesOn, IsEndOf, IsWriting, end_of, go_on};
 
 use crate::putting::put_frame;
-use crate::{AskFault, Asker, Gate, SessionEnd};
+use crate::{Asker, Gate, SessionEnd};
 use ov_base::{Memory, Octets};
 use ov_io::{Fault, Stream};
-use ov_wire::{Decoder, FeedFault};
+use ov_peer::AskFault;
+use ov_wire::{Decoder, FeedFault, kinds};
 use std::alloc::Global;
 use std::sync::Wait;
 
@@ -18,7 +19,7 @@ use std::sync::Wait;
 const PIECE: usize = 8_192;
 
 /// The frame that says that there was no memory for an answer.
-const NO_MEMORY: [u8; 1] = [0x8e];
+const NO_MEMORY: [u8; 1] = [kinds::NO_MEMORY];
 
 /// What is told of a request before it is asked, and where it may wait.
 #[derive(Drop)]
@@ -81,7 +82,8 @@ fn answer_one<R: Wait, L: Stream, A: Asker>(
     frame: &[u8],
     reply: &mut Vec<u8>,
 ) -> Result<(), Stop>
-    requires { IsFrame frame.now }
+    requires frame { IsFrame frame.now }
+    requires ready { A.tells.ready asker.old }
     ensures answers { AnswersFrame A.tells asker.old asker.new
         (link L.Source.tells L.Sink.tells stream.old) (link L.Source.tells L.Sink.tells stream.new)
         frame.now result }
@@ -90,6 +92,7 @@ fn answer_one<R: Wait, L: Stream, A: Asker>(
         (link L.Source.tells L.Sink.tells stream.new) }
     ensures later { L.Sink.tells.faults stream.old ≤ L.Sink.tells.faults stream.new }
     ensures same { IsSameLoan L.Source.tells L.Sink.tells stream.old stream.new }
+    ensures ready { A.tells.ready asker.new }
     ensures asker { A.tells.borrow asker.new ≡ A.tells.borrow asker.old }
 {
     let put = match asker.ask(rt, frame, reply) {
@@ -112,7 +115,8 @@ fn answer_each<R: Wait, L: Stream, A: Asker, G: Gate>(
     reply: &mut Vec<u8>,
     asked: &mut u32,
 ) -> Result<(), Stop>
-    requires { AllByRecursion IsFrame frames.now }
+    requires frames { AllByRecursion IsFrame frames.now }
+    requires ready { A.tells.ready asker.old }
     ensures answers { AnswersFrames A.tells asker.old asker.new
         (link L.Source.tells L.Sink.tells stream.old) (link L.Source.tells L.Sink.tells stream.new)
         frames.now result }
@@ -121,6 +125,7 @@ fn answer_each<R: Wait, L: Stream, A: Asker, G: Gate>(
         (link L.Source.tells L.Sink.tells stream.new) }
     ensures later { L.Sink.tells.faults stream.old ≤ L.Sink.tells.faults stream.new }
     ensures same { IsSameLoan L.Source.tells L.Sink.tells stream.old stream.new }
+    ensures ready { A.tells.ready asker.new }
     ensures asker { A.tells.borrow asker.new ≡ A.tells.borrow asker.old }
 {
     for frame in frames {
@@ -162,6 +167,7 @@ fn read_on<R: Wait, L: Stream, A: Asker, G: Gate>(
     asker: &mut A,
     reading: &mut Reading,
 ) -> Result<(), SessionEnd>
+    requires { A.tells.ready asker.old }
     ensures goes { (a : A) (old : Link) → Going A.tells a asker.old old
         (link L.Source.tells L.Sink.tells stream.old)
         reading.old.decoder reading.old.taken
@@ -172,6 +178,7 @@ fn read_on<R: Wait, L: Stream, A: Asker, G: Gate>(
         (link L.Source.tells L.Sink.tells stream.old)
         (link L.Source.tells L.Sink.tells stream.new) }
     ensures same { IsSameLoan L.Source.tells L.Sink.tells stream.old stream.new }
+    ensures ready { A.tells.ready asker.new }
     ensures asker { A.tells.borrow asker.new ≡ A.tells.borrow asker.old }
 {
     let mut room = [0; PIECE];
@@ -202,6 +209,7 @@ pub fn serve_one<R: Wait, L: Stream, A: Asker, G: Gate>(
     asker: &mut A,
     gate: &G,
 ) -> SessionEnd
+    requires { A.tells.ready asker.old }
     ensures serves { Serves A.tells asker.old asker.new
         (link L.Source.tells L.Sink.tells stream.old)
         (link L.Source.tells L.Sink.tells stream.new) result }
@@ -209,6 +217,7 @@ pub fn serve_one<R: Wait, L: Stream, A: Asker, G: Gate>(
         (link L.Source.tells L.Sink.tells stream.old)
         (link L.Source.tells L.Sink.tells stream.new) }
     ensures same { IsSameLoan L.Source.tells L.Sink.tells stream.old stream.new }
+    ensures ready { A.tells.ready asker.new }
     ensures asker { A.tells.borrow asker.new ≡ A.tells.borrow asker.old }
 {
     let mut reading = match Reading::new(alloc) {

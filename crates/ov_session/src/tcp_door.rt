@@ -1,9 +1,8 @@
 //! A door at a TCP port. What the system's sockets give and take is trusted.
-ghost use Rattle.std.specs.Prelude.{◌≡◌, ◌++◌, None, Some, false, OnErr, OnOk};
+ghost use Rattle.std.specs.Prelude.{◌≡◌, ◌+◌, ◌-◌, ◌^◌, ◌++◌, min, None, Some, false, OnErr, OnOk};
 ghost use Rattle.std.specs.Option.{option_map};
 ghost use Rattle.std.specs.Net.Text.{socket_text};
 ghost use Rattle.std.specs.declared.net.socket_addr.SocketAddr.{SocketAddr};
-ghost use Rattle.ov_base.specs.Causes.{Rose};
 
 use crate::{Door, SessionEnd};
 use ov_base::Memory;
@@ -15,14 +14,20 @@ use std::net::{Net, OpenListener, OpenStream, SocketAddr, TcpListener};
 /// How many connections that broke before they were accepted are passed over in one call.
 const MOST_BROKEN: u32 = 100;
 
+/// A listener, and where the system says that it listens.
+#[derive(Drop)]
+struct Listening<L> {
+    listener: L,
+    bound: SocketAddr,
+}
+
 /// A door that listens at an address, and gives a stream for each connection. It tells nothing of
 /// the streams, and always has more; where it listens it tells as the system does.
 #[derive(Drop)]
 pub struct TcpDoor<R: Net + AllocGlobal + Drop> {
     rt: R,
     address: String,
-    listener: Option<R::Listener>,
-    bound: Option<SocketAddr>,
+    listening: Option<Listening<R::Listener>>,
     client: Option<SocketAddr>,
     given: u64,
     faults: u64,
@@ -42,8 +47,7 @@ impl<R: Net + AllocGlobal + Drop> TcpDoor<R> {
         Ok(TcpDoor {
             rt,
             address,
-            listener: None,
-            bound: None,
+            listening: None,
             client: None,
             given: 0,
             faults: 0,
@@ -65,22 +69,22 @@ impl<R: Net + AllocGlobal + Drop> TcpDoor<R> {
     fn open(&mut self, address: &mut Vec<u8>) -> io::Result<()>
         ensures given { self.new.given ≡ self.old.given }
         ensures faults { self.new.faults ≡ self.old.faults }
-        ensures appended { OnOk result ((bound : SocketAddr) × (self.new.bound ≡ Some bound)
+        ensures appended { OnOk result ((bound : SocketAddr)
+            × (option_map (λ l. l.bound) self.new.listening ≡ Some bound)
             × (address.new.items ≡ address.old.items ++ socket_text bound)) }
-        ensures stays { OnErr result (self.new.bound ≡ self.old.bound) }
+        ensures stays { OnErr result (self.new.listening ≡ self.old.listening) }
     {
         let listener = TcpListener::bind(&self.rt, self.address.as_str())?;
         let bound = listener.local_addr()?;
         let text = format!(in self.rt.alloc(); "{bound}")?;
         address.extend_from_slice(text.as_bytes())?;
-        self.listener = Some(listener);
-        self.bound = Some(bound);
+        self.listening = Some(Listening { listener, bound });
         Ok(())
     }
 
     // The next connection, and whose it is. Each small frame is sent at once.
     fn next(&self) -> io::Result<(R::Stream, SocketAddr)> {
-        let Some(listener) = &self.listener else {
+        let Some(Listening { listener, .. }) = &self.listening else {
             return Err(io::Error::from(ErrorKind::NotConnected));
         };
         for _ in 0..MOST_BROKEN {
@@ -101,8 +105,8 @@ impl<R: Net + AllocGlobal + Drop> TcpDoor<R> {
 
     fn fail(&mut self, kind: ErrorKind) -> Fault
         ensures given { self.new.given ≡ self.old.given }
-        ensures bound { self.new.bound ≡ self.old.bound }
-        ensures rose { Rose self.old.faults self.new.faults }
+        ensures listening { self.new.listening ≡ self.old.listening }
+        ensures counts { self.new.faults ≡ min (self.old.faults + 1) (2 ^ 64 - 1) }
     {
         self.reason = Some(kind);
         self.faults = self.faults.saturating_add(1);
@@ -114,7 +118,7 @@ impl<R: Net + AllocGlobal + Drop> Door for TcpDoor<R> {
     type Stream = StdStream<R::Stream>;
 
     ghost shows = { λ d. record {
-      listens_at = option_map (λ a. socket_text a) d.bound;
+      listens_at = option_map (λ l. socket_text l.bound) d.listening;
       told = None;
       given = d.given;
       closed = false;

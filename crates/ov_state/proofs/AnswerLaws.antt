@@ -1,4 +1,6 @@
 -- Which questions about files and readers are refused.
+use Rattle.std.specs.Prelude.{is_some}
+use Rattle.ov_history.specs.Places.{living_at}
 use Rattle.std.proofs.Common.{◌≡◌, ℕ, ◌<◌, Bool, true, false, List, [], ◌∷◌, Some, None, length, refl, sym, ◌∙◌, ap, subst}
 use Rattle.std.specs.Prelude.{Err, Ok, not}
 use Rattle.ov_base.specs.Sets.{Has, has}
@@ -11,7 +13,7 @@ use Rattle.ov_history.specs.Refusals.{first_of_tests, list_refusal, read_refusal
 use Rattle.ov_history.specs.Catalogue.{Catalogue, filed_at, matrix_shown, outline, place_of_file}
 use Rattle.ov_history.specs.Asking.{file_named, user_named}
 use Rattle.ov_state.specs.Queries.{AnswersList, AnswersReader}
-use Rattle.ov_state.proofs.QueryLaws.{file_low, file_there, file_within, list_shown, no_file_there, no_user, user_low, user_there}
+use Rattle.ov_state.proofs.QueryLaws.{file_low, file_there, list_shown, no_file_there, no_user, user_low, user_there}
 
 -- ---- tests
 
@@ -46,21 +48,21 @@ none_applies true true true e = (refl, refl, refl)
 
 -- anyone who may read a file is a user in its list
 pub may_read : (s : Catalogue) (user file : ℕ) → read_refusal (matrix_shown s) user file ≡ None
-    → (user < length s.users) × (file < length s.files) × Has (list_at (outline s) (place_of_file (filed_at s file))) user
+    → (user < length s.users) × (is_some (living_at s.files file) ≡ true) × Has (list_at (outline s) (place_of_file (filed_at s file))) user
 may_read s user file read =
     let passed = none_applies (is_user (matrix_shown s) user) (is_file (matrix_shown s) file) (is_listed (matrix_shown s) user file) read in
-    let low : file < length s.files = file_low s file passed.1 in
-    (user_low s user passed.0, low, subst (λ list. Has list user) (list_shown s file low) passed.2)
+    let there = file_low s file passed.1 in
+    (user_low s user passed.0, there, subst (λ list. Has list user) (list_shown s file there) passed.2)
 
 -- ---- answers
 
 module _ (s : Catalogue) where
   -- the list of the file of a number
   pub listing : (name : List ℕ) (number list : ℕ) → IsNumber (file_names (matrix_shown s).files) name (Some number)
-      → list ≡ list_at (outline s) (place_of_file (filed_at s number)) → AnswersList s name (Ok list)
-  listing name number list is same = (
-    subst (λ n. list_refusal (matrix_shown s) n ≡ None) is.0 (given (matrix_shown s) number (file_there s number is.1)),
-    same ∙ sym (list_shown s number (file_within s number is.1)) ∙ ap (λ n. (file_at (matrix_shown s) n).list) is.0,
+      → is_some (living_at s.files number) ≡ true → list ≡ list_at (outline s) (place_of_file (filed_at s number)) → AnswersList s name (Ok list)
+  listing name number list is there same = (
+    subst (λ n. list_refusal (matrix_shown s) n ≡ None) is.0 (given (matrix_shown s) number (file_there s number there)),
+    same ∙ sym (list_shown s number there) ∙ ap (λ n. (file_at (matrix_shown s) n).list) is.0,
   )
 
   pub not_listing : (name : List ℕ) → IsNumber (file_names (matrix_shown s).files) name None → AnswersList s name (Err NoFile)
@@ -78,13 +80,13 @@ module _ (s : Catalogue) where
         without_file (matrix_shown s) (user_named s user) (file_named s file) known_user (no_file_there s file none)
 
     module _ (number list : ℕ) (at : IsNumber (file_names (matrix_shown s).files) file (Some number))
-        (same : list ≡ list_at (outline s) (place_of_file (filed_at s number))) where
+        (there : is_some (living_at s.files number) ≡ true) (same : list ≡ list_at (outline s) (place_of_file (filed_at s number))) where
       listed : is_listed (matrix_shown s) reader number ≡ has list reader
-      listed = ap (λ l. has l reader) (list_shown s number (file_within s number at.1) ∙ sym same)
+      listed = ap (λ l. has l reader) (list_shown s number there ∙ sym same)
 
       pub reading : has list reader ≡ true → AnswersReader s user file (Ok (reader, number))
       reading has_reader = (
-        readable (matrix_shown s) reader number (user_there s reader is.1) (file_there s number at.1) (listed ∙ has_reader),
+        readable (matrix_shown s) reader number (user_there s reader is.1) (file_there s number there) (listed ∙ has_reader),
         is.0,
         at.0,
       )
@@ -93,4 +95,4 @@ module _ (s : Catalogue) where
       not_reading has_not =
           subst (λ n. read_refusal (matrix_shown s) n (file_named s file) ≡ Some NoPath) is.0
           (subst (λ n. read_refusal (matrix_shown s) reader n ≡ Some NoPath) at.0
-          (without_path (matrix_shown s) reader number (user_there s reader is.1) (file_there s number at.1) (listed ∙ has_not)))
+          (without_path (matrix_shown s) reader number (user_there s reader is.1) (file_there s number there) (listed ∙ has_not)))

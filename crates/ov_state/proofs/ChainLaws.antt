@@ -1,5 +1,5 @@
 -- The chains of a reader, and the keys at their ends.
-use Rattle.std.proofs.Common.{◌≡◌, ◌≢◌, ℕ, zero, suc, ◌+◌, ◌<◌, Bool, true, false, List, [], ◌∷◌, Some, None, length, get_or, drop, refl, ◌∙◌, sym, ap, subst, arith, add-one, inl, inr, true≢false}
+use Rattle.std.proofs.Common.{◌≡◌, ◌≢◌, ℕ, zero, suc, ◌+◌, ◌<◌, Bool, true, false, List, [], ◌∷◌, Some, None, length, get_or, drop, refl, ◌∙◌, sym, ap, subst, add-one, inl, inr, true≢false}
 use Rattle.std.specs.Prelude.{Contains, Option, slice_index}
 use Rattle.std.proofs.Math.Seq.{drop-cons}
 use Rattle.ov_base.specs.Sets.{Has, has}

@@ -1,6 +1,9 @@
 -- The wanted sets of files after the list of one changed, by number.
+use Rattle.ov_history.specs.Places.{living_at}
+use Rattle.std.specs.Prelude.{option_map}
+use Rattle.ov_history.proofs.Storing.{living_below}
 use Rattle.std.proofs.Common.{◌≡◌, ◌≢◌, ℕ, zero, suc, ◌+◌, ◌<◌, ◌≤◌, ◌==◌, Bool, true, false, List, [], ◌∷◌, ◌++◌, length, take, drop, refl, sym, ◌∙◌, ap, subst, arith, eqb-true, length-append}
-use Rattle.std.specs.Prelude.{slice_get, Option, Some, None, is_some, not}
+use Rattle.std.specs.Prelude.{slice_get, Option, Some, None, IfSome, is_some, not}
 use Rattle.std.proofs.lemmas.Bool.{false≢true}
 use Rattle.std.proofs.lemmas.Bool.Decides.{nat_tests}
 use Rattle.std.proofs.lemmas.List.{take_all, take_more, take-append-drop, length-take-le}
@@ -10,43 +13,39 @@ use Rattle.ov_base.specs.declared.mode.Mode.{Mode}
 use Rattle.ov_base.specs.declared.mode.Mode.TheVariants.{Full, Delta}
 use Rattle.ov_base.proofs.SetLaws.{each_within}
 use Rattle.ov_graph.specs.Contents.{plan_of}
+use Rattle.ov_graph.specs.declared.cover.GraphRefusal.{GraphRefusal}
+use Rattle.ov_graph.specs.declared.cover.GraphRefusal.TheVariants.{NodesFull, Memory as GraphMemory}
 use Rattle.ov_surface.specs.Wanted.{none_where, wanted_surface}
 use Rattle.ov_history.specs.Layers.{Place, Layers, holders, list_at, surface_at, same_surface, appended, with_set, with_wants}
-use Rattle.ov_history.specs.Catalogue.{Filed, Catalogue, outline, place_of_file, places}
+use Rattle.ov_history.specs.Catalogue.{Filed, Nodes, Catalogue, outline, place_of_file, places}
 use Rattle.ov_history.proofs.Listing.{same_surface-is}
 use Rattle.ov_history.proofs.Outlining.{length-places}
-use Rattle.ov_state.specs.declared.fault.PrepareFault.{PrepareFault}
-use Rattle.ov_state.specs.declared.fault.PrepareFault.TheVariants.{Refused, BadPlan, Memory}
 use Rattle.ov_state.specs.declared.files.FileEntry.{FileEntry}
 use Rattle.ov_state.specs.declared.relisting.Relisting.{Relisting}
-use Rattle.ov_state.specs.declared.rewrites.Rewrites.{Rewrites}
 use Rattle.ov_state.specs.Contents.{IsWell}
 use Rattle.ov_state.specs.Entries.{plain_file}
-use Rattle.ov_state.specs.Relistings.{nodes_planned, list_if, want_if, want_after, wants_after, with_want, IsFull, IsRelisting, AreSettled, IsSettled, MayMove}
-use Rattle.ov_state.proofs.SettledFiles.{settled-next_file, settled-same_file, full-next_file}
+use Rattle.ov_state.specs.Relistings.{list_if, want_if, want_after, want_left, wants_after, IsFull, IsNext, IsRelisting, MayMove}
 
 -- ---- by number
 
-pub place-at : (files : List Filed) (file : ℕ) (f : Filed) → slice_get files file ≡ Some f
-    → slice_get (places files) file ≡ Some (place_of_file f)
+pub place-at : (files : List (Option Filed)) (file : ℕ) (f : Filed) → living_at files file ≡ Some f
+    → living_at (places files) file ≡ Some (place_of_file f)
 place-at [] file f is = absurd (cc)
 place-at (first ∷ files) zero f is =
-    let e : first ≡ f = cc in
-    ap (λ (g : Filed). Some (place_of_file g)) e
+    ap (λ (o : Option Filed). option_map place_of_file o) is
 place-at (first ∷ files) (suc file) f is = place-at files file f is
 
-pub length-wants_after : {W : ℕ} (y : Layers) (r : Relisting W) (placed : List Place) (number : ℕ)
+pub length-wants_after : {W : ℕ} (y : Layers) (r : Relisting W) (placed : List (Option Place)) (number : ℕ)
     → length (wants_after y r number placed) ≡ length placed
 length-wants_after y r [] number = refl
 length-wants_after y r (p ∷ placed) number = ap suc (length-wants_after y r placed (number + 1))
 
-pub want-at : {W : ℕ} (y : Layers) (r : Relisting W) (placed : List Place) (number file : ℕ) (p : Place)
-    → slice_get placed file ≡ Some p → slice_get (wants_after y r number placed) file ≡ Some (want_after y r (number + file) p)
+pub want-at : {W : ℕ} (y : Layers) (r : Relisting W) (placed : List (Option Place)) (number file : ℕ) (p : Place)
+    → living_at placed file ≡ Some p → slice_get (wants_after y r number placed) file ≡ Some (want_after y r (number + file) p)
 want-at y r [] number file p is = absurd (cc)
 want-at y r (first ∷ placed) number zero p is =
-    let e : first ≡ p = cc in
     let n : number ≡ number + 0 = omega arith in
-    ap (λ (q : Place). Some (want_after y r number q)) e ∙ ap (λ n. Some (want_after y r n p)) n
+    ap (λ (o : Option Place). Some (want_left y r number o)) is ∙ ap (λ n. Some (want_after y r n p)) n
 want-at y r (first ∷ placed) number (suc file) p is =
     let n : number + 1 + file ≡ number + suc file = omega arith in
     want-at y r placed (number + 1) file p is ∙ ap (λ n. Some (want_after y r n p)) n
@@ -75,7 +74,7 @@ want-grown sets Delta list held more there within grows = by_tests (list == held
 -- ---- the next file
 
 module _ {W : ℕ} (s : Catalogue) (r : Relisting W) (file : ℕ) (f : FileEntry)
-    (here : slice_get s.files file ≡ Some (plain_file f)) where
+    (here : living_at s.files file ≡ Some (plain_file f)) where
   abbrev own : Place
   own = place_of_file (plain_file f)
 
@@ -94,7 +93,7 @@ module _ {W : ℕ} (s : Catalogue) (r : Relisting W) (file : ℕ) (f : FileEntry
 
   many : file ≡ length (take file wants)
   many =
-      let low : file < length s.files = slice_get_within s.files file (plain_file f) here in
+      let low : file < length s.files = living_below s.files file (plain_file f) here in
       let all : length wants ≡ length s.files = length-wants_after (outline s) r (places s.files) 0 ∙ length-places s.files in
       sym (length-take-le file wants (omega arith))
 
@@ -137,28 +136,22 @@ module _ {W : ℕ} (s : Catalogue) (r : Relisting W) (file : ℕ) (f : FileEntry
   moves-by limit well relisting same other true is = same
   moves-by limit well relisting same other false is = surface-stays limit well relisting same other is
 
-  module _ (master : List ℕ) (old : Rewrites W) (done : AreSettled master s (take file wants) old) where
-    -- a file that stays as it is has its wanted surface
-    pub file-stays : (limit : ℕ) → IsWell limit s → MayMove false s r file f → AreSettled master s (take (file + 1) wants) old
-    file-stays limit well stays =
-        subst (λ (ws : List (Option ℕ)). AreSettled master s ws old) (sym next)
-        (settled-same_file master s (take file wants) want file f many here old done (well.sound.files file _ here).surface stays)
+  pub is_next : (layer : Nodes) → s.surface ≡ layer → IsNext s (take file wants) layer file f
+  is_next layer same = record { surface = same; number = many; kept = here }
 
-    module _ (same : f.node ≡ r.node) (wanted : Option ℕ) (is : wanted ≡ want_if true (outline s) r file own) where
-      -- a file that may move is settled
-      pub same-node : (new : Rewrites W) → IsSettled master s.surface file f wanted old new
-          → AreSettled master s (take (file + 1) wants) new
-      same-node new settled =
-          subst (λ (ws : List (Option ℕ)). AreSettled master s ws new) (sym next)
-          (settled-next_file master s (take file wants) want file f many here old new done
-          (subst (λ (o : Option ℕ). IsSettled master s.surface file f o old new) (wanted_is same wanted is) settled))
+  -- what holds of the files before and goes on for one that stays as it is
+  pub file-stays : (Holds : List (Option ℕ) → Type 0) (limit : ℕ) → IsWell limit s → MayMove false s r file f
+      → (living_at s.files (length (take file wants)) ≡ Some (plain_file f) → IfSome f.surface (λ node. node < length s.surface.sets)
+      → same_surface f.surface (surface_at s.surface.sets want) ≡ true → Holds (take file wants ++ want ∷ []))
+      → Holds (take (file + 1) wants)
+  file-stays Holds limit well stays goes_on =
+      subst Holds (sym next) (goes_on (ap (living_at s.files) (sym many) ∙ here) (well.sound.files file _ here).surface stays)
 
-      pub same-node-full : (fault : PrepareFault) → IsFull (with_want master (nodes_planned s.surface old.nodes) wanted).sets fault
-          → IsFull (with_wants s.surface.sets (take (file + 1) wants)) fault
-      same-node-full fault full =
-          subst (λ (ws : List (Option ℕ)). IsFull (with_wants s.surface.sets ws) fault) (sym next)
-          (full-next_file master s (take file wants) want file f many here old fault done
-          (subst (λ (o : Option ℕ). IsFull (with_want master (nodes_planned s.surface old.nodes) o).sets fault) (wanted_is same wanted is) full))
+  -- what holds of the files before with the wanted set of this one
+  pub file-moves : (Holds : List (Option ℕ) → Type 0) → f.node ≡ r.node → (wanted : Option ℕ) → wanted ≡ want_if true (outline s) r file own
+      → Holds (take file wants ++ wanted ∷ []) → Holds (take (file + 1) wants)
+  file-moves Holds same wanted is holds =
+      subst Holds (sym next) (subst (λ (o : Option ℕ). Holds (take file wants ++ o ∷ [])) (wanted_is same wanted is) holds)
 
 -- ---- all files
 
@@ -176,18 +169,17 @@ longer [] sets = omega arith
 longer (None ∷ wants) sets = longer wants sets
 longer (Some set ∷ wants) sets = omega (arith, longer wants (with_set sets set), longer_with (plan_of sets set).fresh sets set)
 
-longest : (sets more : List ℕ) (fault : PrepareFault) → length sets ≤ length more → IsFull sets fault → IsFull more fault
-longest sets more (Refused why) long full = (full.0, omega (arith, full.1))
-longest sets more (BadPlan place) long full = full
-longest sets more Memory long full = full
+longest : (sets more : List ℕ) (why : GraphRefusal) → length sets ≤ length more → IsFull sets why → IsFull more why
+longest sets more NodesFull long full = omega (arith, full)
+longest sets more GraphMemory long full = full
 
 -- where there is no room for the wanted sets of some files, there is none for all
-pub full-all : (sets : List ℕ) (wants : List (Option ℕ)) (n : ℕ) (fault : PrepareFault) → IsFull (with_wants sets (take n wants)) fault
-    → IsFull (with_wants sets wants) fault
-full-all sets wants n fault full =
+pub full-all : (sets : List ℕ) (wants : List (Option ℕ)) (n : ℕ) (why : GraphRefusal) → IsFull (with_wants sets (take n wants)) why
+    → IsFull (with_wants sets wants) why
+full-all sets wants n why full =
     let all : with_wants (with_wants sets (take n wants)) (drop n wants) ≡ with_wants sets wants =
     sym (with_wants-both (take n wants) (drop n wants) sets) ∙ ap (with_wants sets) (take-append-drop n wants) in
-    longest (with_wants sets (take n wants)) (with_wants sets wants) fault
+    longest (with_wants sets (take n wants)) (with_wants sets wants) why
     (subst (λ (more : List ℕ). length (with_wants sets (take n wants)) ≤ length more) all (longer (drop n wants) (with_wants sets (take n wants)))) full
 
 -- all wanted sets are those of all files

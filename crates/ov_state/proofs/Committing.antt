@@ -1,4 +1,5 @@
 -- A change as it is made, part by part.
+use Rattle.std.specs.Prelude.{Option, option_map}
 use Rattle.std.proofs.Common.{◌≡◌, ℕ, ◌+◌, ◌≤◌, List, [], ◌∷◌, length, refl, sym, ◌∙◌, ap, subst, arith}
 use Rattle.std.specs.Prelude.{None}
 use Rattle.ov_base.specs.declared.limits.TheConstants.{MAX_FILES}
@@ -15,7 +16,7 @@ use Rattle.ov_state.specs.declared.change.Change.{Change}
 
 -- the catalogue of the parts after a change, where each part was changed as it says
 pub made_is_applied : {W : ℕ} (old : Catalogue) (c : Change W) (mode : Mode) (epoch : ℕ) (users new_users : List (List ℕ)) (base new_base : BaseContents)
-    (surface new_surface : Contents) (files grown new_files : List Filed)
+    (surface new_surface : Contents) (files grown new_files : List (Option Filed))
     → catalogue_by mode epoch users base surface files ≡ old
     → new_users ≡ users_grown users c.growth
     → nodes_of new_base.graph ≡ node_added_if (nodes_of base.graph) c.base
@@ -40,18 +41,19 @@ made_is_applied {W} old c mode epoch users new_users base new_base surface new_s
 pub made_is_whole : {W : ℕ} (limit : ℕ) (old new : Catalogue) (c : Change W) → new ≡ applied old c → Suits limit old c → IsWhole {W = W} limit new c.size None
 made_is_whole {W} limit old new c is suits = subst (λ (s : Catalogue). IsWhole {W = W} limit s c.size None) (sym is) (suits.well, suits.size, tt)
 
-length-rewritten : (epoch : ℕ) (rewrites : List Rewrite) (files : List Filed) → length (all_rewritten epoch rewrites files) ≡ length files
+length-rewritten : (epoch : ℕ) (rewrites : List Rewrite) (files : List (Option Filed)) → length (all_rewritten epoch rewrites files) ≡ length files
 length-rewritten epoch [] files = refl
 length-rewritten epoch (r ∷ rewrites) files =
-    length-rewritten epoch rewrites (change_at (rewritten epoch r) r.file files) ∙ length-change_at (rewritten epoch r) r.file files
+    length-rewritten epoch rewrites (change_at (option_map (rewritten epoch r)) r.file files)
+    ∙ length-change_at (option_map (rewritten epoch r)) r.file files
 
 -- the files that grow are no more than a store may have
-pub grown_few : {W : ℕ} (limit : ℕ) (old : Catalogue) (c : Change W) → Suits limit old c → (files : List Filed) → files ≡ old.files
+pub grown_few : {W : ℕ} (limit : ℕ) (old : Catalogue) (c : Change W) → Suits limit old c → (files : List (Option Filed)) → files ≡ old.files
     → length (files_grown files c.growth) ≤ MAX_FILES
 grown_few limit old c suits files is =
     omega (
       arith,
-      ap (λ (fs : List Filed). length (files_grown fs c.growth)) is,
+      ap (λ (fs : List (Option Filed)). length (files_grown fs c.growth)) is,
       length-rewritten (old.epoch + 1) c.rewrites.items (files_grown old.files c.growth),
       suits.well.files,
     )

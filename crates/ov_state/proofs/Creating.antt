@@ -51,14 +51,14 @@ module _ (limit : ℕ) (master : List ℕ) (s : Catalogue) (name : List ℕ) (li
   abbrev new : Filed
   new = record { name = name; node = node_for s.base.sets list; surface = None; generation = s.epoch + 1; tag = tag; length = size }
 
-  abbrev lists : List ℕ
+  abbrev lists : List (Option ℕ)
   lists = lists_of (outline s)
 
   abbrev wants_before : List (Option ℕ)
   wants_before = wants_of (outline s) lists
 
   abbrev wants : List (Option ℕ)
-  wants = wants_of (outline next) (lists ++ list ∷ [])
+  wants = wants_of (outline next) (lists ++ Some list ∷ [])
 
   -- layers with the new file's base node have the holders that they had
   module _ (z : Layers) (mode : z.mode ≡ s.mode) (base : z.base ≡ with_set s.base.sets list) (accesses : z.accesses ≡ accesses_of s.grants) where
@@ -74,7 +74,7 @@ module _ (limit : ℕ) (master : List ℕ) (s : Catalogue) (name : List ℕ) (li
     new_want = λ i. wanted_surface (mode i) list (holders_are new.node i)
 
     -- only the new file's wanted surface is new
-    wants_then : wants_at z (lists ++ list ∷ []) (places (s.files ++ new ∷ [])) ≡ wants_before ++ want_then s list ∷ []
+    wants_then : wants_at z (lists ++ Some list ∷ []) (places (s.files ++ Some new ∷ [])) ≡ wants_before ++ want_then s list ∷ []
     wants_then =
         wants-append z lists s.files list new (length-lists_of (outline s) ∙ length-places s.files)
         ∙ ap (λ ws. ws ++ wanted_surface z.mode list (holders z new.node) ∷ [])
@@ -112,16 +112,16 @@ module _ (limit : ℕ) (master : List ℕ) (s : Catalogue) (name : List ℕ) (li
   new_settled (Some node) = refl
 
   files_are : settled_files (s.epoch + 1) sets_then wants next.files
-      ≡ s.files ++ filed_then (surface_at sets_then (want_then s list)) ∷ []
+      ≡ s.files ++ Some (filed_then (surface_at sets_then (want_then s list))) ∷ []
   files_are =
       ap (λ ws. settled_files (s.epoch + 1) sets_then ws next.files) wants_are
-      ∙ files-kept (s.epoch + 1) sets_then wants_before (want_then s list ∷ []) s.files (new ∷ [])
+      ∙ files-kept (s.epoch + 1) sets_then wants_before (want_then s list ∷ []) s.files (Some new ∷ [])
       (kept-with_wants s.surface.sets (want_then s list ∷ []) wants_before s.files kept)
-      ∙ ap (λ f. s.files ++ f ∷ []) (new_settled (surface_at sets_then (want_then s list)))
+      ∙ ap (λ (f : Filed). s.files ++ Some f ∷ []) (new_settled (surface_at sets_then (want_then s list)))
 
   -- the catalogue after a creation
   abbrev pub created : Option ℕ → Catalogue
-  created to = record next { surface = surface_then master s list; files = s.files ++ filed_then to ∷ [] }
+  created to = record next { surface = surface_then master s list; files = s.files ++ Some (filed_then to) ∷ [] }
 
   pub created_is : (to : Option ℕ) → to ≡ surface_at (surface_then master s list).sets (want_then s list)
       → catalogue_after master s update ≡ created to
@@ -134,15 +134,15 @@ module _ (limit : ℕ) (master : List ℕ) (s : Catalogue) (name : List ℕ) (li
         surface = surface_then master s list;
         files = settled_files (s.epoch + 1) sets wants next.files;
       }) sets_are
-      ∙ ap (λ (files : List Filed). record next { surface = surface_then master s list; files = files }) files_are
+      ∙ ap (λ (files : List (Option Filed)). record next { surface = surface_then master s list; files = files }) files_are
       ∙ ap (λ o. created o) (ap (λ sets. surface_at sets (want_then s list)) sets_then-is ∙ sym is)
 
   -- the files after a creation, and the rewrite of the new one
-  pub files_created : files_after s update ≡ s.files ++ filed_then (surface_at (surface_then master s list).sets (want_then s list)) ∷ []
+  pub files_created : files_after s update ≡ s.files ++ Some (filed_then (surface_at (surface_then master s list).sets (want_then s list))) ∷ []
   files_created =
       ap (λ sets. settled_files (s.epoch + 1) sets wants next.files) sets_are
       ∙ files_are
-      ∙ ap (λ sets. s.files ++ filed_then (surface_at sets (want_then s list)) ∷ []) sets_then-is
+      ∙ ap (λ sets. s.files ++ Some (filed_then (surface_at sets (want_then s list))) ∷ []) sets_then-is
 
   pub rewrites_created : (to : Option ℕ) → to ≡ surface_at (surface_then master s list).sets (want_then s list)
       → rewrites_of s update ≡ record { file = length s.files; length = size; old = None; new = to } ∷ []
@@ -157,7 +157,7 @@ module _ (limit : ℕ) (master : List ℕ) (s : Catalogue) (name : List ℕ) (li
 
   surface_sets : (layers_after (outline s) (Created name list size)).surface ≡ sets_then
   surface_sets =
-      ap (λ (ps : List Place). with_wants s.surface.sets (wants_at z (lists ++ list ∷ []) ps)) (sym (places-append s.files new))
+      ap (λ (ps : List (Option Place)). with_wants s.surface.sets (wants_at z (lists ++ Some list ∷ []) ps)) (sym (places-append s.files (Some new)))
       ∙ ap (λ ws. with_wants s.surface.sets ws) (wants_then z refl refl refl)
       ∙ wants-kept s.surface.sets wants_before (want_then s list ∷ []) s.files kept where
         z : Layers

@@ -1,4 +1,8 @@
 -- The change of a creation makes the catalogue after it.
+use Rattle.std.specs.Prelude.{option_map, Some}
+use Rattle.std.specs.Prelude.{is_some}
+use Rattle.ov_history.specs.Places.{living_at}
+use Rattle.std.specs.Prelude.{Option}
 use Rattle.std.proofs.Common.{◌≡◌, ℕ, ◌+◌, ◌<◌, ◌≤◌, Bool, true, false, List, [], ◌∷◌, ◌++◌, length, refl, sym, ◌∙◌, ap, subst, arith, length-append, true≢false}
 use Rattle.std.specs.Prelude.{◌||◌, nat_lt, None}
 use Rattle.std.proofs.lemmas.Bool.Decides.{nat_tests}
@@ -79,7 +83,7 @@ module _ {W : ℕ} (limit : ℕ) (master : List ℕ) (s : Catalogue) (name : Lis
     base = node_added_if s.base (new_node_if site.cover.fresh (node site.cover));
     surface = nodes_added s.surface site.surface.items;
     grants = s.grants;
-    files = s.files ++ filed site.cover ∷ [];
+    files = s.files ++ Some (filed site.cover) ∷ [];
   }
   by_parts = (λ i. record {
     mode = s.mode;
@@ -89,7 +93,7 @@ module _ {W : ℕ} (limit : ℕ) (master : List ℕ) (s : Catalogue) (name : Lis
     surface = nodes_added s.surface (is.surface i);
     grants = grants_grown s.grants (is.growth i);
     files = all_rewritten (s.epoch + 1) (is.rewrites i) (files_grown s.files (is.growth i));
-  }) ∙ ap (λ (files : List Filed). record {
+  }) ∙ ap (λ (files : List (Option Filed)). record {
     mode = s.mode;
     epoch = s.epoch + 1;
     users = s.users;
@@ -97,7 +101,7 @@ module _ {W : ℕ} (limit : ℕ) (master : List ℕ) (s : Catalogue) (name : Lis
     surface = nodes_added s.surface site.surface.items;
     grants = s.grants;
     files = files;
-  }) (changed-last (rewritten (s.epoch + 1) rewrite) s.files (record (filed site.cover) { surface = None }))
+  }) (changed-last (option_map (rewritten (s.epoch + 1) rewrite)) s.files (Some (record (filed site.cover) { surface = None })))
 
   applied_is : applied s c ≡ then
   applied_is =
@@ -109,7 +113,7 @@ module _ {W : ℕ} (limit : ℕ) (master : List ℕ) (s : Catalogue) (name : Lis
         base = node_added_if s.base (new_node_if (place.cover i).fresh (node (place.cover i)));
         surface = place.nodes i;
         grants = s.grants;
-        files = s.files ++ filed (place.cover i) ∷ [];
+        files = s.files ++ Some (filed (place.cover i)) ∷ [];
       })
       ∙ ap (λ (nodes : Nodes). record then { base = nodes })
       (node_if (plan_of s.base.sets list).fresh s.base (node (plan_of s.base.sets list)))
@@ -144,9 +148,9 @@ module _ {W : ℕ} (limit : ℕ) (master : List ℕ) (s : Catalogue) (name : Lis
   }
 
   -- a creation that isn't refused is made by its change
-  pub creation : refusal_shown s update ≡ None → length tokens ≡ length (plan_of s.base.sets list).from
+  pub creation : ((file : ℕ) → file < length s.files → is_some (living_at s.files file) ≡ true) → refusal_shown s update ≡ None → length tokens ≡ length (plan_of s.base.sets list).from
       → size ≤ MAX_FILE_BYTES → IsChange limit master s update c
-  creation refused parts fits = record {
+  creation all refused parts fits = record {
     taken = (refused, parts);
     made = made;
     rewrites = ap plain_rewrites is.rewrites ∙ sym (rewrites_created limit master s name list tokens tag size well site.to place.to);
@@ -166,14 +170,14 @@ module _ {W : ℕ} (limit : ℕ) (master : List ℕ) (s : Catalogue) (name : Lis
     last_file : length s.files < length (files_grown s.files c.growth)
     last_file =
         let grown : length (files_grown s.files c.growth) ≡ length s.files + 1 =
-        ap (λ (g : Growth). length (files_grown s.files g)) is.growth ∙ length-append s.files (record (filed site.cover) { surface = None } ∷ []) in
+        ap (λ (g : Growth). length (files_grown s.files g)) is.growth ∙ length-append s.files (Some (record (filed site.cover) { surface = None }) ∷ []) in
         omega (arith, grown)
 
     absent : refusal_shown s update ≡ None → is_among name (filed_names s.files) ≡ false
     absent none =
         let tests : List Test = tests_of (matrix_shown s) (outline s) s.epoch (outer update) in
         let passed : NoneApplies tests = none_applies tests none in
-        sym (file_test s name) ∙ passed.0
+        sym (file_test s name all) ∙ passed.0
 
     size_is : byte_sum (matrix_shown s).files + size ≡ byte_sum (matrix_shown (applied s c)).files
     size_is =

@@ -1,6 +1,7 @@
 -- Changes and closures, of a state that stands for a history.
+use Rattle.ov_history.specs.Places.{living_at}
 use Rattle.std.proofs.Common.{◌≡◌, ℕ, List, sym, ◌∙◌, ap, subst}
-use Rattle.std.specs.Prelude.{slice_get, Result, Ok, Err}
+use Rattle.std.specs.Prelude.{Result, Ok, Err}
 use Rattle.ov_history.specs.Briefs.{Brief}
 use Rattle.ov_base.specs.Sets.{has}
 use Rattle.ov_history.specs.Layers.{Layers, list_at}
@@ -28,7 +29,7 @@ pub closures_are_matrix : ClosuresAreMatrix
 closures_are_matrix s master g user file f (sealed, is) there at_file =
     let sound : IsSound s = subst IsSound (sym is) (shown_is_sound master g sealed) in
     let held = held_where_listed s user file f sound there at_file in
-    let listed = listed-shown master g user file f sealed (ap (λ (t : Catalogue). slice_get t.files file) (sym is) ∙ at_file)
+    let listed = listed-shown master g user file f sealed (ap (λ (t : Catalogue). living_at t.files file) (sym is) ∙ at_file)
     ∙ ap (λ (t : Catalogue). has (list_at (outline t) (place_of_file f)) user) (sym is) in
     (λ h. listed ∙ held.0 h, λ h. held.1 (sym listed ∙ h))
 

@@ -16,7 +16,6 @@ pub mod CreationChange
 pub mod Sites
 pub mod ChainLaws
 pub mod QueryLaws
-pub mod Questions
 pub mod Naming
 pub mod AnswerLaws
 pub mod Readers
@@ -33,7 +32,7 @@ pub mod NewSets
 pub mod Relistings
 pub mod ListTests
 pub mod ListChanges
-pub mod Revoking
+pub mod Deciding
 pub mod Granting
 pub mod WithinLimits
 pub mod PartPlaces

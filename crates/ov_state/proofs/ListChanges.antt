@@ -2,7 +2,9 @@
 use Rattle.std.proofs.Common.{◌≡◌, ℕ, ◌+◌, List, length, refl, sym, ◌∙◌, ap, subst}
 use Rattle.std.specs.Prelude.{Option, Some, None}
 use Rattle.ov_base_layer.specs.declared.grant.Grant.{Grant}
-use Rattle.ov_history.specs.Briefs.{Brief}
+use Rattle.ov_history.specs.Asking.{refusal_at}
+use Rattle.ov_history.specs.Briefs.{Brief, BriefRevoke}
+use Rattle.ov_history.specs.History.{Revoked}
 use Rattle.ov_tokens.specs.declared.token.Token.{Token}
 use Rattle.ov_history.specs.Lists.{byte_sum}
 use Rattle.ov_history.specs.Layers.{lists_of, lists_after, wants_of, with_wants}
@@ -11,11 +13,13 @@ use Rattle.ov_history.specs.Briefs.{outer}
 use Rattle.ov_history.specs.Rewrites.{rewrites_from}
 use Rattle.ov_history.specs.Sealed.{HasParts, refusal_shown}
 use Rattle.ov_state.specs.declared.change.Change.{Change}
+use Rattle.ov_state.specs.declared.change.Growth.TheVariants.{Nothing}
+use Rattle.ov_state.specs.declared.relisting.Relisting.{Relisting}
 use Rattle.ov_state.specs.declared.rewrites.Rewrites.{Rewrites}
 use Rattle.ov_state.specs.Contents.{IsWell}
 use Rattle.ov_state.specs.Changes.{applied, all_rewritten, files_grown, AreOfFiles, Fits}
 use Rattle.ov_state.specs.Plans.{IsChange, IsFitting}
-use Rattle.ov_state.specs.Relistings.{access_of, change_with, nodes_planned, AreSettled}
+use Rattle.ov_state.specs.Relistings.{access_of, change_with, nodes_planned, wants_after, AreSettled, IsDecided}
 use Rattle.ov_state.proofs.WellAfter.{well_after}
 use Rattle.ov_state.proofs.WellFiles.{bytes_in, byte_sum-shown, bytes_in-settled}
 
@@ -58,7 +62,7 @@ module _ {W : ℕ} (master : List ℕ) (s : Catalogue) (user node : ℕ) (plan :
       growth = fits;
       base = tt;
       surface = h.planned.planned;
-      rewrites = subst (λ (fs : List Filed). AreOfFiles (length fs) plan.list.items) (sym (same_files token)) h.there;
+      rewrites = subst (λ (fs : List (Option Filed)). AreOfFiles (length fs) plan.list.items) (sym (same_files token)) h.there;
       well = subst (λ (t : Catalogue). IsWell limit t) (sym made) (well_after limit master s u well accepted has_parts fitting);
       size = byte_sum-shown s ∙ sym bytes ∙ sym (byte_sum-shown (applied s change));
     };
@@ -78,3 +82,12 @@ module _ {W : ℕ} (master : List ℕ) (s : Catalogue) (user node : ℕ) (plan :
     bytes =
         ap (λ (t : Catalogue). bytes_in t.files) (applied_is token) ∙ ap bytes_in h.files
         ∙ bytes_in-settled (s.epoch + 1) (with_wants s.surface.sets wants) wants s.files
+
+-- the revocation is planned
+pub revoke-change : {W : ℕ} (limit : ℕ) (s : Catalogue) (user file : ℕ) → IsWell limit s → (r : Relisting W)
+    → IsDecided s (Revoked user file) user file r → refusal_at s (Revoked user file) ≡ None
+    → (master : List ℕ) (plan : Rewrites W) → AreSettled master s (wants_after (outline s) r 0 (outline s).files) plan
+    → IsChange limit master s (BriefRevoke user file) (change_with (byte_sum (matrix_shown s).files) Nothing plan)
+revoke-change limit s user file well r decided accepted master plan h =
+    list-change master s user r.node plan limit (BriefRevoke user file) None refl accepted tt tt well tt
+    (subst (λ (ws : List (Option ℕ)). AreSettled master s ws plan) decided.wants h)

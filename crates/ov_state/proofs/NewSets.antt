@@ -1,6 +1,6 @@
 -- The sets that wanted ones add to a layer's.
-use Rattle.std.proofs.Common.{◌≡◌, ℕ, ◌+◌, ◌≤◌, ◌==◌, Bool, true, false, Decides, List, [], ◌∷◌, ◌++◌, length, take, refl, sym, ◌∙◌, ap, subst, arith, length-append, append-nil}
-use Rattle.std.specs.Prelude.{not, ◌||◌, slice_get, Contains, Option, Some, None, Result, Ok, Err, OnOk, is_some}
+use Rattle.std.proofs.Common.{◌≡◌, ℕ, ◌+◌, ◌<◌, ◌≤◌, ◌==◌, Bool, true, false, Decides, List, [], ◌∷◌, ◌++◌, length, refl, sym, ◌∙◌, ap, subst, arith, length-append, append-nil}
+use Rattle.std.specs.Prelude.{not, ◌||◌, Contains, Option, Some, None, IfSome, Result, Ok, Err, OnOk, is_some}
 use Rattle.std.specs.List.{IsAnyAnswer}
 use Rattle.std.proofs.lemmas.Bool.{false≢true}
 use Rattle.std.proofs.lemmas.Bool.Decides.{Decides-eqb}
@@ -8,17 +8,12 @@ use Rattle.std.proofs.lemmas.List.Elements.{contains_decides, Contains-append_le
 use Rattle.ov_graph.specs.Contents.{node_of, planned, plan_of}
 use Rattle.ov_graph.proofs.ListLaws.{node_some, none_is, place-Contains}
 use Rattle.ov_index.proofs.NodeLaws.{node_of_none}
-use Rattle.ov_history.specs.Layers.{appended, with_wants}
-use Rattle.ov_history.specs.Catalogue.{Catalogue, outline, place_of_file, places}
+use Rattle.ov_graph.specs.declared.cover.GraphRefusal.{GraphRefusal}
+use Rattle.ov_history.specs.Layers.{appended, same_surface, surface_at, with_wants}
 use Rattle.ov_history.proofs.PlanLaws.{plan-there, with_wants-still}
-use Rattle.ov_state.specs.declared.fault.PrepareFault.{PrepareFault}
-use Rattle.ov_state.specs.declared.files.FileEntry.{FileEntry}
-use Rattle.ov_state.specs.declared.relisting.Relisting.{Relisting}
-use Rattle.ov_state.specs.Contents.{IsWell}
-use Rattle.ov_state.specs.Entries.{plain_file}
 use Rattle.ov_state.specs.NewSets.{AreNew}
-use Rattle.ov_state.specs.Relistings.{want_if, want_after, wants_after, IsFull, MayMove}
-use Rattle.ov_state.proofs.ChangedWants.{next, wanted_is, with_wants-both}
+use Rattle.ov_state.specs.Relistings.{IsFull}
+use Rattle.ov_state.proofs.ChangedWants.{with_wants-both}
 use Rattle.ov_state.proofs.SettledFiles.{wanted_there}
 use Rattle.ov_base.specs.declared.limits.TheConstants.{MAX_LAYER_NODES}
 
@@ -51,10 +46,10 @@ want-few sets old new want wanted none is added few =
     omega (arith, ap length all, length-append sets new, few)
 
 -- there is no room for a wanted set, so there is none for it after sets that are no others
-pub want-full : (sets old : List ℕ) (want wanted : Option ℕ) (fault : PrepareFault) → old ≡ [] → want ≡ wanted
-    → IsFull (with_wants (sets ++ old) (want ∷ [])) fault → IsFull (with_wants sets (wanted ∷ [])) fault
-want-full sets old want wanted fault none is full =
-    subst (λ (all : List ℕ). IsFull all fault)
+pub want-full : (sets old : List ℕ) (want wanted : Option ℕ) (why : GraphRefusal) → old ≡ [] → want ≡ wanted
+    → IsFull (with_wants (sets ++ old) (want ∷ [])) why → IsFull (with_wants sets (wanted ∷ [])) why
+want-full sets old want wanted why none is full =
+    subst (λ (all : List ℕ). IsFull all why)
     ((λ i. with_wants (sets ++ none i) (is i ∷ [])) ∙ ap (λ sets. with_wants sets (wanted ∷ [])) (append-nil sets)) full
 
 -- ---- wanted sets, file by file
@@ -75,44 +70,29 @@ still : (sets : List ℕ) (want : Option ℕ) → ((set : ℕ) → want ≡ Some
 still sets None there = refl
 still sets (Some set) there = ap (λ b. appended b sets set) (plan-there sets set (there set refl))
 
-module _ {W : ℕ} (s : Catalogue) (r : Relisting W) (file : ℕ) (f : FileEntry)
-    (here : slice_get s.files file ≡ Some (plain_file f)) where
-  abbrev wants : List (Option ℕ)
-  wants = wants_after (outline s) r 0 (places s.files)
+module _ (sets : List ℕ) (wants : List (Option ℕ)) (want : Option ℕ) where
+  -- a file has its wanted surface
+  pub new-stays : (surface : Option ℕ) (new : List ℕ) → AreNew sets wants new → IfSome surface (λ node. node < length sets)
+      → same_surface surface (surface_at sets want) ≡ true → AreNew sets (wants ++ want ∷ []) new
+  new-stays surface new h low has =
+      let same : with_wants sets (wants ++ want ∷ []) ≡ with_wants sets wants =
+      with_wants-both wants (want ∷ []) sets
+      ∙ still (with_wants sets wants) want (λ set is. with_wants-still wants sets set (wanted_there sets surface want low has set is)) in
+      record { all = h.all ∙ sym same; few = subst (λ (sets : List ℕ). length sets ≤ MAX_LAYER_NODES) (sym same) h.few }
 
-  abbrev want : Option ℕ
-  want = want_after (outline s) r file (place_of_file (plain_file f))
+  module _ (old : List ℕ) (h : AreNew sets wants old) where
+    all_next : with_wants (sets ++ old) (want ∷ []) ≡ with_wants sets (wants ++ want ∷ [])
+    all_next = ap (λ (all : List ℕ). with_wants all (want ∷ [])) h.all ∙ sym (with_wants-both wants (want ∷ []) sets)
 
-  sets-next : with_wants s.surface.sets (take (file + 1) wants) ≡ with_wants (with_wants s.surface.sets (take file wants)) (want ∷ [])
-  sets-next =
-      ap (with_wants s.surface.sets) (next s r file f here) ∙ with_wants-both (take file wants) (want ∷ []) s.surface.sets
+    -- the wanted set of a file is added, or is there
+    pub new-next : (new : List ℕ) → sets ++ new ≡ with_wants (sets ++ old) (want ∷ [])
+        → length sets + length new ≤ MAX_LAYER_NODES → AreNew sets (wants ++ want ∷ []) new
+    new-next new added few = record {
+      all = added ∙ all_next;
+      few = omega (arith, ap length (added ∙ all_next), length-append sets new, few);
+    }
 
-  module _ (old : List ℕ) (h : AreNew s.surface.sets (take file wants) old) where
-    -- the file has its wanted surface
-    pub new-stays : (limit : ℕ) → IsWell limit s → MayMove false s r file f → AreNew s.surface.sets (take (file + 1) wants) old
-    new-stays limit well stays =
-        let same : with_wants s.surface.sets (take (file + 1) wants) ≡ with_wants s.surface.sets (take file wants) =
-        sets-next ∙ still (with_wants s.surface.sets (take file wants)) want
-        (λ set is. with_wants-still (take file wants) s.surface.sets set
-        (wanted_there s.surface.sets f.surface want (well.sound.files file _ here).surface stays set is)) in
-        record { all = h.all ∙ sym same; few = subst (λ (sets : List ℕ). length sets ≤ MAX_LAYER_NODES) (sym same) h.few }
-
-    module _ (moves : MayMove true s r file f) (wanted : Option ℕ)
-        (is : wanted ≡ want_if true (outline s) r file (place_of_file (plain_file f))) where
-      all_next : with_wants (s.surface.sets ++ old) (wanted ∷ []) ≡ with_wants s.surface.sets (take (file + 1) wants)
-      all_next =
-          ap (λ (w : Option ℕ). with_wants (s.surface.sets ++ old) (w ∷ [])) (wanted_is s r file f here moves wanted is)
-          ∙ ap (λ (sets : List ℕ). with_wants sets (want ∷ [])) h.all ∙ sym sets-next
-
-      -- the wanted set of the file is added, or is there
-      pub new-next : (new : List ℕ) → s.surface.sets ++ new ≡ with_wants (s.surface.sets ++ old) (wanted ∷ [])
-          → length s.surface.sets + length new ≤ MAX_LAYER_NODES → AreNew s.surface.sets (take (file + 1) wants) new
-      new-next new added few = record {
-        all = added ∙ all_next;
-        few = omega (arith, ap length (added ∙ all_next), length-append s.surface.sets new, few);
-      }
-
-      -- there is no room for the wanted set
-      pub new-full : (fault : PrepareFault) → IsFull (with_wants (s.surface.sets ++ old) (wanted ∷ [])) fault
-          → IsFull (with_wants s.surface.sets (take (file + 1) wants)) fault
-      new-full fault full = subst (λ (sets : List ℕ). IsFull sets fault) all_next full
+    -- there is no room for the wanted set
+    pub new-full : (why : GraphRefusal) → IsFull (with_wants (sets ++ old) (want ∷ [])) why
+        → IsFull (with_wants sets (wants ++ want ∷ [])) why
+    new-full why full = subst (λ (sets : List ℕ). IsFull sets why) all_next full

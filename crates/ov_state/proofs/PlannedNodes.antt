@@ -17,7 +17,6 @@ use Rattle.ov_state.proofs.StayingNodes.{node_for-own}
 use Rattle.ov_state.specs.declared.change.NewNode.{NewNode}
 use Rattle.ov_state.specs.declared.new_nodes.NewNodes.{NewNodes}
 use Rattle.ov_state.specs.Changes.{node_added, nodes_added, IsNewNode, AreNewNodes}
-use Rattle.ov_state.specs.Faults.{fault_of}
 use Rattle.ov_state.specs.Relistings.{sets_in, ArePlanned, nodes_planned, with_want, IsFull, IsSurfaceFor}
 use Rattle.ov_base.specs.declared.limits.TheConstants.{MAX_LAYER_NODES}
 
@@ -136,6 +135,6 @@ module _ {W : ℕ} (master : List ℕ) (layer : Nodes) (old : NewNodes W) (set :
 
 -- ---- why a set isn't planned
 
-pub plan_fault : (why : GraphRefusal) (sets : List ℕ) → (why ≡ NodesFull → MAX_LAYER_NODES < length sets) → IsFull sets (fault_of why)
-plan_fault NodesFull sets full = (refl, full refl)
+pub plan_fault : (why : GraphRefusal) (sets : List ℕ) → (why ≡ NodesFull → MAX_LAYER_NODES < length sets) → IsFull sets why
+plan_fault NodesFull sets full = full refl
 plan_fault GraphMemory sets full = tt

@@ -1,6 +1,12 @@
 -- The matrix and the files that a state shows, by number and by name.
 use Rattle.std.proofs.Common.{◌≡◌, ℕ, zero, suc, ◌<◌, true, false, List, [], ◌∷◌, length, refl, sym, ap, subst, arith}
-use Rattle.std.specs.Prelude.{Option, slice_index_or}
+use Rattle.std.specs.Prelude.{Option, Some, None, is_some, unwrap_or}
+use Rattle.ov_history.specs.Places.{living_at}
+use Rattle.std.proofs.lemmas.List.{get_or_past}
+use Rattle.ov_history.proofs.SoundTests.{is_some-map, shown_there}
+use Rattle.ov_history.specs.Catalogue.{file_shown}
+use Rattle.ov_history.specs.History.{File}
+use Rattle.std.proofs.Common.{◌∙◌}
 use Rattle.ov_history.specs.Layers.{Layers, list_at}
 use Rattle.ov_history.specs.Lists.{file_at, file_names, is_file, is_user, no_file}
 use Rattle.ov_history.specs.Places.{place_of as place_among, IsNumber}
@@ -12,31 +18,33 @@ use Rattle.ov_base.proofs.Tests.{lt_is_true, lt_is_false, lt_of_true}
 -- ---- files
 
 -- the names of the matrix are those of the files
-pub names_shown : (y : Layers) (files : List Filed) → file_names (files_shown y files) ≡ filed_names files
+pub names_shown : (y : Layers) (files : List (Option Filed)) → file_names (files_shown y files) ≡ filed_names files
 names_shown y [] = refl
-names_shown y (f ∷ files) = ap (λ names. f.name ∷ names) (names_shown y files)
+names_shown y (None ∷ files) = ap (λ names. [] ∷ names) (names_shown y files)
+names_shown y (Some f ∷ files) = ap (λ names. f.name ∷ names) (names_shown y files)
 
 pub file_number_by : (s : Catalogue) (name : List ℕ) (r : Option ℕ) → IsNumber (filed_names s.files) name r
     → IsNumber (file_names (matrix_shown s).files) name r
 file_number_by s name r number =
     subst (λ (ns : List (List ℕ)). IsNumber ns name r) (sym (names_shown (outline s) s.files)) number
 
-length-files_shown : (y : Layers) (files : List Filed) → length (files_shown y files) ≡ length files
+length-files_shown : (y : Layers) (files : List (Option Filed)) → length (files_shown y files) ≡ length files
 length-files_shown y [] = refl
 length-files_shown y (f ∷ files) = ap suc (length-files_shown y files)
 
-pub length-names : (y : Layers) (files : List Filed) → length (file_names (files_shown y files)) ≡ length files
+pub length-names : (y : Layers) (files : List (Option Filed)) → length (file_names (files_shown y files)) ≡ length files
 length-names y [] = refl
 length-names y (f ∷ files) = ap suc (length-names y files)
 
-list_of_file : (y : Layers) (files : List Filed) (file : ℕ) → file < length files
-    → (slice_index_or (files_shown y files) file no_file).list ≡ list_at y (place_of_file (slice_index_or files file no_filed))
-list_of_file y [] file low = absurd (omega arith)
-list_of_file y (f ∷ files) zero low = refl
-list_of_file y (f ∷ files) (suc file) low = list_of_file y files file (omega arith)
+list_of_file : (y : Layers) (files : List (Option Filed)) (file : ℕ) → is_some (living_at files file) ≡ true
+    → (unwrap_or (living_at (files_shown y files) file) no_file).list ≡ list_at y (place_of_file (unwrap_or (living_at files file) no_filed))
+list_of_file y [] file low = absurd (cc)
+list_of_file y (None ∷ files) zero low = absurd (cc)
+list_of_file y (Some f ∷ files) zero low = refl
+list_of_file y (f ∷ files) (suc file) low = list_of_file y files file low
 
 -- the list of a file in the matrix is read off its place
-pub list_shown : (s : Catalogue) (file : ℕ) → file < length s.files
+pub list_shown : (s : Catalogue) (file : ℕ) → is_some (living_at s.files file) ≡ true
     → (file_at (matrix_shown s) file).list ≡ list_at (outline s) (place_of_file (filed_at s file))
 list_shown s file low = list_of_file (outline s) s.files file low
 
@@ -48,17 +56,21 @@ user_there s user low = lt_is_true user (length s.users) low
 pub user_low : (s : Catalogue) (user : ℕ) → is_user (matrix_shown s) user ≡ true → user < length s.users
 user_low s user there = lt_of_true user (length s.users) there
 
-pub file_low : (s : Catalogue) (file : ℕ) → is_file (matrix_shown s) file ≡ true → file < length s.files
-file_low s file there =
-    omega (arith, lt_of_true file (length (matrix_shown s).files) there, length-files_shown (outline s) s.files)
+-- a file is in the matrix where the catalogue has it
+pub file_here : (s : Catalogue) (file : ℕ) → is_file (matrix_shown s) file ≡ is_some (living_at s.files file)
+file_here s file =
+    ap (λ (o : Option File). is_some o) (shown_there (outline s) s.files file)
+    ∙ is_some-map (file_shown (outline s)) (living_at s.files file)
+
+pub file_low : (s : Catalogue) (file : ℕ) → is_file (matrix_shown s) file ≡ true → is_some (living_at s.files file) ≡ true
+file_low s file there = sym (file_here s file) ∙ there
 
 pub no_user : (s : Catalogue) (name : List ℕ) → place_among name s.users ≡ length s.users
     → is_user (matrix_shown s) (user_named s name) ≡ false
 no_user s name none = lt_is_false (user_named s name) (length s.users) (omega (arith, none))
 
-pub file_there : (s : Catalogue) (file : ℕ) → file < length (file_names (matrix_shown s).files) → is_file (matrix_shown s) file ≡ true
-file_there s file low =
-    lt_is_true file (length (matrix_shown s).files) (omega (arith, low, length-names (outline s) s.files, length-files_shown (outline s) s.files))
+pub file_there : (s : Catalogue) (file : ℕ) → is_some (living_at s.files file) ≡ true → is_file (matrix_shown s) file ≡ true
+file_there s file there = file_here s file ∙ there
 
 pub file_within : (s : Catalogue) (file : ℕ) → file < length (file_names (matrix_shown s).files) → file < length s.files
 file_within s file low = omega (arith, low, length-names (outline s) s.files)
@@ -67,5 +79,5 @@ pub no_file_there : (s : Catalogue) (name : List ℕ)
     → place_among name (file_names (matrix_shown s).files) ≡ length (file_names (matrix_shown s).files)
     → is_file (matrix_shown s) (file_named s name) ≡ false
 no_file_there s name none =
-    lt_is_false (file_named s name) (length (matrix_shown s).files)
-    (omega (arith, none, length-names (outline s) s.files, length-files_shown (outline s) s.files))
+    file_here s (file_named s name)
+    ∙ ap (λ (o : Option Filed). is_some o) (get_or_past s.files (file_named s name) None (omega (arith, none, length-names (outline s) s.files)))

@@ -1,7 +1,8 @@
 -- A reader who is in a file's list: both chains are there.
+use Rattle.ov_history.specs.Places.{living_at}
 use Rattle.std.proofs.Common.{◌≡◌, ℕ, ◌<◌, length, sym, ◌∙◌, ap, subst, arith}
 use Rattle.std.specs.Option.{ForSome}
-use Rattle.std.specs.Prelude.{Contains, IfSome, Option, Some, slice_get, slice_index}
+use Rattle.std.specs.Prelude.{Contains, IfSome, Option, Some, slice_index}
 use Rattle.ov_base.specs.Sets.{Has, single}
 use Rattle.ov_history.specs.Layers.{holders, list_at, set_or}
 use Rattle.ov_history.specs.Catalogue.{Filed, Catalogue, filed_at, outline, place_of_file}
@@ -28,7 +29,7 @@ pub record IsReader (limit : ℕ) (s : Catalogue) (user : ℕ) (f : FileEntry) :
   pub member : ForSome f.surface (λ n. Has (slice_index s.surface.sets n) user)
 
 -- each user who is in the list is a reader of the file
-pub listed_reads : (limit : ℕ) (s : Catalogue) (user file : ℕ) (f : FileEntry) → IsWell limit s → slice_get s.files file ≡ Some (plain_file f)
+pub listed_reads : (limit : ℕ) (s : Catalogue) (user file : ℕ) (f : FileEntry) → IsWell limit s → living_at s.files file ≡ Some (plain_file f)
     → user < length s.users → Has (list_at (outline s) (place_of_file (filed_at s file))) user → IsReader limit s user f
 listed_reads limit s user file f well kept there listed =
     let placed : IsPlaced s (plain_file f) = well.sound.files file (plain_file f) kept in
@@ -45,7 +46,7 @@ listed_reads limit s user file f well kept there listed =
     }
 
 -- the chains to what is kept of a file, and the rest of it, are those of the file
-pub chained_of : (s : Catalogue) (user file : ℕ) (f : FileEntry) (c : Chained) → slice_get s.files file ≡ Some (plain_file f)
+pub chained_of : (s : Catalogue) (user file : ℕ) (f : FileEntry) (c : Chained) → living_at s.files file ≡ Some (plain_file f)
     → c.epoch ≡ s.epoch → c.file ≡ file → c.length ≡ f.length → c.generation ≡ f.generation → c.tag ≡ f.tag
     → IsBaseChain s.base s.grants user f.node c.base → IsSurfaceChain s.surface user f.surface c.surface
     → IsChained s user file c

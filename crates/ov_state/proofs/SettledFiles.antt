@@ -1,8 +1,10 @@
 -- One file more gets its wanted surface, or has it already.
+use Rattle.ov_history.specs.Places.{living_at}
+use Rattle.std.specs.Prelude.{option_map}
 use Rattle.std.proofs.Common.{◌≡◌, ℕ, ◌+◌, ◌<◌, ◌≤◌, Bool, true, false, List, [], ◌∷◌, ◌++◌, length, refl, sym, ◌∙◌, ap, subst, arith, length-append}
-use Rattle.std.specs.Prelude.{slice_get, Contains, Option, Some, None, IfSome}
+use Rattle.std.specs.Prelude.{Contains, Option, Some, None, IfSome}
 use Rattle.std.proofs.lemmas.List.{append-nil}
-use Rattle.std.proofs.lemmas.Option.{slice_get_within}
+use Rattle.ov_history.proofs.Storing.{living_below}
 use Rattle.ov_graph.specs.Contents.{joined, plan_of}
 use Rattle.ov_base_layer.specs.Seals.{cover_tokens}
 use Rattle.ov_tokens.specs.declared.label.Kind.TheVariants.{Surface as SurfaceLabels}
@@ -15,7 +17,7 @@ use Rattle.ov_history.proofs.PlanLaws.{plan-there, with_wants-still}
 use Rattle.ov_history.proofs.Outlining.{with_surfaces-sets}
 use Rattle.ov_state.specs.declared.change.Rewrite.{Rewrite}
 use Rattle.ov_state.specs.declared.change.NewNode.{NewNode}
-use Rattle.ov_state.specs.declared.fault.PrepareFault.{PrepareFault}
+use Rattle.ov_graph.specs.declared.cover.GraphRefusal.{GraphRefusal}
 use Rattle.ov_state.specs.declared.files.FileEntry.{FileEntry}
 use Rattle.ov_state.specs.declared.rewrites.Rewrites.{Rewrites}
 use Rattle.ov_state.specs.Entries.{plain_file, plain_rewrite, plain_rewrites}
@@ -53,7 +55,7 @@ surface_at-there sets wants (Some set) there = ap Some (node_for-with_wants want
 -- ---- the next file
 
 module _ (master : List ℕ) (s : Catalogue) (ws : List (Option ℕ)) (want : Option ℕ) (file : ℕ) (f : FileEntry)
-    (many : file ≡ length ws) (here : slice_get s.files file ≡ Some (plain_file f)) where
+    (many : file ≡ length ws) (here : living_at s.files file ≡ Some (plain_file f)) where
   abbrev next_wants : List (Option ℕ)
   next_wants = ws ++ want ∷ []
 
@@ -63,20 +65,20 @@ module _ (master : List ℕ) (s : Catalogue) (ws : List (Option ℕ)) (want : Op
   abbrev own : Filed
   own = plain_file f
 
-  abbrev before : List Filed
+  abbrev before : List (Option Filed)
   before = settled_files (s.epoch + 1) (with_wants s.surface.sets ws) ws s.files
 
   abbrev turn : Filed → Filed
   turn = settled_file (s.epoch + 1) after want
 
-  more : settled_files (s.epoch + 1) after next_wants s.files ≡ change_at turn file before
-  more = settled-more (s.epoch + 1) s.surface.sets ws want s.files ∙ ap (λ n. change_at turn n before) (sym many)
+  more : settled_files (s.epoch + 1) after next_wants s.files ≡ change_at (option_map turn) file before
+  more = settled-more (s.epoch + 1) s.surface.sets ws want s.files ∙ ap (λ n. change_at (option_map turn) n before) (sym many)
 
-  own_here : slice_get s.files (length ws) ≡ Some own
-  own_here = ap (slice_get s.files) (sym many) ∙ here
+  own_here : living_at s.files (length ws) ≡ Some own
+  own_here = ap (living_at s.files) (sym many) ∙ here
 
-  next : slice_get before file ≡ Some own
-  next = ap (slice_get before) many ∙ settled-next (s.epoch + 1) (with_wants s.surface.sets ws) ws s.files own own_here
+  next : living_at before file ≡ Some own
+  next = ap (living_at before) many ∙ settled-next (s.epoch + 1) (with_wants s.surface.sets ws) ws s.files own own_here
 
   turn_is : (b : Bool) → same_surface f.surface (surface_at after want) ≡ b
       → turn own ≡ refiled b (s.epoch + 1) (surface_at after want) own
@@ -130,7 +132,7 @@ module _ (master : List ℕ) (s : Catalogue) (ws : List (Option ℕ)) (want : Op
       subst (λ (r : Rewrite). AreRewritten (old.list.items ++ r ∷ [])) (sym is)
       (record {
         files = all_rewritten-append (s.epoch + 1) old.list.items own_rewrite s.files
-            ∙ ap (change_at (rewritten (s.epoch + 1) own_rewrite) file) h.files
+            ∙ ap (change_at (option_map (rewritten (s.epoch + 1) own_rewrite)) file) h.files
             ∙ change-alike (rewritten (s.epoch + 1) own_rewrite) turn file before own next (sym turned)
             ∙ sym more;
         rewrites = plain_rewrites-append old.list.items own_rewrite
@@ -138,7 +140,7 @@ module _ (master : List ℕ) (s : Catalogue) (ws : List (Option ℕ)) (want : Op
             ∙ ap (λ b. rewrites_from 0 s.files before ++ rewrite_unless b file own (record own { surface = surface_at after want; generation = s.epoch + 1 })) (sym same)
             ∙ ap (λ (g : Filed). rewrites_from 0 s.files before ++ rewrite_unless (same_surface f.surface g.surface) file own g) (sym turned)
             ∙ sym rewrites_more;
-        there = AreOfFiles-append (length s.files) old.list.items own_rewrite h.there (slice_get_within s.files file own here);
+        there = AreOfFiles-append (length s.files) old.list.items own_rewrite h.there (living_below s.files file own here);
       })
 
   -- the file gets its wanted surface, which is another or the same
@@ -190,9 +192,9 @@ module _ (master : List ℕ) (s : Catalogue) (ws : List (Option ℕ)) (want : Op
     list = same_list old h (ap (same_surface f.surface) (surface_at-there s.surface.sets next_wants want there) ∙ same)
 
   -- there is no room for the wanted set of the file
-  pub full-next_file : {W : ℕ} (old : Rewrites W) (fault : PrepareFault) → AreSettled master s ws old
-      → IsFull (with_want master (nodes_planned s.surface old.nodes) want).sets fault → IsFull after fault
-  full-next_file old fault h full = subst (λ (sets : List ℕ). IsFull sets fault) (sets_after old h) full
+  pub full-next_file : {W : ℕ} (old : Rewrites W) (why : GraphRefusal) → AreSettled master s ws old
+      → IsFull (with_want master (nodes_planned s.surface old.nodes) want).sets why → IsFull after why
+  full-next_file old why h full = subst (λ (sets : List ℕ). IsFull sets why) (sets_after old h) full
 
 -- nothing is planned for no files
 pub settled-no_file : {W : ℕ} (master : List ℕ) (s : Catalogue) (plan : Rewrites W) → length s.surface.sets ≤ MAX_LAYER_NODES

@@ -1,12 +1,13 @@
 -- Files that get their wanted surfaces, with one more of them.
 use Rattle.std.proofs.Common.{◌≡◌, ℕ, zero, suc, ◌+◌, ◌<◌, List, [], ◌∷◌, ◌++◌, length, refl, sym, ◌∙◌, ap, arith}
-use Rattle.std.specs.Prelude.{slice_get, Contains, Option, Some, None}
+use Rattle.std.specs.Prelude.{Contains, Option, Some, None, option_map}
+use Rattle.ov_history.specs.Places.{living_at}
 use Rattle.std.proofs.lemmas.List.{append-nil, append_assoc}
 use Rattle.ov_graph.proofs.ListLaws.{Contains-later}
 use Rattle.ov_history.specs.Places.{change_at}
 use Rattle.ov_history.specs.Layers.{node_for, with_set, with_wants, surface_at, same_surface}
 use Rattle.ov_history.specs.Catalogue.{Filed, Nodes, refiled, settled_file, settled_files, with_surface, with_surfaces}
-use Rattle.ov_history.specs.Rewrites.{Rewrite as PlainRewrite, rewrite_unless, rewrites_from}
+use Rattle.ov_history.specs.Rewrites.{Rewrite as PlainRewrite, rewrite_of, rewrite_unless, rewrites_from}
 use Rattle.ov_history.proofs.Listing.{same_surface-refl}
 use Rattle.ov_history.proofs.PlanLaws.{with_wants-Contains}
 use Rattle.ov_state.specs.declared.change.Rewrite.{Rewrite}
@@ -17,29 +18,26 @@ use Rattle.ov_state.proofs.StayingNodes.{node_for-with_wants}
 
 -- ---- changes of one item
 
-pub change-same : {A : Type 0} (f : A → A) (place : ℕ) (xs : List A) (x : A) → slice_get xs place ≡ Some x → f x ≡ x
-    → change_at f place xs ≡ xs
+pub change-same : {A : Type 0} (f : A → A) (place : ℕ) (xs : List (Option A)) (x : A) → living_at xs place ≡ Some x → f x ≡ x
+    → change_at (option_map f) place xs ≡ xs
 change-same f place [] x is same = refl
-change-same f zero (first ∷ xs) x is same =
-    let e : first ≡ x = cc in
-    ap (λ y. y ∷ xs) (ap f e ∙ same ∙ sym e)
+change-same f zero (first ∷ xs) x is same = ap (λ y. y ∷ xs) (ap (option_map f) is ∙ ap Some same ∙ sym is)
 change-same f (suc place) (first ∷ xs) x is same = ap (λ ys. first ∷ ys) (change-same f place xs x is same)
 
-pub change-alike : {A : Type 0} (f g : A → A) (place : ℕ) (xs : List A) (x : A) → slice_get xs place ≡ Some x → f x ≡ g x
-    → change_at f place xs ≡ change_at g place xs
+pub change-alike : {A : Type 0} (f g : A → A) (place : ℕ) (xs : List (Option A)) (x : A) → living_at xs place ≡ Some x → f x ≡ g x
+    → change_at (option_map f) place xs ≡ change_at (option_map g) place xs
 change-alike f g place [] x is same = refl
 change-alike f g zero (first ∷ xs) x is same =
-    let e : first ≡ x = cc in
-    ap (λ y. y ∷ xs) (ap f e ∙ same ∙ ap g (sym e))
+    ap (λ y. y ∷ xs) (ap (option_map f) is ∙ ap Some same ∙ ap (option_map g) (sym is))
 change-alike f g (suc place) (first ∷ xs) x is same = ap (λ ys. first ∷ ys) (change-alike f g place xs x is same)
 
 -- ---- one rewrite more
 
-pub all_rewritten-append : (epoch : ℕ) (rewrites : List Rewrite) (rewrite : Rewrite) (files : List Filed)
-    → all_rewritten epoch (rewrites ++ rewrite ∷ []) files ≡ change_at (rewritten epoch rewrite) rewrite.file (all_rewritten epoch rewrites files)
+pub all_rewritten-append : (epoch : ℕ) (rewrites : List Rewrite) (rewrite : Rewrite) (files : List (Option Filed))
+    → all_rewritten epoch (rewrites ++ rewrite ∷ []) files ≡ change_at (option_map (rewritten epoch rewrite)) rewrite.file (all_rewritten epoch rewrites files)
 all_rewritten-append epoch [] rewrite files = refl
 all_rewritten-append epoch (first ∷ rewrites) rewrite files =
-    all_rewritten-append epoch rewrites rewrite (change_at (rewritten epoch first) first.file files)
+    all_rewritten-append epoch rewrites rewrite (change_at (option_map (rewritten epoch first)) first.file files)
 
 pub AreOfFiles-append : (files : ℕ) (rewrites : List Rewrite) (rewrite : Rewrite) → AreOfFiles files rewrites → rewrite.file < files
     → AreOfFiles files (rewrites ++ rewrite ∷ [])
@@ -67,41 +65,47 @@ with_surfaces-append master (Some set ∷ wants) nodes want =
 
 module _ (epoch : ℕ) where
   -- files are settled alike where each wanted set has the same node
-  pub settled-alike : (sets other : List ℕ) (wants : List (Option ℕ)) (files : List Filed)
+  pub settled-alike : (sets other : List ℕ) (wants : List (Option ℕ)) (files : List (Option Filed))
       → ((set : ℕ) → Contains wants (Some set) → node_for other set ≡ node_for sets set)
       → settled_files epoch other wants files ≡ settled_files epoch sets wants files
   settled-alike sets other [] files same = refl
   settled-alike sets other (want ∷ wants) [] same = refl
   settled-alike sets other (want ∷ wants) (f ∷ files) same =
-      ap (λ (surface : Option ℕ). refiled (same_surface f.surface surface) epoch surface f
-      ∷ settled_files epoch other wants files) (at want (λ set e. same set (here set e)))
-      ∙ ap (λ (rest : List Filed). settled_file epoch sets want f ∷ rest)
+      ap (λ (g : Option Filed). g ∷ settled_files epoch other wants files)
+      (by_file f (at want (λ set e. same set (here set e))))
+      ∙ ap (λ (rest : List (Option Filed)). option_map (settled_file epoch sets want) f ∷ rest)
       (settled-alike sets other wants files (λ set later. same set (Contains-later want wants (Some set) later))) where
         at : (o : Option ℕ) → ((set : ℕ) → o ≡ Some set → node_for other set ≡ node_for sets set) → surface_at other o ≡ surface_at sets o
         at None same = refl
         at (Some set) same = ap Some (same set refl)
 
+        by_file : (f : Option Filed) → surface_at other want ≡ surface_at sets want
+            → option_map (settled_file epoch other want) f ≡ option_map (settled_file epoch sets want) f
+        by_file None one = refl
+        by_file (Some f) one =
+            ap (λ (surface : Option ℕ). Some (refiled (same_surface f.surface surface) epoch surface f)) one
+
         here : (set : ℕ) → want ≡ Some set → Contains (want ∷ wants) (Some set)
         here set e = (0, omega arith, e)
 
-  pub settled-append : (sets : List ℕ) (wants : List (Option ℕ)) (want : Option ℕ) (files : List Filed)
+  pub settled-append : (sets : List ℕ) (wants : List (Option ℕ)) (want : Option ℕ) (files : List (Option Filed))
       → settled_files epoch sets (wants ++ want ∷ []) files
-      ≡ change_at (settled_file epoch sets want) (length wants) (settled_files epoch sets wants files)
+      ≡ change_at (option_map (settled_file epoch sets want)) (length wants) (settled_files epoch sets wants files)
   settled-append sets [] want [] = refl
   settled-append sets [] want (f ∷ files) = refl
   settled-append sets (w ∷ wants) want [] = refl
   settled-append sets (w ∷ wants) want (f ∷ files) =
-      ap (λ (rest : List Filed). settled_file epoch sets w f ∷ rest) (settled-append sets wants want files)
+      ap (λ (rest : List (Option Filed)). option_map (settled_file epoch sets w) f ∷ rest) (settled-append sets wants want files)
 
   -- the next file is as it was
-  pub settled-next : (sets : List ℕ) (wants : List (Option ℕ)) (files : List Filed) (f : Filed)
-      → slice_get files (length wants) ≡ Some f → slice_get (settled_files epoch sets wants files) (length wants) ≡ Some f
+  pub settled-next : (sets : List ℕ) (wants : List (Option ℕ)) (files : List (Option Filed)) (f : Filed)
+      → living_at files (length wants) ≡ Some f → living_at (settled_files epoch sets wants files) (length wants) ≡ Some f
   settled-next sets [] files f is = is
   settled-next sets (w ∷ wants) [] f is = is
   settled-next sets (w ∷ wants) (first ∷ files) f is = settled-next sets wants files f is
 
   -- with one more wanted set the files that are settled already stay so
-  pub settled-still : (sets : List ℕ) (wants : List (Option ℕ)) (want : Option ℕ) (files : List Filed)
+  pub settled-still : (sets : List ℕ) (wants : List (Option ℕ)) (want : Option ℕ) (files : List (Option Filed))
       → settled_files epoch (with_wants sets (wants ++ want ∷ [])) wants files ≡ settled_files epoch (with_wants sets wants) wants files
   settled-still sets wants want files =
       let before : List ℕ = with_wants sets wants in
@@ -110,44 +114,50 @@ module _ (epoch : ℕ) where
       ∙ node_for-with_wants (want ∷ []) before set (with_wants-Contains wants sets set there))
 
   -- files that are settled for one wanted set more
-  pub settled-more : (sets : List ℕ) (wants : List (Option ℕ)) (want : Option ℕ) (files : List Filed)
+  pub settled-more : (sets : List ℕ) (wants : List (Option ℕ)) (want : Option ℕ) (files : List (Option Filed))
       → let after = with_wants sets (wants ++ want ∷ []) in
       settled_files epoch after (wants ++ want ∷ []) files
-      ≡ change_at (settled_file epoch after want) (length wants) (settled_files epoch (with_wants sets wants) wants files)
+      ≡ change_at (option_map (settled_file epoch after want)) (length wants) (settled_files epoch (with_wants sets wants) wants files)
   settled-more sets wants want files =
       let after : List ℕ = with_wants sets (wants ++ want ∷ []) in
       settled-append after wants want files
-      ∙ ap (λ (fs : List Filed). change_at (settled_file epoch after want) (length wants) fs) (settled-still sets wants want files)
+      ∙ ap (λ (fs : List (Option Filed)). change_at (option_map (settled_file epoch after want)) (length wants) fs) (settled-still sets wants want files)
 
 -- ---- which files have another surface
 
+-- there is no rewrite where the file is the same
+none_of : (number : ℕ) (f : Option Filed) → rewrite_of number f f ≡ []
+none_of number None = refl
+none_of number (Some f) = ap (λ b. rewrite_unless b number f f) (same_surface-refl f.surface)
+
 -- there are no rewrites where no file changed
-pub rewrites-none : (number : ℕ) (files : List Filed) → rewrites_from number files files ≡ []
+pub rewrites-none : (number : ℕ) (files : List (Option Filed)) → rewrites_from number files files ≡ []
 rewrites-none number [] = refl
 rewrites-none number (f ∷ files) =
-    ap (λ b. rewrite_unless b number f f ++ rewrites_from (number + 1) files files) (same_surface-refl f.surface)
+    ap (λ (rs : List PlainRewrite). rs ++ rewrites_from (number + 1) files files) (none_of number f)
     ∙ rewrites-none (number + 1) files
 
 -- a new file is rewritten to its surface
-pub rewrites-appended : (number : ℕ) (files : List Filed) (f : Filed)
-    → rewrites_from number files (files ++ f ∷ []) ≡ record { file = number + length files; length = f.length; old = None; new = f.surface } ∷ []
+pub rewrites-appended : (number : ℕ) (files : List (Option Filed)) (f : Filed)
+    → rewrites_from number files (files ++ Some f ∷ []) ≡ record { file = number + length files; length = f.length; old = None; new = f.surface } ∷ []
 rewrites-appended number [] f =
     let n : number ≡ number + 0 = omega arith in
     ap (λ n. record { file = n; length = f.length; old = None; new = f.surface } ∷ []) n
 rewrites-appended number (first ∷ files) f =
     let n : number + 1 + length files ≡ number + suc (length files) = omega arith in
-    ap (λ b. rewrite_unless b number first first ++ rewrites_from (number + 1) files (files ++ f ∷ [])) (same_surface-refl first.surface)
+    ap (λ (rs : List PlainRewrite). rs ++ rewrites_from (number + 1) files (files ++ Some f ∷ [])) (none_of number first)
     ∙ rewrites-appended (number + 1) files f
     ∙ ap (λ n. record { file = n; length = f.length; old = None; new = f.surface } ∷ []) n
 
 -- with one file more that is settled, its rewrite comes last
-pub rewrites-settled : (epoch : ℕ) (sets : List ℕ) (change : Filed → Filed) (wants : List (Option ℕ)) (number : ℕ) (files : List Filed) (f : Filed)
-    → slice_get files (length wants) ≡ Some f
-    → rewrites_from number files (change_at change (length wants) (settled_files epoch sets wants files))
+pub rewrites-settled : (epoch : ℕ) (sets : List ℕ) (change : Filed → Filed) (wants : List (Option ℕ)) (number : ℕ) (files : List (Option Filed)) (f : Filed)
+    → living_at files (length wants) ≡ Some f
+    → rewrites_from number files (change_at (option_map change) (length wants) (settled_files epoch sets wants files))
     ≡ rewrites_from number files (settled_files epoch sets wants files)
     ++ rewrite_unless (same_surface f.surface (change f).surface) (number + length wants) f (change f)
 rewrites-settled epoch sets change [] number [] f is = absurd (cc)
-rewrites-settled epoch sets change [] number (first ∷ files) f is =
+rewrites-settled epoch sets change [] number (None ∷ files) f is = absurd (cc)
+rewrites-settled epoch sets change [] number (Some first ∷ files) f is =
     let e : first ≡ f = cc in
     let n : number ≡ number + 0 = omega arith in
     let own : List PlainRewrite = rewrite_unless (same_surface f.surface (change f).surface) (number + 0) f (change f) in
@@ -156,12 +166,12 @@ rewrites-settled epoch sets change [] number (first ∷ files) f is =
     ∙ append-nil (rewrite_unless (same_surface first.surface (change first).surface) number first (change first))
     ∙ ap (λ (g : Filed). rewrite_unless (same_surface g.surface (change g).surface) number g (change g)) e
     ∙ ap (λ n. rewrite_unless (same_surface f.surface (change f).surface) n f (change f)) n
-    ∙ ap (λ (none : List PlainRewrite). none ++ own) (sym (rewrites-none number (first ∷ files)))
+    ∙ ap (λ (none : List PlainRewrite). none ++ own) (sym (rewrites-none number (Some first ∷ files)))
 rewrites-settled epoch sets change (w ∷ wants) number [] f is = absurd (cc)
 rewrites-settled epoch sets change (w ∷ wants) number (first ∷ files) f is =
     let n : number + 1 + length wants ≡ number + suc (length wants) = omega arith in
-    let now : Filed = settled_file epoch sets w first in
-    let own : List PlainRewrite = rewrite_unless (same_surface first.surface now.surface) number first now in
+    let now : Option Filed = option_map (settled_file epoch sets w) first in
+    let own : List PlainRewrite = rewrite_of number first now in
     ap (λ (rest : List PlainRewrite). own ++ rest) (rewrites-settled epoch sets change wants (number + 1) files f is)
     ∙ ap (λ n. own ++ (rewrites_from (number + 1) files (settled_files epoch sets wants files)
     ++ rewrite_unless (same_surface f.surface (change f).surface) n f (change f))) n

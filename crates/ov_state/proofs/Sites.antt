@@ -17,8 +17,9 @@ use Rattle.ov_history.proofs.Outlining.{with_surfaces-sets}
 use Rattle.ov_state.specs.NewFiles.{want_then, surface_then, is_past_then, HasNoSite, IsSite}
 use Rattle.ov_state.specs.Relistings.{nodes_planned, with_want, IsFull, IsSurfaceFor}
 use Rattle.ov_state.specs.declared.change.NewNode.{NewNode}
-use Rattle.ov_state.specs.declared.fault.PrepareFault.{PrepareFault}
-use Rattle.ov_state.specs.declared.fault.PrepareFault.TheVariants.{Refused, BadPlan, Memory}
+use Rattle.ov_graph.specs.declared.cover.GraphRefusal.{GraphRefusal}
+use Rattle.ov_graph.specs.declared.cover.GraphRefusal.TheVariants.{NodesFull, Memory as GraphMemory}
+use Rattle.ov_state.specs.Faults.{fault_of}
 use Rattle.ov_state.specs.declared.new_nodes.NewNodes.{NewNodes}
 use Rattle.ov_base.specs.declared.limits.TheConstants.{MAX_LAYER_NODES}
 use Rattle.ov_base.proofs.Tests.{lt_is_true, lt_is_false}
@@ -68,12 +69,11 @@ module _ (s : Catalogue) (list : ℕ) where
       ∙ lt_is_false MAX_LAYER_NODES (length sets_then) few_surface
 
   -- the surface layer is full
-  pub full_then : (fault : PrepareFault) → IsFull sets_then fault → HasNoSite s list fault
-  full_then Memory full = tt
-  full_then (BadPlan place) full = full
-  full_then (Refused why) full = (
-    full.0,
-    or_right (nat_lt MAX_LAYER_NODES (length (with_set s.base.sets list))) _ (lt_is_true MAX_LAYER_NODES (length sets_then) full.1),
+  pub full_then : (why : GraphRefusal) → IsFull sets_then why → HasNoSite s list (fault_of why)
+  full_then GraphMemory full = tt
+  full_then NodesFull full = (
+    refl,
+    or_right (nat_lt MAX_LAYER_NODES (length (with_set s.base.sets list))) _ (lt_is_true MAX_LAYER_NODES (length sets_then) full),
   )
 
 module _ {W : ℕ} (master : List ℕ) (s : Catalogue) (list : ℕ) where
@@ -100,9 +100,9 @@ module _ {W : ℕ} (master : List ℕ) (s : Catalogue) (list : ℕ) where
         omega (arith, sym (ap length sets), length-added s.surface new.nodes.items, target.planned.few)
 
   -- a new file has no site where the surface layer is full
-  pub surface_full : (want : Option ℕ) (old : NewNodes W) (fault : PrepareFault) → old.nodes.items ≡ [] → want ≡ want_then s list
-      → IsFull (with_want master (nodes_planned s.surface old) want).sets fault → HasNoSite s list fault
-  surface_full want old fault none wanted full =
-      full_then s list fault
-      (subst (λ (sets : List ℕ). IsFull sets fault)
+  pub surface_full : (want : Option ℕ) (old : NewNodes W) (why : GraphRefusal) → old.nodes.items ≡ [] → want ≡ want_then s list
+      → IsFull (with_want master (nodes_planned s.surface old) want).sets why → HasNoSite s list (fault_of why)
+  surface_full want old why none wanted full =
+      full_then s list why
+      (subst (λ (sets : List ℕ). IsFull sets why)
       ((λ i. (with_want master (nodes_added s.surface (none i)) (wanted i)).sets) ∙ with_surfaces-sets master (want_then s list ∷ []) s.surface) full)

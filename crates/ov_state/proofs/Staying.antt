@@ -1,4 +1,5 @@
 -- Sets that are among those of a layer, and files that have their wanted surfaces: they stay.
+use Rattle.std.specs.Prelude.{option_map}
 use Rattle.std.proofs.Common.{◌≡◌, ℕ, Bool, true, false, List, [], ◌∷◌, ◌++◌, refl, sym, ◌∙◌, ap}
 use Rattle.std.specs.Prelude.{Contains, Option, Some, None}
 use Rattle.std.proofs.lemmas.List.{append-nil}
@@ -27,26 +28,36 @@ pub surface_at-more : (sets more : List ℕ) (want : Option ℕ) → IsAmong set
 surface_at-more sets more None among = refl
 surface_at-more sets more (Some set) among = ap Some (node_for-append sets more set among)
 
+-- the surface of a file is that of its wanted set, if it isn't gone
+abbrev pub HasSurface : List ℕ → Option ℕ → Option Filed → Type 0
+HasSurface sets want None = Unit {0}
+HasSurface sets want (Some f) = f.surface ≡ surface_at sets want
+
 -- each file has its wanted surface among these sets
-abbrev pub AreKept : List ℕ → List (Option ℕ) → List Filed → Type 0
+abbrev pub AreKept : List ℕ → List (Option ℕ) → List (Option Filed) → Type 0
 AreKept sets [] [] = Unit {0}
 AreKept sets [] (f ∷ files) = ⊥
 AreKept sets (want ∷ wants) [] = ⊥
 AreKept sets (want ∷ wants) (f ∷ files) =
-    IsAmong sets want × (f.surface ≡ surface_at sets want) × AreKept sets wants files
+    IsAmong sets want × HasSurface sets want f × AreKept sets wants files
 
-pub kept-more : (sets more : List ℕ) (wants : List (Option ℕ)) (files : List Filed) → AreKept sets wants files
+surface-more : (sets more : List ℕ) (want : Option ℕ) (f : Option Filed) → IsAmong sets want → HasSurface sets want f
+    → HasSurface (sets ++ more) want f
+surface-more sets more want None among own = tt
+surface-more sets more want (Some f) among own = own ∙ sym (surface_at-more sets more want among)
+
+pub kept-more : (sets more : List ℕ) (wants : List (Option ℕ)) (files : List (Option Filed)) → AreKept sets wants files
     → AreKept (sets ++ more) wants files
 kept-more sets more [] [] kept = tt
 kept-more sets more [] (f ∷ files) kept = absurd kept
 kept-more sets more (want ∷ wants) [] kept = absurd kept
 kept-more sets more (want ∷ wants) (f ∷ files) (among, own, rest) = (
   among-more sets more want among,
-  own ∙ sym (surface_at-more sets more want among),
+  surface-more sets more want f among own,
   kept-more sets more wants files rest,
 )
 
-pub kept-with_set : (sets : List ℕ) (set : ℕ) (wants : List (Option ℕ)) (files : List Filed) → AreKept sets wants files
+pub kept-with_set : (sets : List ℕ) (set : ℕ) (wants : List (Option ℕ)) (files : List (Option Filed)) → AreKept sets wants files
     → AreKept (with_set sets set) wants files
 kept-with_set sets set wants files kept = by_test (plan_of sets set).fresh where
   by_test : (b : Bool) → AreKept (appended b sets set) wants files
@@ -54,7 +65,7 @@ kept-with_set sets set wants files kept = by_test (plan_of sets set).fresh where
   by_test false = kept
 
 -- files keep their wanted surfaces behind wanted sets that come after theirs
-pub kept-with_wants : (sets : List ℕ) (more wants : List (Option ℕ)) (files : List Filed) → AreKept sets wants files
+pub kept-with_wants : (sets : List ℕ) (more wants : List (Option ℕ)) (files : List (Option Filed)) → AreKept sets wants files
     → AreKept (with_wants sets more) wants files
 kept-with_wants sets [] wants files kept = kept
 kept-with_wants sets (None ∷ more) wants files kept = kept-with_wants sets more wants files kept
@@ -70,7 +81,7 @@ module _ (master : List ℕ) where
       (plan-there nodes.sets set there)
 
   -- kept files want no new nodes
-  pub surfaces-kept : (nodes : Nodes) (wants more : List (Option ℕ)) (files : List Filed) → AreKept nodes.sets wants files
+  pub surfaces-kept : (nodes : Nodes) (wants more : List (Option ℕ)) (files : List (Option Filed)) → AreKept nodes.sets wants files
       → with_surfaces master nodes (wants ++ more) ≡ with_surfaces master nodes more
   surfaces-kept nodes [] more files kept = refl
   surfaces-kept nodes (want ∷ wants) more [] kept = absurd kept
@@ -79,7 +90,7 @@ module _ (master : List ℕ) where
       ap (λ (n : Nodes). with_surfaces master n (wants ++ more)) (one_stays nodes set among)
       ∙ surfaces-kept nodes wants more files rest
 
-pub wants-kept : (sets : List ℕ) (wants more : List (Option ℕ)) (files : List Filed) → AreKept sets wants files
+pub wants-kept : (sets : List ℕ) (wants more : List (Option ℕ)) (files : List (Option Filed)) → AreKept sets wants files
     → with_wants sets (wants ++ more) ≡ with_wants sets more
 wants-kept sets [] more files kept = refl
 wants-kept sets (want ∷ wants) more [] kept = absurd kept
@@ -93,15 +104,20 @@ module _ (epoch : ℕ) (sets : List ℕ) where
   file_stays want f own =
       ap (λ b. refiled b epoch (surface_at sets want) f) (same_surface-true f.surface (surface_at sets want) own)
 
+  either_stays : (want : Option ℕ) (f : Option Filed) → HasSurface sets want f
+      → option_map (settled_file epoch sets want) f ≡ f
+  either_stays want None own = refl
+  either_stays want (Some f) own = ap Some (file_stays want f own)
+
   -- kept files stay as they are
-  pub files-kept : (wants more : List (Option ℕ)) (files new : List Filed) → AreKept sets wants files
+  pub files-kept : (wants more : List (Option ℕ)) (files new : List (Option Filed)) → AreKept sets wants files
       → settled_files epoch sets (wants ++ more) (files ++ new) ≡ files ++ settled_files epoch sets more new
   files-kept [] more [] new kept = refl
   files-kept [] more (f ∷ files) new kept = absurd kept
   files-kept (want ∷ wants) more [] new kept = absurd kept
   files-kept (want ∷ wants) more (f ∷ files) new (among, own, rest) =
-      ap (λ (g : Filed). g ∷ settled_files epoch sets (wants ++ more) (files ++ new)) (file_stays want f own)
-      ∙ ap (λ (gs : List Filed). f ∷ gs) (files-kept wants more files new rest)
+      ap (λ (g : Option Filed). g ∷ settled_files epoch sets (wants ++ more) (files ++ new)) (either_stays want f own)
+      ∙ ap (λ (gs : List (Option Filed)). f ∷ gs) (files-kept wants more files new rest)
 
 -- ---- the catalogue
 
@@ -118,7 +134,7 @@ module _ (master : List ℕ) (s : Catalogue) (wants : List (Option ℕ)) (kept :
   files_stay : settled_files s.epoch s.surface.sets wants s.files ≡ s.files
   files_stay =
       ap (λ ws. settled_files s.epoch s.surface.sets ws s.files) (sym (append-nil wants))
-      ∙ ap (λ (fs : List Filed). settled_files s.epoch s.surface.sets (wants ++ []) fs) (sym (append-nil s.files))
+      ∙ ap (λ (fs : List (Option Filed)). settled_files s.epoch s.surface.sets (wants ++ []) fs) (sym (append-nil s.files))
       ∙ files-kept s.epoch s.surface.sets wants [] s.files [] kept
       ∙ append-nil s.files
 
@@ -130,4 +146,4 @@ module _ (master : List ℕ) (s : Catalogue) (wants : List (Option ℕ)) (kept :
         files = settled_files s.epoch (with_wants s.surface.sets wants) wants s.files;
       }) surfaces_stay
       ∙ ap (λ sets. record s { files = settled_files s.epoch sets wants s.files }) no_more
-      ∙ ap (λ (files : List Filed). record s { files = files }) files_stay
+      ∙ ap (λ (files : List (Option Filed)). record s { files = files }) files_stay

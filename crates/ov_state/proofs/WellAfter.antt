@@ -1,4 +1,5 @@
 -- What holds of every state holds after each update that isn't refused and has its parts.
+use Rattle.std.specs.Prelude.{Some}
 use Rattle.std.proofs.Common.{◌≡◌, ℕ, ◌+◌, ◌≤◌, ◌*◌, List, [], ◌∷◌, length, sym, ◌∙◌, subst, arith, length-append, false}
 use Rattle.std.specs.Prelude.{Option, None, nat_le}
 use Rattle.std.proofs.lemmas.Bool.Decides.{nat_tests}
@@ -55,7 +56,7 @@ within_grown s (BriefEnrol user) within (taken, (full, (room, (spent, none)))) f
 }
 within_grown s (BriefCreate file list tokens tag size) within (taken, (outside, (files, (bytes, (room, (spent, none)))))) fits = record {
   users = within.users;
-  files = omega (arith, length-append s.files (new ∷ []), files_shown-length (outline s) s.files, one_more MAX_FILES (length (matrix_shown s).files) files);
+  files = omega (arith, length-append s.files (Some new ∷ []), files_shown-length (outline s) s.files, one_more MAX_FILES (length (matrix_shown s).files) files);
   bytes = omega (arith, bytes_in-append s.files new, byte_sum-shown s, ge_of_false MAX_STORE_BYTES (byte_sum (matrix_shown s).files + size) bytes);
   each = within-append MAX_FILE_BYTES s.files new within.each fits;
   epoch = next_epoch s.epoch spent;

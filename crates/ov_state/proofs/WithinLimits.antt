@@ -1,4 +1,8 @@
 -- An update that isn't refused and has its parts is within the limits of its spelling.
+use Rattle.ov_base.proofs.Tests.{true_of_not}
+use Rattle.ov_history.specs.Lists.{is_file}
+use Rattle.ov_history.proofs.ChangeLaws.{below_some}
+use Rattle.ov_state.proofs.QueryLaws.{file_low}
 use Rattle.std.proofs.Common.{◌≡◌, ℕ, ◌<◌, ◌≤◌, Bool, true, false, not, length, refl, arith}
 use Rattle.std.specs.Prelude.{nat_lt}
 use Rattle.std.proofs.lemmas.Bool.Decides.{nat_tests}
@@ -9,10 +13,10 @@ use Rattle.ov_graph.proofs.GraphLaws.{plan-few}
 use Rattle.ov_history.specs.Briefs.{Brief, BriefEnrol, BriefCreate, BriefGrant, BriefRevoke, outer}
 use Rattle.ov_history.specs.Catalogue.{Catalogue, outline, matrix_shown}
 use Rattle.ov_history.specs.Refusals.{tests_of}
-use Rattle.ov_history.proofs.SoundTests.{files_shown-length, NoneApplies, none_applies, accepted}
+use Rattle.ov_history.proofs.SoundTests.{NoneApplies, none_applies, accepted}
 use Rattle.ov_state.specs.Contents.{IsWell}
 use Rattle.ov_state.specs.Plans.{IsFitting, IsTaken, IsWithinLimits}
-use Rattle.ov_base.specs.declared.limits.TheConstants.{MAX_FILES, MAX_USERS}
+use Rattle.ov_base.specs.declared.limits.TheConstants.{MAX_USERS}
 
 -- a number that is there
 there : (m n most : ℕ) → not (nat_lt m n) ≡ false → n ≤ most → m < most
@@ -35,10 +39,10 @@ module _ (limit : ℕ) (s : Catalogue) where
   within_limits (BriefGrant user file token) well fits (accepts, parts) =
       let passed : NoneApplies (tests_of (matrix_shown s) (outline s) s.epoch (outer (BriefGrant user file token))) = none_applies (tests_of (matrix_shown s) (outline s) s.epoch (outer (BriefGrant user file token))) accepts in (
         there user (length s.users) MAX_USERS passed.0 well.users,
-        there file (length (matrix_shown s).files) MAX_FILES passed.1.0 (omega (arith, files_shown-length (outline s) s.files, well.files)),
+        omega (arith, below_some s.files file (file_low s file (true_of_not (is_file (matrix_shown s) file) passed.1.0)), well.files),
       )
   within_limits (BriefRevoke user file) well fits (accepts, parts) =
       let passed : NoneApplies (tests_of (matrix_shown s) (outline s) s.epoch (outer (BriefRevoke user file))) = none_applies (tests_of (matrix_shown s) (outline s) s.epoch (outer (BriefRevoke user file))) accepts in (
         there user (length s.users) MAX_USERS passed.0 well.users,
-        there file (length (matrix_shown s).files) MAX_FILES passed.1.0 (omega (arith, files_shown-length (outline s) s.files, well.files)),
+        omega (arith, below_some s.files file (file_low s file (true_of_not (is_file (matrix_shown s) file) passed.1.0)), well.files),
       )

@@ -1,5 +1,5 @@
 -- What a state tells an owner who asks before an update.
-use Rattle.std.specs.Prelude.{◌≡◌, ℕ, Bool, List, Option, Some, None, Result, Ok, Err, length}
+use Rattle.std.specs.Prelude.{◌≡◌, ℕ, List, Option, Some, None, Result, Ok, Err, length}
 use Rattle.ov_base.specs.declared.refusal.Refusal.{Refusal}
 use Rattle.ov_graph.specs.Contents.{plan_of}
 use Rattle.ov_history.specs.Asking.{Numbers, refusal_at}
@@ -40,11 +40,6 @@ Asks refusal numbers (Err fault) = IsRefusedFor refusal fault
 abbrev pub Passes : {A : Type 0} → Option Refusal → Result A ChainFault → Type 0
 Passes refusal (Ok value) = refusal ≡ None
 Passes refusal (Err fault) = IsRefusedFor refusal fault
-
--- whether an access token is needed, or why the update is refused
-abbrev pub AsksWhether : Option Refusal → Bool → Result Bool ChainFault → Type 0
-AsksWhether refusal wants (Ok told) = (refusal ≡ None) × (told ≡ wants)
-AsksWhether refusal wants (Err fault) = IsRefusedFor refusal fault
 
 -- The number that a file to be created will have, the set of its list, and the cover of this set in
 -- the base layer; or why the creation is refused.

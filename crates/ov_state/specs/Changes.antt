@@ -1,6 +1,6 @@
 -- A change that was prepared, and what it makes of the catalogue.
 use Rattle.std.specs.Prelude.{◌≡◌, ℕ, ◌+◌, ◌<◌, ◌≤◌, true, false, List, [], ◌∷◌, ◌++◌, length}
-use Rattle.std.specs.Prelude.{Option, Some, None, IsTrue}
+use Rattle.std.specs.Prelude.{Option, Some, None, IsTrue, option_map}
 use Rattle.ov_base.specs.NameLists.{is_among}
 use Rattle.ov_base.specs.Sets.{Has}
 use Rattle.ov_base.specs.declared.limits.TheConstants.{MAX_LAYER_NODES}
@@ -43,9 +43,9 @@ users_grown users (Access grant) = users
 users_grown users Nothing = users
 
 -- the files with a new one
-abbrev pub files_grown : List Filed → Growth → List Filed
+abbrev pub files_grown : List (Option Filed) → Growth → List (Option Filed)
 files_grown files (User name) = files
-files_grown files (File file) = files ++ plain_file file ∷ []
+files_grown files (File file) = files ++ Some (plain_file file) ∷ []
 files_grown files (Access grant) = files
 files_grown files Nothing = files
 
@@ -61,10 +61,10 @@ abbrev pub rewritten : ℕ → Rewrite → Filed → Filed
 rewritten epoch r f = record f { surface = r.new; generation = epoch }
 
 -- the files after all these rewrites, in order
-abbrev pub all_rewritten : ℕ → List Rewrite → List Filed → List Filed
+abbrev pub all_rewritten : ℕ → List Rewrite → List (Option Filed) → List (Option Filed)
 all_rewritten epoch [] files = files
 all_rewritten epoch (r ∷ rewrites) files =
-    all_rewritten epoch rewrites (change_at (rewritten epoch r) r.file files)
+    all_rewritten epoch rewrites (change_at (option_map (rewritten epoch r)) r.file files)
 
 -- the catalogue after the change
 abbrev pub applied : {W : ℕ} → Catalogue → Change W → Catalogue
@@ -100,7 +100,7 @@ IsNewNodeIf sets (Some new) = IsNewNode sets new
 
 -- What grows fits beside these users, files, sets and access tokens: no name is taken, and an
 -- access token is for a user below the limit who isn't a holder.
-abbrev pub Fits : ℕ → List (List ℕ) → List Filed → List ℕ → List Grant → Growth → Type 0
+abbrev pub Fits : ℕ → List (List ℕ) → List (Option Filed) → List ℕ → List Grant → Growth → Type 0
 Fits limit users files sets grants (User name) = is_among name users ≡ false
 Fits limit users files sets grants (File file) = is_among file.name (filed_names files) ≡ false
 Fits limit users files sets grants (Access grant) =

@@ -1,5 +1,5 @@
 -- What a state contains: its catalogue, and the room that it has.
-use Rattle.std.specs.Prelude.{◌≡◌, ℕ, ◌*◌, ◌≤◌, List, length, slice_get, Option, Some}
+use Rattle.std.specs.Prelude.{◌≡◌, ℕ, ◌*◌, ◌≤◌, List, length, Option, Some}
 use Rattle.std.specs.Prelude.{IfSome, IsTrue}
 use Rattle.ov_base.specs.declared.limits.TheConstants.{LAST_EPOCH, MAX_FILES, MAX_FILE_BYTES}
 use Rattle.ov_base.specs.declared.limits.TheConstants.{MAX_SET_WORDS, MAX_STORE_BYTES, MAX_USERS}
@@ -9,6 +9,7 @@ use Rattle.ov_graph.specs.Contents.{Contents}
 use Rattle.ov_surface.specs.Wanted.{wanted_surface}
 use Rattle.ov_history.specs.Layers.{Layers, Place, holders, list_at, same_surface, surface_at}
 use Rattle.ov_history.specs.Lists.{byte_sum}
+use Rattle.ov_history.specs.Places.{living_at}
 use Rattle.ov_history.specs.Catalogue.{Nodes, Filed, Catalogue, outline, matrix_shown}
 use Rattle.ov_history.specs.Catalogue.{place_of_file}
 use Rattle.ov_history.specs.Sound.{IsSound}
@@ -35,8 +36,8 @@ abbrev pub nodes_of : Contents → Nodes
 nodes_of graph = record { sets = graph.sets; edges = graph.edges }
 
 -- the catalogue that these parts make
-abbrev pub catalogue_by : Mode → ℕ → List (List ℕ) → BaseContents → Contents → List Filed
-    → Catalogue
+abbrev pub catalogue_by : Mode → ℕ → List (List ℕ) → BaseContents → Contents
+    → List (Option Filed) → Catalogue
 catalogue_by mode epoch users base surface files = record {
   mode = mode;
   epoch = epoch;
@@ -57,13 +58,13 @@ HasItsSurface y p =
 -- each file has its wanted surface, and no limit is passed
 pub record IsWell (limit : ℕ) (c : Catalogue) : Type 0 where
   pub sound : IsSound c
-  pub settled : (file : ℕ) (f : Filed) → slice_get c.files file ≡ Some f
+  pub settled : (file : ℕ) (f : Filed) → living_at c.files file ≡ Some f
       → HasItsSurface (outline c) (place_of_file f)
   pub users : length c.users ≤ MAX_USERS
   pub width : (MAX_USERS ≤ limit) × (limit ≤ 64 * MAX_SET_WORDS)
   pub files : length c.files ≤ MAX_FILES
   pub bytes : byte_sum (matrix_shown c).files ≤ MAX_STORE_BYTES
-  pub each : (file : ℕ) (f : Filed) → slice_get c.files file ≡ Some f → f.length ≤ MAX_FILE_BYTES
+  pub each : (file : ℕ) (f : Filed) → living_at c.files file ≡ Some f → f.length ≤ MAX_FILE_BYTES
   pub epoch : c.epoch ≤ LAST_EPOCH
 
 -- What holds of every state with this catalogue: the catalogue is sound and within its limits, and

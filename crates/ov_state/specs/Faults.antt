@@ -1,4 +1,4 @@
--- Faults of graphs, as faults of what is prepared and of questions.
+-- Faults of graphs and of questions, as faults of what is prepared.
 use Rattle.ov_base.specs.declared.refusal.Refusal.TheVariants.{NodesFull as Full}
 use Rattle.ov_graph.specs.declared.cover.GraphRefusal.{GraphRefusal}
 use Rattle.ov_graph.specs.declared.cover.GraphRefusal.TheVariants.{NodesFull, Memory as GraphMemory}
@@ -17,3 +17,8 @@ fault_of GraphMemory = Memory
 abbrev pub chain_fault_of : GraphRefusal → ChainFault
 chain_fault_of NodesFull = NoChain Full
 chain_fault_of GraphMemory = NoChainMemory
+
+-- a question and its update are refused for the same, or there is no memory for either
+abbrev pub prepare_fault_of : ChainFault → PrepareFault
+prepare_fault_of (NoChain why) = Refused why
+prepare_fault_of NoChainMemory = Memory

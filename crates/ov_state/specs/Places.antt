@@ -1,6 +1,7 @@
 -- Where the parts of an update are in its spelling.
-use Rattle.std.specs.Prelude.{◌≡◌, ℕ, ◌*◌, List, [], ◌++◌, length}
+use Rattle.std.specs.Prelude.{◌≡◌, ℕ, List, [], ◌++◌, length}
 use Rattle.ov_fields.specs.Spelling.{counted, optional, token_field}
+use Rattle.ov_record.specs.Forms.{Form}
 use Rattle.ov_record.specs.Spelling.{spelling}
 use Rattle.ov_record.specs.Updates.{SealedUpdate, SealedCreate, SealedEnrol, SealedGrant}
 use Rattle.ov_record.specs.Updates.{SealedRevoke}
@@ -15,9 +16,9 @@ parts_spelled (SealedCreate name list tokens tag bytes) = counted token_field to
 parts_spelled (SealedGrant user file token) = optional token_field token
 parts_spelled (SealedRevoke user file) = []
 
--- the parts are at these places in the spelling of their update, whose set has this many words
+-- the parts are at these places in the spelling of their update, in each form
 abbrev pub PartsStandAtTheirPlace : Type 0
 PartsStandAtTheirPlace =
-    (words : ℕ) (u : SealedUpdate)
-    → (front rest : List ℕ) × (spelling (8 * words) u ≡ front ++ parts_spelled u ++ rest)
-    × (length front ≡ part_place words (brief u))
+    (form : Form) (u : SealedUpdate)
+    → (front rest : List ℕ) × (spelling form u ≡ front ++ parts_spelled u ++ rest)
+    × (length front ≡ part_place form.words (brief u))

@@ -1,34 +1,19 @@
 -- What a change is planned to make, or why an update isn't taken.
-use Rattle.std.specs.Prelude.{◌≡◌, ℕ, ◌+◌, ◌*◌, ◌<◌, ◌≤◌, List, length, Some, None, Result, Ok, Err}
+use Rattle.std.specs.Prelude.{◌≡◌, ℕ, ◌<◌, ◌≤◌, List, length, Some, None, Result, Ok, Err}
 use Rattle.ov_base.specs.declared.limits.TheConstants.{MAX_FILES, MAX_FILE_BYTES, MAX_USERS}
 use Rattle.ov_history.specs.Briefs.{Brief as PlainBrief, BriefEnrol, BriefCreate, BriefGrant}
 use Rattle.ov_history.specs.Briefs.{BriefRevoke, part_place}
 use Rattle.ov_history.specs.Catalogue.{Catalogue, outline, catalogue_after}
 use Rattle.ov_history.specs.Rewrites.{rewrites_of}
 use Rattle.ov_history.specs.Sealed.{HasParts, refusal_shown}
+pub use Rattle.ov_record.specs.Briefs.{plain_brief, IsFitting}
 use Rattle.ov_state.specs.Changes.{applied, Suits}
 use Rattle.ov_state.specs.Entries.{plain_rewrites}
-use Rattle.ov_state.specs.declared.brief.Brief.{Brief}
-use Rattle.ov_state.specs.declared.brief.Brief.TheVariants.{Enrol, Create, Grant, Revoke}
 use Rattle.ov_state.specs.declared.change.Change.{Change}
 use Rattle.ov_state.specs.declared.fault.PrepareFault.{PrepareFault}
 use Rattle.ov_state.specs.declared.fault.PrepareFault.TheVariants.{Refused, BadPlan, Memory}
 
 -- ---- briefs
-
--- a brief in the words of histories, without the width of its set
-abbrev pub plain_brief : {W : ℕ} → Brief W → PlainBrief
-plain_brief (Enrol name) = BriefEnrol name
-plain_brief (Create name list tokens tag size) = BriefCreate name list tokens tag size
-plain_brief (Grant user file token) = BriefGrant user file token
-plain_brief (Revoke user file) = BriefRevoke user file
-
--- a file that is created has no more bytes than a file may have
-abbrev pub IsFitting : PlainBrief → Type 0
-IsFitting (BriefEnrol name) = Unit {0}
-IsFitting (BriefCreate name list tokens tag size) = size ≤ MAX_FILE_BYTES
-IsFitting (BriefGrant user file token) = Unit {0}
-IsFitting (BriefRevoke user file) = Unit {0}
 
 -- all numbers of the brief are within the limits of its spelling
 abbrev pub IsWithinLimits : PlainBrief → Type 0

@@ -1,15 +1,21 @@
 -- Inner: no public contract needs this. How surface nodes and rewrites are planned after the list
 -- of a file changed.
 use Rattle.std.specs.Prelude.{◌≡◌, ℕ, ◌+◌, ◌<◌, ◌≤◌, ◌==◌, Bool, true, false, not, nat_lt, List, []}
-use Rattle.std.specs.Prelude.{◌∷◌, ◌++◌, length, Option, Some, None}
+use Rattle.std.specs.Prelude.{◌∷◌, ◌++◌, length, Option, Some, None, is_some}
+use Rattle.ov_history.specs.Places.{living_at}
 use Rattle.ov_base.specs.Sets.{IsBelow, Within}
 use Rattle.ov_base.specs.declared.limits.TheConstants.{MAX_LAYER_NODES}
 use Rattle.ov_base.specs.declared.refusal.Refusal.{Refusal}
 use Rattle.ov_base.specs.declared.refusal.Refusal.TheVariants.{NoUser, NoFile, NodesFull, Spent}
+use Rattle.ov_graph.specs.declared.cover.GraphRefusal.{GraphRefusal}
+use Rattle.ov_graph.specs.declared.cover.GraphRefusal.TheVariants.{NodesFull as GraphFull}
+use Rattle.ov_graph.specs.declared.cover.GraphRefusal.TheVariants.{Memory as GraphMemory}
 use Rattle.ov_tokens.specs.declared.token.Token.{Token}
 use Rattle.ov_surface.specs.Wanted.{wanted_surface}
 use Rattle.ov_history.specs.Layers.{Place, Layers, holders, list_at, surface_at, same_surface}
-use Rattle.ov_history.specs.Layers.{with_wants}
+use Rattle.ov_history.specs.Layers.{grown, lists_after, lists_of, wants_of, with_wants}
+use Rattle.ov_history.specs.Asking.{refusal_at}
+use Rattle.ov_history.specs.History.{Update, Granted, Revoked}
 use Rattle.ov_history.specs.Refusals.{first_of_tests, is_last}
 use Rattle.ov_history.specs.Catalogue.{Nodes, Filed, Catalogue, outline, filed_at, place_of_file}
 use Rattle.ov_history.specs.Catalogue.{with_surfaces, settled_files}
@@ -21,10 +27,10 @@ use Rattle.ov_state.specs.declared.change.Growth.TheVariants.{Access, Nothing}
 use Rattle.ov_state.specs.declared.change.Change.{Change}
 use Rattle.ov_state.specs.declared.change.Rewrite.{Rewrite}
 use Rattle.ov_state.specs.declared.change.NewNode.{NewNode}
-use Rattle.ov_state.specs.declared.fault.PrepareFault.{PrepareFault}
-use Rattle.ov_state.specs.declared.fault.PrepareFault.TheVariants.{Refused, BadPlan, Memory}
 use Rattle.ov_state.specs.declared.files.FileEntry.{FileEntry}
 use Rattle.ov_state.specs.declared.relisting.Relisting.{Relisting}
+use Rattle.ov_state.specs.declared.relisting.Verb.{Verb}
+use Rattle.ov_state.specs.declared.relisting.Verb.TheVariants.{Grant, Revoke}
 use Rattle.ov_state.specs.declared.new_nodes.NewNodes.{NewNodes}
 use Rattle.ov_state.specs.declared.rewrites.Rewrites.{Rewrites}
 
@@ -56,11 +62,10 @@ pub record IsSurfaceFor {W : ℕ} (master : List ℕ) (layer : Nodes) (want : Op
   pub nodes : nodes_planned layer new ≡ with_want master (nodes_planned layer old) want
   pub surface : to ≡ surface_at (nodes_planned layer new).sets want
 
--- there is no memory, or a layer of these sets has too many nodes
-abbrev pub IsFull : List ℕ → PrepareFault → Type 0
-IsFull sets (Refused why) = (why ≡ NodesFull) × (MAX_LAYER_NODES < length sets)
-IsFull sets (BadPlan place) = ⊥
-IsFull sets Memory = Unit {0}
+-- a layer of these sets has too many nodes, or there is no memory
+abbrev pub IsFull : List ℕ → GraphRefusal → Type 0
+IsFull sets GraphFull = MAX_LAYER_NODES < length sets
+IsFull sets GraphMemory = Unit {0}
 
 -- ---- rewrites
 
@@ -99,10 +104,16 @@ want_if false y r number p = wanted_surface y.mode (list_at y p) (holders y p.no
 abbrev pub want_after : {W : ℕ} → Layers → Relisting W → ℕ → Place → Option ℕ
 want_after y r number p = want_if (p.node == r.node) y r number p
 
+-- the wanted surface set of a file that may be gone, for which none is wanted
+abbrev pub want_left : {W : ℕ} → Layers → Relisting W → ℕ → Option Place → Option ℕ
+want_left y r number None = None
+want_left y r number (Some p) = want_after y r number p
+
 -- the wanted surface sets of the files at these places, of which the first has this number
-abbrev pub wants_after : {W : ℕ} → Layers → Relisting W → ℕ → List Place → List (Option ℕ)
+abbrev pub wants_after : {W : ℕ} → Layers → Relisting W → ℕ → List (Option Place)
+    → List (Option ℕ)
 wants_after y r number [] = []
-wants_after y r number (p ∷ places) = want_after y r number p ∷ wants_after y r (number + 1) places
+wants_after y r number (p ∷ places) = want_left y r number p ∷ wants_after y r (number + 1) places
 
 -- Where the test says so, the file of this number has the relisting's base node; where not, it has
 -- the wanted surface that it should have afterwards.
@@ -119,6 +130,13 @@ pub record IsRelisting {W : ℕ} (c : Catalogue) (r : Relisting W) : Type 0 wher
   pub grows : Within r.before r.after
   pub list : IsBelow (length c.users) r.list
 
+-- the file of this number comes after those of these wanted sets, over this surface layer
+pub record IsNext (c : Catalogue) (wants : List (Option ℕ)) (layer : Nodes) (file : ℕ)
+    (f : FileEntry) : Type 0 where
+  pub surface : c.surface ≡ layer
+  pub number : file ≡ length wants
+  pub kept : living_at c.files file ≡ Some (plain_file f)
+
 -- ---- what is planned for files
 
 -- the surface nodes and the rewrites with those of one file more
@@ -129,7 +147,7 @@ pub record IsSettled {W : ℕ} (master : List ℕ) (layer : Nodes) (file : ℕ) 
   pub rewrites : new.list.items ≡ with_rewrite old.list.items (rewrite_for file f to)
 
 -- the files at the next epoch, of which the first have the surfaces of these wanted sets
-abbrev pub files_settled : Catalogue → List (Option ℕ) → List Filed
+abbrev pub files_settled : Catalogue → List (Option ℕ) → List (Option Filed)
 files_settled c wants = settled_files (c.epoch + 1) (with_wants c.surface.sets wants) wants c.files
 
 -- these wanted sets, of the first files, have their surface nodes, and these files their rewrites
@@ -146,7 +164,7 @@ pub record AreSettled {W : ℕ} (master : List ℕ) (c : Catalogue) (wants : Lis
 -- the user and the file are there, and this is the file with its list and its holders as they are
 pub record IsListing {W : ℕ} (c : Catalogue) (user file : ℕ) (r : Relisting W) : Type 0 where
   pub enrolled : user < length c.users
-  pub there : file < length c.files
+  pub there : is_some (living_at c.files file) ≡ true
   pub number : r.file ≡ file
   pub node : r.node ≡ (filed_at c file).node
   pub list : r.list ≡ list_at (outline c) (place_of_file (filed_at c file))
@@ -158,7 +176,7 @@ abbrev pub IsMissing : Catalogue → ℕ → ℕ → Refusal → Type 0
 IsMissing c user file why =
     first_of_tests
     ((NoUser, not (nat_lt user (length c.users)))
-    ∷ (NoFile, not (nat_lt file (length c.files))) ∷ [])
+    ∷ (NoFile, not (is_some (living_at c.files file))) ∷ [])
     ≡ Some why
 
 -- why an update finds no room: a layer of these sets has too many nodes, or no epoch comes after
@@ -168,11 +186,23 @@ room_refusal sets epoch =
     first_of_tests
     ((NodesFull, nat_lt MAX_LAYER_NODES (length sets)) ∷ (Spent, is_last epoch) ∷ [])
 
--- there is no room, or no memory
-abbrev pub IsNoRoom : List ℕ → ℕ → PrepareFault → Type 0
-IsNoRoom sets epoch (Refused why) = room_refusal sets epoch ≡ Some why
-IsNoRoom sets epoch (BadPlan place) = ⊥
-IsNoRoom sets epoch Memory = Unit {0}
+-- the update that does this with a user and the list of a file
+abbrev pub update_by : Verb → ℕ → ℕ → Update
+update_by Grant user file = Granted user file
+update_by Revoke user file = Revoked user file
+
+-- what an update makes of the list of a file, where the list lets it pass: the wanted sets are
+-- those of the update, which is refused only where there is no room
+pub record IsDecided {W : ℕ} (c : Catalogue) (u : Update) (user file : ℕ)
+    (r : Relisting W) : Type 0 where
+  pub relisting : IsRelisting c r
+  pub enrolled : user < length c.users
+  pub there : is_some (living_at c.files file) ≡ true
+  pub node : r.node ≡ (filed_at c file).node
+  pub wants : wants_after (outline c) r 0 (outline c).files
+      ≡ wants_of (grown (outline c) u) (lists_after (lists_of (outline c)) u)
+  pub rest : refusal_at c u ≡ room_refusal
+      (with_wants c.surface.sets (wants_after (outline c) r 0 (outline c).files)) c.epoch
 
 -- what grows by a grant: an access token, where there is one
 abbrev pub access_of : ℕ → ℕ → Option Token → Growth

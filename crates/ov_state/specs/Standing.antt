@@ -1,5 +1,5 @@
 -- What a state stands for, before and after a change.
-use Rattle.std.specs.Prelude.{◌≡◌, ◌↔◌, ℕ, ◌<◌, List, length, slice_get, Some, None, true, Result}
+use Rattle.std.specs.Prelude.{◌≡◌, ◌↔◌, ℕ, ◌<◌, List, length, Some, None, true, Result}
 use Rattle.std.specs.Prelude.{Ok, Err}
 use Rattle.ov_record.specs.Updates.{SealedUpdate}
 use Rattle.ov_history.specs.History.{matrix_of}
@@ -7,6 +7,7 @@ use Rattle.ov_history.specs.Layers.{layers_of}
 use Rattle.ov_history.specs.Lists.{is_listed}
 use Rattle.ov_history.specs.Refusals.{refusal_of}
 use Rattle.ov_history.specs.Briefs.{Brief as PlainBrief, brief, outer}
+use Rattle.ov_history.specs.Places.{living_at}
 use Rattle.ov_history.specs.Catalogue.{Filed, Catalogue}
 use Rattle.ov_history.specs.Sealed.{SealedHistory, HasParts, StandsFor, outer_of, with_sealed}
 use Rattle.ov_history.specs.Closure.{HoldsFile}
@@ -28,7 +29,7 @@ GoesOn limit old change new =
 abbrev pub ClosuresAreMatrix : Type 0
 ClosuresAreMatrix =
     (c : Catalogue) (master : List ℕ) (g : SealedHistory) (user file : ℕ) (f : Filed)
-    → StandsFor master c g → user < length c.users → slice_get c.files file ≡ Some f
+    → StandsFor master c g → user < length c.users → living_at c.files file ≡ Some f
     → HoldsFile c user f ↔ (is_listed (matrix_of (outer_of g)) user file ≡ true)
 
 -- for every sealed history for which the old catalogue stood and every update whose change this is,
@@ -38,7 +39,7 @@ abbrev pub ClosuresFollow : {W : ℕ} → ℕ → Catalogue → Change W → Cat
 ClosuresFollow limit old change new =
     (master : List ℕ) (g : SealedHistory) (u : SealedUpdate) (user file : ℕ) (f : Filed)
     → StandsFor master old g → IsChange limit master old (brief u) change
-    → user < length new.users → slice_get new.files file ≡ Some f
+    → user < length new.users → living_at new.files file ≡ Some f
     → HoldsFile new user f
     ↔ (is_listed (matrix_of (outer_of (with_sealed g u))) user file ≡ true)
 

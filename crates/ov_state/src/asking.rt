@@ -1,18 +1,18 @@
 //! What an owner is told before an update.
-ghost use Rattle.std.specs.Prelude.{◌≡◌, ◌<◌, ◌≤◌, ◌*◌, Contains, None, false, not, length};
-ghost use Rattle.ov_base.specs.Sets.{has, single};
+ghost use Rattle.std.specs.Prelude.{◌≡◌, ◌<◌, ◌≤◌, ◌*◌, Contains, is_some, length, true};
+ghost use Rattle.ov_base.specs.Sets.{single};
 ghost use Rattle.ov_base.specs.declared.limits.TheConstants.{MAX_SET_WORDS};
 ghost use Rattle.ov_history.specs.Asking.{file_named, key_refusal, newcomer, of_both, of_grant};
 ghost use Rattle.ov_history.specs.Asking.{of_user, refusal_at, user_named};
-ghost use Rattle.ov_history.specs.Catalogue.{outline};
 ghost use Rattle.ov_history.specs.History.{Enrolled, Granted, Revoked};
-ghost use Rattle.ov_history.specs.Layers.{holders, node_of, root_of, with_wants};
-ghost use Rattle.ov_state.specs.Asking.{numbers_of, Asks, AsksWhether, Passes, Tells};
-ghost use Rattle.ov_state.specs.Relistings.{room_refusal, wants_after, IsRelisting};
+ghost use Rattle.ov_history.specs.Layers.{root_of};
+ghost use Rattle.ov_history.specs.Places.{living_at};
+ghost use Rattle.ov_state.specs.Asking.{numbers_of, Asks, Tells};
 
 use crate::chains::root;
 use crate::fault::ChainFault;
-use crate::relisting::Relisting;
+use crate::new_sets::NewSets;
+use crate::relisting::Verb;
 use crate::state::State;
 use ov_base::{Name, Refusal};
 use ov_base_layer::BaseLayer;
@@ -84,56 +84,13 @@ impl<B: Graph<Base, W>, S: Graph<Surface, W>, const W: usize> State<B, S, W> {
     /// What is told of a user and a file.
     fn told_of_both(&self, user: u32, file: u32) -> Asked
         requires user { user < length self.now.catalogue.users }
-        requires file { file < length self.now.catalogue.files }
+        requires file { is_some (living_at self.now.catalogue.files file) ≡ true }
         ensures { numbers_of result ≡ of_both self.now.catalogue user file }
     {
         let mut asked = self.told_of_user(user);
         asked.file = file;
         asked.node = self.entry(file).node;
         asked
-    }
-
-    /// Whether there is room for the surface nodes of all files after a relisting, and an epoch
-    /// comes after this one.
-    fn room_after(&self, alloc: Global, relisting: &Relisting<W>) -> Result<(), ChainFault>
-        requires { IsRelisting self.now.catalogue relisting.now }
-        ensures { let y = outline self.now.catalogue in
-            let sets = with_wants y.surface (wants_after y relisting.now 0 y.files) in
-            Passes (room_refusal sets y.epoch) result }
-    {
-        self.known();
-        self.new_sets(alloc, relisting)?;
-        if self.is_spent() {
-            return Err(ChainFault::Refused(Refusal::Spent));
-        }
-        Ok(())
-    }
-
-    /// Whether a grant needs an access token, where it isn't refused.
-    fn wants_access(&self, alloc: Global, user: u32, file: u32) -> Result<bool, ChainFault>
-        ensures { let c = self.now.catalogue in AsksWhether (refusal_at c (Granted user file))
-            (not (has (holders (outline c) (node_of (outline c) file)) user)) result }
-    {
-        self.known();
-        let listing = self.listing(user, file)?;
-        if listing.list.contains(user) {
-            return Err(ChainFault::Refused(Refusal::Listed));
-        }
-        let is_holder = listing.before.contains(user);
-        self.room_after(alloc, &listing.granted(user))?;
-        Ok(!is_holder)
-    }
-
-    /// Whether a revocation isn't refused.
-    fn passes_revoke(&self, alloc: Global, user: u32, file: u32) -> Result<(), ChainFault>
-        ensures { Passes (refusal_at self.now.catalogue (Revoked user file)) result }
-    {
-        self.known();
-        let listing = self.listing(user, file)?;
-        if !listing.list.contains(user) {
-            return Err(ChainFault::Refused(Refusal::NotListed));
-        }
-        self.room_after(alloc, &listing.revoked(user))
     }
 
     /// What is told of a user who is to be enrolled: which numbers the user and both roots will
@@ -166,9 +123,10 @@ impl<B: Graph<Base, W>, S: Graph<Surface, W>, const W: usize> State<B, S, W> {
         self.known();
         let user = self.user_or_next(user);
         let file = self.file_or_next(file);
-        let wants = self.wants_access(alloc, user, file)?;
+        let relisting = self.decided(user, file, Verb::Grant)?;
+        self.over_wants(&relisting, &mut NewSets::new(alloc))?;
         let mut asked = self.told_of_both(user, file);
-        asked.wants = wants;
+        asked.wants = !relisting.before.contains(user);
         Ok(asked)
     }
 
@@ -182,7 +140,8 @@ impl<B: Graph<Base, W>, S: Graph<Surface, W>, const W: usize> State<B, S, W> {
         self.known();
         let user = self.user_or_next(user);
         let file = self.file_or_next(file);
-        self.passes_revoke(alloc, user, file)?;
+        let relisting = self.decided(user, file, Verb::Revoke)?;
+        self.over_wants(&relisting, &mut NewSets::new(alloc))?;
         Ok(self.told_of_both(user, file))
     }
 

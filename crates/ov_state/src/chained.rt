@@ -1,6 +1,7 @@
 //! What a reader needs to read a file.
-ghost use Rattle.std.specs.Prelude.{◌<◌, length, IfOk};
+ghost use Rattle.std.specs.Prelude.{◌≡◌, ◌<◌, is_some, length, true, IfOk};
 ghost use Rattle.ov_base.specs.Sets.{Has};
+ghost use Rattle.ov_history.specs.Places.{living_at};
 ghost use Rattle.ov_history.specs.Keys.{AreTrueTokens};
 ghost use Rattle.ov_history.specs.Layers.{list_at};
 ghost use Rattle.ov_history.specs.Masters.{Masters};
@@ -37,6 +38,7 @@ impl<B: Graph<Base, W>, S: Graph<Surface, W>, const W: usize> State<B, S, W> {
         ensures { AnswersReader self.now.catalogue user.now file.now result }
     {
         self.known();
+        self.files_known();
         let Some(user) = self.user_number(user) else {
             return Err(Refusal::NoUser);
         };
@@ -53,7 +55,7 @@ impl<B: Graph<Base, W>, S: Graph<Surface, W>, const W: usize> State<B, S, W> {
     /// The chains of a user who is in the file's list.
     fn chained(&self, alloc: Global, user: u32, file: u32) -> Result<Chained, Memory>
         requires user { user < length self.now.catalogue.users }
-        requires file { file < length self.now.catalogue.files }
+        requires file { is_some (living_at self.now.catalogue.files file) ≡ true }
         requires listed { Has (list_at (outline self.now.catalogue)
             (place_of_file (filed_at self.now.catalogue file))) user }
         ensures { IfOk result (λ chained. IsChained self.now.catalogue user file chained) }

@@ -53,7 +53,7 @@ impl<B: Graph<Base, W>, S: Graph<Surface, W>, const W: usize> State<B, S, W> {
         let cover = self.base.plan_create(alloc, list)?;
         let holders = self.holders_then(&cover, list);
         let mut new = NewSets::new(alloc);
-        new.add(&self.surface, wanted(self.mode, list, &holders))?;
+        new.add(&self.surface, &wanted(self.mode, list, &holders))?;
         Ok(cover)
     }
 
@@ -96,6 +96,7 @@ impl<B: Graph<Base, W>, S: Graph<Surface, W>, const W: usize> State<B, S, W> {
         ensures { let c = self.now.catalogue in
             Plans c name.now (set_named c.users names.now) size result }
     {
+        self.files_known();
         if self.has_file(name) {
             return Err(ChainFault::Refused(Refusal::Taken));
         }

@@ -1,6 +1,6 @@
 //! Why a state answers no change, or no chain.
 ghost use Rattle.std.specs.Prelude.{◌≡◌};
-ghost use Rattle.ov_state.specs.Faults.{chain_fault_of, fault_of};
+ghost use Rattle.ov_state.specs.Faults.{chain_fault_of, fault_of, prepare_fault_of};
 ghost use Rattle.ov_state.specs.declared.fault.PrepareFault.TheVariants.{Memory as NoMemory};
 ghost use Rattle.ov_state.specs.declared.fault.PrepareFault.TheVariants.{Refused};
 ghost use Rattle.ov_state.specs.declared.fault.ChainFault.TheVariants.{Memory as NoChainMemory};
@@ -45,6 +45,17 @@ impl From<GraphRefusal> for PrepareFault {
         match why {
             GraphRefusal::NodesFull => PrepareFault::Refused(Refusal::NodesFull),
             GraphRefusal::Memory => PrepareFault::Memory,
+        }
+    }
+}
+
+impl From<ChainFault> for PrepareFault {
+    ghost from_gives = { λ why fault. fault ≡ prepare_fault_of why };
+
+    fn from(why: ChainFault) -> Self {
+        match why {
+            ChainFault::Refused(why) => PrepareFault::Refused(why),
+            ChainFault::Memory => PrepareFault::Memory,
         }
     }
 }

@@ -1,9 +1,9 @@
 //! Files by number, and by name.
 ghost use Rattle.std.specs.Prelude.{◌≡◌, ◌<◌, ◌≤◌, ◌++◌, ◌∷◌, [], false, length, option_map};
-ghost use Rattle.std.specs.Prelude.{slice_get, OnOk};
+ghost use Rattle.std.specs.Prelude.{is_some, true, OnOk, Some, ℕ};
 ghost use Rattle.ov_base.specs.NameLists.{is_among};
 ghost use Rattle.ov_base.specs.declared.limits.TheConstants.{MAX_FILES};
-ghost use Rattle.ov_history.specs.Places.{change_at, IsNumber};
+ghost use Rattle.ov_history.specs.Places.{change_at, living_at, IsNumber};
 ghost use Rattle.ov_state.specs.Entries.{filed_names, plain_file};
 ghost use Rattle.ov_state.specs.Changes.{rewritten};
 
@@ -65,9 +65,17 @@ impl Files {
         self.list.len() as u32
     }
 
+    /// Does nothing. Its contract is what holds of every list of files: each of them is there.
+    pub fn known(&self)
+        ensures { (file : ℕ) → file < length self.now.files
+            → is_some (living_at self.now.files file) ≡ true }
+    {
+        let _ = &self.list;
+    }
+
     /// The file of this number.
     pub fn get(&self, file: u32) -> Option<&FileEntry>
-        ensures { option_map (λ f. plain_file f.now) result ≡ slice_get self.now.files file }
+        ensures { option_map (λ f. plain_file f.now) result ≡ living_at self.now.files file }
     {
         self.list.get(file as usize)
     }
@@ -76,6 +84,8 @@ impl Files {
     pub fn number_of(&self, name: &Name) -> Option<u32>
         ensures { IsNumber (filed_names self.now.files) name.now result }
     {
+        // A name isn't empty, so no file that is gone is found by it.
+        let _bytes = name.as_bytes();
         self.numbers.get(name).copied()
     }
 
@@ -94,7 +104,7 @@ impl Files {
         requires fresh { is_among file.name (filed_names self.old.files) ≡ false }
         requires few { length self.old.files < MAX_FILES }
         requires room { 1 ≤ self.old.spare }
-        ensures { self.new.files ≡ self.old.files ++ plain_file file ∷ [] }
+        ensures { self.new.files ≡ self.old.files ++ Some (plain_file file) ∷ [] }
     {
         let number = self.list.len() as u32;
         let _ = self.numbers.insert(file.name.copy(), number);
@@ -104,7 +114,8 @@ impl Files {
     /// Gives a file its new surface, from this epoch on.
     pub fn rewrite(&mut self, rewrite: Rewrite, epoch: u32)
         requires { rewrite.file < length self.old.files }
-        ensures { self.new.files ≡ change_at (rewritten epoch rewrite) rewrite.file self.old.files }
+        ensures { let one = option_map (rewritten epoch rewrite) in
+            self.new.files ≡ change_at one rewrite.file self.old.files }
     {
         let file = &mut self.list[rewrite.file as usize];
         file.surface = rewrite.new;

@@ -8,9 +8,11 @@
 //! ```text
 //! Brief ── prepare ────────────────────────────────────────────────┐
 //!   lookup      why it is refused: names, numbers, limits          │
-//!   relisting   the list that changes         site  a new file's   │
+//!   relisting   the list that changes, or why not                  │
+//!   site        a new file's place                                 │
 //!   remembering the base cover, where it was asked for before      │
-//!   rewrites    the wanted surface of each file of the base node   │
+//!   collecting  the wanted surface of each file of the base node   │
+//!   rewrites    the files that get another surface by it           │
 //!   new_nodes   the surface nodes that these need                  │
 //!   plan_new, plan_list     all that as a change                   │
 //!   room        the memory that it takes                           │
@@ -47,8 +49,10 @@
 //!   which is read off the layers.
 //! * `ask_enrol`, `ask_grant`, `ask_revoke` and `cover` tell an owner, before an update, the
 //!   numbers that it needs, or why the update would be refused. They touch no bytes, and plan no
-//!   surface nodes: of these they only count which sets would be new. What `cover` told can be
-//!   given back by [`State::remember`], so that the creation needn't plan it again.
+//!   surface nodes: of these they only count which sets would be new. A question and its update
+//!   take the same steps: one decision on the list, and one pass over the files that may move, with
+//!   two collectors. What `cover` told can be given back by [`State::remember`], so that the
+//!   creation needn't plan it again.
 //! * [`State::chain`] is refused exactly where a read is, unless memory is. It gives a reader of a
 //!   file the chains from the reader's two roots to the file's keys ([`Chained`]); over true tokens
 //!   they lead to these keys, and [`access_key_by`] walks the one of the base layer.
@@ -81,6 +85,7 @@ mod chained;
 mod chains;
 mod change;
 mod closures;
+mod collecting;
 mod commit;
 mod covering;
 mod fault;

@@ -1,6 +1,7 @@
 //! What plans look up in a state.
-ghost use Rattle.std.specs.Prelude.{◌≡◌, ◌<◌, ◌≤◌, ◌+◌, ◌*◌, ◌||◌, Some, length, nat_le, nat_lt};
-ghost use Rattle.std.specs.Prelude.{slice_get, IfSome};
+ghost use Rattle.std.specs.Prelude.{◌≡◌, ◌<◌, ◌≤◌, ◌+◌, ◌*◌, ◌||◌, Some, ℕ, length, nat_le, nat_lt};
+ghost use Rattle.std.specs.Prelude.{is_some, true, IfSome};
+ghost use Rattle.ov_history.specs.Places.{living_at};
 ghost use Rattle.ov_base.specs.NameLists.{is_among};
 ghost use Rattle.ov_base.specs.Sets.{within};
 ghost use Rattle.ov_base.specs.declared.limits.TheConstants.{MAX_FILES, MAX_FILE_BYTES};
@@ -41,11 +42,19 @@ impl<B: Graph<Base, W>, S: Graph<Surface, W>, const W: usize> State<B, S, W> {
         (user as usize) < self.users.len()
     }
 
+    /// Does nothing. Its contract is that each file is there.
+    pub(crate) fn files_known(&self)
+        ensures { (file : ℕ) → file < length self.now.catalogue.files
+            → is_some (living_at self.now.catalogue.files file) ≡ true }
+    {
+        self.files.known();
+    }
+
     /// Whether there is a file of this number.
     pub(crate) fn is_file(&self, file: u32) -> bool
-        ensures { result ≡ nat_lt file (length self.now.catalogue.files) }
+        ensures { result ≡ is_some (living_at self.now.catalogue.files file) }
     {
-        file < self.files.count()
+        self.files.get(file).is_some()
     }
 
     /// Whether a user has this name.
@@ -72,8 +81,8 @@ impl<B: Graph<Base, W>, S: Graph<Surface, W>, const W: usize> State<B, S, W> {
 
     /// The file of a number.
     pub(crate) fn entry(&self, file: u32) -> &FileEntry
-        requires { file < length self.now.catalogue.files }
-        ensures kept { slice_get self.now.catalogue.files file ≡ Some (plain_file result.now) }
+        requires { is_some (living_at self.now.catalogue.files file) ≡ true }
+        ensures kept { living_at self.now.catalogue.files file ≡ Some (plain_file result.now) }
         ensures placed { IsPlaced self.now.catalogue (plain_file result.now) }
     {
         self.known();

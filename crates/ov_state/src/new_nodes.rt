@@ -6,10 +6,9 @@ ghost use Rattle.ov_state.specs.Relistings.{nodes_planned, with_want, ArePlanned
 ghost use Rattle.ov_state.specs.Relistings.{IsSurfaceFor};
 
 use crate::change::NewNode;
-use crate::fault::PrepareFault;
 use ov_base::{Memory, UserSet};
 use ov_base_layer::seal_edges;
-use ov_graph::{Cover, Graph};
+use ov_graph::{Cover, Graph, GraphRefusal};
 use ov_tokens::{Master, Surface, Tokens};
 use std::alloc::Global;
 
@@ -33,13 +32,17 @@ impl<const W: usize> NewNodes<W> {
     }
 
     /// Appends a node.
-    fn push(&mut self, set: UserSet<W>, cover: Cover, tokens: Tokens) -> Result<(), Memory>
+    fn push(&mut self, set: &UserSet<W>, cover: Cover, tokens: Tokens) -> Result<(), Memory>
         ensures nodes { OnOk result (self.new.nodes.items ≡ self.old.nodes.items
-            ++ record { set = set.entry; cover = cover; tokens = tokens } ∷ []) }
-        ensures sets { OnOk result (self.new.sets.items ≡ self.old.sets.items ++ set.entry ∷ []) }
+            ++ record { set = set.now; cover = cover; tokens = tokens } ∷ []) }
+        ensures sets { OnOk result (self.new.sets.items ≡ self.old.sets.items ++ set.now ∷ []) }
     {
         self.sets.push(set.copy())?;
-        self.nodes.push(NewNode { set, cover, tokens })?;
+        self.nodes.push(NewNode {
+            set: set.copy(),
+            cover,
+            tokens,
+        })?;
         Ok(())
     }
 
@@ -49,16 +52,16 @@ impl<const W: usize> NewNodes<W> {
         alloc: Global,
         graph: &S,
         master: &Master,
-        set: UserSet<W>,
-    ) -> Result<u32, PrepareFault>
+        set: &UserSet<W>,
+    ) -> Result<u32, GraphRefusal>
         requires planned { ArePlanned (S.contents graph.now).sets self.old }
-        requires rooted { IsRooted (S.contents graph.now).sets set }
+        requires rooted { IsRooted (S.contents graph.now).sets set.now }
         ensures ok { IfOk result (λ node. IsSurfaceFor master.now.bytes
-            (nodes_of (S.contents graph.now)) (Some set.entry) self.old self.new (Some node)) }
+            (nodes_of (S.contents graph.now)) (Some set.now) self.old self.new (Some node)) }
         ensures err { IfErr result (IsFull (with_want master.now.bytes
-            (nodes_planned (nodes_of (S.contents graph.now)) self.old) (Some set.entry)).sets) }
+            (nodes_planned (nodes_of (S.contents graph.now)) self.old) (Some set.now)).sets) }
     {
-        let cover = graph.plan(alloc, &self.sets, &set)?;
+        let cover = graph.plan(alloc, &self.sets, set)?;
         let node = cover.node;
         if cover.fresh {
             let tokens = seal_edges::<Surface>(alloc, master, &cover)?;
@@ -74,14 +77,14 @@ impl<const W: usize> NewNodes<W> {
         alloc: Global,
         graph: &S,
         master: &Master,
-        want: Option<UserSet<W>>,
-    ) -> Result<Option<u32>, PrepareFault>
+        want: &Option<UserSet<W>>,
+    ) -> Result<Option<u32>, GraphRefusal>
         requires planned { ArePlanned (S.contents graph.now).sets self.old }
-        requires rooted { IfSome want (IsRooted (S.contents graph.now).sets) }
+        requires rooted { IfSome want.now (IsRooted (S.contents graph.now).sets) }
         ensures ok { IfOk result (IsSurfaceFor master.now.bytes (nodes_of (S.contents graph.now))
-            want.entry self.old self.new) }
+            want.now self.old self.new) }
         ensures err { IfErr result (IsFull (with_want master.now.bytes
-            (nodes_planned (nodes_of (S.contents graph.now)) self.old) want.entry).sets) }
+            (nodes_planned (nodes_of (S.contents graph.now)) self.old) want.now).sets) }
     {
         match want {
             Some(set) => Ok(Some(self.node_for(alloc, graph, master, set)?)),

@@ -1,20 +1,16 @@
 //! Surface sets that an update would add, where no update is planned.
-ghost use Rattle.std.specs.Prelude.{◌≡◌, ◌<◌, ◌≤◌, ◌+◌, ◌++◌, ◌∷◌, [], length, not, take, IfErr};
-ghost use Rattle.std.specs.Prelude.{IfOk, OnOk, Some};
+ghost use Rattle.std.specs.Prelude.{◌≡◌, ◌<◌, ◌≤◌, ◌+◌, ◌++◌, ◌∷◌, [], length, not, IfErr, OnOk};
 ghost use Rattle.ov_base.specs.declared.limits.TheConstants.{MAX_LAYER_NODES};
 ghost use Rattle.ov_graph.specs.Contents.{plan_of};
-ghost use Rattle.ov_history.specs.Catalogue.{outline};
 ghost use Rattle.ov_history.specs.Layers.{with_set, with_wants};
-ghost use Rattle.ov_state.specs.Faults.{fault_of};
-ghost use Rattle.ov_state.specs.NewSets.{AreNew};
-ghost use Rattle.ov_state.specs.Relistings.{wants_after, IsFull, IsRelisting};
+ghost use Rattle.ov_state.specs.Relistings.{IsFull};
 
-use crate::relisting::Relisting;
-use crate::state::State;
+use crate::collecting::Collector;
+use crate::files::FileEntry;
 use ov_base::limits::MAX_LAYER_NODES;
 use ov_base::{Memory, UserSet};
 use ov_graph::{Graph, GraphRefusal};
-use ov_tokens::{Base, Surface};
+use ov_tokens::Surface;
 use std::alloc::Global;
 
 /// The sets that an update would add to those of the surface layer, in order, each once.
@@ -42,10 +38,10 @@ impl<const W: usize> NewSets<W> {
     }
 
     /// Appends a set.
-    fn push(&mut self, set: UserSet<W>) -> Result<(), Memory>
-        ensures { OnOk result (self.new.sets.items ≡ self.old.sets.items ++ set.entry ∷ []) }
+    fn push(&mut self, set: &UserSet<W>) -> Result<(), Memory>
+        ensures { OnOk result (self.new.sets.items ≡ self.old.sets.items ++ set.now ∷ []) }
     {
-        self.sets.push(set)?;
+        self.sets.push(set.copy())?;
         Ok(())
     }
 
@@ -53,20 +49,20 @@ impl<const W: usize> NewSets<W> {
     fn add_set<S: Graph<Surface, W>>(
         &mut self,
         graph: &S,
-        set: UserSet<W>,
+        set: &UserSet<W>,
     ) -> Result<(), GraphRefusal>
         requires { length (S.contents graph.now).sets + length self.old.sets.items
             ≤ MAX_LAYER_NODES }
         ensures sets { let sets = (S.contents graph.now).sets in
-            let all = with_set (sets ++ self.old.sets.items) set.entry in
+            let all = with_set (sets ++ self.old.sets.items) set.now in
             OnOk result (sets ++ self.new.sets.items ≡ all) }
         ensures few { OnOk result (length (S.contents graph.now).sets + length self.new.sets.items
             ≤ MAX_LAYER_NODES) }
         ensures full { let sets = (S.contents graph.now).sets in
-            let all = with_set (sets ++ self.old.sets.items) set.entry in
-            IfErr result (λ why. IsFull all (fault_of why)) }
+            let all = with_set (sets ++ self.old.sets.items) set.now in
+            IfErr result (IsFull all) }
     {
-        if self.has(graph, &set) {
+        if self.has(graph, set) {
             return Ok(());
         }
         if graph.count() as usize + self.sets.len() >= MAX_LAYER_NODES as usize {
@@ -81,18 +77,18 @@ impl<const W: usize> NewSets<W> {
     pub fn add<S: Graph<Surface, W>>(
         &mut self,
         graph: &S,
-        want: Option<UserSet<W>>,
+        want: &Option<UserSet<W>>,
     ) -> Result<(), GraphRefusal>
         requires { length (S.contents graph.now).sets + length self.old.sets.items
             ≤ MAX_LAYER_NODES }
         ensures sets { let sets = (S.contents graph.now).sets in
-            let all = with_wants (sets ++ self.old.sets.items) (want.entry ∷ []) in
+            let all = with_wants (sets ++ self.old.sets.items) (want.now ∷ []) in
             OnOk result (sets ++ self.new.sets.items ≡ all) }
         ensures few { OnOk result (length (S.contents graph.now).sets + length self.new.sets.items
             ≤ MAX_LAYER_NODES) }
         ensures full { let sets = (S.contents graph.now).sets in
-            let all = with_wants (sets ++ self.old.sets.items) (want.entry ∷ []) in
-            IfErr result (λ why. IsFull all (fault_of why)) }
+            let all = with_wants (sets ++ self.old.sets.items) (want.now ∷ []) in
+            IfErr result (IsFull all) }
     {
         match want {
             Some(set) => self.add_set(graph, set),
@@ -101,53 +97,20 @@ impl<const W: usize> NewSets<W> {
     }
 }
 
-impl<B: Graph<Base, W>, S: Graph<Surface, W>, const W: usize> State<B, S, W> {
-    /// Adds the wanted set of one file more, by number.
-    fn add_want(
-        &self,
-        relisting: &Relisting<W>,
-        file: u32,
-        new: &mut NewSets<W>,
-    ) -> Result<(), GraphRefusal>
-        requires relisting { IsRelisting self.now.catalogue relisting.now }
-        requires file { file < length self.now.catalogue.files }
-        requires new { let y = outline self.now.catalogue in
-            AreNew y.surface (take file (wants_after y relisting.now 0 y.files))
-            new.old.sets.items }
-        ensures ok { let y = outline self.now.catalogue in OnOk result
-            (AreNew y.surface (take (file + 1) (wants_after y relisting.now 0 y.files))
-            new.new.sets.items) }
-        ensures err { let y = outline self.now.catalogue in IfErr result
-            (λ why. IsFull (with_wants y.surface
-            (take (file + 1) (wants_after y relisting.now 0 y.files))) (fault_of why)) }
-    {
-        self.known();
-        let entry = self.entry(file);
-        if !self.may_move(relisting, file, entry) {
-            return Ok(());
-        }
-        new.add(&self.surface, self.want(relisting, file, entry))
+impl<S: Graph<Surface, W>, const W: usize> Collector<S, W> for NewSets<W> {
+    ghost use Rattle.ov_state.specs.NewSets.{AreNew};
+
+    ghost has = { λ _ c wants new. AreNew c.surface.sets wants new.sets.items };
+
+    fn collect(
+        &mut self,
+        graph: &S,
+        _: u32,
+        _: &FileEntry,
+        want: &Option<UserSet<W>>,
+    ) -> Result<(), GraphRefusal> {
+        self.add(graph, want)
     }
 
-    /// The surface sets that the files' wanted surfaces need after a relisting, beside those that
-    /// are there. Nothing is planned for them.
-    pub(crate) fn new_sets(
-        &self,
-        alloc: Global,
-        relisting: &Relisting<W>,
-    ) -> Result<NewSets<W>, GraphRefusal>
-        requires { IsRelisting self.now.catalogue relisting.now }
-        ensures ok { let y = outline self.now.catalogue in IfOk result
-            (λ new. AreNew y.surface (wants_after y relisting.now 0 y.files) new.sets.items) }
-        ensures err { let y = outline self.now.catalogue in IfErr result
-            (λ why. IsFull (with_wants y.surface (wants_after y relisting.now 0 y.files))
-            (fault_of why)) }
-    {
-        self.known();
-        let mut new = NewSets::new(alloc);
-        for file in 0..self.files.count() {
-            self.add_want(relisting, file, &mut new)?;
-        }
-        Ok(new)
-    }
+    fn known(&self) {}
 }

@@ -114,6 +114,7 @@ impl<B: Graph<Base, W>, S: Graph<Surface, W>, const W: usize> State<B, S, W> {
         requires { size ≤ MAX_FILE_BYTES }
         ensures { result ≡ first_of_tests (tests_before self.now.catalogue name.now list.now size) }
     {
+        self.files_known();
         if self.has_file(name) {
             Some(Refusal::Taken)
         } else if !self.has_all(list) {
@@ -184,6 +185,7 @@ impl<B: Graph<Base, W>, S: Graph<Surface, W>, const W: usize> State<B, S, W> {
             (BriefCreate name list.entry tokens tag size) result }
     {
         self.known();
+        self.files_known();
         if let Some(why) = self.refusal_create(&name, &list, size) {
             return Err(PrepareFault::Refused(why));
         }

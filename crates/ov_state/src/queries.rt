@@ -4,7 +4,8 @@ ghost use Rattle.std.specs.Option.{option_copied};
 ghost use Rattle.ov_history.specs.Catalogue.{filed_at, matrix_shown, outline, place_of_file};
 ghost use Rattle.ov_history.specs.Layers.{list_at};
 ghost use Rattle.ov_history.specs.Lists.{file_names};
-ghost use Rattle.ov_history.specs.Places.{IsNumber};
+ghost use Rattle.ov_history.specs.Places.{living_at, IsNumber};
+ghost use Rattle.std.specs.Prelude.{is_some, true};
 ghost use Rattle.ov_state.specs.Contents.{nodes_of, IsWell};
 ghost use Rattle.ov_state.specs.Entries.{plain_file};
 ghost use Rattle.ov_state.specs.Queries.{sizes_of, AnswersList};
@@ -105,14 +106,14 @@ impl<B: Graph<Base, W>, S: Graph<Surface, W>, const W: usize> State<B, S, W> {
     /// The file of this number.
     pub fn file_at(&self, file: u32) -> Option<&FileEntry>
         ensures { option_map (λ f. plain_file f.now) result
-            ≡ slice_get self.now.catalogue.files file }
+            ≡ living_at self.now.catalogue.files file }
     {
         self.files.get(file)
     }
 
     /// The list of the file of this number. It takes no memory.
     pub fn list_of(&self, file: u32) -> UserSet<W>
-        requires { file < length self.now.catalogue.files }
+        requires { is_some (living_at self.now.catalogue.files file) ≡ true }
         ensures { result ≡ list_at (outline self.now.catalogue)
             (place_of_file (filed_at self.now.catalogue file)) }
     {
@@ -124,6 +125,7 @@ impl<B: Graph<Base, W>, S: Graph<Surface, W>, const W: usize> State<B, S, W> {
     pub fn list(&self, file: &Name) -> Result<UserSet<W>, Refusal>
         ensures { AnswersList self.now.catalogue file.now result }
     {
+        self.files_known();
         match self.file_number(file) {
             Some(number) => Ok(self.list_of(number)),
             None => Err(Refusal::NoFile),

@@ -65,7 +65,7 @@ impl<B: Graph<Base, W>, S: Graph<Surface, W>, const W: usize> State<B, S, W> {
         let holders = self.holders_then(&cover, list);
         let want = wanted(self.mode, list, &holders);
         let mut new = NewNodes::new(alloc);
-        let to = new.surface_for(alloc, &self.surface, master, want)?;
+        let to = new.surface_for(alloc, &self.surface, master, &want)?;
         let NewNodes { nodes, sets: _ } = new;
         Ok(Site {
             cover,

@@ -16,7 +16,7 @@ use std::alloc::Global;
 use std::marker::Model;
 
 /// How many words a set of users has, each of 64 users: as many as hold all users of a store.
-pub const WIDTH: usize = 4;
+pub const WIDTH: usize = ov_base::limits::SET_WORDS;
 
 /// The graph of keys in which a store keeps a layer.
 pub type LayerGraph<L> = IndexGraph<L, WIDTH>;

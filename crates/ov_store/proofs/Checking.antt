@@ -5,6 +5,7 @@ use Rattle.ov_base.specs.declared.mode.Mode.{Mode}
 use Rattle.ov_disk.specs.Disk.{Image}
 use Rattle.ov_record.specs.Updates.{SealedUpdate}
 use Rattle.ov_record.specs.Spelling.{spelling, HasForm}
+use Rattle.ov_record.specs.Forms.{first_form}
 use Rattle.ov_history.specs.History.{History, start_of, with_update}
 use Rattle.ov_history.specs.Layers.{Layers, layers_of}
 use Rattle.ov_history.specs.Briefs.{brief, outer}
@@ -34,8 +35,8 @@ pub record Nth (us : List SealedUpdate) (i : ℕ) : Type 0 where
   pub rest : List SealedUpdate
   pub split : us ≡ take i us ++ update ∷ rest
   pub more : take (i + 1) us ≡ take i us ++ update ∷ []
-  pub body : get_or (bodies_of us) i [] ≡ spelling 32 update
-  pub form : HasForm 32 update
+  pub body : get_or (bodies_of us) i [] ≡ spelling first_form update
+  pub form : HasForm first_form update
 
 nth : (us : List SealedUpdate) (i : ℕ) → AllHaveForm us → i < length us → Nth us i
 nth [] i all lt = absurd (omega (arith, lt))
@@ -56,7 +57,7 @@ nth (u ∷ us) (suc i) all lt =
 take-bodies : (us : List SealedUpdate) (i : ℕ) → take i (bodies_of us) ≡ bodies_of (take i us)
 take-bodies us zero = refl
 take-bodies [] (suc i) = refl
-take-bodies (u ∷ us) (suc i) = ap (λ (l : List (List ℕ)). spelling 32 u ∷ l) (take-bodies us i)
+take-bodies (u ∷ us) (suc i) = ap (λ (l : List (List ℕ)). spelling first_form u ∷ l) (take-bodies us i)
 
 -- one more that is as its owner seals it
 owners_push : (k : Masters) (h : History) (us : List SealedUpdate) (u : SealedUpdate)

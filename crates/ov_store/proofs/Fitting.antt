@@ -8,6 +8,7 @@ use Rattle.ov_graph.proofs.GraphLaws.{plan-few}
 use Rattle.ov_tokens.specs.declared.token.Token.{Token}
 use Rattle.ov_record.specs.Updates.{SealedUpdate, SealedEnrol, SealedCreate, SealedGrant, SealedRevoke}
 use Rattle.ov_record.specs.Spelling.{HasForm}
+use Rattle.ov_record.specs.Forms.{first_form}
 use Rattle.ov_history.specs.Briefs.{brief}
 use Rattle.ov_history.specs.Layers.{Layers}
 use Rattle.ov_history.specs.Sealed.{HasParts}
@@ -23,7 +24,7 @@ too_many name list tokens tag text below many y parts =
     omega (arith, many, parts, plan-few y.base list, most)
 
 -- what has a spelling has a file that isn't too long
-pub fitting : (u : SealedUpdate) → HasForm 32 u → IsFitting (brief u)
+pub fitting : (u : SealedUpdate) → HasForm first_form u → IsFitting (brief u)
 fitting (SealedEnrol name) form = tt
 fitting (SealedCreate name list tokens tag text) form = omega (arith, form.5)
 fitting (SealedGrant user file token) form = tt

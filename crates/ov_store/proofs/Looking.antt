@@ -8,6 +8,7 @@ use Rattle.ov_disk.specs.Moments.{IsUntouched}
 use Rattle.ov_disk.specs.Tells.{DiskTells}
 use Rattle.ov_record.specs.Updates.{SealedUpdate}
 use Rattle.ov_record.specs.Spelling.{spelling}
+use Rattle.ov_record.specs.Forms.{first_form}
 use Rattle.ov_history.specs.Catalogue.{Catalogue}
 use Rattle.ov_history.specs.Masters.{Masters}
 use Rattle.ov_history.specs.Sealed.{IsSealed, SealedHistory, StandsFor, with_sealed}
@@ -52,7 +53,7 @@ read_more k g u i sealed keeps = record {
   begins = record {
     sealed = sealed;
     form = form_front g.updates u keeps.form;
-    rest = spelling 32 u ∷ [];
+    rest = spelling first_form u ∷ [];
     split = ap (λ (x : Contents). x.records.bodies) keeps.book ∙ bodies-push g.updates u;
   };
   head = ap (λ (x : Contents). x.head) keeps.book;

@@ -1,6 +1,8 @@
 -- When an update is as its owner seals it.
 use Rattle.std.proofs.Common.{◌≡◌, ℕ, zero, suc, ◌<◌, ◌≤◌, Bool, true, List, [], ◌∷◌, length, length-append, refl, sym, ◌∙◌, ap, subst, arith}
-use Rattle.std.specs.Prelude.{Some, None, slice_get}
+use Rattle.std.specs.Prelude.{Option, Some, None, is_some}
+use Rattle.std.proofs.lemmas.Bool.{false≢true}
+use Rattle.ov_history.specs.Places.{living_at}
 use Rattle.ov_base.specs.Sets.{has}
 use Rattle.ov_base.proofs.Tests.{false_of_not, true_of_not}
 use Rattle.ov_base.specs.declared.limits.TheConstants.{MAX_LAYER_NODES}
@@ -82,21 +84,20 @@ module _ (k : Masters) (c : Catalogue) (user file : ℕ) where
         apart (cc same)
 
     -- the user and the file are there
-    pub both_there : (user < length c.users) × (file < length c.files)
+    pub both_there : (user < length c.users) × (is_some (living_at c.files file) ≡ true)
     both_there = (accepted c (BriefGrant user file (Some token)) taken.0).0
 
 -- the node of a file that is there
-pub node_there : (c : Catalogue) (file : ℕ) (f : Filed) → slice_get c.files file ≡ Some f
+pub node_there : (c : Catalogue) (file : ℕ) (f : Filed) → living_at c.files file ≡ Some f
     → f.node ≡ node_of (outline c) file
 node_there c file f is =
     ap (λ (g : Filed). g.node) (sym (filed-at c file f is)) ∙ node-shown c file
 
 -- a file that is there is found
-pub is_there : (files : List Filed) (file : ℕ) → file < length files
-    → slice_get files file ≡ None → ⊥
-is_there [] file low none = omega (arith, low)
-is_there (f ∷ files) zero low none = absurd (cc none)
-is_there (f ∷ files) (suc file) low none = is_there files file (omega (arith, low)) none
+pub is_there : (files : List (Option Filed)) (file : ℕ) → is_some (living_at files file) ≡ true
+    → living_at files file ≡ None → ⊥
+is_there files file there none =
+    false≢true (ap (λ (o : Option Filed). is_some o) (sym none) ∙ there)
 
 -- ---- creations
 

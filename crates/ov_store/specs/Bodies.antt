@@ -6,14 +6,15 @@ use Rattle.ov_journal.specs.declared.fault.CheckFault.{CheckFault}
 use Rattle.ov_journal.specs.declared.fault.CheckFault.TheVariants.{Disk as DiskFailed, Memory as NoMemory}
 use Rattle.ov_record.specs.Updates.{SealedUpdate}
 use Rattle.ov_record.specs.Spelling.{spelling, HasForm}
+use Rattle.ov_record.specs.Forms.{first_form}
 use Rattle.ov_history.specs.Briefs.{brief}
 use Rattle.ov_history.specs.Layers.{Layers}
 use Rattle.ov_history.specs.Sealed.{HasParts}
 
 -- the body of the record that keeps the update
 pub record IsBodyOf (u : SealedUpdate) (body : List ℕ) : Type 0 where
-  pub form : HasForm 32 u
-  pub bytes : body ≡ spelling 32 u
+  pub form : HasForm first_form u
+  pub bytes : body ≡ spelling first_form u
 
 -- no layers want the parts that this update has
 abbrev pub HasNoPlan : SealedUpdate → Type 0

@@ -1,5 +1,6 @@
 -- What a store answers to a question for a part of a file's stored bytes.
-use Rattle.std.specs.Prelude.{◌≡◌, ◌≢◌, ℕ, List, [], ◌++◌, take, drop, slice_get, slice_index_or, Some, None, Result, Ok, Err}
+use Rattle.std.specs.Prelude.{◌≡◌, ◌≢◌, ℕ, List, [], ◌++◌, take, drop, slice_index_or, Some, None, Result, Ok, Err}
+use Rattle.ov_history.specs.Places.{living_at}
 use Rattle.ov_history.specs.Catalogue.{Catalogue, Filed}
 use Rattle.ov_store.specs.declared.fault.ChunkFault.{ChunkFault}
 use Rattle.ov_store.specs.declared.fault.ChunkFault.TheVariants.{NoFile, Moved, Disk as DiskFailed, Memory}
@@ -10,13 +11,13 @@ use Rattle.ov_store.specs.declared.fault.ChunkFault.TheVariants.{NoFile, Moved, 
 abbrev pub Chunks : {T : Type 0} → Catalogue → List (List ℕ) → (file generation start count : ℕ)
     → List ℕ → List ℕ → Result T ChunkFault → Type 0
 Chunks c stored file generation start count old new (Ok done) =
-    (f : Filed) × (slice_get c.files file ≡ Some f) × (f.generation ≡ generation)
+    (f : Filed) × (living_at c.files file ≡ Some f) × (f.generation ≡ generation)
     × (new ≡ old ++ take count (drop start (slice_index_or stored file [])))
 Chunks c stored file generation start count old new (Err NoFile) =
-    (slice_get c.files file ≡ None) × (new ≡ old)
+    (living_at c.files file ≡ None) × (new ≡ old)
 Chunks c stored file generation start count old new (Err (Moved now)) =
-    (f : Filed) × (slice_get c.files file ≡ Some f) × (now ≡ f.generation) × (now ≢ generation)
+    (f : Filed) × (living_at c.files file ≡ Some f) × (now ≡ f.generation) × (now ≢ generation)
     × (new ≡ old)
 Chunks c stored file generation start count old new (Err DiskFailed) =
-    (f : Filed) × (slice_get c.files file ≡ Some f) × (f.generation ≡ generation) × (new ≡ old)
+    (f : Filed) × (living_at c.files file ≡ Some f) × (f.generation ≡ generation) × (new ≡ old)
 Chunks c stored file generation start count old new (Err Memory) = new ≡ old

@@ -1,6 +1,7 @@
 -- What an update of a store answers, and what it leaves.
 use Rattle.std.specs.Prelude.{◌≡◌, ℕ, ◌≤◌, Bool, true, false, Some, None, Result, Ok, Err, ⊤}
 use Rattle.ov_base.specs.Causes.{Rose}
+use Rattle.ov_base.specs.declared.limits.TheConstants.{SET_WORDS}
 use Rattle.ov_record.specs.Updates.{SealedUpdate}
 use Rattle.ov_history.specs.Briefs.{Brief, brief, text_of}
 use Rattle.ov_history.specs.Catalogue.{Catalogue, outline, catalogue_after}
@@ -23,7 +24,7 @@ use Rattle.ov_store.specs.declared.fault.StoreFault.TheVariants.{Refused, BadPla
 abbrev pub IsFaultFor : Catalogue → Brief → StoreFault → Type 0
 IsFaultFor c b (Refused why) = refusal_shown c b ≡ Some why
 IsFaultFor c b (BadPlan place) =
-    (refusal_shown c b ≡ None) × (HasParts (outline c) b → ⊥) × (place ≡ part_place 4 b)
+    (refusal_shown c b ≡ None) × (HasParts (outline c) b → ⊥) × (place ≡ part_place SET_WORDS b)
 IsFaultFor c b DiskFailed = IsTaken c b
 IsFaultFor c b Failed = ⊤
 IsFaultFor c b Memory = ⊤

@@ -20,8 +20,8 @@ use crate::store::Store;
 use ov_base::{Key, Memory, Mode};
 use ov_disk::Disk;
 use ov_journal::{CheckFault, Journal};
-use ov_record::{RecordFault, read};
-use ov_state::{Brief, Catalogue, PrepareFault, State, WIDTH};
+use ov_record::{Form, RecordFault, read};
+use ov_state::{Brief, Catalogue, PrepareFault, State};
 use ov_tokens::Master;
 use std::alloc::Global;
 
@@ -38,7 +38,7 @@ fn follow(
         → FollowsUpdate (masters base.now.bytes surface.now.bytes)
         state.old.catalogue u state.new.catalogue yes) }
 {
-    let update = match read::<WIDTH>(alloc, body) {
+    let update = match read(alloc, Form::FIRST, body) {
         Ok(update) => update,
         Err(RecordFault::BadRecord { .. }) => return Ok(false),
         Err(RecordFault::Memory) => return Err(Memory),

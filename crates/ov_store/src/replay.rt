@@ -12,8 +12,8 @@ use crate::fault::BeginFault;
 use ov_base::Mode;
 use ov_disk::{Area, Disk};
 use ov_journal::Journal;
-use ov_record::{RecordFault, read};
-use ov_state::{PrepareFault, WIDTH};
+use ov_record::{Form, RecordFault, read};
+use ov_state::PrepareFault;
 use ov_tokens::Master;
 use ov_vault::{CatalogueVault, Vault};
 use std::alloc::Global;
@@ -29,7 +29,7 @@ fn take_record(
     ensures taken { OnOk result (TakesBody surface.now.bytes vault.old body.now vault.new) }
     ensures fault { IfErr result (IsBodyFault vault.old.catalogue body.now gate) }
 {
-    let update = match read::<WIDTH>(alloc, body) {
+    let update = match read(alloc, Form::FIRST, body) {
         Ok(update) => update,
         Err(RecordFault::BadRecord { at }) => {
             return Err(BeginFault::Damaged {

@@ -4,13 +4,14 @@ ghost use Rattle.ov_base.specs.declared.limits.TheConstants.{MAX_USERS};
 ghost use Rattle.ov_base.specs.Sets.{IsBelow};
 ghost use Rattle.ov_record.specs.Spelling.{IsWithinLimits};
 ghost use Rattle.ov_record.specs.Updates.{sealed_update};
+ghost use Rattle.ov_record.specs.Forms.{first_form};
 ghost use Rattle.ov_history.specs.Briefs.{brief};
 ghost use Rattle.ov_state.specs.Plans.{IsFitting};
 ghost use Rattle.ov_store.specs.Bodies.{HasNoPlan, IsSpelled};
 
 use ov_base::limits::MAX_USERS;
 use ov_base::{Memory, Octets, UserSet};
-use ov_record::{Update, write};
+use ov_record::{Form, Update, write};
 use ov_state::WIDTH;
 use std::alloc::Global;
 
@@ -25,7 +26,7 @@ fn is_small(list: &UserSet<WIDTH>)
 // layers want.
 fn has_few_tokens(update: &Update<WIDTH>) -> bool
     requires { IsFitting (brief (sealed_update update.now)) }
-    ensures few { result ≡ true → IsWithinLimits (sealed_update update.now) }
+    ensures few { result ≡ true → IsWithinLimits first_form (sealed_update update.now) }
     ensures many { result ≡ false → HasNoPlan (sealed_update update.now) }
 {
     match update {
@@ -46,6 +47,6 @@ pub(crate) fn spell(alloc: Global, update: &Update<WIDTH>) -> Result<Option<Octe
         return Ok(None);
     }
     let mut body = Vec::new(alloc);
-    write(update, &mut body)?;
+    write(Form::FIRST, update, &mut body)?;
     Ok(Some(Octets::from_vec(body)))
 }

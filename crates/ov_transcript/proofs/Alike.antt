@@ -1,43 +1,59 @@
 -- What two histories that differ in their files' bytes alone have in common.
 use Rattle.std.proofs.Common.{◌≡◌, ◌∙◌, ℕ, ◌+◌, zero, suc, not, List, [], ◌∷◌, ◌++◌, length, refl}
 use Rattle.std.proofs.Common.{sym, ap}
-use Rattle.std.specs.Prelude.{nat_lt, slice_index}
-use Rattle.std.proofs.lemmas.List.{length-map}
-use Rattle.ov_base.specs.Sets.{has}
+use Rattle.std.specs.Prelude.{nat_lt, Option, None, Some, is_some, option_map, unwrap_or}
+use Rattle.std.proofs.Math.ListN.{get_or-map}
+use Rattle.ov_base.specs.Sets.{empty as nobody, has}
 use Rattle.ov_history.specs.History.{File, Granted, Matrix, Revoked, changed, changed_all, delisted}
 use Rattle.ov_history.specs.History.{epoch_of, listed, matrix_of, no_one}
 use Rattle.ov_history.specs.Layers.{Layers, layers_after, layers_all, layers_of, lists_after}
 use Rattle.ov_history.specs.Layers.{no_layers}
-use Rattle.ov_history.specs.Lists.{file_names, file_number, is_file, is_listed, is_user}
+use Rattle.ov_history.specs.Lists.{file_names, file_number, is_file, is_listed, is_user, name_left}
 use Rattle.ov_history.specs.Lists.{user_number}
-use Rattle.ov_history.specs.Places.{change_at, place_of}
+use Rattle.ov_history.specs.Places.{change_at, living_at, place_of}
 use Rattle.ov_history.specs.Plain.{PlainCreate, PlainEnrol, PlainGrant, PlainHistory, PlainRevoke}
 use Rattle.ov_history.specs.Plain.{PlainUpdate, history_of, measured, measured_all}
 use Rattle.ov_base.specs.declared.refusal.Refusal.TheVariants.{Listed, NoFile, NoUser, NotListed}
 use Rattle.ov_history.specs.Refusals.{tests_of, tests_of_room}
 use Rattle.ov_history.proofs.MatrixLaws.{file_lists, file_lists-changed, is_listed-list}
+use Rattle.ov_history.proofs.SoundTests.{is_some-map}
 use Rattle.ov_transcript.specs.Bytes.{AreAlike, DifferInBytes, IsAlike}
 
 -- ---- names of files
 
-names-append : (files : List File) (f : File) → file_names (files ++ f ∷ [])
+names-append : (files : List (Option File)) (f : File) → file_names (files ++ Some f ∷ [])
     ≡ file_names files ++ f.name ∷ []
 names-append [] f = refl
-names-append (first ∷ files) f = ap (λ (l : List (List ℕ)). first.name ∷ l) (names-append files f)
+names-append (first ∷ files) f =
+    ap (λ (l : List (List ℕ)). name_left first ∷ l) (names-append files f)
 
-names-listed : (user file : ℕ) (files : List File)
-    → file_names (change_at (listed user) file files) ≡ file_names files
-names-listed user file [] = refl
-names-listed user zero (f ∷ files) = refl
-names-listed user (suc file) (f ∷ files) =
-    ap (λ (l : List (List ℕ)). f.name ∷ l) (names-listed user file files)
+-- a change that leaves the name of each file leaves the names
+names-changed : (change : File → File) (file : ℕ) (files : List (Option File))
+    → ((f : File) → (change f).name ≡ f.name)
+    → file_names (change_at (option_map change) file files) ≡ file_names files
+names-changed change file [] same = refl
+names-changed change zero (None ∷ files) same = refl
+names-changed change zero (Some f ∷ files) same =
+    ap (λ (name : List ℕ). name ∷ file_names files) (same f)
+names-changed change (suc file) (f ∷ files) same =
+    ap (λ (l : List (List ℕ)). name_left f ∷ l) (names-changed change file files same)
 
-names-delisted : (user file : ℕ) (files : List File)
-    → file_names (change_at (delisted user) file files) ≡ file_names files
-names-delisted user file [] = refl
-names-delisted user zero (f ∷ files) = refl
-names-delisted user (suc file) (f ∷ files) =
-    ap (λ (l : List (List ℕ)). f.name ∷ l) (names-delisted user file files)
+names-listed : (user file : ℕ) (files : List (Option File))
+    → file_names (change_at (option_map (listed user)) file files) ≡ file_names files
+names-listed user file files = names-changed (listed user) file files (λ f. refl)
+
+names-delisted : (user file : ℕ) (files : List (Option File))
+    → file_names (change_at (option_map (delisted user)) file files) ≡ file_names files
+names-delisted user file files = names-changed (delisted user) file files (λ f. refl)
+
+-- ---- lists of files
+
+-- a file is there where its list is
+is_file-list : (m : Matrix) (file : ℕ) → is_file m file ≡ is_some (living_at (file_lists m.files) file)
+is_file-list m file =
+    sym (is_some-map (λ (f : File). f.list) (living_at m.files file))
+    ∙ ap (λ (o : Option ℕ). is_some o)
+    (sym (get_or-map (option_map (λ (f : File). f.list)) m.files file None))
 
 -- ---- matrices that are the same but for the lengths of files
 
@@ -57,7 +73,7 @@ matches_on m n (PlainCreate file list bytes) (PlainCreate other set text) ms (sa
   users = ms.users;
   names = names-append m.files _ ∙ (λ i. ms.names i ++ same i ∷ []) ∙ sym (names-append n.files _);
   lists = file_lists-changed m (measured (PlainCreate file list bytes))
-      ∙ (λ i. ms.lists i ++ all i ∷ [])
+      ∙ (λ i. ms.lists i ++ Some (all i) ∷ [])
       ∙ sym (file_lists-changed n (measured (PlainCreate other set text)));
 }
 matches_on m n (PlainGrant user file) (PlainGrant other item) ms (same, one) = record {
@@ -144,13 +160,13 @@ module _ (p q : PlainHistory) (d : DifferInBytes p q) where
 
   is_file_too : (file : ℕ) → is_file m file ≡ is_file n file
   is_file_too file =
-      ap (nat_lt file)
-      (sym (length-map m.files (λ (f : File). f.list)) ∙ ap length matches.lists
-      ∙ length-map n.files (λ (f : File). f.list))
+      is_file-list m file
+      ∙ ap (λ (lists : List (Option ℕ)). is_some (living_at lists file)) matches.lists
+      ∙ sym (is_file-list n file)
 
   is_listed_too : (user file : ℕ) → is_listed m user file ≡ is_listed n user file
   is_listed_too user file =
-      is_listed-list m user file ∙ ap (λ (l : List ℕ). has (slice_index l file) user) matches.lists
+      is_listed-list m user file ∙ ap (λ (l : List (Option ℕ)). has (unwrap_or (living_at l file) nobody) user) matches.lists
       ∙ sym (is_listed-list n user file)
 
   -- a grant and a revocation are refused alike at two histories that differ in bytes alone

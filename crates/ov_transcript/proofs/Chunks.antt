@@ -1,12 +1,13 @@
 -- The chunks of a file.
 use Rattle.std.proofs.Common.{◌≡◌, ◌∙◌, ◌<◌, ◌≤◌, ◌+◌, ℕ, zero, suc, List, [], ◌∷◌, ap, refl, sym}
 use Rattle.std.proofs.Common.{arith}
-use Rattle.std.specs.Prelude.{◌-◌, min, slice_get, slice_index_or, Some}
+use Rattle.std.specs.Prelude.{◌-◌, min, Option, None, Some, option_map, unwrap_or}
 use Rattle.ov_base.specs.declared.limits.TheConstants.{MAX_CHUNK_BYTES}
 use Rattle.ov_history.specs.Catalogue.{Catalogue, Filed, files_shown, filed_at, matrix_shown}
-use Rattle.ov_history.specs.Catalogue.{no_filed, outline}
-use Rattle.ov_history.specs.Layers.{Layers, Place}
+use Rattle.ov_history.specs.Catalogue.{no_filed, outline, place_of_file}
+use Rattle.ov_history.specs.Layers.{Layers, Place, no_place}
 use Rattle.ov_history.specs.Lists.{file_at, no_file}
+use Rattle.ov_history.specs.Places.{living_at}
 use Rattle.ov_history.proofs.Outlining.{places-at}
 use Rattle.ov_wire.specs.declared.request.Request.{Request}
 use Rattle.ov_wire.specs.declared.request.Request.TheVariants as requests
@@ -16,24 +17,30 @@ use Rattle.ov_transcript.specs.Transcripts.{chunk_count, chunks_from, generation
 
 pub generation-shown : (c : Catalogue) (file : ℕ)
     → (filed_at c file).generation ≡ generation_of (outline c) file
-generation-shown c file = ap (λ (p : Place). p.generation) (sym (places-at c.files file))
+generation-shown c file =
+    by_file (living_at c.files file)
+    ∙ ap (λ (p : Option Place). (unwrap_or p no_place).generation) (sym (places-at c.files file)) where
+      by_file : (o : Option Filed)
+          → (unwrap_or o no_filed).generation
+          ≡ (unwrap_or (option_map place_of_file o) no_place).generation
+      by_file None = refl
+      by_file (Some f) = refl
 
-length-at : (y : Layers) (files : List Filed) (file : ℕ)
-    → (slice_index_or files file no_filed).length
-    ≡ (slice_index_or (files_shown y files) file no_file).length
+length-at : (y : Layers) (files : List (Option Filed)) (file : ℕ)
+    → (unwrap_or (living_at files file) no_filed).length
+    ≡ (unwrap_or (living_at (files_shown y files) file) no_file).length
 length-at y [] file = refl
-length-at y (f ∷ files) zero = refl
+length-at y (None ∷ files) zero = refl
+length-at y (Some f ∷ files) zero = refl
 length-at y (f ∷ files) (suc file) = length-at y files file
 
 pub length-shown : (c : Catalogue) (file : ℕ)
     → (filed_at c file).length ≡ (file_at (matrix_shown c) file).length
 length-shown c file = length-at (outline c) c.files file
 
-pub file_found : (files : List Filed) (file : ℕ) (f : Filed) → slice_get files file ≡ Some f
-    → slice_index_or files file no_filed ≡ f
-file_found [] file f is = absurd cc
-file_found (first ∷ files) zero f is = cc
-file_found (first ∷ files) (suc file) f is = file_found files file f is
+pub file_found : (c : Catalogue) (file : ℕ) (f : Filed) → living_at c.files file ≡ Some f
+    → filed_at c file ≡ f
+file_found c file f is = ap (λ (o : Option Filed). unwrap_or o no_filed) is
 
 -- ---- how many chunks are left
 

@@ -1,5 +1,5 @@
 -- An update that wasn't refused can be sent.
-use Rattle.std.proofs.Common.{◌≡◌, ◌∙◌, ℕ, ◌+◌, ◌<◌, ◌^◌, Bool, true, false, List, [], ◌∷◌, ◌++◌}
+use Rattle.std.proofs.Common.{◌≡◌, ◌∙◌, ℕ, ◌+◌, ◌<◌, ◌^◌, Bool, true, false, List, [], ◌∷◌, ◌++◌, ◌*◌}
 use Rattle.std.proofs.Common.{length, length-append, map, refl, sym, ap, subst, arith}
 use Rattle.std.specs.List.{AllByRecursion}
 use Rattle.std.specs.Prelude.{IfSome}
@@ -7,6 +7,7 @@ use Rattle.std.proofs.lemmas.List.{length-map}
 use Rattle.sha2.proofs.Facts256.{length-sha256}
 use Rattle.ov_base.specs.Names.{IsName}
 use Rattle.ov_base.specs.Sets.{IsBelow, has}
+use Rattle.ov_base.specs.declared.limits.TheConstants.{SET_BYTES}
 use Rattle.ov_keyed.proofs.HmacLemmas.{length-hmac}
 use Rattle.ov_ctr.proofs.Pad.{length-xor_pad}
 use Rattle.ov_fields.specs.Spelling.{IsToken, u32}
@@ -20,7 +21,8 @@ use Rattle.ov_base_layer.specs.Seals.{access_token, cover_tokens, edge_token}
 use Rattle.ov_surface.specs.Coats.{base_text}
 use Rattle.ov_record.specs.Spelling.{HasForm, spelling}
 use Rattle.ov_record.specs.Updates.{SealedUpdate}
-use Rattle.ov_record.proofs.UpdateLaws.{update_reads}
+use Rattle.ov_record.proofs.UpdateLaws.{update_reads, first_has_room}
+use Rattle.ov_record.specs.Forms.{first_form}
 use Rattle.ov_history.specs.Asking.{file_named, user_named}
 use Rattle.ov_history.specs.Catalogue.{Catalogue}
 use Rattle.ov_history.specs.History.{Matrix, epoch_of, matrix_of}
@@ -71,23 +73,23 @@ edges_are_tokens master node (n ∷ from) = (
 -- ---- an update whose fields have form
 
 pub update_length : (surface : List ℕ) (epoch : ℕ) (u : SealedUpdate)
-    → length (request_bytes (update_request surface epoch u)) ≡ 37 + length (spelling 32 u)
+    → length (request_bytes (update_request surface epoch u)) ≡ 37 + length (spelling first_form u)
 update_length surface epoch u =
-    let tag = owner_tag surface epoch (spelling 32 u) in
+    let tag = owner_tag surface epoch (spelling first_form u) in
     let all : length tag ≡ 32 = length-hmac _ _ in
     omega (
       arith,
       all,
-      length-append (u32 epoch ++ spelling 32 u) tag,
+      length-append (u32 epoch ++ spelling first_form u) tag,
       length-append (u32 epoch)
-          (spelling 32 u),
+          (spelling first_form u),
     )
 
-pub update_form : (surface : List ℕ) (epoch : ℕ) (u : SealedUpdate) → epoch < 2 ^ 32 → HasForm 32 u
+pub update_form : (surface : List ℕ) (epoch : ℕ) (u : SealedUpdate) → epoch < 2 ^ 32 → HasForm first_form u
     → HasRequestForm (update_request surface epoch u)
 update_form surface epoch u low form =
     let long = update_length surface epoch u in
-    let short = (update_reads 32).short u form in record {
+    let short = (update_reads first_form first_has_room).short u form in record {
       is_request = (low, is_spelling u form, length-hmac _ _);
       fits = omega (arith, long, short);
     }
@@ -109,7 +111,7 @@ module _ (k : Masters) (p : PlainHistory) (legal : IsLegal (history_of p)) where
 
   -- what was sealed here has form, and the epoch fits its field
   pub record Fits (u : SealedUpdate) : Type 0 where
-    pub form : HasForm 32 u
+    pub form : HasForm first_form u
     pub low : epoch_of (history_of p) < 2 ^ 32
 
   pub fits_form : (u : SealedUpdate) → Fits u
@@ -186,7 +188,7 @@ module _ (k : Masters) (p : PlainHistory) (legal : IsLegal (history_of p)) where
       record {
         form = (
           first.is_request.0,
-          subst (IsBelow 256) same_list form.2,
+          subst (IsBelow (8 * SET_BYTES)) same_list form.2,
           omega (arith, edges, few, form.4),
           edges_are_tokens k.base cover.node cover.from,
           length-hmac _ _,

@@ -2,7 +2,7 @@
 use Rattle.std.proofs.Common.{◌≡◌, ◌∙◌, ◌<◌, ◌+◌, ℕ, Bool, true, false, List, [], ◌∷◌, ◌++◌, length}
 use Rattle.std.proofs.Common.{Option, Some, None, Result, Ok, Err, refl, sym, ap, subst, inl, inr}
 use Rattle.std.proofs.Common.{arith, length-append}
-use Rattle.std.specs.Prelude.{◌⊎◌, ◌==◌, ◌-◌, bytes_eq, min, nat_lt, slice_get, slice_index_or}
+use Rattle.std.specs.Prelude.{◌⊎◌, ◌==◌, ◌-◌, bytes_eq, min, nat_lt, slice_index_or}
 use Rattle.std.specs.Prelude.{if◌then◌else◌}
 use Rattle.std.proofs.lemmas.Bool.Decides.{nat_tests}
 use Rattle.ov_base.specs.declared.limits.TheConstants.{MAX_CHUNK_BYTES}
@@ -13,6 +13,7 @@ use Rattle.ov_history.specs.Catalogue.{Catalogue, Filed, filed_at}
 use Rattle.ov_history.specs.History.{Matrix, matrix_of}
 use Rattle.ov_history.specs.Layers.{layers_of}
 use Rattle.ov_history.specs.Lists.{file_at, file_number}
+use Rattle.ov_history.specs.Places.{living_at}
 use Rattle.ov_history.specs.Masters.{Masters}
 use Rattle.ov_history.specs.Plain.{PlainHistory, history_of}
 use Rattle.ov_history.specs.Refusals.{IsLegal}
@@ -207,7 +208,7 @@ module _ (k : Masters) (r : Reader) (file : List ℕ) (p : PlainHistory)
           ∙ (λ i. chunks_from c.file c.generation (long i) (chunk_count (c.length - long i))))
       sized_due false bytes is same spelled = tt
 
-      found_due : (o : Option Filed) (x : Answer) → slice_get s.files c.file ≡ o
+      found_due : (o : Option Filed) (x : Answer) → living_at s.files c.file ≡ o
           → AnswersChunk o (slice_index_or (stored_of k.surface (sealed k p)) c.file [])
           c.generation (length stored) MAX_CHUNK_BYTES x
           → later here made ≡ here → a.reply ≡ answer_bytes x
@@ -221,7 +222,7 @@ module _ (k : Masters) (r : Reader) (file : List ℕ) (p : PlainHistory)
       found_due (Some f) (answers.Moved now) found is same spelled =
           absurd
           (is.0
-          (ap (λ (x : Filed). x.generation) (sym (file_found s.files c.file f found))
+          (ap (λ (x : Filed). x.generation) (sym (file_found s c.file f found))
           ∙ ap (λ n. (filed_at s n).generation) told.file_is ∙ sym told.generation))
       found_due (Some f) x found is same spelled = absurd is
 
@@ -231,7 +232,7 @@ module _ (k : Masters) (r : Reader) (file : List ℕ) (p : PlainHistory)
           → Due (after r (AsksChunk tries c stored) read) (later here made) rest
       chunk_read (Err place) form bytes is replies = tt
       chunk_read (Ok x) form bytes is replies =
-          found_due (slice_get s.files c.file) x refl
+          found_due (living_at s.files c.file) x refl
           (replies_are_read (served here) (chunk c stored) a.reply made x bytes form replies is).0
           (still_served here (chunk c stored) a.reply made form refl replies)
           (is_read (served here) (chunk c stored) a.reply made x

@@ -5,6 +5,7 @@ use Rattle.std.specs.Prelude.{◌⊎◌}
 use Rattle.ov_record.specs.Reading.{update_of}
 use Rattle.ov_record.specs.Spelling.{HasForm, spelling}
 use Rattle.ov_record.specs.Updates.{SealedUpdate}
+use Rattle.ov_record.specs.Forms.{first_form}
 use Rattle.ov_script.specs.declared.command.Command.TheVariants as commands
 use Rattle.ov_history.specs.Catalogue.{Catalogue}
 use Rattle.ov_history.specs.History.{Matrix, epoch_of, matrix_of}
@@ -73,7 +74,7 @@ update_answer_short : (surface : List ℕ) (c : Catalogue) (epoch : ℕ) (spelle
 update_answer_short surface c epoch spelled tag answers.BadTag is = omega arith
 update_answer_short surface c epoch spelled tag (answers.Stale now) is = omega arith
 update_answer_short surface c epoch spelled tag a (tagged, now, is) =
-    spelled_answer_short c (update_of 32 spelled) a is
+    spelled_answer_short c (update_of first_form spelled) a is
 
 module _ (k : Masters) (p : PlainHistory) (legal : IsLegal (history_of p)) where
   abbrev here : Service
@@ -94,7 +95,7 @@ module _ (k : Masters) (p : PlainHistory) (legal : IsLegal (history_of p)) where
       (most told sent : ℕ)
       (first_short : length (request_bytes first) ≤ most)
       (told_short : (x : Answer) → Answers (served here) first x → length (answer_bytes x) ≤ told)
-      (sent_short : HasForm 32 u → length (spelling 32 u) ≤ sent) where
+      (sent_short : HasForm first_form u → length (spelling first_form u) ≤ sent) where
     abbrev second : Request
     second = update_request k.surface (epoch_of (history_of p)) u
 
@@ -124,7 +125,7 @@ module _ (k : Masters) (p : PlainHistory) (legal : IsLegal (history_of p)) where
         fits t.replies.answer (answers_so here first t.one.request t.one.reply t.made form t.asked
         t.replies)
         t.replies.form (ap says_refused (sym t.replies.spelled) ∙ t.free) in
-        let three : length t.other.request ≡ 37 + length (spelling 32 u) =
+        let three : length t.other.request ≡ 37 + length (spelling first_form u) =
         ap length t.asked_then ∙ update_length k.surface (epoch_of (history_of p)) u in
         let four = sent_short f.form in
         let answered : Answers (served (later here t.made)) second t.replies_then.answer =
@@ -134,8 +135,8 @@ module _ (k : Masters) (p : PlainHistory) (legal : IsLegal (history_of p)) where
         let five : length t.other.reply ≤ 5 =
         subst (λ (l : List ℕ). length l ≤ 5) (sym t.replies_then.spelled)
         (update_answer_short k.surface (served (later here t.made)).catalogue
-        (epoch_of (history_of p)) (spelling 32 u)
-        (owner_tag k.surface (epoch_of (history_of p)) (spelling 32 u)) t.replies_then.answer
+        (epoch_of (history_of p)) (spelling first_form u)
+        (owner_tag k.surface (epoch_of (history_of p)) (spelling first_form u)) t.replies_then.answer
         answered) in
         let short : length (frames (t.one ∷ t.other ∷ [])) ≤ most + told + sent + 58 =
         omega (

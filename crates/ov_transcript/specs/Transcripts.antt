@@ -1,6 +1,6 @@
 -- What is sent for a command: its transcript.
 use Rattle.std.specs.Prelude.{◌≡◌, ℕ, zero, suc, ◌+◌, ◌-◌, ◌/◌, ◌==◌, Bool, true, false}
-use Rattle.std.specs.Prelude.{List, [], ◌∷◌, ◌++◌, length, take, slice_index_or}
+use Rattle.std.specs.Prelude.{List, [], ◌∷◌, ◌++◌, length, take, unwrap_or}
 use Rattle.ov_base.specs.declared.limits.TheConstants.{MAX_CHUNK_BYTES}
 use Rattle.ov_tokens.specs.Keys.{check_value_of}
 use Rattle.ov_record.specs.Updates.{SealedUpdate}
@@ -10,6 +10,7 @@ use Rattle.ov_history.specs.History.{History, Matrix, epoch_of, matrix_of}
 use Rattle.ov_history.specs.Layers.{Layers, layers_of, no_place}
 use Rattle.ov_history.specs.Lists.{file_at, file_number, set_named, user_number}
 use Rattle.ov_history.specs.Masters.{Masters}
+use Rattle.ov_history.specs.Places.{living_at}
 use Rattle.ov_history.specs.Plain.{PlainUpdate, PlainEnrol, PlainCreate, PlainGrant, PlainRevoke}
 use Rattle.ov_history.specs.Plain.{PlainHistory, history_of}
 use Rattle.ov_history.specs.Sealing.{sealed, sealed_update}
@@ -41,7 +42,7 @@ frames (a ∷ asks) = frames_of a ++ frames asks
 
 -- the epoch of the last change of a file's surface, or else of its creation
 abbrev pub generation_of : Layers → ℕ → ℕ
-generation_of y file = (slice_index_or y.files file no_place).generation
+generation_of y file = (unwrap_or (living_at y.files file) no_place).generation
 
 -- as many chunks of a file as there are left, the next of which begins at this place
 abbrev pub chunks_from : ℕ → ℕ → ℕ → ℕ → List Request

@@ -2,20 +2,20 @@
 use Rattle.std.proofs.Common.{◌≡◌, ℕ, zero, suc, ◌+◌, ◌≤◌, List, [], ◌∷◌, ◌++◌, length, take, ◌-◌, refl, sym, ◌∙◌, ap, subst, arith, length-append, zero-add, inl, inr}
 use Rattle.std.specs.Prelude.{slice_get, slice_index_or, Option, Some, None, IfSome, Result, Ok, Err, OnOk}
 use Rattle.std.proofs.Math.Seq.{take-length}
-use Rattle.std.proofs.lemmas.Bool.{cases_lt}
-use Rattle.std.proofs.lemmas.List.{get_or_past, take_more}
-use Rattle.std.proofs.lemmas.Option.{slice_get-get_or}
+use Rattle.std.proofs.lemmas.List.{take_more}
 use Rattle.ov_base.specs.declared.limits.TheConstants.{MAX_FILE_BYTES}
 use Rattle.ov_base.specs.declared.mode.Mode.{Mode}
+use Rattle.ov_tokens.specs.declared.token.Token.{Token}
 use Rattle.ov_record.specs.Updates.{SealedUpdate, SealedEnrol, SealedCreate, SealedGrant, SealedRevoke}
-use Rattle.ov_history.specs.Places.{change_at}
-use Rattle.ov_history.specs.Layers.{node_for}
-use Rattle.ov_history.specs.Briefs.{Brief, brief, text_of}
-use Rattle.ov_history.specs.Catalogue.{Catalogue, Filed, empty_catalogue, grown_catalogue, no_filed}
-use Rattle.ov_history.specs.Rewrites.{Rewrite as PlainRewrite, files_after, restored, rewrites_from, rewrites_of, rewritten_all, stored_after, with_text}
+use Rattle.ov_history.specs.Places.{change_at, living_at}
+use Rattle.ov_history.specs.Layers.{lists_after, lists_of, node_for, wants_of, with_wants}
+use Rattle.ov_history.specs.Briefs.{Brief, BriefCreate, brief, outer, text_of}
+use Rattle.ov_history.specs.Catalogue.{Catalogue, Filed, empty_catalogue, grown_catalogue, outline, settled_file, settled_files}
+use Rattle.ov_history.specs.Rewrites.{Rewrite as PlainRewrite, files_after, length_left, restored, rewrites_from, rewrites_of, rewritten_all, stored_after, with_text}
 use Rattle.ov_history.proofs.Keeping.{stored_goes_on}
 use Rattle.ov_history.proofs.Rewriting.{length-restored, length-rewritten_all}
-use Rattle.ov_history.proofs.Storing.{length-files_after, settled_size}
+use Rattle.ov_history.proofs.Storing.{length-files_after}
+use Rattle.ov_history.proofs.Living.{settled-length}
 use Rattle.ov_state.specs.Changes.{applied, HasRoomFor, Suits}
 use Rattle.ov_state.specs.Plans.{IsChange, IsFitting}
 use Rattle.ov_state.specs.Standing.{GoesOn as CatalogueGoesOn}
@@ -50,11 +50,11 @@ rewritten-length master (r ∷ rewrites) stored n =
     ∙ changed-length f (λ x. length-restored master r.old r.new r.file x) r.file stored n
 
 -- one file more, with as many bytes as it says
-more_stored : (files : List Filed) (stored : List (List ℕ)) (f : Filed) (text : List ℕ)
+more_stored : (files : List (Option Filed)) (stored : List (List ℕ)) (f : Filed) (text : List ℕ)
     → length stored ≡ length files
-    → ((n : ℕ) → length (slice_index_or stored n []) ≡ (slice_index_or files n no_filed).length)
+    → ((n : ℕ) → length (slice_index_or stored n []) ≡ length_left (living_at files n))
     → length text ≡ f.length
-    → (n : ℕ) → length (slice_index_or (stored ++ text ∷ []) n []) ≡ (slice_index_or (files ++ f ∷ []) n no_filed).length
+    → (n : ℕ) → length (slice_index_or (stored ++ text ∷ []) n []) ≡ length_left (living_at (files ++ Some f ∷ []) n)
 more_stored [] [] f text many lengths size zero = size
 more_stored [] [] f text many lengths size (suc n) = refl
 more_stored [] (x ∷ stored) f text many lengths size n = absurd (omega (arith, many))
@@ -68,7 +68,7 @@ grown_stored : (c : Catalogue) (u : SealedUpdate) (stored : List (List ℕ)) →
     → AreStored (grown_catalogue c (brief u)).files (with_text stored (text_of u))
 grown_stored c (SealedEnrol user) stored has = has
 grown_stored c (SealedCreate file list tokens tag text) stored has = record {
-  many = omega (arith, has.many, length-append stored (text ∷ []), length-append c.files (f ∷ []));
+  many = omega (arith, has.many, length-append stored (text ∷ []), length-append c.files (Some f ∷ []));
   lengths = more_stored c.files stored f text has.many has.lengths refl;
 } where
   f : Filed
@@ -92,14 +92,38 @@ stored_after-lengths master c u stored has =
       many = length-rewritten_all master (rewrites_of c (brief u)) (with_text stored (text_of u)) ∙ grown.many ∙ sym (length-files_after c (brief u));
       lengths = λ n.
           rewritten-length master (rewrites_of c (brief u)) (with_text stored (text_of u)) n
-          ∙ grown.lengths n ∙ sym (settled_size _ _ _ (grown_catalogue c (brief u)).files n);
+          ∙ grown.lengths n ∙ sym (settled-length _ _ _ (grown_catalogue c (brief u)).files n);
     }
 
 -- ---- the rewrites of an update
 
-last_rewrite : (files after : List Filed) → length after ≡ length files + 1 → EndAt (length files) (rewrites_from 0 files after)
-last_rewrite files after more =
-    subst (λ n. EndAt n (rewrites_from 0 files after)) (zero-add (length files)) (rewrites-end 0 files after more)
+last_rewrite : (files after : List (Option Filed)) (last : Filed) → length after ≡ length files + 1
+    → living_at after (length files) ≡ Some last → EndAt (length files) (rewrites_from 0 files after)
+last_rewrite files after last more there =
+    subst (λ n. EndAt n (rewrites_from 0 files after)) (zero-add (length files)) (rewrites-end 0 files after last more there)
+
+-- a file that was added is there under its surface
+last_settled : (epoch : ℕ) (sets : List ℕ) (wants : List (Option ℕ)) (files : List (Option Filed)) (f : Filed)
+    → (last : Filed) × (living_at (settled_files epoch sets wants (files ++ Some f ∷ [])) (length files) ≡ Some last)
+last_settled epoch sets [] [] f = (f, refl)
+last_settled epoch sets [] (g ∷ files) f = last_settled epoch sets [] files f
+last_settled epoch sets (want ∷ wants) [] f = (settled_file epoch sets want f, refl)
+last_settled epoch sets (want ∷ wants) (g ∷ files) f = last_settled epoch sets wants files f
+
+last_after : (c : Catalogue) (file : List ℕ) (list : ℕ) (tokens : List Token) (tag : List ℕ) (size : ℕ)
+    → (last : Filed) × (living_at (files_after c (BriefCreate file list tokens tag size)) (length c.files) ≡ Some last)
+last_after c file list tokens tag size =
+    let b : Brief = BriefCreate file list tokens tag size in
+    let next : Catalogue = grown_catalogue c b in
+    let wants : List (Option ℕ) = wants_of (outline next) (lists_after (lists_of (outline c)) (outer b)) in
+    last_settled next.epoch (with_wants next.surface.sets wants) wants c.files (record {
+      name = file;
+      node = node_for c.base.sets list;
+      surface = None;
+      generation = c.epoch + 1;
+      tag = tag;
+      length = size;
+    })
 
 -- an update that adds no file rewrites those that are there
 old_files : (c : Catalogue) (u : SealedUpdate) (rewrites : List Rewrite)
@@ -124,7 +148,9 @@ suit_text c u rewrites text many is same count =
       by_update (SealedCreate file list tokens tag bytes) is =
           let u : SealedUpdate = SealedCreate file list tokens tag bytes in
           subst (λ (rs : List PlainRewrite). EndAt (length c.files) rs) (sym is)
-          (last_rewrite c.files (files_after c (brief u)) (length-files_after c (brief u) ∙ length-append c.files _))
+          (let (last, there) = last_after c file list tokens tag (length bytes) in
+          last_rewrite c.files (files_after c (brief u)) last
+          (length-files_after c (brief u) ∙ length-append c.files _) there)
       by_update (SealedGrant user file token) is = old_files c (SealedGrant user file token) rewrites is refl
       by_update (SealedRevoke user file) is = old_files c (SealedRevoke user file) rewrites is refl
 
@@ -184,16 +210,12 @@ split_last rewrites d some =
     sym (take-length rewrites) ∙ ap (λ m. take m rewrites) (sym e) ∙ take_more rewrites n d (omega arith)
 
 -- no file has more bytes than it may have
-pub stored_short : (files : List Filed) (stored : List (List ℕ)) → AreStored files stored
-    → ((file : ℕ) (f : Filed) → slice_get files file ≡ Some f → f.length ≤ MAX_FILE_BYTES) → AreShort stored
-stored_short files stored has each n = elim (cases_lt n (length files)) [
-  | inl low ↦
-      let f = slice_get-get_or files n no_filed low in
-      omega (arith, has.lengths n, each n (slice_index_or files n no_filed) f)
-  | inr past ↦
-      let none = ap (λ (f : Filed). f.length) (get_or_past files n no_filed past) in
-      omega (arith, has.lengths n, none)
-]
+pub stored_short : (files : List (Option Filed)) (stored : List (List ℕ)) → AreStored files stored
+    → ((file : ℕ) (f : Filed) → living_at files file ≡ Some f → f.length ≤ MAX_FILE_BYTES) → AreShort stored
+stored_short files stored has each n = by_file (living_at files n) refl where
+  by_file : (o : Option Filed) → living_at files n ≡ o → length (slice_index_or stored n []) ≤ MAX_FILE_BYTES
+  by_file None is = omega (arith, has.lengths n, ap length_left is)
+  by_file (Some f) is = omega (arith, has.lengths n, ap length_left is, each n f is)
 
 -- a vault without files
 pub nothing_stored : (c : Catalogue) (stored : List (List ℕ)) (mode : Mode) (first : ℕ)

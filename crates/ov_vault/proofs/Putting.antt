@@ -1,10 +1,10 @@
 -- Putting what was rewritten is what the definition of one update makes of the stored bytes.
 use Rattle.std.proofs.Common.{◌≡◌, ℕ, zero, suc, ◌+◌, ◌<◌, ◌≤◌, List, [], ◌∷◌, ◌++◌, length, refl, sym, ◌∙◌, ap, subst, arith}
-use Rattle.std.specs.Prelude.{slice_index_or, Bool, true, false}
-use Rattle.ov_history.specs.Places.{change_at}
+use Rattle.std.specs.Prelude.{slice_index_or, Bool, true, false, Option, Some, None}
+use Rattle.ov_history.specs.Places.{change_at, living_at}
 use Rattle.ov_history.specs.Layers.{same_surface}
 use Rattle.ov_history.specs.Catalogue.{Filed}
-use Rattle.ov_history.specs.Rewrites.{Rewrite, restored, rewrites_from, rewrite_unless, rewritten_all}
+use Rattle.ov_history.specs.Rewrites.{Rewrite, restored, rewrites_from, rewrite_of, rewrite_unless, rewritten_all}
 use Rattle.ov_vault.specs.declared.rewritten.Rewritten.{Rewritten}
 use Rattle.ov_vault.specs.Rewritten.{put, put_all, AreBelow, AreRewritten, EndAt}
 
@@ -149,19 +149,40 @@ weaker : (n : ℕ) (rewrites : List Rewrite) → AreAbove (n + 1) rewrites → A
 weaker n [] above = tt
 weaker n (r ∷ rewrites) above = (omega (arith, above.0), above.1)
 
+above_unless : (b : Bool) (number : ℕ) (f now : Filed) (rest : List Rewrite) → AreAbove (number + 1) rest
+    → AreAbove number (rewrite_unless b number f now ++ rest)
+above_unless true number f now rest above = weaker number rest above
+above_unless false number f now rest above = (omega arith, above)
+
+above_step : (number : ℕ) (f now : Option Filed) (rest : List Rewrite) → AreAbove (number + 1) rest
+    → AreAbove number (rewrite_of number f now ++ rest)
+above_step number f None rest above = weaker number rest above
+above_step number None (Some now) rest above = (omega arith, above)
+above_step number (Some f) (Some now) rest above =
+    above_unless (same_surface f.surface now.surface) number f now rest above
+
 -- the rewrites of an update ascend
-pub rewrites-above : (number : ℕ) (files after : List Filed) → AreAbove number (rewrites_from number files after)
+pub rewrites-above : (number : ℕ) (files after : List (Option Filed)) → AreAbove number (rewrites_from number files after)
 rewrites-above number files [] = tt
-rewrites-above number [] (now ∷ after) = (omega arith, rewrites-above (number + 1) [] after)
+rewrites-above number [] (now ∷ after) =
+    above_step number None now (rewrites_from (number + 1) [] after) (rewrites-above (number + 1) [] after)
 rewrites-above number (f ∷ files) (now ∷ after) =
-    by_test (same_surface f.surface now.surface) (rewrites-above (number + 1) files after) where
-      by_test : (b : Bool) → AreAbove (number + 1) (rewrites_from (number + 1) files after)
-          → AreAbove number (rewrite_unless b number f now ++ rewrites_from (number + 1) files after)
-      by_test true rest = weaker number _ rest
-      by_test false rest = (omega arith, rest)
+    above_step number f now (rewrites_from (number + 1) files after) (rewrites-above (number + 1) files after)
+
+below_unless : (b : Bool) (n number : ℕ) (f now : Filed) (rest : List Rewrite) → number < n → AreBelow n rest
+    → AreBelow n (rewrite_unless b number f now ++ rest)
+below_unless true n number f now rest low below = below
+below_unless false n number f now rest low below = (low, below)
+
+below_step : (n number : ℕ) (f now : Option Filed) (rest : List Rewrite) → number < n → AreBelow n rest
+    → AreBelow n (rewrite_of number f now ++ rest)
+below_step n number f None rest low below = below
+below_step n number None (Some now) rest low below = (low, below)
+below_step n number (Some f) (Some now) rest low below =
+    below_unless (same_surface f.surface now.surface) n number f now rest low below
 
 -- where there are no more files than before, they are of those that were there
-pub rewrites-below : (number : ℕ) (files after : List Filed) → length after ≤ length files
+pub rewrites-below : (number : ℕ) (files after : List (Option Filed)) → length after ≤ length files
     → AreBelow (number + length files) (rewrites_from number files after)
 rewrites-below number files [] few = tt
 rewrites-below number [] (now ∷ after) few = absurd (omega arith)
@@ -169,31 +190,38 @@ rewrites-below number (f ∷ files) (now ∷ after) few =
     let P : ℕ → Type 0 = λ n. AreBelow n (rewrites_from (number + 1) files after) in
     let low : length after ≤ length files = omega arith in
     let e : number + 1 + length files ≡ number + length (f ∷ files) = omega arith in
-    by_test (same_surface f.surface now.surface) (subst P e (rewrites-below (number + 1) files after low)) where
-      by_test : (b : Bool) → AreBelow (number + length (f ∷ files)) (rewrites_from (number + 1) files after)
-          → AreBelow (number + length (f ∷ files)) (rewrite_unless b number f now ++ rewrites_from (number + 1) files after)
-      by_test true rest = rest
-      by_test false rest = (omega arith, rest)
+    below_step (number + length (f ∷ files)) number f now (rewrites_from (number + 1) files after) (omega arith)
+    (subst P e (rewrites-below (number + 1) files after low))
 
 ends_later : (n : ℕ) (r : Rewrite) (rewrites : List Rewrite) → r.file < n → EndAt n rewrites → EndAt n (r ∷ rewrites)
 ends_later n r [] low end = absurd end
 ends_later n r (other ∷ rewrites) low end = (low, end)
 
--- where there is one file more, the last is of that
-pub rewrites-end : (number : ℕ) (files after : List Filed) → length after ≡ length files + 1
+ends_unless : (b : Bool) (n number : ℕ) (f now : Filed) (rest : List Rewrite) → number < n → EndAt n rest
+    → EndAt n (rewrite_unless b number f now ++ rest)
+ends_unless true n number f now rest low end = end
+ends_unless false n number f now rest low end =
+    ends_later n (record { file = number; length = now.length; old = f.surface; new = now.surface }) rest low end
+
+ends_step : (n number : ℕ) (f now : Option Filed) (rest : List Rewrite) → number < n → EndAt n rest
+    → EndAt n (rewrite_of number f now ++ rest)
+ends_step n number f None rest low end = end
+ends_step n number None (Some now) rest low end =
+    ends_later n (record { file = number; length = now.length; old = None; new = now.surface }) rest low end
+ends_step n number (Some f) (Some now) rest low end =
+    ends_unless (same_surface f.surface now.surface) n number f now rest low end
+
+-- where there is one file more, which isn't gone, the last is of that
+pub rewrites-end : (number : ℕ) (files after : List (Option Filed)) (last : Filed)
+    → length after ≡ length files + 1 → living_at after (length files) ≡ Some last
     → EndAt (number + length files) (rewrites_from number files after)
-rewrites-end number files [] one = absurd (omega (arith, one))
-rewrites-end number [] (now ∷ []) one = omega arith
-rewrites-end number [] (now ∷ other ∷ after) one = absurd (omega (arith, one))
-rewrites-end number (f ∷ files) (now ∷ after) one =
+rewrites-end number files [] last one there = absurd (omega (arith, one))
+rewrites-end number [] (None ∷ []) last one there = absurd (cc)
+rewrites-end number [] (Some now ∷ []) last one there = omega arith
+rewrites-end number [] (now ∷ other ∷ after) last one there = absurd (omega (arith, one))
+rewrites-end number (f ∷ files) (now ∷ after) last one there =
     let P : ℕ → Type 0 = λ n. EndAt n (rewrites_from (number + 1) files after) in
     let more : length after ≡ length files + 1 = omega (arith, one) in
     let e : number + 1 + length files ≡ number + length (f ∷ files) = omega arith in
-    by_test (same_surface f.surface now.surface) (subst P e (rewrites-end (number + 1) files after more)) where
-      by_test : (b : Bool) → EndAt (number + length (f ∷ files)) (rewrites_from (number + 1) files after)
-          → EndAt (number + length (f ∷ files)) (rewrite_unless b number f now ++ rewrites_from (number + 1) files after)
-      by_test true rest = rest
-      by_test false rest =
-          ends_later (number + length (f ∷ files))
-          (record { file = number; length = now.length; old = f.surface; new = now.surface })
-          (rewrites_from (number + 1) files after) (omega arith) rest
+    ends_step (number + length (f ∷ files)) number f now (rewrites_from (number + 1) files after) (omega arith)
+    (subst P e (rewrites-end (number + 1) files after last more there))

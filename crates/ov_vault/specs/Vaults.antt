@@ -1,7 +1,9 @@
 -- What a vault contains: both halves of a store.
-use Rattle.std.specs.Prelude.{◌≡◌, ℕ, ◌<◌, ◌≤◌, List, [], ◌∷◌, length, slice_index_or}
+use Rattle.std.specs.Prelude.{◌≡◌, ℕ, ◌<◌, ◌≤◌, List, [], ◌∷◌, length, slice_index_or, Option}
 use Rattle.ov_base.specs.declared.limits.TheConstants.{MAX_FILE_BYTES}
-use Rattle.ov_history.specs.Catalogue.{Catalogue, Filed, no_filed}
+use Rattle.ov_history.specs.Catalogue.{Catalogue, Filed}
+use Rattle.ov_history.specs.Places.{living_at}
+use Rattle.ov_history.specs.Rewrites.{length_left}
 use Rattle.ov_state.specs.Contents.{Room}
 use Rattle.ov_state.specs.declared.change.Rewrite.{Rewrite}
 
@@ -13,11 +15,12 @@ pub record Store : Type 0 where
   pub stored : List (List ℕ)
   pub spare : ℕ
 
--- there are stored bytes for each file of the catalogue, as many as it says
-pub record AreStored (files : List Filed) (stored : List (List ℕ)) : Type 0 where
+-- there are stored bytes for each file of the catalogue, as many as it says, and none of a file
+-- that is gone
+pub record AreStored (files : List (Option Filed)) (stored : List (List ℕ)) : Type 0 where
   pub many : length stored ≡ length files
   pub lengths : (file : ℕ)
-      → length (slice_index_or stored file []) ≡ (slice_index_or files file no_filed).length
+      → length (slice_index_or stored file []) ≡ length_left (living_at files file)
 
 -- no file has more bytes than a file may have
 abbrev pub AreShort : List (List ℕ) → Type 0

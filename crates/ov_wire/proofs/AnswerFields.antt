@@ -2,7 +2,7 @@
 use Rattle.std.proofs.Common.{ℕ, ◌+◌, ◌*◌, ◌^◌, ◌<◌, ◌≤◌, Bool, true, false, cond, List, [], ◌∷◌, ◌++◌, length, Option, inl, inr, refl, arith}
 use Rattle.std.specs.Prelude.{IfSome}
 use Rattle.std.specs.List.{AllByRecursion}
-use Rattle.ov_base.specs.declared.limits.TheConstants.{MAX_USERS, MAX_FILES, MAX_FILE_BYTES, MAX_LAYER_NODES}
+use Rattle.ov_base.specs.declared.limits.TheConstants.{MAX_USERS, MAX_FILES, MAX_FILE_BYTES, MAX_LAYER_NODES, SET_BYTES}
 use Rattle.ov_base.specs.declared.mode.Mode.{Mode}
 use Rattle.ov_base.specs.declared.mode.Mode.TheVariants.{Full, Delta}
 use Rattle.ov_base.specs.Modes.{mode_byte}
@@ -54,16 +54,16 @@ abbrev pub PlanFields : Type 0
 PlanFields = ((((ℕ × ℕ) × ℕ) × ℕ) × Bool) × List ℕ
 
 abbrev pub plan_fields : PlanFields → List ℕ
-plan_fields f = u32 f.0.0.0.0.0 ++ u32 f.0.0.0.0.1 ++ bytes_of 32 f.0.0.0.1 ++ u32 f.0.0.1 ++ u8 (flag f.0.1) ++ counted u32 f.1
+plan_fields f = u32 f.0.0.0.0.0 ++ u32 f.0.0.0.0.1 ++ bytes_of SET_BYTES f.0.0.0.1 ++ u32 f.0.0.1 ++ u8 (flag f.0.1) ++ counted u32 f.1
 
 abbrev pub PlanFits : PlanFields → Type 0
 PlanFits f =
     (((((f.0.0.0.0.0 < 2 ^ 32) × (f.0.0.0.0.1 < MAX_FILES)) × IsBelow MAX_USERS f.0.0.0.1) × IsNode f.0.0.1) × IsOneOf f.0.1 (false ∷ true ∷ []))
     × (IsCount (2 ^ 16) MAX_USERS (length f.1) × AllByRecursion IsNode f.1)
 
-pub plan_reads : Reads plan_at plan_fields PlanFits (4 + 4 + 32 + 4 + 1 + (2 + MAX_USERS * 4))
+pub plan_reads : Reads plan_at plan_fields PlanFits (4 + 4 + SET_BYTES + 4 + 1 + (2 + MAX_USERS * 4))
 plan_reads =
-    then_reads (then_reads (then_reads (then_reads (then_reads (number_reads wide32) (below_reads MAX_FILES (omega arith))) (set_reads 32)) node_reads) (flag_reads (false ∷ true ∷ []))) (counted_reads MAX_USERS node_reads)
+    then_reads (then_reads (then_reads (then_reads (then_reads (number_reads wide32) (below_reads MAX_FILES (omega arith))) (set_reads SET_BYTES)) node_reads) (flag_reads (false ∷ true ∷ []))) (counted_reads MAX_USERS node_reads)
 
 abbrev pub ChainedFields : Type 0
 ChainedFields = (((((ℕ × ℕ) × ℕ) × ℕ) × List ℕ) × Chain) × Option Chain

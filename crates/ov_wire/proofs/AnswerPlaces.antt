@@ -3,7 +3,7 @@ use Rattle.std.proofs.Common.{◌≡◌, ℕ, zero, suc, ◌^◌, ◌<◌, ◌�
 use Rattle.std.specs.List.{AllByRecursion}
 use Rattle.std.proofs.lemmas.Bool.{eqb-true}
 use Rattle.std.proofs.lemmas.List.{append-nil}
-use Rattle.ov_base.specs.declared.limits.TheConstants.{MAX_USERS, MAX_FILES, MAX_FILE_BYTES, MAX_LAYER_NODES, MAX_FRAME_BYTES}
+use Rattle.ov_base.specs.declared.limits.TheConstants.{MAX_USERS, MAX_FILES, MAX_FILE_BYTES, MAX_LAYER_NODES, MAX_FRAME_BYTES, SET_BYTES}
 use Rattle.ov_base.specs.declared.mode.Mode.TheVariants.{Full, Delta}
 use Rattle.ov_base.specs.declared.refusal.Refusal.{Refusal}
 use Rattle.ov_base.specs.declared.refusal.Refusal.TheVariants.{Taken, NoUser, NoFile}
@@ -29,7 +29,7 @@ use Rattle.ov_wire.specs.declared.answer.Answer.{Answer}
 use Rattle.ov_wire.specs.declared.answer.Answer.TheVariants as answers
 use Rattle.ov_wire.specs.AnswerBytes.{answer_bytes}
 use Rattle.ov_wire.specs.AnswerReading.{Row, bare, refused, welcome_at, welcome, known_at, known, plan_at, plan, chained_at, chained, up_to, answer_rows, answer_of}
-use Rattle.ov_wire.specs.AnswersTo.{IsAnswer, create_refusals, read_refusals, ask_refusals, update_refusals, enrol_refusals, grant_refusals, revoke_refusals, files_of, nodes_of, names_file, wants_of, most_chunk}
+use Rattle.ov_wire.specs.AnswersTo.{IsAnswer, create_refusals, read_refusals, ask_refusals, update_refusals, files_of, nodes_of, names_file, wants_of, most_chunk}
 use Rattle.ov_wire.specs.Chains.{base_kinds, surface_kinds}
 use Rattle.ov_wire.specs.Laws.{HasKind, HasEachAnswer}
 use Rattle.ov_wire.specs.Updates.{Has32}
@@ -93,12 +93,12 @@ known_places question =
 plan_places : {Once : Type 0} → HasPlaces Once Limits plan_at plan_fields PlanFits
 plan_places =
     let two = then_reads (number_reads wide32) (below_reads MAX_FILES (omega arith)) in
-    let three = then_reads two (set_reads 32) in
+    let three = then_reads two (set_reads SET_BYTES) in
     let four = then_reads three node_reads in
     then_places (then_reads four (flag_reads (false ∷ true ∷ [])))
     (then_places four
     (then_places three
-    (then_places two (then_places (number_reads wide32) (number_places wide32) (below_places MAX_FILES (omega arith) (omega arith) tt)) (set_places 32)) (node_places tt))
+    (then_places two (then_places (number_reads wide32) (number_places wide32) (below_places MAX_FILES (omega arith) (omega arith) tt)) (set_places SET_BYTES)) (node_places tt))
     (one_of_places flag (false ∷ true ∷ []) false (inl refl) (omega arith)))
     (counted_places MAX_USERS (omega arith) tt node_reads (node_places tt))
 
@@ -179,15 +179,9 @@ an_ask (questions.Grant user file) = (NoUser, inl refl)
 an_ask (questions.Revoke user file) = (NoUser, inl refl)
 an_ask (questions.Key user) = (NoUser, inl refl)
 
-an_update_by : (one two three : Bool) → (r : Refusal) × IsOneOf r (cond one enrol_refusals (cond two create_refusals (cond three grant_refusals revoke_refusals)))
-an_update_by true two three = (Taken, inl refl)
-an_update_by false true three = (Taken, inl refl)
-an_update_by false false true = (NoUser, inl refl)
-an_update_by false false false = (NoUser, inl refl)
-
-an_update : (spelling : List ℕ) → 1 ≤ length spelling → (r : Refusal) × IsOneOf r (update_refusals spelling)
-an_update [] some = absurd (omega (arith, some))
-an_update (kind ∷ bytes) some = an_update_by (eqb kind 1) (eqb kind 2) (eqb kind 3)
+first_refusal : (refusals : List Refusal) → 1 ≤ length refusals → (r : Refusal) × IsOneOf r refusals
+first_refusal [] some = absurd (omega (arith, some))
+first_refusal (r ∷ refusals) some = (r, inl refl)
 
 rows_placed : (request : Request) → HasEachAnswer request → AllByRecursion (IsPlaced request) (answer_rows request)
 rows_placed requests.Hello has = (
@@ -212,7 +206,7 @@ rows_placed (requests.Cover file len names) has = (
   ),
 )
 rows_placed (requests.Update epoch spelling tag) has =
-    let r = an_update spelling has.1 in (
+    let r = first_refusal (update_refusals spelling) has.1 in (
       row_places 0x84 answers.Accepted (next_reads epoch) (next_places epoch has.0 tt) (record { form = λ k fits. fits; spelled = λ k. refl }),
       (
         refused_row (requests.Update epoch spelling tag) (update_refusals spelling) r.0 r.1 (λ r is. is),

@@ -2,7 +2,7 @@
 use Rattle.std.proofs.Common.{◌≡◌, ℕ, zero, suc, ◌+◌, ◌*◌, ◌-◌, ◌^◌, ◌<◌, ◌≤◌, Bool, true, false, cond, IsTrue, List, [], ◌∷◌, ◌++◌, length, Option, Some, None, Result, Ok, Err, refl, sym, ap, ◌∙◌, arith}
 use Rattle.std.specs.Prelude.{IfSome}
 use Rattle.std.specs.List.{AllByRecursion}
-use Rattle.ov_base.specs.declared.limits.TheConstants.{MAX_USERS, MAX_FILE_BYTES}
+use Rattle.ov_base.specs.declared.limits.TheConstants.{MAX_USERS, MAX_FILE_BYTES, SET_BYTES}
 use Rattle.ov_base.specs.Names.{IsName}
 use Rattle.ov_base.specs.Sets.{IsBelow, bytes_of, set_of_bytes}
 use Rattle.ov_tokens.specs.declared.token.Token.{Token}
@@ -73,10 +73,10 @@ back_node_3 (Access u n token) is = absurd is
 back_node_3 (File name n len generation tag surface) is = absurd is
 
 abbrev pub node_fields : NodeFields → List ℕ
-node_fields f = bytes_of 32 f.0 ++ counted edge_field f.1
+node_fields f = bytes_of SET_BYTES f.0 ++ counted edge_field f.1
 
-node_entry_reads : Reads node_entry_at node_fields NodeFits (32 + (2 + MAX_USERS * (4 + 32)))
-node_entry_reads = then_reads (set_reads 32) (counted_reads MAX_USERS edge_reads)
+node_entry_reads : Reads node_entry_at node_fields NodeFits (SET_BYTES + (2 + MAX_USERS * (4 + 32)))
+node_entry_reads = then_reads (set_reads SET_BYTES) (counted_reads MAX_USERS edge_reads)
 
 node_2_reads : Reads (making node node_entry_at) entry_bytes (IsOfPart 2) longest_entry
 node_2_reads =
@@ -251,5 +251,5 @@ twice set (Ok x) = refl
 twice set (Err left) = refl
 
 -- a node's edges follow its set
-pub rest-node : (bytes rest : List ℕ) (text : List ℕ) → bytes_at 32 bytes ≡ Ok (text, rest) → rest_of (making node node_entry_at bytes) ≡ rest_of (counted_at MAX_USERS edge_at rest)
+pub rest-node : (bytes rest : List ℕ) (text : List ℕ) → bytes_at SET_BYTES bytes ≡ Ok (text, rest) → rest_of (making node node_entry_at bytes) ≡ rest_of (counted_at MAX_USERS edge_at rest)
 rest-node bytes rest text e = rw e (twice (set_of_bytes text) (counted_at MAX_USERS edge_at rest))

@@ -1,7 +1,7 @@
 -- The reader of an update's fields reads exactly their bytes.
 use Rattle.std.proofs.Common.{◌≡◌, ℕ, zero, suc, ◌+◌, ◌*◌, ◌/◌, ◌^◌, ◌<◌, ◌≤◌, List, [], ◌∷◌, ◌++◌, length, Option, Ok, Err, refl, arith}
 use Rattle.std.specs.Prelude.{IfSome}
-use Rattle.ov_base.specs.declared.limits.TheConstants.{MAX_USERS, MAX_FILE_BYTES}
+use Rattle.ov_base.specs.declared.limits.TheConstants.{MAX_USERS, MAX_FILE_BYTES, SET_BYTES}
 use Rattle.ov_base.specs.Names.{IsName}
 use Rattle.ov_fields.specs.Spelling.{u32, name_field, sized, optional}
 use Rattle.ov_fields.specs.Reading.{at_most, bytes_at}
@@ -12,7 +12,7 @@ use Rattle.ov_fields.proofs.NameLaws.{longest_name, name_reads}
 use Rattle.ov_fields.proofs.TestLaws.{IsCount, count_is, is_count}
 use Rattle.ov_fields.proofs.TagLaws.{spanned_reads}
 use Rattle.ov_fields.proofs.KindLaws.{IsKind, kind_takes, kind_again, kind_near, kind_none}
-use Rattle.ov_wire.specs.Updates.{Fields, Enrolment, Creation, Grant, Revocation, plain, Has32, token_fields, AreTokens, tokens_at, fields_bytes, HasFields, IsSpelling, creation, creation_at, grant, grant_at, revocation, revocation_at, fields_at}
+use Rattle.ov_wire.specs.Updates.{Fields, Enrolment, Creation, Grant, Revocation, plain, Has32, HasSet, token_fields, AreTokens, tokens_at, fields_bytes, HasFields, IsSpelling, creation, creation_at, grant, grant_at, revocation, revocation_at, fields_at}
 use Rattle.ov_wire.specs.RequestReading.{spelling_at}
 
 abbrev pub creation_fields : (((List ℕ × List ℕ) × List ℕ) × List ℕ) × List ℕ → List ℕ
@@ -20,7 +20,7 @@ creation_fields f = name_field f.0.0.0.0 ++ f.0.0.0.1 ++ token_fields f.0.0.1 ++
 
 abbrev pub CreationFits : (((List ℕ × List ℕ) × List ℕ) × List ℕ) × List ℕ → Type 0
 CreationFits f =
-    (((IsName f.0.0.0.0 × Has32 f.0.0.0.1) × AreTokens MAX_USERS f.0.0.1) × Has32 f.0.1)
+    (((IsName f.0.0.0.0 × HasSet f.0.0.0.1) × AreTokens MAX_USERS f.0.0.1) × Has32 f.0.1)
     × (IsCount (2 ^ 32) MAX_FILE_BYTES (length f.1) × Unit {0})
 
 -- the bytes of this many tokens
@@ -46,8 +46,8 @@ tokens_reads most small =
       short = λ tokens fits. R.short tokens (is_count (2 ^ 16) most (length tokens / 32) small fits.1, fits.0);
     }
 
-pub creation_reads : Reads creation_at creation_fields CreationFits (longest_name + 32 + (2 + 32 * MAX_USERS) + 32 + (4 + MAX_FILE_BYTES))
-creation_reads = then_reads (then_reads (then_reads (then_reads name_reads (bytes_reads 32)) (tokens_reads MAX_USERS (omega arith))) (bytes_reads 32)) (sized_reads MAX_FILE_BYTES)
+pub creation_reads : Reads creation_at creation_fields CreationFits (longest_name + SET_BYTES + (2 + 32 * MAX_USERS) + 32 + (4 + MAX_FILE_BYTES))
+creation_reads = then_reads (then_reads (then_reads (then_reads name_reads (bytes_reads SET_BYTES)) (tokens_reads MAX_USERS (omega arith))) (bytes_reads 32)) (sized_reads MAX_FILE_BYTES)
 
 pub creation_kind : IsKind creation_fields CreationFits fields_bytes HasFields 2 creation
 creation_kind = record {
@@ -84,7 +84,7 @@ enrolment_kind = record { form = λ name is. is; spelled = λ name. refl }
 
 -- no update has more bytes
 abbrev pub longest : ℕ
-longest = 1 + (longest_name + 32 + (2 + 32 * MAX_USERS) + 32 + (4 + MAX_FILE_BYTES))
+longest = 1 + (longest_name + SET_BYTES + (2 + 32 * MAX_USERS) + 32 + (4 + MAX_FILE_BYTES))
 
 fields_takes : (bytes : List ℕ) (x : Fields × List ℕ) → AreBytes bytes → fields_at bytes ≡ Ok x → HasFields x.0 × (bytes ≡ fields_bytes x.0 ++ x.1)
 unfolding fields_at

@@ -3,7 +3,7 @@ use Rattle.std.proofs.Common.{◌≡◌, ℕ, zero, suc, ◌+◌, ◌-◌, ◌^�
 use Rattle.std.specs.Prelude.{IfSome}
 use Rattle.std.specs.Int.{w32}
 use Rattle.std.specs.List.{flat_map, AllByRecursion}
-use Rattle.ov_base.specs.declared.limits.TheConstants.{MAX_USERS, MAX_FILE_BYTES, MAX_LAYER_NODES}
+use Rattle.ov_base.specs.declared.limits.TheConstants.{MAX_USERS, MAX_FILE_BYTES, MAX_LAYER_NODES, SET_BYTES}
 use Rattle.ov_base.specs.declared.refusal.Refusal.{Refusal}
 use Rattle.ov_base.specs.declared.refusal.Refusal.TheVariants.{Taken, NoUser, NoFile, NoPath, Listed, NotListed, UsersFull, FilesFull, BytesFull, NodesFull, Spent}
 use Rattle.ov_base.specs.Refusals.{refusal_number}
@@ -121,7 +121,7 @@ user_places limited =
     (λ f fits. (fits.0.0, fits.0.1, fits.1)) (λ f fits. refl)
 
 node_entry_places : {Once Limited : Type 0} → Limited → HasPlaces Once Limited node_entry_at node_fields NodeFits
-node_entry_places limited = then_places (set_reads 32) (set_places 32) (counted_places MAX_USERS (omega arith) limited edge_reads (edge_places limited))
+node_entry_places limited = then_places (set_reads SET_BYTES) (set_places SET_BYTES) (counted_places MAX_USERS (omega arith) limited edge_reads (edge_places limited))
 
 access_places : {Once Limited : Type 0} → Limited → HasPlaces Once Limited (making access access_entry_at) entry_bytes (IsOfPart 4)
 access_places limited =

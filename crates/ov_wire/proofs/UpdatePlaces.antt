@@ -1,6 +1,6 @@
 -- Wrong places of questions and of updates.
 use Rattle.std.proofs.Common.{◌≡◌, ℕ, zero, suc, ◌*◌, ◌/◌, ◌^◌, ◌<◌, List, [], ◌∷◌, length, Err, refl, subst, arith}
-use Rattle.ov_base.specs.declared.limits.TheConstants.{MAX_USERS, MAX_FILE_BYTES}
+use Rattle.ov_base.specs.declared.limits.TheConstants.{MAX_USERS, MAX_FILE_BYTES, SET_BYTES}
 use Rattle.ov_base.specs.Names.{IsName}
 use Rattle.ov_fields.specs.Spelling.{name_field}
 use Rattle.ov_fields.specs.Fronts.{IsFront}
@@ -70,9 +70,9 @@ tokens_places most small limited =
 
 creation_places : {Once Limited : Type 0} → Limited → HasPlaces Once Limited creation_at fields.creation_fields fields.CreationFits
 creation_places limited =
-    then_places (then_reads (then_reads (then_reads name_reads (bytes_reads 32)) (fields.tokens_reads MAX_USERS (omega arith))) (bytes_reads 32))
-    (then_places (then_reads (then_reads name_reads (bytes_reads 32)) (fields.tokens_reads MAX_USERS (omega arith)))
-    (then_places (then_reads name_reads (bytes_reads 32)) (then_places name_reads name_places (bytes_places 32)) (tokens_places MAX_USERS (omega arith) limited)) (bytes_places 32))
+    then_places (then_reads (then_reads (then_reads name_reads (bytes_reads SET_BYTES)) (fields.tokens_reads MAX_USERS (omega arith))) (bytes_reads 32))
+    (then_places (then_reads (then_reads name_reads (bytes_reads SET_BYTES)) (fields.tokens_reads MAX_USERS (omega arith)))
+    (then_places (then_reads name_reads (bytes_reads SET_BYTES)) (then_places name_reads name_places (bytes_places SET_BYTES)) (tokens_places MAX_USERS (omega arith) limited)) (bytes_places 32))
     (sized_places MAX_FILE_BYTES (omega arith) limited)
 
 grant_places : {Once Limited : Type 0} → HasPlaces Once Limited grant_at fields.grant_fields fields.GrantFits

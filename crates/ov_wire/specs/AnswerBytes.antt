@@ -3,6 +3,7 @@ use Rattle.std.specs.Prelude.{ℕ, ◌≤◌, List, [], ◌∷◌, ◌++◌, len
 use Rattle.ov_base.specs.Modes.{mode_byte}
 use Rattle.ov_base.specs.Refusals.{refusal_number}
 use Rattle.ov_base.specs.Sets.{bytes_of}
+use Rattle.ov_base.specs.declared.limits.TheConstants.{SET_BYTES}
 use Rattle.ov_fields.specs.Spelling.{u8, u32, flag, name_field, optional, counted}
 use Rattle.ov_wire.specs.declared.answer.Welcome.{Welcome}
 use Rattle.ov_wire.specs.declared.answer.Known.{Known}
@@ -26,7 +27,7 @@ known_bytes known =
 -- the set in 32 bytes, between numbers, and the starts of edges
 abbrev pub plan_bytes : Plan → List ℕ
 plan_bytes plan =
-    u32 plan.epoch ++ u32 plan.file ++ bytes_of 32 plan.list ++ u32 plan.node
+    u32 plan.epoch ++ u32 plan.file ++ bytes_of SET_BYTES plan.list ++ u32 plan.node
     ++ u8 (flag plan.fresh) ++ counted u32 plan.from
 
 -- the numbers, the tag, and the chains

@@ -1,7 +1,7 @@
 -- Reading the answers to a request from left to right.
 use Rattle.std.specs.Prelude.{ℕ, ◌+◌, Bool, List, [], ◌∷◌, length, take, drop, Option, None, Result, Ok, if◌then◌else◌}
 use Rattle.std.specs.Int.{w32}
-use Rattle.ov_base.specs.declared.limits.TheConstants.{MAX_USERS, MAX_FILES, MAX_FILE_BYTES}
+use Rattle.ov_base.specs.declared.limits.TheConstants.{MAX_USERS, MAX_FILES, MAX_FILE_BYTES, SET_BYTES}
 use Rattle.ov_base.specs.declared.mode.Mode.{Mode}
 use Rattle.ov_base.specs.declared.mode.Mode.TheVariants.{Full, Delta}
 use Rattle.ov_base.specs.declared.refusal.Refusal.{Refusal}
@@ -74,7 +74,7 @@ known ((((((epoch, user), base_root), surface_root), file), node), wants) =
 -- the fields of a Plan, in the order of their bytes
 abbrev pub plan_at : List ℕ → Read (((((ℕ × ℕ) × ℕ) × ℕ) × Bool) × List ℕ)
 plan_at =
-    number_at w32 >> number_that w32 (below MAX_FILES) >> set_at 32 >> node_at >> flag_at
+    number_at w32 >> number_that w32 (below MAX_FILES) >> set_at SET_BYTES >> node_at >> flag_at
     >> counted_at MAX_USERS node_at
 
 -- the Plan with these fields

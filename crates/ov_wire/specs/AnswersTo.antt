@@ -50,14 +50,15 @@ ask_refusals (questions.Grant user file) = grant_refusals
 ask_refusals (questions.Revoke user file) = revoke_refusals
 ask_refusals (questions.Key user) = NoUser ∷ []
 
--- the refusals of an update with this spelling
+-- the refusals of an update with this spelling: none where no update is of its kind
 abbrev pub update_refusals : List ℕ → List Refusal
 update_refusals [] = []
 update_refusals (kind ∷ bytes) =
     if kind == 1 then enrol_refusals
     else if kind == 2 then create_refusals
     else if kind == 3 then grant_refusals
-    else revoke_refusals
+    else if kind == 4 then revoke_refusals
+    else []
 
 -- ---- the fields of Known that are 0 where the command is about no file
 

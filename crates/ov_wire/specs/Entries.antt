@@ -2,7 +2,7 @@
 use Rattle.std.specs.Prelude.{ℕ, zero, suc, ◌≡◌, ◌≤◌, ◌<◌, ◌^◌, List, length, Option, IfSome, Err}
 use Rattle.std.specs.List.{AllByRecursion}
 use Rattle.std.specs.Int.{w32}
-use Rattle.ov_base.specs.declared.limits.TheConstants.{MAX_USERS, MAX_LAYER_NODES, MAX_FILE_BYTES}
+use Rattle.ov_base.specs.declared.limits.TheConstants.{MAX_USERS, MAX_LAYER_NODES, MAX_FILE_BYTES, SET_BYTES}
 use Rattle.ov_base.specs.Names.{IsName}
 use Rattle.ov_base.specs.Sets.{IsBelow}
 use Rattle.ov_tokens.specs.declared.token.Token.{Token}
@@ -22,7 +22,7 @@ pub data Entry : Type 0 where
 -- the entry's fields in order
 abbrev pub entry_bytes : Entry → List ℕ
 entry_bytes (User name base_root surface_root) = user_entry name base_root surface_root
-entry_bytes (Node set edges) = node_entry 32 set edges
+entry_bytes (Node set edges) = node_entry SET_BYTES set edges
 entry_bytes (Access user node token) = access_entry user node token
 entry_bytes (File name node len generation tag surface) =
     file_entry name node len generation tag surface
@@ -87,7 +87,7 @@ edge_at = making edge edge_fields_at
 
 -- a set in 32 bytes, and edges
 abbrev pub node_entry_at : List ℕ → Read (ℕ × List Edge)
-node_entry_at = set_at 32 >> counted_at MAX_USERS edge_at
+node_entry_at = set_at SET_BYTES >> counted_at MAX_USERS edge_at
 
 -- the node with these fields
 abbrev pub node : ℕ × List Edge → Entry

@@ -8,7 +8,7 @@ use Rattle.ov_wire.specs.declared.request.Request.TheVariants as requests
 use Rattle.ov_wire.specs.Requests.{request_bytes, HasRequestForm, IsRequest}
 use Rattle.ov_wire.specs.RequestReading.{request_of}
 use Rattle.ov_wire.specs.AnswerBytes.{answer_bytes}
-use Rattle.ov_wire.specs.AnswersTo.{IsAnswer}
+use Rattle.ov_wire.specs.AnswersTo.{IsAnswer, update_refusals}
 use Rattle.ov_wire.specs.AnswerReading.{answer_of}
 
 -- no frame behind its length field is the front of another's, and none is two
@@ -35,10 +35,10 @@ BadRequestsArePlaced =
     → IsWrongPlace request_bytes IsRequest (HasKind 3 bytes) bytes place
 
 -- Each kind of answer that the request can have has one: an epoch comes after an update's and a
--- generation after a chunk's, and an update has a byte, which tells what it is refused with.
+-- generation after a chunk's, and an update is of a kind that can be refused.
 abbrev pub HasEachAnswer : Request → Type 0
 HasEachAnswer (requests.Update epoch spelling tag) =
-    (epoch < 4294967295) × (1 ≤ length spelling)
+    (epoch < 4294967295) × (1 ≤ length (update_refusals spelling))
 HasEachAnswer (requests.Chunk file generation start count) = generation < 4294967295
 HasEachAnswer request = Unit {0}
 

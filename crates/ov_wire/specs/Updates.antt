@@ -1,7 +1,7 @@
 -- How the spelling of an update is cut into fields, whatever they mean.
 use Rattle.std.specs.Prelude.{ℕ, zero, suc, ◌≡◌, ◌<◌, ◌≤◌, ◌*◌, ◌/◌, ◌^◌, List, [], ◌∷◌, ◌++◌, length, Option, IfSome, Err}
 use Rattle.std.specs.Int.{w16, w32}
-use Rattle.ov_base.specs.declared.limits.TheConstants.{MAX_USERS, MAX_FILE_BYTES}
+use Rattle.ov_base.specs.declared.limits.TheConstants.{MAX_USERS, MAX_FILE_BYTES, SET_BYTES}
 use Rattle.ov_base.specs.Names.{IsName}
 use Rattle.ov_fields.specs.Spelling.{u16, u32, name_field, sized, optional}
 use Rattle.ov_fields.specs.Reading.{Read, ◌>>=◌, ◌>>◌, made, at_most, bytes_at, number_at, number_that, sized_at, optional_at, name_at}
@@ -17,9 +17,13 @@ pub data Fields : Type 0 where
 abbrev pub plain : List ℕ → List ℕ
 plain bytes = bytes
 
--- a tag, a check value, a token or a set has 32 bytes
+-- a tag, a check value or a token has 32 bytes
 abbrev pub Has32 : List ℕ → Type 0
 Has32 bytes = length bytes ≡ 32
+
+-- a set of users has SET_BYTES bytes
+abbrev pub HasSet : List ℕ → Type 0
+HasSet bytes = length bytes ≡ SET_BYTES
 
 -- tokens as they are, 32 bytes each, behind their number
 abbrev pub token_fields : List ℕ → List ℕ
@@ -42,7 +46,7 @@ fields_bytes (Revocation user file) = 4 ∷ u32 user ++ u32 file
 abbrev pub HasFields : Fields → Type 0
 HasFields (Enrolment name) = IsName name
 HasFields (Creation name list tokens tag bytes) =
-    IsName name × Has32 list × AreTokens MAX_USERS tokens × Has32 tag
+    IsName name × HasSet list × AreTokens MAX_USERS tokens × Has32 tag
     × (length bytes ≤ MAX_FILE_BYTES)
 HasFields (Grant user file token) = (user < 2 ^ 32) × (file < 2 ^ 32) × IfSome token Has32
 HasFields (Revocation user file) = (user < 2 ^ 32) × (file < 2 ^ 32)
@@ -64,7 +68,7 @@ tokens_at most bytes = do
 -- name, list, tokens, tag and bytes of a creation
 abbrev pub creation_at : List ℕ → Read ((((List ℕ × List ℕ) × List ℕ) × List ℕ) × List ℕ)
 creation_at =
-    name_at >> bytes_at 32 >> tokens_at MAX_USERS >> bytes_at 32 >> sized_at MAX_FILE_BYTES
+    name_at >> bytes_at SET_BYTES >> tokens_at MAX_USERS >> bytes_at 32 >> sized_at MAX_FILE_BYTES
 
 -- the creation with these fields
 abbrev pub creation : (((List ℕ × List ℕ) × List ℕ) × List ℕ) × List ℕ → Fields

@@ -16,7 +16,7 @@ use crate::answer_bodies::{
     take_plan, take_refused, take_stale, take_welcome,
 };
 use crate::refusals::{ask_refusals, create_refusals, read_refusals, update_refusals};
-use crate::{Answer, Question, Request, WireFault};
+use crate::{Answer, Question, Request, WireFault, kinds};
 use ov_base::Refusal;
 use ov_base::limits::MAX_FRAME_BYTES;
 use ov_fields::FieldFault;
@@ -36,8 +36,8 @@ fn to_hello(kind: u8, body: &[u8]) -> Result<(Answer, &[u8]), FieldFault>
     ensures { GivesField (λ a. a) result (by_kind hello_rows kind body.now) }
 {
     match kind {
-        0x81 => take_welcome(body),
-        0x8e => Ok((Answer::NoMemory, body)),
+        kinds::WELCOME => take_welcome(body),
+        kinds::NO_MEMORY => Ok((Answer::NoMemory, body)),
         _ => Err(no_answer(body)),
     }
 }
@@ -51,9 +51,9 @@ fn to_ask<'a>(
     ensures { GivesField (λ a. a) result (by_kind (ask_rows question.now) kind body.now) }
 {
     match kind {
-        0x82 => take_known(question, body),
-        0x88 => take_refused(ask_refusals(question), body),
-        0x8e => Ok((Answer::NoMemory, body)),
+        kinds::KNOWN => take_known(question, body),
+        kinds::REFUSED => take_refused(ask_refusals(question), body),
+        kinds::NO_MEMORY => Ok((Answer::NoMemory, body)),
         _ => Err(no_answer(body)),
     }
 }
@@ -63,9 +63,9 @@ fn to_cover(alloc: Global, kind: u8, body: &[u8]) -> Result<(Answer, &[u8]), Fie
     ensures { GivesField (λ a. a) result (by_kind cover_rows kind body.now) }
 {
     match kind {
-        0x83 => take_plan(alloc, body),
-        0x88 => take_refused(create_refusals(), body),
-        0x8e => Ok((Answer::NoMemory, body)),
+        kinds::PLAN => take_plan(alloc, body),
+        kinds::REFUSED => take_refused(create_refusals(), body),
+        kinds::NO_MEMORY => Ok((Answer::NoMemory, body)),
         _ => Err(no_answer(body)),
     }
 }
@@ -81,12 +81,12 @@ fn to_update<'a>(
         (by_kind (update_rows made_at spelling.now) kind body.now) }
 {
     match kind {
-        0x84 => take_accepted(made_at, body),
-        0x88 => take_refused(update_refusals(spelling), body),
-        0x89 => take_stale(made_at, body),
-        0x8a => Ok((Answer::BadTag, body)),
-        0x8d => Ok((Answer::DeviceFault, body)),
-        0x8e => Ok((Answer::NoMemory, body)),
+        kinds::ACCEPTED => take_accepted(made_at, body),
+        kinds::REFUSED => take_refused(update_refusals(spelling), body),
+        kinds::STALE => take_stale(made_at, body),
+        kinds::BAD_TAG => Ok((Answer::BadTag, body)),
+        kinds::DEVICE_FAULT => Ok((Answer::DeviceFault, body)),
+        kinds::NO_MEMORY => Ok((Answer::NoMemory, body)),
         _ => Err(no_answer(body)),
     }
 }
@@ -96,9 +96,9 @@ fn to_chain(alloc: Global, kind: u8, body: &[u8]) -> Result<(Answer, &[u8]), Fie
     ensures { GivesField (λ a. a) result (by_kind chain_rows kind body.now) }
 {
     match kind {
-        0x85 => take_chained(alloc, body),
-        0x88 => take_refused(read_refusals(), body),
-        0x8e => Ok((Answer::NoMemory, body)),
+        kinds::CHAINED => take_chained(alloc, body),
+        kinds::REFUSED => take_refused(read_refusals(), body),
+        kinds::NO_MEMORY => Ok((Answer::NoMemory, body)),
         _ => Err(no_answer(body)),
     }
 }
@@ -114,11 +114,11 @@ fn to_chunk(
     ensures { GivesField (λ a. a) result (by_kind (chunk_rows asked count) kind body.now) }
 {
     match kind {
-        0x86 => take_chunk(alloc, count, body),
-        0x88 => take_refused(&[Refusal::NoFile], body),
-        0x8c => take_moved(asked, body),
-        0x8d => Ok((Answer::DeviceFault, body)),
-        0x8e => Ok((Answer::NoMemory, body)),
+        kinds::BYTES => take_chunk(alloc, count, body),
+        kinds::REFUSED => take_refused(&[Refusal::NoFile], body),
+        kinds::MOVED => take_moved(asked, body),
+        kinds::DEVICE_FAULT => Ok((Answer::DeviceFault, body)),
+        kinds::NO_MEMORY => Ok((Answer::NoMemory, body)),
         _ => Err(no_answer(body)),
     }
 }
@@ -128,8 +128,8 @@ fn to_page(alloc: Global, part: u8, kind: u8, body: &[u8]) -> Result<(Answer, &[
     ensures { GivesField (λ a. a) result (by_kind (page_rows part) kind body.now) }
 {
     match kind {
-        0x87 => take_page_of(alloc, part, body),
-        0x8e => Ok((Answer::NoMemory, body)),
+        kinds::PAGE_OF => take_page_of(alloc, part, body),
+        kinds::NO_MEMORY => Ok((Answer::NoMemory, body)),
         _ => Err(no_answer(body)),
     }
 }
@@ -139,9 +139,9 @@ fn to_list(alloc: Global, kind: u8, body: &[u8]) -> Result<(Answer, &[u8]), Fiel
     ensures { GivesField (λ a. a) result (by_kind list_rows kind body.now) }
 {
     match kind {
-        0x8f => take_listed(alloc, body),
-        0x88 => take_refused(&[Refusal::NoFile], body),
-        0x8e => Ok((Answer::NoMemory, body)),
+        kinds::LISTED => take_listed(alloc, body),
+        kinds::REFUSED => take_refused(&[Refusal::NoFile], body),
+        kinds::NO_MEMORY => Ok((Answer::NoMemory, body)),
         _ => Err(no_answer(body)),
     }
 }

@@ -7,7 +7,7 @@ ghost use Rattle.ov_wire.specs.AnswerBytes.{answer_body, answer_bytes, chained_b
 
 use crate::chains::{put_chain, put_chain_or_none};
 use crate::names::put_names;
-use crate::{Answer, Chained, Known, Plan, Welcome};
+use crate::{Answer, Chained, Known, Plan, Welcome, kinds};
 use ov_base::Memory;
 use ov_fields::{append, put_set, put_u16, put_u32};
 use ov_tokens::Numbers;
@@ -52,7 +52,7 @@ fn put_welcome(welcome: &Welcome, out: &mut Vec<u8>) -> Result<(), Memory>
     ensures { OnOk result (out.new.items
         ≡ out.old.items ++ (0x81 ∷ welcome_bytes welcome.now)) }
 {
-    out.push(0x81)?;
+    out.push(kinds::WELCOME)?;
     out.push(welcome.mode.byte())?;
     put_u32(welcome.epoch, out)?;
     out.extend_from_slice(&welcome.base_check)?;
@@ -71,7 +71,7 @@ fn put_known(known: &Known, out: &mut Vec<u8>) -> Result<(), Memory>
         known.file,
         known.node,
     ];
-    put_kind(0x82, &numbers, out)?;
+    put_kind(kinds::KNOWN, &numbers, out)?;
     out.push(flag(known.wants))?;
     Ok(())
 }
@@ -81,7 +81,7 @@ fn put_plan(plan: &Plan, out: &mut Vec<u8>) -> Result<(), Memory>
     requires { length plan.now.from ≤ 65535 }
     ensures { OnOk result (out.new.items ≡ out.old.items ++ (0x83 ∷ plan_bytes plan.now)) }
 {
-    put_kind(0x83, &[plan.epoch, plan.file], out)?;
+    put_kind(kinds::PLAN, &[plan.epoch, plan.file], out)?;
     put_set(&plan.list, out)?;
     put_u32(plan.node, out)?;
     out.push(flag(plan.fresh))?;
@@ -101,7 +101,7 @@ fn put_chained(chained: &Chained, out: &mut Vec<u8>) -> Result<(), Memory>
         chained.length,
         chained.generation,
     ];
-    put_kind(0x85, &numbers, out)?;
+    put_kind(kinds::CHAINED, &numbers, out)?;
     out.extend_from_slice(&chained.tag)?;
     put_chain(&chained.base, out)?;
     put_chain_or_none(&chained.surface, out)
@@ -128,25 +128,25 @@ fn put_front(answer: &Answer, out: &mut Vec<u8>) -> Result<(), Memory>
         Answer::Welcome(welcome) => put_welcome(welcome, out)?,
         Answer::Known(known) => put_known(known, out)?,
         Answer::Plan(plan) => put_plan(plan, out)?,
-        Answer::Accepted { epoch } => put_kind(0x84, &[*epoch], out)?,
+        Answer::Accepted { epoch } => put_kind(kinds::ACCEPTED, &[*epoch], out)?,
         Answer::Chained(chained) => put_chained(chained, out)?,
-        Answer::Bytes { .. } => out.push(0x86)?,
+        Answer::Bytes { .. } => out.push(kinds::BYTES)?,
         Answer::PageOf { entry } => {
-            out.push(0x87)?;
+            out.push(kinds::PAGE_OF)?;
             out.push(flag(entry.is_some()))?;
         }
         Answer::Refused { refusal } => {
-            out.push(0x88)?;
+            out.push(kinds::REFUSED)?;
             out.push(refusal.number())?;
         }
-        Answer::Stale { epoch } => put_kind(0x89, &[*epoch], out)?,
-        Answer::BadTag => out.push(0x8a)?,
-        Answer::BadRequest { at } => put_kind(0x8b, &[*at], out)?,
-        Answer::Moved { generation } => put_kind(0x8c, &[*generation], out)?,
-        Answer::DeviceFault => out.push(0x8d)?,
-        Answer::NoMemory => out.push(0x8e)?,
+        Answer::Stale { epoch } => put_kind(kinds::STALE, &[*epoch], out)?,
+        Answer::BadTag => out.push(kinds::BAD_TAG)?,
+        Answer::BadRequest { at } => put_kind(kinds::BAD_REQUEST, &[*at], out)?,
+        Answer::Moved { generation } => put_kind(kinds::MOVED, &[*generation], out)?,
+        Answer::DeviceFault => out.push(kinds::DEVICE_FAULT)?,
+        Answer::NoMemory => out.push(kinds::NO_MEMORY)?,
         Answer::Listed { names } => {
-            out.push(0x8f)?;
+            out.push(kinds::LISTED)?;
             put_names(names, out)?;
         }
     }

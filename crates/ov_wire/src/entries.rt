@@ -8,7 +8,7 @@ ghost use Rattle.ov_wire.specs.AnswerReading.{entry_or_none_at};
 ghost use Rattle.ov_wire.specs.Entries.{access, access_entry_at, edge_at, entry_at, file, file_entry_at, node, node_at, node_entry_at, user, user_entry_at};
 
 use ov_base::Octets;
-use ov_base::limits::{MAX_FILE_BYTES, MAX_LAYER_NODES, MAX_USERS};
+use ov_base::limits::{MAX_FILE_BYTES, MAX_LAYER_NODES, MAX_USERS, SET_BYTES};
 use ov_fields::{
     FieldFault, take_bytes, take_flag, take_name, take_token, take_u16_at_most, take_u32,
     take_u32_at_most, take_u32_below,
@@ -59,7 +59,7 @@ fn skip_edges(bytes: &[u8]) -> Result<&[u8], FieldFault>
 fn skip_node(bytes: &[u8]) -> Result<&[u8], FieldFault>
     ensures { Gives left_of (λ r. r.now) result (rest_of (making node node_entry_at bytes.now)) }
 {
-    let (_, rest) = take_bytes(32, bytes)?;
+    let (_, rest) = take_bytes(SET_BYTES, bytes)?;
     skip_edges(rest)
 }
 

@@ -1,54 +1,24 @@
 //! Each request within the limits has a spelling.
 
-ghost use Rattle.std.specs.Prelude.{◌≡◌, ◌≤◌, length};
-ghost use Rattle.std.specs.List.{AllByRecursion};
-ghost use Rattle.ov_base.specs.Names.{IsName};
-ghost use Rattle.ov_wire.specs.Requests.{AreNames, HasQuestionForm, HasRequestForm, HasRequestLimits};
-ghost use Rattle.ov_wire.specs.Updates.{Has32};
+ghost use Rattle.ov_wire.specs.Requests.{HasQuestionForm, HasRequestForm, HasRequestLimits};
 
 use crate::{Question, Request};
-use ov_base::{Name, Names};
-
-fn is_name(name: &Name)
-    ensures { IsName name.now }
-{
-    let _ = name.as_bytes();
-}
-
-fn are_each_names(names: &[Name])
-    ensures { AllByRecursion IsName names.now }
-{
-    for name in names {
-        is_name(name);
-    }
-}
-
-fn are_names(names: &Names)
-    ensures { AreNames names.now }
-{
-    are_each_names(names.as_slice());
-}
-
-fn is_tag(tag: &[u8; 32])
-    ensures { Has32 tag.now }
-{
-    let _tag = *tag;
-}
+use ov_fields::{known_name, known_names, known_tag};
 
 fn has_question_form(question: &Question)
     ensures { HasQuestionForm question.now }
 {
     match question {
-        Question::Enrol { user } => is_name(user),
+        Question::Enrol { user } => known_name(user),
         Question::Grant { user, file } => {
-            is_name(user);
-            is_name(file);
+            known_name(user);
+            known_name(file);
         }
         Question::Revoke { user, file } => {
-            is_name(user);
-            is_name(file);
+            known_name(user);
+            known_name(file);
         }
-        Question::Key { user } => is_name(user),
+        Question::Key { user } => known_name(user),
     }
 }
 
@@ -61,16 +31,16 @@ pub fn has_request_form(request: &Request)
         Request::Hello => {}
         Request::Ask { question } => has_question_form(question),
         Request::Cover { file, names, .. } => {
-            is_name(file);
-            are_names(names);
+            known_name(file);
+            known_names(names);
         }
         Request::Update { epoch, tag, .. } => {
             let _epoch = *epoch;
-            is_tag(tag);
+            known_tag(tag);
         }
         Request::Chain { user, file } => {
-            is_name(user);
-            is_name(file);
+            known_name(user);
+            known_name(file);
         }
         Request::Chunk {
             file,
@@ -83,6 +53,6 @@ pub fn has_request_form(request: &Request)
         Request::Page { number, .. } => {
             let _number = *number;
         }
-        Request::List { file } => is_name(file),
+        Request::List { file } => known_name(file),
     }
 }

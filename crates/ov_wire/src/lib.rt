@@ -32,6 +32,7 @@ mod decoder;
 mod entries;
 mod fault;
 mod form;
+pub mod kinds;
 mod laws;
 mod names;
 mod refusals;

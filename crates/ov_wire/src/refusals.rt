@@ -81,7 +81,7 @@ pub fn ask_refusals(question: &Question) -> &'static [Refusal]
     }
 }
 
-/// The refusals of an update with this spelling.
+/// The refusals of an update with this spelling: none where no update is of its kind.
 pub fn update_refusals(spelling: &[u8]) -> &'static [Refusal]
     ensures { result.now ≡ update_refusals spelling.now }
 {
@@ -91,7 +91,8 @@ pub fn update_refusals(spelling: &[u8]) -> &'static [Refusal]
             1 => enrol_refusals(),
             2 => create_refusals(),
             3 => grant_refusals(),
-            _ => revoke_refusals(),
+            4 => revoke_refusals(),
+            _ => &[],
         },
     }
 }

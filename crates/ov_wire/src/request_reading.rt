@@ -11,7 +11,7 @@ ghost use Rattle.ov_wire.specs.Requests.{request_bytes, HasRequestForm, HasReque
 
 use crate::names::take_names;
 use crate::update::take_spelling;
-use crate::{Question, Request, WireFault};
+use crate::{Question, Request, WireFault, kinds};
 use ov_base::limits::{MAX_CHUNK_BYTES, MAX_FILE_BYTES, MAX_FRAME_BYTES};
 use ov_base::{Name, Octets};
 use ov_fields::{
@@ -142,14 +142,14 @@ fn take_request(alloc: Global, bytes: &[u8]) -> Result<(Request, &[u8]), FieldFa
     match bytes {
         [] => Err(FieldFault::Bad { left: 0 }),
         [kind, body @ ..] => match *kind {
-            1 => Ok((Request::Hello, body)),
-            2 => take_ask(body),
-            3 => take_cover(alloc, body),
-            4 => take_update(alloc, body),
-            5 => take_chain(body),
-            6 => take_chunk(body),
-            7 => take_page(body),
-            8 => take_list(body),
+            kinds::HELLO => Ok((Request::Hello, body)),
+            kinds::ASK => take_ask(body),
+            kinds::COVER => take_cover(alloc, body),
+            kinds::UPDATE => take_update(alloc, body),
+            kinds::CHAIN => take_chain(body),
+            kinds::CHUNK => take_chunk(body),
+            kinds::PAGE => take_page(body),
+            kinds::LIST => take_list(body),
             _ => Err(FieldFault::Bad { left: bytes.len() }),
         },
     }

@@ -6,7 +6,7 @@ ghost use Rattle.ov_wire.specs.Requests.{question_bytes, request_bytes, request_
 
 use crate::form::has_request_form;
 use crate::names::put_names;
-use crate::{Question, Request};
+use crate::{Question, Request, kinds};
 use ov_base::{Memory, Name, Names};
 use ov_fields::{append, put_name, put_two, put_u32};
 
@@ -46,7 +46,7 @@ fn put_cover(file: &Name, len: u32, names: &Names, out: &mut Vec<u8>) -> Result<
     ensures { OnOk result (out.new.items ≡ out.old.items
         ++ (3 ∷ name_field file.now ++ u32 len ++ counted name_field names.now)) }
 {
-    put_byte_and_name(3, file, out)?;
+    put_byte_and_name(kinds::COVER, file, out)?;
     put_u32(len, out)?;
     put_names(names, out)
 }
@@ -62,7 +62,7 @@ fn put_chunk(
     ensures { OnOk result (out.new.items ≡ out.old.items
         ++ (6 ∷ u32 file ++ u32 generation ++ u32 start ++ u32 count)) }
 {
-    out.push(6)?;
+    out.push(kinds::CHUNK)?;
     put_two(file, generation, out)?;
     put_two(start, count, out)
 }
@@ -84,9 +84,9 @@ fn put_front(request: &Request, out: &mut Vec<u8>) -> Result<(), Memory>
         ≡ out.old.items ++ request_bytes request.now) }
 {
     match request {
-        Request::Hello => out.push(1)?,
+        Request::Hello => out.push(kinds::HELLO)?,
         Request::Ask { question } => {
-            out.push(2)?;
+            out.push(kinds::ASK)?;
             put_question(question, out)?;
         }
         Request::Cover {
@@ -95,10 +95,10 @@ fn put_front(request: &Request, out: &mut Vec<u8>) -> Result<(), Memory>
             names,
         } => put_cover(file, *length, names, out)?,
         Request::Update { epoch, .. } => {
-            out.push(4)?;
+            out.push(kinds::UPDATE)?;
             put_u32(*epoch, out)?;
         }
-        Request::Chain { user, file } => put_two_names(5, user, file, out)?,
+        Request::Chain { user, file } => put_two_names(kinds::CHAIN, user, file, out)?,
         Request::Chunk {
             file,
             generation,
@@ -106,10 +106,10 @@ fn put_front(request: &Request, out: &mut Vec<u8>) -> Result<(), Memory>
             count,
         } => put_chunk(*file, *generation, *start, *count, out)?,
         Request::Page { part, number } => {
-            out.extend_from_slice(&[7, *part])?;
+            out.extend_from_slice(&[kinds::PAGE, *part])?;
             put_u32(*number, out)?;
         }
-        Request::List { file } => put_byte_and_name(8, file, out)?,
+        Request::List { file } => put_byte_and_name(kinds::LIST, file, out)?,
     }
     Ok(())
 }

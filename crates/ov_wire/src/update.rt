@@ -7,7 +7,7 @@ ghost use Rattle.ov_fields.specs.Reading.{made, rest_of};
 ghost use Rattle.ov_wire.specs.RequestReading.{spelling_at};
 ghost use Rattle.ov_wire.specs.Updates.{creation_at, fields_at, grant_at, revocation_at, tokens_at};
 
-use ov_base::limits::{MAX_FILE_BYTES, MAX_USERS};
+use ov_base::limits::{MAX_FILE_BYTES, MAX_USERS, SET_BYTES};
 use ov_fields::{
     FieldFault, take_bytes, take_bytes_or_none, take_name, take_sized, take_u16_at_most, take_u32,
 };
@@ -27,7 +27,7 @@ fn skip_creation(bytes: &[u8]) -> Result<&[u8], FieldFault>
     ensures { Gives left_of (λ r. r.now) result (rest_of (creation_at bytes.now)) }
 {
     let (_, rest) = take_name(bytes)?;
-    let (_, rest) = take_bytes(32, rest)?;
+    let (_, rest) = take_bytes(SET_BYTES, rest)?;
     let (_, rest) = take_tokens(rest)?;
     let (_, rest) = take_bytes(32, rest)?;
     let (_, rest) = take_sized(MAX_FILE_BYTES, rest)?;

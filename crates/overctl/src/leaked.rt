@@ -3,6 +3,7 @@
 ghost use Rattle.std.specs.Prelude.{◌≡◌};
 
 use ov_io::{Fault, Sink, Source, Stream};
+use ov_wire::kinds;
 use std::fs;
 use std::fs::File;
 use std::io::Read;
@@ -16,8 +17,6 @@ const KIND_AT: usize = 4;
 const START: usize = 10;
 
 const END: usize = 42;
-
-const WELCOME: u8 = 0x81;
 
 // The first bytes that came.
 #[derive(Drop)]
@@ -60,7 +59,7 @@ impl<L> WatchedLink<L> {
     /// The check value that the server shows, where its first reply is a Welcome.
     pub fn shown(&self) -> Option<&[u8]> {
         let Front { bytes, filled } = &self.front;
-        if *filled == END && bytes[KIND_AT] == WELCOME {
+        if *filled == END && bytes[KIND_AT] == kinds::WELCOME {
             bytes.get(START..END)
         } else {
             None

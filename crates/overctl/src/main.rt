@@ -27,7 +27,8 @@ mod texts;
 mod usage;
 
 use ov_acts::read_job;
-use real::{held_places, run_job, words_of};
+use ov_files::{held_places, words_of};
+use real::run_job;
 use std::io::ErrorKind;
 use std::process::ExitCode;
 use texts::WrongWords;

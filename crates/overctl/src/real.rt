@@ -14,34 +14,15 @@ use ov_io::{FileSource, Source, StdSink, StdSource};
 use ov_listing::answer;
 use ov_peer::FixedPeer;
 use ov_session::{NetPeer, TcpLink};
+use std::fs;
 use std::fs::File;
 use std::io::{ErrorKind, Read};
 use std::net::ToSocketAddrs;
-use std::{env, fs, io};
 
 // The path that stands for standard input, and what texts call it.
 const STANDARD_INPUT: &str = "-";
 
 const INPUT_NAME: &str = "standard input";
-
-/// The words behind the program's name.
-pub fn words_of(rt: &HostRuntime) -> io::Result<Vec<String>> {
-    let mut words = Vec::new(rt.alloc());
-    for word in env::args(rt)?.skip(1) {
-        words.push(word)?;
-    }
-    Ok(words)
-}
-
-/// Takes the places of standard streams that are closed, so that no other file ends up
-/// there. Where they are open it takes three places that nobody uses.
-pub fn held_places(rt: &HostRuntime) -> (io::Result<File>, io::Result<File>, io::Result<File>) {
-    (
-        File::open(rt, "."),
-        File::open(rt, "."),
-        File::open(rt, "."),
-    )
-}
 
 // The text of a word.
 fn text_of(word: &Octets) -> &str {

@@ -30,7 +30,7 @@ use lacks::{Lack, lack_of};
 use ov_answering::Status;
 use ov_base::Memory;
 use ov_disk::FileDisk;
-use ov_files::begins;
+use ov_files::{begins, held_places, words_of};
 use ov_io::{FileSink, FileSource, Source, StdSink, StdSource};
 use ov_load::load;
 use ov_report::put_memory;
@@ -38,9 +38,8 @@ use ov_run::{Tried, Watched, run};
 use progress::Counted;
 use recent::Recent;
 use std::alloc::Global;
-use std::env;
 use std::fs::File;
-use std::io::{self, ErrorKind, IsTerminal, Write};
+use std::io::{ErrorKind, IsTerminal, Write};
 use std::process::ExitCode;
 use texts::{HELP, VERSION};
 use told::{
@@ -49,15 +48,6 @@ use told::{
 
 // The word that a run without a count of replies begins with.
 const QUIET: &str = "--quiet";
-
-// The words behind the program's name.
-fn words_of(rt: &HostRuntime) -> io::Result<Vec<String>> {
-    let mut words = Vec::new(rt.alloc());
-    for word in env::args(rt)?.skip(1) {
-        words.push(word)?;
-    }
-    Ok(words)
-}
 
 // What the words ask to be told, if they do.
 fn told_by(words: &[String]) -> Option<&'static str> {
@@ -224,16 +214,6 @@ fn answer_words<W: Write>(rt: &HostRuntime, words: &[String], replies: &mut Watc
             answer_over_files(rt, words, shows, replies)
         }
     }
-}
-
-// Takes the places of standard streams that are closed, so that no file of the store ends up
-// there. Where they are open it takes three places that nobody uses.
-fn held_places(rt: &HostRuntime) -> (io::Result<File>, io::Result<File>, io::Result<File>) {
-    (
-        File::open(rt, "."),
-        File::open(rt, "."),
-        File::open(rt, "."),
-    )
 }
 
 fn main(rt: HostRuntime) -> ExitCode {

@@ -5,16 +5,12 @@ use crate::heads::{Head, Heads};
 use crate::texts::on_end;
 use jiff::Timestamp;
 use ov_session::SessionEnd;
+use ov_wire::kinds;
 use std::collections::VecDeque;
 use std::fmt;
 use std::fmt::{Display, Formatter, Write};
 use std::net::SocketAddr;
 use std::time::Clock;
-
-// The kind of a request that asks for an update, and of the reply that says that it was made.
-const UPDATE: u8 = 0x04;
-
-const MADE: u8 = 0x84;
 
 // When a line is logged, to the second, and of which client; `-` where one isn't known.
 #[derive(Drop)]
@@ -90,7 +86,7 @@ impl<R: Eprint + Clock + AllocGlobal> Log<R> {
     // Notes what is asked for.
     fn ask(&mut self, request: Head) {
         let [kind, _, _, _, _, update] = request;
-        let wanted = if kind == UPDATE { update } else { 0 };
+        let wanted = if kind == kinds::UPDATE { update } else { 0 };
         if self.waiting.push_back(wanted).is_err() {
             self.is_blind = true;
         }
@@ -100,7 +96,7 @@ impl<R: Eprint + Clock + AllocGlobal> Log<R> {
     fn answer(&mut self, reply: Head) {
         let update = self.waiting.pop_front();
         let [kind, a, b, c, d, _] = reply;
-        if kind == MADE {
+        if kind == kinds::ACCEPTED {
             let stamp = self.stamp();
             let told = if self.is_blind { None } else { update };
             let word = word_of(told.unwrap_or(0));

@@ -24,18 +24,17 @@ use disk::SpokenDisk;
 use door::{Begun, SpokenDoor};
 use ov_base::Memory;
 use ov_disk::FileDisk;
-use ov_files::{FileFault, begins, fault_of};
+use ov_files::{FileFault, begins, fault_of, held_places, words_of};
 use ov_host::host;
 use ov_io::{FileSource, StdSink};
 use ov_session::TcpDoor;
 use ov_settings::{Settings, read_settings};
 use std::cell::Cell;
-use std::fs::File;
-use std::io::{self, ErrorKind};
+use std::io::ErrorKind;
 use std::net::Net;
 use std::process::ExitCode;
+use std::str;
 use std::sync::Wait;
-use std::{env, str};
 use texts::{HELP, NO_MEMORY, NO_SETTINGS, VERSION};
 
 // The exit statuses that `main` itself gives.
@@ -47,15 +46,6 @@ const OUT_OF_MEMORY: u8 = 7;
 
 // The word before the settings file that asks for a log.
 const LOG: &str = "--log";
-
-// The words behind the program's name.
-fn words_of(rt: &HostRuntime) -> io::Result<Vec<String>> {
-    let mut words = Vec::new(rt.alloc());
-    for word in env::args(rt)?.skip(1) {
-        words.push(word)?;
-    }
-    Ok(words)
-}
 
 // What the word asks to be told, if it does.
 fn told_by(word: &str) -> Option<&'static str> {
@@ -189,16 +179,6 @@ fn answer_words<N: Net + Wait + AllocGlobal + Copy + Drop>(
         },
         _ => serve_by(net, rt, words, "", false),
     }
-}
-
-// Takes the places of standard streams that are closed, so that no file of the store ends up
-// there. Where they are open it takes three places that nobody uses.
-fn held_places(rt: &HostRuntime) -> (io::Result<File>, io::Result<File>, io::Result<File>) {
-    (
-        File::open(rt, "."),
-        File::open(rt, "."),
-        File::open(rt, "."),
-    )
 }
 
 fn main(rt: HostRuntime) -> ExitCode {

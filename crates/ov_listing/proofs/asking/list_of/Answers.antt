@@ -6,6 +6,9 @@ use Rattle.ov_listing.proofs.OneQuestion.{list_told}
 use Rattle.ov_listing.proofs.asking.list_of.Goals as goal
 use Rattle.ov_listing.specs.Causes.{IsSettled}
 use Rattle.ov_listing.proofs.Settling.{fault_settled, list_settled}
+use Rattle.ov_wire.specs.declared.request.Request.TheVariants.{List as Lists}
+use Rattle.ov_listing.specs.Reasons.{BlamesReply}
+use Rattle.ov_listing.proofs.Blaming.{asked_blames, list_blames}
 
 pub returns-in-Ok-clause-told : goal.returns-in-Ok-clause-told
 returns-in-Ok-clause-told g c = λ alone v is_alone serves.
@@ -28,3 +31,16 @@ pub returns-clause-settled : goal.returns-clause-settled
 returns-clause-settled g c =
     subst (λ (f : ListingFault). IsSettled {T = List (List ℕ)} (Err f)) (sym c.fault_of.ensures)
     (fault_settled (List (List ℕ)) c.in-Err.fault)
+
+pub returns-in-Ok-clause-blames : goal.returns-in-Ok-clause-blames
+returns-in-Ok-clause-blames g c =
+    list_blames g.P.Peer.tells c.args.peer.now c.exchange.new.peer c.copy.result c.in-Ok.answer
+    c.in-Ok.ensures.exchanges c.listed_in.result c.listed_in.ensures
+
+pub returns-clause-blames : goal.returns-clause-blames
+returns-clause-blames g c =
+    let peer = g.P.Peer.tells in
+    let q = c.exchange.new.peer in
+    subst (BlamesReply peer q) (sym c.fault_of.ensures)
+    (asked_blames peer c.args.peer.now q (Lists c.copy.result) c.in-Err.fault
+    c.in-Err.ensures.exchanges)

@@ -7,6 +7,10 @@ use Rattle.ov_listing.proofs.asking.name_at.Goals as goal
 use Rattle.ov_listing.specs.Causes.{IsSettled}
 use Rattle.ov_listing.specs.declared.fault.ListingFault.{ListingFault}
 use Rattle.ov_listing.proofs.Settling.{fault_settled, name_settled}
+use Rattle.ov_listing.specs.Questions.{part_number}
+use Rattle.ov_listing.specs.Reasons.{BlamesReply, IsOnPage}
+use Rattle.std.specs.Prelude.{IfOk}
+use Rattle.ov_listing.proofs.Blaming.{asked_blames, page_blames, page_there}
 
 pub returns-in-Ok-clause-told : goal.returns-in-Ok-clause-told
 returns-in-Ok-clause-told g c = λ alone v is_alone serves.
@@ -28,3 +32,25 @@ pub returns-clause-settled : goal.returns-clause-settled
 returns-clause-settled g c =
     subst (λ (f : ListingFault). IsSettled {T = Option (List ℕ)} (Err f)) (sym c.fault_of.ensures)
     (fault_settled (Option (List ℕ)) c.in-Err.fault)
+
+pub returns-in-Ok-clause-blames : goal.returns-in-Ok-clause-blames
+returns-in-Ok-clause-blames g c =
+    page_blames g.P.Peer.tells c.args.peer.now c.exchange.new.peer c.number.result c.args.number
+    c.in-Ok.answer c.in-Ok.ensures.exchanges c.named_in.result c.named_in.ensures
+
+pub returns-in-Ok-clause-page : goal.returns-in-Ok-clause-page
+returns-in-Ok-clause-page g c =
+    let peer = g.P.Peer.tells in
+    let q = c.exchange.new.peer in
+    subst (λ (part : ℕ). IfOk c.named_in.result (IsOnPage peer part c.args.number q))
+    c.number.ensures
+    (page_there peer c.args.peer.now q c.number.result c.args.number c.in-Ok.answer
+    c.in-Ok.ensures.exchanges c.named_in.result c.named_in.ensures)
+
+pub returns-clause-blames : goal.returns-clause-blames
+returns-clause-blames g c =
+    let peer = g.P.Peer.tells in
+    let q = c.exchange.new.peer in
+    subst (BlamesReply peer q) (sym c.fault_of.ensures)
+    (asked_blames peer c.args.peer.now q (Page c.number.result c.args.number) c.in-Err.fault
+    c.in-Err.ensures.exchanges)

@@ -6,4 +6,4 @@ use Rattle.ov_record.proofs.UpdateLaws.{update_reads}
 use Rattle.ov_record.proofs.laws.spellings_are_read.Goals as goal
 
 pub returns : goal.returns
-returns c = λ set_bytes u fits. ap (placed (length (spelling set_bytes u))) (all_again (update_reads set_bytes) u fits)
+returns c = λ form u room fits. ap (placed (length (spelling form u))) (all_again (update_reads form room) u fits)

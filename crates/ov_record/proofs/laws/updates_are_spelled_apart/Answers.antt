@@ -3,4 +3,4 @@ use Rattle.ov_record.proofs.UpdateLaws.{update_reads}
 use Rattle.ov_record.proofs.laws.updates_are_spelled_apart.Goals as goal
 
 pub returns : goal.returns
-returns c = λ set_bytes a b x y fa fb e. no_front (update_reads set_bytes) a b x y fa fb e
+returns c = λ form a b x y room fa fb e. no_front (update_reads form room) a b x y fa fb e

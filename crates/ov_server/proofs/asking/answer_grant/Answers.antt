@@ -1,4 +1,5 @@
-use Rattle.std.proofs.Common.{subst, sym}
+use Rattle.std.proofs.Common.{subst, sym, ◌*◌}
+use Rattle.ov_base.specs.declared.limits.TheConstants.{SET_WORDS}
 use Rattle.ov_history.specs.Asking.{file_named, of_grant, user_named}
 use Rattle.ov_wire.specs.AnswerForm.{HasAnswerForm}
 use Rattle.ov_server.proofs.AskForms.{known_form, grant_numbers}
@@ -11,5 +12,5 @@ returns-in-Ok-clause-form c =
     let f = file_named c0 c.args.file.now in
     let told = rw c.in-Ok.is at c.ask_grant.ensures in
     subst HasAnswerForm (sym c.known-in-Ok.ensures)
-    (known_form 256 c0 c.epoch.result c.in-Ok.asked (of_grant c0 u f) c.known.ensures c.epoch.ensures
-    told.1 (grant_numbers 256 c0 u f c.known.ensures told.0))
+    (known_form (64 * SET_WORDS) c0 c.epoch.result c.in-Ok.asked (of_grant c0 u f) c.known.ensures c.epoch.ensures
+    told.1 (grant_numbers (64 * SET_WORDS) c0 u f c.known.ensures told.0))

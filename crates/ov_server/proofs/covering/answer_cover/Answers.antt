@@ -1,5 +1,6 @@
-use Rattle.std.proofs.Common.{◌≡◌, ℕ, List, subst, sym}
+use Rattle.std.proofs.Common.{◌≡◌, ℕ, List, subst, sym, ◌*◌}
 use Rattle.std.specs.Prelude.{Some}
+use Rattle.ov_base.specs.declared.limits.TheConstants.{SET_WORDS}
 use Rattle.ov_history.specs.Asking.{refusal_at}
 use Rattle.ov_history.specs.History.{Created}
 use Rattle.ov_history.specs.Lists.{set_named}
@@ -12,7 +13,7 @@ returns-in-Ok-clause-form c =
     let c0 = c.args.state.now.catalogue in
     let told = rw c.in-Ok.is at c.cover.ensures in
     subst HasAnswerForm (sym c.plan.ensures)
-    (planned_form 256 c0 c.args.file.now (set_named c0.users c.as_slice.result.now) c.args.size
+    (planned_form (64 * SET_WORDS) c0 c.args.file.now (set_named c0.users c.as_slice.result.now) c.args.size
     c.epoch.result c.in-Ok.planned c.known.ensures c.epoch.ensures told.0 told.1 told.2 told.3)
 
 pub returns-in-Err-Refused-clause-answer : goal.returns-in-Err-Refused-clause-answer

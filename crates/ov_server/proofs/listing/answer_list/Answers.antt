@@ -11,5 +11,5 @@ returns-in_ok-names-in-Ok-clause-form c =
         few_in c.in-Ok.list 0 users,
         c.known.ensures.users,
       ),
-      c.are_names.ensures,
+      c.known_names.ensures,
     )

@@ -1,4 +1,5 @@
 use Rattle.std.proofs.Common.{◌∙◌, ◌<◌, ◌++◌, List, length, ap, arith, rules, subst}
+use Rattle.ov_base.specs.declared.limits.TheConstants.{SET_BYTES}
 use Rattle.ov_fields.specs.Entries.{node_entry}
 use Rattle.ov_state.specs.Contents.{nodes_of}
 use Rattle.ov_tokens.specs.declared.edge.Edge.{Edge}
@@ -28,4 +29,4 @@ returns g c =
     (c.from_vec.ensures ∙ c.in_ok-node_entry.ensures.ok
     ∙ (λ i.
     c.new-bytes.ensures.items i
-    ++ node_entry 32 (c.set_of.ensures i) (c.in_tokens-edges.ensures i)))
+    ++ node_entry SET_BYTES (c.set_of.ensures i) (c.in_tokens-edges.ensures i)))

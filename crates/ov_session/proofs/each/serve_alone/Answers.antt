@@ -13,6 +13,7 @@ returns g c =
     let tells = link g.L.Source.tells g.L.Sink.tells in
     let by_loan : AskerTells (Alone V) = record {
       asks = λ a request reply b. AnswersOne g.V.Answerer.tells a.value.now request reply b.value.now;
+      ready = λ a. Unit {0};
       spent = λ a. ⊥;
       borrow = λ a. a.value.ghost_name;
     } in

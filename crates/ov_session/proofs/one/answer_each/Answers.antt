@@ -33,5 +33,6 @@ loop-frame-preserved g c =
       half = record { left = now.half.left ∙ before.half.left; reads = now.half.reads ∙ before.half.reads };
       later = omega (arith, before.later, now.later);
       same = record { reads = now.same.reads ∙ before.same.reads; writes = now.same.writes ∙ before.same.writes };
+      ready = now.ready;
       asker = now.asker ∙ before.asker;
     }

@@ -14,5 +14,6 @@ invariant-loop-frame g l = record {
       (link g.L.Source.tells g.L.Sink.tells l.stream);
   later : g.L.Sink.tells.faults l.fn.stream ≤ g.L.Sink.tells.faults l.stream;
   same : IsSameLoan g.L.Source.tells g.L.Sink.tells l.fn.stream l.stream;
+  ready : g.A.Asker.tells.ready l.asker;
   asker : g.A.Asker.tells.borrow l.asker ≡ g.A.Asker.tells.borrow l.fn.asker;
 }

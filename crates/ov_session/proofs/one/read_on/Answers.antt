@@ -1,7 +1,6 @@
 use Rattle.std.proofs.Common.{◌≡◌, ◌<◌, ◌≤◌, [], List, ℕ, length, min, ◌+◌, subst, sym, arith}
 use Rattle.std.proofs.lemmas.Grind.{common_steps}
 use Rattle.ov_wire.specs.Frames.{Feeds}
-use Rattle.ov_session.specs.declared.one.TheConstants.{PIECE}
 use Rattle.ov_session.specs.Ends.{Serves}
 use Rattle.ov_session.specs.Links.{link}
 use Rattle.ov_session.specs.Steps.{GoesOn}
@@ -50,7 +49,7 @@ returns-in-Ok-answer_each-clause-goes g c a old so_far =
       writes = leaves.faults;
       later = c.in-Ok.ensures.cause.later;
     }) in
-    let most : length piece ≤ PIECE = grind (arith, common_steps) in
+    let most : length piece ≤ 8192 = grind (arith, common_steps) in
     let none : Feeds d d' piece [] c.feed-fed.new.frames.items c.feed-fed.result =
     subst (λ (l : List (List ℕ)). Feeds d d' piece l c.feed-fed.new.frames.items c.feed-fed.result)
     c.new-frames.ensures.items c.feed-fed.ensures in
@@ -80,7 +79,7 @@ returns-clause-goes g c a old so_far =
       writes = leaves.faults;
       later = c.in-Ok.ensures.cause.later;
     }) in
-    let most : length piece ≤ PIECE = grind (arith, common_steps) in
+    let most : length piece ≤ 8192 = grind (arith, common_steps) in
     let none : Feeds d d' piece [] c.feed-fed.new.frames.items c.feed-fed.result =
     subst (λ (l : List (List ℕ)). Feeds d d' piece l c.feed-fed.new.frames.items c.feed-fed.result)
     c.new-frames.ensures.items c.feed-fed.ensures in

@@ -40,5 +40,6 @@ pieces-init g c =
           (subst (λ n. Going g.A.Asker.tells a a here here fresh n) (sym made.1)
           (begins g.A.Asker.tells a here));
       same = record { reads = refl; writes = refl };
+      ready = c.requires;
       asker = refl;
     }

@@ -10,5 +10,6 @@ invariant-pieces g l = record {
       (link g.L.Source.tells g.L.Sink.tells l.stream)
       l.reading.decoder l.reading.taken;
   same : IsSameLoan g.L.Source.tells g.L.Sink.tells l.fn.stream l.stream;
+  ready : g.A.Asker.tells.ready l.asker;
   asker : g.A.Asker.tells.borrow l.asker ≡ g.A.Asker.tells.borrow l.fn.asker;
 }

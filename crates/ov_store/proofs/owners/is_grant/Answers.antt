@@ -1,5 +1,6 @@
 use Rattle.std.proofs.Common.{rules, ◌≡◌, ◌<◌, length, sym, ◌∙◌, ap, subst}
-use Rattle.std.specs.Prelude.{Contains, Some, None, slice_get}
+use Rattle.std.specs.Prelude.{Contains, Some, None}
+use Rattle.ov_history.specs.Places.{living_at}
 use Rattle.ov_base.specs.Sets.{single}
 use Rattle.ov_tokens.specs.declared.token.Token.{Token}
 use Rattle.ov_graph.specs.Contents.{Contents}
@@ -14,7 +15,7 @@ pub returns-in-None : goal.returns-in-None
 returns-in-None c = λ k same taken owners.
     let low = (both_there k c.args.state.now.catalogue c.args.user c.args.file c.args.token.now
     taken).1 in
-    let none : slice_get c.args.state.now.catalogue.files c.args.file ≡ None = search rules in
+    let none : living_at c.args.state.now.catalogue.files c.args.file ≡ None = search rules in
     is_there c.args.state.now.catalogue.files c.args.file low none
 
 pub root-root-requires-clause-there : goal.root-root-requires-clause-there
@@ -31,7 +32,7 @@ returns-then-ne c = λ k same taken.
     let sets : c.graph.result.now.sets ≡ c.args.state.now.catalogue.base.sets =
     ap (λ (g : Contents). g.sets) c.graph.ensures
     ∙ ap (λ (n : Nodes). n.sets) c.base.ensures.nodes in
-    let is : slice_get c.args.state.now.catalogue.files c.args.file ≡ Some (plain_file
+    let is : living_at c.args.state.now.catalogue.files c.args.file ≡ Some (plain_file
     c.in-Some.entry.now) =
     search rules in
     let root : c.root-root.result ≡ root_of c.args.state.now.catalogue.base.sets c.args.user =
@@ -50,7 +51,7 @@ returns c = λ k same taken.
     let sets : c.graph.result.now.sets ≡ c.args.state.now.catalogue.base.sets =
     ap (λ (g : Contents). g.sets) c.graph.ensures
     ∙ ap (λ (n : Nodes). n.sets) c.base.ensures.nodes in
-    let is : slice_get c.args.state.now.catalogue.files c.args.file ≡ Some (plain_file
+    let is : living_at c.args.state.now.catalogue.files c.args.file ≡ Some (plain_file
     c.in-Some.entry.now) =
     search rules in
     let root : c.root-root.result ≡ root_of c.args.state.now.catalogue.base.sets c.args.user =

@@ -1,5 +1,6 @@
 use Rattle.std.proofs.Common.{◌≡◌, sym, ◌∙◌, ap, subst}
 use Rattle.std.specs.Prelude.{Some, None, Option}
+use Rattle.ov_base.specs.declared.limits.TheConstants.{SET_WORDS}
 use Rattle.ov_tokens.specs.declared.token.Token.{Token}
 use Rattle.ov_record.specs.Updates.{sealed_update}
 use Rattle.ov_record.specs.declared.update.Update.{Update}
@@ -16,11 +17,11 @@ returns-in-Some c = λ k same taken.
     let up : c.args.update.now ≡ Grant c.in-Grant.user c.in-Grant.file (Some c.in-Some.token) =
     c.in-Grant.is
     ∙ ap (λ (t : Option Token). Grant c.in-Grant.user c.in-Grant.file t) c.in-Some.is in
-    subst (λ (u : Update 4). TellsOwners k (outline c.args.state.now.catalogue) (sealed_update u)
+    subst (λ (u : Update SET_WORDS). TellsOwners k (outline c.args.state.now.catalogue) (sealed_update u)
     c.is_grant.result)
     (sym up)
     (c.is_grant.ensures k same
-    (subst (λ (u : Update 4). IsTaken c.args.state.now.catalogue (brief (sealed_update u))) up
+    (subst (λ (u : Update SET_WORDS). IsTaken c.args.state.now.catalogue (brief (sealed_update u))) up
     taken))
 
 pub returns-in-None : goal.returns-in-None
@@ -28,20 +29,20 @@ returns-in-None c = λ k same taken.
     let up : c.args.update.now ≡ Grant c.in-Grant.user c.in-Grant.file None =
     c.in-Grant.is
     ∙ ap (λ (t : Option Token). Grant c.in-Grant.user c.in-Grant.file t) c.in-None.is in
-    subst (λ (u : Update 4). IsOwners k (outline c.args.state.now.catalogue) (sealed_update u)) (sym
+    subst (λ (u : Update SET_WORDS). IsOwners k (outline c.args.state.now.catalogue) (sealed_update u)) (sym
     up)
     (bare_owners k c.args.state.now.catalogue c.in-Grant.user c.in-Grant.file
-    (subst (λ (u : Update 4). IsTaken c.args.state.now.catalogue (brief (sealed_update u))) up
+    (subst (λ (u : Update SET_WORDS). IsTaken c.args.state.now.catalogue (brief (sealed_update u))) up
     taken))
 
 pub returns-in-Enrol : goal.returns-in-Enrol
 returns-in-Enrol c = λ k same taken.
-    subst (λ (u : Update 4). IsOwners k (outline c.args.state.now.catalogue) (sealed_update u)) (sym
+    subst (λ (u : Update SET_WORDS). IsOwners k (outline c.args.state.now.catalogue) (sealed_update u)) (sym
     c.in-Enrol.is)
     (enrol_owners k c.args.state.now.catalogue c.in-Enrol.name)
 
 pub returns-in-Revoke : goal.returns-in-Revoke
 returns-in-Revoke c = λ k same taken.
-    subst (λ (u : Update 4). IsOwners k (outline c.args.state.now.catalogue) (sealed_update u)) (sym
+    subst (λ (u : Update SET_WORDS). IsOwners k (outline c.args.state.now.catalogue) (sealed_update u)) (sym
     c.in-Revoke.is)
     (revoke_owners k c.args.state.now.catalogue c.in-Revoke.user c.in-Revoke.file)

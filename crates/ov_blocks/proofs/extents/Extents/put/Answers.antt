@@ -3,7 +3,8 @@ use Rattle.ov_disk.specs.Disk.{Follows, TornIn}
 use Rattle.ov_disk.specs.declared.area.Area.TheVariants.{Blobs}
 use Rattle.ov_blocks.specs.Writes.{place_in_blobs, PutsInto}
 use Rattle.ov_blocks.proofs.Others.{puts_into}
-use Rattle.ov_blocks.proofs.Changes.{torn_changes, unchanged, follows_weaker, left_by}
+use Rattle.ov_disk.proofs.Runs.{follows_weaker}
+use Rattle.ov_blocks.proofs.Changes.{torn_changes, unchanged, left_by}
 use Rattle.ov_blocks.proofs.extents.Extents.put.Goals as goal
 
 pub returns-clause-crash : goal.returns-clause-crash

@@ -1,7 +1,8 @@
 use Rattle.std.proofs.Common.{◌≡◌, ◌∙◌, [], Ok, Err, refl, rules, subst, sym}
-use Rattle.std.specs.Prelude.{slice_get, slice_index_or}
+use Rattle.std.specs.Prelude.{slice_index_or}
 use Rattle.ov_base.specs.Causes.{Rose}
 use Rattle.ov_base.specs.declared.refusal.Refusal.TheVariants.{NoFile}
+use Rattle.ov_history.specs.Places.{living_at}
 use Rattle.ov_wire.specs.declared.request.Request.{Request}
 use Rattle.ov_wire.specs.declared.request.Request.TheVariants as requests
 use Rattle.ov_wire.specs.declared.answer.Answer.TheVariants as answers
@@ -24,7 +25,7 @@ returns-in-Ok g c =
     (answers_still g.D.Disk.tells s request (Ok asked) is
     (Ok (answers.Bytes c.from_vec-bytes.result)) c.reply_with.new.reply.items c.reply_with.result
     (subst
-    (λ (o : Opened g.row.D.Denot). AnswersChunk (slice_get o.catalogue.files c.args.file)
+    (λ (o : Opened g.row.D.Denot). AnswersChunk (living_at o.catalogue.files c.args.file)
     (slice_index_or o.stored c.args.file []) c.args.generation c.args.start c.args.count
     (answers.Bytes c.from_vec-bytes.result)) c.self.view_is
     (says_bytes store.catalogue store.stored c.args.file c.args.generation c.args.start
@@ -48,7 +49,7 @@ returns-in-Err-NoFile g c =
     (answers_still g.D.Disk.tells s request (Ok asked) is
     (Ok (answers.Refused NoFile)) c.reply_with-in-Err-NoFile.new.reply.items c.reply_with-in-Err-NoFile.result
     (subst
-    (λ (o : Opened g.row.D.Denot). AnswersChunk (slice_get o.catalogue.files c.args.file)
+    (λ (o : Opened g.row.D.Denot). AnswersChunk (living_at o.catalogue.files c.args.file)
     (slice_index_or o.stored c.args.file []) c.args.generation c.args.start c.args.count
     (answers.Refused NoFile)) c.self.view_is
     (says_no_file store.catalogue store.stored c.args.file c.args.generation c.args.start
@@ -68,7 +69,7 @@ returns-in-Err-Moved g c =
     (answers_still g.D.Disk.tells s request (Ok asked) is
     (Ok (answers.Moved c.in-Err-Moved.generation)) c.reply_with-in-Err-Moved.new.reply.items c.reply_with-in-Err-Moved.result
     (subst
-    (λ (o : Opened g.row.D.Denot). AnswersChunk (slice_get o.catalogue.files c.args.file)
+    (λ (o : Opened g.row.D.Denot). AnswersChunk (living_at o.catalogue.files c.args.file)
     (slice_index_or o.stored c.args.file []) c.args.generation c.args.start c.args.count
     (answers.Moved c.in-Err-Moved.generation)) c.self.view_is
     (says_moved store.catalogue store.stored c.args.file c.args.generation c.args.start

@@ -1,5 +1,5 @@
 use Rattle.std.proofs.Common.{◌≡◌, ◌∙◌, ◌++◌, ◌∷◌, [], length, ap, sym, arith, length-append}
-use Rattle.std.specs.Prelude.{if◌then◌else◌, ◌-◌, vec_capacity, vec_len}
+use Rattle.std.specs.Prelude.{if◌then◌else◌, ◌-◌, vec_capacity, vec_len, Some}
 use Rattle.indexmap.specs.IndexMap.{spare}
 use Rattle.std.proofs.Math.Nat.{min-le_left, min-le_right}
 use Rattle.ov_state.specs.Entries.{numbered, plain_file, plain_files, FileList}
@@ -17,7 +17,7 @@ pushed c =
     ∙ ap (λ b. if b then c.self.inside.list.items ++ c.args.file ∷ [] else c.self.inside.list.items)
     (c.push.ensures.succeeds (omega (arith, room, c.requires.room, spare_list)))
 
-inserted : (c : goal.After-push) → c.insert.new.self.entries ≡ numbered 0 (plain_files c.self.inside.list.items ++ plain_file c.args.file ∷ [])
+inserted : (c : goal.After-push) → c.insert.new.self.entries ≡ numbered 0 (plain_files c.self.inside.list.items ++ Some (plain_file c.args.file) ∷ [])
 inserted c =
     let room = ap (λ (l : FileList). l.spare) c.self.view_is in
     numbered_then c.self.inside.list.items c.args.file c.self.inside.numbers.entries c.insert.new.self.entries c.copy.result c.len-number.result
@@ -31,7 +31,7 @@ invariant_of-self c =
       omega (
         arith,
         ap length all,
-        length-append (plain_files c.self.inside.list.items) (plain_file c.args.file ∷ []),
+        length-append (plain_files c.self.inside.list.items) (Some (plain_file c.args.file) ∷ []),
         ap (λ (l : FileList). length l.files) c.self.view_is,
         c.requires.few,
       ),
@@ -40,4 +40,4 @@ invariant_of-self c =
 pub returns : goal.returns
 returns c =
     ap plain_files (pushed c) ∙ plain-append c.self.inside.list.items c.args.file
-    ∙ ap (λ (l : FileList). l.files ++ plain_file c.args.file ∷ []) c.self.view_is
+    ∙ ap (λ (l : FileList). l.files ++ Some (plain_file c.args.file) ∷ []) c.self.view_is

@@ -1,5 +1,5 @@
 use Rattle.std.proofs.Common.{◌≡◌, ◌∙◌, length, ap, refl, sym, arith}
-use Rattle.std.specs.Prelude.{slice_set}
+use Rattle.std.specs.Prelude.{slice_set, option_map}
 use Rattle.ov_history.specs.Places.{change_at}
 use Rattle.ov_history.proofs.ChangeLaws.{length-change_at}
 use Rattle.ov_state.specs.Changes.{rewritten}
@@ -17,7 +17,7 @@ abbrev now : (c : goal.After-self-1) → FileEntry
 now c = record c.index_mut-file.result.now { surface = c.args.rewrite.new; generation = c.args.epoch }
 
 set_is : (c : goal.After-self-1) → plain_files (slice_set c.self.inside.list.items c.args.rewrite.file (now c))
-    ≡ change_at (rewritten c.args.epoch c.args.rewrite) c.args.rewrite.file (plain_files c.self.inside.list.items)
+    ≡ change_at (option_map (rewritten c.args.epoch c.args.rewrite)) c.args.rewrite.file (plain_files c.self.inside.list.items)
 set_is c =
     plain-set c.self.inside.list.items c.args.rewrite.file c.index_mut-file.result.now (now c) (rewritten c.args.epoch c.args.rewrite)
     (omega (arith, c.requires, ap (λ (l : FileList). length l.files) c.self.view_is, length-plain c.self.inside.list.items))
@@ -30,7 +30,7 @@ invariant_of-self c =
       omega (
         arith,
         ap length (set_is c),
-        length-change_at change c.args.rewrite.file (plain_files c.self.inside.list.items),
+        length-change_at (option_map change) c.args.rewrite.file (plain_files c.self.inside.list.items),
         c.self.invariant.1,
       ),
     )
@@ -38,4 +38,4 @@ invariant_of-self c =
 pub returns : goal.returns
 returns c =
     set_is c
-    ∙ ap (λ (l : FileList). change_at (rewritten c.args.epoch c.args.rewrite) c.args.rewrite.file l.files) c.self.view_is
+    ∙ ap (λ (l : FileList). change_at (option_map (rewritten c.args.epoch c.args.rewrite)) c.args.rewrite.file l.files) c.self.view_is

@@ -1,8 +1,55 @@
-use Rattle.std.proofs.Common.{rules}
-use Rattle.ov_state.proofs.Questions.{revoke_there}
+use Rattle.std.proofs.Common.{◌≡◌, ◌∙◌, Ok, None, Option, Some, rules, subst, sym}
+use Rattle.std.proofs.lemmas.Result.{err_from_is_err_and}
+use Rattle.ov_base.specs.declared.refusal.Refusal.{Refusal}
+use Rattle.ov_history.specs.Asking.{file_named, of_both, refusal_at, user_named}
+use Rattle.ov_history.specs.History.{Revoked}
+use Rattle.ov_state.specs.Asking.{Asks, IsRefusedFor}
+use Rattle.ov_state.specs.declared.asking.Asked.{Asked}
+use Rattle.ov_state.specs.declared.fault.ChainFault.{ChainFault}
+use Rattle.ov_state.proofs.NewSets.{new-none}
 use Rattle.ov_state.proofs.state.State.ask_revoke.Goals as goal
 
-pub told_of_both-requires : goal.told_of_both-requires
-told_of_both-requires g c =
-    let there = revoke_there c.args.self.now.catalogue c.user_or_next-user.result c.file_or_next-file.result c.in_ok-passes_revoke.ensures in
-    (search rules, there)
+pub over_wants-requires : goal.over_wants-requires
+over_wants-requires g c =
+    let s = c.args.self.now.catalogue in
+    let none = new-none s.surface.sets c.new.result.sets.items c.known.ensures.sound.surface.few c.new.ensures in
+    (search rules, (search rules, (c.in_ok-relisting.ensures.ok.relisting, none)))
+
+pub returns-in_err-relisting : goal.returns-in_err-relisting
+returns-in_err-relisting g c =
+    let s = c.args.self.now.catalogue in
+    let why = c.in_err-relisting.field-0.0 in
+    let user = c.user_or_next-user.result in
+    let named = file_named s c.args.file.now in
+    let u = user_named s c.args.user.now in
+    let refused : refusal_at s (Revoked u named) ≡ Some why =
+    subst (λ u. refusal_at s (Revoked u named) ≡ Some why) c.user_or_next-user.ensures
+    (subst (λ f. refusal_at s (Revoked user f) ≡ Some why) c.file_or_next-file.ensures c.in_err-relisting.ensures.err) in
+    let p = err_from_is_err_and c.from_residual.result c.from_residual.ensures.1 in
+    rw p.1 (subst (λ (fault : ChainFault). IsRefusedFor (refusal_at s (Revoked u named)) fault) (sym p.2) refused)
+
+pub returns-in_err-over_wants : goal.returns-in_err-over_wants
+returns-in_err-over_wants g c =
+    let s = c.args.self.now.catalogue in
+    let fault = c.in_err-over_wants.field-0.0 in
+    let user = c.user_or_next-user.result in
+    let named = file_named s c.args.file.now in
+    let u = user_named s c.args.user.now in
+    let told : IsRefusedFor (refusal_at s (Revoked user c.file_or_next-file.result)) fault =
+    subst (λ (why : Option Refusal). IsRefusedFor why fault) (sym c.in_ok-relisting.ensures.ok.rest) c.in_err-over_wants.ensures.room in
+    let refused : IsRefusedFor (refusal_at s (Revoked u named)) fault =
+    subst (λ u. IsRefusedFor (refusal_at s (Revoked u named)) fault) c.user_or_next-user.ensures
+    (subst (λ f. IsRefusedFor (refusal_at s (Revoked user f)) fault) c.file_or_next-file.ensures told) in
+    let p = err_from_is_err_and c.from_residual-in_err-over_wants.result c.from_residual-in_err-over_wants.ensures.1 in
+    rw p.1 (subst (λ (fault : ChainFault). IsRefusedFor (refusal_at s (Revoked u named)) fault) (sym p.2) refused)
+
+pub returns : goal.returns
+returns g c =
+    let s = c.args.self.now.catalogue in
+    let user = c.user_or_next-user.result in
+    let file = c.file_or_next-file.result in
+    let named = file_named s c.args.file.now in
+    let asked : Asked = c.told_of_both.result in
+    let passes : refusal_at s (Revoked user file) ≡ None = c.in_ok-relisting.ensures.ok.rest ∙ c.in_ok-over_wants.ensures.room in
+    subst (λ u. Asks (refusal_at s (Revoked u named)) (of_both s u named) (Ok asked)) c.user_or_next-user.ensures
+    (subst (λ f. Asks (refusal_at s (Revoked user f)) (of_both s user f) (Ok asked)) c.file_or_next-file.ensures (passes, c.told_of_both.ensures))

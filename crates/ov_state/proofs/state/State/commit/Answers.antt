@@ -1,3 +1,4 @@
+use Rattle.std.specs.Prelude.{Option}
 use Rattle.std.proofs.Common.{rules, ◌≡◌, ◌*◌, ◌≤◌, ◌∙◌, ◌+◌, List, length, sym, ap, subst}
 use Rattle.ov_graph.specs.Contents.{Contents, HasRoom}
 use Rattle.ov_history.specs.Catalogue.{Filed, Catalogue}
@@ -38,7 +39,7 @@ add_base-requires g c = (
 
 pub rewrite_all-requires : goal.rewrite_all-requires
 rewrite_all-requires g c =
-    subst (λ (files : List Filed). AreOfFiles (length files) c.args.change.rewrites.items)
+    subst (λ (files : List (Option Filed)). AreOfFiles (length files) c.args.change.rewrites.items)
     (sym (c.grow.ensures.files ∙ ap (λ (h : Held). files_grown h.catalogue.files c.args.change.growth) c.self.view_is)) c.requires.suits.rewrites
 
 applied_is : (g : Over) (c : Joined-self g) → catalogue_by c.self.inside.mode (c.self.inside.epoch + 1) c.grow.new.users.keys c.add_base.new.layer

@@ -5,11 +5,11 @@ use Rattle.ov_state.proofs.state.State.cover.Goals as goal
 
 pub returns-then-has_file : goal.returns-then-has_file
 returns-then-has_file g c =
-    first_here _ _ _ (file_test c.args.self.now.catalogue c.args.name.now ∙ sym c.has_file.ensures ∙ c.if-has_file.true)
+    first_here _ _ _ (file_test c.args.self.now.catalogue c.args.name.now c.files_known.ensures ∙ sym c.has_file.ensures ∙ c.if-has_file.true)
 
 pub returns-in_default : goal.returns-in_default
 returns-in_default g c =
-    first_later _ _ _ (file_test c.args.self.now.catalogue c.args.name.now ∙ sym c.has_file.ensures ∙ c.if-has_file.false)
+    first_later _ _ _ (file_test c.args.self.now.catalogue c.args.name.now c.files_known.ensures ∙ sym c.has_file.ensures ∙ c.if-has_file.false)
     ∙ first_here _ _ _ (ap not c.in_default.ensures.none)
 
 pub returns : goal.returns

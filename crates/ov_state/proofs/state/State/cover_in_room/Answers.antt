@@ -36,12 +36,12 @@ returns-in_err-add-clause-err g c =
     let s = c.args.self.now.catalogue in
     let list = c.args.list.now in
     let old = c.new-new.result.sets.items in
-    let fault = fault_of c.in_err-add.field-0.0 in
+    let why = c.in_err-add.field-0.0 in
     let sets = ap (λ (held : Held). held.catalogue.surface.sets) c.self.view_is in
     let wanted : c.wanted.result ≡ want_then s list =
     c.wanted.ensures ∙ (λ i. wanted_surface (ap (λ (held : Held). held.catalogue.mode) c.self.view_is i) list (c.holders_then-holders.ensures i)) in
     let p = err_from_is_err_and c.from_residual-in_err-add.result c.from_residual-in_err-add.ensures.1 in
     rw p.1 (subst (λ (why : GraphRefusal). HasNoSite s list (fault_of why)) (sym p.2)
-    (full_then s list fault
-    (want-full s.surface.sets old c.wanted.result (want_then s list) fault c.new-new.ensures wanted
-    (subst (λ (sets : List ℕ). IsFull (with_wants (sets ++ old) (c.wanted.result ∷ [])) fault) sets c.in_err-add.ensures.full))))
+    (full_then s list why
+    (want-full s.surface.sets old c.wanted.result (want_then s list) why c.new-new.ensures wanted
+    (subst (λ (sets : List ℕ). IsFull (with_wants (sets ++ old) (c.wanted.result ∷ [])) why) sets c.in_err-add.ensures.full))))

@@ -1,4 +1,5 @@
 use Rattle.std.proofs.Common.{ap, refl, sym, ◌∙◌, arith}
+use Rattle.std.specs.Prelude.{is_some}
 use Rattle.std.proofs.lemmas.Bool.Decides.{nat_tests}
 use Rattle.ov_history.specs.Layers.{list_at, set_or}
 use Rattle.ov_history.specs.Catalogue.{Filed, outline, place_of_file}
@@ -11,7 +12,7 @@ returns-clause-ok g c =
     let is = filed-at s c.args.file _ c.entry-entry.ensures.kept in
     record {
       enrolled = grind (arith, nat_tests);
-      there = grind (arith, nat_tests);
+      there = ap is_some c.entry-entry.ensures.kept;
       number = refl;
       node = ap (λ (f : Filed). f.node) (sym is);
       list = c.list_or-list.ensures ∙ ap (λ held. set_or s.surface.sets c.entry-entry.result.now.surface held) c.holders-before.ensures

@@ -1,5 +1,5 @@
 use Rattle.std.proofs.Common.{◌*◌, sym, subst}
-use Rattle.ov_state.specs.declared.brief.Brief.{Brief}
+use Rattle.ov_record.specs.declared.brief.Brief.{Brief}
 use Rattle.ov_state.specs.Plans.{plain_brief, Prepares}
 use Rattle.ov_state.proofs.state.State.plan.Goals as goal
 

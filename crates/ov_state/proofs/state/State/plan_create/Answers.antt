@@ -44,7 +44,7 @@ returns-then-as_slice g c = (
 pub returns : goal.returns
 returns g c =
     creation (64 * g.row.W) c.args.surface.now.bytes c.args.self.now.catalogue c.args.name c.args.list c.args.tokens c.args.tag c.args.size
-    c.in_ok-site.site c.in_ok-creation.field-0 c.known.ensures c.in_ok-site.ensures.ok c.in_ok-creation.ensures
+    c.in_ok-site.site c.in_ok-creation.field-0 c.known.ensures c.in_ok-site.ensures.ok c.in_ok-creation.ensures c.files_known.ensures
     (not_refused (64 * g.row.W) c.args.surface.now.bytes c.args.self.now.catalogue c.args.name c.args.list c.args.tokens c.args.tag c.args.size
     c.known.ensures
     (sym c.refusal_create.ensures ∙ c.in_default.is) c.in_ok-site.ensures.ok.few (sym c.is_spent.ensures ∙ c.if-is_spent.false))

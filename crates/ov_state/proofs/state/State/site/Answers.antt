@@ -1,8 +1,11 @@
 use Rattle.std.proofs.Common.{◌≡◌, ◌≤◌, sym, ◌∙◌, ap, subst, length, rules}
 use Rattle.std.specs.Prelude.{IfSome}
+use Rattle.std.proofs.lemmas.Result.{err_from_is_err_and}
 use Rattle.ov_graph.specs.Reach.{IsRooted}
 use Rattle.ov_surface.specs.Wanted.{wanted_surface}
+use Rattle.ov_state.specs.declared.fault.PrepareFault.{PrepareFault}
 use Rattle.ov_state.specs.Contents.{Held}
+use Rattle.ov_state.specs.Faults.{fault_of}
 use Rattle.ov_state.specs.NewFiles.{want_then, HasNoSite}
 use Rattle.ov_state.specs.Relistings.{nodes_planned, with_want, IsFull, IsSurfaceFor}
 use Rattle.ov_state.proofs.PlannedNodes.{none-planned}
@@ -26,10 +29,11 @@ returns-in_err-to-clause-err g c =
     ∙ (λ i. wanted_surface (ap (λ (held : Held). held.catalogue.mode) c.self.view_is i) c.args.list.now (c.holders_then-holders.ensures i)) in
     let full = subst (λ (held : Held). IsFull (with_want c.args.master.now.bytes (nodes_planned held.catalogue.surface c.new-new.result) c.wanted-want.result).sets c.in_err-to.field-0.0)
     c.self.view_is c.in_err-to.ensures.err in
-    let none : HasNoSite c.args.self.now.catalogue c.args.list.now c.in_err-to.field-0.0 =
+    let p = err_from_is_err_and c.from_residual-in_err-to.result c.from_residual-in_err-to.ensures.1 in
+    let none : HasNoSite c.args.self.now.catalogue c.args.list.now (fault_of c.in_err-to.field-0.0) =
     surface_full c.args.master.now.bytes c.args.self.now.catalogue c.args.list.now c.wanted-want.result c.new-new.result c.in_err-to.field-0.0
     c.new-new.ensures.nodes wanted full in
-    search rules
+    rw p.1 (subst (λ (fault : PrepareFault). HasNoSite c.args.self.now.catalogue c.args.list.now fault) (sym p.2) none)
 
 pub returns-clause-ok : goal.returns-clause-ok
 returns-clause-ok g c =

@@ -1,6 +1,7 @@
 use Rattle.std.proofs.Common.{rules, ◌≡◌, List, Option, Some, ℕ, true, refl, ◌∙◌, ap, subst, length, arith}
 use Rattle.ov_record.specs.Updates.{sealed_update}
-use Rattle.ov_record.proofs.UpdateLaws.{some_bytes, few_bytes}
+use Rattle.ov_record.proofs.UpdateLaws.{some_bytes, few_bytes, first_has_room}
+use Rattle.ov_record.specs.Forms.{first_form}
 use Rattle.ov_history.specs.Briefs.{brief, text_of}
 use Rattle.ov_history.specs.Catalogue.{Catalogue, outline, catalogue_after}
 use Rattle.ov_history.specs.Rewrites.{rewrites_of, stored_after}
@@ -47,11 +48,11 @@ keep-requires-clause-body g c =
       whole = search rules;
       count = search rules;
       can_be = record {
-        some = omega (arith, ap length is.bytes, some_bytes 32 (sealed_update c.args.update));
+        some = omega (arith, ap length is.bytes, some_bytes first_form (sealed_update c.args.update));
         most = omega (
           arith,
           ap length is.bytes,
-          few_bytes 32 (sealed_update c.args.update) (omega arith)
+          few_bytes first_form (sealed_update c.args.update) first_has_room (omega arith)
               is.form,
         );
       };

@@ -1,0 +1,68 @@
+-- Which history an image of a disk stands for, where the bytes of files stand in extents of Blobs.
+use Rattle.std.specs.Prelude.{◌≡◌, ◌⊎◌, ◌<◌, ◌^◌}
+use Rattle.ov_base.specs.declared.mode.Mode.{Mode}
+use Rattle.ov_tokens.specs.Keys.{check_value_of}
+use Rattle.ov_record.specs.Updates.{SealedUpdate}
+use Rattle.ov_history.specs.Plain.{PlainHistory, history_of}
+use Rattle.ov_history.specs.Refusals.{IsLegal}
+use Rattle.ov_history.specs.Masters.{Masters}
+use Rattle.ov_history.specs.Sealing.{sealed}
+use Rattle.ov_history.specs.Sealed.{KeepsBytes, SealedHistory, blank, with_sealed}
+use Rattle.ov_history.specs.Texts.{brief_of}
+use Rattle.ov_history.specs.Placed.{PlacedHistory, unplaced}
+use Rattle.ov_disk.specs.Disk.{Image}
+use Rattle.ov_journal.specs.declared.header.Header.{Header}
+use Rattle.ov_journal.specs.Book.{contents_of, born}
+use Rattle.ov_journal.specs.Standing.{IsUnborn}
+use Rattle.ov_images.specs.Images.{Keys, keys_of}
+use Rattle.ov_images.specs.PlacedRecords.{AllHaveForm, bodies_of}
+use Rattle.ov_images.specs.PlacedExtents.{IsLaidOut, blocks_in, stored_in}
+
+-- the header of a store that keeps this history
+abbrev pub header_of : Keys → PlacedHistory → Header
+header_of k p = record {
+  mode = p.mode;
+  first = p.first;
+  base_check = k.base_check;
+  surface_check = check_value_of k.surface;
+}
+
+-- The image has the records of this history under these keys: its Book has the history's header
+-- and, before the first gate that isn't open, its updates with their first blocks. Each new extent
+-- ends where Blobs ends, or before, and took blocks that were free in the state before its record.
+pub record HasRecords (k : Keys) (p : PlacedHistory) (i : Image) : Type 0 where
+  pub first : p.first < 2 ^ 32
+  pub form : AllHaveForm p.updates
+  pub laid_out : IsLaidOut k.surface (blocks_in i.blobs) p
+  pub book : contents_of i.book ≡ born (header_of k p) (bodies_of p.updates)
+
+-- The image keeps the history, with these first blocks: it has its records, and the latest extent
+-- of each file holds its stored bytes at the history's end.
+pub record KeepsAt (k : Keys) (p : PlacedHistory) (g : SealedHistory) (i : Image) : Type 0 where
+  pub briefs : brief_of g ≡ unplaced p
+  pub records : HasRecords k p i
+  pub files : KeepsBytes k.surface (stored_in k.surface p i.blobs) g
+
+-- the image keeps the history, with some first blocks
+abbrev pub Keeps : Keys → SealedHistory → Image → Type 0
+Keeps k g i = (p : PlacedHistory) × KeepsAt k p g i
+
+-- An image stands for the history that it keeps; where no store was begun, for the one without
+-- updates, from epoch 0 on, of whatever mode and under whatever keys.
+abbrev pub IsImageOf : Keys → SealedHistory → Image → Type 0
+IsImageOf k g i = (IsUnborn i.book × (g ≡ blank g.mode 0)) ⊎ Keeps k g i
+
+-- the image stands for some history of this mode
+abbrev pub StandsIn : Keys → Mode → Image → Type 0
+StandsIn k mode i = (g : SealedHistory) × (g.mode ≡ mode) × IsImageOf k g i
+
+-- the image opens for these masters and this mode: it stands for a legal history of that mode as it
+-- is sealed under the masters
+abbrev pub Opens : Masters → Mode → Image → Type 0
+Opens k mode i =
+    (p : PlainHistory) × IsLegal (history_of p) × (p.mode ≡ mode)
+    × IsImageOf (keys_of k) (sealed k p) i
+
+-- the image keeps the history, or the history with one more update
+abbrev pub KeepsEither : Keys → SealedHistory → SealedUpdate → Image → Type 0
+KeepsEither k g u i = Keeps k g i ⊎ Keeps k (with_sealed g u) i

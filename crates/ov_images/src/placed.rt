@@ -1,0 +1,53 @@
+//! What an image can keep where the bytes of files stand in extents. The functions do nothing.
+ghost use Rattle.ov_images.specs.PlacedLaws.{DamageHasOnePlace, DamageNeedsNoMaster};
+ghost use Rattle.ov_images.specs.PlacedLaws.{DamagedKeepsNone, ExtentsTellBytes, KeepingGoesOn};
+ghost use Rattle.ov_images.specs.PlacedLaws.{FreeNeedsNoOrder, KeepsOnce};
+ghost use Rattle.ov_images.specs.PlacedLaws.{KeptIsBorn, KeptIsSealed, KeysAreKept};
+ghost use Rattle.ov_images.specs.PlacedLaws.{PlacesAreKeptOnce, RecordsAreKept};
+ghost use Rattle.ov_images.specs.PlacedLaws.{SameExtentsKeepTheSame};
+
+/// The law of images with extents: an image keeps at most one history, with one list of first
+/// blocks. Where it keeps histories under two pairs of keys, these have the same check values, and
+/// the histories the same updates; under one surface master they are the same.
+pub fn an_image_with_extents_keeps_one_history()
+    ensures history { KeepsOnce }
+    ensures places { PlacesAreKeptOnce }
+    ensures keys { KeysAreKept }
+{}
+
+/// The law of what is kept in extents: a sealed history, of a store that was begun. Whichever bytes
+/// the extents of its files hold, some history is kept.
+pub fn extents_keep_a_history()
+    ensures born { KeptIsBorn }
+    ensures sealed { KeptIsSealed }
+    ensures any { RecordsAreKept }
+{}
+
+/// The law of extents: an image with the same header and records, a Blobs no shorter and the same
+/// bytes in the latest extent of each file keeps the same history. These bytes are the same where
+/// all bytes of the extents in use are.
+pub fn same_extents_keep_the_same()
+    ensures same { SameExtentsKeepTheSame }
+    ensures bytes { ExtentsTellBytes }
+{}
+
+/// The law of free blocks: which blocks are free depends on the extents in use and not on the order
+/// in which they are kept.
+pub fn free_blocks_need_no_order()
+    ensures { FreeNeedsNoOrder }
+{}
+
+/// The law of records with extents: with one more record, whose new extents took free blocks and
+/// hold the new stored bytes while all others keep theirs, the history goes on.
+pub fn keeping_in_extents_goes_on()
+    ensures { KeepingGoesOn }
+{}
+
+/// The law of damage with extents: an image with a record that goes on with no history, or with a
+/// length that can't be behind its last record, keeps no history, and has the first of these at one
+/// place of one area, whatever the surface master is.
+pub fn images_with_damaged_extents_keep_no_history()
+    ensures none { DamagedKeepsNone }
+    ensures one_place { DamageHasOnePlace }
+    ensures masters { DamageNeedsNoMaster }
+{}

@@ -1,0 +1,6 @@
+mod Blobs
+mod Books
+mod Damaged
+mod OneFile
+mod ThreeFiles
+mod UsedAgain

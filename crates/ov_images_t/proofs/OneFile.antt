@@ -1,0 +1,109 @@
+-- Rows of stores with one file.
+use Rattle.std.proofs.Common.{◌≡◌, ℕ, ◌≤◌, List, [], ◌∷◌, ◌++◌, take}
+use Rattle.std.proofs.Common.{refl, sym, ◌∙◌, ap, subst, arith, lit<, lit≤, length-append}
+use Rattle.std.proofs.lemmas.List.{take_at}
+use Rattle.ov_base.specs.Sets.{bytes_of}
+use Rattle.ov_base.specs.declared.mode.Mode.TheVariants.{Full}
+use Rattle.ov_base.proofs.SetLaws.{small-IsBelow}
+use Rattle.ov_history.specs.Placed.{PlacedHistory}
+use Rattle.ov_images.specs.PlacedRecords.{AllHaveForm, HasRecordForm}
+use Rattle.ov_images.specs.PlacedExtents.{IsLaidOut}
+use Rattle.ov_images.specs.PlacedDamage.{CanBeKept}
+use Rattle.ov_images.proofs.PlacedKeeping.{keeps_same}
+use Rattle.ov_images_t.specs.Rows.{ChangedByteIsNoDamage}
+use Rattle.ov_images_t.specs.Rows.{EmptyFileHasNoBlock, FileHasWholeBlocks}
+use Rattle.ov_images_t.specs.Stores.{block, create, create_body}
+use Rattle.ov_images_t.specs.Stores.{empty_body, enrol, enrol_body}
+use Rattle.ov_images_t.specs.Stores.{history}
+use Rattle.ov_images_t.proofs.Books.{contents}
+use Rattle.ov_images_t.proofs.Blobs.{blocks-length}
+
+-- ---- one user
+
+abbrev pub one_user : PlacedHistory
+one_user = history (enrol 97 ∷ [])
+
+pub one_user_kept : (master : List ℕ) (n : ℕ) → CanBeKept master Full 0 n one_user
+one_user_kept master n = record {
+  mode_is = refl;
+  first_is = refl;
+  form = ((refl, (tt, refl)), tt);
+  laid_out = record {
+    replayed = record { stands = ((refl, tt, tt), refl); firsts = (refl, tt); places = refl };
+    free = (tt, tt);
+  };
+}
+
+-- ---- one file
+
+abbrev pub one_file : PlacedHistory
+one_file = history (enrol 97 ∷ create 1 [] 8193 (0 ∷ []) ∷ [])
+
+pub create_form : HasRecordForm (create 1 [] 8193 (0 ∷ []))
+create_form =
+    ((refl, small-IsBelow 256 1 (lit< tt), lit≤ tt, tt, refl, lit≤ tt), ((lit< tt, tt), refl))
+
+pub one_file_form : AllHaveForm one_file.updates
+one_file_form = ((refl, (tt, refl)), (create_form, tt))
+
+pub one_file_laid : (master : List ℕ) (n : ℕ) → 3 ≤ n → IsLaidOut master n one_file
+one_file_laid master n enough = record {
+  replayed = record {
+    stands = ((refl, tt, (refl, refl, tt)), refl);
+    firsts = (refl, (refl, tt));
+    places = refl;
+  };
+  free = (tt, (((enough, tt), tt), tt));
+}
+
+pub one_file_kept : (master : List ℕ) (n : ℕ) → 3 ≤ n → CanBeKept master Full 0 n one_file
+one_file_kept master n enough = record {
+  mode_is = refl;
+  first_is = refl;
+  form = one_file_form;
+  laid_out = one_file_laid master n enough;
+}
+
+pub file_has_whole_blocks : FileHasWholeBlocks
+unfolding bytes_of
+file_has_whole_blocks k blobs long is = (
+  record {
+    first = lit< tt;
+    form = one_file_form;
+    laid_out =
+        subst (λ (n : ℕ). IsLaidOut k.surface n one_file) (sym (blocks-length blobs 12288 is))
+        (one_file_laid k.surface 3 (lit≤ tt));
+    book = contents Full k (enrol_body 97 ∷ create_body 1 (0 ∷ 0 ∷ []) (block 0) ∷ []) long refl;
+  },
+  refl,
+)
+
+pub changed_byte_is_no_damage : ChangedByteIsNoDamage
+changed_byte_is_no_damage k g own zeros_behind others long is behind too keeps =
+    let same : take 8193 (own ++ others) ≡ take 8193 (own ++ zeros_behind) =
+    take_at own others 8193 is ∙ sym (take_at own zeros_behind 8193 is) in
+    keeps_same k one_file g _ _ keeps refl
+    (omega (arith, length-append own zeros_behind, length-append own others, behind, too))
+    (ap (λ (l : List ℕ). l ∷ []) same)
+
+pub empty_file_has_no_block : EmptyFileHasNoBlock
+unfolding bytes_of
+empty_file_has_no_block k long = (
+  record {
+    first = lit< tt;
+    form = (
+      (refl, (tt, refl)),
+      (((refl, small-IsBelow 256 1 (lit< tt), lit≤ tt, tt, refl, lit≤ tt), (tt, refl)), tt),
+    );
+    laid_out = record {
+      replayed = record {
+        stands = ((refl, tt, (refl, refl, tt)), refl);
+        firsts = (refl, (refl, tt));
+        places = refl;
+      };
+      free = (tt, (tt, tt));
+    };
+    book = contents Full k (enrol_body 97 ∷ empty_body ∷ []) long refl;
+  },
+  refl,
+)

@@ -1,0 +1,81 @@
+//! Files whose bytes are written into other extents of Blobs, and the record in Book that says so.
+//!
+//! A file's bytes stand in an *extent*, a number of blocks that follow one another. They are never
+//! written over: an update that changes them writes the new ones into another extent, puts a record
+//! behind the others, and gives up the old extent only then. So a crash at any moment leaves either
+//! the records from before, with every file's bytes where they were, or these with the new record and
+//! every file in its new extent. No crate above names this one yet: the store keeps its files' bytes
+//! in memory.
+//!
+//! * [`rewrite`] is the whole of it. It finds and holds the new extents, takes all memory that it
+//!   wants, moves the files, appends the record, and gives up the old extents. Unless it answers
+//!   `Ok`, it gives back what it held.
+//! * [`place_all`] finds and holds a new extent for each file, each in the lowest free run that is
+//!   long enough. Where memory ends, what is held is the very same as before.
+//! * [`move_all`] moves files, one after the other, through one buffer of [`PIECE_BYTES`]: a piece is
+//!   read from the old extent, turned, and put into the new one, with zeros to the end of its last
+//!   block. So Blobs ends where a block ends, and no byte of another file stays in the buffer. A file
+//!   that has no old extent gets the bytes of a text, turned in the same way.
+//! * [`update`] moves files, and then appends the record. No sync comes between: the first one of the
+//!   append makes Blobs last, and only then is the record's gate opened. It takes no memory.
+//! * [`release_all`] gives up the old extents of files, [`release_new`] the new ones of moves.
+//! * [`Turn`] is what becomes of a byte, by its file and its place, as by a pad. [`Spell`] spells the
+//!   record, which has the new extents in it and so is spelled once these are known.
+//!
+//! **What a contract sees.** What is held is a list of extents; a file is a [`Placed`], and a
+//! [`Move`] says where it goes. `StandsFor` says what an image stands for: the records of its Book,
+//! and bytes in extents.
+//!
+//! * `move_all` says of each image that a crash leaves meanwhile that it comes from one that it might
+//!   have left at the start by a step that keeps Book, makes Blobs no shorter, and changes no byte
+//!   outside of the new extents (`GoesBy`, `IsKeptOutside`). How many calls there are doesn't enter.
+//! * `rewrite` says of each such image that it stands for whatever the one at the start stood for; or
+//!   for that with the record, and then each new extent has the old one's bytes, turned
+//!   (`StandsForEither`). At `Ok` there is one image that a crash may leave, the second of these
+//!   (`LastsWith`), and what is held is just what was held and wasn't given up, and the new extents
+//!   (`MayGoOn`).
+//! * Why blocks that are used again do no harm is one law, [`standing_is_kept`]: an image stands for
+//!   what another one stands for that has the same records and the same bytes in the files' extents.
+//!   A new extent is free of all that was held when it was found, so no file has a byte in it.
+//!
+//! | file in `specs/` | says |
+//! |---|---|
+//! | `Bytes` | what is to stand in a new extent |
+//! | `Moves` | what may be moved, and what that leaves of both areas |
+//! | `Placing`, `Releasing` | new extents, and those that are given up |
+//! | `Updating` | files and the record behind them |
+//! | `Standing`, `Rewriting` | what images stand for, and the whole of an update |
+//! | `Runs` | calls that write by steps of one kind |
+//!
+//! **What it asks for.** Before an update a crash leaves just what the disk reads, Book is the
+//! journal's, and all that is held lies in Blobs, where the disk tells its bytes; then the same holds
+//! at `Ok`. A file has from 1 to 1,048,576 bytes, no two begin at the same block, and no more than
+//! 65,536 extents are held with the new ones.
+//!
+//! **Errors.** Memory is refused before the first call of the disk, and nothing has changed then. A
+//! fault of the disk comes only where its count rose. After it the journal has the same records and
+//! what is held is as before, but Book may have the new record: the store has to be opened again, as
+//! after a failed append.
+//!
+//! Nothing is promised of blocks that were given up: their old bytes stay until they are used again.
+#![tactic(auto)]
+
+mod laws;
+mod moves;
+mod piece;
+mod placing;
+mod releasing;
+mod rewriting;
+mod spelling;
+mod turning;
+mod updating;
+
+pub use laws::standing_is_kept;
+pub use moves::{Move, move_all};
+pub use piece::PIECE_BYTES;
+pub use placing::{Placed, place_all};
+pub use releasing::{release_all, release_new};
+pub use rewriting::rewrite;
+pub use spelling::Spell;
+pub use turning::Turn;
+pub use updating::update;

@@ -1,0 +1,70 @@
+//! Updates without the bytes of their files.
+ghost use Rattle.std.specs.Prelude.{◌≡◌};
+ghost use Rattle.ov_record.specs.Briefs.{brief, plain_brief, text_of, IsFitting};
+ghost use Rattle.ov_record.specs.Updates.{sealed_update};
+
+use crate::Update;
+use ov_base::{Name, Octets, UserSet};
+use ov_tokens::{Token, Tokens};
+
+/// All of an update that the catalogue needs: of a new file's bytes their number alone.
+#[derive(Drop)]
+pub enum Brief<const W: usize> {
+    /// A user joins.
+    Enrol {
+        name: Name,
+    },
+    /// A file of this many bytes is created for the users of a list, with the tokens of the edges
+    /// into the list's node, where that is a new one, and with the tag of its plaintext.
+    Create {
+        name: Name,
+        list: UserSet<W>,
+        tokens: Tokens,
+        tag: [u8; 32],
+        length: u32,
+    },
+    /// A user joins the list of a file, with an access token where the user doesn't hold the file's
+    /// base node yet.
+    Grant {
+        user: u32,
+        file: u32,
+        token: Option<Token>,
+    },
+    /// A user leaves the list of a file.
+    Revoke {
+        user: u32,
+        file: u32,
+    },
+}
+
+impl<const W: usize> Brief<W> {
+    /// The update without the bytes of its file, and those bytes, where it creates one.
+    pub fn of(update: Update<W>) -> (Brief<W>, Option<Octets>)
+        requires { IsFitting (brief (sealed_update update)) }
+        ensures brief { plain_brief result.0 ≡ brief (sealed_update update.entry) }
+        ensures text { result.1 ≡ text_of (sealed_update update.entry) }
+    {
+        match update {
+            Update::Enrol { name } => (Brief::Enrol { name }, None),
+            Update::Create {
+                name,
+                list,
+                tokens,
+                tag,
+                bytes,
+            } => {
+                let length = bytes.as_slice().len() as u32;
+                let brief = Brief::Create {
+                    name,
+                    list,
+                    tokens,
+                    tag,
+                    length,
+                };
+                (brief, Some(bytes))
+            }
+            Update::Grant { user, file, token } => (Brief::Grant { user, file, token }, None),
+            Update::Revoke { user, file } => (Brief::Revoke { user, file }, None),
+        }
+    }
+}

@@ -1,0 +1,138 @@
+//! Records without the bytes of a file, as another program spelled them, and the places of wrong
+//! bytes.
+
+ghost use Rattle.std.specs.Prelude.{IfOk};
+ghost use Rattle.ov_record.specs.Briefs.{plain_brief};
+ghost use Rattle.ov_record.specs.Forms.{first_form};
+ghost use Rattle.ov_record.specs.Stored.{IsBriefWithinLimits};
+
+use ov_base::limits::{MAX_FILES, SET_WORDS};
+use ov_record::*;
+use std::alloc::Global;
+use std::process::Abort;
+use std::test::Fail;
+
+/// A creation of `f1` of 5 bytes for the users 0 and 3, with two tokens, up to its length field.
+const CREATION: &[u8] = b"\x02\x02f1\
+    \x09\0\0\0\0\0\0\0\0\0\0\0\0\0\0\0\0\0\0\0\0\0\0\0\0\0\0\0\0\0\0\0\
+    \0\x02\
+    \x00\x01\x02\x03\x04\x05\x06\x07\x08\x09\x0a\x0b\x0c\x0d\x0e\x0f\
+    \x10\x11\x12\x13\x14\x15\x16\x17\x18\x19\x1a\x1b\x1c\x1d\x1e\x1f\
+    defghijklmnopqrstuvwxyz{|}~\x7f\x80\x81\x82\x83\
+    \xc8\xc9\xca\xcb\xcc\xcd\xce\xcf\xd0\xd1\xd2\xd3\xd4\xd5\xd6\xd7\
+    \xd8\xd9\xda\xdb\xdc\xdd\xde\xdf\xe0\xe1\xe2\xe3\xe4\xe5\xe6\xe7\
+    \0\0\0\x05";
+
+/// Whole records: the update up to a new file's bytes, and then its first blocks.
+const RECORDS: [(&[u8], &[u8], u32); 5] = [
+    (b"\x01\x05alice", b"", 0),
+    (CREATION, b"\0\0\0\0", 1),
+    (
+        b"\x03\0\0\x01\x02\0\0\0\x03\0",
+        b"\0\0\0\x07\x7f\xff\xff\xff",
+        2,
+    ),
+    (b"\x04\0\0\0\x07\0\0\0\x09", b"", 0),
+    (
+        b"\x04\0\0\0\x07\0\0\0\x09",
+        b"\0\0\0\x03\0\0\0\x01\xff\xff\xff\xff",
+        3,
+    ),
+];
+
+fn joined(rt: &impl Abort, alloc: Global, front: &[u8], back: &[u8]) -> Vec<u8> {
+    let mut bytes = Vec::new(alloc);
+    bytes.extend_from_slice(front).expect(rt, "memory");
+    bytes.extend_from_slice(back).expect(rt, "memory");
+    bytes
+}
+
+/// The record with so many first blocks that the bytes spell.
+fn record(alloc: Global, bytes: &[u8], count: u32) -> Result<Stored<SET_WORDS>, RecordFault>
+    ensures { IfOk result (λ s. IsBriefWithinLimits first_form (plain_brief s.update)) }
+{
+    if count > MAX_FILES {
+        return Err(RecordFault::Memory);
+    }
+    read_stored(alloc, Form::FIRST, bytes, count)
+}
+
+#[test]
+fn records_are_read_and_written_again(rt: HostRuntime) -> Result<(), Fail> {
+    let mut out = Vec::new(rt.alloc());
+    for (update, places, count) in RECORDS {
+        let bytes = joined(&rt, rt.alloc(), update, places);
+        out.clear();
+        match record(rt.alloc(), &bytes, count) {
+            Ok(stored) => {
+                assert_eq!(rt; stored.places.as_slice().len(), count as usize);
+                write_stored(Form::FIRST, &stored, &mut out)?;
+            }
+            Err(_) => {}
+        }
+        assert_eq!(rt; out.as_slice(), bytes.as_slice());
+    }
+    Ok(())
+}
+
+#[test]
+fn an_update_is_read_from_the_front(rt: HostRuntime) {
+    for (update, places, _) in RECORDS {
+        let bytes = joined(&rt, rt.alloc(), update, places);
+        let length = match read_brief(rt.alloc(), Form::FIRST, &bytes) {
+            Ok((_, length)) => length,
+            Err(_) => 0,
+        };
+        assert_eq!(rt; length as usize, update.len());
+    }
+}
+
+#[test]
+fn fields_of_a_creation(rt: HostRuntime) {
+    let bytes = joined(&rt, rt.alloc(), CREATION, b"\0\0\x01\x02");
+    match record(rt.alloc(), &bytes, 1) {
+        Ok(stored) => {
+            assert_eq!(rt; stored.places.as_slice(), [258].as_slice());
+            match &stored.update {
+                Brief::Create { tokens, length, .. } => {
+                    assert_eq!(rt; (tokens.as_slice().len(), *length), (2, 5));
+                }
+                _ => assert!(rt; false),
+            }
+        }
+        Err(_) => assert!(rt; false),
+    }
+}
+
+/// The place of the first wrong byte of a record with so many first blocks.
+fn wrong_at(alloc: Global, bytes: &[u8], count: u32) -> Option<u32> {
+    match record(alloc, bytes, count) {
+        Err(RecordFault::BadRecord { at }) => Some(at),
+        _ => None,
+    }
+}
+
+/// Bytes that are no record with so many first blocks, with the place of the first wrong one.
+const WRONG: [(&[u8], u32, u32); 9] = [
+    (b"", 0, 0),
+    (b"\x05", 0, 0),
+    (b"\x01\x05ali", 0, 5),
+    (b"\x01\x05alice\0", 0, 7),
+    (b"\x01\x05alice", 1, 7),
+    (b"\x01\x05alice\0\0", 1, 9),
+    (b"\x01\x05alice\0\0\0\x01\0\0\0\x02", 1, 11),
+    (b"\x04\0\0\0\x01\0\0\0\x01\0\0\0\x05\0", 2, 14),
+    (b"\x03\0\0\0\x01\0\0\0\x01\x02\0\0\0\x05", 1, 9),
+];
+
+#[test]
+fn the_first_wrong_byte_of_a_record_is_named(rt: HostRuntime) {
+    for (bytes, count, place) in WRONG {
+        assert_eq!(rt; wrong_at(rt.alloc(), bytes, count), Some(place));
+    }
+    assert_eq!(rt; wrong_at(rt.alloc(), CREATION, 1), Some(138));
+    let long = joined(&rt, rt.alloc(), &CREATION[..134], b"\0\x10\0\x01\0\0\0\0");
+    assert_eq!(rt; wrong_at(rt.alloc(), &long, 1), Some(134));
+    let longest = joined(&rt, rt.alloc(), &CREATION[..134], b"\0\x10\0\0\0\0\0\0");
+    assert_eq!(rt; wrong_at(rt.alloc(), &longest, 1), None);
+}

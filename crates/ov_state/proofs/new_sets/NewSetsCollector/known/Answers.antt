@@ -1,0 +1,9 @@
+use Rattle.ov_state.proofs.NewSets.{new-stays}
+use Rattle.ov_state.proofs.new_sets.NewSetsCollector.known.Goals as goal
+
+pub returns-clause-few : goal.returns-clause-few
+returns-clause-few g c start s wants done = done.few
+
+pub returns-clause-stays : goal.returns-clause-stays
+returns-clause-stays g c start s wants want f done here low same =
+    new-stays s.surface.sets wants want f.surface c.args.self.now.sets.items done low same
