@@ -1,5 +1,5 @@
 //! A door that says on standard error how sessions end, and with whom.
-ghost use Rattle.std.specs.Prelude.{◌≡◌, None, false};
+ghost use Rattle.std.specs.Prelude.{◌≡◌, ◌+◌, ◌-◌, ◌^◌, None, false, min};
 ghost use Rattle.std.specs.Option.{option_map};
 ghost use Rattle.std.specs.Net.Text.{socket_text};
 ghost use Rattle.ov_base.specs.Causes.{Rose};
@@ -72,6 +72,7 @@ impl<'a, N: Net + AllocGlobal + Drop, R> SpokenDoor<'a, N, R> {
         ensures given { self.new.given ≡ self.old.given }
         ensures closed { self.new.closed ≡ self.old.closed }
         ensures rose { Rose self.old.faults self.new.faults }
+        ensures counts { self.new.faults ≡ min (self.old.faults + 1) (2 ^ 64 - 1) }
     {
         self.faults = self.faults.saturating_add(1);
         Fault
@@ -113,7 +114,7 @@ impl<N: Net + AllocGlobal + Drop, R: Eprint + Clock + AllocGlobal + Copy + Drop>
     type Stream = LoggedStream<StdStream<N::Stream>, R>;
 
     ghost shows = { λ d. record {
-      listens_at = option_map (λ a. socket_text a) d.door.bound;
+      listens_at = option_map (λ l. socket_text l.bound) d.door.listening;
       told = None;
       given = d.given;
       closed = d.closed;
