@@ -35,7 +35,7 @@ use Rattle.ov_wire.specs.declared.request.Request.TheVariants as requests
 use Rattle.ov_peer.specs.Tells.{PeerTells}
 use Rattle.ov_acts.proofs.AskingAlone.{IsCutOff, IsTakenOf, asked_alone}
 use Rattle.ov_acts.proofs.AskingAlone.{once_alone, read_alone}
-use Rattle.ov_acts.specs.Acts.{GoesOn, Owns, Performs}
+use Rattle.ov_acts.specs.Acts.{ActGoesOn, Owns, Performs}
 use Rattle.ov_acts.specs.Acts.{admitted, admitted_if, list_line, read_outcome, update_line}
 use Rattle.ov_acts.specs.Completeness.{AsksByName}
 use Rattle.ov_acts.proofs.FailingDisks.{fails_later, update_fails}
@@ -140,7 +140,7 @@ module _ {P : Type 0} (peer : PeerTells P)
       by (once_alone peer alone requests.Hello welcome_in hello_plain p m v greeting
       asks serving) where
         Next : Result (Unit {0}) Stop → Type 0
-        Next found = GoesOn found m q outcome (λ _. Performs peer k act bytes m q outcome)
+        Next found = ActGoesOn found m q outcome (λ _. Performs peer k act bytes m q outcome)
 
         by_cut : (g : Result Welcome OwnerFault) → IsCutOff g → Next (admitted k.base g)
             → IsAnsweredOr (Disk p q) outcome

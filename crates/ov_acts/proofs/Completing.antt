@@ -14,7 +14,7 @@ use Rattle.ov_keyfile.specs.declared.masters.Masters.{Masters as ReadMasters}
 use Rattle.ov_protocol.specs.Serving.{Service}
 use Rattle.ov_peer.specs.Tells.{PeerTells}
 use Rattle.ov_acts.proofs.Sources.{same_masters}
-use Rattle.ov_acts.specs.Acts.{Acts, GoesOn, Owns, OwnsBy, ReadsBy, SaysCheck}
+use Rattle.ov_acts.specs.Acts.{Acts, ActGoesOn, Owns, OwnsBy, ReadsBy, SaysCheck}
 use Rattle.ov_acts.specs.Completeness.{AsksByName, HasFilesFor, HasOwnersFiles, HasReadersLine}
 use Rattle.ov_peer.specs.Alone.{IsAlone}
 use Rattle.ov_acts.specs.Completeness.{FailsDisk, IsAnswered, IsAnsweredOr, IsComplete}
@@ -37,7 +37,7 @@ masters_found : {P : Type 0} (disk : Type 0) (file : List ℕ) (k : Masters)
     → IsKeyFile file k.base k.surface → FindsMasters (Some file) found
     → ((masters : ReadMasters) → k ≡ plain_masters masters → Next masters
     → IsAnsweredOr disk outcome)
-    → GoesOn found p q outcome Next → IsAnsweredOr disk outcome
+    → ActGoesOn found p q outcome Next → IsAnsweredOr disk outcome
 masters_found disk file k (Ok masters) p q outcome Next key is then goes =
     then masters (same_masters file k masters one_pair key is) goes
 masters_found disk file k (Err stops.BadKeys) p q outcome Next key is then goes =
@@ -51,7 +51,7 @@ reader_found : {P : Type 0} (disk : Type 0) (line : List ℕ) (r : Reader)
     (found : Result Reader Stop) (p q : P) (outcome : Outcome) (Next : Reader → Type 0)
     → IsLineOf line r → FindsReader (Some line) found
     → (Next r → IsAnsweredOr disk outcome)
-    → GoesOn found p q outcome Next → IsAnsweredOr disk outcome
+    → ActGoesOn found p q outcome Next → IsAnsweredOr disk outcome
 reader_found disk line r (Ok other) p q outcome Next key is then goes =
     then (subst Next (lines_once line other r is key) goes)
 reader_found disk line r (Err stops.BadKeys) p q outcome Next key is then goes = absurd (is r key)
@@ -65,7 +65,7 @@ bytes_taken : {P : Type 0} (disk : Type 0) (body : List ℕ) (found : Result (Li
     (p q : P) (outcome : Outcome) (Next : List ℕ → Type 0)
     → length body ≤ MAX_FILE_BYTES → FindsBytes (Some body) found
     → ((bytes : List ℕ) → Next bytes → IsAnsweredOr disk outcome)
-    → GoesOn found p q outcome Next → IsAnsweredOr disk outcome
+    → ActGoesOn found p q outcome Next → IsAnsweredOr disk outcome
 bytes_taken disk body (Ok bytes) p q outcome Next few is then goes = then bytes goes
 bytes_taken disk body (Err stops.TooLong) p q outcome Next few is then goes =
     absurd (omega (arith, few, is))
@@ -80,12 +80,12 @@ body_taken : {P : Type 0} (disk : Type 0) (act : Act) (body : Option (List ℕ))
     (found : Result (List ℕ) Stop) (p q : P) (outcome : Outcome) (Next : List ℕ → Type 0)
     → StoresBytes act body bytes → length bytes ≤ MAX_FILE_BYTES → FindsBody act body found
     → ((bytes : List ℕ) → Next bytes → IsAnsweredOr disk outcome)
-    → GoesOn found p q outcome Next → IsAnsweredOr disk outcome
+    → ActGoesOn found p q outcome Next → IsAnsweredOr disk outcome
 body_taken disk (acts.Create file list) body bytes found p q outcome Next stores few is then goes =
     bytes_taken disk bytes found p q outcome Next few
     (subst (λ (b : Option (List ℕ)). FindsBytes b found) stores is) then goes
 body_taken disk act body bytes found p q outcome Next stores few is then goes =
-    then [] (subst (λ (t : Result (List ℕ) Stop). GoesOn t p q outcome Next) is goes)
+    then [] (subst (λ (t : Result (List ℕ) Stop). ActGoesOn t p q outcome Next) is goes)
 
 -- ---- acts
 

@@ -7,7 +7,7 @@ use Rattle.ov_client.specs.Readers.{Reader}
 use Rattle.ov_history.specs.Masters.{Masters}
 use Rattle.ov_keyfile.specs.KeyFile.{HasMasters, IsKeyFile}
 use Rattle.ov_keyfile.specs.declared.masters.Masters.{Masters as ReadMasters}
-use Rattle.ov_acts.specs.Acts.{Acts, GoesOn, SaysCheck}
+use Rattle.ov_acts.specs.Acts.{Acts, ActGoesOn, SaysCheck}
 use Rattle.ov_acts.specs.Causes.{HasKeys, NeedsKeys}
 use Rattle.ov_acts.specs.Files.{FindsBody, FindsMasters, FindsReader, plain_masters}
 use Rattle.ov_protocol.specs.Serving.{Service}
@@ -56,7 +56,7 @@ StopsThere p q outcome = (q ≡ p) × ((outcome ≡ Err stops.BadKeys) ⊎ (outc
 
 no_masters : {P : Type 0} (file : List ℕ) (found : Result ReadMasters Stop) (p q : P)
     (outcome : Outcome) (Next : ReadMasters → Type 0)
-    → (HasMasters file → ⊥) → FindsMasters (Some file) found → GoesOn found p q outcome Next
+    → (HasMasters file → ⊥) → FindsMasters (Some file) found → ActGoesOn found p q outcome Next
     → StopsThere p q outcome
 no_masters file (Ok masters) p q outcome Next none is goes =
     absurd (none (masters.base.bytes, masters.surface.bytes, is))
@@ -75,7 +75,7 @@ no_masters file (Err stops.TooLong) p q outcome Next none is goes = absurd is
 no_reader : {P : Type 0} (line : List ℕ) (found : Result Reader Stop) (p q : P)
     (outcome : Outcome) (Next : Reader → Type 0)
     → ((r : Reader) × IsLineOf line r → ⊥) → FindsReader (Some line) found
-    → GoesOn found p q outcome Next → StopsThere p q outcome
+    → ActGoesOn found p q outcome Next → StopsThere p q outcome
 no_reader line (Ok r) p q outcome Next none is goes = absurd (none (r, is))
 no_reader line (Err stops.BadKeys) p q outcome Next none is goes = (goes.0, inl goes.1)
 no_reader line (Err stops.Read) p q outcome Next none is goes = (goes.0, inr goes.1)

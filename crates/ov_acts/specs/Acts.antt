@@ -31,9 +31,9 @@ use Rattle.ov_acts.specs.declared.stop.Stop.{Stop}
 use Rattle.ov_acts.specs.declared.stop.Stop.TheVariants.{Memory, OtherKeys}
 
 -- an act goes on from what was found; or it stops there for this reason, and nothing more is asked
-abbrev pub GoesOn : {T P : Type 0} → Result T Stop → P → P → Outcome → (T → Type 0) → Type 0
-GoesOn (Ok value) p q outcome Next = Next value
-GoesOn (Err stop) p q outcome Next = (q ≡ p) × (outcome ≡ Err stop)
+abbrev pub ActGoesOn : {T P : Type 0} → Result T Stop → P → P → Outcome → (T → Type 0) → Type 0
+ActGoesOn (Ok value) p q outcome Next = Next value
+ActGoesOn (Err stop) p q outcome Next = (q ≡ p) × (outcome ≡ Err stop)
 
 -- ---- what a call gave
 
@@ -135,15 +135,15 @@ module _ {P : Type 0} (peer : PeerTells P) where
   Owns k act bytes p q outcome =
       (greeting : Result Welcome OwnerFault) × (m : P)
       × AsksOnce peer p m requests.Hello welcome_in greeting
-      × GoesOn (admitted k.base greeting) m q outcome (λ _. Performs k act bytes m q outcome)
+      × ActGoesOn (admitted k.base greeting) m q outcome (λ _. Performs k act bytes m q outcome)
 
   -- nothing is asked until the masters are there and, behind them, the bytes to be stored
   abbrev pub OwnsBy : Act → Option (List ℕ) → Option (List ℕ) → P → P → Outcome → Type 0
   OwnsBy act keys body p q outcome =
       (found : Result ReadMasters Stop) × FindsMasters keys found
-      × GoesOn found p q outcome (λ masters.
+      × ActGoesOn found p q outcome (λ masters.
       (taken : Result (List ℕ) Stop) × FindsBody act body taken
-      × GoesOn taken p q outcome (λ bytes.
+      × ActGoesOn taken p q outcome (λ bytes.
       Owns (plain_masters masters) act bytes p q outcome))
 
   -- ---- the others
@@ -152,7 +152,7 @@ module _ {P : Type 0} (peer : PeerTells P) where
   abbrev pub ReadsBy : List ℕ → Option (List ℕ) → P → P → Outcome → Type 0
   ReadsBy file keys p q outcome =
       (found : Result Reader Stop) × FindsReader keys found
-      × GoesOn found p q outcome (λ r.
+      × ActGoesOn found p q outcome (λ r.
       (result : Result (List ℕ) ClientFault) × Reads peer p q r file result
       × (outcome ≡ read_outcome result))
 

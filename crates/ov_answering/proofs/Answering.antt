@@ -18,7 +18,7 @@ use Rattle.ov_script.specs.Items.{IsItem}
 use Rattle.ov_script.specs.LineFeeds.{lf_count}
 use Rattle.ov_script.specs.Lines.{reply_line}
 use Rattle.ov_script.specs.Reading.{Reads, BeginsScript, BeginsWith, Ending, AtEnd}
-use Rattle.ov_script.specs.Place.{Place, GoesOn as PlaceGoesOn, ends_with, start}
+use Rattle.ov_script.specs.Place.{Place, PlaceGoesOn, ends_with, start}
 use Rattle.ov_script.specs.Saying.{IsOfItem, Says}
 use Rattle.ov_script.proofs.Readings.{BeginsWith-more, BeginsWith-ends}
 use Rattle.ov_history.specs.Masters.{Masters}
@@ -27,7 +27,7 @@ use Rattle.ov_model.specs.Lines.{lines}
 use Rattle.ov_model.specs.Step.{reply_to, after, after_all}
 use Rattle.ov_model.proofs.Runs.{after_all-more, lines-more}
 use Rattle.ov_machine.specs.Disks.{Holds, KeepsPlain, KeepsStep}
-use Rattle.ov_machine.specs.Machine.{AreOtherTags, GoesOn, IsCommand, KeptOn, LeavesStep, StandsFor, StepsAt}
+use Rattle.ov_machine.specs.Machine.{AreOtherTags, MachineGoesOn, IsCommand, KeptOn, LeavesStep, StandsFor, StepsAt}
 use Rattle.ov_machine.specs.Sinks.{Grows}
 use Rattle.ov_machine.specs.declared.fault.BadTag.{BadTag}
 use Rattle.ov_machine.specs.declared.fault.StepFault.{StepFault}
@@ -314,7 +314,7 @@ module _ {D : Type 0} (tells : DiskTells D) where
         step_next c (inl keeps) = inl (inr keeps)
         step_next c (inr keeps) = inr (command, begins_script, inr (subst (λ h. KeepsPlain k h c) (sym after_is) keeps))
 
-        goes_on_so : GoesOn tells k q command mid last → Holds tells k p first.disk
+        goes_on_so : MachineGoesOn tells k q command mid last → Holds tells k p first.disk
             → Reaches tells k p (after_all p (s.commands ++ command ∷ [])) text first.disk last.disk
         goes_on_so goes holds = record {
           holds = subst (λ h. Holds tells k h last.disk) (sym after_is) (goes.holds (s.reaches holds).holds);
@@ -335,7 +335,7 @@ module _ {D : Type 0} (tells : DiskTells D) where
           };
         }
 
-        part_so : (n : ℕ) → Appends now now' (take n (reply_line (reply_to q command))) → GoesOn tells k q command mid last
+        part_so : (n : ℕ) → Appends now now' (take n (reply_line (reply_to q command))) → MachineGoesOn tells k q command mid last
             → AnsweredPart tells k p text old now' first last
         part_so n puts goes = record {
           commands = s.commands;

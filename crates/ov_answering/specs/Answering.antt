@@ -19,7 +19,7 @@ use Rattle.ov_history.specs.Masters.{Masters}
 use Rattle.ov_report.specs.Ends.{EndsIn, EndsOr}
 use Rattle.ov_report.specs.Faults.{disk_line, memory_line}
 use Rattle.ov_machine.specs.Disks.{Holds}
-use Rattle.ov_machine.specs.Machine.{AreOtherTags, GoesOn, Kept, KeptOn, LeavesStep, StandsFor}
+use Rattle.ov_machine.specs.Machine.{AreOtherTags, MachineGoesOn, Kept, KeptOn, LeavesStep, StandsFor}
 use Rattle.ov_machine.specs.declared.fault.BadTag.{BadTag}
 use Rattle.ov_machine.specs.declared.fault.StepFault.{StepFault}
 use Rattle.ov_machine.specs.declared.fault.StepFault.TheVariants.{Disk as NoDisk}
@@ -104,10 +104,10 @@ module _ {D : Type 0} (tells : DiskTells D) where
       → Option (List ℕ) → Option (List ℕ) → KeptOn D → KeptOn D → Type 0
   Answers k p command None old new first last =
       Appends old new (reply_line (reply_to p command))
-      × GoesOn tells k p command first last
+      × MachineGoesOn tells k p command first last
   Answers k p command (Some Write) old new first last =
       ((n : ℕ) × Appends old new (take n (reply_line (reply_to p command))))
-      × GoesOn tells k p command first last
+      × MachineGoesOn tells k p command first last
   Answers k p command (Some Memory) old new first last =
       Keeps old new
       × (Holds tells k p first.disk → LeavesStep tells k p command first.disk last.disk)

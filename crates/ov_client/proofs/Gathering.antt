@@ -8,7 +8,7 @@ use Rattle.ov_base.proofs.Tests.{lt_is_false, lt_is_true}
 use Rattle.ov_wire.specs.declared.answer.Chained.{Chained}
 use Rattle.ov_peer.specs.Tells.{PeerTells}
 use Rattle.ov_client.specs.Readers.{FileKeys, Reader, judged, keys_along, uncovered}
-use Rattle.ov_client.specs.Reads.{GoesOn, Reaches, ReadsFrom}
+use Rattle.ov_client.specs.Reads.{ReadGoesOn, Reaches, ReadsFrom}
 use Rattle.ov_client.specs.Talks.{AsksChain, AsksChunk, Ends, Stage, after_fetched, again, goes_on}
 use Rattle.ov_client.specs.Tries.{after_gathered, after_tried}
 use Rattle.ov_client.specs.declared.fault.ClientFault.{ClientFault}
@@ -55,9 +55,9 @@ module _ {P : Type 0} (peer : PeerTells P) (r : Reader) (file : List ℕ) where
 
     -- a chunk was asked
     pub fetched_on : (result : Result Fetched ClientFault) → length plain < c.length
-        → GoesOn peer m q r file (AsksChunk tries c so_far.stored)
+        → ReadGoesOn peer m q r file (AsksChunk tries c so_far.stored)
         (after_fetched r tries c so_far.stored) result
-        → GoesOn peer p q r file (goes_on r tries c [])
+        → ReadGoesOn peer p q r file (goes_on r tries c [])
         (after_fetched r tries c so_far.stored)
         result
     fetched_on result low on =
@@ -136,8 +136,8 @@ module _ {P : Type 0} (peer : PeerTells P) (r : Reader) (file : List ℕ) where
   pub tried_on : (p m q : P) (tries : List ℕ) (least : ℕ) (result : Result Tried ClientFault)
       → length tries < TRIES
       → Reaches peer p m r file (AsksChain [] 0) (again tries least)
-      → GoesOn peer m q r file (AsksChain tries least) (after_tried tries) result
-      → GoesOn peer p q r file (AsksChain [] 0) (after_tried tries) result
+      → ReadGoesOn peer m q r file (AsksChain tries least) (after_tried tries) result
+      → ReadGoesOn peer p q r file (AsksChain [] 0) (after_tried tries) result
   tried_on p m q tries least result low reaches on =
       behind peer r file p m q (AsksChain [] 0) (AsksChain tries least) (after_tried tries)
       result

@@ -12,7 +12,7 @@ use Rattle.ov_peer.specs.declared.fault.ExchangeFault.TheVariants as exchange
 use Rattle.ov_peer.specs.Tells.{PeerTells}
 use Rattle.ov_client.specs.Causes.{client_fault}
 use Rattle.ov_client.specs.Readers.{Reader}
-use Rattle.ov_client.specs.Reads.{GoesOn, Reaches, ReadsFrom}
+use Rattle.ov_client.specs.Reads.{ReadGoesOn, Reaches, ReadsFrom}
 use Rattle.ov_client.specs.Talks.{Ends, Goes, IsAskedAt, Stage, after, asked_at}
 use Rattle.ov_client.specs.Talks.{then_or}
 use Rattle.ov_client.specs.declared.fault.ClientFault.{ClientFault}
@@ -144,15 +144,15 @@ module _ {P : Type 0} (peer : PeerTells P) (r : Reader) (file : List ℕ) where
   pub told : {T : Type 0} (p q : P) (stage : Stage) (next : T → Stage)
       (result : Result T ClientFault)
       → Reaches peer p q r file stage (then_or next result)
-      → GoesOn peer p q r file stage next result
+      → ReadGoesOn peer p q r file stage next result
   told p q stage next (Ok t) reaches = reaches
   told p q stage next (Err fault) reaches = ended p q stage (Err fault) reaches
 
   -- a part of a read began at a stage to which asks led
   pub behind : {T : Type 0} (p m q : P) (stage mid : Stage) (next : T → Stage)
       (result : Result T ClientFault)
-      → Reaches peer p m r file stage mid → GoesOn peer m q r file mid next result
-      → GoesOn peer p q r file stage next result
+      → Reaches peer p m r file stage mid → ReadGoesOn peer m q r file mid next result
+      → ReadGoesOn peer p q r file stage next result
   behind p m q stage mid next (Ok t) reaches on = then_reaches p m q stage mid (next t) reaches on
   behind p m q stage mid next (Err fault) reaches on = then_reads p m q stage mid (Err fault)
       reaches on

@@ -32,7 +32,7 @@ ReadsInto peer p q r file old new (Err fault) = (new ≡ old) × Reads peer p q 
 
 -- Part of a read, from this stage on: it comes to the stage that follows what was told, or the
 -- read ends with the fault.
-abbrev pub GoesOn : {P : Type 0} → PeerTells P → P → P → Reader → List ℕ → Stage
+abbrev pub ReadGoesOn : {P : Type 0} → PeerTells P → P → P → Reader → List ℕ → Stage
     → {T : Type 0} → (T → Stage) → Result T ClientFault → Type 0
-GoesOn peer p q r file stage next (Ok told) = Reaches peer p q r file stage (next told)
-GoesOn peer p q r file stage next (Err fault) = ReadsFrom peer p q r file stage (Err fault)
+ReadGoesOn peer p q r file stage next (Ok told) = Reaches peer p q r file stage (next told)
+ReadGoesOn peer p q r file stage next (Err fault) = ReadsFrom peer p q r file stage (Err fault)

@@ -3,7 +3,7 @@ ghost use Rattle.std.specs.Prelude.{◌≡◌, ◌<◌, ℕ, List, [], length, I
 ghost use Rattle.ov_wire.specs.AnswersTo.{IsChained};
 ghost use Rattle.ov_client.specs.Causes.{HasClientCause};
 ghost use Rattle.ov_client.specs.Readers.{Reader};
-ghost use Rattle.ov_client.specs.Reads.{GoesOn};
+ghost use Rattle.ov_client.specs.Reads.{ReadGoesOn};
 ghost use Rattle.ov_client.specs.Talks.{AsksChain, AsksChunk, after_fetched, goes_on};
 ghost use Rattle.ov_client.specs.Telling.{HasSize, chunk_bytes};
 
@@ -25,7 +25,7 @@ impl Client {
         file: &Name,
         least: u32,
     ) -> Result<Chained, ClientFault>
-        ensures talk { (tries : List ℕ) → GoesOn P.tells peer.old peer.new
+        ensures talk { (tries : List ℕ) → ReadGoesOn P.tells peer.old peer.new
             self.now file.now (AsksChain tries least) (λ c. goes_on self.now tries c []) result }
         ensures form { IfOk result IsChained }
         ensures same { P.tells.borrow peer.new ≡ P.tells.borrow peer.old }
@@ -52,7 +52,7 @@ pub fn ask_chunk<P: Peer>(
 ) -> Result<Fetched, ClientFault>
     requires { start < chained.now.length }
     ensures talk { (r : Reader) (file tries stored : List ℕ) → start ≡ length stored
-        → GoesOn P.tells peer.old peer.new r file (AsksChunk tries chained.now stored)
+        → ReadGoesOn P.tells peer.old peer.new r file (AsksChunk tries chained.now stored)
         (after_fetched r tries chained.now stored) result }
     ensures size { IfOk result (HasSize (chunk_bytes chained.now.length start)) }
     ensures same { P.tells.borrow peer.new ≡ P.tells.borrow peer.old }

@@ -5,7 +5,7 @@ ghost use Rattle.ov_wire.specs.AnswersTo.{IsChained};
 ghost use Rattle.ov_protocol.specs.Serving.{Service};
 ghost use Rattle.ov_client.specs.Causes.{HasClientCause};
 ghost use Rattle.ov_client.specs.Readers.{Reader, keys_along};
-ghost use Rattle.ov_client.specs.Reads.{GoesOn, Reads, ReadsInto};
+ghost use Rattle.ov_client.specs.Reads.{ReadGoesOn, Reads, ReadsInto};
 ghost use Rattle.ov_client.specs.Talks.{AsksChain, goes_on};
 ghost use Rattle.ov_client.specs.Told.{IsReadersReply, IsReadersReplyInto};
 ghost use Rattle.ov_client.specs.Tries.{HasAtMost, after_gathered, after_tried};
@@ -41,7 +41,7 @@ fn gather<P: Peer>(
 ) -> Result<Fetched, ClientFault>
     requires { chained.now.length ≤ MAX_FILE_BYTES }
     ensures talk { (r : Reader) (file tries : List ℕ) → keys.now ≡ keys_along r chained.now
-        → GoesOn P.tells peer.old peer.new r file (goes_on r tries chained.now [])
+        → ReadGoesOn P.tells peer.old peer.new r file (goes_on r tries chained.now [])
         (after_gathered r tries chained.now) result }
     ensures size { IfOk result (HasAtMost MAX_FILE_BYTES) }
     ensures same { P.tells.borrow peer.new ≡ P.tells.borrow peer.old }
@@ -73,7 +73,7 @@ impl Client {
         chained: &Chained,
     ) -> Result<Tried, ClientFault>
         requires { IsChained chained.now }
-        ensures talk { (file tries : List ℕ) → GoesOn P.tells peer.old peer.new
+        ensures talk { (file tries : List ℕ) → ReadGoesOn P.tells peer.old peer.new
             self.now file (goes_on self.now tries chained.now []) (after_tried tries) result }
         ensures same { P.tells.borrow peer.new ≡ P.tells.borrow peer.old }
         ensures cause { HasClientCause (P.tells.faults peer.old) (P.tells.faults peer.new) result }
@@ -100,7 +100,7 @@ impl Client {
         file: &Name,
         least: u32,
     ) -> Result<Tried, ClientFault>
-        ensures talk { (tries : List ℕ) → GoesOn P.tells peer.old peer.new
+        ensures talk { (tries : List ℕ) → ReadGoesOn P.tells peer.old peer.new
             self.now file.now (AsksChain tries least) (after_tried tries) result }
         ensures same { P.tells.borrow peer.new ≡ P.tells.borrow peer.old }
         ensures cause { HasClientCause (P.tells.faults peer.old) (P.tells.faults peer.new) result }

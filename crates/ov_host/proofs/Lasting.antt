@@ -25,7 +25,7 @@ use Rattle.ov_server.specs.Answering.{AnswersOrFails, FailsUpdate, IsAnswered, I
 use Rattle.ov_server.specs.Following.{Reaches, RepliesAfter}
 use Rattle.ov_server.proofs.AnswerKinds.{IsMade, accepted_made, nothing_made, says_so}
 use Rattle.ov_server.proofs.Following.{reached_after, replies_ok}
-use Rattle.ov_host.specs.Lasting.{Endures, GoesOn, KeepsAll, KeepsFirst, KeepsSome}
+use Rattle.ov_host.specs.Lasting.{Endures, StoreGoesOn, KeepsAll, KeepsFirst, KeepsSome}
 
 -- ---- counts
 
@@ -105,7 +105,7 @@ has_update s request n made is m =
 
 module _ {D : Type 0} (tells : DiskTells D) where
   -- a store goes on from itself
-  pub begins : (s : Opened D) → Reaches (serving_of s) [] (serving_of s) → GoesOn tells s [] s
+  pub begins : (s : Opened D) → Reaches (serving_of s) [] (serving_of s) → StoreGoesOn tells s [] s
   begins s reaches = record {
     reaches = reaches;
     keys = refl;
@@ -126,7 +126,7 @@ module _ {D : Type 0} (tells : DiskTells D) where
 
   module _ (old new : Opened D) (request reply : List ℕ) (answered : AnswersOrFails tells old new request reply)
       (any : LeavesAsked tells request old new) (call : IsCallOf tells old new (IsNewFault old request reply))
-      (start : Opened D) (list : List (List ℕ)) (before : GoesOn tells start list old) where
+      (start : Opened D) (list : List (List ℕ)) (before : StoreGoesOn tells start list old) where
     -- the updates that were made so far endure in this store
     Lasts : SealedHistory → List SealedUpdate → Opened D → Type 0
     Lasts g us s = Endures tells g us start s
@@ -234,7 +234,7 @@ module _ {D : Type 0} (tells : DiskTells D) where
           rose_from (tells.faults start.disk) (tells.faults old.disk) (tells.faults new.disk) before.later (call.3 (is.spelled, λ update. was))
 
     -- the store goes on by what was accepted
-    pub goes_on_after : GoesOn tells start (with_accepted list request reply) new
+    pub goes_on_after : StoreGoesOn tells start (with_accepted list request reply) new
     unfolding Lasts
     goes_on_after = record {
       reaches = reached_after tells old new request reply answered (serving_of start) list before.reaches;
@@ -251,19 +251,19 @@ module _ {D : Type 0} (tells : DiskTells D) where
   module _ (old new : Opened D) (request reply : List ℕ) where
     pub goes_on_ok : (r : Result (Unit {0}) NoRoom) → OnOk r (AnswersOrFails tells old new request reply)
         → LeavesAsked tells request old new → IsCallOf tells old new (IsNewFault old request reply)
-        → (start : Opened D) (list : List (List ℕ)) → GoesOn tells start list old
-        → OnOk r (GoesOn tells start (with_accepted list request reply) new)
+        → (start : Opened D) (list : List (List ℕ)) → StoreGoesOn tells start list old
+        → OnOk r (StoreGoesOn tells start (with_accepted list request reply) new)
     goes_on_ok (Ok done) answered any call start list before = goes_on_after old new request reply answered any call start list before
     goes_on_ok (Err why) answered any call start list before = tt
 
     pub goes_on_err : (r : Result (Unit {0}) NoRoom) → OnErr r ((new ≡ old) × (reply ≡ []))
-        → (start : Opened D) (list : List (List ℕ)) → GoesOn tells start list old
-        → OnErr r (GoesOn tells start list new)
+        → (start : Opened D) (list : List (List ℕ)) → StoreGoesOn tells start list old
+        → OnErr r (StoreGoesOn tells start list new)
     goes_on_err (Ok done) same start list before = tt
-    goes_on_err (Err why) (same, none) start list before = subst (GoesOn tells start list) (sym same) before
+    goes_on_err (Err why) (same, none) start list before = subst (StoreGoesOn tells start list) (sym same) before
 
   -- the replies after each result of a call
   pub replies_after : (old new : Opened D) (request reply : List ℕ) (r : Result (Unit {0}) NoRoom) → OnOk r (AnswersOrFails tells old new request reply)
-      → (start : Opened D) (list : List (List ℕ)) → GoesOn tells start list old
+      → (start : Opened D) (list : List (List ℕ)) → StoreGoesOn tells start list old
       → OnOk r (RepliesAfter (serving_of start) list request reply)
   replies_after old new request reply r answered start list before = replies_ok tells old new request reply r answered start list before.reaches

@@ -10,7 +10,7 @@ use Rattle.ov_session.specs.Doors.{Doorway}
 use Rattle.ov_store.specs.Beginning.{IsBegun, LeavesHistory}
 use Rattle.ov_store.specs.Opened.{Opened}
 use Rattle.ov_host.specs.Hosting.{SaysDisk, Serves, ServesStore, accepted, serves_store}
-use Rattle.ov_host.specs.Lasting.{GoesOn, Survives, store_tells}
+use Rattle.ov_host.specs.Lasting.{StoreGoesOn, Survives, store_tells}
 use Rattle.ov_host.specs.declared.hosted.Hosted.{Hosted}
 use Rattle.ov_host.proofs.Accepting.{sessions_reach}
 use Rattle.ov_host.proofs.Endings.{serves_not_4}
@@ -19,7 +19,7 @@ use Rattle.ov_host.proofs.Surviving.{survives_from}
 module _ {D S : Type 0} (disk_tells : DiskTells D) (source : SourceTells S) (sink : SinkTells S) where
   -- how a store goes on
   abbrev Reached : Opened D → List (List ℕ) → Opened D → Type 0
-  Reached v list w = GoesOn disk_tells v list w
+  Reached v list w = StoreGoesOn disk_tells v list w
 
   pub served_reach : (v w : Opened D) (old new : Doorway S) (wanted : ℕ) (before after : Option (List ℕ)) (status : ℕ) → Reached v [] v
       → (serves : Serves (serves_store disk_tells source sink) v w old new wanted before after status)

@@ -9,12 +9,12 @@ use Rattle.ov_images.specs.Images.{IsImageOf, Keys}
 use Rattle.ov_protocol.specs.Updating.{updates_of}
 use Rattle.ov_store.specs.Beginning.{IsBegun, LeavesHistory}
 use Rattle.ov_store.specs.Opened.{Opened}
-use Rattle.ov_host.specs.Lasting.{Endures, GoesOn, KeepsAll, KeepsSome, Survives}
+use Rattle.ov_host.specs.Lasting.{Endures, StoreGoesOn, KeepsAll, KeepsSome, Survives}
 
 module _ {D : Type 0} (tells : DiskTells D) where
   pub survives_from : (k : Keys) (mode : Mode) (disk : D) (s last : Opened D) (list : List (List ℕ))
       → IsBegun tells k mode (tells.reads disk) s → LeavesHistory tells k mode disk s.disk
-      → GoesOn tells s list last
+      → StoreGoesOn tells s list last
       → Told (tells.reads disk) (λ i. Only i (tells.may_leave disk) → (g : SealedHistory) → g.mode ≡ mode → IsImageOf k g i
       → Survives tells k g (updates_of list) last.failed disk last.disk)
   survives_from k mode disk s last list begun first on i told only g mode_is stands =

@@ -24,7 +24,7 @@ use Rattle.ov_session.specs.Serving.{OneSession, ServesEach, serves_alone}
 use Rattle.ov_report.specs.Ends.{EndsIn, EndsOr}
 use Rattle.ov_report.specs.Faults.{fault_line, fault_status, memory_line}
 use Rattle.ov_host.specs.Accepting.{accepted_in}
-use Rattle.ov_host.specs.Lasting.{GoesOn, Survives, store_tells}
+use Rattle.ov_host.specs.Lasting.{StoreGoesOn, Survives, store_tells}
 use Rattle.ov_host.specs.declared.hosted.Hosted.{Hosted}
 
 -- ---- lines
@@ -150,7 +150,7 @@ module _ {D S : Type 0} (disk_tells : DiskTells D) (source : SourceTells S)
     pub last : Opened D
     pub left : hosted.disk ≡ last.disk
     pub serves : Serves serves_store s last old new wanted before after hosted.status
-    pub goes_on : GoesOn disk_tells s
+    pub goes_on : StoreGoesOn disk_tells s
         (accepted s last old new wanted before after hosted.status serves) last
     pub survives : Told (disk_tells.reads disk) (λ i. Only i (disk_tells.may_leave disk)
         → (g : SealedHistory) → g.mode ≡ mode → IsImageOf k g i

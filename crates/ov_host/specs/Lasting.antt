@@ -52,7 +52,7 @@ module _ {D : Type 0} (tells : DiskTells D) where
   -- From one store the updates with these spellings lead to another: what is served goes on by
   -- them, the keys and the disk's loan stay, and, where the disk tells its bytes and hadn't failed,
   -- it endures. The disk failed in an update only where its count of faults rose.
-  pub record GoesOn (start : Opened D) (list : List (List ℕ)) (now : Opened D) : Type 0 where
+  pub record StoreGoesOn (start : Opened D) (list : List (List ℕ)) (now : Opened D) : Type 0 where
     pub reaches : Reaches (serving_of start) list (serving_of now)
     pub keys : now.keys ≡ start.keys
     pub same : tells.borrow now.disk ≡ tells.borrow start.disk
@@ -78,7 +78,7 @@ module _ {D : Type 0} (tells : DiskTells D) where
       (k : Keys) (mode : Mode) (disk : D) (s last : Opened D) (list : List (List ℕ))
       → IsBegun tells k mode (tells.reads disk) s
       → LeavesHistory tells k mode disk s.disk
-      → GoesOn s list last
+      → StoreGoesOn s list last
       → Told (tells.reads disk) (λ i. Only i (tells.may_leave disk) → (g : SealedHistory)
       → g.mode ≡ mode → IsImageOf k g i
       → Survives k g (updates_of list) last.failed disk last.disk)
@@ -86,7 +86,7 @@ module _ {D : Type 0} (tells : DiskTells D) where
 -- what a server over a store tells: how its store and its disk went on, and what it replies by that
 abbrev pub store_tells : {D : Type 0} → DiskTells D → AnswererTells (Opened D)
 store_tells tells = record {
-  reached = λ start list now. GoesOn tells start list now;
+  reached = λ start list now. StoreGoesOn tells start list now;
   replies = λ start list request reply. RepliesAfter (serving_of start) list request reply;
   epoch_of = λ s. s.catalogue.epoch;
 }

@@ -22,12 +22,12 @@ impl<D: Disk> Model for DiskServer<D> {
 
 impl<D: Disk> DiskServer<D> {
     ghost use Rattle.std.specs.Prelude.{◌≡◌, []};
-    ghost use Rattle.ov_host.specs.Lasting.{GoesOn};
+    ghost use Rattle.ov_host.specs.Lasting.{StoreGoesOn};
 
     /// An answerer over this server, which has made no update since.
     pub fn new(server: Server<D>) -> DiskServer<D>
         ensures same { result ≡ server }
-        ensures begins { GoesOn D.tells result [] result }
+        ensures begins { StoreGoesOn D.tells result [] result }
     {
         server.known();
         DiskServer { server }

@@ -19,7 +19,7 @@ use Rattle.ov_model.specs.Step.{after_all, reply_to}
 use Rattle.ov_report.specs.Ends.{EndsIn, EndsOr}
 use Rattle.ov_report.specs.Faults.{disk_line, memory_line}
 use Rattle.ov_machine.specs.Disks.{Holds, StandsForPlain}
-use Rattle.ov_machine.specs.Machine.{AreMasters, GoesOn, KeptOn, LeavesStep, StandsFor}
+use Rattle.ov_machine.specs.Machine.{AreMasters, MachineGoesOn, KeptOn, LeavesStep, StandsFor}
 use Rattle.ov_machine.specs.declared.fault.StepFault.{StepFault}
 use Rattle.ov_machine.specs.declared.fault.StepFault.TheVariants.{Disk, Memory, Tag, Trace}
 use Rattle.ov_answering.specs.Lasting.{OpensAs}
@@ -87,7 +87,7 @@ module _ {D : Type 0} (tells : DiskTells D) where
       → KeptOn D → KeptOn D → Result T StepFault → Type 0
   TalliesAt k h command before now first last (Ok done) =
       Takes before (reply_to h command) (reply_line (reply_to h command)) now
-      × GoesOn tells k h command first last
+      × MachineGoesOn tells k h command first last
   TalliesAt k h command before now first last (Err Disk) =
       Holds tells k h first.disk → LeavesStep tells k h command first.disk last.disk
   TalliesAt k h command before now first last (Err Trace) =

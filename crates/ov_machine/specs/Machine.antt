@@ -123,7 +123,7 @@ module _ {D : Type 0} (tells : DiskTells D) where
     pub now : (c : Image) → tells.may_leave new c → KeepsStep k p command c
 
   -- what is kept goes on as the history does, and so does the disk that holds it
-  pub record GoesOn (k : Masters) (p : PlainHistory) (command : Command) (old new : KeptOn D)
+  pub record MachineGoesOn (k : Masters) (p : PlainHistory) (command : Command) (old new : KeptOn D)
       : Type 0 where
     pub stands : StandsFor new.kept (after p command)
     pub leaves : Holds tells k p old.disk → LeavesStep k p command old.disk new.disk
@@ -136,7 +136,7 @@ module _ {D : Type 0} (tells : DiskTells D) where
   abbrev pub StepsAt : Masters → PlainHistory → Command → KeptOn D → KeptOn D
       → Result Reply StepFault → Type 0
   StepsAt k p command old new (Ok reply) =
-      (reply ≡ reply_to p command) × GoesOn k p command old new
+      (reply ≡ reply_to p command) × MachineGoesOn k p command old new
   StepsAt k p command old new (Err Disk) =
       Holds tells k p old.disk → LeavesStep k p command old.disk new.disk
   StepsAt k p command old new (Err Trace) =

@@ -37,10 +37,10 @@ services_are_served s v is =
 -- ---- one update
 
 -- the server serves the history with these updates, after it made them
-abbrev GoesOn : Serving → Service → List SealedUpdate → Type 0
-GoesOn s v made = IsService (serving_after s made) (later v made)
+abbrev ServiceGoesOn : Serving → Service → List SealedUpdate → Type 0
+ServiceGoesOn s v made = IsService (serving_after s made) (later v made)
 
-nothing_made : (s : Serving) (v : Service) → IsService s v → GoesOn s v []
+nothing_made : (s : Serving) (v : Service) → IsService s v → ServiceGoesOn s v []
 nothing_made s v is =
     subst (λ (us : List SealedUpdate). IsService s
     (record v { history = record v.history { updates = us } }))
@@ -55,7 +55,7 @@ after_one surface s u = record s {
 
 one_made : (s : Serving) (v : Service) (u : SealedUpdate) → IsService s v
     → refusal_shown s.catalogue (brief u) ≡ None → HasParts (outline s.catalogue) (brief u)
-    → GoesOn s v (u ∷ [])
+    → ServiceGoesOn s v (u ∷ [])
 one_made s v u is none parts =
     subst (λ (m : List ℕ). IsService (after_one m s u) (later v (u ∷ []))) (sym is.surface)
     (record {
@@ -66,12 +66,12 @@ one_made s v u is none parts =
     })
 
 spelled_made : (s : Serving) (v : Service) (read : Result SealedUpdate ℕ) (n : ℕ) → IsService s v
-    → AnswersSpelled s.catalogue read (answers.Accepted n) → GoesOn s v (spelled_by read)
+    → AnswersSpelled s.catalogue read (answers.Accepted n) → ServiceGoesOn s v (spelled_by read)
 spelled_made s v (Ok u) n is (none, parts, epoch) = one_made s v u is none parts
 spelled_made s v (Err place) n is wrong = absurd (cc)
 
 goes_on : (s : Serving) (v : Service) (read : Result Request ℕ) (a : Answer) → IsService s v
-    → AnswersRead s read a → GoesOn s v (made_of read a)
+    → AnswersRead s read a → ServiceGoesOn s v (made_of read a)
 goes_on s v (Ok (requests.Update epoch spelling tag)) (answers.Accepted n) is (t, e, made) =
     spelled_made s v (update_of first_form spelling) n is made
 goes_on s v (Ok request) a is answered = nothing_made s v is
@@ -80,7 +80,7 @@ goes_on s v (Err place) a is answered = nothing_made s v is
 pub servers_go_on : ServersGoOn
 servers_go_on old new v request reply answered is =
     subst (λ (s : Serving). IsService s (later v answered.made)) (sym answered.next)
-    (subst (GoesOn old v) (sym answered.replies.makes)
+    (subst (ServiceGoesOn old v) (sym answered.replies.makes)
     (goes_on old v (request_of request) answered.replies.answer is answered.replies.answers))
 
 -- ---- epochs

@@ -50,8 +50,8 @@ ends_with (Err fault) = Some (Err fault)
 
 -- A reading that had ended answers the same again and stays as it is; one that had not ends with
 -- this answer, unless that is a command.
-abbrev pub GoesOn : {S : Type 0} → Place S → Result Next ScriptFault → Place S → Type 0
-GoesOn old result new =
+abbrev pub PlaceGoesOn : {S : Type 0} → Place S → Result Next ScriptFault → Place S → Type 0
+PlaceGoesOn old result new =
     MatchOption old.ended
     (new.ended ≡ ends_with result)
     (λ answer. (result ≡ answer) × (new ≡ old))

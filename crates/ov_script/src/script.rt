@@ -5,7 +5,7 @@ ghost use Rattle.ov_base.specs.declared.limits.TheConstants.{MAX_SCRIPT_BYTES};
 ghost use Rattle.ov_io.specs.Calls.{IsCallOf};
 ghost use Rattle.ov_script.specs.Finding.{Gives};
 ghost use Rattle.ov_script.specs.NoItem.{IsReadFault};
-ghost use Rattle.ov_script.specs.Place.{Place, start, answer_of, GoesOn};
+ghost use Rattle.ov_script.specs.Place.{Place, start, answer_of, PlaceGoesOn};
 ghost use Rattle.ov_script.specs.Saying.{SaysOf, IfCommand, IsOfItem};
 ghost use Rattle.ov_script.specs.Taking.{EndsReading, IsFreshFault, TakesWhatItNeeds};
 
@@ -85,7 +85,7 @@ impl<S: Source + Drop> Script<S> {
         ensures item { IfOk result IsOfItem }
         ensures needed { TakesWhatItNeeds S.tells self.old.room self.old.pending
             (EndsReading result) (IsFreshFault self.old result) self.old.source self.new.source }
-        ensures ended { GoesOn self.old result self.new }
+        ensures ended { PlaceGoesOn self.old result self.new }
         ensures progress { IfOk result (λ next. IfCommand next (self.new.room < self.old.room)) }
         ensures call { IsCallOf S.tells (IsFreshFault self.old result)
             self.old.source self.new.source }

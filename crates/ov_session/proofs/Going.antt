@@ -18,7 +18,7 @@ use Rattle.ov_session.specs.Ends.{Answered, AnswersAll, EndsSpent, EndsWanting, 
 use Rattle.ov_session.specs.Exchanges.{Exchange, Leads, answer_for, answers, requests}
 use Rattle.ov_session.specs.Links.{IsLater, Link}
 use Rattle.ov_session.specs.Reading.{Reads}
-use Rattle.ov_session.specs.Steps.{AnswersFrames, AnswersThem, Going, GoesOn, IsEndOf, IsWriting, StopsSpent, StopsWriting, end_of, fresh, go_on}
+use Rattle.ov_session.specs.Steps.{AnswersFrames, AnswersThem, Going, SessionGoesOn, IsEndOf, IsWriting, StopsSpent, StopsWriting, end_of, fresh, go_on}
 use Rattle.ov_session.specs.Tells.{AskerTells}
 use Rattle.ov_session.proofs.Answering.{answered_both, cut_both, leads_both}
 
@@ -210,7 +210,7 @@ module _ {A : Type 0} (tells : AskerTells A) (a b : A) (old mid : Link)
 
       pub goes_on : (count' : ℕ) → count' ≡ min (count + length piece) 18446744073709551615
           → (fed : Result (Unit {0}) FeedFault) → Feeds d d' piece [] frames fed
-          → GoesOn tells a c old new d' count' (go_on fed)
+          → SessionGoesOn tells a c old new d' count' (go_on fed)
       goes_on count' counts (Ok done) t = record {
         exchanges = exchanges;
         taken = bytes;

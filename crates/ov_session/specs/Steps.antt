@@ -110,10 +110,10 @@ pub record Going {A : Type 0} (tells : AskerTells A) (a b : A) (old new : Link)
   pub later : IsLater old new
 
 -- the session goes on, or it ended
-abbrev pub GoesOn : {A : Type 0} → AskerTells A → A → A → Link → Link → Decoding → ℕ
+abbrev pub SessionGoesOn : {A : Type 0} → AskerTells A → A → A → Link → Link → Decoding → ℕ
     → Result (Unit {0}) SessionEnd → Type 0
-GoesOn tells a b old new decoding count (Ok done) = Going tells a b old new decoding count
-GoesOn tells a b old new decoding count (Err ending) = Serves tells a b old new ending
+SessionGoesOn tells a b old new decoding count (Ok done) = Going tells a b old new decoding count
+SessionGoesOn tells a b old new decoding count (Err ending) = Serves tells a b old new ending
 
 -- how a session ends where the input does, by what came of a frame and the number of bytes
 abbrev pub IsEndOf : List ℕ → ℕ → SessionEnd → Type 0

@@ -4,7 +4,7 @@ ghost use Rattle.std.specs.List.{AllByRecursion};
 ghost use Rattle.ov_wire.specs.Frames.{IsFrame};
 ghost use Rattle.ov_session.specs.Ends.{Serves};
 ghost use Rattle.ov_session.specs.Links.{IsLater, IsSameLoan, Link, link};
-ghost use Rattle.ov_session.specs.Steps.{AnswersFrame, AnswersFrames, Going, GoesOn, IsEndOf, IsWriting, end_of, go_on};
+ghost use Rattle.ov_session.specs.Steps.{AnswersFrame, AnswersFrames, Going, SessionGoesOn, IsEndOf, IsWriting, end_of, go_on};
 
 use crate::putting::put_frame;
 use crate::{Asker, Gate, SessionEnd};
@@ -171,7 +171,7 @@ fn read_on<R: Wait, L: Stream, A: Asker, G: Gate>(
     ensures goes { (a : A) (old : Link) → Going A.tells a asker.old old
         (link L.Source.tells L.Sink.tells stream.old)
         reading.old.decoder reading.old.taken
-        → GoesOn A.tells a asker.new old
+        → SessionGoesOn A.tells a asker.new old
         (link L.Source.tells L.Sink.tells stream.new)
         reading.new.decoder reading.new.taken result }
     ensures later { IsLater

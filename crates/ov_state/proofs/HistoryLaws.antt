@@ -15,12 +15,12 @@ use Rattle.ov_history.specs.Sound.{IsSound}
 use Rattle.ov_history.proofs.SoundHistories.{shown_is_sound}
 use Rattle.ov_state.specs.Changes.{applied}
 use Rattle.ov_state.specs.Plans.{Prepares}
-use Rattle.ov_state.specs.Standing.{GoesOn, ClosuresAreMatrix, ClosuresFollow, IsAnsweredAsItsHistory}
+use Rattle.ov_state.specs.Standing.{CatalogueGoesOn, ClosuresAreMatrix, ClosuresFollow, IsAnsweredAsItsHistory}
 use Rattle.ov_state.specs.declared.change.Change.{Change}
 use Rattle.ov_state.specs.declared.fault.PrepareFault.{PrepareFault}
 use Rattle.ov_state.specs.declared.fault.PrepareFault.TheVariants.{Refused, BadPlan, Memory}
 
-pub goes_on : {W : ℕ} (limit : ℕ) (old : Catalogue) (c : Change W) (new : Catalogue) → new ≡ applied old c → GoesOn limit old c new
+pub goes_on : {W : ℕ} (limit : ℕ) (old : Catalogue) (c : Change W) (new : Catalogue) → new ≡ applied old c → CatalogueGoesOn limit old c new
 goes_on {W} limit old c new is master g u stands change =
     subst (λ (s : Catalogue). StandsFor master s (with_sealed g u)) (sym (is ∙ change.made))
     (histories_go_on master old g u stands change.taken.0 change.taken.1)

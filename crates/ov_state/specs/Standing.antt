@@ -18,8 +18,8 @@ use Rattle.ov_state.specs.declared.fault.PrepareFault.TheVariants.{Refused, BadP
 
 -- for every sealed history for which the old catalogue stood and every update whose change this is,
 -- the new one stands for the history with that update
-abbrev pub GoesOn : {W : ℕ} → ℕ → Catalogue → Change W → Catalogue → Type 0
-GoesOn limit old change new =
+abbrev pub CatalogueGoesOn : {W : ℕ} → ℕ → Catalogue → Change W → Catalogue → Type 0
+CatalogueGoesOn limit old change new =
     (master : List ℕ) (g : SealedHistory) (u : SealedUpdate)
     → StandsFor master old g → IsChange limit master old (brief u) change
     → StandsFor master new (with_sealed g u)

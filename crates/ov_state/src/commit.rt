@@ -10,7 +10,7 @@ ghost use Rattle.ov_state.specs.Changes.{all_rewritten, files_grown, grants_grow
 ghost use Rattle.ov_state.specs.Changes.{edges_in, listed_if};
 ghost use Rattle.ov_state.specs.Changes.{AreNewNodes, AreOfFiles, IsNewNodeIf};
 ghost use Rattle.ov_state.specs.Changes.{Fits, GrowsWithin, HasRoomFor, Suits};
-ghost use Rattle.ov_state.specs.Standing.{ClosuresFollow, GoesOn};
+ghost use Rattle.ov_state.specs.Standing.{ClosuresFollow, CatalogueGoesOn};
 
 use crate::change::{Change, Growth, NewNode, Rewrite};
 use crate::files::Files;
@@ -102,7 +102,7 @@ impl<B: Graph<Base, W>, S: Graph<Surface, W>, const W: usize> State<B, S, W> {
         requires room { HasRoomFor self.old.room change }
         ensures applied { self.new.catalogue ≡ applied self.old.catalogue change.entry }
         ensures epoch { self.new.catalogue.epoch ≡ self.old.catalogue.epoch + 1 }
-        ensures stands { GoesOn (64 * W) self.old.catalogue change.entry self.new.catalogue }
+        ensures stands { CatalogueGoesOn (64 * W) self.old.catalogue change.entry self.new.catalogue }
         ensures closure { ClosuresFollow (64 * W) self.old.catalogue change.entry self.new.catalogue }
     {
         let Change {

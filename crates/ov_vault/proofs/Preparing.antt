@@ -18,7 +18,7 @@ use Rattle.ov_history.proofs.Storing.{length-files_after}
 use Rattle.ov_history.proofs.Living.{settled-length}
 use Rattle.ov_state.specs.Changes.{applied, HasRoomFor, Suits}
 use Rattle.ov_state.specs.Plans.{IsChange, IsFitting}
-use Rattle.ov_state.specs.Standing.{GoesOn as CatalogueGoesOn}
+use Rattle.ov_state.specs.Standing.{CatalogueGoesOn}
 use Rattle.ov_state.specs.declared.change.Change.{Change}
 use Rattle.ov_state.specs.Entries.{plain_rewrite, plain_rewrites}
 use Rattle.ov_state.specs.declared.change.Rewrite.{Rewrite}
@@ -26,7 +26,7 @@ use Rattle.ov_vault.specs.declared.rewritten.Rewritten.{Rewritten}
 use Rattle.ov_vault.specs.Rewritten.{put_all, AreBelow, AreOfFiles, EndAt, HasRoomForNew, IsMade, SuitText}
 use Rattle.ov_vault.specs.Vaults.{AreShort, AreStored, AreRewritesOf, Store}
 use Rattle.ov_vault.specs.Prepared.{stored_with, IsMadeBy, IsPreparedFor, MayBeMade}
-use Rattle.ov_vault.specs.Standing.{GoesOn}
+use Rattle.ov_vault.specs.Standing.{VaultGoesOn}
 use Rattle.ov_vault.specs.declared.prepared.Prepared.{Prepared}
 use Rattle.ov_vault.proofs.Copying.{plain_rewrites-push}
 use Rattle.ov_vault.proofs.Putting.{AreAbove, above_front, ends, put_all-is, rewrites-above, rewrites-below, rewrites-end, rewritten-new}
@@ -290,7 +290,7 @@ may_be_made {W} limit master s new u p has is catalogue stored room files space 
 
 pub goes_on : {W : ℕ} (limit : ℕ) (old new : Store) (p : Prepared W)
     → CatalogueGoesOn limit old.catalogue p.change new.catalogue → new.stored ≡ stored_with old.stored p
-    → GoesOn limit old p new
+    → VaultGoesOn limit old p new
 goes_on limit old new p on stored master g u is prepared = (
   on master g u is.0 prepared.change,
   stored ∙ prepared.bytes ∙ stored_goes_on master old.catalogue old.stored g u is.0 is.1,

@@ -16,8 +16,8 @@ IsStoreOf master s g = StandsFor master s.catalogue g × KeepsBytes master s.sto
 
 -- for every sealed history of which the old store was and every update that this was prepared for,
 -- the new one is that of the history with that update
-abbrev pub GoesOn : {W : ℕ} → ℕ → Store → Prepared W → Store → Type 0
-GoesOn limit old p new =
+abbrev pub VaultGoesOn : {W : ℕ} → ℕ → Store → Prepared W → Store → Type 0
+VaultGoesOn limit old p new =
     (master : List ℕ) (g : SealedHistory) (u : SealedUpdate)
     → IsStoreOf master old g → IsPreparedFor limit master old u p
     → IsStoreOf master new (with_sealed g u)

@@ -3,7 +3,7 @@ ghost use Rattle.std.specs.Prelude.{◌≡◌, ◌*◌};
 ghost use Rattle.ov_state.specs.Changes.{applied};
 ghost use Rattle.ov_state.specs.Standing.{ClosuresFollow};
 ghost use Rattle.ov_vault.specs.Prepared.{stored_with, MayBeMade};
-ghost use Rattle.ov_vault.specs.Standing.{GoesOn};
+ghost use Rattle.ov_vault.specs.Standing.{VaultGoesOn};
 
 use crate::prepared::Prepared;
 use crate::rewritten::{put_all, put_new};
@@ -18,7 +18,7 @@ impl<B: Graph<Base, W>, S: Graph<Surface, W>, const W: usize> Vault<B, S, W> {
         requires { MayBeMade (64 * W) self.old prepared }
         ensures catalogue { self.new.catalogue ≡ applied self.old.catalogue prepared.entry.change }
         ensures stored { self.new.stored ≡ stored_with self.old.stored prepared.entry }
-        ensures stands { GoesOn (64 * W) self.old prepared.entry self.new }
+        ensures stands { VaultGoesOn (64 * W) self.old prepared.entry self.new }
         ensures closure { let made = prepared.entry.change in
             ClosuresFollow (64 * W) self.old.catalogue made self.new.catalogue }
     {

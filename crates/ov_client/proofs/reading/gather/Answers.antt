@@ -1,5 +1,5 @@
 use Rattle.std.proofs.Common.{◌∙◌, ◌<◌, List, [], ℕ, refl, Ok, Err, ap, arith, length, subst, sym}
-use Rattle.ov_client.specs.Reads.{GoesOn, Reaches}
+use Rattle.ov_client.specs.Reads.{ReadGoesOn, Reaches}
 use Rattle.ov_client.specs.Talks.{AsksChunk, after_fetched, goes_on}
 use Rattle.ov_client.specs.Telling.{HasSize, chunk_bytes}
 use Rattle.ov_client.specs.Tries.{after_gathered}
@@ -70,7 +70,7 @@ loop-alloc-preserved g c =
           (fetched_on g.P.Peer.tells r file c.args.peer.now c.loop-alloc.peer
           c.ask_chunk.new.peer tries d c.args.keys.now
           plain so_far (Ok (Bytes chunk)) low
-          (subst (λ (f : Fetched). GoesOn g.P.Peer.tells c.loop-alloc.peer
+          (subst (λ (f : Fetched). ReadGoesOn g.P.Peer.tells c.loop-alloc.peer
           c.ask_chunk.new.peer r file
           (AsksChunk tries d so_far.stored) (after_fetched r tries d so_far.stored) (Ok f))
           c.in-Ok-Bytes.field-0-is on))
@@ -101,7 +101,7 @@ returns-in-Err-append-clause-talk g c = λ r file tries same.
     (fetched_on g.P.Peer.tells r file c.args.peer.now c.loop-alloc.peer
     c.ask_chunk.new.peer tries d c.args.keys.now
     plain so_far (Ok (Bytes chunk)) low
-    (subst (λ (f : Fetched). GoesOn g.P.Peer.tells c.loop-alloc.peer
+    (subst (λ (f : Fetched). ReadGoesOn g.P.Peer.tells c.loop-alloc.peer
     c.ask_chunk.new.peer r file
     (AsksChunk tries d so_far.stored) (after_fetched r tries d so_far.stored) (Ok f))
     c.in-Ok-Bytes.field-0-is on))
@@ -123,7 +123,7 @@ returns-in-Ok-Moved-clause-talk g c = λ r file tries same.
     fetched_on g.P.Peer.tells r file c.args.peer.now c.loop-alloc.peer
     c.ask_chunk.new.peer tries d c.args.keys.now
     plain so_far (Ok (Moved c.in-Ok-Moved.now)) low
-    (subst (λ (f : Fetched). GoesOn g.P.Peer.tells c.loop-alloc.peer
+    (subst (λ (f : Fetched). ReadGoesOn g.P.Peer.tells c.loop-alloc.peer
     c.ask_chunk.new.peer r file
     (AsksChunk tries d so_far.stored) (after_fetched r tries d so_far.stored) (Ok f))
     c.in-Ok-Moved.field-0-is on)

@@ -3,7 +3,7 @@ use Rattle.std.proofs.lemmas.Grind.{common_steps}
 use Rattle.ov_wire.specs.Frames.{Feeds}
 use Rattle.ov_session.specs.Ends.{Serves}
 use Rattle.ov_session.specs.Links.{link}
-use Rattle.ov_session.specs.Steps.{GoesOn}
+use Rattle.ov_session.specs.Steps.{SessionGoesOn}
 use Rattle.ov_session.specs.Reading.{Reads}
 use Rattle.ov_session.proofs.Going.{ends_at_end, ends_reading, goes_on, stops_so}
 use Rattle.ov_session.proofs.Replying.{reads_none, took_none}
@@ -57,7 +57,7 @@ returns-in-Ok-answer_each-clause-goes g c a old so_far =
     subst (λ (l : List (List ℕ)). Feeds d d' piece [] l c.feed-fed.result) (sym c.deref.ensures.value) none in
     let counts : c.saturating_add-reading.result ≡ min (c.args.reading.now.taken + length piece) 18446744073709551615 =
     omega (arith, c.saturating_add-reading.ensures, c.split_at.ensures.front_len) in
-    subst (GoesOn g.A.Asker.tells a c.answer_each.new.asker old
+    subst (SessionGoesOn g.A.Asker.tells a c.answer_each.new.asker old
     (tells c.answer_each.new.stream) d' c.saturating_add-reading.result) (sym c.go_on.ensures)
     (goes_on g.A.Asker.tells a c.args.asker.now old (tells c.args.stream.now) d
     c.args.reading.now.taken so_far (tells c.take.new.self) (tells c.answer_each.new.stream)

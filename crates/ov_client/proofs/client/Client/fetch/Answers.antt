@@ -1,6 +1,6 @@
 use Rattle.std.proofs.Common.{◌∙◌, ◌<◌, [], List, ℕ, Ok, Err, arith, length, subst, sym, take}
 use Rattle.std.proofs.lemmas.List.{length-set, length-take-le, take_more_set}
-use Rattle.ov_client.specs.Reads.{GoesOn, Reaches}
+use Rattle.ov_client.specs.Reads.{ReadGoesOn, Reaches}
 use Rattle.ov_client.specs.Talks.{AsksChain, again}
 use Rattle.ov_client.specs.Tries.{after_tried}
 use Rattle.ov_client.specs.declared.reading.TheConstants.{TRIES}
@@ -29,7 +29,7 @@ returns-in-Ok-Read-clause-talk g c =
     (tried_on g.P.Peer.tells r file c.args.peer.now c.loop-n.peer
     c.try_once.new.peer before c.loop-n.least
     (Ok (tries.Read c.in-Ok-Read.bytes)) low c.loop-n.invariant.reaches
-    (subst (λ (t : Tried). GoesOn g.P.Peer.tells c.loop-n.peer c.try_once.new.peer r
+    (subst (λ (t : Tried). ReadGoesOn g.P.Peer.tells c.loop-n.peer c.try_once.new.peer r
     file
     (AsksChain before c.loop-n.least) (after_tried before) (Ok t)) c.in-Ok-Read.field-0-is
     (c.in-Ok-Read.ensures.talk before)))
@@ -75,7 +75,7 @@ loop-n-preserved g c =
     let on = tried_on g.P.Peer.tells r file c.args.peer.now c.loop-n.peer
     c.try_once.new.peer before c.loop-n.least
     (Ok (tries.Moved generation c.in-Ok-Moved.now)) low c.loop-n.invariant.reaches
-    (subst (λ (t : Tried). GoesOn g.P.Peer.tells c.loop-n.peer c.try_once.new.peer r
+    (subst (λ (t : Tried). ReadGoesOn g.P.Peer.tells c.loop-n.peer c.try_once.new.peer r
     file
     (AsksChain before c.loop-n.least) (after_tried before) (Ok t)) c.in-Ok-Moved.field-0-is
     (c.in-Ok-Moved.ensures.talk before)) in record {

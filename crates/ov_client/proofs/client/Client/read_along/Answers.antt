@@ -1,6 +1,6 @@
 use Rattle.std.proofs.Common.{◌≡◌, ◌∙◌, [], List, ℕ, Ok, Err, Result, ap, subst, sym}
 use Rattle.ov_client.specs.Readers.{FileKeys, judged, keys_along}
-use Rattle.ov_client.specs.Reads.{GoesOn, Reaches}
+use Rattle.ov_client.specs.Reads.{ReadGoesOn, Reaches}
 use Rattle.ov_client.specs.Talks.{Ends, goes_on}
 use Rattle.ov_client.specs.Tries.{after_gathered}
 use Rattle.ov_client.specs.declared.fault.ClientFault.{ClientFault}
@@ -13,7 +13,7 @@ returns-in-Ok-clause-talk g c = λ file tries.
     let r = c.args.self.now in
     let d = c.args.chained.now in
     let plain = c.in-Ok-Bytes.plain in
-    let on = subst (λ (f : Fetched). GoesOn g.P.Peer.tells c.args.peer.now
+    let on = subst (λ (f : Fetched). ReadGoesOn g.P.Peer.tells c.args.peer.now
     c.gather.new.peer r file
     (goes_on r tries d []) (after_gathered r tries d) (Ok f)) c.in-Ok-Bytes.field-0-is
     (c.in-Ok-Bytes.ensures.talk r file tries c.along-keys.ensures) in
@@ -28,7 +28,7 @@ returns-in-Err-judge-clause-talk g c = λ file tries.
     let r = c.args.self.now in
     let d = c.args.chained.now in
     let plain = c.in-Ok-Bytes.plain in
-    let on = subst (λ (f : Fetched). GoesOn g.P.Peer.tells c.args.peer.now
+    let on = subst (λ (f : Fetched). ReadGoesOn g.P.Peer.tells c.args.peer.now
     c.gather.new.peer r file
     (goes_on r tries d []) (after_gathered r tries d) (Ok f)) c.in-Ok-Bytes.field-0-is
     (c.in-Ok-Bytes.ensures.talk r file tries c.along-keys.ensures) in
@@ -46,7 +46,7 @@ pub returns-in-Ok-Moved-clause-talk : goal.returns-in-Ok-Moved-clause-talk
 returns-in-Ok-Moved-clause-talk g c = λ file tries.
     let r = c.args.self.now in
     let d = c.args.chained.now in
-    subst (λ (f : Fetched). GoesOn g.P.Peer.tells c.args.peer.now c.gather.new.peer
+    subst (λ (f : Fetched). ReadGoesOn g.P.Peer.tells c.args.peer.now c.gather.new.peer
     r file
     (goes_on r tries d []) (after_gathered r tries d) (Ok f)) c.in-Ok-Moved.field-0-is
     (c.in-Ok-Moved.ensures.talk r file tries c.along-keys.ensures)

@@ -2,13 +2,13 @@ use Rattle.std.proofs.Common.{[], subst, sym}
 use Rattle.ov_server.specs.Answering.{serving_of}
 use Rattle.ov_server.specs.Following.{Reaches}
 use Rattle.ov_store.specs.Opened.{Opened}
-use Rattle.ov_host.specs.Lasting.{GoesOn}
+use Rattle.ov_host.specs.Lasting.{StoreGoesOn}
 use Rattle.ov_host.proofs.Lasting.{begins}
 use Rattle.ov_host.proofs.disk_server.DiskServerAnswerer.epoch.Goals as goal
 
 pub returns-clause-begins : goal.returns-clause-begins
 returns-clause-begins g c =
-    subst (λ (s : Opened g.row.D.Denot). GoesOn g.D.Disk.tells s [] s) c.self.view_is
+    subst (λ (s : Opened g.row.D.Denot). StoreGoesOn g.D.Disk.tells s [] s) c.self.view_is
     (begins g.D.Disk.tells _ c.epoch.ensures.begins)
 
 pub returns-clause-counts : goal.returns-clause-counts

@@ -3,7 +3,7 @@ use Rattle.ov_history.specs.Rewrites.{with_text}
 use Rattle.ov_state.specs.Standing.{ClosuresFollow}
 use Rattle.ov_vault.specs.Rewritten.{HasRoomForNew}
 use Rattle.ov_vault.specs.Vaults.{Store}
-use Rattle.ov_vault.specs.Standing.{GoesOn}
+use Rattle.ov_vault.specs.Standing.{VaultGoesOn}
 use Rattle.ov_vault.proofs.Preparing.{goes_on}
 use Rattle.ov_vault.proofs.vault.Vault.commit.Goals as goal
 
@@ -21,7 +21,7 @@ returns-clause-stands g c =
       stored = c.put_new.new.stored.items;
       spare = vec_capacity c.put_new.new.stored - vec_len c.put_new.new.stored;
     } in
-    subst (λ (s : Store). GoesOn {W = g.row.W} (64 * g.row.W) s c.args.prepared new) c.self.view_is
+    subst (λ (s : Store). VaultGoesOn {W = g.row.W} (64 * g.row.W) s c.args.prepared new) c.self.view_is
     (goes_on {W = g.row.W} (64 * g.row.W) _ new c.args.prepared c.commit.ensures.stands
     (c.put_new.ensures ∙ ap (λ b. with_text b c.args.prepared.new) c.put_all.ensures.put))
 
