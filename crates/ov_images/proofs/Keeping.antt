@@ -1,153 +1,178 @@
--- Images that keep a history, and what an append makes of which.
-use Rattle.std.proofs.Common.{◌≡◌, ⊎_elim, ℕ, zero, suc, ◌≤◌, ◌<◌, ◌^◌, List, [], ◌∷◌, ◌++◌, length, take, drop, get_or, false, refl, sym, ◌∙◌, ap, arith, lit<}
-use Rattle.std.proofs.lemmas.List.{take_at, get_or-take, drop-take, take-take}
-use Rattle.std.proofs.lemmas.Nat.{from_be_bytes-to_be_bytes_4}
-use Rattle.std.specs.Int.{w32, to_be_bytes, from_be_bytes}
-use Rattle.ov_base.specs.Modes.{mode_byte}
-use Rattle.ov_base.proofs.Modes.{one_byte}
+-- Images that keep a history in extents, and what an append makes of which.
+use Rattle.std.proofs.Common.{◌≡◌, ℕ, List, length, drop}
+use Rattle.std.proofs.Common.{refl, sym, ◌∙◌, ap, subst}
+use Rattle.std.specs.Prelude.{Option}
 use Rattle.ov_keyed.proofs.HmacLemmas.{length-hmac}
-use Rattle.ov_fields.proofs.WholeLaws.{no_front}
 use Rattle.ov_record.specs.Updates.{SealedUpdate}
-use Rattle.ov_record.specs.Spelling.{spelling, HasForm}
-use Rattle.ov_record.proofs.UpdateLaws.{update_reads, first_has_room}
-use Rattle.ov_record.specs.Forms.{first_form}
-use Rattle.ov_history.specs.Sealed.{SealedHistory}
+use Rattle.ov_history.specs.Briefs.{brief}
+use Rattle.ov_history.specs.Catalogue.{Catalogue, catalogue_after}
+use Rattle.ov_history.specs.Sealed.{KeepsBytes, SealedHistory, IsSealed, with_sealed}
+use Rattle.ov_history.specs.Texts.{BriefHistory, IsSealedBriefly, brief_of, with_brief}
+use Rattle.ov_history.specs.Placed.{IsReplayedTo, PlacedHistory, PlacedUpdate, cut, placed_after}
+use Rattle.ov_history.specs.Placed.{placed_of, unplaced, with_placed}
+use Rattle.ov_history.proofs.Briefly.{brief_of-push, briefs_are_enough}
+use Rattle.ov_history.proofs.Coating.{stored_tells_texts}
+use Rattle.ov_history.proofs.Extents.{extents_go_on}
+use Rattle.ov_history.proofs.Placed.{extents_tell_histories, replays_go_on}
+use Rattle.ov_history.proofs.Replaying.{briefs_stop}
 use Rattle.ov_disk.specs.Disk.{Image}
 use Rattle.ov_journal.specs.declared.header.Header.{Header}
-use Rattle.ov_journal.specs.Book.{Contents, contents_of, header_bytes, magic, spelled, born}
-use Rattle.ov_journal.specs.Book.{records_after, with_body, HasHeaderForm}
-use Rattle.ov_journal.specs.Standing.{HasMagic, IsUnborn}
+use Rattle.ov_journal.specs.Book.{Contents, HasHeaderForm, born, header_bytes, spelled}
+use Rattle.ov_journal.specs.Book.{with_body}
 use Rattle.ov_journal.proofs.Headers.{spelled_apart}
-use Rattle.ov_images.specs.Images.{Keys, header_of, bodies_of, AllHaveForm, Keeps}
-use Rattle.ov_images.specs.Laws.{KeepingGoesOn, KeepsOnce, KeptIsBorn, KeysAreKept}
-use Rattle.ov_images.specs.Laws.{SameContentsKeepTheSame}
-
--- ---- one update more
-
-pub bodies-push : (updates : List SealedUpdate) (u : SealedUpdate)
-    → bodies_of (updates ++ u ∷ []) ≡ bodies_of updates ++ spelling first_form u ∷ []
-bodies-push [] u = refl
-bodies-push (v ∷ updates) u =
-    ap (λ (l : List (List ℕ)). spelling first_form v ∷ l) (bodies-push updates u)
-
-pub form-push : (updates : List SealedUpdate) (u : SealedUpdate)
-    → AllHaveForm updates → HasForm first_form u → AllHaveForm (updates ++ u ∷ [])
-form-push [] u all form = (form, tt)
-form-push (v ∷ updates) u all form = (all.0, form-push updates u all.1 form)
-
-pub keeps_same : SameContentsKeepTheSame
-keeps_same k g i c keeps same = record {
-  sealed = keeps.sealed;
-  first = keeps.first;
-  form = keeps.form;
-  book = same ∙ keeps.book;
-}
-
-pub keeps_more : KeepingGoesOn
-keeps_more k g u i c keeps sealed form is = record {
-  sealed = sealed;
-  first = keeps.first;
-  form = form-push g.updates u keeps.form form;
-  book = is ∙ ap (with_body (spelling first_form u)) keeps.book
-      ∙ ap (born (header_of k g)) (sym (bodies-push g.updates u));
-}
+use Rattle.ov_images.specs.Images.{Keys}
+use Rattle.ov_images.specs.Records.{bodies_of, record_spelling}
+use Rattle.ov_images.specs.Extents.{IsLaidOut, blocks_in, catalogue_at, stored_in}
+use Rattle.ov_images.specs.Images.{HasRecords, Keeps, KeepsAt, header_of}
+use Rattle.ov_images.specs.Laws.{HasOneMore, KeepingGoesOn, KeepsOnce, KeptIsBorn}
+use Rattle.ov_images.specs.Laws.{KeptIsSealed, KeysAreKept, PlacesAreKeptOnce}
+use Rattle.ov_images.specs.Laws.{RecordsAreKept, SameExtentsKeepTheSame, placed_as}
+use Rattle.ov_images.proofs.Headers.{born_is_store, first_of-spelled, mode_of-spelled}
+use Rattle.ov_images.proofs.Records.{bodies-push, bodies_once, form-push}
+use Rattle.ov_images.proofs.Extents.{all_end, as_said, blocks_grow, laid_out_more}
+use Rattle.ov_images.proofs.Extents.{laid_out_push, unplaced-push}
 
 -- ---- an image keeps one history
 
-bodies_once : (us vs : List SealedUpdate) → AllHaveForm us → AllHaveForm vs
-    → bodies_of us ≡ bodies_of vs → us ≡ vs
-bodies_once [] [] fu fv same = refl
-bodies_once [] (v ∷ vs) fu fv same = absurd (cc same)
-bodies_once (u ∷ us) [] fu fv same = absurd (cc same)
-bodies_once (u ∷ us) (v ∷ vs) fu fv same =
-    let one : spelling first_form u ≡ spelling first_form v = cc same in
-    let rest : bodies_of us ≡ bodies_of vs = cc same in
-    let first = (no_front (update_reads first_form first_has_room) u v [] [] fu.0 fv.0
-    (ap (λ (l : List ℕ). l ++ []) one)).0 in
-    let others = bodies_once us vs fu.1 fv.1 rest in
-    λ i. first i ∷ others i
-
--- what follows the magic of a header
-abbrev behind : Header → List ℕ
-behind h = to_be_bytes w32 h.first ++ h.base_check ++ h.surface_check
-
-pub mode_of-spelled : (g h : Header) → spelled g ≡ spelled h → g.mode ≡ h.mode
-mode_of-spelled g h same =
-    let from : mode_byte g.mode ∷ behind g ≡ mode_byte h.mode ∷ behind h =
-    ap (λ (l : List ℕ). drop 9 l) same in
-    one_byte g.mode h.mode (cc from)
-
-pub first_of-spelled : (g h : Header) → g.first < 2 ^ 32 → h.first < 2 ^ 32
-    → spelled g ≡ spelled h → g.first ≡ h.first
-first_of-spelled g h low less same =
-    let from : behind g ≡ behind h = ap (λ (l : List ℕ). drop 10 l) same in
-    let four : to_be_bytes w32 g.first ≡ to_be_bytes w32 h.first =
-    sym (take_at (to_be_bytes w32 g.first) (g.base_check ++ g.surface_check) 4 refl)
-    ∙ ap (λ (l : List ℕ). take 4 l) from
-    ∙ take_at (to_be_bytes w32 h.first) (h.base_check ++ h.surface_check) 4 refl in
-    sym (from_be_bytes-to_be_bytes_4 g.first low) ∙ ap (from_be_bytes w32) four
-    ∙ from_be_bytes-to_be_bytes_4 h.first less
-
--- an image keeps one history, whatever the keys
-once : (k other : Keys) (g h : SealedHistory) (i : Image) → Keeps k g i → Keeps other h i → g ≡ h
-once k other g h i one two =
-    let same : born (header_of k g) (bodies_of g.updates)
-    ≡ born (header_of other h) (bodies_of h.updates) = sym one.book ∙ two.book in
-    let head : spelled (header_of k g) ≡ spelled (header_of other h) =
+pub places_once : PlacesAreKeptOnce
+places_once k other p q i one two =
+    let same : born (header_of k p) (bodies_of p.updates)
+    ≡ born (header_of other q) (bodies_of q.updates) = sym one.book ∙ two.book in
+    let head : spelled (header_of k p) ≡ spelled (header_of other q) =
     ap (λ (c : Contents). c.head) same in
-    let mode = mode_of-spelled (header_of k g) (header_of other h) head in
-    let first = first_of-spelled (header_of k g) (header_of other h) one.first two.first head in
-    let updates = bodies_once g.updates h.updates one.form two.form
+    let mode = mode_of-spelled (header_of k p) (header_of other q) head in
+    let first = first_of-spelled (header_of k p) (header_of other q) one.first two.first head in
+    let updates = bodies_once p.updates q.updates one.form two.form
     (ap (λ (c : Contents). c.records.bodies) same) in
     λ j. record { mode = mode j; first = first j; updates = updates j }
 
-pub keeps_once : KeepsOnce
-keeps_once k g h i one other = once k k g h i one other
+-- an image keeps one history under one surface master
+once : (k other : Keys) (g h : SealedHistory) (i : Image) → k.surface ≡ other.surface
+    → Keeps k g i → Keeps other h i → g ≡ h
+once k other g h i surfaces (p, one) (q, two) =
+    let same : p ≡ q = places_once k other p q i one.records two.records in
+    let files : KeepsBytes k.surface (stored_in k.surface q i.blobs) h =
+    subst (λ (s : List ℕ). KeepsBytes s (stored_in s q i.blobs) h) (sym surfaces) two.files in
+    stored_tells_texts k.surface g h
+    (one.briefs ∙ ap (λ (x : PlacedHistory). unplaced x) same ∙ sym two.briefs)
+    (sym one.files ∙ ap (λ (x : PlacedHistory). stored_in k.surface x i.blobs) same ∙ files)
 
-header_form : (k : Keys) (g : SealedHistory) (i : Image) → length k.base_check ≡ 32
-    → Keeps k g i → HasHeaderForm (header_of k g)
-header_form k g i long keeps =
-    record { first = keeps.first; base = long; surface = length-hmac k.surface _ }
+pub keeps_once : KeepsOnce
+keeps_once k g h i one two = once k k g h i refl one two
+
+header_form : (k : Keys) (p : PlacedHistory) (i : Image) → length k.base_check ≡ 32
+    → HasRecords k p i → HasHeaderForm (header_of k p)
+header_form k p i long has =
+    record { first = has.first; base = long; surface = length-hmac k.surface _ }
 
 pub keys_are_kept : KeysAreKept
-keys_are_kept k other g h i long too one two =
-    let same : header_bytes (header_of k g) ≡ header_bytes (header_of other h) =
-    ap (λ (c : Contents). drop 1 c.head) (sym one.book ∙ two.book) in
-    let apart : header_of k g ≡ header_of other h =
-    spelled_apart (header_of k g) (header_of other h) (header_form k g i long one)
-    (header_form other h i too two) same in (
-      once k other g h i one two,
+keys_are_kept k other g h i long too (p, one) (q, two) =
+    let same : header_bytes (header_of k p) ≡ header_bytes (header_of other q) =
+    ap (λ (c : Contents). drop 1 c.head) (sym one.records.book ∙ two.records.book) in
+    let apart : header_of k p ≡ header_of other q =
+    spelled_apart (header_of k p) (header_of other q) (header_form k p i long one.records)
+    (header_form other q i too two.records) same in
+    let places : p ≡ q = places_once k other p q i one.records two.records in (
+      one.briefs ∙ ap (λ (x : PlacedHistory). unplaced x) places ∙ sym two.briefs,
       ap (λ (x : Header). x.base_check) apart,
       ap (λ (x : Header). x.surface_check) apart,
+      λ surfaces. once k other g h i surfaces (p, one) (q, two),
     )
 
--- ---- what keeps a history is born
-
--- a Book whose records end at a gate has a byte there
-has_gate : (skip : ℕ) (book : List ℕ) → (records_after skip book).bad ≡ false
-    → suc skip ≤ length book
-has_gate skip [] whole = absurd (cc whole)
-has_gate zero (gate ∷ rest) whole = omega arith
-has_gate (suc skip) (byte ∷ rest) whole = omega (arith, has_gate skip rest whole)
-
--- a Book with this header and these records is a store, and not one where none was begun
-pub born_is_store : (h : Header) (bodies : List (List ℕ)) (book : List ℕ)
-    → contents_of book ≡ born h bodies → HasMagic book × (IsUnborn book → ⊥)
-born_is_store h bodies book is =
-    let head : take 78 book ≡ spelled h = ap (λ (c : Contents). c.head) is in
-    let long : 79 ≤ length book =
-    has_gate 78 book (ap (λ (c : Contents). c.records.bad) is) in
-    let gate : get_or book 0 0 ≡ 1 =
-    sym (get_or-take 78 book 0 0 (lit< tt)) ∙ ap (λ (l : List ℕ). get_or l 0 0) head in
-    let bytes : take 8 (drop 1 book) ≡ magic =
-    sym (take-take 8 77 (drop 1 book) (omega arith))
-    ∙ ap (λ (l : List ℕ). take 8 l) (sym (drop-take 1 77 book))
-    ∙ ap (λ (l : List ℕ). take 8 (drop 1 l)) head in
-    let store : HasMagic book =
-    record { long = long; open_gate = gate; magic_bytes = bytes } in (
-      store,
-      ⊎_elim (λ short. omega (arith, short, long)) (λ unborn. unborn.1 gate),
-    )
+-- ---- what is kept
 
 pub is_born : KeptIsBorn
-is_born k g i keeps = born_is_store (header_of k g) (bodies_of g.updates) i.book keeps.book
+is_born k g i (p, keeps) =
+    born_is_store (header_of k p) (bodies_of p.updates) i.book keeps.records.book
+
+pub is_sealed : KeptIsSealed
+is_sealed k g i (p, keeps) =
+    (briefs_are_enough g).0.1
+    (subst (λ (b : BriefHistory). IsSealedBriefly b) (sym keeps.briefs)
+    keeps.records.laid_out.replayed.stands.0)
+
+pub records_are_kept : RecordsAreKept
+records_are_kept k p i has =
+    let told = extents_tell_histories k.surface p (catalogue_at k.surface p)
+    (placed_of k.surface p) i.blobs has.laid_out.replayed
+    (all_end k.surface i.blobs p has.laid_out) in
+    (told.0, record { briefs = told.1.briefs; records = has; files = told.1.bytes })
+
+-- ---- going on
+
+pub keeps_same : SameExtentsKeepTheSame
+keeps_same k p g i c keeps same longer files = record {
+  briefs = keeps.briefs;
+  records = record {
+    first = keeps.records.first;
+    form = keeps.records.form;
+    laid_out =
+        laid_out_more k.surface (blocks_in i.blobs) (blocks_in c.blobs) p
+        (blocks_grow i.blobs c.blobs longer) keeps.records.laid_out;
+    book = same ∙ keeps.records.book;
+  };
+  files = files ∙ keeps.files;
+}
+
+module _ (k : Keys) (p : PlacedHistory) (g : SealedHistory) (u : SealedUpdate) (firsts : List ℕ)
+    (i c : Image) (keeps : KeepsAt k p g i) (sealed : IsSealed (with_sealed g u))
+    (more : HasOneMore k p u firsts i c) where
+  abbrev next : PlacedUpdate
+  next = placed_as u firsts
+
+  abbrev before : Catalogue
+  before = catalogue_at k.surface p
+
+  briefs_next : brief_of (with_sealed g u) ≡ with_brief (unplaced p) (brief u)
+  briefs_next =
+      brief_of-push g u ∙ ap (λ (b : BriefHistory). with_brief b (brief u)) keeps.briefs
+
+  goes_on : IsReplayedTo k.surface (with_placed p next)
+      (catalogue_after k.surface before (brief u))
+      (placed_after before next (placed_of k.surface p))
+  goes_on =
+      let so_far = keeps.records.laid_out.replayed in
+      let taken = briefs_stop k.surface before (unplaced p) (brief u) so_far.stands
+      (subst (λ (b : BriefHistory). IsSealedBriefly b) briefs_next
+      ((briefs_are_enough (with_sealed g u)).0.0 sealed)) in
+      replays_go_on k.surface p before (placed_of k.surface p) next so_far taken.0 taken.1
+      more.firsts_are
+
+  laid_out_next : IsLaidOut k.surface (blocks_in c.blobs) (with_placed p next)
+  laid_out_next =
+      laid_out_push k.surface (blocks_in c.blobs) p next
+      (as_said k.surface (with_placed p next) (catalogue_after k.surface before (brief u))
+      (placed_after before next (placed_of k.surface p)) goes_on)
+      (laid_out_more k.surface (blocks_in i.blobs) (blocks_in c.blobs) p
+      (blocks_grow i.blobs c.blobs more.no_shorter) keeps.records.laid_out) more.free
+
+  files_next : KeepsBytes k.surface (stored_in k.surface (with_placed p next) c.blobs)
+      (with_sealed g u)
+  files_next =
+      let bytes = extents_go_on k.surface p before (placed_of k.surface p) i.blobs c.blobs g u
+      firsts keeps.records.laid_out.replayed keeps.briefs keeps.files more.old more.new in
+      sym (ap (λ (d : Catalogue). cut c.blobs d.files
+      (placed_after before next (placed_of k.surface p))) goes_on.stands.1
+      ∙ ap (λ (ps : List (Option ℕ)). cut c.blobs
+      (catalogue_at k.surface (with_placed p next)).files ps) goes_on.places) ∙ bytes
+
+pub keeps_more : KeepingGoesOn
+keeps_more k p g u firsts i c keeps sealed more = record {
+  briefs =
+      briefs_next k p g u firsts i c keeps sealed more
+      ∙ sym (unplaced-push p (next k p g u firsts i c keeps sealed more));
+  records = record {
+    first = keeps.records.first;
+    form =
+        form-push p.updates (next k p g u firsts i c keeps sealed more) keeps.records.form
+        more.form;
+    laid_out = laid_out_next k p g u firsts i c keeps sealed more;
+    book =
+        more.book
+        ∙ ap (with_body (record_spelling (next k p g u firsts i c keeps sealed more)))
+        keeps.records.book
+        ∙ ap (born (header_of k p))
+        (sym (bodies-push p.updates (next k p g u firsts i c keeps sealed more)));
+  };
+  files = files_next k p g u firsts i c keeps sealed more;
+}

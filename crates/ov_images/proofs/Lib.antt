@@ -1,10 +1,9 @@
-pub mod Keeping
+pub mod Headers
+pub mod Bytes
 pub mod Damage
-pub mod PlacedBytes
-pub mod PlacedDamage
-pub mod PlacedExtents
-pub mod PlacedKeeping
-pub mod PlacedMasters
-pub mod PlacedOrder
-pub mod PlacedRecords
+pub mod Extents
+pub mod Keeping
+pub mod Masters
+pub mod Order
+pub mod Records
 mod Rows

@@ -5,20 +5,31 @@ use Rattle.ov_base.specs.declared.mode.Mode.TheVariants.{Delta}
 use Rattle.ov_keyed.proofs.HmacLemmas.{length-hmac}
 use Rattle.ov_tokens.specs.Keys.{check_value_of}
 use Rattle.ov_record.specs.Updates.{SealedUpdate, SealedEnrol}
+use Rattle.ov_history.specs.Briefs.{BriefEnrol}
+use Rattle.ov_history.specs.Placed.{PlacedHistory, PlacedUpdate}
 use Rattle.ov_history.specs.Sealed.{SealedHistory}
 use Rattle.ov_disk.specs.Disk.{image}
 use Rattle.ov_journal.specs.Book.{contents_of, records_after, born}
 use Rattle.ov_journal.proofs.Reading.{records_after-drop}
-use Rattle.ov_images.specs.Images.{Keys, header_of, bodies_of, Keeps}
+use Rattle.ov_images.specs.Images.{Keys, KeepsAt, header_of}
+use Rattle.ov_images.specs.Records.{bodies_of}
 
 -- the store of these updates from epoch 0 on
 abbrev history : List SealedUpdate → SealedHistory
 history updates = record { mode = Delta; first = 0; updates = updates }
 
+-- the store of these updates from epoch 0 on, with their first blocks
+abbrev placed : List PlacedUpdate → PlacedHistory
+placed updates = record { mode = Delta; first = 0; updates = updates }
+
+-- an enrolment, which has no first blocks
+abbrev enrol : List ℕ → PlacedUpdate
+enrol name = record { update = BriefEnrol name; firsts = [] }
+
 -- the header's open gate, its magic, the mode byte of Delta, epoch 0, and both check values
 abbrev head : Keys → List ℕ
 head k =
-    1 ∷ 79 ∷ 86 ∷ 69 ∷ 82 ∷ 69 ∷ 78 ∷ 67 ∷ 48 ∷ 1 ∷ 0 ∷ 0 ∷ 0 ∷ 0
+    1 ∷ 79 ∷ 86 ∷ 69 ∷ 82 ∷ 69 ∷ 78 ∷ 67 ∷ 49 ∷ 1 ∷ 0 ∷ 0 ∷ 0 ∷ 0
     ∷ (k.base_check ++ check_value_of k.surface)
 
 abbrev alice : List ℕ
@@ -46,10 +57,10 @@ length-book : (k : Keys) (records : List ℕ) → length k.base_check ≡ 32
 length-book k records long =
     length-append (head k) records ∙ ap (λ (n : ℕ). n + length records) (length-head k long)
 
-contents : (k : Keys) (updates : List SealedUpdate) (records : List ℕ)
+contents : (k : Keys) (updates : List PlacedUpdate) (records : List ℕ)
     → length k.base_check ≡ 32
     → records_after 0 records ≡ record { bodies = bodies_of updates; bad = false }
-    → contents_of (head k ++ records) ≡ born (header_of k (history updates)) (bodies_of updates)
+    → contents_of (head k ++ records) ≡ born (header_of k (placed updates)) (bodies_of updates)
 contents k updates records long is =
     let whole : length (head k) ≡ 78 = length-head k long in
     let front : take 78 (head k ++ records) ≡ head k = take_at (head k) records 78 whole in
@@ -62,37 +73,63 @@ contents k updates records long is =
 -- ---- the rows
 
 module _ (k : Keys) (blobs : List ℕ) (long : length k.base_check ≡ 32) where
-  new_store : Keeps k (history []) (image (head k ++ 0 ∷ []) blobs)
+  new_store : KeepsAt k (placed []) (history []) (image (head k ++ 0 ∷ []) blobs)
   new_store = record {
-    sealed = tt;
-    first = lit< tt;
-    form = tt;
-    book = contents k [] (0 ∷ []) long refl;
+    briefs = refl;
+    records = record {
+      first = lit< tt;
+      form = tt;
+      laid_out = record {
+        replayed = record { stands = (tt, refl); firsts = tt; places = refl };
+        free = tt;
+      };
+      book = contents k [] (0 ∷ []) long refl;
+    };
+    files = refl;
   }
 
   length-new_store : length (head k ++ 0 ∷ []) ≡ 79
   length-new_store = length-book k (0 ∷ []) long
 
-  with_alice : Keeps k (history (SealedEnrol alice ∷ []))
+  with_alice : KeepsAt k (placed (enrol alice ∷ [])) (history (SealedEnrol alice ∷ []))
       (image (head k ++ (first_record ++ 0 ∷ [])) blobs)
   with_alice = record {
-    sealed = (refl, tt, tt);
-    first = lit< tt;
-    form = (refl, tt);
-    book = contents k (SealedEnrol alice ∷ []) (first_record ++ 0 ∷ []) long refl;
+    briefs = refl;
+    records = record {
+      first = lit< tt;
+      form = ((refl, (tt, refl)), tt);
+      laid_out = record {
+        replayed = record { stands = ((refl, tt, tt), refl); firsts = (refl, tt); places = refl };
+        free = (tt, tt);
+      };
+      book = contents k (enrol alice ∷ []) (first_record ++ 0 ∷ []) long refl;
+    };
+    files = refl;
   }
 
   length-with_alice : length (head k ++ (first_record ++ 0 ∷ [])) ≡ 91
   length-with_alice = length-book k (first_record ++ 0 ∷ []) long
 
-  with_bob : Keeps k (history (SealedEnrol alice ∷ SealedEnrol bob ∷ []))
+  with_bob : KeepsAt k (placed (enrol alice ∷ enrol bob ∷ []))
+      (history (SealedEnrol alice ∷ SealedEnrol bob ∷ []))
       (image (head k ++ (first_record ++ second_record ++ 0 ∷ [])) blobs)
   with_bob = record {
-    sealed = (refl, tt, (refl, tt, tt));
-    first = lit< tt;
-    form = (refl, (refl, tt));
-    book = contents k (SealedEnrol alice ∷ SealedEnrol bob ∷ [])
-        (first_record ++ second_record ++ 0 ∷ []) long refl;
+    briefs = refl;
+    records = record {
+      first = lit< tt;
+      form = ((refl, (tt, refl)), ((refl, (tt, refl)), tt));
+      laid_out = record {
+        replayed = record {
+          stands = ((refl, tt, (refl, tt, tt)), refl);
+          firsts = (refl, (refl, tt));
+          places = refl;
+        };
+        free = (tt, (tt, tt));
+      };
+      book = contents k (enrol alice ∷ enrol bob ∷ [])
+          (first_record ++ second_record ++ 0 ∷ []) long refl;
+    };
+    files = refl;
   }
 
   length-with_bob : length (head k ++ (first_record ++ second_record ++ 0 ∷ [])) ≡ 101

@@ -1,18 +1,28 @@
--- What is wrong with an image that is a store and keeps no history, and at which place of Book.
-use Rattle.std.specs.Prelude.{◌≡◌, ◌⊎◌, ℕ, ◌+◌, ◌<◌, ◌^◌, List, ◌∷◌, ◌++◌, true, Err}
+-- What is wrong with an image that is a store and keeps no history, and at which place of which
+-- area.
+use Rattle.std.specs.Prelude.{◌≡◌, ◌⊎◌, ℕ, ◌+◌, ◌*◌, ◌<◌, ◌^◌, List, ◌∷◌, ◌++◌, true}
 use Rattle.ov_base.specs.declared.mode.Mode.{Mode}
 use Rattle.ov_tokens.specs.Keys.{check_value_of}
-use Rattle.ov_record.specs.Updates.{SealedUpdate}
-use Rattle.ov_record.specs.Spelling.{spelling, HasForm}
-use Rattle.ov_record.specs.Reading.{update_of}
+use Rattle.ov_blocks.specs.declared.extents.TheConstants.{BLOCK_BYTES}
 use Rattle.ov_record.specs.Forms.{first_form}
-use Rattle.ov_history.specs.Sealed.{SealedHistory, IsSealed, with_sealed}
+use Rattle.ov_record.specs.Stored.{HasBriefForm, brief_spelling}
+use Rattle.ov_history.specs.Briefs.{Brief}
+use Rattle.ov_history.specs.Rewrites.{rewrites_of}
+use Rattle.ov_history.specs.Texts.{IsSealedBriefly, with_brief}
+use Rattle.ov_history.specs.Placed.{HasFirsts, PlacedHistory, PlacedUpdate, count_of, placed_of}
+use Rattle.ov_history.specs.Placed.{unplaced}
 use Rattle.ov_disk.specs.Disk.{Image}
+use Rattle.ov_disk.specs.declared.area.Area.{Area}
+use Rattle.ov_disk.specs.declared.area.Area.TheVariants.{Book, Blobs}
 use Rattle.ov_journal.specs.Book.{Records, contents_of, spelled}
 use Rattle.ov_journal.specs.Log.{end_from}
 use Rattle.ov_journal.specs.Standing.{HasMagic}
 use Rattle.ov_journal.specs.declared.header.Header.{Header}
-use Rattle.ov_images.specs.Images.{Keys, AllHaveForm, Keeps, bodies_of}
+use Rattle.ov_images.specs.Images.{Keys}
+use Rattle.ov_images.specs.Records.{AllHaveForm, HasRecordForm, StopsInRecord, StopsInUpdate}
+use Rattle.ov_images.specs.Records.{bodies_of, record_spelling}
+use Rattle.ov_images.specs.Extents.{IsFirstTaken, IsLaidOut, blocks_in, catalogue_at}
+use Rattle.ov_images.specs.Extents.{extents_in_use, new_extents}
 
 -- a store with this header
 pub record HasHeader (h : Header) (i : Image) : Type 0 where
@@ -26,73 +36,121 @@ pub record IsFor (k : Keys) (mode : Mode) (h : Header) : Type 0 where
   pub surface : h.surface_check ≡ check_value_of k.surface
   pub mode_is : h.mode ≡ mode
 
--- ---- one record
+-- a place in one of both areas
+pub record Spot : Type 0 where
+  pub area : Area
+  pub place : ℕ
 
--- The body of a record whose gate is here is no update's spelling. The place is that at which
--- reading it ends: of the first field that no spelling goes on with, or of the body's end.
-pub record IsMisspelled (body : List ℕ) (gate place : ℕ) : Type 0 where
+-- the place in Book
+abbrev pub in_book : ℕ → Spot
+in_book place = record { area = Book; place = place }
+
+-- the place in Blobs of a block's first byte
+abbrev pub at_block : ℕ → Spot
+at_block first = record { area = Blobs; place = BLOCK_BYTES * first }
+
+-- ---- one record, behind those of a history
+
+-- No update's spelling is at the front of the body of a record whose gate is here. The place is
+-- that at which reading it ends: of the first field that no spelling goes on with, or of the body's
+-- end.
+pub record IsMisspelled (body : List ℕ) (gate : ℕ) (spot : Spot) : Type 0 where
   pub at_byte : ℕ
-  pub stops : update_of first_form body ≡ Err at_byte
-  pub place_is : place ≡ gate + 5 + at_byte
+  pub stops : StopsInUpdate body at_byte
+  pub spot_is : spot ≡ in_book (gate + 5 + at_byte)
 
--- The body spells an update with which this history doesn't go on. The place is that of the gate.
-pub record IsUnfit (g : SealedHistory) (body : List ℕ) (gate place : ℕ) : Type 0 where
-  pub update : SealedUpdate
-  pub form : HasForm first_form update
-  pub bytes : body ≡ spelling first_form update
-  pub unfit : IsSealed (with_sealed g update) → ⊥
-  pub place_is : place ≡ gate
+-- the body begins with the spelling of this update, and some bytes are behind it
+pub record BeginsWith (u : Brief) (body : List ℕ) : Type 0 where
+  pub form : HasBriefForm first_form u
+  pub rest : List ℕ
+  pub bytes : body ≡ brief_spelling first_form u ++ rest
+
+-- The body begins with an update with which this history doesn't go on, whatever is behind it. The
+-- place is that of the gate.
+pub record IsUnfit (p : PlacedHistory) (body : List ℕ) (gate : ℕ) (spot : Spot) : Type 0 where
+  pub update : Brief
+  pub begins : BeginsWith update body
+  pub unfit : IsSealedBriefly (with_brief (unplaced p) update) → ⊥
+  pub spot_is : spot ≡ in_book gate
+
+-- The body begins with an update with which this history goes on, and isn't this update with as
+-- many first blocks as it needs. The place is that at which reading these ends.
+pub record IsMiscounted (master : List ℕ) (p : PlacedHistory) (body : List ℕ) (gate : ℕ)
+    (spot : Spot) : Type 0 where
+  pub update : Brief
+  pub begins : BeginsWith update body
+  pub fit : IsSealedBriefly (with_brief (unplaced p) update)
+  pub at_byte : ℕ
+  pub stops : StopsInRecord (count_of (rewrites_of (catalogue_at master p) update)) body at_byte
+  pub spot_is : spot ≡ in_book (gate + 5 + at_byte)
+
+-- The body is an update with which this history goes on, with its first blocks, and one of its new
+-- extents passes the end of so many blocks or takes one that is in use. The place is that of the
+-- first byte of the first such extent, in Blobs.
+pub record IsOverlapping (master : List ℕ) (blocks : ℕ) (p : PlacedHistory) (body : List ℕ)
+    (spot : Spot) : Type 0 where
+  pub update : PlacedUpdate
+  pub form : HasRecordForm update
+  pub bytes : body ≡ record_spelling update
+  pub fit : IsSealedBriefly (with_brief (unplaced p) update.update)
+  pub firsts : HasFirsts (catalogue_at master p) update
+  pub first : ℕ
+  pub taken : IsFirstTaken blocks (extents_in_use (catalogue_at master p) (placed_of master p))
+      (new_extents (rewrites_of (catalogue_at master p) update.update) update.firsts) first
+  pub spot_is : spot ≡ at_block first
 
 -- what is wrong with a record behind those of this history, and where
-abbrev pub IsBadBody : SealedHistory → List ℕ → ℕ → ℕ → Type 0
-IsBadBody g body gate place = IsMisspelled body gate place ⊎ IsUnfit g body gate place
+abbrev pub IsBadBody : List ℕ → ℕ → PlacedHistory → List ℕ → ℕ → Spot → Type 0
+IsBadBody master blocks p body gate spot =
+    IsMisspelled body gate spot
+    ⊎ (IsUnfit p body gate spot
+    ⊎ (IsMiscounted master p body gate spot ⊎ IsOverlapping master blocks p body spot))
 
 -- ---- all records
 
--- a history of this mode, from this epoch on, that records can keep
-pub record CanBeKept (mode : Mode) (first : ℕ) (g : SealedHistory) : Type 0 where
-  pub mode_is : g.mode ≡ mode
-  pub first_is : g.first ≡ first
-  pub sealed : IsSealed g
-  pub form : AllHaveForm g.updates
+-- a history of this mode, from this epoch on, that records can keep beside so many blocks of Blobs
+pub record CanBeKept (master : List ℕ) (mode : Mode) (first blocks : ℕ) (p : PlacedHistory) : Type 0
+  where
+    pub mode_is : p.mode ≡ mode
+    pub first_is : p.first ≡ first
+    pub form : AllHaveForm p.updates
+    pub laid_out : IsLaidOut master blocks p
 
 -- The first bodies of a store of this mode and first epoch keep a history, and with the next one
 -- this place is wrong. The first gate is at place 78.
-pub record HasBadRecord (mode : Mode) (first : ℕ) (bodies : List (List ℕ)) (place : ℕ) : Type 0
-  where
-    pub history : SealedHistory
-    pub kept : CanBeKept mode first history
-    pub body : List ℕ
-    pub rest : List (List ℕ)
-    pub split : bodies ≡ bodies_of history.updates ++ body ∷ rest
-    pub bad : IsBadBody history body (end_from 78 (bodies_of history.updates)) place
+pub record HasBadRecord (master : List ℕ) (mode : Mode) (first blocks : ℕ)
+    (bodies : List (List ℕ)) (spot : Spot) : Type 0 where
+  pub history : PlacedHistory
+  pub kept : CanBeKept master mode first blocks history
+  pub body : List ℕ
+  pub rest : List (List ℕ)
+  pub split : bodies ≡ bodies_of history.updates ++ body ∷ rest
+  pub bad : IsBadBody master blocks history body (end_from 78 (bodies_of history.updates)) spot
 
 -- All bodies keep a history, and behind the last of them is an open gate with a length that can't
 -- be. The place is that of the length, one behind the gate.
-pub record HasBadLength (mode : Mode) (first : ℕ) (records : Records) (place : ℕ) : Type 0 where
-  pub history : SealedHistory
-  pub kept : CanBeKept mode first history
+pub record HasBadLength (master : List ℕ) (mode : Mode) (first blocks : ℕ) (records : Records)
+    (spot : Spot) : Type 0 where
+  pub history : PlacedHistory
+  pub kept : CanBeKept master mode first blocks history
   pub all : records.bodies ≡ bodies_of history.updates
   pub bad : records.bad ≡ true
-  pub place_is : place ≡ end_from 78 records.bodies + 1
+  pub spot_is : spot ≡ in_book (end_from 78 records.bodies + 1)
 
--- where the first record is wrong, or the length in place of one
-abbrev pub HasBadRecords : Header → Image → ℕ → Type 0
-HasBadRecords h i place =
-    HasBadRecord h.mode h.first (contents_of i.book).records.bodies place
-    ⊎ HasBadLength h.mode h.first (contents_of i.book).records place
+-- Where the first record is wrong, or the length in place of one, in a store of this mode and first
+-- epoch with so many blocks in Blobs.
+abbrev pub IsBad : List ℕ → Mode → ℕ → ℕ → Records → Spot → Type 0
+IsBad master mode first blocks records spot =
+    HasBadRecord master mode first blocks records.bodies spot
+    ⊎ HasBadLength master mode first blocks records spot
 
--- ---- laws
+-- where the first record of a store with this header is wrong, or the length in place of one, with
+-- surface tokens under this master
+abbrev pub HasBadRecordsUnder : List ℕ → Header → Image → Spot → Type 0
+HasBadRecordsUnder master h i spot =
+    IsBad master h.mode h.first (blocks_in i.blobs) (contents_of i.book).records spot
 
--- an image with a bad record or a bad length keeps no history
-abbrev pub DamagedKeepsNone : Type 0
-DamagedKeepsNone =
-    (k : Keys) (g : SealedHistory) (h : Header) (i : Image) (place : ℕ)
-    → HasHeader h i → HasBadRecords h i place → Keeps k g i → ⊥
-
--- an image has a bad record or a bad length at no more than one place
-abbrev pub DamageHasOnePlace : Type 0
-DamageHasOnePlace =
-    (h other : Header) (i : Image) (one two : ℕ)
-    → HasHeader h i → HasBadRecords h i one → HasHeader other i → HasBadRecords other i two
-    → one ≡ two
+-- Where the first record is wrong, or the length in place of one. It is so under each surface
+-- master: no token of a surface says whether an update fits, or which blocks it takes.
+abbrev pub HasBadRecords : Header → Image → Spot → Type 0
+HasBadRecords h i spot = (master : List ℕ) → HasBadRecordsUnder master h i spot

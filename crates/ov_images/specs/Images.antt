@@ -1,19 +1,21 @@
--- Which history an image of a disk stands for, read from the whole of it.
-use Rattle.std.specs.Prelude.{◌≡◌, ◌⊎◌, ℕ, ◌<◌, ◌^◌, List, [], ◌∷◌}
+-- Which history an image of a disk stands for. The bytes of files stand in extents of Blobs.
+use Rattle.std.specs.Prelude.{◌≡◌, ◌⊎◌, ◌<◌, ◌^◌, ℕ, List}
 use Rattle.ov_base.specs.declared.mode.Mode.{Mode}
 use Rattle.ov_tokens.specs.Keys.{check_value_of}
 use Rattle.ov_record.specs.Updates.{SealedUpdate}
-use Rattle.ov_record.specs.Spelling.{spelling, HasForm}
-use Rattle.ov_record.specs.Forms.{first_form}
 use Rattle.ov_history.specs.Plain.{PlainHistory, history_of}
 use Rattle.ov_history.specs.Refusals.{IsLegal}
 use Rattle.ov_history.specs.Masters.{Masters}
 use Rattle.ov_history.specs.Sealing.{sealed}
-use Rattle.ov_history.specs.Sealed.{SealedHistory, IsSealed, blank, with_sealed}
+use Rattle.ov_history.specs.Sealed.{KeepsBytes, SealedHistory, blank, with_sealed}
+use Rattle.ov_history.specs.Texts.{brief_of}
+use Rattle.ov_history.specs.Placed.{PlacedHistory, unplaced}
 use Rattle.ov_disk.specs.Disk.{Image}
 use Rattle.ov_journal.specs.declared.header.Header.{Header}
 use Rattle.ov_journal.specs.Book.{contents_of, born}
 use Rattle.ov_journal.specs.Standing.{IsUnborn}
+use Rattle.ov_images.specs.Records.{AllHaveForm, bodies_of}
+use Rattle.ov_images.specs.Extents.{IsLaidOut, blocks_in, stored_in}
 
 -- ---- keys
 
@@ -30,36 +32,36 @@ keys base_check surface = record { base_check = base_check; surface = surface }
 abbrev pub keys_of : Masters → Keys
 keys_of k = record { base_check = check_value_of k.base; surface = k.surface }
 
--- ---- what is written of a history
+-- ---- what is kept
 
 -- the header of a store that keeps this history
-abbrev pub header_of : Keys → SealedHistory → Header
-header_of k g = record {
-  mode = g.mode;
-  first = g.first;
+abbrev pub header_of : Keys → PlacedHistory → Header
+header_of k p = record {
+  mode = p.mode;
+  first = p.first;
   base_check = k.base_check;
   surface_check = check_value_of k.surface;
 }
 
--- the bodies of the records that keep these updates, whose sets of users take 32 bytes
-abbrev pub bodies_of : List SealedUpdate → List (List ℕ)
-bodies_of [] = []
-bodies_of (u ∷ updates) = spelling first_form u ∷ bodies_of updates
+-- The image has the records of this history under these keys: its Book has the history's header
+-- and, before the first gate that isn't open, its updates with their first blocks. Each new extent
+-- ends where Blobs ends, or before, and took blocks that were free in the state before its record.
+pub record HasRecords (k : Keys) (p : PlacedHistory) (i : Image) : Type 0 where
+  pub first : p.first < 2 ^ 32
+  pub form : AllHaveForm p.updates
+  pub laid_out : IsLaidOut k.surface (blocks_in i.blobs) p
+  pub book : contents_of i.book ≡ born (header_of k p) (bodies_of p.updates)
 
--- each of these updates has a spelling
-abbrev pub AllHaveForm : List SealedUpdate → Type 0
-AllHaveForm [] = Unit {0}
-AllHaveForm (u ∷ updates) = HasForm first_form u × AllHaveForm updates
+-- The image keeps the history, with these first blocks: it has its records, and the latest extent
+-- of each file holds its stored bytes at the history's end.
+pub record KeepsAt (k : Keys) (p : PlacedHistory) (g : SealedHistory) (i : Image) : Type 0 where
+  pub briefs : brief_of g ≡ unplaced p
+  pub records : HasRecords k p i
+  pub files : KeepsBytes k.surface (stored_in k.surface p i.blobs) g
 
--- ---- what an image stands for
-
--- The image keeps the history: its Book has the history's header and, before the first gate that
--- isn't open, its updates.
-pub record Keeps (k : Keys) (g : SealedHistory) (i : Image) : Type 0 where
-  pub sealed : IsSealed g
-  pub first : g.first < 2 ^ 32
-  pub form : AllHaveForm g.updates
-  pub book : contents_of i.book ≡ born (header_of k g) (bodies_of g.updates)
+-- the image keeps the history, with some first blocks
+abbrev pub Keeps : Keys → SealedHistory → Image → Type 0
+Keeps k g i = (p : PlacedHistory) × KeepsAt k p g i
 
 -- An image stands for the history that it keeps; where no store was begun, for the one without
 -- updates, from epoch 0 on, of whatever mode and under whatever keys.

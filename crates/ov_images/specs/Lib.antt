@@ -1,8 +1,5 @@
 pub mod Damage
+pub mod Extents
 pub mod Images
 pub mod Laws
-pub mod PlacedDamage
-pub mod PlacedExtents
-pub mod PlacedImages
-pub mod PlacedLaws
-pub mod PlacedRecords
+pub mod Records

@@ -1,30 +1,53 @@
 //! What an image can keep. The functions do nothing.
-ghost use Rattle.ov_images.specs.Damage.{DamageHasOnePlace, DamagedKeepsNone};
-ghost use Rattle.ov_images.specs.Laws.{KeepingGoesOn, KeepsOnce, KeptIsBorn, KeysAreKept, SameContentsKeepTheSame};
+ghost use Rattle.ov_images.specs.Laws.{DamageHasOnePlace, DamageNeedsNoMaster};
+ghost use Rattle.ov_images.specs.Laws.{DamagedKeepsNone, ExtentsTellBytes, KeepingGoesOn};
+ghost use Rattle.ov_images.specs.Laws.{FreeNeedsNoOrder, KeepsOnce};
+ghost use Rattle.ov_images.specs.Laws.{KeptIsBorn, KeptIsSealed, KeysAreKept};
+ghost use Rattle.ov_images.specs.Laws.{PlacesAreKeptOnce, RecordsAreKept};
+ghost use Rattle.ov_images.specs.Laws.{SameExtentsKeepTheSame};
 
-/// The law of images: an image keeps at most one history. Where it keeps one under two pairs of
-/// keys, they have the same check values.
+/// The law of images: an image keeps at most one history, with one list of first blocks. Where it
+/// keeps histories under two pairs of keys, these have the same check values, and the histories the
+/// same updates; under one surface master they are the same.
 pub fn an_image_keeps_one_history()
     ensures history { KeepsOnce }
+    ensures places { PlacesAreKeptOnce }
     ensures keys { KeysAreKept }
 {}
 
-/// The law of births: an image that keeps a history is a store of this format, and not one where
-/// none was begun.
-pub fn what_is_kept_is_born()
-    ensures { KeptIsBorn }
+/// The law of what is kept: a sealed history, of a store that was begun. Whichever bytes
+/// the extents of its files hold, some history is kept.
+pub fn records_keep_a_history()
+    ensures born { KeptIsBorn }
+    ensures sealed { KeptIsSealed }
+    ensures any { RecordsAreKept }
 {}
 
-/// The law of records: an image with the same header and records keeps the same history, and with
-/// an update's spelling as one more record it keeps the history with the update.
+/// The law of extents: an image with the same header and records, a Blobs no shorter and the same
+/// bytes in the latest extent of each file keeps the same history. These bytes are the same where
+/// all bytes of the extents in use are.
+pub fn same_extents_keep_the_same()
+    ensures same { SameExtentsKeepTheSame }
+    ensures bytes { ExtentsTellBytes }
+{}
+
+/// The law of free blocks: which blocks are free depends on the extents in use and not on the order
+/// in which they are kept.
+pub fn free_blocks_need_no_order()
+    ensures { FreeNeedsNoOrder }
+{}
+
+/// The law of records: with one more record, whose new extents took free blocks and
+/// hold the new stored bytes while all others keep theirs, the history goes on.
 pub fn keeping_goes_on()
-    ensures same { SameContentsKeepTheSame }
-    ensures more { KeepingGoesOn }
+    ensures { KeepingGoesOn }
 {}
 
-/// The law of damage: an image with a record that goes on with no history, or with a length that
-/// can't be behind its last record, keeps no history, and has the first of these at one place.
+/// The law of damage: an image with a record that goes on with no history, or with a
+/// length that can't be behind its last record, keeps no history, and has the first of these at one
+/// place of one area, whatever the surface master is.
 pub fn damaged_images_keep_no_history()
     ensures none { DamagedKeepsNone }
     ensures one_place { DamageHasOnePlace }
+    ensures masters { DamageNeedsNoMaster }
 {}

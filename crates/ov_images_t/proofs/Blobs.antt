@@ -8,9 +8,9 @@ use Rattle.ov_base.specs.declared.mode.Mode.TheVariants.{Full}
 use Rattle.ov_blocks.specs.declared.extents.TheConstants.{BLOCK_BYTES, MAX_BLOCKS}
 use Rattle.ov_journal.specs.Book.{Contents, records_after}
 use Rattle.ov_images.specs.Images.{Keys}
-use Rattle.ov_images.specs.PlacedExtents.{blocks_in}
-use Rattle.ov_images.specs.PlacedImages.{header_of}
-use Rattle.ov_images.specs.PlacedDamage.{HasBadRecord, HasBadRecords, Spot}
+use Rattle.ov_images.specs.Extents.{blocks_in}
+use Rattle.ov_images.specs.Images.{header_of}
+use Rattle.ov_images.specs.Damage.{HasBadRecord, HasBadRecords, Spot}
 use Rattle.ov_images_t.specs.Stores.{history, history_in, recorded}
 use Rattle.ov_images_t.specs.Stores.{store, store_in}
 use Rattle.ov_images_t.proofs.Books.{contents}

@@ -9,7 +9,7 @@ use Rattle.ov_journal.specs.Book.{contents_of, records_after, born, spelled}
 use Rattle.ov_journal.specs.declared.header.Header.{Header}
 use Rattle.ov_journal.proofs.Reading.{records_after-drop}
 use Rattle.ov_images.specs.Images.{Keys}
-use Rattle.ov_images.specs.PlacedImages.{header_of}
+use Rattle.ov_images.specs.Images.{header_of}
 use Rattle.ov_images_t.specs.Stores.{book_in, history_in, recorded}
 
 abbrev header : Mode → Keys → Header

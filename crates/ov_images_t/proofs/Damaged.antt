@@ -15,11 +15,11 @@ use Rattle.ov_record.proofs.UpdateLaws.{first_has_room}
 use Rattle.ov_history.specs.Briefs.{Brief, BriefCreate, BriefEnrol}
 use Rattle.ov_journal.specs.Book.{records_after}
 use Rattle.ov_images.specs.Images.{Keys}
-use Rattle.ov_images.specs.PlacedRecords.{HasRecordForm, StopsInRecord}
-use Rattle.ov_images.specs.PlacedExtents.{blocks_in}
-use Rattle.ov_images.specs.PlacedImages.{header_of}
-use Rattle.ov_images.specs.PlacedDamage.{HasBadRecords, at_block}
-use Rattle.ov_images.specs.PlacedDamage.{in_book}
+use Rattle.ov_images.specs.Records.{HasRecordForm, StopsInRecord}
+use Rattle.ov_images.specs.Extents.{blocks_in}
+use Rattle.ov_images.specs.Images.{header_of}
+use Rattle.ov_images.specs.Damage.{HasBadRecords, at_block}
+use Rattle.ov_images.specs.Damage.{in_book}
 use Rattle.ov_images_t.specs.Rows.{LastBlockCounts}
 use Rattle.ov_images_t.specs.Rows.{BlocksInUseAreDamage}
 use Rattle.ov_images_t.specs.Rows.{EndOfBlobsIsDamage}

@@ -6,10 +6,10 @@ use Rattle.ov_base.specs.Sets.{bytes_of}
 use Rattle.ov_base.specs.declared.mode.Mode.TheVariants.{Full}
 use Rattle.ov_base.proofs.SetLaws.{small-IsBelow}
 use Rattle.ov_history.specs.Placed.{PlacedHistory}
-use Rattle.ov_images.specs.PlacedRecords.{AllHaveForm, HasRecordForm}
-use Rattle.ov_images.specs.PlacedExtents.{IsLaidOut}
-use Rattle.ov_images.specs.PlacedDamage.{CanBeKept}
-use Rattle.ov_images.proofs.PlacedKeeping.{keeps_same}
+use Rattle.ov_images.specs.Records.{AllHaveForm, HasRecordForm}
+use Rattle.ov_images.specs.Extents.{IsLaidOut}
+use Rattle.ov_images.specs.Damage.{CanBeKept}
+use Rattle.ov_images.proofs.Keeping.{keeps_same}
 use Rattle.ov_images_t.specs.Rows.{ChangedByteIsNoDamage}
 use Rattle.ov_images_t.specs.Rows.{EmptyFileHasNoBlock, FileHasWholeBlocks}
 use Rattle.ov_images_t.specs.Stores.{block, create, create_body}

@@ -8,9 +8,9 @@ use Rattle.ov_base.specs.declared.mode.Mode.TheVariants.{Delta}
 use Rattle.ov_base.proofs.SetLaws.{small-IsBelow}
 use Rattle.ov_record.specs.Stored.{IsNumber}
 use Rattle.ov_history.specs.Placed.{PlacedHistory}
-use Rattle.ov_images.specs.PlacedRecords.{AllHaveForm, HasRecordForm}
-use Rattle.ov_images.specs.PlacedExtents.{IsLaidOut}
-use Rattle.ov_images.specs.PlacedDamage.{CanBeKept, at_block}
+use Rattle.ov_images.specs.Records.{AllHaveForm, HasRecordForm}
+use Rattle.ov_images.specs.Extents.{IsLaidOut}
+use Rattle.ov_images.specs.Damage.{CanBeKept, at_block}
 use Rattle.ov_images_t.specs.Rows.{NewBlocksAreApart}
 use Rattle.ov_images_t.specs.Stores.{access_body, block, create_small}
 use Rattle.ov_images_t.specs.Stores.{enrol, enrol_body, grant_access}

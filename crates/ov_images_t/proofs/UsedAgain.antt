@@ -5,9 +5,9 @@ use Rattle.ov_base.specs.Sets.{bytes_of}
 use Rattle.ov_base.specs.declared.mode.Mode.TheVariants.{Full}
 use Rattle.ov_base.proofs.SetLaws.{small-IsBelow}
 use Rattle.ov_history.specs.Placed.{PlacedHistory}
-use Rattle.ov_images.specs.PlacedRecords.{AllHaveForm, HasRecordForm}
-use Rattle.ov_images.specs.PlacedExtents.{IsLaidOut}
-use Rattle.ov_images.specs.PlacedDamage.{CanBeKept, at_block}
+use Rattle.ov_images.specs.Records.{AllHaveForm, HasRecordForm}
+use Rattle.ov_images.specs.Extents.{IsLaidOut}
+use Rattle.ov_images.specs.Damage.{CanBeKept, at_block}
 use Rattle.ov_images_t.specs.Rows.{BlocksAreUsedAgain}
 use Rattle.ov_images_t.specs.Rows.{OwnBlocksAreInUse}
 use Rattle.ov_images_t.specs.Stores.{block, create, create_body}

@@ -3,9 +3,9 @@ use Rattle.std.specs.Prelude.{◌≡◌, ℕ, List, [], ◌∷◌, ◌++◌, len
 use Rattle.ov_base.specs.declared.mode.Mode.TheVariants.{Delta}
 use Rattle.ov_history.specs.Sealed.{SealedHistory}
 use Rattle.ov_images.specs.Images.{Keys}
-use Rattle.ov_images.specs.PlacedExtents.{stored_in}
-use Rattle.ov_images.specs.PlacedImages.{HasRecords, KeepsAt, header_of}
-use Rattle.ov_images.specs.PlacedDamage.{HasBadRecords, at_block, in_book}
+use Rattle.ov_images.specs.Extents.{stored_in}
+use Rattle.ov_images.specs.Images.{HasRecords, KeepsAt, header_of}
+use Rattle.ov_images.specs.Damage.{HasBadRecords, at_block, in_book}
 use Rattle.ov_images_t.specs.Stores.{access_body, block, create, create_body, create_small}
 use Rattle.ov_images_t.specs.Stores.{empty_body, enrol, enrol_body, grant, grant_access, grant_body}
 use Rattle.ov_images_t.specs.Stores.{history, history_in, revoke, revoke_body, small_body, store}

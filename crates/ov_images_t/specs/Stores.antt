@@ -9,7 +9,7 @@ use Rattle.ov_history.specs.Placed.{PlacedHistory, PlacedUpdate}
 use Rattle.ov_disk.specs.Disk.{Image, image}
 use Rattle.ov_journal.specs.Book.{spelled}
 use Rattle.ov_images.specs.Images.{Keys}
-use Rattle.ov_images.specs.PlacedImages.{header_of}
+use Rattle.ov_images.specs.Images.{header_of}
 
 -- ---- updates
 

@@ -10,7 +10,7 @@ use Rattle.ov_journal.specs.declared.header.Header.{Header}
 
 -- the eight bytes behind the header's gate
 abbrev pub magic : List ℕ
-magic = codes "OVERENC0"
+magic = codes "OVERENC1"
 
 -- a header behind its gate: the magic, the mode, the epoch at which the store began, and the check
 -- values of the base master and of the surface master

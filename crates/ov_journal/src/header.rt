@@ -24,7 +24,7 @@ pub struct Header {
 pub(crate) const HEADER: u64 = 78;
 
 // What follows the header's gate.
-const MAGIC: [u8; 8] = *b"OVERENC0";
+const MAGIC: [u8; 8] = *b"OVERENC1";
 
 // The header behind its gate, and the closed gate of a record that isn't there.
 pub(crate) fn frame_of(alloc: Global, header: &Header) -> Result<Vec<u8>, Memory>

@@ -3,8 +3,8 @@ use Rattle.std.proofs.Common.{inl, inr, ℕ, zero, suc, List, [], ◌∷◌, ref
 use Rattle.std.specs.Prelude.{Contains}
 use Rattle.ov_blocks.specs.Extents.{IsBeside, IsFree}
 use Rattle.ov_blocks.specs.declared.extents.Extent.{Extent}
-use Rattle.ov_images.specs.PlacedExtents.{AllTakeFree, IsFirstTaken, TakesFree}
-use Rattle.ov_images.specs.PlacedLaws.{FreeNeedsNoOrder, HaveSameExtents}
+use Rattle.ov_images.specs.Extents.{AllTakeFree, IsFirstTaken, TakesFree}
+use Rattle.ov_images.specs.Laws.{FreeNeedsNoOrder, HaveSameExtents}
 
 -- ---- lists with the same extents
 

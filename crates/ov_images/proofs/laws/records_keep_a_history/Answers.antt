@@ -1,5 +1,5 @@
-use Rattle.ov_images.proofs.PlacedKeeping.{is_born, is_sealed, records_are_kept}
-use Rattle.ov_images.proofs.placed.extents_keep_a_history.Goals as goal
+use Rattle.ov_images.proofs.Keeping.{is_born, is_sealed, records_are_kept}
+use Rattle.ov_images.proofs.laws.records_keep_a_history.Goals as goal
 
 pub returns-clause-born : goal.returns-clause-born
 returns-clause-born c = is_born

@@ -18,7 +18,7 @@ record_spelling u = stored_spelling first_form (stored u)
 abbrev pub HasRecordForm : PlacedUpdate → Type 0
 HasRecordForm u = HasStoredForm first_form (length u.firsts) (stored u)
 
--- so does each of these
+-- each of these updates has a record
 abbrev pub AllHaveForm : List PlacedUpdate → Type 0
 AllHaveForm [] = Unit {0}
 AllHaveForm (u ∷ updates) = HasRecordForm u × AllHaveForm updates

@@ -19,9 +19,9 @@ use Rattle.ov_history.specs.Placed.{placed_after, placed_all, placed_of, takes_p
 use Rattle.ov_history.specs.Placed.{unplaced_all, with_placed}
 use Rattle.ov_history.proofs.Extents.{ends_go_on}
 use Rattle.ov_history.proofs.Placed.{replays_stop}
-use Rattle.ov_images.specs.PlacedExtents.{AllTakeFree, IsFirstTaken, IsLaidOut}
-use Rattle.ov_images.specs.PlacedExtents.{UpdateTakesFree, UpdatesTakeFree, blocks_in}
-use Rattle.ov_images.specs.PlacedExtents.{catalogue_at, extent_at, new_extents}
+use Rattle.ov_images.specs.Extents.{AllTakeFree, IsFirstTaken, IsLaidOut}
+use Rattle.ov_images.specs.Extents.{UpdateTakesFree, UpdatesTakeFree, blocks_in}
+use Rattle.ov_images.specs.Extents.{catalogue_at, extent_at, new_extents}
 
 -- ---- blocks
 

@@ -12,9 +12,9 @@ use Rattle.ov_history.specs.Rewrites.{length_left}
 use Rattle.ov_history.specs.Texts.{lengths_of}
 use Rattle.ov_history.specs.Placed.{AllEndWithin, EndsWithin, block_bytes, bytes_at, cut, placed_of}
 use Rattle.ov_disk.specs.Disk.{Image}
-use Rattle.ov_images.specs.PlacedExtents.{catalogue_at, extent_at, extents_of}
-use Rattle.ov_images.specs.PlacedLaws.{ExtentsTellBytes}
-use Rattle.ov_images.proofs.PlacedExtents.{all_end, enough_blocks}
+use Rattle.ov_images.specs.Extents.{catalogue_at, extent_at, extents_of}
+use Rattle.ov_images.specs.Laws.{ExtentsTellBytes}
+use Rattle.ov_images.proofs.Extents.{all_end, enough_blocks}
 
 -- the extent of a first block
 abbrev extent : ℕ → ℕ → Extent

@@ -67,7 +67,7 @@ abbrev pub UpdateTakesFree : ℕ → Catalogue → List (Option ℕ) → PlacedU
 UpdateTakesFree blocks c placed u =
     AllTakeFree blocks (extents_in_use c placed) (new_extents (rewrites_of c u.update) u.firsts)
 
--- so do those of each of these updates, at its place
+-- each of these updates takes free blocks at its place
 abbrev pub UpdatesTakeFree : List ℕ → ℕ → Catalogue → List (Option ℕ) → List PlacedUpdate → Type 0
 UpdatesTakeFree master blocks c placed [] = Unit {0}
 UpdatesTakeFree master blocks c placed (u ∷ updates) =

@@ -10,14 +10,14 @@ use Rattle.ov_history.specs.Placed.{PlacedHistory, PlacedUpdate, count_of, place
 use Rattle.ov_history.specs.Placed.{replaced, unplaced_all, with_unplaced}
 use Rattle.ov_history.proofs.OtherMasters.{bare, places_need_no_master, same_after, same_rewrites}
 use Rattle.ov_journal.specs.Book.{Records, contents_of}
-use Rattle.ov_images.specs.PlacedRecords.{StopsInRecord}
-use Rattle.ov_images.specs.PlacedExtents.{AllTakeFree, IsFirstTaken, IsLaidOut, UpdateTakesFree}
-use Rattle.ov_images.specs.PlacedExtents.{UpdatesTakeFree, blocks_in, catalogue_at, extents_in_use}
-use Rattle.ov_images.specs.PlacedExtents.{extents_of, new_extents}
-use Rattle.ov_images.specs.PlacedDamage.{CanBeKept, IsBad, IsBadBody}
-use Rattle.ov_images.specs.PlacedDamage.{Spot}
-use Rattle.ov_images.specs.PlacedLaws.{DamageNeedsNoMaster}
-use Rattle.ov_images.proofs.PlacedExtents.{as_said}
+use Rattle.ov_images.specs.Records.{StopsInRecord}
+use Rattle.ov_images.specs.Extents.{AllTakeFree, IsFirstTaken, IsLaidOut, UpdateTakesFree}
+use Rattle.ov_images.specs.Extents.{UpdatesTakeFree, blocks_in, catalogue_at, extents_in_use}
+use Rattle.ov_images.specs.Extents.{extents_of, new_extents}
+use Rattle.ov_images.specs.Damage.{CanBeKept, IsBad, IsBadBody}
+use Rattle.ov_images.specs.Damage.{Spot}
+use Rattle.ov_images.specs.Laws.{DamageNeedsNoMaster}
+use Rattle.ov_images.proofs.Extents.{as_said}
 
 -- ---- catalogues that differ in surface tokens alone
 

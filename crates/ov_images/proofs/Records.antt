@@ -12,8 +12,8 @@ use Rattle.ov_record.proofs.BriefLaws.{brief_again_of, brief_reads, stored_reads
 use Rattle.ov_record.proofs.UpdateLaws.{first_has_room}
 use Rattle.ov_history.specs.Briefs.{Brief}
 use Rattle.ov_history.specs.Placed.{PlacedUpdate}
-use Rattle.ov_images.specs.PlacedRecords.{AllHaveForm, HasRecordForm, StopsInRecord, StopsInUpdate}
-use Rattle.ov_images.specs.PlacedRecords.{bodies_of, record_spelling, stored}
+use Rattle.ov_images.specs.Records.{AllHaveForm, HasRecordForm, StopsInRecord, StopsInUpdate}
+use Rattle.ov_images.specs.Records.{bodies_of, record_spelling, stored}
 
 -- ---- an update at the front
 
