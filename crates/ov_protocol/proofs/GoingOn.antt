@@ -23,7 +23,7 @@ use Rattle.ov_protocol.specs.Serving.{serving_after, told_as}
 use Rattle.ov_protocol.specs.Updating.{AnswersSpelled, spelled_by}
 use Rattle.ov_protocol.specs.Replies.{AnswersRead, made_of}
 use Rattle.ov_protocol.specs.Laws.{EpochsGoOn, ServersGoOn, ServicesAreServed}
-use Rattle.ov_protocol.proofs.Hidden.{nothing_follows}
+use Rattle.ov_protocol.proofs.Untold.{nothing_follows}
 
 as_told : (told : Option (List (List ℕ))) (c : Catalogue) (surface check : List ℕ) (v : Service)
     → c ≡ catalogue_of v.surface v.history

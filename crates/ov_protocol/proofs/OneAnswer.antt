@@ -36,7 +36,7 @@ use Rattle.ov_protocol.specs.Updating.{spelling_place}
 use Rattle.ov_protocol.specs.Reading.{AnswersChain, AnswersChunk, AnswersList, IsChainedFor}
 use Rattle.ov_protocol.specs.Replies.{AnswersRead, made_of}
 use Rattle.ov_protocol.specs.Laws.{OneAnswer, OneReply}
-use Rattle.ov_protocol.proofs.Hidden.{told_still}
+use Rattle.ov_protocol.proofs.Untold.{told_still}
 use Rattle.ov_protocol.proofs.OneChain.{chained_once}
 
 -- the answer where nothing is refused, or the refusal
