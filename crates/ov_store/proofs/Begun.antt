@@ -76,6 +76,7 @@ module _ {D : Type 0} (tells : DiskTells D) (d0 d1 : D)
     bytes = said_where (tells.reads d1) s.stored
         (λ (bytes : List (List ℕ)). KeepsBytes k.surface bytes found.replay.history)
         found.replay.stands.1;
+    told = told_where (tells.reads d1) s.stored;
     disk = λ ok i read x left.
         let old = sym quiet.reads_same ∙ read in
         subst (Keeps k found.replay.history) (sym (settled i old x (quiet.no_more x left)))
@@ -119,7 +120,6 @@ module _ {D : Type 0} (tells : DiskTells D) (d0 d1 : D)
         first = λ i read.
             all_first log (contents_of i.book).records
             (store i (sym quiet.reads_same ∙ read)).records;
-        told = told_where (tells.reads d1) s.stored;
         some_history = (
           g,
           serves_found,

@@ -52,6 +52,7 @@ module _ {D : Type 0} (tells : DiskTells D)
       catalogue = (tt, is);
       bytes = said_where (tells.reads d1) stored
           (λ (all : List (List ℕ)). KeepsBytes k.surface all (blank mode first)) bytes;
+      told = told_where (tells.reads d1) stored;
       disk = λ ok i read x left.
           let before = told i read in
           let one = kept before.0 before.1 in
@@ -68,7 +69,6 @@ module _ {D : Type 0} (tells : DiskTells D)
       count = omega (arith, count);
       stands = λ ok. stands;
       first = λ i read. all_first log (contents_of i.book).records (stands i read).0;
-      told = told_where (tells.reads d1) stored;
       some_history = (blank mode first, serves_none, sym count);
     }
 

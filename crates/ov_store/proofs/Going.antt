@@ -122,6 +122,7 @@ module _ {D : Type 0} (tells : DiskTells D) where
         (kept : Told (tells.reads d0) (λ i.
         IsKept tells d1 (with_body body (contents_of i.book)) i.blobs))
         (now : Catalogue) (bytes : Option (List (List ℕ)))
+        (said : is_some bytes ≡ is_some (tells.reads d1))
         (made : now ≡ catalogue_after k.surface c (brief u))
         (rewritten : bytes
         ≡ option_map (stored_after k.surface (rewrites_of c (brief u)) (text_of u)) stored) where
@@ -133,6 +134,7 @@ module _ {D : Type 0} (tells : DiskTells D) where
         bytes = subst (λ (o : Option (List (List ℕ))). IfSome o
             (λ (all : List (List ℕ)). KeepsBytes k.surface all (with_sealed g u))) (sym rewritten)
             (said_go_on k.surface c stored g u serves.catalogue serves.bytes);
+        told = said;
         disk = λ ok i read x left.
             let before = told i read in
             let one = kept before.0 before.1 in
@@ -143,9 +145,9 @@ module _ {D : Type 0} (tells : DiskTells D) where
 
       pub safe_more : (log more : Log) → IsSafe tells log (store_of d0 k c stored f)
           → more.bad ≡ false → length more.offsets ≡ length log.offsets + 1
-          → Stands tells more d1 → is_some bytes ≡ is_some (tells.reads d1)
+          → Stands tells more d1
           → IsSafe tells more (store_of d1 k now bytes f)
-      safe_more log more safe whole count stands said = record {
+      safe_more log more safe whole count stands = record {
         whole = whole;
         count = omega (
           arith,
@@ -156,7 +158,6 @@ module _ {D : Type 0} (tells : DiskTells D) where
         );
         stands = λ ok. stands;
         first = λ i read. all_first more (contents_of i.book).records (stands i read).0;
-        told = said;
         some_history = (
           with_sealed safe.some_history.0 u,
           serves_more safe.some_history.0 safe.some_history.1,
@@ -193,7 +194,6 @@ module _ {D : Type 0} (tells : DiskTells D) where
               first_after log other before.0 i body (tells.may_leave d0)
               (safe.stands sound before.0 before.1).0 same
               (either before.0 i before.1 (tells.reads_one d1 i read));
-          told = said;
           some_history = (
             g,
             record {
@@ -201,6 +201,7 @@ module _ {D : Type 0} (tells : DiskTells D) where
                   serves.catalogue;
               bytes = subst (λ (o : Option (List (List ℕ))). IfSome o
                   (λ (all : List (List ℕ)). KeepsBytes k.surface all g)) (sym is_bytes) serves.bytes;
+              told = said;
               disk = λ ok. absurd (cc ok);
               after_fault = λ bad i read.
                   let before = told_before (tells.reads d0) (tells.reads d1) adds.untold i read in (

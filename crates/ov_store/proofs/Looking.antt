@@ -84,6 +84,7 @@ module _ {D : Type 0} (tells : DiskTells D) where
       bytes = subst (λ (read : Option Image). IfSome (stored_where read stored)
           (λ (all : List (List ℕ)). KeepsBytes k.surface all g)) (sym quiet.reads_same)
           serves.bytes;
+      told = told_where (tells.reads d1) stored;
       disk = λ ok i read x left.
           serves.disk ok i (sym quiet.reads_same ∙ read) x (quiet.no_more x left);
       after_fault = λ bad i read.
@@ -101,7 +102,6 @@ module _ {D : Type 0} (tells : DiskTells D) where
           let stands = safe.stands ok i (sym quiet.reads_same ∙ read) in
           (stands.0, λ x left. stands.1 x (quiet.no_more x left));
       first = λ i read. safe.first i (sym quiet.reads_same ∙ read);
-      told = told_where (tells.reads d1) stored;
       some_history = (
         safe.some_history.0,
         serves_looked safe.some_history.0 safe.some_history.1,

@@ -193,10 +193,10 @@ invariant_of-self-2 g c =
     c.in_ok-prepared.ensures.prepared.change.taken is
     c.in-Ok.ensures.acknowledged.written.told_before c.if-self.false c.in-Ok.ensures.acknowledged.written.kept
     c.commit.new.self.catalogue
-    (stored_where (g.D.Disk.tells.reads c.keep.new.disk) c.commit.new.self.stored) made rewritten
+    (stored_where (g.D.Disk.tells.reads c.keep.new.disk) c.commit.new.self.stored)
+    (told_where (g.D.Disk.tells.reads c.keep.new.disk) c.commit.new.self.stored) made rewritten
     c.self.inside.journal c.keep.new.journal c.self.invariant c.in-Ok.ensures.log.whole
     c.in-Ok.ensures.log.count c.in-Ok.ensures.acknowledged.stands
-    (told_where (g.D.Disk.tells.reads c.keep.new.disk) c.commit.new.self.stored)
 
 pub returns-clause-served : goal.returns-clause-served
 returns-clause-served g c =
@@ -238,4 +238,5 @@ returns-clause-served g c =
     c.in_ok-prepared.ensures.prepared.change.taken is
     c.in-Ok.ensures.acknowledged.written.told_before c.if-self.false c.in-Ok.ensures.acknowledged.written.kept
     c.commit.new.self.catalogue
-    (stored_where (g.D.Disk.tells.reads c.keep.new.disk) c.commit.new.self.stored) made rewritten)
+    (stored_where (g.D.Disk.tells.reads c.keep.new.disk) c.commit.new.self.stored)
+    (told_where (g.D.Disk.tells.reads c.keep.new.disk) c.commit.new.self.stored) made rewritten)
