@@ -5,7 +5,7 @@ ghost use Rattle.ov_disk.specs.Disk.{Told};
 ghost use Rattle.ov_disk.specs.Moments.{IsUntouched};
 ghost use Rattle.ov_images.specs.Images.{keys};
 ghost use Rattle.ov_store.specs.Beginning.{IsBeginFault, IsBegun, IsDiskFault, IsOpened, LeavesHistory, WritesNoBorn, disk_left};
-ghost use Rattle.ov_store.specs.Opened.{open_with};
+ghost use Rattle.ov_store.specs.Opened.{open_with, stored_where};
 ghost use Rattle.ov_store.specs.declared.fault.BeginFault.TheVariants.{Disk as DiskFailed, Memory as NoMemory};
 
 use crate::birth::birth;
@@ -37,7 +37,7 @@ fn open<D: Disk>(
     ensures opened { IfOk result (λ parts.
         IsOpened D.tells parts.1 mode (D.tells.reads disk.old)
         (open_with disk.new (keys base_check.now surface.now.bytes)
-        parts.0.catalogue parts.0.stored)) }
+        parts.0.catalogue (stored_where (D.tells.reads disk.new) parts.0.stored))) }
     ensures fault { Told (D.tells.reads disk.old) (λ i.
         IfErr result (IsBeginFault (keys base_check.now surface.now.bytes) mode i)) }
     ensures any_moment { LeavesHistory D.tells

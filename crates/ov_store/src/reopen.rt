@@ -7,7 +7,7 @@ ghost use Rattle.ov_journal.specs.Finding.{IsStore};
 ghost use Rattle.ov_images.specs.Damage.{HasHeader, IsFor};
 ghost use Rattle.ov_images.specs.Images.{keys};
 ghost use Rattle.ov_store.specs.Beginning.{IsBeginFault, IsOpened};
-ghost use Rattle.ov_store.specs.Opened.{open_with};
+ghost use Rattle.ov_store.specs.Opened.{open_with, stored_where};
 ghost use Rattle.ov_store.specs.declared.fault.BeginFault.TheVariants.{Disk as DiskFailed};
 
 use crate::fault::BeginFault;
@@ -71,7 +71,7 @@ pub(crate) fn reopen<D: Disk>(
     ensures opened { IfOk result (λ vault.
         IsOpened D.tells journal.now mode (D.tells.reads disk.old)
         (open_with disk.new (keys base_check.now surface.now.bytes)
-        vault.catalogue vault.stored)) }
+        vault.catalogue (stored_where (D.tells.reads disk.new) vault.stored))) }
     ensures fault { Told (D.tells.reads disk.old) (λ i.
         IfErr result (IsBeginFault (keys base_check.now surface.now.bytes) mode i)) }
     ensures untouched { IsUntouched D.tells disk.old disk.new }
