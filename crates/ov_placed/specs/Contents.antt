@@ -4,7 +4,7 @@ use Rattle.ov_blocks.specs.declared.extents.Extent.{Extent}
 use Rattle.ov_history.specs.Catalogue.{Catalogue, Filed}
 use Rattle.ov_history.specs.Placed.{ArePlaced}
 use Rattle.ov_history.specs.Places.{living_at}
-use Rattle.ov_images.specs.PlacedExtents.{extents_in_use}
+use Rattle.ov_images.specs.Extents.{extents_in_use}
 use Rattle.ov_state.specs.Contents.{Room}
 use Rattle.ov_placed.specs.Holding.{HaveAsMany}
 

@@ -5,9 +5,9 @@ use Rattle.ov_history.specs.Briefs.{Brief}
 use Rattle.ov_history.specs.Catalogue.{Catalogue}
 use Rattle.ov_history.specs.Placed.{IsReplayedTo, PlacedHistory, PlacedUpdate}
 use Rattle.ov_history.specs.Rewrites.{rewrites_of}
-use Rattle.ov_images.specs.PlacedDamage.{IsBadBody, Spot, at_block, in_book}
-use Rattle.ov_images.specs.PlacedExtents.{IsFirstTaken, extents_in_use, new_extents}
-use Rattle.ov_images.specs.PlacedRecords.{StopsInRecord}
+use Rattle.ov_images.specs.Damage.{IsBadBody, Spot, at_block, in_book}
+use Rattle.ov_images.specs.Extents.{IsFirstTaken, extents_in_use, new_extents}
+use Rattle.ov_images.specs.Records.{StopsInRecord}
 use Rattle.ov_state.specs.Plans.{IsTaken}
 use Rattle.ov_placed.specs.declared.fault.ReplayFault.{ReplayFault}
 use Rattle.ov_placed.specs.declared.fault.ReplayFault.TheVariants.{Damaged, Memory}

@@ -4,7 +4,7 @@ use Rattle.ov_blocks.specs.declared.extents.Extent.{Extent}
 use Rattle.ov_history.specs.Placed.{counted_if, first_if, left_if, takes_place}
 use Rattle.ov_history.specs.Places.{change_at, living_at}
 use Rattle.ov_history.specs.Rewrites.{Rewrite}
-use Rattle.ov_images.specs.PlacedExtents.{extent_at}
+use Rattle.ov_images.specs.Extents.{extent_at}
 
 -- how many of these extents pass a test
 abbrev pub passing : (Extent → Bool) → List Extent → ℕ

@@ -5,8 +5,8 @@ use Rattle.ov_record.specs.declared.stored.Stored.{Stored as StoredOf}
 use Rattle.ov_history.specs.Catalogue.{Catalogue, catalogue_after}
 use Rattle.ov_history.specs.Placed.{HasFirsts, IsReplayedTo, PlacedHistory, PlacedUpdate}
 use Rattle.ov_history.specs.Placed.{placed_after, with_placed}
-use Rattle.ov_images.specs.PlacedExtents.{IsLaidOut, UpdateTakesFree}
-use Rattle.ov_images.specs.PlacedRecords.{HasRecordForm, record_spelling}
+use Rattle.ov_images.specs.Extents.{IsLaidOut, UpdateTakesFree}
+use Rattle.ov_images.specs.Records.{HasRecordForm, record_spelling}
 use Rattle.ov_state.specs.Plans.{IsChange, IsTaken}
 use Rattle.ov_state.specs.declared.change.Change.{Change}
 use Rattle.ov_placed.specs.Contents.{PlacedStore}

@@ -2,7 +2,7 @@
 ghost use Rattle.std.specs.Prelude.{◌≡◌, ◌<◌, ◌≤◌, ◌-◌, OnOk, length, vec_capacity, vec_len};
 ghost use Rattle.ov_history.specs.Places.{change_at, living_at};
 ghost use Rattle.ov_history.specs.Placed.{replaced, with_unplaced};
-ghost use Rattle.ov_images.specs.PlacedExtents.{extent_at};
+ghost use Rattle.ov_images.specs.Extents.{extent_at};
 ghost use Rattle.ov_record.specs.Briefs.{plain_brief};
 ghost use Rattle.ov_state.specs.Changes.{AreOfFiles};
 ghost use Rattle.ov_state.specs.Entries.{plain_rewrites};

@@ -3,7 +3,7 @@ ghost use Rattle.std.specs.Prelude.{◌≡◌, ◌≤◌, ◌*◌, All, IfOk, le
 ghost use Rattle.ov_base.specs.declared.limits.TheConstants.{MAX_FILES};
 ghost use Rattle.ov_blocks.specs.declared.extents.Extent.{Extent};
 ghost use Rattle.ov_history.specs.Placed.{count_of, first_if, left_if, takes_place};
-ghost use Rattle.ov_images.specs.PlacedExtents.{new_extents};
+ghost use Rattle.ov_images.specs.Extents.{new_extents};
 ghost use Rattle.ov_state.specs.Entries.{plain_rewrites};
 
 use ov_base::Memory;

@@ -3,7 +3,7 @@ ghost use Rattle.std.specs.Prelude.{◌≡◌, ◌≤◌, ◌∷◌, [], All, If
 ghost use Rattle.ov_blocks.specs.declared.extents.Extent.{Extent};
 ghost use Rattle.ov_blocks.specs.declared.extents.TheConstants.{MAX_BLOCKS};
 ghost use Rattle.ov_blocks.specs.Extents.{IsWith};
-ghost use Rattle.ov_images.specs.PlacedExtents.{AllTakeFree, TakesFree};
+ghost use Rattle.ov_images.specs.Extents.{AllTakeFree, TakesFree};
 ghost use Rattle.ov_placed.specs.Holding.{AreHeld, IsWithAll};
 ghost use Rattle.ov_placed.specs.Faults.{IsTakenAt, NamesSpot};
 

@@ -2,7 +2,7 @@
 ghost use Rattle.std.specs.Prelude.{◌≡◌, ◌≤◌, ◌+◌, ◌<◌, ◌^◌, IfErr, IfOk, length};
 ghost use Rattle.ov_base.specs.declared.limits.TheConstants.{MAX_FILES};
 ghost use Rattle.ov_record.specs.Briefs.{plain_brief};
-ghost use Rattle.ov_images.specs.PlacedDamage.{BeginsWith, IsMisspelled};
+ghost use Rattle.ov_images.specs.Damage.{BeginsWith, IsMisspelled};
 ghost use Rattle.ov_placed.specs.Faults.{EndsInBook, NamesSpot, StopsInBody};
 ghost use Rattle.ov_placed.specs.Replaying.{placed_update, IsRecordOf};
 

@@ -2,7 +2,7 @@
 ghost use Rattle.std.specs.Prelude.{◌≡◌, ◌≤◌, ◌*◌, ℕ, List, IfErr, OnErr, OnOk};
 ghost use Rattle.ov_blocks.specs.declared.extents.TheConstants.{MAX_BLOCKS};
 ghost use Rattle.ov_history.specs.Placed.{placed_after};
-ghost use Rattle.ov_images.specs.PlacedExtents.{UpdateTakesFree};
+ghost use Rattle.ov_images.specs.Extents.{UpdateTakesFree};
 ghost use Rattle.ov_state.specs.Changes.{applied, HasRoomFor};
 ghost use Rattle.ov_placed.specs.Contents.{HoldsTheSame};
 ghost use Rattle.ov_placed.specs.Faults.{IsBadFor, NamesSpot, UpdateIsTakenAt};
