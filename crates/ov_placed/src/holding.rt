@@ -36,8 +36,8 @@ fn hold_one(extents: &mut Extents, one: Extent, blocks: u32) -> Result<(), Repla
 
 /// Gives up these extents. It takes no memory.
 pub(crate) fn release_all(extents: &mut Extents, gone: &[Extent])
-    requires held { AreHeld gone.now extents.old }
-    ensures given { IsWithAll gone.now extents.new extents.old }
+    requires { AreHeld gone.now extents.old }
+    ensures { IsWithAll gone.now extents.new extents.old }
 {
     for one in gone {
         extents.release(one.first, one.length);
