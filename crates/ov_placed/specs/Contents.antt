@@ -25,8 +25,8 @@ AreAllThere files =
 -- once for each file that has it. So no block is lost.
 pub record HoldsFiles (c : Catalogue) (placed : List (Option ℕ)) (held : List Extent) : Type 0 where
   pub there : AreAllThere c.files
-  pub placed : ArePlaced c.files placed
-  pub held : HaveAsMany held (extents_in_use c placed)
+  pub places : ArePlaced c.files placed
+  pub extents : HaveAsMany held (extents_in_use c placed)
 
 -- what both contain, but for the room of the catalogue, is the same
 pub record HoldsTheSame (old new : PlacedStore) : Type 0 where

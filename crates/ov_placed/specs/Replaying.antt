@@ -23,7 +23,7 @@ pub record IsRecordOf (u : PlacedUpdate) (body : List ℕ) : Type 0 where
 -- the change is the one of this update, which has its first blocks
 pub record IsPlacedChange {W : ℕ} (limit : ℕ) (master : List ℕ) (c : Catalogue) (u : PlacedUpdate)
     (change : Change W) : Type 0 where
-  pub change : IsChange limit master c u.update change
+  pub made : IsChange limit master c u.update change
   pub firsts : HasFirsts c u
 
 -- The history was replayed to this store, and can stand in a store with so many blocks in Blobs.

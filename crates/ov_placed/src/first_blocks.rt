@@ -1,9 +1,8 @@
 //! The first blocks of files whose stored bytes are new, one after the other.
-ghost use Rattle.std.specs.Prelude.{◌≡◌, ◌≤◌, ◌*◌, All, IfOk, length, option_copied};
+ghost use Rattle.std.specs.Prelude.{◌≡◌, ◌≤◌, ◌++◌, IfOk, OnOk, length};
 ghost use Rattle.ov_base.specs.declared.limits.TheConstants.{MAX_FILES};
-ghost use Rattle.ov_blocks.specs.declared.extents.Extent.{Extent};
 ghost use Rattle.ov_history.specs.Placed.{count_of, first_if, left_if, takes_place};
-ghost use Rattle.ov_images.specs.Extents.{new_extents};
+ghost use Rattle.ov_images.specs.Extents.{extent_at, new_extents};
 ghost use Rattle.ov_state.specs.Entries.{plain_rewrites};
 
 use ov_base::Memory;
@@ -19,9 +18,7 @@ pub(crate) fn count_of(rewrites: &[Rewrite]) -> u32
 {
     let mut count = 0;
     for rewrite in rewrites {
-        if rewrite.length > 0 {
-            count += 1;
-        }
+        count += u32::from(rewrite.length > 0);
     }
     count
 }
@@ -38,27 +35,34 @@ pub(crate) fn next_first(length: u32, firsts: &[u32]) -> (Option<u32>, &[u32])
     }
 }
 
+/// Appends the extent of so many bytes with this first block, where there is one.
+fn push_extent(extents: &mut Vec<Extent>, first: Option<u32>, length: u32) -> Result<(), Memory>
+    ensures { OnOk result (extents.new.items ≡ extents.old.items ++ extent_at first length) }
+{
+    if let Some(first) = first {
+        extents.push(Extent {
+            first,
+            length: blocks_of(length),
+        })?;
+    }
+    Ok(())
+}
+
 /// The new extents of these files, of which each with a byte has the next of these first blocks.
 pub(crate) fn new_extents(
     alloc: Global,
     rewrites: &[Rewrite],
     firsts: &[u32],
 ) -> Result<Vec<Extent>, Memory>
-    ensures extents { IfOk result (λ new.
+    ensures { IfOk result (λ new.
         new.items ≡ new_extents (plain_rewrites rewrites.now) firsts.now) }
-    ensures some { IfOk result (λ new. All (λ (e : Extent). 1 ≤ e.length) new.items) }
 {
     let mut new = Vec::new(alloc);
     let mut left = firsts;
     for rewrite in rewrites {
         let (first, rest) = next_first(rewrite.length, left);
         left = rest;
-        if let Some(first) = first {
-            new.push(Extent {
-                first,
-                length: blocks_of(rewrite.length),
-            })?;
-        }
+        push_extent(&mut new, first, rewrite.length)?;
     }
     Ok(new)
 }

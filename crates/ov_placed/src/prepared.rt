@@ -27,10 +27,10 @@ fn prepare_update<B: Graph<Base, WIDTH>, S: Graph<Surface, WIDTH>>(
     requires { IsFitting (plain_brief update) }
     ensures same { catalogue.new.catalogue ≡ catalogue.old.catalogue }
     ensures change { IfOk result (λ change. IsChange (64 * WIDTH) surface.now.bytes
-        catalogue.old.catalogue (plain_brief update.entry) change) }
+        catalogue.old.catalogue (plain_brief update) change) }
     ensures room { IfOk result (λ change. HasRoomFor catalogue.new.room change) }
     ensures fault { IfErr result (NamesSpot
-        (IsUntaken catalogue.old.catalogue (plain_brief update.entry) gate)) }
+        (IsUntaken catalogue.old.catalogue (plain_brief update) gate)) }
 {
     match catalogue.prepare(alloc, surface, update) {
         Ok(change) => Ok(change),

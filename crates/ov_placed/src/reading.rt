@@ -2,7 +2,7 @@
 ghost use Rattle.std.specs.Prelude.{◌≡◌, ◌≤◌, ◌+◌, ◌<◌, ◌^◌, IfErr, IfOk, length};
 ghost use Rattle.ov_base.specs.declared.limits.TheConstants.{MAX_FILES};
 ghost use Rattle.ov_record.specs.Briefs.{plain_brief};
-ghost use Rattle.ov_images.specs.Damage.{BeginsWith, IsMisspelled};
+ghost use Rattle.ov_images.specs.Damage.{BeginsWith, IsMisspelled, in_book};
 ghost use Rattle.ov_placed.specs.Faults.{EndsInBook, NamesSpot, StopsInBody};
 ghost use Rattle.ov_placed.specs.Replaying.{placed_update, IsRecordOf};
 
@@ -13,7 +13,9 @@ use ov_state::WIDTH;
 use std::alloc::Global;
 
 /// A place of the body whose gate is at this place.
-fn damaged_body(gate: u64, at: u32) -> ReplayFault {
+fn damaged_body(gate: u64, at: u32) -> ReplayFault
+    ensures { NamesSpot (λ spot. gate + 5 + at < 2 ^ 64 → spot ≡ in_book (gate + 5 + at)) result }
+{
     ReplayFault::Damaged {
         area: Area::Book,
         offset: gate.saturating_add(5).saturating_add(u64::from(at)),
@@ -46,8 +48,8 @@ pub(crate) fn read_record(
     count: u32,
 ) -> Result<Stored<WIDTH>, ReplayFault>
     requires { count ≤ MAX_FILES }
-    ensures found { IfOk result (λ record. IsRecordOf (placed_update record) body.now) }
-    ensures count { IfOk result (λ record. length record.places ≡ count) }
+    ensures found { IfOk result (λ read. IsRecordOf (placed_update read) body.now) }
+    ensures count { IfOk result (λ read. length read.places ≡ count) }
     ensures fault { IfErr result (NamesSpot (λ spot.
         EndsInBook gate body.now → StopsInBody count body.now gate spot)) }
 {

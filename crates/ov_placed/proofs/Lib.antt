@@ -1,0 +1,5 @@
+pub mod Counting
+pub mod Free
+pub mod FirstBlocks
+pub mod Spots
+pub mod Files
