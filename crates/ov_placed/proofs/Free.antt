@@ -5,7 +5,7 @@ use Rattle.ov_blocks.specs.Extents.{IsWith}
 use Rattle.ov_blocks.specs.declared.extents.Extent.{Extent}
 use Rattle.ov_images.specs.Extents.{AllTakeFree, IsFirstTaken, TakesFree}
 use Rattle.ov_images.specs.Laws.{HaveSameExtents}
-use Rattle.ov_images.proofs.PlacedOrder.{free_needs_no_order}
+use Rattle.ov_images.proofs.Order.{free_needs_no_order}
 use Rattle.ov_placed.specs.Faults.{IsTakenAt, NamesSpot}
 use Rattle.ov_placed.specs.declared.fault.ReplayFault.{ReplayFault}
 use Rattle.ov_placed.specs.declared.fault.ReplayFault.TheVariants.{Damaged, Memory}
