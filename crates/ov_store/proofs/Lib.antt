@@ -1,11 +1,2 @@
-pub mod Begun
-pub mod Births
-pub mod Checking
-pub mod Fitting
-pub mod Going
-pub mod Looking
-pub mod Opening
-pub mod OwnersLaws
-pub mod Replays
-pub mod Said
-pub mod Stopping
+mod Fitting
+mod OwnersLaws

@@ -13,21 +13,22 @@ use Rattle.ov_journal.specs.Standing.{IsUnborn, IsForeign, HasNoMode}
 use Rattle.ov_journal.specs.declared.header.Header.{Header}
 use Rattle.ov_images.specs.Images.{Keys, IsImageOf, StandsIn}
 use Rattle.ov_images.specs.Damage.{HasHeader, IsFor, HasBadRecords}
+use Rattle.ov_placed.specs.Contents.{PlacedStore}
 use Rattle.ov_store.specs.Opened.{IsSafe, Opened, Serves}
 use Rattle.ov_store.specs.declared.begin.BeginRefused.{BeginRefused}
 use Rattle.ov_store.specs.declared.fault.BeginFault.{BeginFault}
 use Rattle.ov_store.specs.declared.fault.BeginFault.TheVariants.{Disk as DiskFailed, NotAStore, Damaged, BaseDiffers, SurfaceDiffers, ModeDiffers, Memory}
 
 -- Why no store is begun on this image. The causes are tried in this order: another file, no mode,
--- the base master, the surface master, the mode, the records. Of damage the place of Book is said.
--- Refused memory and a fault of the disk say nothing of the image.
+-- the base master, the surface master, the mode, the records. Of damage the area and the place are
+-- said. Refused memory and a fault of the disk say nothing of the image.
 abbrev pub IsBeginFault : Keys → Mode → Image → BeginFault → Type 0
 IsBeginFault k mode i DiskFailed = ⊤
 IsBeginFault k mode i NotAStore = IsForeign i.book
 IsBeginFault k mode i (Damaged area place) =
-    (area ≡ Book)
-    × (((place ≡ 9) × HasNoMode i.book)
-    ⊎ ((h : Header) × HasHeader h i × IsFor k mode h × HasBadRecords h i place))
+    ((area ≡ Book) × (place ≡ 9) × HasNoMode i.book)
+    ⊎ ((h : Header) × HasHeader h i × IsFor k mode h
+    × HasBadRecords h i (record { area = area; place = place }))
 IsBeginFault k mode i (BaseDiffers stored given) =
     (h : Header) × HasHeader h i × (stored ≡ h.base_check) × (given ≡ k.base_check)
     × (stored ≢ given)
@@ -46,22 +47,22 @@ pub record FindsHistory {D : Type 0} (tells : DiskTells D) (k : Keys) (mode : Mo
   pub some : StandsIn k mode i
   pub each : (g : SealedHistory) → g.mode ≡ mode → IsImageOf k g i → Serves tells g s
 
--- A store that was just opened on a disk: it is safe with its journal, has this mode, and stands
--- for each history of the mode for which the image stood that was read, and which the disk still
--- tells.
-pub record IsOpened {D : Type 0} (tells : DiskTells D) (log : Log) (mode : Mode)
+-- A store that was just opened on a disk: it is safe with its journal and its first blocks, has this
+-- mode, and stands for each history of the mode for which the image stood that was read, and which
+-- the disk still tells.
+pub record IsOpened {D : Type 0} (tells : DiskTells D) (log : Log) (store : PlacedStore) (mode : Mode)
     (read : Option Image) (s : Opened D) : Type 0 where
-  pub safe : IsSafe tells log s
+  pub safe : IsSafe tells log store s
   pub mode_is : s.catalogue.mode ≡ mode
   pub found : Told read (λ i. FindsHistory tells s.keys mode i s)
   pub told : StaysTold read (tells.reads s.disk)
 
--- A store that was just begun without updates, from this epoch on: it is safe with its journal,
--- stands for the history without updates, and has an empty catalogue; and the disk still tells what
--- it told.
-pub record IsBornStore {D : Type 0} (tells : DiskTells D) (log : Log) (mode : Mode) (first : ℕ)
-    (read : Option Image) (s : Opened D) : Type 0 where
-  pub safe : IsSafe tells log s
+-- A store that was just begun without updates, from this epoch on: it is safe with its journal and
+-- its first blocks, stands for the history without updates, and has an empty catalogue; and the disk
+-- still tells what it told.
+pub record IsBornStore {D : Type 0} (tells : DiskTells D) (log : Log) (store : PlacedStore)
+    (mode : Mode) (first : ℕ) (read : Option Image) (s : Opened D) : Type 0 where
+  pub safe : IsSafe tells log store s
   pub serves : Serves tells (blank mode first) s
   pub empty : s.catalogue ≡ empty_catalogue mode first
   pub told : StaysTold read (tells.reads s.disk)

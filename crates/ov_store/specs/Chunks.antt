@@ -1,5 +1,6 @@
 -- What a store answers to a question for a part of a file's stored bytes.
 use Rattle.std.specs.Prelude.{◌≡◌, ◌≢◌, ℕ, ◌-◌, min, List, [], ◌++◌, length, take, drop, slice_index_or, Option, Some, None, IfSome, Result, Ok, Err, ⊤}
+use Rattle.ov_disk.specs.Disk.{Image, Told}
 use Rattle.ov_history.specs.Places.{living_at}
 use Rattle.ov_history.specs.Catalogue.{Catalogue, Filed}
 use Rattle.ov_store.specs.declared.fault.ChunkFault.{ChunkFault}
@@ -11,6 +12,15 @@ abbrev pub IsPart : Option (List (List ℕ)) → (file size start count : ℕ) �
 IsPart stored file size start count bytes =
     (length bytes ≡ min count (size - start))
     × IfSome stored (λ all. bytes ≡ take count (drop start (slice_index_or all file [])))
+
+-- So many bytes of Blobs, from this place on, are appended, where the disk told its bytes; or else so
+-- many others. After a fault nothing is.
+abbrev pub AppendsOf : {T E : Type 0} → Option Image → (at count : ℕ) → List ℕ → List ℕ
+    → Result T E → Type 0
+AppendsOf reads at count old new (Ok done) =
+    (bytes : List ℕ) × (length bytes ≡ count) × (new ≡ old ++ bytes)
+    × Told reads (λ i. bytes ≡ take count (drop at i.blobs))
+AppendsOf reads at count old new (Err fault) = new ≡ old
 
 -- The file is there with this generation, and its stored bytes from `start` on, at most `count` of
 -- them, are appended. Or it isn't there, or has another generation, or the disk or memory failed:

@@ -6,6 +6,8 @@ use Rattle.ov_journal.specs.declared.fault.CheckFault.{CheckFault}
 use Rattle.ov_journal.specs.declared.fault.CheckFault.TheVariants.{Disk as CheckDisk, Memory as CheckMemory}
 use Rattle.ov_journal.specs.declared.fault.JournalFault.{JournalFault}
 use Rattle.ov_journal.specs.declared.fault.JournalFault.TheVariants.{Disk as JournalDisk, NotAStore as JournalForeign, Damaged as JournalDamaged, Memory as JournalMemory}
+use Rattle.ov_placed.specs.declared.fault.ReplayFault.{ReplayFault}
+use Rattle.ov_placed.specs.declared.fault.ReplayFault.TheVariants.{Damaged as ReplayDamaged, Memory as ReplayMemory}
 use Rattle.ov_store.specs.declared.fault.BeginFault.{BeginFault}
 use Rattle.ov_store.specs.declared.fault.BeginFault.TheVariants.{Disk as BeginDisk, NotAStore, Damaged, Memory as BeginMemory}
 use Rattle.ov_store.specs.declared.fault.StoreFault.{StoreFault}
@@ -28,3 +30,8 @@ opening_fault_of JournalDisk = BeginDisk
 opening_fault_of JournalForeign = NotAStore
 opening_fault_of (JournalDamaged place) = Damaged Book place
 opening_fault_of JournalMemory = BeginMemory
+
+-- why a record wasn't replayed, as why a store isn't begun
+abbrev pub replay_fault_of : ReplayFault → BeginFault
+replay_fault_of (ReplayDamaged area place) = Damaged area place
+replay_fault_of ReplayMemory = BeginMemory

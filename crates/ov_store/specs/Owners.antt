@@ -1,20 +1,26 @@
 -- Updates that are as their owner seals them, and the first record that isn't.
-use Rattle.std.specs.Prelude.{◌≡◌, ℕ, Bool, true, false, List, ◌∷◌, ◌++◌, length, Option, Some, None}
-use Rattle.ov_base.specs.declared.mode.Mode.{Mode}
+use Rattle.std.specs.Prelude.{◌≡◌, ℕ, Bool, true, false, List, ◌∷◌, ◌++◌, length}
+use Rattle.std.specs.Prelude.{Option, Some, None, IfSome, option_map}
+use Rattle.ov_surface.specs.Coats.{stored_under}
 use Rattle.ov_record.specs.Updates.{SealedUpdate}
 use Rattle.ov_history.specs.History.{start_of}
 use Rattle.ov_history.specs.Plain.{PlainUpdate}
 use Rattle.ov_history.specs.Layers.{Layers, layers_of}
-use Rattle.ov_history.specs.Briefs.{brief}
-use Rattle.ov_history.specs.Catalogue.{Catalogue, catalogue_after, outline}
+use Rattle.ov_history.specs.Briefs.{brief, text_of}
+use Rattle.ov_history.specs.Catalogue.{Catalogue, catalogue_after, empty_catalogue, outline}
+use Rattle.ov_history.specs.Placed.{AllHaveFirsts, IsReplayedTo, PlacedHistory, bytes_at, cut, unplaced}
+use Rattle.ov_history.specs.Places.{living_at}
+use Rattle.ov_history.specs.Rewrites.{surface_key}
 use Rattle.ov_history.specs.Masters.{Masters}
-use Rattle.ov_history.specs.Sealed.{SealedHistory, IsSealed, outer_of}
+use Rattle.ov_history.specs.Sealed.{KeepsBytes, SealedHistory, outer_of}
 use Rattle.ov_history.specs.Sealing.{sealed_update}
 use Rattle.ov_history.specs.KeptLaws.{AllAreOwners}
+use Rattle.ov_history.specs.Texts.{brief_of}
 use Rattle.ov_disk.specs.Disk.{Image}
 use Rattle.ov_journal.specs.Book.{contents_of}
 use Rattle.ov_journal.specs.Log.{Log, end_from}
-use Rattle.ov_images.specs.Images.{AllHaveForm, bodies_of}
+use Rattle.ov_images.specs.Records.{AllHaveForm, bodies_of}
+use Rattle.ov_placed.specs.Contents.{PlacedStore}
 
 -- the two masters of these bytes
 abbrev pub masters : List ℕ → List ℕ → Masters
@@ -33,8 +39,13 @@ TellsOwners k y u false = IsOwners k y u → ⊥
 abbrev pub with_first : SealedHistory → List SealedUpdate → SealedHistory
 with_first g updates = record g { updates = updates }
 
+-- These are the updates of the history, each with as many first blocks as its record has.
+pub record IsRecordedAs (master : List ℕ) (g : SealedHistory) (p : PlacedHistory) : Type 0 where
+  pub briefs : brief_of g ≡ unplaced p
+  pub firsts : AllHaveFirsts master (empty_catalogue p.mode p.first) p.updates
+
 -- The first updates of the history are as their owner seals them, and the next one isn't; this is
--- the place of the gate of its record.
+-- the place of the gate of its record, which is behind theirs.
 pub record HasFalseUpdate (k : Masters) (g : SealedHistory) (place : ℕ) : Type 0 where
   pub front : List SealedUpdate
   pub next : SealedUpdate
@@ -42,7 +53,9 @@ pub record HasFalseUpdate (k : Masters) (g : SealedHistory) (place : ℕ) : Type
   pub split : g.updates ≡ front ++ next ∷ rest
   pub owners : AllAreOwners k (start_of (outer_of g)) front
   pub wrong : IsOwners k (layers_of (outer_of (with_first g front))) next → ⊥
-  pub gate : place ≡ end_from 78 (bodies_of front)
+  pub placed : PlacedHistory
+  pub recorded : IsRecordedAs k.surface (with_first g front) placed
+  pub gate : place ≡ end_from 78 (bodies_of placed.updates)
 
 -- all updates of the history are as their owner seals them, or the first that isn't has its gate
 -- at this place
@@ -52,19 +65,31 @@ Checks k g (Some place) = HasFalseUpdate k g place
 
 -- ---- one record after the other
 
--- The first records of Book are those of the history's updates. Others may follow them.
-pub record BeginsWith (g : SealedHistory) (i : Image) : Type 0 where
-  pub sealed : IsSealed g
-  pub form : AllHaveForm g.updates
+-- The first records of Book, as many as this journal has, are those of the history's updates. They
+-- were replayed to this store, and the files' extents hold the history's stored bytes.
+pub record IsHistoryOf (master : List ℕ) (log : Log) (store : PlacedStore) (g : SealedHistory)
+    (i : Image) : Type 0 where
+  pub placed : PlacedHistory
+  pub briefs : brief_of g ≡ unplaced placed
+  pub form : AllHaveForm placed.updates
+  pub replayed : IsReplayedTo master placed store.catalogue store.placed
+  pub many : length placed.updates ≡ length log.offsets
   pub rest : List (List ℕ)
-  pub split : (contents_of i.book).records.bodies ≡ bodies_of g.updates ++ rest
+  pub split : (contents_of i.book).records.bodies ≡ bodies_of placed.updates ++ rest
+  pub bytes : KeepsBytes master (cut i.blobs store.catalogue.files store.placed) g
 
--- The records of this journal, which are the first of Book, are those of the history's updates, and
--- the history is of this mode and begins at this epoch.
-abbrev pub IsHistoryOf : Log → Mode → ℕ → SealedHistory → Image → Type 0
-IsHistoryOf log mode first g i =
-    BeginsWith g i × (g.mode ≡ mode) × (g.first ≡ first)
-    × (length g.updates ≡ length log.offsets)
+-- the bytes of the file of this number as they were sent: those of its extent, with the coat of its
+-- surface taken off
+abbrev pub text_in : List ℕ → PlacedStore → ℕ → List ℕ → Option (List ℕ)
+text_in master store file blobs =
+    option_map (λ f. stored_under (surface_key master f.surface) file
+    (bytes_at blobs (living_at store.placed file) f.length))
+    (living_at store.catalogue.files file)
+
+-- the update creates no file, or this text is that of the file of this number
+abbrev pub HasTextIn : List ℕ → PlacedStore → ℕ → List ℕ → SealedUpdate → Type 0
+HasTextIn master store file blobs u =
+    IfSome (text_of u) (λ text. text_in master store file blobs ≡ Some text)
 
 -- What is done with a record's update: where it is as its owner seals it the catalogue goes on with
 -- it, under the surface master; else it isn't, and nothing is said of the catalogue.

@@ -7,15 +7,15 @@ ghost use Rattle.ov_history.specs.Sealed.{blank};
 ghost use Rattle.ov_journal.specs.Standing.{IsUnborn};
 ghost use Rattle.ov_images.specs.Images.{IsImageOf, keys};
 ghost use Rattle.ov_store.specs.Beginning.{IsBeginFault, IsBornStore};
-ghost use Rattle.ov_store.specs.Opened.{open_with, stored_where};
+ghost use Rattle.ov_store.specs.Opened.{open_with};
 ghost use Rattle.ov_store.specs.declared.fault.BeginFault.TheVariants.{Disk as DiskFailed, Memory as NoMemory};
 
 use crate::fault::BeginFault;
 use ov_base::Mode;
 use ov_disk::Disk;
 use ov_journal::{Header, Journal};
+use ov_placed::{CataloguePlaces, PlacedCatalogue};
 use ov_tokens::{Master, check_value};
-use ov_vault::{CatalogueVault, Vault};
 use std::alloc::Global;
 
 /// Begins a store without records, on a disk where there is none.
@@ -26,12 +26,12 @@ pub(crate) fn birth<D: Disk>(
     surface: &Master,
     mode: Mode,
     first: u32,
-) -> Result<(CatalogueVault, Journal), BeginFault>
+) -> Result<(CataloguePlaces, Journal), BeginFault>
     requires unborn { Told (D.tells.reads disk.old) (λ i.
         IsUnborn i.book × OnlyBook i.book (D.tells.may_leave disk.old)) }
-    ensures born { IfOk result (λ parts. IsBornStore D.tells parts.1 mode first
-        (D.tells.reads disk.old) (open_with disk.new (keys base_check.now surface.now.bytes)
-        parts.0.catalogue (stored_where (D.tells.reads disk.new) parts.0.stored))) }
+    ensures born { IfOk result (λ parts. IsBornStore D.tells parts.1 parts.0 mode first
+        (D.tells.reads disk.old)
+        (open_with D.tells disk.new (keys base_check.now surface.now.bytes) parts.0)) }
     ensures fault { IfErr result (λ fault. (i : Image)
         → IsBeginFault (keys base_check.now surface.now.bytes) mode i fault) }
     // A crash at any moment leaves no store, or this one without records.
@@ -42,7 +42,7 @@ pub(crate) fn birth<D: Disk>(
     ensures memory { IsErrOf result NoMemory → disk.new ≡ disk.old }
     ensures call { IsDiskCall D.tells (IsErrOf result DiskFailed) disk.old disk.new }
 {
-    let vault = Vault::new(alloc, mode, first)?;
+    let placed: CataloguePlaces = PlacedCatalogue::new(alloc, mode, first)?;
     let header = Header {
         mode,
         first,
@@ -50,5 +50,5 @@ pub(crate) fn birth<D: Disk>(
         surface_check: check_value(surface),
     };
     let journal = Journal::birth(alloc, disk, &header)?;
-    Ok((vault, journal))
+    Ok((placed, journal))
 }

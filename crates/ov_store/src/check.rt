@@ -1,48 +1,46 @@
 //! Whether all updates of a store are as their owner seals them.
-ghost use Rattle.std.specs.Prelude.{◌≡◌, ◌≤◌, IfOk, IsErrOf};
+ghost use Rattle.std.specs.Prelude.{◌≡◌, ◌≤◌, IfOk, IsErrOf, length};
 ghost use Rattle.ov_disk.specs.Calls.{IsDiskCall};
 ghost use Rattle.ov_disk.specs.Disk.{Told};
 ghost use Rattle.ov_disk.specs.Moments.{IsUntouched};
+ghost use Rattle.ov_history.specs.Briefs.{brief};
+ghost use Rattle.ov_history.specs.Placed.{AllEndWithin};
 ghost use Rattle.ov_history.specs.Sealed.{SealedHistory};
+ghost use Rattle.ov_images.specs.Damage.{BeginsWith};
 ghost use Rattle.ov_journal.specs.Book.{contents_of};
 ghost use Rattle.ov_journal.specs.Log.{IsLogOfFirst};
 ghost use Rattle.ov_journal.specs.declared.fault.CheckFault.TheVariants.{Disk as DiskFailed};
-ghost use Rattle.ov_record.specs.Updates.{SealedUpdate};
-ghost use Rattle.ov_history.specs.Briefs.{brief};
-ghost use Rattle.ov_state.specs.Plans.{IsTaken};
-ghost use Rattle.ov_store.specs.Bodies.{IsBodyOf};
+ghost use Rattle.ov_record.specs.Updates.{SealedUpdate, sealed_update};
+ghost use Rattle.ov_state.specs.Plans.{IsFitting, IsTaken};
 ghost use Rattle.ov_store.specs.Opened.{Serves};
-ghost use Rattle.ov_store.specs.Owners.{Checks, FollowsUpdate, IsHistoryOf, masters};
+ghost use Rattle.ov_store.specs.Owners.{Checks, FollowsUpdate, HasTextIn, IsHistoryOf, masters};
 ghost use Rattle.ov_store.specs.Updating.{IsCallOf};
 
 use crate::owners::is_owners;
 use crate::store::Store;
-use ov_base::{Key, Memory, Mode};
+use crate::texts::whole_update;
+use ov_base::{Key, Memory};
 use ov_disk::Disk;
 use ov_journal::{CheckFault, Journal};
-use ov_record::{Form, RecordFault, read};
-use ov_state::{Brief, Catalogue, PrepareFault, State};
+use ov_placed::CataloguePlaces;
+use ov_record::{Brief, Form, RecordFault, Update, read_brief};
+use ov_state::{Catalogue, PrepareFault, State, WIDTH};
 use ov_tokens::Master;
 use std::alloc::Global;
 
-// Goes on with the record with this body, if its update is as its owner seals it.
+// Goes on with this update, if it is as its owner seals it.
 fn follow(
     alloc: Global,
     state: &mut Catalogue,
     surface: &Master,
     base: &Master,
-    body: &[u8],
+    update: Update<WIDTH>,
 ) -> Result<bool, Memory>
-    ensures { IfOk result (λ yes. (u : SealedUpdate) → IsBodyOf u body.now
-        → IsTaken state.old.catalogue (brief u)
+    requires { IsFitting (brief (sealed_update update)) }
+    ensures { IfOk result (λ yes. IsTaken state.old.catalogue (brief (sealed_update update.entry))
         → FollowsUpdate (masters base.now.bytes surface.now.bytes)
-        state.old.catalogue u state.new.catalogue yes) }
+        state.old.catalogue (sealed_update update.entry) state.new.catalogue yes) }
 {
-    let update = match read(alloc, Form::FIRST, body) {
-        Ok(update) => update,
-        Err(RecordFault::BadRecord { .. }) => return Ok(false),
-        Err(RecordFault::Memory) => return Err(Memory),
-    };
     if !is_owners(alloc, state, base, &update)? {
         return Ok(false);
     }
@@ -57,31 +55,70 @@ fn follow(
     }
 }
 
+// Goes on with the record with this body, if its update is as its owner seals it. The text of a new
+// file is what the open store has of it.
+fn follow_record<D: Disk>(
+    alloc: Global,
+    disk: &mut D,
+    placed: &CataloguePlaces,
+    state: &mut Catalogue,
+    surface: &Master,
+    base: &Master,
+    body: &[u8],
+) -> Result<bool, CheckFault>
+    requires { Told (D.tells.reads disk.old) (λ i.
+        AllEndWithin (length i.blobs) placed.now.catalogue.files placed.now.placed) }
+    ensures followed { IfOk result (λ yes. Told (D.tells.reads disk.old) (λ i.
+        (u : SealedUpdate) → BeginsWith (brief u) body.now
+        → HasTextIn surface.now.bytes placed.now (length state.old.catalogue.files) i.blobs u
+        → IsTaken state.old.catalogue (brief u)
+        → FollowsUpdate (masters base.now.bytes surface.now.bytes)
+        state.old.catalogue u state.new.catalogue yes)) }
+    ensures untouched { IsUntouched D.tells disk.old disk.new }
+    ensures call { IsDiskCall D.tells (IsErrOf result DiskFailed) disk.old disk.new }
+{
+    let brief = match read_brief(alloc, Form::FIRST, body) {
+        Ok((brief, _)) => brief,
+        Err(RecordFault::BadRecord { .. }) => return Ok(false),
+        Err(RecordFault::Memory) => return Err(CheckFault::Memory),
+    };
+    let file = state.sizes().files;
+    match whole_update(alloc, disk, placed, surface, brief, file)? {
+        Some(update) => Ok(follow(alloc, state, surface, base, update)?),
+        None => Ok(false),
+    }
+}
+
 // The place of the first record of the journal whose update isn't as its owner seals it, of a store
-// that began empty in this mode and at this epoch.
+// with this catalogue and these extents.
 fn first_false<D: Disk>(
     alloc: Global,
     disk: &mut D,
     journal: &Journal,
+    placed: &CataloguePlaces,
     surface: &Master,
     base: &Master,
-    mode: Mode,
-    first: u32,
 ) -> Result<Option<u64>, CheckFault>
+    requires count { length journal.now.offsets ≤ placed.now.catalogue.epoch }
     requires log { Told (D.tells.reads disk.old) (λ i.
         IsLogOfFirst journal.now (contents_of i.book).records) }
+    requires files { Told (D.tells.reads disk.old) (λ i.
+        AllEndWithin (length i.blobs) placed.now.catalogue.files placed.now.placed) }
     ensures checked { IfOk result (λ found. Told (D.tells.reads disk.old) (λ i.
-        (g : SealedHistory) → IsHistoryOf journal.now mode first g i
+        (g : SealedHistory) → IsHistoryOf surface.now.bytes journal.now placed.now g i
         → Checks (masters base.now.bytes surface.now.bytes) g found)) }
     ensures untouched { IsUntouched D.tells disk.old disk.new }
     ensures call { IsDiskCall D.tells (IsErrOf result DiskFailed) disk.old disk.new }
 {
-    let mut state: Catalogue = State::new(alloc, mode, first)?;
+    let catalogue = placed.catalogue();
+    let first = catalogue.epoch() - journal.count() as u32;
+    let mut state: Catalogue = State::new(alloc, catalogue.mode(), first)?;
     let mut body = Vec::new(alloc);
     'records: for i in 0..journal.count() {
         body.clear();
         journal.body(disk, i, &mut body)?;
-        if !follow(alloc, &mut state, surface, base, body.as_slice())? {
+        let body = body.as_slice();
+        if !follow_record(alloc, disk, placed, &mut state, surface, base, body)? {
             return Ok(Some(journal.offset(i)));
         }
     }
@@ -105,17 +142,14 @@ impl<D: Disk> Store<D> {
             → Serves D.tells g self.new }
         ensures call { IsCallOf D.tells self.old self.new (IsErrOf result DiskFailed) }
     {
-        let mode = self.vault.catalogue().mode();
         let base = Master::new(base);
-        let first = self.vault.catalogue().epoch() - self.journal.count() as u32;
         first_false(
             alloc,
             &mut self.disk,
             &self.journal,
+            &self.placed,
             &self.surface,
             &base,
-            mode,
-            first,
         )
     }
 }

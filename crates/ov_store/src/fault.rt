@@ -2,8 +2,9 @@
 ghost use Rattle.std.specs.Prelude.{◌≡◌};
 
 use ov_base::{Memory, Mode, Refusal};
-use ov_disk::Area;
+use ov_disk::{Area, DiskFault};
 use ov_journal::{CheckFault, JournalFault};
+use ov_placed::ReplayFault;
 use ov_state::PrepareFault;
 use thiserror::Error;
 
@@ -98,6 +99,29 @@ impl From<CheckFault> for BeginFault {
         match why {
             CheckFault::Disk => BeginFault::Disk,
             CheckFault::Memory => BeginFault::Memory,
+        }
+    }
+}
+
+impl From<DiskFault> for BeginFault {
+    ghost use Rattle.ov_store.specs.declared.fault.BeginFault.TheVariants.{Disk};
+
+    ghost from_gives = { λ _ fault. fault ≡ Disk };
+
+    fn from(_: DiskFault) -> Self {
+        BeginFault::Disk
+    }
+}
+
+impl From<ReplayFault> for BeginFault {
+    ghost use Rattle.ov_store.specs.Faults.{replay_fault_of};
+
+    ghost from_gives = { λ why fault. fault ≡ replay_fault_of why };
+
+    fn from(why: ReplayFault) -> Self {
+        match why {
+            ReplayFault::Damaged { area, offset } => BeginFault::Damaged { area, offset },
+            ReplayFault::Memory => BeginFault::Memory,
         }
     }
 }

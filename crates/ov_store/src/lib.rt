@@ -39,6 +39,7 @@ mod reopen;
 mod replay;
 mod spell;
 mod store;
+mod texts;
 mod update;
 
 pub use begin::BeginRefused;

@@ -1,0 +1,119 @@
+//! The updates of records, with the bytes of new files as they were sent.
+ghost use Rattle.std.specs.Prelude.{◌≡◌, ◌≤◌, ◌*◌, ℕ, Some, IfOk, IfSome, IsErrOf, length, option_map};
+ghost use Rattle.ov_base.specs.declared.limits.TheConstants.{MAX_FILE_BYTES};
+ghost use Rattle.ov_disk.specs.Calls.{IsDiskCall};
+ghost use Rattle.ov_disk.specs.Disk.{Told};
+ghost use Rattle.ov_disk.specs.Moments.{IsUntouched};
+ghost use Rattle.ov_history.specs.Briefs.{brief};
+ghost use Rattle.ov_history.specs.Placed.{AllEndWithin};
+ghost use Rattle.ov_history.specs.Rewrites.{surface_key};
+ghost use Rattle.ov_journal.specs.declared.fault.CheckFault.TheVariants.{Disk as DiskFailed};
+ghost use Rattle.ov_record.specs.Briefs.{plain_brief};
+ghost use Rattle.ov_record.specs.Updates.{SealedUpdate, sealed_update};
+ghost use Rattle.ov_surface.specs.Coats.{stored_under};
+ghost use Rattle.ov_store.specs.Owners.{HasTextIn, text_in};
+
+use ov_base::{Memory, Octets};
+use ov_disk::Disk;
+use ov_journal::CheckFault;
+use ov_placed::CataloguePlaces;
+use ov_record::{Brief, Update};
+use ov_state::WIDTH;
+use ov_surface::reencrypt;
+use ov_tokens::{Layer, Master, Surface};
+use std::alloc::Global;
+
+// So many zeros.
+fn zeros(alloc: Global, count: u32) -> Result<Vec<u8>, Memory>
+    ensures { IfOk result (λ bytes. length bytes.items ≡ count) }
+{
+    Ok(vec![in alloc; 0_u8; count as usize]?)
+}
+
+// Takes the coat of a surface off the stored bytes of a file, where it has one.
+fn uncoat(surface: &Master, node: Option<u32>, file: u32, bytes: &mut [u8])
+    requires { length bytes.old ≤ MAX_FILE_BYTES }
+    ensures { bytes.new
+        ≡ stored_under (surface_key surface.now.bytes node) file bytes.old }
+{
+    match node {
+        Some(node) => {
+            let key = Surface::key_of(surface, node);
+            reencrypt(Some(&key), None, file, 0, bytes);
+        }
+        None => {}
+    }
+}
+
+// The bytes of the file of this number as they were sent, if there is one.
+fn sent_bytes<D: Disk>(
+    alloc: Global,
+    disk: &mut D,
+    placed: &CataloguePlaces,
+    surface: &Master,
+    file: u32,
+) -> Result<Option<Octets>, CheckFault>
+    requires { Told (D.tells.reads disk.old) (λ i.
+        AllEndWithin (length i.blobs) placed.now.catalogue.files placed.now.placed) }
+    ensures text { IfOk result (λ text. Told (D.tells.reads disk.old) (λ i.
+        text ≡ text_in surface.now.bytes placed.now file i.blobs)) }
+    ensures untouched { IsUntouched D.tells disk.old disk.new }
+    ensures call { IsDiskCall D.tells (IsErrOf result DiskFailed) disk.old disk.new }
+{
+    placed.known();
+    let entry = match placed.catalogue().file_at(file) {
+        Some(entry) => entry,
+        None => return Ok(None),
+    };
+    let mut bytes = zeros(alloc, entry.length)?;
+    match placed.first_block(file) {
+        Some(first) => placed.extents().read(disk, first, 0, &mut bytes)?,
+        None => {}
+    }
+    uncoat(surface, entry.surface, file, &mut bytes);
+    Ok(Some(Octets::from_vec(bytes)))
+}
+
+/// The update of a record, with the text of the file that it creates, whose number this is; or none,
+/// where there is no such file of so many bytes.
+pub(crate) fn whole_update<D: Disk>(
+    alloc: Global,
+    disk: &mut D,
+    placed: &CataloguePlaces,
+    surface: &Master,
+    brief: Brief<WIDTH>,
+    file: u32,
+) -> Result<Option<Update<WIDTH>>, CheckFault>
+    requires { Told (D.tells.reads disk.old) (λ i.
+        AllEndWithin (length i.blobs) placed.now.catalogue.files placed.now.placed) }
+    ensures brief { IfOk result (λ found. IfSome found (λ update.
+        brief (sealed_update update) ≡ plain_brief brief.entry)) }
+    ensures whole { IfOk result (λ found. Told (D.tells.reads disk.old) (λ i.
+        (u : SealedUpdate) → brief u ≡ plain_brief brief.entry
+        → HasTextIn surface.now.bytes placed.now file i.blobs u
+        → option_map (λ update. sealed_update update) found ≡ Some u)) }
+    ensures untouched { IsUntouched D.tells disk.old disk.new }
+    ensures call { IsDiskCall D.tells (IsErrOf result DiskFailed) disk.old disk.new }
+{
+    match brief {
+        Brief::Enrol { name } => Ok(Some(Update::Enrol { name })),
+        Brief::Create {
+            name,
+            list,
+            tokens,
+            tag,
+            length,
+        } => match sent_bytes(alloc, disk, placed, surface, file)? {
+            Some(bytes) if bytes.as_slice().len() == length as usize => Ok(Some(Update::Create {
+                name,
+                list,
+                tokens,
+                tag,
+                bytes,
+            })),
+            _ => Ok(None),
+        },
+        Brief::Grant { user, file, token } => Ok(Some(Update::Grant { user, file, token })),
+        Brief::Revoke { user, file } => Ok(Some(Update::Revoke { user, file })),
+    }
+}
