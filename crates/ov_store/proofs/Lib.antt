@@ -1,2 +1,15 @@
-mod Fitting
-mod OwnersLaws
+pub mod Begun
+pub mod Births
+pub mod Checked
+pub mod Checking
+pub mod Extents
+pub mod Fitting
+pub mod Histories
+pub mod Looking
+pub mod NewTexts
+pub mod Opening
+pub mod Parts
+pub mod OwnersLaws
+pub mod Replays
+pub mod Said
+pub mod Stopping

@@ -10,6 +10,8 @@ use Rattle.ov_placed.specs.declared.fault.ReplayFault.{ReplayFault}
 use Rattle.ov_placed.specs.declared.fault.ReplayFault.TheVariants.{Damaged as ReplayDamaged, Memory as ReplayMemory}
 use Rattle.ov_store.specs.declared.fault.BeginFault.{BeginFault}
 use Rattle.ov_store.specs.declared.fault.BeginFault.TheVariants.{Disk as BeginDisk, NotAStore, Damaged, Memory as BeginMemory}
+use Rattle.ov_store.specs.declared.fault.ChunkFault.{ChunkFault}
+use Rattle.ov_store.specs.declared.fault.ChunkFault.TheVariants.{Disk as ChunkDisk, Memory as ChunkMemory}
 use Rattle.ov_store.specs.declared.fault.StoreFault.{StoreFault}
 use Rattle.ov_store.specs.declared.fault.StoreFault.TheVariants.{Refused, BadPlan, Memory}
 
@@ -35,3 +37,8 @@ opening_fault_of JournalMemory = BeginMemory
 abbrev pub replay_fault_of : ReplayFault → BeginFault
 replay_fault_of (ReplayDamaged area place) = Damaged area place
 replay_fault_of ReplayMemory = BeginMemory
+
+-- why bytes of a file weren't read, as why none are given
+abbrev pub chunk_fault_of : CheckFault → ChunkFault
+chunk_fault_of CheckDisk = ChunkDisk
+chunk_fault_of CheckMemory = ChunkMemory

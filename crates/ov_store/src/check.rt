@@ -37,9 +37,9 @@ fn follow(
     update: Update<WIDTH>,
 ) -> Result<bool, Memory>
     requires { IsFitting (brief (sealed_update update)) }
-    ensures { IfOk result (λ yes. IsTaken state.old.catalogue (brief (sealed_update update.entry))
+    ensures { IfOk result (λ yes. IsTaken state.old.catalogue (brief (sealed_update update))
         → FollowsUpdate (masters base.now.bytes surface.now.bytes)
-        state.old.catalogue (sealed_update update.entry) state.new.catalogue yes) }
+        state.old.catalogue (sealed_update update) state.new.catalogue yes) }
 {
     if !is_owners(alloc, state, base, &update)? {
         return Ok(false);

@@ -149,12 +149,15 @@ pub enum ChunkFault {
     Memory,
 }
 
-impl From<Memory> for ChunkFault {
-    ghost use Rattle.ov_store.specs.declared.fault.ChunkFault.TheVariants.{Memory};
+impl From<CheckFault> for ChunkFault {
+    ghost use Rattle.ov_store.specs.Faults.{chunk_fault_of};
 
-    ghost from_gives = { λ _ fault. fault ≡ Memory };
+    ghost from_gives = { λ why fault. fault ≡ chunk_fault_of why };
 
-    fn from(_: Memory) -> Self {
-        ChunkFault::Memory
+    fn from(why: CheckFault) -> Self {
+        match why {
+            CheckFault::Disk => ChunkFault::Disk,
+            CheckFault::Memory => ChunkFault::Memory,
+        }
     }
 }

@@ -1,11 +1,13 @@
 //! The updates of records, with the bytes of new files as they were sent.
-ghost use Rattle.std.specs.Prelude.{◌≡◌, ◌≤◌, ◌*◌, ℕ, Some, IfOk, IfSome, IsErrOf, length, option_map};
+ghost use Rattle.std.specs.Prelude.{◌≡◌, ◌≤◌, [], Some, None, IfOk, OnOk, IfSome, IsErr, IsErrOf};
+ghost use Rattle.std.specs.Prelude.{length, option_map};
 ghost use Rattle.ov_base.specs.declared.limits.TheConstants.{MAX_FILE_BYTES};
+ghost use Rattle.ov_blocks.specs.Extents.{IsInside};
 ghost use Rattle.ov_disk.specs.Calls.{IsDiskCall};
 ghost use Rattle.ov_disk.specs.Disk.{Told};
 ghost use Rattle.ov_disk.specs.Moments.{IsUntouched};
 ghost use Rattle.ov_history.specs.Briefs.{brief};
-ghost use Rattle.ov_history.specs.Placed.{AllEndWithin};
+ghost use Rattle.ov_history.specs.Placed.{AllEndWithin, EndsWithin, bytes_at};
 ghost use Rattle.ov_history.specs.Rewrites.{surface_key};
 ghost use Rattle.ov_journal.specs.declared.fault.CheckFault.TheVariants.{Disk as DiskFailed};
 ghost use Rattle.ov_record.specs.Briefs.{plain_brief};
@@ -14,7 +16,8 @@ ghost use Rattle.ov_surface.specs.Coats.{stored_under};
 ghost use Rattle.ov_store.specs.Owners.{HasTextIn, text_in};
 
 use ov_base::{Memory, Octets};
-use ov_disk::Disk;
+use ov_blocks::Extents;
+use ov_disk::{Disk, DiskFault};
 use ov_journal::CheckFault;
 use ov_placed::CataloguePlaces;
 use ov_record::{Brief, Update};
@@ -45,6 +48,29 @@ fn uncoat(surface: &Master, node: Option<u32>, file: u32, bytes: &mut [u8])
     }
 }
 
+// Fills the buffer with the bytes of an extent with this first block, where there is one.
+fn read_whole<D: Disk>(
+    disk: &mut D,
+    extents: &Extents,
+    first: Option<u32>,
+    bytes: &mut [u8],
+) -> Result<(), DiskFault>
+    requires inside { IfSome first (λ first. IsInside first 0 (length bytes.old) extents.now) }
+    requires there { Told (D.tells.reads disk.old) (λ i.
+        EndsWithin (length i.blobs) first (length bytes.old)) }
+    requires none { first ≡ None → bytes.old ≡ [] }
+    ensures bytes { OnOk result (Told (D.tells.reads disk.old) (λ i.
+        bytes.new ≡ bytes_at i.blobs first (length bytes.old))) }
+    ensures many { length bytes.new ≡ length bytes.old }
+    ensures untouched { IsUntouched D.tells disk.old disk.new }
+    ensures call { IsDiskCall D.tells (IsErr result) disk.old disk.new }
+{
+    match first {
+        Some(first) => extents.read(disk, first, 0, bytes),
+        None => Ok(()),
+    }
+}
+
 // The bytes of the file of this number as they were sent, if there is one.
 fn sent_bytes<D: Disk>(
     alloc: Global,
@@ -66,10 +92,7 @@ fn sent_bytes<D: Disk>(
         None => return Ok(None),
     };
     let mut bytes = zeros(alloc, entry.length)?;
-    match placed.first_block(file) {
-        Some(first) => placed.extents().read(disk, first, 0, &mut bytes)?,
-        None => {}
-    }
+    read_whole(disk, placed.extents(), placed.first_block(file), &mut bytes)?;
     uncoat(surface, entry.surface, file, &mut bytes);
     Ok(Some(Octets::from_vec(bytes)))
 }
@@ -81,21 +104,21 @@ pub(crate) fn whole_update<D: Disk>(
     disk: &mut D,
     placed: &CataloguePlaces,
     surface: &Master,
-    brief: Brief<WIDTH>,
+    update: Brief<WIDTH>,
     file: u32,
 ) -> Result<Option<Update<WIDTH>>, CheckFault>
     requires { Told (D.tells.reads disk.old) (λ i.
         AllEndWithin (length i.blobs) placed.now.catalogue.files placed.now.placed) }
-    ensures brief { IfOk result (λ found. IfSome found (λ update.
-        brief (sealed_update update) ≡ plain_brief brief.entry)) }
+    ensures brief { IfOk result (λ found. IfSome found (λ whole.
+        brief (sealed_update whole) ≡ plain_brief update)) }
     ensures whole { IfOk result (λ found. Told (D.tells.reads disk.old) (λ i.
-        (u : SealedUpdate) → brief u ≡ plain_brief brief.entry
+        (u : SealedUpdate) → brief u ≡ plain_brief update
         → HasTextIn surface.now.bytes placed.now file i.blobs u
-        → option_map (λ update. sealed_update update) found ≡ Some u)) }
+        → option_map (λ whole. sealed_update whole) found ≡ Some u)) }
     ensures untouched { IsUntouched D.tells disk.old disk.new }
     ensures call { IsDiskCall D.tells (IsErrOf result DiskFailed) disk.old disk.new }
 {
-    match brief {
+    match update {
         Brief::Enrol { name } => Ok(Some(Update::Enrol { name })),
         Brief::Create {
             name,

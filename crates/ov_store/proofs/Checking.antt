@@ -1,0 +1,282 @@
+-- Records that are followed, one after the other.
+use Rattle.std.proofs.Common.{◌≡◌, ℕ, zero, suc, ◌+◌, ◌-◌, ◌<◌, ◌≤◌, List, [], ◌∷◌, ◌++◌, length, take}
+use Rattle.std.proofs.Common.{get_or, Bool, true, false, Option, Some, None, refl, sym, ◌∙◌, ap, subst}
+use Rattle.std.proofs.Common.{arith, length-append, append_assoc}
+use Rattle.std.proofs.lemmas.List.{get_or_append_left, take_all, take_at}
+use Rattle.std.specs.Prelude.{IfSome}
+use Rattle.ov_base.specs.declared.mode.Mode.{Mode}
+use Rattle.ov_disk.specs.Disk.{Image}
+use Rattle.ov_record.specs.Forms.{first_form}
+use Rattle.ov_record.specs.Updates.{SealedUpdate}
+use Rattle.ov_history.specs.History.{History, start_of, with_update}
+use Rattle.ov_history.specs.Layers.{Layers, layers_of}
+use Rattle.ov_history.specs.Briefs.{Brief, brief, outer, text_of}
+use Rattle.ov_history.specs.Catalogue.{Catalogue, catalogue_after, empty_catalogue, outline}
+use Rattle.ov_history.specs.KeptLaws.{AllAreOwners}
+use Rattle.ov_history.specs.Masters.{Masters}
+use Rattle.ov_history.specs.Placed.{AllHaveFirsts, PlacedHistory, PlacedUpdate, unplaced}
+use Rattle.ov_history.specs.Placed.{unplaced_all}
+use Rattle.ov_history.specs.Sealed.{AllFit, IsSealed, SealedHistory, StandsFor, outer_all, outer_of}
+use Rattle.ov_history.specs.Sealed.{with_sealed}
+use Rattle.ov_history.specs.Texts.{BriefHistory, brief_all, brief_of}
+use Rattle.ov_history.proofs.GoingOn.{histories_go_on}
+use Rattle.ov_history.proofs.Pushing.{with_updates, with_updates-all}
+use Rattle.ov_history.proofs.Replaying.{goes_taken}
+use Rattle.ov_history.proofs.Showing.{history_is_shown}
+use Rattle.ov_journal.specs.Book.{contents_of}
+use Rattle.ov_journal.specs.Log.{Log, end_from, gates_from, IsLogOfFirst}
+use Rattle.ov_state.specs.Plans.{IsTaken}
+use Rattle.ov_images.specs.Damage.{BeginsWith}
+use Rattle.ov_images.specs.Records.{AllHaveForm, HasRecordForm, bodies_of, record_spelling}
+use Rattle.ov_images.proofs.Records.{firsts_spelling}
+use Rattle.ov_placed.specs.Contents.{PlacedStore}
+use Rattle.ov_store.specs.Owners.{FollowsUpdate, HasFalseUpdate, HasTextIn, IsHistoryOf, IsOwners}
+use Rattle.ov_store.specs.Owners.{with_first}
+use Rattle.ov_store.proofs.Histories.{epoch_shown, length-bodies, same_length, stands_by}
+use Rattle.ov_store.proofs.Replays.{IsNext, length-gates}
+use Rattle.ov_store.proofs.Stopping.{gate-end}
+use Rattle.ov_store.proofs.NewTexts.{has_text}
+
+-- ---- update number `i` and its record
+
+-- Update number `i` of these, and the record of it, which has its first blocks.
+pub record Nth (us : List SealedUpdate) (ps : List PlacedUpdate) (i : ℕ) : Type 0 where
+  pub update : SealedUpdate
+  pub rest : List SealedUpdate
+  pub split : us ≡ take i us ++ update ∷ rest
+  pub more : take (i + 1) us ≡ take i us ++ update ∷ []
+  pub placed : PlacedUpdate
+  pub same : brief update ≡ placed.update
+  pub body : get_or (bodies_of ps) i [] ≡ record_spelling placed
+  pub form : HasRecordForm placed
+
+nth : (us : List SealedUpdate) (ps : List PlacedUpdate) (i : ℕ) → AllHaveForm ps
+    → brief_all us ≡ unplaced_all ps → i < length us → Nth us ps i
+nth [] ps i all same lt = absurd (omega (arith, lt))
+nth (u ∷ us) [] i all same lt = absurd (cc same)
+nth (u ∷ us) (p ∷ ps) zero all same lt =
+    let here : brief u ≡ p.update = cc same in
+    record {
+      update = u;
+      rest = us;
+      split = refl;
+      more = refl;
+      placed = p;
+      same = here;
+      body = refl;
+      form = all.0;
+    }
+nth (u ∷ us) (p ∷ ps) (suc i) all same lt =
+    let behind : brief_all us ≡ unplaced_all ps = cc same in
+    let n = nth us ps i all.1 behind (omega (arith, lt)) in
+    let one : suc i + 1 ≡ suc (i + 1) = omega arith in
+    record {
+      update = n.update;
+      rest = n.rest;
+      split = ap (λ (l : List SealedUpdate). u ∷ l) n.split;
+      more = ap (λ (m : ℕ). take m (u ∷ us)) one ∙ ap (λ (l : List SealedUpdate). u ∷ l) n.more;
+      placed = n.placed;
+      same = n.same;
+      body = n.body;
+      form = n.form;
+    }
+
+take-bodies : (ps : List PlacedUpdate) (i : ℕ) → take i (bodies_of ps) ≡ bodies_of (take i ps)
+take-bodies ps zero = refl
+take-bodies [] (suc i) = refl
+take-bodies (p ∷ ps) (suc i) =
+    ap (λ (l : List (List ℕ)). record_spelling p ∷ l) (take-bodies ps i)
+
+take-briefs : (us : List SealedUpdate) (ps : List PlacedUpdate) (i : ℕ)
+    → brief_all us ≡ unplaced_all ps → brief_all (take i us) ≡ unplaced_all (take i ps)
+take-briefs us ps zero same = refl
+take-briefs [] [] (suc i) same = refl
+take-briefs [] (p ∷ ps) (suc i) same = absurd (cc same)
+take-briefs (u ∷ us) [] (suc i) same = absurd (cc same)
+take-briefs (u ∷ us) (p ∷ ps) (suc i) same =
+    let here : brief u ≡ p.update = cc same in
+    let behind : brief_all us ≡ unplaced_all ps = cc same in
+    let rest = take-briefs us ps i behind in
+    λ j. here j ∷ rest j
+
+take-firsts : (master : List ℕ) (c : Catalogue) (ps : List PlacedUpdate) (i : ℕ)
+    → AllHaveFirsts master c ps → AllHaveFirsts master c (take i ps)
+take-firsts master c ps zero all = tt
+take-firsts master c [] (suc i) all = tt
+take-firsts master c (p ∷ ps) (suc i) all =
+    (all.0, take-firsts master (catalogue_after master c p.update) ps i all.1)
+
+-- one more that is as its owner seals it
+owners_push : (k : Masters) (h : History) (us : List SealedUpdate) (u : SealedUpdate)
+    → AllAreOwners k h us → IsOwners k (layers_of (with_updates h (outer_all us))) u
+    → AllAreOwners k h (us ++ u ∷ [])
+owners_push k h [] u all one = (one, tt)
+owners_push k h (v ∷ us) u all one =
+    (all.0, owners_push k (with_update h (outer (brief v))) us u all.1 one)
+
+-- the first of these updates fit, and the next with them
+front_fits : (h : History) (us : List SealedUpdate) (u : SealedUpdate) (rest : List SealedUpdate)
+    → AllFit h (us ++ u ∷ rest) → AllFit h (us ++ u ∷ [])
+front_fits h [] u rest fit = (fit.0, fit.1, tt)
+front_fits h (v ∷ us) u rest fit =
+    (fit.0, fit.1, front_fits (with_update h (outer (brief v))) us u rest fit.2)
+
+-- ---- after this many records
+
+-- The catalogue is that of the history's first `i` updates, which are as their owner seals them.
+pub record FollowedTo (k : Masters) (g : SealedHistory) (i : ℕ) (c : Catalogue) : Type 0 where
+  pub stands : StandsFor k.surface c (with_first g (take i g.updates))
+  pub owners : AllAreOwners k (start_of (outer_of g)) (take i g.updates)
+
+-- the catalogue is that of each history whose records are the journal's, which are the first of the
+-- image's
+abbrev pub FollowsImage : Masters → Log → PlacedStore → ℕ → Catalogue → Image → Type 0
+FollowsImage k log store i c d =
+    (g : SealedHistory) → IsHistoryOf k.surface log store g d → FollowedTo k g i c
+
+module _ (k : Masters) (log : Log) (store : PlacedStore) (g : SealedHistory) (d : Image)
+    (history : IsHistoryOf k.surface log store g d) where
+  abbrev ps : List PlacedUpdate
+  ps = history.placed.updates
+
+  briefs_same : brief_all g.updates ≡ unplaced_all ps
+  briefs_same = ap (λ (b : BriefHistory). b.updates) history.briefs
+
+  pub stands_whole : StandsFor k.surface store.catalogue g
+  stands_whole =
+      stands_by k.surface history.placed store.catalogue store.placed g history.replayed
+      history.briefs
+
+  pub as_many : length g.updates ≡ length log.offsets
+  as_many = same_length g history.placed history.briefs ∙ history.many
+
+  pub followed_none : (c : Catalogue) (mode : Mode) (first : ℕ) → mode ≡ store.catalogue.mode
+      → first ≡ store.catalogue.epoch - length log.offsets → c ≡ empty_catalogue mode first
+      → FollowedTo k g 0 c
+  followed_none c mode first is_mode is_first is =
+      let shown = history_is_shown k.surface store.catalogue g stands_whole in
+      let one : mode ≡ g.mode = is_mode ∙ shown.mode in
+      let two : first ≡ g.first = omega (
+        arith,
+        is_first,
+        as_many,
+        epoch_shown k.surface store.catalogue g stands_whole,
+      ) in
+      record {
+        stands = (tt, is ∙ (λ j. empty_catalogue (one j) (two j)));
+        owners = tt;
+      }
+
+  -- the journal of the first records has those of the history
+  first_bodies : (is : IsLogOfFirst log (contents_of d.book).records)
+      → is.front ≡ bodies_of ps
+  first_bodies is =
+      let n = length log.offsets in
+      let long : length is.front ≡ n =
+      sym (length-gates 78 is.front) ∙ ap length (sym is.offsets) in
+      let same : is.front ++ is.rest ≡ bodies_of ps ++ history.rest =
+      sym is.split ∙ history.split in
+      sym (take_at is.front is.rest n long) ∙ ap (λ (l : List (List ℕ)). take n l) same
+      ∙ take_at (bodies_of ps) history.rest n (length-bodies ps ∙ history.many)
+
+  module _ (i : ℕ) (low : i < length g.updates) (c : Catalogue) (so_far : FollowedTo k g i c)
+      (body : List ℕ) (next : IsNext i body d) where
+    low_body : i < length (bodies_of ps)
+    low_body = omega (arith, low, length-bodies ps, as_many, history.many)
+
+    bodies_are : get_or (contents_of d.book).records.bodies i [] ≡ get_or (bodies_of ps) i []
+    bodies_are = ap (λ (l : List (List ℕ)). get_or l i []) history.split
+        ∙ get_or_append_left (bodies_of ps) history.rest [] i low_body
+
+    abbrev n : Nth g.updates ps i
+    n = nth g.updates ps i history.form briefs_same low
+
+    abbrev front : List SealedUpdate
+    front = take i g.updates
+
+    begins : BeginsWith (brief n.update) body
+    begins = subst (λ (u : Brief). BeginsWith u body) (sym n.same) (record {
+      form = n.form.0;
+      rest = firsts_spelling n.placed.firsts;
+      bytes = next.1 ∙ bodies_are ∙ n.body;
+    })
+
+    longer : IsSealed (with_sealed (with_first g front) n.update)
+    longer =
+        front_fits (start_of (outer_of g)) front n.update n.rest
+        (subst (AllFit (start_of (outer_of g))) n.split stands_whole.0)
+
+    taken : IsTaken c (brief n.update)
+    taken = goes_taken k.surface c (with_first g front) n.update so_far.stands longer
+
+    layers : outline c ≡ layers_of (outer_of (with_first g front))
+    layers = (history_is_shown k.surface c (with_first g front) so_far.stands).layers
+
+    text : HasTextIn k.surface store (length c.files) d.blobs n.update
+    text =
+        has_text k.surface store d.blobs g stands_whole history.bytes c front n.update n.rest n.split
+        so_far.stands
+
+    -- what was found of whatever update the body may be is so of this one
+    abbrev Follows : Catalogue → Bool → Type 0
+    Follows later found =
+        (u : SealedUpdate) → BeginsWith (brief u) body
+        → HasTextIn k.surface store (length c.files) d.blobs u → IsTaken c (brief u)
+        → FollowsUpdate k c u later found
+
+    pub followed_more : (later : Catalogue) → Follows later true → FollowedTo k g (i + 1) later
+    followed_more later follows =
+        let one = follows n.update begins text taken in
+        let stands = subst (λ (x : Catalogue).
+        StandsFor k.surface x (with_sealed (with_first g front) n.update)) (sym one.1)
+        (histories_go_on k.surface c (with_first g front) n.update so_far.stands taken.0 taken.1) in
+        let start = layers
+        ∙ ap layers_of (sym (with_updates-all (outer_of (with_first g front)))) in
+        let owners = owners_push k (start_of (outer_of g)) front n.update so_far.owners
+        (subst (λ (y : Layers). IsOwners k y n.update) start one.0) in
+        record {
+          stands = subst (λ (us : List SealedUpdate). StandsFor k.surface later (with_first g us))
+              (sym n.more) stands;
+          owners = subst (AllAreOwners k (start_of (outer_of g))) (sym n.more) owners;
+        }
+
+    -- the history of the first records, with their first blocks
+    abbrev recorded : PlacedHistory
+    recorded = record history.placed { updates = take i ps }
+
+    pub found_false : (later : Catalogue) (place : ℕ) → Follows later false
+        → IsLogOfFirst log (contents_of d.book).records → place ≡ get_or log.offsets i 0
+        → HasFalseUpdate k g place
+    found_false later place follows is at_gate =
+        let wrong = follows n.update begins text taken in
+        let updates = take-briefs g.updates ps i briefs_same in
+        record {
+          front = front;
+          next = n.update;
+          rest = n.rest;
+          split = n.split;
+          owners = so_far.owners;
+          wrong = subst (λ (y : Layers). IsOwners k y n.update → ⊥) layers wrong;
+          placed = recorded;
+          recorded = record {
+            briefs = λ j. record {
+              mode = (history.briefs j).mode;
+              first = (history.briefs j).first;
+              updates = updates j;
+            };
+            firsts = take-firsts k.surface
+                (empty_catalogue history.placed.mode history.placed.first) ps i
+                history.replayed.firsts;
+          };
+          gate = at_gate ∙ ap (λ (l : List ℕ). get_or l i 0) is.offsets
+              ∙ ap (λ (l : List (List ℕ)). get_or (gates_from 78 l) i 0) (first_bodies is)
+              ∙ gate-end 78 (bodies_of ps) i low_body
+              ∙ ap (end_from 78) (take-bodies ps i);
+        }
+
+  -- after the last record
+  pub followed_all : (i : ℕ) (c : Catalogue) → FollowedTo k g i c → i ≡ length log.offsets
+      → AllAreOwners k (start_of (outer_of g)) g.updates
+  followed_all i c so_far last =
+      subst (AllAreOwners k (start_of (outer_of g)))
+      (take_all i g.updates (omega (arith, last, as_many))) so_far.owners
