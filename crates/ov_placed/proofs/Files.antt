@@ -86,6 +86,22 @@ with_new sizes placed (BriefCreate file list tokens tag size) = extents-unplaced
 with_new sizes placed (BriefGrant user file token) = refl
 with_new sizes placed (BriefRevoke user file) = refl
 
+-- a store that begins empty holds nothing
+pub holds_nothing : (c : Catalogue) (placed : List (Option ℕ)) (held : List Extent)
+    → c.files ≡ [] → placed ≡ [] → held ≡ [] → HoldsFiles c placed held
+holds_nothing c placed held no_file no_place none = record {
+  there = λ file lt. absurd (omega (arith, lt, ap length no_file));
+  places = record {
+    many = omega (arith, ap length no_file, ap length no_place);
+    each = λ file lt. absurd (omega (arith, lt, ap length no_file));
+  };
+  extents = λ test.
+      ap (passing test) none
+      ∙ ap (passing test) (sym (extents-none (lengths_of c.files)))
+      ∙ ap (λ (ps : List (Option ℕ)). passing test (extents_of (lengths_of c.files) ps))
+      (sym no_place);
+}
+
 -- ---- one first block changes
 
 one_changed : (test : Extent → Bool) (sizes : List ℕ) (placed : List (Option ℕ)) (n : ℕ)

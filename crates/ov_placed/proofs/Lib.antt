@@ -3,3 +3,5 @@ pub mod Free
 pub mod FirstBlocks
 pub mod Spots
 pub mod Files
+pub mod Replays
+pub mod Taking

@@ -12,7 +12,7 @@ use std::alloc::Global;
 
 /// How many of these files have a byte, and so a first block.
 pub(crate) fn count_of(rewrites: &[Rewrite]) -> u32
-    requires few { length rewrites.now ≤ MAX_FILES }
+    requires { length rewrites.now ≤ MAX_FILES }
     ensures count { result ≡ count_of (plain_rewrites rewrites.now) }
     ensures few { result ≤ MAX_FILES }
 {
