@@ -1,6 +1,6 @@
 -- A change that is made with the first blocks of its record.
-use Rattle.std.proofs.Common.{◌≡◌, ℕ, ◌≤◌, List, length, Option, sym, ◌∙◌, ap, subst}
-use Rattle.std.specs.Prelude.{All}
+use Rattle.std.proofs.Common.{◌≡◌, ℕ, ◌≤◌, List, length, Option, Result, Ok, Err, sym, ◌∙◌, ap, subst}
+use Rattle.std.specs.Prelude.{All, OnOk}
 use Rattle.ov_blocks.specs.declared.extents.Extent.{Extent}
 use Rattle.ov_history.specs.Catalogue.{Catalogue, catalogue_after}
 use Rattle.ov_history.specs.Placed.{PlacedUpdate, placed_after, replaced, with_unplaced}
@@ -14,14 +14,15 @@ use Rattle.ov_state.specs.Entries.{plain_rewrites}
 use Rattle.ov_state.specs.declared.change.Change.{Change}
 use Rattle.ov_state.specs.declared.change.Rewrite.{Rewrite as StateRewrite}
 use Rattle.ov_placed.specs.Contents.{HoldsFiles, PlacedStore}
-use Rattle.ov_placed.specs.Faults.{IsTakenAt, NamesSpot, UpdateIsTakenAt}
+use Rattle.ov_placed.specs.Faults.{IsBadFor, IsTakenAt, NamesSpot, UpdateIsTakenAt}
 use Rattle.ov_placed.specs.Holding.{AreHeld, IsWithAll, given_up}
-use Rattle.ov_placed.specs.Replaying.{IsPlacedChange}
+use Rattle.ov_placed.specs.Replaying.{IsPlacedChange, IsRecordOf, TakesRecord}
 use Rattle.ov_placed.specs.declared.fault.ReplayFault.{ReplayFault}
 use Rattle.ov_placed.specs.declared.fault.ReplayFault.TheVariants.{Damaged, Memory}
 use Rattle.ov_placed.proofs.Counting.{same_members}
 use Rattle.ov_placed.proofs.Files.{holds_after, old_are_held, rewrites_of_files}
 use Rattle.ov_placed.proofs.FirstBlocks.{each_has_block}
+use Rattle.ov_placed.proofs.Spots.{bad_if_taken, history_goes_on}
 
 pub all_have_blocks : (rewrites : List StateRewrite) (firsts : List ℕ) (new : List Extent)
     → new ≡ new_extents (plain_rewrites rewrites) firsts → All (λ (e : Extent). 1 ≤ e.length) new
@@ -121,3 +122,48 @@ module _ (W limit : ℕ) (master : List ℕ) (s : PlacedStore) (u : PlacedUpdate
           (holds_after s.catalogue u s.placed s.held holds master next after is.firsts
           (with_new new next is_new with)
           (subst (λ (l : List Extent). IsWithAll l after next) given_is without)))
+
+-- ---- the record of a change that was made
+
+pub all_ok : {T E : Type 0} (A B C D : Type 0) (r : Result T E) → OnOk r A → OnOk r B → OnOk r C
+    → (A → B → C → D) → OnOk r D
+all_ok A B C D (Ok x) a b c all = all a b c
+all_ok A B C D (Err e) a b c all = tt
+
+module _ (W limit : ℕ) (master : List ℕ) (blocks : ℕ) (s : PlacedStore) (u : PlacedUpdate)
+    (change : Change W) (is : IsPlacedChange {W = W} limit master s.catalogue u change)
+    (body : List ℕ) (record_is : IsRecordOf u body) (d : Catalogue) (places : List (Option ℕ))
+    (same : d ≡ s.catalogue) (same_places : places ≡ s.placed) where
+  pub takes_record : (new : PlacedStore) → new.catalogue ≡ applied d change
+      → new.placed ≡ placed_after d u places → UpdateTakesFree blocks d places u
+      → TakesRecord master blocks s body new
+  takes_record new made placed_are free =
+      let made_is : new.catalogue ≡ catalogue_after master s.catalogue u.update =
+      made ∙ ap (λ (e : Catalogue). applied e change) same ∙ is.made.made in
+      let places_are : new.placed ≡ placed_after s.catalogue u s.placed =
+      placed_are ∙ ap (λ (e : Catalogue). placed_after e u places) same
+      ∙ ap (λ (ps : List (Option ℕ)). placed_after s.catalogue u ps) same_places in
+      let free_is : UpdateTakesFree blocks s.catalogue s.placed u =
+      subst (λ (ps : List (Option ℕ)). UpdateTakesFree blocks s.catalogue ps u) same_places
+      (subst (λ (e : Catalogue). UpdateTakesFree blocks e places u) same free) in
+      record {
+        update = u;
+        is = record_is;
+        taken = is.made.taken;
+        firsts = is.firsts;
+        free = free_is;
+        catalogue = made_is;
+        placed = places_are;
+        goes_on = history_goes_on master blocks s new u is.made.taken is.firsts free_is made_is
+            places_are;
+      }
+
+  pub bad_if_not_free : (gate : ℕ) (fault : ReplayFault)
+      → NamesSpot (UpdateIsTakenAt blocks d places u) fault
+      → NamesSpot (IsBadFor master blocks s.catalogue s.placed body gate) fault
+  bad_if_not_free gate fault wrong =
+      bad_if_taken master blocks s.catalogue s.placed body gate u fault record_is is.made.taken
+      is.firsts
+      (subst (λ (ps : List (Option ℕ)). NamesSpot (UpdateIsTakenAt blocks s.catalogue ps u) fault)
+      same_places
+      (subst (λ (e : Catalogue). NamesSpot (UpdateIsTakenAt blocks e places u) fault) same wrong))
