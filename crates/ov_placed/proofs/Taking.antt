@@ -127,8 +127,8 @@ module _ (W limit : ℕ) (master : List ℕ) (s : PlacedStore) (u : PlacedUpdate
 
 pub all_ok : {T E : Type 0} (A B C D : Type 0) (r : Result T E) → OnOk r A → OnOk r B → OnOk r C
     → (A → B → C → D) → OnOk r D
-all_ok A B C D (Ok x) a b c all = all a b c
-all_ok A B C D (Err e) a b c all = tt
+all_ok A B C D (Ok x) a b c follows = follows a b c
+all_ok A B C D (Err e) a b c follows = tt
 
 module _ (W limit : ℕ) (master : List ℕ) (blocks : ℕ) (s : PlacedStore) (u : PlacedUpdate)
     (change : Change W) (is : IsPlacedChange {W = W} limit master s.catalogue u change)

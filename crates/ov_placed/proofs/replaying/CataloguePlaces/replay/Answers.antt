@@ -1,4 +1,4 @@
-use Rattle.std.proofs.Common.{◌≡◌, ◌∙◌, ◌*◌, ℕ, List, Option, ap, subst, sym}
+use Rattle.std.proofs.Common.{rules, ◌≡◌, ◌∙◌, ◌*◌, ℕ, List, Option, ap, subst, sym}
 use Rattle.std.proofs.lemmas.Result.{IfErr-weaker, err_from_is_err_and}
 use Rattle.ov_history.specs.Catalogue.{Catalogue}
 use Rattle.ov_history.specs.Placed.{PlacedUpdate, placed_after}
@@ -23,13 +23,23 @@ returns-in_err-change-clause-fault c =
     c.args.body.now c.args.gate) c.in_err-change.field-0.0) c.self.view_is
     (c.in_err-change.ensures.fault c.args.blocks c.self.inside.placed.items)))
 
-pub take-requires-clause-change : goal.take-requires-clause-change
-take-requires-clause-change c = (
-  c.args.surface.now.bytes,
-  subst (λ (d : Catalogue). IsPlacedChange {W = WIDTH} (64 * WIDTH) c.args.surface.now.bytes d
-      (placed_update c.in_ok-change.record) c.in_ok-change.change)
-      (sym c.in_ok-change.ensures.same) c.in_ok-change.ensures.change,
-)
+pub take-requires : goal.take-requires
+take-requires c =
+    let change = subst (λ (d : Catalogue). IsPlacedChange {W = WIDTH} (64 * WIDTH)
+    c.args.surface.now.bytes d (placed_update c.in_ok-change.record) c.in_ok-change.change)
+    (sym c.in_ok-change.ensures.same) c.in_ok-change.ensures.change in (
+      search rules,
+      (
+        search rules,
+        (
+          search rules,
+          (
+            (c.args.surface.now.bytes, change),
+            (c.in_ok-change.ensures.room, c.requires),
+          ),
+        ),
+      ),
+    )
 
 pub returns-clause-taken : goal.returns-clause-taken
 returns-clause-taken c =
