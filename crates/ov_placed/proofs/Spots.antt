@@ -11,7 +11,7 @@ use Rattle.ov_history.specs.Rewrites.{rewrites_of}
 use Rattle.ov_history.specs.Texts.{IsSealedBriefly, with_brief}
 use Rattle.ov_history.proofs.Placed.{replays_go_on}
 use Rattle.ov_history.proofs.Replaying.{briefs_go_on, briefs_stop}
-use Rattle.ov_images.specs.Damage.{BeginsWith, IsMisspelled, Spot, in_book}
+use Rattle.ov_images.specs.Damage.{BeginsWith, IsMisspelled, in_book}
 use Rattle.ov_images.specs.Extents.{IsFirstTaken, UpdateTakesFree, extents_in_use}
 use Rattle.ov_images.specs.Extents.{new_extents}
 use Rattle.ov_images.specs.Records.{StopsInRecord}
@@ -42,7 +42,7 @@ NamesPlace gate place fault =
 pub misspelled : (body : List ℕ) (gate place : ℕ) (fault : ReplayFault)
     → brief_of first_form body ≡ Err place → NamesPlace gate place fault
     → NamesSpot (λ spot. EndsInBook gate body → IsMisspelled body gate spot) fault
-misspelled body gate place (Damaged area offset) stops is ends =
+misspelled body gate place (Damaged area offset) stops is = λ ends.
     let within = placed_within (length body) place (front_of (length body) (brief_at first_form
     body)) stops in
     record { at_byte = place; stops = stops; spot_is = is (omega (arith, ends, within)) }
@@ -51,7 +51,7 @@ misspelled body gate place Memory stops is = tt
 pub miscounted : (count : ℕ) (body : List ℕ) (gate place : ℕ) (fault : ReplayFault)
     → stored_of first_form count body ≡ Err place → NamesPlace gate place fault
     → NamesSpot (λ spot. EndsInBook gate body → StopsInBody count body gate spot) fault
-miscounted count body gate place (Damaged area offset) stops is ends =
+miscounted count body gate place (Damaged area offset) stops is = λ ends.
     let within = placed_within (length body) place (all_of (stored_at first_form count body)) stops
     in
     record { at_byte = place; stops = stops; spot_is = is (omega (arith, ends, within)) }
@@ -83,13 +83,13 @@ module _ (master : List ℕ) (blocks : ℕ) (c : Catalogue) (placed : List (Opti
   pub bad_if_misspelled : (fault : ReplayFault)
       → NamesSpot (λ spot. EndsInBook gate body → IsMisspelled body gate spot) fault
       → NamesSpot (IsBadFor master blocks c placed body gate) fault
-  bad_if_misspelled (Damaged area offset) wrong ends p so_far = inl (wrong ends)
+  bad_if_misspelled (Damaged area offset) wrong = λ ends p so_far. inl (wrong ends)
   bad_if_misspelled Memory wrong = tt
 
   pub bad_if_untaken : (u : Brief) (fault : ReplayFault) → BeginsWith u body
       → NamesSpot (IsUntaken c u gate) fault
       → NamesSpot (IsBadFor master blocks c placed body gate) fault
-  bad_if_untaken u (Damaged area offset) front wrong ends p so_far = inr (inl (record {
+  bad_if_untaken u (Damaged area offset) front wrong = λ ends p so_far. inr (inl (record {
     update = u;
     begins = front;
     unfit = λ sealed. wrong.untaken (briefs_stop master c (unplaced p) u so_far.stands sealed);
@@ -101,7 +101,7 @@ module _ (master : List ℕ) (blocks : ℕ) (c : Catalogue) (placed : List (Opti
       → NamesSpot (λ spot. EndsInBook gate body
       → StopsInBody (count_of (rewrites_of c u)) body gate spot) fault
       → NamesSpot (IsBadFor master blocks c placed body gate) fault
-  bad_if_miscounted u (Damaged area offset) front taken wrong ends p so_far =
+  bad_if_miscounted u (Damaged area offset) front taken wrong = λ ends p so_far.
       let stop = wrong ends in inr (inr (inl (record {
         update = u;
         begins = front;
@@ -116,7 +116,7 @@ module _ (master : List ℕ) (blocks : ℕ) (c : Catalogue) (placed : List (Opti
   pub bad_if_taken : (u : PlacedUpdate) (fault : ReplayFault) → IsRecordOf u body
       → IsTaken c u.update → HasFirsts c u → NamesSpot (UpdateIsTakenAt blocks c placed u) fault
       → NamesSpot (IsBadFor master blocks c placed body gate) fault
-  bad_if_taken u (Damaged area offset) is taken firsts wrong ends p so_far =
+  bad_if_taken u (Damaged area offset) is taken firsts wrong = λ ends p so_far.
       inr (inr (inr (record {
         update = u;
         form = is.form;

@@ -1,12 +1,14 @@
 -- Records that are replayed, one after the other.
 use Rattle.std.specs.Prelude.{◌≡◌, ℕ, List}
+use Rattle.ov_base.specs.declared.mode.Mode.{Mode}
 use Rattle.ov_record.specs.Briefs.{plain_brief}
 use Rattle.ov_record.specs.declared.stored.Stored.{Stored as StoredOf}
 use Rattle.ov_history.specs.Catalogue.{Catalogue, catalogue_after}
 use Rattle.ov_history.specs.Placed.{HasFirsts, IsReplayedTo, PlacedHistory, PlacedUpdate}
 use Rattle.ov_history.specs.Placed.{placed_after, with_placed}
+use Rattle.ov_images.specs.Damage.{CanBeKept}
 use Rattle.ov_images.specs.Extents.{IsLaidOut, UpdateTakesFree}
-use Rattle.ov_images.specs.Records.{HasRecordForm, record_spelling}
+use Rattle.ov_images.specs.Records.{HasRecordForm, bodies_of, record_spelling}
 use Rattle.ov_state.specs.Plans.{IsChange, IsTaken}
 use Rattle.ov_state.specs.declared.change.Change.{Change}
 use Rattle.ov_placed.specs.Contents.{PlacedStore}
@@ -46,3 +48,12 @@ pub record TakesRecord (master : List ℕ) (blocks : ℕ) (old : PlacedStore) (b
   pub placed : new.placed ≡ placed_after old.catalogue update old.placed
   pub goes_on : (p : PlacedHistory)
       → IsPlacedAs master blocks p old → IsPlacedAs master blocks (with_placed p update) new
+
+-- These bodies keep a history of this mode, from this epoch on, beside so many blocks of Blobs, and
+-- this is the store after it.
+pub record IsReplayOf (master : List ℕ) (mode : Mode) (first blocks : ℕ) (bodies : List (List ℕ))
+    (s : PlacedStore) : Type 0 where
+  pub history : PlacedHistory
+  pub kept : CanBeKept master mode first blocks history
+  pub placed : IsPlacedAs master blocks history s
+  pub bodies_are : bodies_of history.updates ≡ bodies

@@ -10,16 +10,15 @@ use crate::fault::ReplayFault;
 use crate::first_blocks::count_of;
 use crate::reading::{read_record, read_update};
 use ov_disk::Area;
-use ov_graph::Graph;
 use ov_record::{Brief, Stored};
-use ov_state::{Change, PrepareFault, State, WIDTH};
-use ov_tokens::{Base, Master, Surface};
+use ov_state::{Catalogue, Change, PrepareFault, WIDTH};
+use ov_tokens::Master;
 use std::alloc::Global;
 
 /// The change of an update with which a body begins whose gate is at this place.
-fn prepare_update<B: Graph<Base, WIDTH>, S: Graph<Surface, WIDTH>>(
+fn prepare_update(
     alloc: Global,
-    catalogue: &mut State<B, S, WIDTH>,
+    catalogue: &mut Catalogue,
     surface: &Master,
     update: Brief<WIDTH>,
     gate: u64,
@@ -43,9 +42,9 @@ fn prepare_update<B: Graph<Base, WIDTH>, S: Graph<Surface, WIDTH>>(
 }
 
 /// The record with this body, whose gate is at this place, and the change that it makes.
-pub(crate) fn prepare_record<B: Graph<Base, WIDTH>, S: Graph<Surface, WIDTH>>(
+pub(crate) fn prepare_record(
     alloc: Global,
-    catalogue: &mut State<B, S, WIDTH>,
+    catalogue: &mut Catalogue,
     surface: &Master,
     body: &[u8],
     gate: u64,

@@ -8,7 +8,7 @@ ghost use Rattle.ov_placed.specs.Contents.{HoldsTheSame};
 ghost use Rattle.ov_placed.specs.Faults.{IsBadFor, NamesSpot, UpdateIsTakenAt};
 ghost use Rattle.ov_placed.specs.Replaying.{placed_update, IsPlacedChange, TakesRecord};
 
-use crate::catalogue::PlacedCatalogue;
+use crate::catalogue::{CataloguePlaces, PlacedCatalogue};
 use crate::exchanging::{add_new, exchange, make_room};
 use crate::fault::ReplayFault;
 use crate::first_blocks::new_extents;
@@ -16,7 +16,7 @@ use crate::holding::hold_all;
 use crate::prepared::prepare_record;
 use ov_graph::Graph;
 use ov_record::Stored;
-use ov_state::{Change, WIDTH};
+use ov_state::Change;
 use ov_tokens::{Base, Master, Surface};
 use std::alloc::Global;
 
@@ -44,23 +44,19 @@ impl<B: Graph<Base, W>, S: Graph<Surface, W>, const W: usize> PlacedCatalogue<B,
             (UpdateIsTakenAt blocks self.old.catalogue self.old.placed (placed_update stored.now))) }
         ensures same { OnErr result (HoldsTheSame self.old self.new) }
     {
+        let rewritten = change.rewrites();
         let firsts = stored.places.as_slice();
-        let new = new_extents(alloc, change.rewrites(), firsts)?;
+        let new = new_extents(alloc, rewritten, firsts)?;
         make_room(&mut self.placed)?;
         hold_all(&mut self.extents, &new, blocks)?;
         add_new(&mut self.placed, &stored.update);
-        exchange(
-            &mut self.placed,
-            &mut self.extents,
-            change.rewrites(),
-            firsts,
-        );
+        exchange(&mut self.placed, &mut self.extents, rewritten, firsts);
         self.catalogue.commit(change);
         Ok(())
     }
 }
 
-impl<B: Graph<Base, WIDTH>, S: Graph<Surface, WIDTH>> PlacedCatalogue<B, S, WIDTH> {
+impl CataloguePlaces {
     /// Replays the record with this body, whose gate is at this place of Book, over a Blobs of so many
     /// whole blocks.
     pub fn replay(
