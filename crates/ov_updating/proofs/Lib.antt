@@ -1,1 +1,9 @@
+pub mod Asking
+pub mod Holding
+pub mod Keeping
 pub mod Lists
+pub mod Ordering
+pub mod Sources
+pub mod Standing
+pub mod Taking
+pub mod Using

@@ -36,15 +36,16 @@ abbrev pub asked : List Rewrite → List (Option ℕ) → List Extent → List �
 asked rewrites placed held front text =
     record { rewrites = rewrites; placed = placed; held = held; front = front; text = text }
 
--- A store with this catalogue takes the update, and this is what the update is made from.
+-- A store with this catalogue takes the update, and this is what the update is made from. After it
+-- there are no more files than a store may have, and each is no longer than a file may be.
 pub record IsAskedFor (c : Catalogue) (u : SealedUpdate) (a : Asked) : Type 0 where
   pub taken : IsTaken c (brief u)
   pub rewrites : a.rewrites ≡ rewrites_of c (brief u)
   pub form : HasBriefForm first_form (brief u)
   pub front : a.front ≡ brief_spelling first_form (brief u)
   pub text : (text : List ℕ) → text_of u ≡ Some text → a.text ≡ text
-  pub files : length c.files ≤ MAX_FILES
-  pub short : (file : ℕ) (f : Filed) → living_at c.files file ≡ Some f
+  pub files : length (files_after c (brief u)) ≤ MAX_FILES
+  pub short : (file : ℕ) (f : Filed) → living_at (files_after c (brief u)) file ≡ Some f
       → f.length ≤ MAX_FILE_BYTES
   pub held : AreHeldFor c.files a.placed a.held
 
