@@ -64,7 +64,7 @@ files_few placed [] = omega arith
 files_few placed (r ∷ rewrites) =
     omega (arith, files_few placed rewrites, listed_length (takes_place r.length) (file_of placed r) (files_of placed rewrites))
 
-above : (number : ℕ) (rewrites : List Rewrite) → Ascend number rewrites → (r : Rewrite)
+pub above : (number : ℕ) (rewrites : List Rewrite) → Ascend number rewrites → (r : Rewrite)
     → Contains rewrites r → number ≤ r.file
 above number [] all r (k, lt, is) = absurd (omega (arith, lt))
 above number (x ∷ rewrites) all r (zero, lt, is) = omega (arith, all.0, ap (λ (y : Rewrite). y.file) is)
@@ -72,7 +72,7 @@ above number (x ∷ rewrites) all r (suc k, lt, is) =
     omega (arith, all.0, above (x.file + 1) rewrites all.1 r (k, omega (arith, lt), is))
 
 -- these files are in the order of their numbers
-abbrev AreInOrder : List Placed → Type 0
+abbrev pub AreInOrder : List Placed → Type 0
 AreInOrder files =
     (a b : ℕ) (d : Placed) → a < b → b < length files → (get_or files a d).file < (get_or files b d).file
 
@@ -84,7 +84,7 @@ in_order_if true f rest past all (suc a) (suc b) d lt below = all a b d (omega (
 in_order_if false f rest past all a b d lt below = all a b d lt below
 
 -- the files of rewrites in order are in order
-in_order : (placed : List (Option ℕ)) (number : ℕ) (rewrites : List Rewrite) → Ascend number rewrites
+pub in_order : (placed : List (Option ℕ)) (number : ℕ) (rewrites : List Rewrite) → Ascend number rewrites
     → AreInOrder (files_of placed rewrites)
 in_order placed number [] all = λ a b d lt below. absurd (omega (arith, below))
 in_order placed number (r ∷ rewrites) all =

@@ -1,8 +1,10 @@
 pub mod Asking
+pub mod HeldAfter
 pub mod Holding
 pub mod Keeping
 pub mod Lists
 pub mod Ordering
+pub mod Origins
 pub mod Sources
 pub mod Standing
 pub mod Taking

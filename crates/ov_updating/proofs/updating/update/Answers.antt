@@ -1,7 +1,7 @@
 use Rattle.std.proofs.Common.{◌∙◌, List, length, sym, subst}
 use Rattle.std.specs.Prelude.{All}
 use Rattle.ov_moves.specs.Placing.{GoToFree, HasNewText, HasPlaces, IsFiled}
-use Rattle.ov_moves.specs.Releasing.{AreDistinct}
+use Rattle.ov_moves.specs.Releasing.{AreDistinct, MayGoOn}
 use Rattle.ov_moves.specs.Rewriting.{SpellsBodies, StandsForEither}
 use Rattle.ov_moves.specs.Runs.{LeavesAtMost}
 use Rattle.ov_moves.specs.declared.placing.Placed.{Placed}
@@ -12,6 +12,7 @@ use Rattle.ov_updating.specs.Files.{files_of}
 use Rattle.ov_updating.specs.Recording.{body_with}
 use Rattle.ov_updating.specs.Updating.{Asked, KeepsItOrMore, asked}
 use Rattle.ov_updating.proofs.Asking.{distinct, filed, has_text, places, spells}
+use Rattle.ov_updating.proofs.HeldAfter.{held_after}
 use Rattle.ov_updating.proofs.Keeping.{both_ok, keeps_either, keeps_yet, lasts}
 use Rattle.ov_updating.proofs.updating.update.Goals as goal
 
@@ -65,4 +66,9 @@ returns-clause-lasts g c =
     (subst (λ (all : List Placed). GoToFree all a.held moves.items) (c.deref.ensures.value ∙ c.in_ok-files.ensures) go) (made i is))
 
 pub returns-clause-held : goal.returns-clause-held
-returns-clause-held g c = ?
+returns-clause-held g c =
+    let a : Asked = asked (plain_rewrites c.args.recoat.now.rewrites.now) c.args.placed.now c.args.extents.now c.args.front.now c.args.text.now in
+    both_ok c.rewrite.result _ _ _ c.rewrite.ensures.moves c.rewrite.ensures.held (λ moves go on.
+    held_after a moves.items c.rewrite.new.extents
+    (subst (λ (all : List Placed). GoToFree all a.held moves.items) (c.deref.ensures.value ∙ c.in_ok-files.ensures) go)
+    (subst (λ (all : List Placed). MayGoOn all a.held c.rewrite.new.extents moves.items) (c.deref.ensures.value ∙ c.in_ok-files.ensures) on))
