@@ -1,5 +1,5 @@
 -- What is asked of files before they are moved, by what an update is made from.
-use Rattle.std.proofs.Common.{◌≡◌, ◌⊎◌, inl, inr, ℕ, zero, suc, ◌+◌, ◌*◌, ◌<◌, ◌≤◌, List, [], ◌∷◌, ◌++◌, length, get_or, replicate, refl, sym, ◌∙◌, ap, subst, arith, length-append, lit<, lit≤}
+use Rattle.std.proofs.Common.{◌≡◌, inl, inr, ℕ, zero, suc, ◌+◌, ◌*◌, ◌<◌, ◌≤◌, List, [], ◌∷◌, ◌++◌, length, get_or, replicate, refl, sym, ◌∙◌, ap, subst, arith, length-append, lit<, lit≤}
 use Rattle.std.specs.Prelude.{All, Bool, true, false, Contains, Option, Some, None, is_some, slice_index_or}
 use Rattle.std.specs.List.{AllByRecursion, flat_map}
 use Rattle.std.proofs.lemmas.Bool.{false≢true, lt-ltb, ltb-true}
@@ -7,9 +7,7 @@ use Rattle.std.proofs.lemmas.List.{get_or_default, get_or_past, length-replicate
 use Rattle.ov_graph.proofs.ListLaws.{Contains-first, Contains-later}
 use Rattle.ov_base.specs.declared.limits.TheConstants.{MAX_FILES, MAX_FILE_BYTES}
 use Rattle.ov_journal.specs.Taking.{IsBody}
-use Rattle.ov_blocks.specs.Extents.{blocks_of}
-use Rattle.ov_blocks.specs.declared.extents.Extent.{Extent}
-use Rattle.ov_moves.specs.Placing.{AreMovesOf, HasNewText, HasPlaces, IsFiled}
+use Rattle.ov_moves.specs.Placing.{HasNewText, HasPlaces, IsFiled}
 use Rattle.ov_moves.specs.Releasing.{AreDistinct}
 use Rattle.ov_moves.specs.Rewriting.{SpellsBodies}
 use Rattle.ov_moves.specs.declared.moves.Move.{Move}
@@ -19,22 +17,23 @@ use Rattle.ov_fields.specs.Spelling.{u32}
 use Rattle.ov_record.specs.Briefs.{Brief}
 use Rattle.ov_record.specs.Forms.{first_form}
 use Rattle.ov_record.specs.Stored.{HasBriefForm, IsNumber, Stored, brief_spelling, stored_spelling}
-use Rattle.ov_record.specs.Updates.{SealedUpdate, SealedEnrol, SealedCreate, SealedGrant, SealedRevoke}
+use Rattle.ov_record.specs.Updates.{SealedUpdate}
 use Rattle.ov_record.proofs.BriefLaws.{few_bytes, some_bytes}
 use Rattle.ov_record.proofs.UpdateLaws.{first_has_room}
 use Rattle.ov_history.specs.Places.{living_at}
-use Rattle.ov_history.specs.Briefs.{brief, text_of}
+use Rattle.ov_history.specs.Briefs.{brief}
 use Rattle.ov_history.specs.Catalogue.{Catalogue, Filed}
 use Rattle.ov_history.specs.Placed.{takes_place}
 use Rattle.ov_history.specs.Rewrites.{Rewrite, files_after, length_left, rewrites_of}
 use Rattle.ov_history.proofs.Placing.{old_size, size_after, sized}
 use Rattle.ov_recoat.specs.Laws.{Ascend}
+use Rattle.ov_recoat.proofs.Bytes.{above}
 use Rattle.ov_updating.specs.Files.{file_of, files_of, firsts_of, listed_if}
 use Rattle.ov_updating.specs.Recording.{body_with}
 use Rattle.ov_updating.specs.Updating.{Asked, IsAskedFor}
 use Rattle.ov_updating.proofs.Ordering.{ascending, few}
 use Rattle.ov_updating.proofs.Sources.{IsNew, IsOld, file_below, no_fewer, source}
-use Rattle.ov_updating.proofs.Using.{IsOfFile, extent, in_use, of_file}
+use Rattle.ov_updating.proofs.Using.{extent, in_use, of_file}
 
 -- ---- lists of files
 
@@ -64,13 +63,6 @@ files_few placed [] = omega arith
 files_few placed (r ∷ rewrites) =
     omega (arith, files_few placed rewrites, listed_length (takes_place r.length) (file_of placed r) (files_of placed rewrites))
 
-pub above : (number : ℕ) (rewrites : List Rewrite) → Ascend number rewrites → (r : Rewrite)
-    → Contains rewrites r → number ≤ r.file
-above number [] all r (k, lt, is) = absurd (omega (arith, lt))
-above number (x ∷ rewrites) all r (zero, lt, is) = omega (arith, all.0, ap (λ (y : Rewrite). y.file) is)
-above number (x ∷ rewrites) all r (suc k, lt, is) =
-    omega (arith, all.0, above (x.file + 1) rewrites all.1 r (k, omega (arith, lt), is))
-
 -- these files are in the order of their numbers
 abbrev pub AreInOrder : List Placed → Type 0
 AreInOrder files =
@@ -90,7 +82,7 @@ in_order placed number [] all = λ a b d lt below. absurd (omega (arith, below))
 in_order placed number (r ∷ rewrites) all =
     in_order_if (takes_place r.length) (file_of placed r) (files_of placed rewrites)
     (each_file (λ (f : Placed). r.file < f.file) placed rewrites
-    (λ x there some. omega (arith, above (r.file + 1) rewrites all.1 x there)))
+    (λ x there some. omega (arith, above (r.file + 1) rewrites x all.1 there)))
     (in_order placed (r.file + 1) rewrites all.1)
 
 -- ---- the record

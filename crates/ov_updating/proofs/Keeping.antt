@@ -1,25 +1,23 @@
 -- An image that kept a history keeps it, or it with the update.
-use Rattle.std.proofs.Common.{◌≡◌, ◌⊎◌, inl, inr, ℕ, ◌+◌, ◌*◌, ◌<◌, ◌≤◌, List, [], ◌∷◌, ◌++◌, length, get_or, refl, sym, ◌∙◌, ap, subst, arith}
-use Rattle.std.specs.Prelude.{All, Contains, IfOk, Result, Ok, Err, Option, Some, None, slice_index_or}
+use Rattle.std.proofs.Common.{◌≡◌, inl, inr, ℕ, ◌+◌, ◌*◌, ◌<◌, ◌≤◌, List, [], ◌++◌, length, refl, sym, ◌∙◌, ap, subst, arith}
+use Rattle.std.specs.Prelude.{Contains, IfOk, Result, Ok, Err, Option, Some, None, slice_index_or}
 use Rattle.std.specs.List.{flat_map}
 use Rattle.ov_disk.specs.Disk.{Image}
 use Rattle.ov_disk.specs.Tells.{DiskTells}
-use Rattle.ov_journal.specs.Book.{Contents, contents_of, with_body}
+use Rattle.ov_journal.specs.Book.{contents_of, with_body}
 use Rattle.ov_blocks.specs.Extents.{blocks_of}
 use Rattle.ov_blocks.specs.declared.extents.Extent.{Extent}
 use Rattle.ov_blocks.specs.declared.extents.TheConstants.{BLOCK_BYTES}
-use Rattle.ov_moves.specs.Placing.{AreMovesOf, GoToFree}
-use Rattle.ov_moves.specs.Rewriting.{AreHeldAs, StandsAfter, StandsAsBefore, StandsForEither}
+use Rattle.ov_moves.specs.Placing.{GoToFree}
+use Rattle.ov_moves.specs.Rewriting.{StandsAfter, StandsAsBefore, StandsForEither}
 use Rattle.ov_moves.specs.Rewriting.{LastsWith as MovesLastWith}
-use Rattle.ov_moves.specs.Standing.{Filled, HasBytes, StandsFor}
 use Rattle.ov_moves.specs.declared.moves.Move.{Move}
-use Rattle.ov_moves.specs.declared.placing.Placed.{Placed}
 use Rattle.ov_fields.specs.Spelling.{u32}
 use Rattle.ov_record.specs.Updates.{SealedUpdate}
 use Rattle.ov_history.specs.Places.{living_at}
-use Rattle.ov_history.specs.Briefs.{brief, text_of}
+use Rattle.ov_history.specs.Briefs.{text_of}
 use Rattle.ov_history.specs.Catalogue.{Catalogue}
-use Rattle.ov_history.specs.Rewrites.{Rewrite, length_left, rewrites_of, with_text}
+use Rattle.ov_history.specs.Rewrites.{Rewrite, length_left, with_text}
 use Rattle.ov_history.specs.Sealed.{IsSealed, SealedHistory, StandsFor as CatalogueStands, with_sealed}
 use Rattle.ov_history.specs.Texts.{BriefHistory, StandsBriefly}
 use Rattle.ov_history.specs.Placed.{HoldRewrites, PlacedHistory, count_of, cut, placed_of, with_placed}
@@ -27,13 +25,13 @@ use Rattle.ov_history.proofs.Briefly.{stands_fully}
 use Rattle.ov_history.proofs.GoingOn.{histories_go_on}
 use Rattle.ov_images.specs.Images.{Keys}
 use Rattle.ov_images.specs.PlacedExtents.{AllTakeFree, blocks_in, catalogue_at, extents_in_use, new_extents, stored_in}
-use Rattle.ov_images.specs.PlacedImages.{KeepsAt, KeepsEither}
+use Rattle.ov_images.specs.PlacedImages.{KeepsAt}
 use Rattle.ov_images.specs.PlacedLaws.{HasOneMore, placed_as}
 use Rattle.ov_images.proofs.PlacedKeeping.{keeps_more, keeps_same}
 use Rattle.ov_recoat.specs.Recoats.{recoated}
 use Rattle.ov_updating.specs.Files.{files_of, firsts_of}
 use Rattle.ov_updating.specs.Recording.{body_with}
-use Rattle.ov_updating.specs.Updating.{Asked, CanGoOn, IsAskedFor, KeepsItOrMore, KeepsMore, LastsWith}
+use Rattle.ov_updating.specs.Updating.{Asked, CanGoOn, KeepsItOrMore, KeepsMore, LastsWith}
 use Rattle.ov_updating.proofs.Asking.{length-firsts}
 use Rattle.ov_updating.proofs.Holding.{hold_all}
 use Rattle.ov_updating.proofs.Standing.{HasAsMuch, all_ready, cut_same, ends_whole, same_bytes}

@@ -1,7 +1,9 @@
 pub mod Asking
+pub mod Going
 pub mod HeldAfter
 pub mod Holding
 pub mod Keeping
+pub mod Listing
 pub mod Lists
 pub mod Ordering
 pub mod Origins

@@ -1,8 +1,8 @@
 -- Where the first block of each file comes from after an update: from before, or from its move.
-use Rattle.std.proofs.Common.{◌≡◌, ◌⊎◌, inl, inr, ℕ, zero, suc, ◌+◌, ◌<◌, ◌≤◌, List, [], ◌∷◌, ◌++◌, length, get_or, refl, sym, ◌∙◌, ap, subst, arith}
-use Rattle.std.specs.Prelude.{All, Bool, true, false, Contains, Option, Some, None, is_some, slice_index_or}
-use Rattle.std.proofs.lemmas.Bool.{cases_eq, cases_lt, ltb-true}
-use Rattle.std.proofs.lemmas.List.{get_or_append_left, get_or_past}
+use Rattle.std.proofs.Common.{◌≡◌, ◌⊎◌, inl, inr, ℕ, zero, suc, ◌<◌, ◌≤◌, List, [], ◌∷◌, ◌++◌, length, get_or, refl, sym, ◌∙◌, ap, subst, arith}
+use Rattle.std.specs.Prelude.{Bool, true, false, Contains, Option, Some, None, slice_index_or}
+use Rattle.std.proofs.lemmas.Bool.{cases_eq, cases_lt}
+use Rattle.std.proofs.lemmas.List.{get_or_past}
 use Rattle.ov_graph.proofs.ListLaws.{Contains-cases, Contains-first, Contains-later, Contains-none}
 use Rattle.ov_moves.specs.Placing.{AreMovesOf, no_move}
 use Rattle.ov_moves.specs.declared.moves.Move.{Move}
@@ -10,9 +10,8 @@ use Rattle.ov_moves.specs.declared.placing.Placed.{Placed}
 use Rattle.ov_history.specs.Briefs.{Brief, BriefEnrol, BriefCreate, BriefGrant, BriefRevoke}
 use Rattle.ov_history.specs.Rewrites.{Rewrite}
 use Rattle.ov_history.specs.Placed.{first_if, left_if, replaced, takes_place, with_unplaced}
-use Rattle.ov_history.proofs.Placing.{AllGive, IsAmong, at-replaced, unplaced_stays}
+use Rattle.ov_history.proofs.Placing.{AllGive, at-replaced, unplaced_stays}
 use Rattle.ov_updating.specs.Files.{file_of, files_of, firsts_of, listed_if}
-use Rattle.ov_updating.proofs.Asking.{each_file}
 use Rattle.ov_updating.proofs.Taking.{first_move, other_moves}
 
 -- ---- rewrites of a file
@@ -68,9 +67,10 @@ module _ (P : Option ℕ → Type 0) (n : ℕ) where
     λ same.
         gives.1 0 (omega arith)
         (ap (λ (x : Move). x.file) (first_move (file_of placed r) files m moves are) ∙ same),
-    rest moves (other_moves (file_of placed r) files m moves are)
-        ((λ x there. gives.0 x (Contains-later r rewrites x there)),
-        (λ a lt. gives.1 (suc a) (omega (arith, lt)))),
+    rest moves (other_moves (file_of placed r) files m moves are) (
+      (λ x there. gives.0 x (Contains-later r rewrites x there)),
+      (λ a lt. gives.1 (suc a) (omega (arith, lt))),
+    ),
   )
 
   pub all_give : (placed : List (Option ℕ)) (rewrites : List Rewrite) (moves : List Move)

@@ -1,37 +1,35 @@
 -- What stands in the extents in use stands there in an image that stands for as much, and is ready for
 -- the rewrites of an update.
-use Rattle.std.proofs.Common.{◌≡◌, ◌⊎◌, inl, inr, ℕ, zero, suc, ◌+◌, ◌*◌, ◌/◌, ◌<◌, ◌≤◌, List, [], ◌∷◌, ◌++◌, length, get_or, take, drop, replicate, refl, sym, ◌∙◌, ap, subst, arith, lit<}
+use Rattle.std.proofs.Common.{◌≡◌, inl, inr, ℕ, zero, suc, ◌+◌, ◌*◌, ◌/◌, ◌<◌, ◌≤◌, List, [], ◌∷◌, ◌++◌, length, get_or, take, drop, replicate, refl, sym, ◌∙◌, ap, subst, arith, lit<}
 use Rattle.std.specs.Prelude.{All, Contains, Option, Some, None, slice_index_or}
 use Rattle.std.proofs.lemmas.Grind.{same_number_lists}
 use Rattle.std.proofs.lemmas.List.{get_or_append_left, length-replicate}
-use Rattle.std.proofs.Math.Nat.{le-min, min-le_left, min-le_right}
+use Rattle.std.proofs.Math.Nat.{le-min, min-le_right}
 use Rattle.std.proofs.lemmas.Nat.{le-div}
 use Rattle.std.proofs.Math.Seq.{get_or-append_seam}
 use Rattle.ov_graph.proofs.ListLaws.{Contains-first, Contains-later}
 use Rattle.ov_disk.specs.Disk.{Image}
-use Rattle.ov_journal.specs.Book.{Contents, contents_of}
 use Rattle.ov_blocks.specs.Extents.{blocks_of}
 use Rattle.ov_blocks.specs.declared.extents.TheConstants.{BLOCK_BYTES, MAX_BLOCKS}
 use Rattle.ov_blocks.specs.declared.extents.Extent.{Extent}
 use Rattle.ov_moves.specs.Bytes.{byte_before}
 use Rattle.ov_moves.specs.Rewriting.{AreHeldAs}
-use Rattle.ov_moves.specs.Standing.{Filled, HasBytes, StandsFor}
+use Rattle.ov_moves.specs.Standing.{Filled, HasBytes}
 use Rattle.ov_record.specs.Updates.{SealedUpdate}
 use Rattle.ov_history.specs.Places.{living_at}
-use Rattle.ov_history.specs.Briefs.{brief, text_of}
+use Rattle.ov_history.specs.Briefs.{text_of}
 use Rattle.ov_history.specs.Catalogue.{Catalogue, Filed}
 use Rattle.ov_history.specs.Placed.{AllEndWithin, EndsWithin, PlacedHistory, block_bytes, bytes_at, cut, placed_of}
 use Rattle.ov_history.specs.Rewrites.{Rewrite, length_left, with_text}
 use Rattle.ov_images.specs.PlacedExtents.{IsLaidOut, blocks_in, catalogue_at}
 use Rattle.ov_images.proofs.PlacedExtents.{all_end, enough_blocks, laid_out_more, whole_blocks}
-use Rattle.ov_recoat.specs.Laws.{Ascend}
 use Rattle.ov_recoat.specs.Recoats.{recoat_byte, recoated}
 use Rattle.ov_recoat.proofs.Bytes.{each_has}
 use Rattle.ov_updating.specs.Updating.{Asked, IsAskedFor}
 use Rattle.ov_updating.proofs.Asking.{in_order_all, new_has_none, of_update, old_has_some}
 use Rattle.ov_updating.proofs.Holding.{AllReady, IsReady, get_or-piece, length-piece}
 use Rattle.ov_updating.proofs.Sources.{IsNew, IsOld, source}
-use Rattle.ov_updating.proofs.Using.{extent, in_use}
+use Rattle.ov_updating.proofs.Using.{extent}
 
 -- ---- whole blocks
 

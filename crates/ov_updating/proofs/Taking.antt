@@ -1,6 +1,6 @@
 -- New extents that were free take free blocks, one after the other, and make a record.
-use Rattle.std.proofs.Common.{◌≡◌, inl, inr, ℕ, zero, suc, ◌+◌, ◌*◌, ◌/◌, ◌<◌, ◌≤◌, List, [], ◌∷◌, ◌++◌, length, get_or, refl, sym, ◌∙◌, ap, subst, arith, lit<}
-use Rattle.std.specs.Prelude.{Bool, true, false, Contains, Option, Some, None}
+use Rattle.std.proofs.Common.{◌≡◌, inl, inr, ℕ, suc, ◌+◌, ◌*◌, ◌<◌, ◌≤◌, List, [], ◌∷◌, ◌++◌, length, get_or, refl, ap, subst, arith, lit<}
+use Rattle.std.specs.Prelude.{Bool, true, false, Contains, Option}
 use Rattle.std.specs.List.{AllByRecursion}
 use Rattle.std.proofs.lemmas.Nat.{le-div}
 use Rattle.std.proofs.Math.Nat.{le-min}
@@ -84,8 +84,7 @@ take_if true blocks placed r rewrites files used [] are free rest = absurd (omeg
 take_if true blocks placed r rewrites files used (m ∷ moves) are free rest =
     subst (λ (n : ℕ). TakesFree blocks used (extent m.to n)
     × AllTakeFree blocks (extent m.to n ∷ used) (new_extents rewrites (firsts_of moves)))
-    (ap (λ (x : Move). x.length) (first_move (file_of placed r) files m moves are))
-    (
+    (ap (λ (x : Move). x.length) (first_move (file_of placed r) files m moves are)) (
       (free.ends 0 m (omega arith), free.free 0 m (omega arith)),
       rest (new_extent m ∷ used) moves (other_moves (file_of placed r) files m moves are)
           (others_free blocks used m moves free),

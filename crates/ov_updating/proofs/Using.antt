@@ -1,5 +1,5 @@
 -- The extents in use, one for each file with a first block.
-use Rattle.std.proofs.Common.{◌≡◌, ℕ, zero, suc, ◌+◌, ◌<◌, List, [], ◌∷◌, ◌++◌, length, refl, sym, ◌∙◌, ap, subst, arith}
+use Rattle.std.proofs.Common.{◌≡◌, ℕ, zero, suc, ◌<◌, List, [], ◌∷◌, ◌++◌, length, sym, ap, subst, arith}
 use Rattle.std.specs.Prelude.{Contains, Option, Some, None, slice_index_or}
 use Rattle.ov_graph.proofs.ListLaws.{Contains-first, Contains-later}
 use Rattle.ov_blocks.specs.Extents.{blocks_of}

@@ -13,10 +13,7 @@ use ov_tokens::Numbers;
 use std::alloc::Global;
 
 /// The update, and its spelling, with which its record begins.
-pub fn spell_update(
-    alloc: Global,
-    brief: Brief<WIDTH>,
-) -> Result<(Brief<WIDTH>, Vec<u8>), Memory>
+pub fn spell_update(alloc: Global, brief: Brief<WIDTH>) -> Result<(Brief<WIDTH>, Vec<u8>), Memory>
     requires { IsBriefWithinLimits first_form (plain_brief brief) }
     ensures same { IfOk result (λ x. plain_brief x.0 ≡ plain_brief brief) }
     ensures spelled { IfOk result (λ x.
