@@ -40,7 +40,7 @@ files_keep_length master r bytes =
 -- ---- the rewrite of a file
 
 -- those of files that ascend are of no file below
-above : (number : ℕ) (rewrites : List Rewrite) (r : Rewrite) → Ascend number rewrites → Contains rewrites r → number ≤ r.file
+pub above : (number : ℕ) (rewrites : List Rewrite) (r : Rewrite) → Ascend number rewrites → Contains rewrites r → number ≤ r.file
 above number [] r all (k, lt, is) = absurd (omega (arith, lt))
 above number (x ∷ rewrites) r all (zero, lt, is) = omega (arith, all.0, ap (λ (y : Rewrite). y.file) is)
 above number (x ∷ rewrites) r all (suc k, lt, is) =

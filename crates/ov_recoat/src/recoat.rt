@@ -13,6 +13,7 @@ use ov_surface::reencrypt;
 use ov_tokens::{Layer, Master, Surface};
 
 /// What the rewrites of an update make of the bytes of files, under the surface master.
+#[derive(Drop)]
 pub struct Recoat<'a> {
     /// The surface master.
     pub master: &'a Master,
