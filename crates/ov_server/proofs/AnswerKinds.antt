@@ -39,7 +39,7 @@ no_fault s (Ok (requests.Update epoch spelling tag)) is =
     spelled_fault s.catalogue (update_of first_form spelling) is.2
 no_fault s (Ok (requests.Chain user file)) is = is
 no_fault s (Ok (requests.Chunk file generation start count)) is =
-    chunk_fault (living_at s.catalogue.files file) (slice_index_or s.stored file []) generation
+    chunk_fault (living_at s.catalogue.files file) (option_map (λ stored. slice_index_or stored file []) s.stored) generation
     start count is
 no_fault s (Ok (requests.Page part number)) is = cc
 no_fault s (Ok (requests.List file)) is = is
@@ -112,7 +112,7 @@ accepted_made s (Ok (requests.Chain user file)) n is = absurd is
 accepted_made s (Ok (requests.Chunk file generation start count)) n is =
     absurd (chunk_made (living_at s.catalogue.files file) is) where
       chunk_made : (o : Option Filed)
-          → AnswersChunk o (slice_index_or s.stored file []) generation start count
+          → AnswersChunk o (option_map (λ stored. slice_index_or stored file []) s.stored) generation start count
           (answers.Accepted n)
           → ⊥
       chunk_made None is = cc

@@ -1,5 +1,5 @@
 -- What a store answers to a question for a part of a file's stored bytes.
-use Rattle.std.specs.Prelude.{◌≡◌, ◌≢◌, ℕ, ◌-◌, min, List, [], ◌++◌, length, take, drop, slice_index_or, Option, Some, None, IfSome, Result, Ok, Err}
+use Rattle.std.specs.Prelude.{◌≡◌, ◌≢◌, ℕ, ◌-◌, min, List, [], ◌++◌, length, take, drop, slice_index_or, Option, Some, None, IfSome, Result, Ok, Err, ⊤}
 use Rattle.ov_history.specs.Places.{living_at}
 use Rattle.ov_history.specs.Catalogue.{Catalogue, Filed}
 use Rattle.ov_store.specs.declared.fault.ChunkFault.{ChunkFault}
@@ -28,3 +28,12 @@ Chunks c stored file generation start count old new (Err (Moved now)) =
 Chunks c stored file generation start count old new (Err DiskFailed) =
     (f : Filed) × (living_at c.files file ≡ Some f) × (f.generation ≡ generation) × (new ≡ old)
 Chunks c stored file generation start count old new (Err Memory) = new ≡ old
+
+-- this holds where no bytes were asked of the disk: the file isn't there with this generation, or
+-- memory was refused
+abbrev pub IfUnasked : {T : Type 0} → Result T ChunkFault → Type 0 → Type 0
+IfUnasked (Ok done) P = ⊤
+IfUnasked (Err NoFile) P = P
+IfUnasked (Err (Moved now)) P = P
+IfUnasked (Err DiskFailed) P = ⊤
+IfUnasked (Err Memory) P = P

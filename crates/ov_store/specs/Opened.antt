@@ -39,29 +39,24 @@ abbrev pub LastsEither : {D : Type 0} → DiskTells D → Keys → SealedHistory
 LastsEither tells k g disk = Told (tells.reads disk) (λ _.
     (u : SealedUpdate) × ((c : Image) → tells.may_leave disk c → KeepsEither k g u c))
 
--- The store stands for the history: both halves are those of a store after it, the stored bytes
--- where they are said, and it lasts on the disk; once a call of the disk failed in an update, it
--- lasts there, or it with one update more.
+-- The store stands for the history: both halves are those of a store after it, and it lasts on the
+-- disk; once a call of the disk failed in an update, it lasts there, or it with one update more.
+-- The stored bytes are said exactly where the disk tells its bytes.
 pub record Serves {D : Type 0} (tells : DiskTells D) (g : SealedHistory) (s : Opened D)
     : Type 0 where
   pub catalogue : StandsFor s.keys.surface s.catalogue g
   pub bytes : IfSome s.stored (λ bytes. KeepsBytes s.keys.surface bytes g)
+  pub told : is_some s.stored ≡ is_some (tells.reads s.disk)
   pub disk : s.failed ≡ false → Lasts tells s.keys g s.disk
   pub after_fault : s.failed ≡ true → LastsEither tells s.keys g s.disk
 
--- the stored bytes are said exactly where the disk tells its bytes
-abbrev pub TellsStored : {D : Type 0} → DiskTells D → Opened D → Type 0
-TellsStored tells s = is_some s.stored ≡ is_some (tells.reads s.disk)
-
 -- What holds of every open store with this journal: the journal is whole, and is that of the disk
--- or, once a call of the disk failed, that of the first of its records; the stored bytes are said
--- where the disk tells its bytes; and the store stands for some history with as many updates as the
--- journal has records.
+-- or, once a call of the disk failed, that of the first of its records; and the store stands for
+-- some history with as many updates as the journal has records.
 pub record IsSafe {D : Type 0} (tells : DiskTells D) (log : Log) (s : Opened D) : Type 0 where
   pub whole : log.bad ≡ false
   pub count : length log.offsets ≤ s.catalogue.epoch
   pub stands : s.failed ≡ false → Stands tells log s.disk
   pub first : Told (tells.reads s.disk) (λ i. IsLogOfFirst log (contents_of i.book).records)
-  pub told : TellsStored tells s
   pub some_history : (g : SealedHistory) × Serves tells g s
       × (length g.updates ≡ length log.offsets)
