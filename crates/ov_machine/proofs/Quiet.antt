@@ -69,4 +69,4 @@ module _ {D : Type 0} (tells : DiskTells D) where
         (asked_stays s t (request_bytes request) reply asks writes, a, said)
     by_answer (inr is) =
         absurd (quiet (needs_disk (serving_of s) request form
-        (needs s t (request_bytes request) reply is)))
+        (needs tells s t (request_bytes request) reply is)))
