@@ -2,15 +2,15 @@
 use Rattle.std.proofs.Common.{◌≡◌, ℕ, zero, suc, ◌+◌, ◌-◌, ◌*◌, ◌≤◌, ◌<◌, min, List, [], ◌∷◌, ◌++◌}
 use Rattle.std.proofs.Common.{length, take, drop, Bool, true, false, Option, Some, None, Ok, refl, sym}
 use Rattle.std.proofs.Common.{◌∙◌, ap, subst, arith}
-use Rattle.std.proofs.lemmas.Bool.{false≢true}
+use Rattle.std.proofs.lemmas.Bool.{false≢true, lt-ltb}
 use Rattle.std.proofs.lemmas.List.{append-nil, length-take}
-use Rattle.std.specs.Prelude.{Err, is_some, slice_index_or}
+use Rattle.std.specs.Prelude.{Err, OnOk, Result, is_some, slice_index_or}
 use Rattle.ov_blocks.specs.Extents.{IsInside, blocks_of}
 use Rattle.ov_blocks.specs.Writes.{place_in_blobs}
 use Rattle.ov_blocks.specs.declared.extents.Extent.{Extent}
 use Rattle.ov_disk.specs.Disk.{Image, Told}
 use Rattle.ov_history.specs.Catalogue.{Catalogue, Filed}
-use Rattle.ov_history.specs.Placed.{AllEndWithin, bytes_at, cut, takes_place}
+use Rattle.ov_history.specs.Placed.{AllEndWithin, EndsWithin, bytes_at, takes_place}
 use Rattle.ov_history.specs.Places.{living_at}
 use Rattle.ov_history.specs.Rewrites.{length_left}
 use Rattle.ov_history.proofs.Storing.{living_below}
@@ -19,7 +19,7 @@ use Rattle.ov_journal.specs.declared.fault.CheckFault.{CheckFault}
 use Rattle.ov_journal.specs.declared.fault.CheckFault.TheVariants.{Disk as CheckDisk}
 use Rattle.ov_journal.specs.declared.fault.CheckFault.TheVariants.{Memory as CheckMemory}
 use Rattle.ov_placed.specs.Contents.{HoldsFiles, PlacedStore}
-use Rattle.ov_store.specs.Chunks.{Chunks, IfUnasked, IsPart}
+use Rattle.ov_store.specs.Chunks.{Chunks, IsPart}
 use Rattle.ov_store.specs.Opened.{stored_by}
 use Rattle.ov_store.specs.Faults.{chunk_fault_of}
 use Rattle.ov_store.proofs.Extents.{cut-at, ends_for, held_for, no_part, part_of}
@@ -28,7 +28,7 @@ use Rattle.ov_store.proofs.Said.{cut_out, said}
 -- no byte takes no block
 no_bytes : (size : ℕ) → false ≡ takes_place size → size ≡ 0
 no_bytes zero is = refl
-no_bytes (suc size) is = absurd (false≢true is)
+no_bytes (suc size) is = absurd (false≢true (is ∙ lt-ltb 0 (suc size) (omega arith)))
 
 length-bytes : (blobs : List ℕ) (place : Option ℕ) (size : ℕ)
     → length (bytes_at blobs place size) ≤ size
@@ -112,8 +112,29 @@ module _ (store : PlacedStore) (file : ℕ) (f : Filed)
       (ap (λ (o : Option ℕ). is_some o) (sym none) ∙ holds.places.each file lt
       ∙ ap (λ (o : Option Filed). takes_place (length_left o)) there)
 
--- memory is refused before the disk is asked
-pub unasked : (why : CheckFault) (P : Type 0) → (why ≡ CheckMemory → P)
-    → IfUnasked {Unit {0}} (Err (chunk_fault_of why)) P
-unasked CheckDisk P holds = tt
-unasked CheckMemory P holds = holds refl
+-- ---- a whole file
+
+module _ (store : PlacedStore) (file : ℕ) (f : Filed)
+    (there : living_at store.catalogue.files file ≡ Some f) (size : ℕ) (whole : size ≡ f.length)
+  where
+    pub ends_if : (o : Option ℕ) → living_at store.placed file ≡ o → (count : ℕ)
+        → AllEndWithin count store.catalogue.files store.placed → EndsWithin count o size
+    ends_if None is count all = tt
+    ends_if (Some first) is count all =
+        let here = ends_for store.catalogue store.placed file first f
+        (living_below store.catalogue.files file f there) there is count all in
+        omega (arith, here, whole)
+
+-- a fault of the read is one of the question, and nothing is appended
+pub fault_of_part : (T : Type 0) (why : CheckFault) (c : Catalogue) (stored : Option (List (List ℕ)))
+    (file generation start count : ℕ) (old new : List ℕ) (f : Filed)
+    → living_at c.files file ≡ Some f → f.generation ≡ generation → new ≡ old
+    → Chunks {T = T} c stored file generation start count old new (Err (chunk_fault_of why))
+fault_of_part T CheckDisk c stored file generation start count old new f there is same =
+    (f, there, is, same)
+fault_of_part T CheckMemory c stored file generation start count old new f there is same = same
+
+-- what follows at Ok from what holds there
+pub ok_more : {T E : Type 0} (r : Result T E) (P Q : Type 0) → (P → Q) → OnOk r P → OnOk r Q
+ok_more (Ok x) P Q more p = more p
+ok_more (Err e) P Q more p = p

@@ -71,6 +71,13 @@ returns-then-not-branch-clause-checked g c = λ d read h history.
     text taken))
     (c.requires.log d read) (search rules)
 
+pub returns-then-not-branch-clause-call : goal.returns-then-not-branch-clause-call
+returns-then-not-branch-clause-call g c = record {
+  same = search rules;
+  later = search rules;
+  rose = λ is. absurd (cc is);
+}
+
 pub records-preserved : goal.records-preserved
 records-preserved g c =
     let k = masters c.args.base.now.bytes c.args.surface.now.bytes in
