@@ -19,17 +19,17 @@ const BLOCKS: u32 = 6;
 
 const GATE: u64 = 78;
 
-const fn in_book(place: u64) -> Result<(), ReplayFault> {
+fn in_book(place: u64) -> Result<(), ReplayFault> {
     Err(ReplayFault::Damaged {
         area: Area::Book,
         offset: place,
     })
 }
 
-const fn at_block(first: u64) -> Result<(), ReplayFault> {
+fn at_block(first: u32) -> Result<(), ReplayFault> {
     Err(ReplayFault::Damaged {
         area: Area::Blobs,
-        offset: 4_096 * first,
+        offset: 4_096 * u64::from(first),
     })
 }
 

@@ -5,7 +5,7 @@ use Rattle.ov_blocks.specs.declared.extents.Extent.{Extent}
 use Rattle.ov_history.specs.Catalogue.{Filed}
 use Rattle.ov_history.specs.Placed.{ArePlaced, counted_if}
 use Rattle.ov_history.specs.Texts.{lengths_of}
-use Rattle.ov_images.specs.PlacedExtents.{extents_of}
+use Rattle.ov_images.specs.Extents.{extents_of}
 use Rattle.ov_updating.specs.Files.{AreHeldFor, AreThere}
 
 -- how many of these extents pass a test
