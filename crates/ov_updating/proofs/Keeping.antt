@@ -71,14 +71,18 @@ module _ (master : List ℕ) (a : Asked) (k : Keys) (p : PlacedHistory) (g : Sea
 
   -- ---- as before
 
+  bytes_before : (x : Image) → StandsAsBefore a.held i x
+      → stored_in k.surface p x.blobs ≡ stored_in k.surface p i.blobs
+  bytes_before x stands =
+      same_stored x (λ all held filled.
+      (stands.stands (contents_of i.book) all held (record { book = refl; files_are = filled })).files_are)
+
   as_before : (x : Image) → StandsAsBefore a.held i x → KeepsAt k p g x
   as_before x stands =
       keeps_same k p g i x can.keeps
       (stands.stands (contents_of i.book) [] (λ n d lt. absurd (omega (arith, lt)))
       (record { book = refl; files_are = λ n d lt. absurd (omega (arith, lt)) })).book
-      stands.no_shorter
-      (same_stored x (λ all held filled.
-      (stands.stands (contents_of i.book) all held (record { book = refl; files_are = filled })).files_are))
+      stands.no_shorter (bytes_before x stands)
 
   -- ---- with the update
 
@@ -149,13 +153,19 @@ module _ (master : List ℕ) (a : Asked) (i x : Image) where
 
   pub keeps_either : StandsForEither (recoated master a.rewrites) a.text (body_with a.front) a.held
       (files_of a.placed a.rewrites) i x → KeepsItOrMore master a i x
-  keeps_either (inl before) k p g u can = inl (p, as_before master a k p g u i can x before)
-  keeps_either (inr (moves, go, after)) k p g u can =
-      inr (with_placed p (placed_as u (firsts_of moves)), keeps_with moves go after k p g u can)
+  keeps_either (inl before) k p g u can = (
+    inl (as_before master a k p g u i can x before),
+    bytes_before master a k p g u i can x before,
+  )
+  keeps_either (inr (moves, go, after)) k p g u can = (
+    inr (firsts_of moves, keeps_with moves go after k p g u can),
+    same_stored master a k p g u i can x
+        (as_much master a k p g u i can moves x go (turned_by moves k can.surface after)),
+  )
 
 -- before the first call of the disk
 pub keeps_yet : (master : List ℕ) (a : Asked) (i : Image) → KeepsItOrMore master a i i
-keeps_yet master a i k p g u can = inl (p, can.keeps)
+keeps_yet master a i k p g u can = (inl can.keeps, refl)
 
 pub lasts : {D : Type 0} (tells : DiskTells D) (master : List ℕ) (a : Asked) (disk : D) (i : Image) (moves : List Move)
     → GoToFree (files_of a.placed a.rewrites) a.held moves

@@ -1,5 +1,5 @@
 -- One update of a store, and which history its images keep before and after it.
-use Rattle.std.specs.Prelude.{◌≡◌, ℕ, ◌≤◌, List, length, Option, Some}
+use Rattle.std.specs.Prelude.{◌≡◌, ◌⊎◌, ℕ, ◌≤◌, List, length, Option, Some}
 use Rattle.ov_base.specs.declared.limits.TheConstants.{MAX_FILES, MAX_FILE_BYTES}
 use Rattle.ov_disk.specs.Disk.{Image, Only}
 use Rattle.ov_disk.specs.Tells.{DiskTells}
@@ -14,8 +14,8 @@ use Rattle.ov_history.specs.Placed.{PlacedHistory, placed_after, placed_of, with
 use Rattle.ov_history.specs.Rewrites.{Rewrite, files_after, rewrites_of}
 use Rattle.ov_history.specs.Sealed.{SealedHistory, with_sealed}
 use Rattle.ov_images.specs.Images.{Keys}
-use Rattle.ov_images.specs.Extents.{catalogue_at}
-use Rattle.ov_images.specs.Images.{KeepsAt, KeepsEither}
+use Rattle.ov_images.specs.Extents.{catalogue_at, stored_in}
+use Rattle.ov_images.specs.Images.{KeepsAt}
 use Rattle.ov_images.specs.Laws.{placed_as}
 use Rattle.ov_state.specs.Plans.{IsTaken}
 use Rattle.ov_updating.specs.Files.{AreHeldFor}
@@ -64,11 +64,19 @@ pub record CanGoOn (master : List ℕ) (a : Asked) (k : Keys) (p : PlacedHistory
   pub update : IsAskedFor (catalogue_at k.surface p) u a
   pub keeps : KeepsAt k p g i
 
--- whatever history the first image keeps, the second keeps that, or it with the update
+-- the image keeps the history with these first blocks, or it with the update, which has some
+abbrev pub KeepsAtOrMore : Keys → PlacedHistory → SealedHistory → SealedUpdate → Image → Type 0
+KeepsAtOrMore k p g u c =
+    KeepsAt k p g c
+    ⊎ ((firsts : List ℕ) × KeepsAt k (with_placed p (placed_as u firsts)) (with_sealed g u) c)
+
+-- Whatever history the first image keeps, the second keeps that, or it with the update; and the files
+-- that there were have their bytes where they had them.
 abbrev pub KeepsItOrMore : List ℕ → Asked → Image → Image → Type 0
 KeepsItOrMore master a i c =
     (k : Keys) (p : PlacedHistory) (g : SealedHistory) (u : SealedUpdate)
-    → CanGoOn master a k p g u i → KeepsEither k g u c
+    → CanGoOn master a k p g u i
+    → KeepsAtOrMore k p g u c × (stored_in k.surface p c.blobs ≡ stored_in k.surface p i.blobs)
 
 -- whatever history the first image keeps, the second keeps it with the update, which has these first
 -- blocks
