@@ -6,3 +6,4 @@ pub mod Files
 pub mod Replays
 pub mod Taking
 pub mod Knowing
+pub mod Making

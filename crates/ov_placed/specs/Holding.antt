@@ -1,20 +1,11 @@
 -- Extents that are counted, in whatever order they are kept.
 use Rattle.std.specs.Prelude.{◌≡◌, ℕ, ◌+◌, ◌≤◌, Bool, List, [], ◌∷◌, ◌++◌, Option}
 use Rattle.ov_blocks.specs.declared.extents.Extent.{Extent}
-use Rattle.ov_history.specs.Placed.{counted_if, first_if, left_if, takes_place}
+use Rattle.ov_history.specs.Placed.{first_if, left_if, takes_place}
 use Rattle.ov_history.specs.Places.{change_at, living_at}
 use Rattle.ov_history.specs.Rewrites.{Rewrite}
 use Rattle.ov_images.specs.Extents.{extent_at}
-
--- how many of these extents pass a test
-abbrev pub passing : (Extent → Bool) → List Extent → ℕ
-passing test [] = 0
-passing test (e ∷ extents) = counted_if (test e) (passing test extents)
-
--- The lists have the same extents, each as often: whatever is tested, as many of the one pass as of
--- the other.
-abbrev pub HaveAsMany : List Extent → List Extent → Type 0
-HaveAsMany one other = (test : Extent → Bool) → passing test one ≡ passing test other
+pub use Rattle.ov_updating.specs.Counting.{HaveAsMany, passing}
 
 -- all of these extents are held, each as often
 abbrev pub AreHeld : List Extent → List Extent → Type 0

@@ -60,8 +60,11 @@ mod fault;
 mod first_blocks;
 mod holding;
 mod prepared;
+mod preparing;
 mod reading;
 mod replaying;
+mod updating;
 
 pub use catalogue::{CataloguePlaces, PlacedCatalogue};
 pub use fault::ReplayFault;
+pub use preparing::Prepared;

@@ -3,7 +3,7 @@ pub mod Births
 pub mod Checked
 pub mod Checking
 pub mod Extents
-pub mod Fitting
+pub mod Going
 pub mod Histories
 pub mod Looking
 pub mod NewTexts

@@ -1,5 +1,4 @@
 pub mod Beginning
-pub mod Bodies
 pub mod Chunks
 pub mod Faults
 pub mod Opened

@@ -37,7 +37,6 @@ mod fault;
 mod owners;
 mod reopen;
 mod replay;
-mod spell;
 mod store;
 mod texts;
 mod update;

@@ -1,23 +1,16 @@
 //! Updates, which are written down before they are made.
 ghost use Rattle.std.specs.Prelude.{◌≡◌, OnOk, IsErrOf};
-ghost use Rattle.ov_disk.specs.Calls.{IsDiskCall};
 ghost use Rattle.ov_disk.specs.Disk.{StaysTold};
-ghost use Rattle.ov_journal.specs.Book.{contents_of, with_body};
-ghost use Rattle.ov_journal.specs.Lasting.{AddsAtMost, IsAcknowledged};
-ghost use Rattle.ov_journal.specs.Log.{Stands};
-ghost use Rattle.ov_journal.specs.declared.fault.CheckFault.TheVariants.{Disk as DiskFailed};
 ghost use Rattle.ov_record.specs.Updates.{sealed_update};
 ghost use Rattle.ov_history.specs.Briefs.{brief};
 ghost use Rattle.ov_state.specs.Plans.{IsFitting};
-ghost use Rattle.ov_store.specs.Bodies.{HasLogAfter, MayKeep};
 ghost use Rattle.ov_store.specs.Updating.{GoesOnAfter, IsCallOf, LeavesEither, ServesMore, Updates};
 ghost use Rattle.ov_store.specs.declared.fault.StoreFault.TheVariants.{Disk};
 
 use crate::fault::StoreFault;
-use crate::spell::spell;
 use crate::store::Store;
 use ov_disk::Disk;
-use ov_journal::{CheckFault, Journal};
+use ov_journal::CheckFault;
 use ov_record::Update;
 use ov_state::WIDTH;
 use std::alloc::Global;
@@ -47,7 +40,23 @@ impl<D: Disk> Store<D> {
         if self.failed {
             return Err(StoreFault::Failed);
         }
-        let _ = (alloc, update);
-        Err(StoreFault::Memory)
+        self.placed.known();
+        let prepared = self.placed.prepare(alloc, &self.surface, update)?;
+        self.placed.known();
+        match self.placed.update(
+            alloc,
+            &mut self.disk,
+            &mut self.journal,
+            &self.surface,
+            prepared,
+        ) {
+            Ok(()) => {}
+            Err(CheckFault::Memory) => return Err(StoreFault::Memory),
+            Err(CheckFault::Disk) => {
+                self.failed = true;
+                return Err(StoreFault::Disk);
+            }
+        }
+        Ok(self.placed.catalogue().epoch())
     }
 }
