@@ -42,10 +42,7 @@ fn has_few_tokens(update: &Brief<WIDTH>) -> bool
 }
 
 // The spelling of an update, unless it passes the limits of one, and the update.
-fn spell(
-    alloc: Global,
-    update: Brief<WIDTH>,
-) -> Result<(Brief<WIDTH>, Option<Octets>), Memory>
+fn spell(alloc: Global, update: Brief<WIDTH>) -> Result<(Brief<WIDTH>, Option<Octets>), Memory>
     requires { IsFitting (plain_brief update) }
     ensures same { IfOk result (λ x. plain_brief x.0 ≡ plain_brief update) }
     ensures spelled { IfOk result (λ x. IsSpelled (plain_brief update) x.1) }

@@ -50,8 +50,7 @@ update-requires-clause-asked g c =
     (c.bytes_of-text.ensures j) in
     let u = c.requires.prepared.0 in
     let is = subst (λ (o : PlacedStore). IsPrepared 256 master o.catalogue u c.args.prepared)
-    (sym c.self.view_is) c.requires.prepared.1 in
-    (
+    (sym c.self.view_is) c.requires.prepared.1 in (
       s.catalogue,
       u,
       subst (λ (a : Asked). IsAskedFor s.catalogue u a) (sym same)
