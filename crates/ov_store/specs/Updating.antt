@@ -29,7 +29,7 @@ IsFaultFor c b DiskFailed = IsTaken c b
 IsFaultFor c b Failed = ⊤
 IsFaultFor c b Memory = ⊤
 
--- The update is made in both halves, in the stored bytes where they are said, and its epoch is
+-- The update is made in the catalogue, and in the stored bytes where they are said, and its epoch is
 -- answered; or it is made in neither, for this reason.
 abbrev pub Updates : {D : Type 0} → SealedUpdate → Opened D → Opened D → Result ℕ StoreFault
     → Type 0
