@@ -366,3 +366,17 @@ not_begun tells u s later same g serves sound i read =
     subst (λ d. LeavesOnly tells s.disk d (KeepsEither s.keys g u)) (sym same)
     (started tells s.disk (KeepsEither s.keys g u)
     (λ x left. inl (serves.disk sound i read x left)))
+
+-- ---- twice the same
+
+pub same_then : (a b c : PlacedStore) → HoldsTheSame a b → HoldsTheSame b c → HoldsTheSame a c
+same_then a b c one two = record {
+  catalogue = two.catalogue ∙ one.catalogue;
+  placed = two.placed ∙ one.placed;
+  held = two.held ∙ one.held;
+}
+
+pub same_stored : (reads : Option Image) (old new : PlacedStore) → HoldsTheSame old new
+    → stored_by reads new ≡ stored_by reads old
+same_stored reads old new same =
+    λ j. option_map (λ i. cut i.blobs (same.catalogue j).files (same.placed j)) reads
