@@ -10,7 +10,7 @@ use Rattle.ov_wire.specs.declared.request.Request.TheVariants as requests
 use Rattle.ov_wire.specs.declared.answer.Answer.{Answer}
 use Rattle.ov_wire.specs.declared.answer.Answer.TheVariants as answers
 use Rattle.ov_wire.specs.AnswerBytes.{answer_bytes}
-use Rattle.std.specs.Prelude.{Option, Some, None, slice_index_or}
+use Rattle.std.specs.Prelude.{Option, Some, None, option_map, slice_index_or}
 use Rattle.ov_history.specs.Catalogue.{Filed}
 use Rattle.ov_protocol.specs.Serving.{Serving}
 use Rattle.ov_protocol.specs.Reading.{AnswersChunk}
@@ -25,7 +25,7 @@ spelled_fault : (c : Catalogue) (read : Result SealedUpdate ℕ)
 spelled_fault c (Ok u) is = is
 spelled_fault c (Err place) is = cc
 
-chunk_fault : (o : Option Filed) (stored : List ℕ) (generation start count : ℕ)
+chunk_fault : (o : Option Filed) (stored : Option (List ℕ)) (generation start count : ℕ)
     → AnswersChunk o stored generation start count answers.DeviceFault → ⊥
 chunk_fault None stored generation start count is = cc
 chunk_fault (Some f) stored generation start count is = is

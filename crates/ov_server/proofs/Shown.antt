@@ -1,9 +1,11 @@
 -- What a server answers by what it shows, and what it makes by that.
 use Rattle.std.proofs.Common.{◌≡◌, ◌∙◌, inl, ℕ, false, List, [], Result, Ok, Err, refl, sym, ap, subst, arith, true≢false}
-use Rattle.std.specs.Prelude.{IfOk, IsErr, OnErr, OnOk}
+use Rattle.std.specs.Prelude.{IfOk, IsErr, OnErr, OnOk, Option, is_some}
 use Rattle.ov_base.specs.declared.memory.Memory.{Memory}
 use Rattle.ov_record.specs.Updates.{SealedUpdate}
 use Rattle.ov_history.specs.Sealed.{SealedHistory}
+use Rattle.ov_disk.specs.Disk.{Image}
+use Rattle.ov_disk.specs.Moments.{IsUntouched}
 use Rattle.ov_disk.specs.Tells.{DiskTells}
 use Rattle.ov_disk.proofs.Runs.{started, untouched, weaker}
 use Rattle.ov_wire.specs.declared.request.Request.{Request}
@@ -114,9 +116,28 @@ module _ {D : Type 0} (tells : DiskTells D) where
       (KeepsWith s.keys g (updates_asked (request_of request))) quiet.disk.any_moment
       (λ x left. inl (serves.disk sound i read x left))
 
+  -- with a disk that wasn't written a store stands for what it stood for
+  pub serves_with : (s : Opened D) (d : D) → IsUntouched tells s.disk d → (g : SealedHistory)
+      → Serves tells g s → Serves tells g (record s { disk = d })
+  serves_with s d quiet g serves = record {
+    catalogue = serves.catalogue;
+    bytes = serves.bytes;
+    told = serves.told ∙ ap (λ (r : Option Image). is_some r) (sym quiet.reads_same);
+    disk = λ ok i read x left.
+        serves.disk ok i (sym quiet.reads_same ∙ read) x (quiet.no_more x left);
+    after_fault = λ bad i read.
+        let either = serves.after_fault bad i (sym quiet.reads_same ∙ read) in
+        (either.0, λ x left. either.1 x (quiet.no_more x left));
+  }
+
+  still_serves : (s new : Opened D) → WritesNothing tells s new → (g : SealedHistory)
+      → Serves tells g s → Serves tells g new
+  still_serves s new quiet g serves =
+      subst (λ (o : Opened D). Serves tells g o) (sym quiet.same)
+      (serves_with s new.disk quiet.disk g serves)
+
   module _ (s new : Opened D) (request : List ℕ) (read : Result Request ℕ)
-      (is : request_of request ≡ read) (quiet : WritesNothing tells s new)
-      (stands : (g : SealedHistory) → Serves tells g s → Serves tells g new) where
+      (is : request_of request ≡ read) (quiet : WritesNothing tells s new) where
     pub says_read : (a : Answer) (reply : List ℕ) → AnswersRead (serving_of s) read a
         → HasAnswerForm a → made_of read a ≡ [] → reply ≡ answer_bytes a
         → ((u : SealedUpdate) → HasUpdate (serving_of s) request u → s.failed ≡ false)
@@ -134,7 +155,8 @@ module _ {D : Type 0} (tells : DiskTells D) where
         next = ap (λ (o : Opened D). serving_of o) quiet.same ∙ sym (nothing_follows (serving_of s));
       };
       lasts = λ g serves.
-          subst (λ (h : SealedHistory). Serves tells h new) (sym (followed-nil g)) (stands g serves);
+          subst (λ (h : SealedHistory). Serves tells h new) (sym (followed-nil g))
+          (still_serves s new quiet g serves);
       untouched = λ nothing. quiet;
       told = λ i at. (i, quiet.disk.reads_same ∙ at);
       failed = ap (λ (o : Opened D). o.failed) quiet.same;
@@ -148,8 +170,7 @@ module _ {D : Type 0} (tells : DiskTells D) where
         → ((u : SealedUpdate) → HasUpdate (serving_of s) request u → s.failed ≡ false)
         → IsAnswered tells s s request reply
     says a reply fits form none spelled sound =
-        says_read s s request read is (writes_none s) (λ g serves. serves) a reply fits form none
-        spelled sound
+        says_read s s request read is (writes_none s) a reply fits form none spelled sound
 
     -- all that is said of the call
     pub answers_still : (answer : Result Answer Memory) (reply : List ℕ)

@@ -1,4 +1,4 @@
-use Rattle.std.proofs.Common.{rules, ◌≡◌, List, Option, option_map, Some, ℕ, true, refl, ◌∙◌, ap, subst, length, arith}
+use Rattle.std.proofs.Common.{rules, ◌≡◌, List, Option, option_map, ℕ, true, refl, ◌∙◌, ap, subst, length, arith}
 use Rattle.ov_record.specs.Updates.{sealed_update}
 use Rattle.ov_record.proofs.UpdateLaws.{some_bytes, few_bytes, first_has_room}
 use Rattle.ov_record.specs.Forms.{first_form}
@@ -6,6 +6,7 @@ use Rattle.ov_history.specs.Briefs.{brief, text_of}
 use Rattle.ov_history.specs.Catalogue.{Catalogue, outline, catalogue_after}
 use Rattle.ov_history.specs.Rewrites.{rewrites_of, stored_after}
 use Rattle.ov_state.specs.Changes.{applied}
+use Rattle.ov_state.specs.Plans.{IsTaken}
 use Rattle.ov_vault.specs.Prepared.{stored_with}
 use Rattle.ov_journal.specs.Log.{HasSameRecords}
 use Rattle.ov_images.specs.Images.{Keys}
@@ -112,6 +113,19 @@ invariant_of-self-in-Err-Disk g c =
     c.self.inside.vault.stored c.prepare.new.self.stored c.keep.ensures.any_moment.untold
     c.keep.ensures.any_moment.told c.in_ok-prepared.ensures.stored)
     (told_where (g.D.Disk.tells.reads c.keep.new.disk) c.prepare.new.self.stored)
+
+pub returns-in-Err-Disk-clause-answer : goal.returns-in-Err-Disk-clause-answer
+returns-in-Err-Disk-clause-answer g c =
+    subst (λ (old : Opened g.row.D.Denot). IsTaken old.catalogue (brief (sealed_update c.args.update))
+    × (c.prepare.new.self.catalogue ≡ old.catalogue)
+    × (stored_where (g.D.Disk.tells.reads c.keep.new.disk) c.prepare.new.self.stored ≡ old.stored))
+    c.self.view_is (
+      c.in_ok-prepared.ensures.prepared.change.taken,
+      c.in_ok-prepared.ensures.catalogue,
+      where_same (g.D.Disk.tells.reads c.self.inside.disk) (g.D.Disk.tells.reads c.keep.new.disk)
+          c.self.inside.vault.stored c.prepare.new.self.stored c.keep.ensures.any_moment.untold
+          c.keep.ensures.any_moment.told c.in_ok-prepared.ensures.stored,
+    )
 
 pub returns-in-Err-Disk-clause-any_moment : goal.returns-in-Err-Disk-clause-any_moment
 returns-in-Err-Disk-clause-any_moment g c =
