@@ -5,9 +5,9 @@
 //! command isn't answered, [`StepFault`] says why, and the disk has the history from before the
 //! command or from after it.
 //!
-//! A contract sees a machine as [`KeptOn`](../specs/Machine.antt): the two masters, the catalogue
-//! and the stored bytes, the disk on which they last, and whether a call of the disk failed in an
-//! update. All that one step does is the record `IsWholeStep` of `specs/Steps`.
+//! A contract sees a machine as [`KeptOn`](../specs/Machine.antt): the two masters, the catalogue,
+//! the stored bytes where the disk tells them, the disk on which they last, and whether a call of
+//! the disk failed in an update. All that one step does is the record `IsWholeStep` of `specs/Steps`.
 //!
 //! | module | what it does |
 //! |---|---|

@@ -10,19 +10,20 @@ use Rattle.ov_wire.specs.declared.answer.Answer.TheVariants as answers
 use Rattle.ov_wire.specs.RequestReading.{request_of}
 use Rattle.ov_history.specs.Places.{living_at}
 use Rattle.std.specs.Prelude.{slice_index_or}
-use Rattle.ov_protocol.specs.Serving.{Serving, hidden, serving_after, told_as}
+use Rattle.ov_protocol.specs.Serving.{Serving, hidden, serving_after}
 use Rattle.ov_protocol.specs.Reading.{AnswersChunk}
 use Rattle.ov_protocol.specs.Replies.{AnswersRead, Replies}
 use Rattle.ov_protocol.specs.Laws.{HiddenAnswers, HiddenReplies}
 
 -- ---- options
 
-pub mapped_same : {A : Type 0} (told : Option A) → option_map (λ a. a) told ≡ told
+mapped_same : {A : Type 0} (told : Option A) → option_map (λ a. a) told ≡ told
 mapped_same None = refl
 mapped_same (Some a) = refl
 
 -- what is told is told after a change too
-pub told_still : {A B : Type 0} (f : A → B) (told : Option A) → IsSome told → IsSome (option_map f told)
+pub told_still : {A B : Type 0} (f : A → B) (told : Option A)
+    → IsSome told → IsSome (option_map f told)
 told_still f None is = is
 told_still f (Some a) is = refl
 
@@ -30,19 +31,8 @@ told_still f (Some a) is = refl
 
 -- a server that makes nothing shows what it showed
 pub nothing_follows : (s : Serving) → serving_after s [] ≡ s
-nothing_follows s = ap (λ (told : Option (List (List ℕ))). record s { stored = told }) (mapped_same s.stored)
-
--- a serving with its bytes hidden or told goes on as it does itself
-pub told_after : (told : Option (List (List ℕ))) (s : Serving) (updates : List SealedUpdate)
-    → serving_after (told_as told s) updates ≡ told_as told (serving_after s updates)
-told_after None s updates = refl
-told_after (Some bytes) s updates = refl
-
--- what is told after a change is what was told before it
-pub told_as_before : (f : List (List ℕ) → List (List ℕ)) (told : Option (List (List ℕ)))
-    (s : Serving) → told_as (option_map f told) s ≡ told_as told s
-told_as_before f None s = refl
-told_as_before f (Some bytes) s = refl
+nothing_follows s =
+    ap (λ (told : Option (List (List ℕ))). record s { stored = told }) (mapped_same s.stored)
 
 -- ---- answers
 
@@ -75,10 +65,3 @@ hidden_replies s request reply made replies = record {
   spelled = replies.spelled;
   makes = replies.makes;
 }
-
--- a reply with all told is one with its bytes hidden or told
-pub replies_as : (told : Option (List (List ℕ))) (s : Serving) (request reply : List ℕ)
-    (made : List SealedUpdate)
-    → Replies s request reply made → Replies (told_as told s) request reply made
-replies_as None s request reply made replies = hidden_replies s request reply made replies
-replies_as (Some bytes) s request reply made replies = replies

@@ -11,9 +11,9 @@
 //! answer with bytes is said to have the right number of them, and all else is said as before.
 //!
 //! A *service* is a sealed history with the keys under which it is served. A server serves one
-//! where both halves of its store are those after the history, as far as they are told. So what a server answers to a frame
-//! is said with no store, no disk and no network in sight, and a caller that is told which history
-//! is served knows the answers.
+//! where both halves of its store are those after the history, as far as they are told. So what a
+//! server answers to a frame is said with no store, no disk and no network in sight, and a caller
+//! that is told which history is served knows the answers.
 //!
 //! Refused memory and a fault of a disk are no answers by what a server shows: the crate that sends
 //! `NoMemory` or `DeviceFault` says why (`MayMake` is what is left of such an ask).

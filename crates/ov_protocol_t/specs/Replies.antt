@@ -1,5 +1,5 @@
 -- Rows of replies: single answers, and what a reply says of its server.
-use Rattle.std.specs.Prelude.{◌≡◌, ◌-◌, ℕ, min, List, [], length, take, drop, Option, Some}
+use Rattle.std.specs.Prelude.{◌≡◌, ℕ, List, [], length, take, drop, Option, Some}
 use Rattle.ov_record.specs.Updates.{SealedUpdate}
 use Rattle.ov_history.specs.Catalogue.{Catalogue, Filed, no_filed}
 use Rattle.ov_base.specs.declared.refusal.Refusal.{Refusal}
@@ -14,9 +14,9 @@ use Rattle.ov_protocol.specs.Replies.{AnswersFrame, Replies}
 use Rattle.ov_protocol.specs.Serving.{Serving, serving_after}
 use Rattle.ov_protocol.specs.Updating.{AnswersUpdate, owner_tag, updates_in}
 
--- a file of generation 3
+-- a file of generation 3, of ten bytes
 abbrev pub third : Filed
-third = record no_filed { generation = 3 }
+third = record no_filed { generation = 3; length = 10 }
 
 -- Bytes aren't the answer where generation 4 is asked for. Without a look at the generation they
 -- would be.
@@ -25,13 +25,14 @@ ChunksHaveGenerations =
     (stored : Option (List ℕ)) (bytes : List ℕ) (start count : ℕ)
     → AnswersChunk (Some third) stored 4 start count (answers.Bytes bytes) → ⊥
 
--- A chunk has as many bytes as were asked for and are there, whether or not a server tells them. If
--- their number followed from the bytes alone, a server that doesn't tell them could answer with any.
-abbrev pub ChunksHaveSizes : Type 0
-ChunksHaveSizes =
-    (stored : Option (List ℕ)) (bytes : List ℕ) (start count : ℕ)
-    → AnswersChunk (Some third) stored 3 start count (answers.Bytes bytes)
-    → length bytes ≡ min count (third.length - start)
+-- Of ten bytes there are six from place 4 on where a hundred are asked for, and two where two are,
+-- whether or not a server tells them. If their number followed from the bytes alone, a server that
+-- doesn't tell them could answer with any.
+pub record ChunksHaveSizes : Type 0 where
+  pub all : (stored : Option (List ℕ)) (bytes : List ℕ)
+      → AnswersChunk (Some third) stored 3 4 100 (answers.Bytes bytes) → length bytes ≡ 6
+  pub some : (stored : Option (List ℕ)) (bytes : List ℕ)
+      → AnswersChunk (Some third) stored 3 4 2 (answers.Bytes bytes) → length bytes ≡ 2
 
 -- A server that tells its bytes answers with just these. Hidden, they could be others.
 abbrev pub ToldChunksAreExact : Type 0

@@ -7,14 +7,18 @@ use Rattle.ov_base.proofs.Lists.{cut_once}
 use Rattle.ov_base.specs.declared.mode.Mode.{Mode}
 use Rattle.ov_base.specs.declared.mode.Mode.TheVariants.{Full, Delta}
 use Rattle.ov_disk.specs.Disk.{Image}
+use Rattle.ov_disk.specs.declared.area.Area.{Area}
 use Rattle.ov_journal.specs.Book.{Contents, spelled}
 use Rattle.ov_journal.specs.Standing.{IsUnborn, HasMagic, HasNoMode}
 use Rattle.ov_journal.specs.declared.header.Header.{Header}
-use Rattle.ov_images.specs.Images.{IsImageOf, Keeps, Keys, header_of}
-use Rattle.ov_images.specs.Damage.{HasBadRecords, HasHeader, IsFor}
+use Rattle.ov_images.specs.Images.{IsImageOf, KeepsAt, Keys, header_of}
+use Rattle.ov_images.specs.Damage.{HasBadRecords, HasHeader, IsFor, Spot}
 use Rattle.ov_images.proofs.Damage.{damaged_keeps_none}
-use Rattle.ov_images.proofs.Keeping.{is_born, mode_of-spelled}
+use Rattle.ov_images.proofs.Headers.{mode_of-spelled}
+use Rattle.ov_images.proofs.Keeping.{is_born}
+use Rattle.ov_history.specs.Placed.{PlacedHistory}
 use Rattle.ov_history.specs.Sealed.{SealedHistory}
+use Rattle.ov_history.specs.Texts.{BriefHistory}
 use Rattle.ov_store.specs.Beginning.{IsBeginFault}
 use Rattle.ov_store.specs.declared.fault.BeginFault.{BeginFault}
 use Rattle.ov_store.specs.declared.fault.BeginFault.TheVariants.{Disk, NotAStore, Damaged, BaseDiffers, SurfaceDiffers, ModeDiffers, Memory}
@@ -52,47 +56,53 @@ base_once g h same long = cut_once g.base_check h.base_check g.surface_check h.s
 
 -- no store of these keys and mode is refused but for a fault of the disk or of memory
 module _ (k : Keys) (mode : Mode) (g : SealedHistory) (i : Image) (mode_is : g.mode ≡ mode) where
-  same_head : Keeps k g i → (h : Header) → HasHeader h i → spelled (header_of k g) ≡ spelled h
-  same_head keeps h has = sym (ap (λ (c : Contents). c.head) keeps.book) ∙ has.head
+  same_head : (p : PlacedHistory) → KeepsAt k p g i → (h : Header) → HasHeader h i
+      → spelled (header_of k p) ≡ spelled h
+  same_head p keeps h has = sym (ap (λ (c : Contents). c.head) keeps.records.book) ∙ has.head
+
+  -- the first blocks don't change the mode
+  mode_at : (p : PlacedHistory) → KeepsAt k p g i → p.mode ≡ mode
+  mode_at p keeps = sym (ap (λ (b : BriefHistory). b.mode) keeps.briefs) ∙ mode_is
 
   not_foreign : IsImageOf k g i → IsBeginFault k mode i NotAStore → ⊥
   not_foreign (inl (unborn, blank_is)) (no_unborn, no_magic) = no_unborn unborn
   not_foreign (inr keeps) (no_unborn, no_magic) = no_magic (is_born k g i keeps).0
 
-  never_bad : (place : ℕ) → IsImageOf k g i → (h : Header) → HasHeader h i → HasBadRecords h i place → ⊥
-  never_bad place (inl (unborn, blank_is)) h has bad = never_born i.book unborn has.magic
-  never_bad place (inr keeps) h has bad = damaged_keeps_none k g h i place has bad keeps
+  never_bad : (spot : Spot) → IsImageOf k g i → (h : Header) → HasHeader h i → HasBadRecords h i spot → ⊥
+  never_bad spot (inl (unborn, blank_is)) h has bad = never_born i.book unborn has.magic
+  never_bad spot (inr keeps) h has bad = damaged_keeps_none k g h i spot has bad keeps
 
   no_mode_never : IsImageOf k g i → HasNoMode i.book → ⊥
   no_mode_never (inl (unborn, blank_is)) none = never_born i.book unborn none.0
-  no_mode_never (inr keeps) none = has_mode i.book (header_of k g) (ap (λ (c : Contents). c.head) keeps.book) none
+  no_mode_never (inr (p, keeps)) none =
+      has_mode i.book (header_of k p) (ap (λ (c : Contents). c.head) keeps.records.book) none
 
-  not_damaged : (place : ℕ) → IsImageOf k g i
-      → ((place ≡ 9) × HasNoMode i.book) ⊎ ((h : Header) × HasHeader h i × IsFor k mode h × HasBadRecords h i place) → ⊥
-  not_damaged place opens (inl none) = no_mode_never opens none.1
-  not_damaged place opens (inr (h, has, for_it, bad)) = never_bad place opens h has bad
+  not_damaged : (area : Area) (place : ℕ) → IsImageOf k g i → IsBeginFault k mode i (Damaged area place) → ⊥
+  not_damaged area place opens (inl none) = no_mode_never opens none.2
+  not_damaged area place opens (inr (h, has, for_it, bad)) =
+      never_bad (record { area = area; place = place }) opens h has bad
 
   not_base : (stored given : List ℕ) → length stored ≡ length given → IsImageOf k g i → IsBeginFault k mode i (BaseDiffers stored given) → ⊥
   not_base stored given long (inl (unborn, blank_is)) (h, has, s, v, other) = never_born i.book unborn has.magic
-  not_base stored given long (inr keeps) (h, has, s, v, other) =
+  not_base stored given long (inr (p, keeps)) (h, has, s, v, other) =
       let lengths : length k.base_check ≡ length h.base_check = ap length (sym v) ∙ sym long ∙ ap length s in
-      other (s ∙ sym (base_once (header_of k g) h (same_head keeps h has) lengths).0 ∙ sym v)
+      other (s ∙ sym (base_once (header_of k p) h (same_head p keeps h has) lengths).0 ∙ sym v)
 
   not_surface : (stored given : List ℕ) → IsImageOf k g i → IsBeginFault k mode i (SurfaceDiffers stored given) → ⊥
   not_surface stored given (inl (unborn, blank_is)) (h, has, b, s, v, other) = never_born i.book unborn has.magic
-  not_surface stored given (inr keeps) (h, has, b, s, v, other) =
-      other (s ∙ sym (base_once (header_of k g) h (same_head keeps h has) (ap length (sym b))).1 ∙ sym v)
+  not_surface stored given (inr (p, keeps)) (h, has, b, s, v, other) =
+      other (s ∙ sym (base_once (header_of k p) h (same_head p keeps h has) (ap length (sym b))).1 ∙ sym v)
 
   not_mode : (stored given : Mode) → IsImageOf k g i → IsBeginFault k mode i (ModeDiffers stored given) → ⊥
   not_mode stored given (inl (unborn, blank_is)) (h, has, b, c, s, v, other) = never_born i.book unborn has.magic
-  not_mode stored given (inr keeps) (h, has, b, c, s, v, other) =
-      other (s ∙ sym (mode_of-spelled (header_of k g) h (same_head keeps h has)) ∙ mode_is ∙ sym v)
+  not_mode stored given (inr (p, keeps)) (h, has, b, c, s, v, other) =
+      other (s ∙ sym (mode_of-spelled (header_of k p) h (same_head p keeps h has)) ∙ mode_at p keeps ∙ sym v)
 
   pub faulted_so : (fault : BeginFault) → HasValues fault → IsImageOf k g i → IsBeginFault k mode i fault → (fault ≡ Disk) ⊎ (fault ≡ Memory)
   faulted_so Disk values opens why = inl refl
   faulted_so Memory values opens why = inr refl
   faulted_so NotAStore values opens why = absurd (not_foreign opens why)
-  faulted_so (Damaged area place) values opens why = absurd (not_damaged place opens why.1)
+  faulted_so (Damaged area place) values opens why = absurd (not_damaged area place opens why)
   faulted_so (BaseDiffers stored given) values opens why = absurd (not_base stored given values opens why)
   faulted_so (SurfaceDiffers stored given) values opens why = absurd (not_surface stored given opens why)
   faulted_so (ModeDiffers stored given) values opens why = absurd (not_mode stored given opens why)

@@ -98,8 +98,8 @@ const MEMORY: &str = "the system refused memory; what was answered lasts; free s
 
 const LOAD_MEMORY: &str = "the system refused memory; what the load did before lasts; free some";
 
-const NOT_A_STORE: &str = "store.book is damaged or no store; before you put a copy in its place \
-    read Restoring in OPERATING.md";
+const NOT_A_STORE: &str = "store.book is damaged or no store, or store.blobs is damaged; before \
+    you put copies of both in place read Restoring in OPERATING.md";
 
 const OTHER_STORE: &str = "store.book is of other keys or the other mode; use its keys.hex and \
     its mode";
@@ -110,8 +110,8 @@ const BAD_KEYS: &str = "keys.hex isn't two different lines of 64 hexadecimal dig
 const LONG: &str = "the script is past 268435456 bytes; what was answered lasts; run what follows \
     as a script of its own";
 
-const WRONG_TAG: &str = "a file isn't what its owner sent; run again, and if it stays so put a \
-    good store.book in its place";
+const WRONG_TAG: &str = "a file isn't what its owner sent; run again, and if it stays so put \
+    good copies of store.book and store.blobs in place";
 
 // On words that aren't known.
 fn on_words(stage: Stage) -> &'static str {

@@ -42,7 +42,7 @@ before `run`, and nowhere else.
 The last line of `run` is `end epoch EPOCH`, or `error ..` where the script could not be
 answered to its end. Exit status: 0 answered, 2 words not known, 3 bad line,
 4 disk failed, 5 read failed or no `keys.hex`, 6 write failed, 7 out of memory,
-8 `store.book` is damaged or no store, 9 it is of other keys or the other mode,
+8 the store's files are damaged or no store, 9 they are of other keys or the other mode,
 10 `keys.hex` is no key file, 11 script too long, 12 a file's tag is wrong.
 ";
 

@@ -28,7 +28,7 @@ the end of each session: the time, the client's address, what it was.
 
 Example:      overstored /etc/overstored/team.toml
 Exit status:  0  served                      7  out of memory
-              2  no settings                 8  the book is damaged or no store
+              2  no settings                 8  the files are damaged or no store
               4  the store's files failed    9  the store has other keys or mode
               5  SETTINGS can't be read     13  can't listen, or accept
               6  standard output failed
@@ -174,7 +174,7 @@ pub const FAILED_WRITE: (&str, &str) = (
 pub fn on_store(status: u8) -> Option<(&'static str, &'static str)> {
     match status {
         8 => Some((
-            "it is damaged or no store",
+            "it is damaged or no store, or the store's blobs are damaged",
             "copy both files away, and before you put a copy in place read Restoring in OPERATING.md",
         )),
         9 => Some((
