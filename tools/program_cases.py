@@ -310,9 +310,11 @@ def stores_that_do_not_open():
     good = store_folder()
     run(good, b"enrol alice\n")
     book = bytearray((good / "store.book").read_bytes())
+    older = bytes(book).replace(b"OVERENC1", b"OVERENC0")
     book[84] = 0
     for content, mode, lines, status in [
         (b"x" * 200, "delta", b"error notastore\n", 8),
+        (older, "delta", b"error notastore\n", 8),
         (bytes(book), "delta", b"error damaged book 84\n", 8),
         ((good / "store.book").read_bytes(), "full", b"error mode delta full\n", 9),
     ]:
@@ -334,19 +336,35 @@ def stores_that_do_not_open():
         assert files_of(folder) == before
 
 
+def is_refused_and_kept(folder, line):
+    before = files_of(folder)
+    expect(run(folder, b"enrol c\n"), 8, line)
+    assert files_of(folder) == before
+
+
+def flipped(data, place):
+    return data[:place] + bytes([data[place] ^ 1]) + data[place + 1 :]
+
+
 def records_that_are_not_the_owners():
-    """A tag, a token and a file's byte that somebody else wrote: the record's place is named."""
+    """A tag, a token and a file's byte that somebody else wrote: the record's place is named. A block past the
+    end of Blobs is named by its place there, and what stands behind a file's last byte is nobody's."""
     good = store_folder()
     expect(run(good, b"enrol a\nenrol b\ncreate f a 1\nx\ngrant b f\n"), 0, b"ok 1\nok 2\nok 3\nok 4\nend epoch 4\n")
-    book = (good / "store.book").read_bytes()
-    creation, grant = 94, 173
-    assert book[creation] == book[grant] == 1
-    for place, gate in [(136, creation), (167, creation), (172, creation), (188, grant), (219, grant)]:
-        (good / "store.book").write_bytes(book[:place] + bytes([book[place] ^ 1]) + book[place + 1 :])
-        before = files_of(good)
-        expect(run(good, b"enrol c\n"), 8, b"error damaged book %d\n" % gate)
-        assert files_of(good) == before
+    book, blobs = ((good / name).read_bytes() for name in ("store.book", "store.blobs"))
+    creation, grant = 94, 176
+    assert book[creation] == book[grant] == 1 and len(blobs) == 4096 and blobs[1:] == bytes(4095)
+    for place, gate in [(136, creation), (167, creation), (191, grant), (222, grant)]:
+        (good / "store.book").write_bytes(flipped(book, place))
+        is_refused_and_kept(good, b"error damaged book %d\n" % gate)
+    (good / "store.book").write_bytes(flipped(book, 175))
+    is_refused_and_kept(good, b"error damaged blobs 4096\n")
     (good / "store.book").write_bytes(book)
+    (good / "store.blobs").write_bytes(flipped(blobs, 0))
+    is_refused_and_kept(good, b"error damaged book %d\n" % creation)
+    (good / "store.blobs").write_bytes(blobs[:-1])
+    is_refused_and_kept(good, b"error damaged blobs 0\n")
+    (good / "store.blobs").write_bytes(flipped(blobs, 1))
     expect(run(good), 0, b"end epoch 4\n")
 
 
@@ -397,30 +415,34 @@ def two_at_once():
 
 
 def a_grant_that_is_stopped():
-    """301 bare files of one node, and a grant that coats 300 of them: whatever a stop leaves of its
-    record opens with all of it or with nothing."""
+    """301 bare files of one node, and a grant that coats 300 of them: whatever a stop leaves of their new
+    blocks, or of the record behind them, opens with all of it or with nothing."""
     folder = store_folder()
     script = b"enrol a\nenrol b\nenrol c\n" + b"".join(b"create f%d a,b 1\nx\n" % n for n in range(301))
     assert run(folder, script)[0] == 0
-    before = (folder / "store.book").read_bytes()
+    before, old = ((folder / name).read_bytes() for name in ("store.book", "store.blobs"))
     expect(run(folder, b"grant c f0\n"), 0, b"ok 305\nend epoch 305\n")
-    after = (folder / "store.book").read_bytes()
+    after, new = ((folder / name).read_bytes() for name in ("store.book", "store.blobs"))
     gate = len(before) - 1
     assert before[gate] == 0 and after[gate] == 1 and after[:gate] == before[:gate]
-    left = [(before, 304), (after, 305)]
-    tail = after[gate + 1 :]
+    assert len(old) == 301 * 4096 and len(new) == 601 * 4096 and new[: len(old)] == old
+    left = [(before, old, 304), (before, new, 304), (after, new, 305)]
+    blocks, tail = new[len(old) :], after[gate + 1 :]
     for fill in (b"\0", b"\1", b"\xff"):
-        for count in range(len(tail) + 1):
-            left.append((before + tail[:count] + fill * (len(tail) - count), 304))
-            left.append((before + tail[:count], 304))
-    left.append((before + tail, 304))
+        for count in range(0, len(blocks), 50_001):
+            left.append((before, old + blocks[:count] + fill * (len(blocks) - count), 304))
+            left.append((before, old + blocks[:count], 304))
+        for count in [*range(0, len(tail), 37), len(tail)]:
+            left.append((before + tail[:count] + fill * (len(tail) - count), new, 304))
+            left.append((before + tail[:count], new, 304))
     questions = b"list f0\nread c f0\nread c f300\nread a f300\n"
-    for book, epoch in left:
+    for book, blobs, epoch in left:
         (folder / "store.book").write_bytes(book)
+        (folder / "store.blobs").write_bytes(blobs)
         first = b"list f0 a,b,c\ndata c f0 1\nx\n" if epoch == 305 else b"list f0 a,b\nrefused 4 NoPath\n"
         rest = b"refused 4 NoPath\ndata a f300 1\nx\nend epoch %d\n" % epoch
         expect(run(folder, questions), 0, first + rest)
-        assert (folder / "store.book").read_bytes() == book
+        assert (folder / "store.book").read_bytes() == book and (folder / "store.blobs").read_bytes() == blobs
 
 
 def killed_at_random():
