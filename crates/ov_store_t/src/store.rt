@@ -6,6 +6,7 @@ ghost use Rattle.ov_state.specs.Plans.{IsFitting};
 
 mod callers;
 mod damage;
+mod stored;
 
 use ov_base::{Key, Mode, Name, Octets, UserSet};
 use ov_disk::{Disk, FileDisk, MemDisk, Tear};
