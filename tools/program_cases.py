@@ -1,7 +1,8 @@
 """Runs the program where `run` can't be run in a proof: every exit status over real files, what standard
 error says of some, standard streams that are closed at the start, a reader that is gone, replies that
 are counted on a terminal, files that are folders, two programs at once, a stop after each write of a
-grant, 300 kills, and two loads of one number, which print the same.
+grant, 300 kills, 1,000 more while files are written to other blocks, and two loads of one number, which print
+the same.
 
 Run, after `rt run` has built the program: python3 tools/program_cases.py crates/overstore/out/overstore
 """
@@ -19,7 +20,7 @@ import time
 from common import KEYS, new_folder
 
 PROGRAM = str(pathlib.Path(sys.argv[1]).resolve())
-KILLS = 300
+KILLS, KILLS_IN_MOVES = 300, 1000
 
 
 def store_folder(keys=True):
@@ -476,6 +477,66 @@ def killed_at_random():
     return epoch
 
 
+def moving_body(number):
+    return bytes([65 + number]) * (1, 4096, 5000, 70_000)[number % 4]
+
+
+def moving_commands():
+    """Commands that are an update each, in rounds: a user, twelve files for that user and `a`, another user, and
+    a grant of the first file to them, which coats the other eleven."""
+    commands = [b"enrol a\n"]
+    for turn in range(60):
+        commands.append(b"enrol c%d\n" % turn)
+        for number in range(12):
+            body = moving_body(number)
+            commands.append(b"create f%d-%d a,c%d %d\n%s\n" % (turn, number, turn, len(body), body))
+        commands += [b"enrol d%d\n" % turn, b"grant d%d f%d-0\n" % (turn, turn)]
+    return commands
+
+
+def reads_of(commands):
+    """A script that reads each file of these commands, and its replies but for the last."""
+    script, replies = [], []
+    for command in commands:
+        words = command.split(b"\n", 1)[0].split()
+        if words[0] == b"create":
+            script.append(b"read a %s\n" % words[1])
+            body = moving_body(int(words[1].split(b"-")[1]))
+            replies += [b"data a %s %d\n" % (words[1], len(body)), body, b"\n"]
+    return b"".join(script), b"".join(replies)
+
+
+def killed_in(folder, script, seconds):
+    """How many updates a run over this script answered before it was killed."""
+    (folder / "script").write_bytes(script)
+    with open(folder / "script", "rb") as source:
+        program = subprocess.Popen([PROGRAM, "run", "delta"], cwd=folder, stdin=source, stdout=subprocess.PIPE)
+    time.sleep(seconds)
+    program.kill()
+    lines = program.stdout.read()
+    program.wait()
+    return lines.count(b"ok ")
+
+
+def killed_while_files_move():
+    """Updates that write many files are made or not, and every file is read after each kill."""
+    chance = random.Random(11)
+    commands = moving_commands()
+    folder, epoch = store_folder(), 0
+    for _ in range(KILLS_IN_MOVES):
+        seen = killed_in(folder, b"".join(commands[epoch:]), chance.random() * 0.05)
+        status, lines = run(folder)
+        assert status == 0, lines
+        now = int(lines.split()[-1])
+        assert epoch + seen <= now <= epoch + seen + 1, (epoch, seen, now)
+        script, replies = reads_of(commands[:now])
+        expect(run(folder, script), 0, replies + b"end epoch %d\n" % now)
+        epoch = now
+        if epoch == len(commands):
+            shutil.rmtree(folder)
+            folder, epoch = store_folder(), 0
+
+
 cases = [
     good_and_bad_scripts,
     words_that_are_not_known,
@@ -497,6 +558,7 @@ cases = [
     two_at_once,
     a_grant_that_is_stopped,
     killed_at_random,
+    killed_while_files_move,
 ]
 for case in cases:
     case()
