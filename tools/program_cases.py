@@ -296,15 +296,23 @@ def replies_that_are_counted():
 
 
 def memory_that_is_refused():
-    """Under a limit of addresses the largest file ends in 7, and the store is as it was."""
-    folder = store_folder()
-    limit = lambda: resource.setrlimit(resource.RLIMIT_AS, (8 << 20, 8 << 20))
+    """Under a limit of addresses that is enough for a user and not for the largest file, a run ends in 7, and the
+    store is as it was."""
     script = b"enrol a\n" + b"".join(b"create f%d a 1048576\n%s\n" % (n, b"x" * 1_048_576) for n in range(8))
-    status, lines = run(folder, script, preexec_fn=limit)
-    assert status == 7 and lines.endswith(b"error memory\n"), (status, lines[-40:])
-    accepted = lines.count(b"ok ")
-    assert 1 <= accepted < 9
-    expect(run(folder), 0, b"end epoch %d\n" % accepted)
+    refused = 0
+    for size in range(4 << 20, 64 << 20, 1 << 19):
+        folder = store_folder()
+        limit = lambda: resource.setrlimit(resource.RLIMIT_AS, (size, size))
+        done = subprocess.run(
+            [PROGRAM, "run", "delta"], cwd=folder, input=script, capture_output=True, preexec_fn=limit
+        )
+        if done.returncode == 0:
+            break
+        if done.returncode == 7 and done.stdout.startswith(b"ok 1\n"):
+            assert done.stdout.endswith(b"error memory\n"), done.stdout[-40:]
+            expect(run(folder), 0, b"end epoch %d\n" % done.stdout.count(b"ok "))
+            refused += 1
+    assert done.returncode == 0 and refused > 0, (done.returncode, refused)
 
 
 def stores_that_do_not_open():
