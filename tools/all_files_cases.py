@@ -16,7 +16,7 @@ else:
     TOOLS = pathlib.Path(__file__).resolve().parent
     CALLS = {name: [sys.executable, TOOLS / f"{name}_all.py"] for name in ("list", "revoke", "grant")}
 
-HEADER = b"\x01OVERENC0" + bytes(1 + 4 + 32 + 32)
+HEADER = b"\x01OVERENC1" + bytes(1 + 4 + 32 + 32)
 REPLIES = b"list plan alice,bob\nlist budget alice\nlist old -\nend epoch 6\n"
 
 
@@ -28,8 +28,8 @@ def record(kind, name, rest=b""):
 BOOK = (
     HEADER
     + b"".join(record(1, name) for name in (b"alice", b"bob", b"carol"))
-    + b"".join(record(2, name, bytes(70)) for name in (b"plan", b"budget", b"old"))
-    + b"\x01\0\0\0\x09\x03" + bytes(8)
+    + b"".join(record(2, name, bytes(69) + b"\x05" + bytes([0, 0, 0, block])) for block, name in enumerate((b"plan", b"budget", b"old")))
+    + b"\x01\0\0\0\x0e\x03" + bytes(12) + b"\x03"
     + b"\0"
 )  # fmt: skip
 

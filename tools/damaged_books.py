@@ -1,9 +1,10 @@
 #!/usr/bin/env python3
-"""Prints the rows of crates/ov_store_t/src/store/damage.rt: where a book that was changed is damaged.
+"""Prints the rows of crates/ov_store_t/src/store/damage.rt: where a disk whose book was changed is damaged.
 
 It reads books by docs/FORMATS.md, and shares nothing with the crates. The book is that of a small
-store: two users, a file for both, a third user, a grant and a revocation, with tokens and a tag of
-zeros. Run it from the top of the repository:
+store in Delta: two users, a file for both, a third user, a grant and a revocation, with tokens and a
+tag of zeros. The creation puts the file in block 0, and the revocation, which coats it, in block 1; no
+place of damage depends on the bytes there. Run it from the top of the repository:
 
     python3 tools/damaged_books.py
 """
@@ -14,33 +15,46 @@ import struct
 
 ZEROS = bytes(32)
 MAX_RECORD, MAX_FILE, MAX_TOKENS = 1_114_112, 1_048_576, 256
+BLOCK = 4096
+
+# how long the book and Blobs of the small store are
+ALL, ALL_BLOBS = 324, 8192
 NAME_BYTES = b"abcdefghijklmnopqrstuvwxyz0123456789._-"
 
 # a place, the byte that is put there, and the length to which the book is then cut
 CHANGES = [
-    (0, 1, 321), (9, 2, 321), (78, 0, 321), (90, 2, 321), (320, 1, 321),
-    (79, 1, 321), (80, 17, 321), (82, 0, 321), (249, 1, 321),
-    (0, 1, 320), (0, 1, 310), (0, 1, 306), (0, 1, 91), (0, 1, 90),
-    (83, 0, 321), (83, 5, 321), (83, 4, 321), (84, 0, 321), (84, 65, 321), (84, 4, 321),
-    (84, 6, 321), (85, 45, 321), (86, 33, 321), (82, 8, 321), (82, 6, 321),
-    (140, 1, 321), (141, 1, 321), (238, 1, 321), (241, 4, 321), (241, 6, 321),
-    (273, 2, 321), (273, 0, 321),
-    (268, 3, 321), (272, 1, 321), (268, 0, 321), (315, 3, 321),
-    (108, 0, 321), (108, 1, 321),
-    (86, 33, 200), (268, 3, 310), (315, 3, 320),
+    (0, 1, ALL), (9, 2, ALL), (78, 0, ALL), (90, 2, ALL), (323, 1, ALL),
+    (79, 1, ALL), (80, 17, ALL), (82, 0, ALL), (248, 1, ALL),
+    (0, 1, 323), (0, 1, 309), (0, 1, 305), (0, 1, 91), (0, 1, 90),
+    (83, 0, ALL), (83, 5, ALL), (83, 4, ALL), (84, 0, ALL), (84, 65, ALL), (84, 4, ALL),
+    (84, 6, ALL), (85, 45, ALL), (86, 33, ALL), (82, 8, ALL), (82, 6, ALL),
+    (140, 1, ALL), (141, 1, ALL), (238, 1, ALL), (241, 4, ALL),
+    (241, 0, ALL), (104, 142, ALL), (104, 140, ALL), (104, 137, ALL), (104, 136, ALL), (309, 12, ALL), (309, 9, ALL),
+    (272, 2, ALL), (272, 0, ALL),
+    (267, 3, ALL), (271, 1, ALL), (267, 0, ALL), (314, 3, ALL),
+    (108, 0, ALL), (108, 1, ALL),
+    (86, 33, 200), (267, 3, 309), (314, 3, 323),
+]
+
+# a place in the book, the byte that is put there, and the length to which Blobs is then cut
+BLOBS_CHANGES = [
+    (0, 1, ALL_BLOBS), (0, 1, 8191), (0, 1, 4096), (0, 1, 4095), (0, 1, 0),
+    (245, 1, ALL_BLOBS), (322, 0, ALL_BLOBS), (240, 16, ALL_BLOBS),
+    (245, 2, ALL_BLOBS), (242, 128, ALL_BLOBS), (322, 2, ALL_BLOBS), (239, 1, ALL_BLOBS),
+    (322, 0, 4095), (245, 2, 4096),
 ]
 
 
 class Damaged(Exception):
-    """With the place, counted from the body's first byte, or from the book's."""
+    """With the area and the place in it. In a body the place counts from its first byte."""
 
 
 def small_book():
     check = hmac.new(bytes([7]) * 32, b"C" + bytes(4), hashlib.sha256).digest()
     create = b"\2\1f" + b"\3" + bytes(31) + struct.pack(">H", 2) + 2 * ZEROS + ZEROS
-    bodies = [b"\1\5alice", b"\1\3bob", create + struct.pack(">I", 5) + b"hello", b"\1\5carol",
-              b"\3" + struct.pack(">II", 2, 0) + b"\1" + ZEROS, b"\4" + struct.pack(">II", 2, 0)]
-    head = b"\1OVERENC0\1" + bytes(4) + b"\x11" * 32 + check
+    bodies = [b"\1\5alice", b"\1\3bob", create + struct.pack(">II", 5, 0), b"\1\5carol",
+              b"\3" + struct.pack(">II", 2, 0) + b"\1" + ZEROS, b"\4" + struct.pack(">III", 2, 0, 1)]
+    head = b"\1OVERENC1\1" + bytes(4) + b"\x11" * 32 + check
     return head + b"".join(b"\1" + struct.pack(">I", len(b)) + b for b in bodies) + b"\0"
 
 
@@ -52,7 +66,7 @@ class Fields:
 
     def take(self, count):
         if self.at + count > len(self.body):
-            raise Damaged(len(self.body))
+            raise Damaged("book", len(self.body))
         self.at += count
         return self.body[self.at - count:self.at]
 
@@ -60,50 +74,46 @@ class Fields:
         start = self.at
         value = int.from_bytes(self.take(count), "big")
         if value > most:
-            raise Damaged(start)
+            raise Damaged("book", start)
         return value
 
     def name(self):
         start = self.at
         count = self.take(1)[0]
         if not 1 <= count <= 64:
-            raise Damaged(start)
+            raise Damaged("book", start)
         for i in range(count):
             byte = self.take(1)
             if byte not in NAME_BYTES or i == 0 and byte in b"._-":
-                raise Damaged(self.at - 1)
+                raise Damaged("book", self.at - 1)
         return self.body[start + 1:self.at]
 
 
-def update_in(body):
-    """The update that a body spells: its kind, and what a store without keys looks at."""
-    fields = Fields(body)
+def update_in(fields):
+    """The update at the front of a body: its kind, and what a store without keys looks at."""
     kind = fields.take(1)[0]
     if kind == 1:
-        update = ("enrol", fields.name())
-    elif kind == 2:
+        return ("enrol", fields.name())
+    if kind == 2:
         name, users = fields.name(), int.from_bytes(fields.take(32), "little")
         tokens = fields.number(2, MAX_TOKENS)
         fields.take(32 * tokens + 32)
-        fields.take(fields.number(4, MAX_FILE))
-        update = ("create", name, users, tokens)
-    elif kind in (3, 4):
-        user, file = fields.number(4, 2**32 - 1), fields.number(4, 2**32 - 1)
-        token = fields.number(1, 1) if kind == 3 else None
-        fields.take(32 if token else 0)
-        update = ("grant" if kind == 3 else "revoke", user, file, token)
-    else:
-        raise Damaged(0)
-    if fields.at < len(body):
-        raise Damaged(fields.at)
-    return update
+        return ("create", name, users, tokens, fields.number(4, MAX_FILE))
+    if kind not in (3, 4):
+        raise Damaged("book", 0)
+    user, file = fields.number(4, 2**32 - 1), fields.number(4, 2**32 - 1)
+    token = fields.number(1, 1) if kind == 3 else None
+    fields.take(32 if token else 0)
+    return ("grant" if kind == 3 else "revoke", user, file, token)
 
 
 class Machine:
-    """Users, files with their lists, and the base layer: its sets, and who has access tokens."""
+    """Users, files with their lists, lengths and coats, the base layer (its sets, and who has access tokens),
+    and the extent of each file that has bytes, as its first block and how many it has."""
 
     def __init__(self):
         self.users, self.files, self.lists, self.nodes = [], [], [], []
+        self.lengths, self.coats, self.extents = [], [], {}
         self.sets, self.access = [], set()
 
     def cover(self, users):
@@ -113,6 +123,9 @@ class Machine:
             if node & ~users == 0 and node & rest:
                 rest, count = rest & ~node, count + 1
         return count
+
+    def holders(self, node):
+        return self.sets[node] | sum(1 << user for user, there in self.access if there == node)
 
     def takes(self, update):
         """Makes the update, unless it's refused or has other parts than the layers want."""
@@ -124,7 +137,7 @@ class Machine:
             self.users.append(update[1])
             return True
         if kind == "create":
-            _, name, users, tokens = update
+            _, name, users, tokens, length = update
             wanted = 0 if users in self.sets else self.cover(users)
             if name in self.files or not users or users >> len(self.users) or tokens != wanted:
                 return False
@@ -132,6 +145,7 @@ class Machine:
                 self.sets.append(users)
             self.files.append(name)
             self.lists.append(users)
+            self.lengths.append(length)
             self.nodes.append(self.sets.index(users))
             return True
         _, user, file, token = update
@@ -139,7 +153,7 @@ class Machine:
             return False
         listed, node = self.lists[file] >> user & 1, self.nodes[file]
         if kind == "grant":
-            holds = self.sets[node] >> user & 1 or (user, node) in self.access
+            holds = self.holders(node) >> user & 1
             if listed or bool(token) == bool(holds):
                 return False
             self.access.add((user, node))
@@ -148,38 +162,74 @@ class Machine:
         self.lists[file] ^= 1 << user
         return True
 
+    def coated(self):
+        """The files whose stored bytes are new since this was asked last: each new one, and each whose coat is
+        another. In Delta a file is bare where just those on its list hold the key of its base node."""
+        coats = [None if users == self.holders(node) else users for users, node in zip(self.lists, self.nodes)]
+        new = [file for file, coat in enumerate(coats) if [coat] != self.coats[file:file + 1]]
+        self.coats = coats
+        return new
 
-def read(book):
-    """Damaged, with the place, unless a store is begun on the book."""
+    def lay(self, places, blobs):
+        """Gives these files these first blocks. What they had is given up only behind all of them."""
+        held = list(self.extents.values())
+        for file, first in places:
+            count = -(-self.lengths[file] // BLOCK)
+            if (first + count) * BLOCK > blobs or any(first < end and there < first + count for there, end in held):
+                raise Damaged("blobs", first * BLOCK)
+            held.append((first, first + count))
+            self.extents[file] = held[-1]
+
+
+def read(book, blobs):
+    """Damaged, with area and place, unless a store is begun on the book and a Blobs of this length."""
     if book[9] > 1:
-        raise Damaged(9)
+        raise Damaged("book", 9)
     machine, gate = Machine(), 78
     while book[gate] == 1:
         length = int.from_bytes(book[gate + 1:gate + 5], "big")
         body = book[gate + 5:gate + 5 + length]
         if len(book) < gate + 5 or not 1 <= length <= MAX_RECORD or len(book) < gate + 6 + length:
-            raise Damaged(gate + 1)
-        try:
-            update = update_in(body)
-        except Damaged as wrong:
-            raise Damaged(gate + 5 + wrong.args[0]) from None
-        if not machine.takes(update):
-            raise Damaged(gate)
+            raise Damaged("book", gate + 1)
+        machine.lay(read_body(machine, gate, body), blobs)
         gate += 5 + length
 
 
-def damaged_at(place, byte, length):
+def read_body(machine, gate, body):
+    """Makes the update of a body. The first block of each file that the update fills is the result."""
+    fields = Fields(body)
+    try:
+        update = update_in(fields)
+        if not machine.takes(update):
+            raise Damaged("book", -5)
+        places = [(file, fields.number(4, 2**32 - 1)) for file in machine.coated() if machine.lengths[file] > 0]
+        if fields.at < len(body):
+            raise Damaged("book", fields.at)
+    except Damaged as wrong:
+        raise Damaged("book", gate + 5 + wrong.args[1]) from None
+    return places
+
+
+def damaged_at(place, byte, length, blobs):
     book = bytearray(small_book())
     book[place] = byte
     try:
-        read(bytes(book[:length]))
+        read(bytes(book[:length]), blobs)
     except Damaged as wrong:
-        return wrong.args[0]
+        return wrong.args
     return None
 
 
+def print_row(place, byte, cut, whole, area, found):
+    assert found is None or found[0] == area, (place, byte, cut, found)
+    cut = whole if cut == {"ALL": ALL, "ALL_BLOBS": ALL_BLOBS}[whole] else cut
+    print(f"({place}, {byte}, {cut}, {'None' if found is None else f'Some({found[1]})'}),")
+
+
 if __name__ == "__main__":
+    assert len(small_book()) == ALL
     for place, byte, length in CHANGES:
-        found = damaged_at(place, byte, length)
-        cut = "ALL" if length == 321 else length
-        print(f"({place}, {byte}, {cut}, {'None' if found is None else f'Some({found})'}),")
+        print_row(place, byte, length, "ALL", "book", damaged_at(place, byte, length, ALL_BLOBS))
+    print("// Blobs")
+    for place, byte, blobs in BLOBS_CHANGES:
+        print_row(place, byte, blobs, "ALL_BLOBS", "blobs", damaged_at(place, byte, ALL, blobs))

@@ -1,4 +1,5 @@
-"""Tries stores that are full, in both modes: of bytes, of files and of nodes. One more is refused.
+"""Tries stores that are full, in both modes: of bytes, of files and of nodes. One more is refused, and
+store.blobs has just the blocks of the files.
 
 Run, after `rt run` has built the program: python3 tools/full_store.py crates/overstore/out/overstore
 """
@@ -28,7 +29,7 @@ def full_of_bytes():
             script.append(b"read a f%d\n" % number)
             replies += [b"data a f%d %d\n" % (number, MIB), body, b"\n"] if readers == b"a" else [b"refused 4 NoPath\n"]
         replies.append(b"end epoch 66\n")
-        yield script, replies
+        yield script, replies, 64 * MIB
 
 
 def full_of_files():
@@ -37,7 +38,7 @@ def full_of_files():
     replies = [b"ok %d\n" % (number + 1) for number in range(16_385)]
     script += [b"create one-more a 0\n\n", b"list f16383\n"]
     replies += [b"refused 8 FilesFull\n", b"list f16383 a\n", b"end epoch 16385\n"]
-    yield script, replies
+    yield script, replies, 0
 
 
 def full_of_nodes():
@@ -50,16 +51,19 @@ def full_of_nodes():
     replies = [b"ok %d\n" % (number + 1) for number in range(4_096)]
     script += [b"enrol z\n", b"create again u0,u1 0\n\n"]
     replies += [b"refused 10 NodesFull\n", b"ok 4097\n", b"end epoch 4097\n"]
-    yield script, replies
+    yield script, replies, 0
 
 
 stores = {"bytes": full_of_bytes, "files": full_of_files, "nodes": full_of_nodes}
 for name, cases in stores.items():
-    for script, replies in cases():
+    for script, replies, blobs in cases():
         for mode in ("full", "delta"):
             with tempfile.TemporaryDirectory() as folder:
                 (pathlib.Path(folder) / "keys.hex").write_bytes(keys.read_bytes())
                 ran = subprocess.run([program, "run", mode], cwd=folder, input=b"".join(script), capture_output=True)
+                length = (pathlib.Path(folder) / "store.blobs").stat().st_size
             if ran.returncode != 0 or ran.stdout != b"".join(replies):
                 sys.exit(f"full of {name}, {mode}: status {ran.returncode}, wrong replies; {ran.stderr.decode()}")
+            if length != blobs:
+                sys.exit(f"full of {name}, {mode}: store.blobs has {length} bytes and not {blobs}")
     print(f"full of {name}: all replies are right, and one more is refused")

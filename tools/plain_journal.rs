@@ -19,7 +19,7 @@ impl Journal {
     fn begin(path: &str) -> io::Result<Journal> {
         let book = OpenOptions::new().read(true).write(true).create(true).truncate(true).open(path)?;
         let mut header = vec![0u8; 79];
-        header[1..9].copy_from_slice(b"OVERENC0");
+        header[1..9].copy_from_slice(b"OVERENC1");
         book.write_all_at(&header, 0)?;
         book.sync_data()?;
         book.write_all_at(&[1], 0)?;

@@ -1,7 +1,8 @@
 """Runs the program where `run` can't be run in a proof: every exit status over real files, what standard
 error says of some, standard streams that are closed at the start, a reader that is gone, replies that
 are counted on a terminal, files that are folders, two programs at once, a stop after each write of a
-grant, 300 kills, and two loads of one number, which print the same.
+grant, 300 kills, 1,000 more while files are written to other blocks, and two loads of one number, which print
+the same.
 
 Run, after `rt run` has built the program: python3 tools/program_cases.py crates/overstore/out/overstore
 """
@@ -19,7 +20,7 @@ import time
 from common import KEYS, new_folder
 
 PROGRAM = str(pathlib.Path(sys.argv[1]).resolve())
-KILLS = 300
+KILLS, KILLS_IN_MOVES = 300, 1000
 
 
 def store_folder(keys=True):
@@ -295,24 +296,34 @@ def replies_that_are_counted():
 
 
 def memory_that_is_refused():
-    """Under a limit of addresses the largest file ends in 7, and the store is as it was."""
-    folder = store_folder()
-    limit = lambda: resource.setrlimit(resource.RLIMIT_AS, (8 << 20, 8 << 20))
+    """Under a limit of addresses that is enough for a user and not for the largest file, a run ends in 7, and the
+    store is as it was."""
     script = b"enrol a\n" + b"".join(b"create f%d a 1048576\n%s\n" % (n, b"x" * 1_048_576) for n in range(8))
-    status, lines = run(folder, script, preexec_fn=limit)
-    assert status == 7 and lines.endswith(b"error memory\n"), (status, lines[-40:])
-    accepted = lines.count(b"ok ")
-    assert 1 <= accepted < 9
-    expect(run(folder), 0, b"end epoch %d\n" % accepted)
+    refused = 0
+    for size in range(4 << 20, 64 << 20, 1 << 19):
+        folder = store_folder()
+        limit = lambda: resource.setrlimit(resource.RLIMIT_AS, (size, size))
+        done = subprocess.run(
+            [PROGRAM, "run", "delta"], cwd=folder, input=script, capture_output=True, preexec_fn=limit
+        )
+        if done.returncode == 0:
+            break
+        if done.returncode == 7 and done.stdout.startswith(b"ok 1\n"):
+            assert done.stdout.endswith(b"error memory\n"), done.stdout[-40:]
+            expect(run(folder), 0, b"end epoch %d\n" % done.stdout.count(b"ok "))
+            refused += 1
+    assert done.returncode == 0 and refused > 0, (done.returncode, refused)
 
 
 def stores_that_do_not_open():
     good = store_folder()
     run(good, b"enrol alice\n")
     book = bytearray((good / "store.book").read_bytes())
+    older = bytes(book).replace(b"OVERENC1", b"OVERENC0")
     book[84] = 0
     for content, mode, lines, status in [
         (b"x" * 200, "delta", b"error notastore\n", 8),
+        (older, "delta", b"error notastore\n", 8),
         (bytes(book), "delta", b"error damaged book 84\n", 8),
         ((good / "store.book").read_bytes(), "full", b"error mode delta full\n", 9),
     ]:
@@ -334,19 +345,35 @@ def stores_that_do_not_open():
         assert files_of(folder) == before
 
 
+def is_refused_and_kept(folder, line):
+    before = files_of(folder)
+    expect(run(folder, b"enrol c\n"), 8, line)
+    assert files_of(folder) == before
+
+
+def flipped(data, place):
+    return data[:place] + bytes([data[place] ^ 1]) + data[place + 1 :]
+
+
 def records_that_are_not_the_owners():
-    """A tag, a token and a file's byte that somebody else wrote: the record's place is named."""
+    """A tag, a token and a file's byte that somebody else wrote: the record's place is named. A block past the
+    end of Blobs is named by its place there, and what stands behind a file's last byte is nobody's."""
     good = store_folder()
     expect(run(good, b"enrol a\nenrol b\ncreate f a 1\nx\ngrant b f\n"), 0, b"ok 1\nok 2\nok 3\nok 4\nend epoch 4\n")
-    book = (good / "store.book").read_bytes()
-    creation, grant = 94, 173
-    assert book[creation] == book[grant] == 1
-    for place, gate in [(136, creation), (167, creation), (172, creation), (188, grant), (219, grant)]:
-        (good / "store.book").write_bytes(book[:place] + bytes([book[place] ^ 1]) + book[place + 1 :])
-        before = files_of(good)
-        expect(run(good, b"enrol c\n"), 8, b"error damaged book %d\n" % gate)
-        assert files_of(good) == before
+    book, blobs = ((good / name).read_bytes() for name in ("store.book", "store.blobs"))
+    creation, grant = 94, 176
+    assert book[creation] == book[grant] == 1 and len(blobs) == 4096 and blobs[1:] == bytes(4095)
+    for place, gate in [(136, creation), (167, creation), (191, grant), (222, grant)]:
+        (good / "store.book").write_bytes(flipped(book, place))
+        is_refused_and_kept(good, b"error damaged book %d\n" % gate)
+    (good / "store.book").write_bytes(flipped(book, 175))
+    is_refused_and_kept(good, b"error damaged blobs 4096\n")
     (good / "store.book").write_bytes(book)
+    (good / "store.blobs").write_bytes(flipped(blobs, 0))
+    is_refused_and_kept(good, b"error damaged book %d\n" % creation)
+    (good / "store.blobs").write_bytes(blobs[:-1])
+    is_refused_and_kept(good, b"error damaged blobs 0\n")
+    (good / "store.blobs").write_bytes(flipped(blobs, 1))
     expect(run(good), 0, b"end epoch 4\n")
 
 
@@ -397,30 +424,34 @@ def two_at_once():
 
 
 def a_grant_that_is_stopped():
-    """301 bare files of one node, and a grant that coats 300 of them: whatever a stop leaves of its
-    record opens with all of it or with nothing."""
+    """301 bare files of one node, and a grant that coats 300 of them: whatever a stop leaves of their new
+    blocks, or of the record behind them, opens with all of it or with nothing."""
     folder = store_folder()
     script = b"enrol a\nenrol b\nenrol c\n" + b"".join(b"create f%d a,b 1\nx\n" % n for n in range(301))
     assert run(folder, script)[0] == 0
-    before = (folder / "store.book").read_bytes()
+    before, old = ((folder / name).read_bytes() for name in ("store.book", "store.blobs"))
     expect(run(folder, b"grant c f0\n"), 0, b"ok 305\nend epoch 305\n")
-    after = (folder / "store.book").read_bytes()
+    after, new = ((folder / name).read_bytes() for name in ("store.book", "store.blobs"))
     gate = len(before) - 1
     assert before[gate] == 0 and after[gate] == 1 and after[:gate] == before[:gate]
-    left = [(before, 304), (after, 305)]
-    tail = after[gate + 1 :]
+    assert len(old) == 301 * 4096 and len(new) == 601 * 4096 and new[: len(old)] == old
+    left = [(before, old, 304), (before, new, 304), (after, new, 305)]
+    blocks, tail = new[len(old) :], after[gate + 1 :]
     for fill in (b"\0", b"\1", b"\xff"):
-        for count in range(len(tail) + 1):
-            left.append((before + tail[:count] + fill * (len(tail) - count), 304))
-            left.append((before + tail[:count], 304))
-    left.append((before + tail, 304))
+        for count in range(0, len(blocks), 50_001):
+            left.append((before, old + blocks[:count] + fill * (len(blocks) - count), 304))
+            left.append((before, old + blocks[:count], 304))
+        for count in [*range(0, len(tail), 37), len(tail)]:
+            left.append((before + tail[:count] + fill * (len(tail) - count), new, 304))
+            left.append((before + tail[:count], new, 304))
     questions = b"list f0\nread c f0\nread c f300\nread a f300\n"
-    for book, epoch in left:
+    for book, blobs, epoch in left:
         (folder / "store.book").write_bytes(book)
+        (folder / "store.blobs").write_bytes(blobs)
         first = b"list f0 a,b,c\ndata c f0 1\nx\n" if epoch == 305 else b"list f0 a,b\nrefused 4 NoPath\n"
         rest = b"refused 4 NoPath\ndata a f300 1\nx\nend epoch %d\n" % epoch
         expect(run(folder, questions), 0, first + rest)
-        assert (folder / "store.book").read_bytes() == book
+        assert (folder / "store.book").read_bytes() == book and (folder / "store.blobs").read_bytes() == blobs
 
 
 def killed_at_random():
@@ -454,6 +485,66 @@ def killed_at_random():
     return epoch
 
 
+def moving_body(number):
+    return bytes([65 + number]) * (1, 4096, 5000, 70_000)[number % 4]
+
+
+def moving_commands():
+    """Commands that are an update each, in rounds: a user, twelve files for that user and `a`, another user, and
+    a grant of the first file to them, which coats the other eleven."""
+    commands = [b"enrol a\n"]
+    for turn in range(60):
+        commands.append(b"enrol c%d\n" % turn)
+        for number in range(12):
+            body = moving_body(number)
+            commands.append(b"create f%d-%d a,c%d %d\n%s\n" % (turn, number, turn, len(body), body))
+        commands += [b"enrol d%d\n" % turn, b"grant d%d f%d-0\n" % (turn, turn)]
+    return commands
+
+
+def reads_of(commands):
+    """A script that reads each file of these commands, and its replies but for the last."""
+    script, replies = [], []
+    for command in commands:
+        words = command.split(b"\n", 1)[0].split()
+        if words[0] == b"create":
+            script.append(b"read a %s\n" % words[1])
+            body = moving_body(int(words[1].split(b"-")[1]))
+            replies += [b"data a %s %d\n" % (words[1], len(body)), body, b"\n"]
+    return b"".join(script), b"".join(replies)
+
+
+def killed_in(folder, script, seconds):
+    """How many updates a run over this script answered before it was killed."""
+    (folder / "script").write_bytes(script)
+    with open(folder / "script", "rb") as source:
+        program = subprocess.Popen([PROGRAM, "run", "delta"], cwd=folder, stdin=source, stdout=subprocess.PIPE)
+    time.sleep(seconds)
+    program.kill()
+    lines = program.stdout.read()
+    program.wait()
+    return lines.count(b"ok ")
+
+
+def killed_while_files_move():
+    """Updates that write many files are made or not, and every file is read after each kill."""
+    chance = random.Random(11)
+    commands = moving_commands()
+    folder, epoch = store_folder(), 0
+    for _ in range(KILLS_IN_MOVES):
+        seen = killed_in(folder, b"".join(commands[epoch:]), chance.random() * 0.05)
+        status, lines = run(folder)
+        assert status == 0, lines
+        now = int(lines.split()[-1])
+        assert epoch + seen <= now <= epoch + seen + 1, (epoch, seen, now)
+        script, replies = reads_of(commands[:now])
+        expect(run(folder, script), 0, replies + b"end epoch %d\n" % now)
+        epoch = now
+        if epoch == len(commands):
+            shutil.rmtree(folder)
+            folder, epoch = store_folder(), 0
+
+
 cases = [
     good_and_bad_scripts,
     words_that_are_not_known,
@@ -475,6 +566,7 @@ cases = [
     two_at_once,
     a_grant_that_is_stopped,
     killed_at_random,
+    killed_while_files_move,
 ]
 for case in cases:
     case()

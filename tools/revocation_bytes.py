@@ -7,7 +7,8 @@ Here a revocation is an update of nine bytes. On a network four frames go with i
 docs/FORMATS.md has them: Ask and Known, by which an owner finds the numbers of the user and the file,
 Update with its tag, and Accepted. A session's Hello and Welcome, 47 bytes, aren't counted, nor are the
 headers of packets on either side. PROGRAM makes such a store and revokes, and store.book has to grow by
-14 bytes a file: the update behind a gate and its length.
+18 bytes a file: the update behind a gate and its length, and the file's new first block. The file itself is
+written again within the server's machine, in store.blobs.
 
 With `age` each file is fetched, encrypted again to the seven who stay, and sent back. A file of n bytes
 for r recipients with X25519 keys has

@@ -3,8 +3,9 @@
 #
 #     backup.sh FOLDER full|delta COPIES
 #
-# The copy is a folder of COPIES named by the time, with store.book and store.blobs. keys.hex isn't in
-# it: keep that apart. Runs that are started as `flock FOLDER overstore run MODE` wait for the copy, and
+# The copy is a folder of COPIES named by the time, with store.book and store.blobs, both of one moment:
+# the book names blocks of the other file that later updates use again. keys.hex isn't in it: keep that
+# apart. Runs that are started as `flock FOLDER overstore run MODE` wait for the copy, and
 # it waits for them. Any other run ends the backup with status 4, or is seen by its epoch.
 set -eu
 umask 077

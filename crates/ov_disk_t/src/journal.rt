@@ -204,8 +204,8 @@ const BOOKS: [(usize, usize, u8, &[u8], u8); 18] = [
     (79, 0, 0, b"", b'u'),
     (79, 0, 2, b"", b'u'),
     (79, 0, 0, b"\0", b'f'),
-    // Another magic, a mode that can't be, and a gate of 2 before a record.
-    (79, 8, b'1', b"\0\0\0\x01a\0", b'f'),
+    // An older magic, a mode that can't be, and a gate of 2 before a record.
+    (79, 8, b'0', b"\0\0\0\x01a\0", b'f'),
     (79, 9, 2, b"\0\0\0\x01a\0", b'm'),
     (79, 78, 2, b"\0\0\0\x01a\0", b'0'),
     // Behind an open gate: a field that is cut short, lengths, and a body that ends Book.

@@ -3,35 +3,45 @@
 use Rattle.std.specs.Prelude.{◌≡◌, ℕ, List, [], ◌∷◌}
 use Rattle.ov_base.specs.declared.mode.Mode.TheVariants.{Full}
 use Rattle.ov_tokens.specs.Keys.{check_value_of}
-use Rattle.ov_record.specs.Spelling.{spelling}
-use Rattle.ov_record.specs.Updates.{SealedUpdate, SealedEnrol, SealedRevoke}
-use Rattle.ov_record.specs.Forms.{first_form}
+use Rattle.ov_record.specs.Updates.{SealedUpdate}
+use Rattle.ov_history.specs.Briefs.{Brief, BriefEnrol, BriefRevoke}
 use Rattle.ov_history.specs.Masters.{Masters}
-use Rattle.ov_history.specs.Sealed.{SealedHistory, IsSealed, blank, with_sealed}
+use Rattle.ov_history.specs.Placed.{PlacedHistory, PlacedUpdate, blank_placed, unplaced}
+use Rattle.ov_history.specs.Sealed.{SealedHistory, with_sealed}
+use Rattle.ov_history.specs.Texts.{IsSealedBriefly, with_brief}
 use Rattle.ov_disk.specs.Disk.{Image}
-use Rattle.ov_images.specs.Damage.{IsUnfit}
-use Rattle.ov_images.specs.Images.{IsImageOf, Keeps, KeepsEither, Keys, bodies_of, header_of, keys, keys_of}
+use Rattle.ov_images.specs.Damage.{BeginsWith, IsUnfit, Spot}
+use Rattle.ov_images.specs.Images.{IsImageOf, Keeps, KeepsEither, Keys, header_of, keys, keys_of}
+use Rattle.ov_images.specs.Records.{bodies_of}
 
--- The bodies of an enrolment and of a revocation after it are the bytes of both. If an update were
--- left out, there would be one body less.
+-- an enrolment, by which no file is written
+abbrev pub enrolment : PlacedUpdate
+enrolment = record { update = BriefEnrol (97 ∷ []); firsts = [] }
+
+-- a revocation, by which a file is written to block 3
+abbrev pub revocation : PlacedUpdate
+revocation = record { update = BriefRevoke 0 0; firsts = 3 ∷ [] }
+
+-- The bodies of an enrolment and of a revocation after it are the bytes of both, with the first block
+-- behind the second. If an update were left out, there would be one body less.
 abbrev pub BookHasUpdates : Type 0
 BookHasUpdates =
-    bodies_of (SealedEnrol (97 ∷ []) ∷ SealedRevoke 0 0 ∷ [])
-    ≡ (1 ∷ 1 ∷ 97 ∷ []) ∷ (4 ∷ 0 ∷ 0 ∷ 0 ∷ 0 ∷ 0 ∷ 0 ∷ 0 ∷ 0 ∷ []) ∷ []
+    bodies_of (enrolment ∷ revocation ∷ [])
+    ≡ (1 ∷ 1 ∷ 97 ∷ []) ∷ (4 ∷ 0 ∷ 0 ∷ 0 ∷ 0 ∷ 0 ∷ 0 ∷ 0 ∷ 0 ∷ 0 ∷ 0 ∷ 0 ∷ 3 ∷ []) ∷ []
 
 -- The header of a store that began at epoch 5 says 5. It would say 0 of each store if it left that
 -- out.
 abbrev pub HeaderHasFirst : Type 0
 HeaderHasFirst =
     (base_check surface : List ℕ)
-    → (header_of (keys base_check surface) (blank Full 5)).first ≡ 5
+    → (header_of (keys base_check surface) (blank_placed Full 5)).first ≡ 5
 
 -- The header has a check value of each master, of which one is given, and the other is that of the
 -- surface master. With the given one twice the surface master would be left out.
 abbrev pub HeaderHasSurfaceCheck : Type 0
 HeaderHasSurfaceCheck =
     (base_check surface : List ℕ)
-    → (header_of (keys base_check surface) (blank Full 0)).surface_check ≡ check_value_of surface
+    → (header_of (keys base_check surface) (blank_placed Full 0)).surface_check ≡ check_value_of surface
 
 -- The holder of both masters opens a store with the check value of the base master, and the surface
 -- master. With that of the surface master no store would open that was begun with the base one's.
@@ -54,11 +64,11 @@ EitherIsThisUpdate =
     (k : Keys) (g : SealedHistory) (u : SealedUpdate) (i : Image) → (Keeps k g i → ⊥)
     → KeepsEither k g u i → Keeps k (with_sealed g u) i
 
--- A record is unfit where it spells an update, and no history is sealed that goes on with that. If
--- it might be the next one, a whole store would be called damaged.
+-- A record is unfit where it begins with an update, and no history is sealed that goes on with that.
+-- If it might be the next one, a whole store would be called damaged.
 abbrev pub UnfitIsNotNext : Type 0
 UnfitIsNotNext =
-    (g : SealedHistory) (body : List ℕ) (gate place : ℕ)
-    → IsUnfit g body gate place
-    → (update : SealedUpdate) × (body ≡ spelling first_form update)
-    × (IsSealed (with_sealed g update) → ⊥)
+    (p : PlacedHistory) (body : List ℕ) (gate : ℕ) (spot : Spot)
+    → IsUnfit p body gate spot
+    → (update : Brief) × BeginsWith update body
+    × (IsSealedBriefly (with_brief (unplaced p) update) → ⊥)

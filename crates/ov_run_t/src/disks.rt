@@ -110,18 +110,19 @@ pub fn changed(alloc: Global, bytes: &[u8], place: usize, byte: u8) -> Result<Ve
     Ok(bytes)
 }
 
-// Asserts that a run in this mode over this Book is refused so, and leaves it.
+// Asserts that a run in this mode over these areas is refused so, and leaves them.
 fn assert_shut(
     rt: &impl Abort,
     alloc: Global,
     mode: &str,
     book: &[u8],
+    blobs: &[u8],
     status: u8,
     line: &[u8],
 ) -> Result<(), Fail> {
     let words = words(alloc, &["run", mode])?;
-    let copy = Octets::copy(alloc, book)?;
-    let mut disk = MemDisk::of(alloc, copy, Octets::new(alloc));
+    let copies = (Octets::copy(alloc, book)?, Octets::copy(alloc, blobs)?);
+    let mut disk = MemDisk::of(alloc, copies.0, copies.1);
     let row = Row {
         script: b"enrol bob\n",
         status,
@@ -129,6 +130,7 @@ fn assert_shut(
     };
     assert_row(rt, alloc, &words, 4096, &row, &mut disk);
     assert!(rt; disk.book() == book);
+    assert!(rt; disk.blobs() == blobs);
     drop(disk);
     Ok(())
 }
@@ -143,7 +145,7 @@ fn assert_damaged(
 ) -> Result<(), Fail> {
     let book = book_of(rt, alloc, "delta", &ONE_USER)?;
     let damaged = changed(alloc, &book, place, byte)?;
-    assert_shut(rt, alloc, "delta", &damaged, 8, line)
+    assert_shut(rt, alloc, "delta", &damaged, b"", 8, line)
 }
 
 #[test]
@@ -151,26 +153,44 @@ fn disks_that_do_not_open(rt: HostRuntime) -> Result<(), Fail> {
     let alloc = rt.alloc();
     assert_damaged(&rt, alloc, 84, 0, b"error damaged book 84\n")?;
     assert_damaged(&rt, alloc, 9, 7, b"error damaged book 9\n")?;
-    assert_shut(&rt, alloc, "delta", &[b'x'; 200], 8, b"error notastore\n")
+    // The magic of an older version.
+    assert_damaged(&rt, alloc, 8, b'0', b"error notastore\n")?;
+    assert_shut(
+        &rt,
+        alloc,
+        "delta",
+        &[b'x'; 200],
+        b"",
+        8,
+        b"error notastore\n",
+    )
 }
 
 // The Book of one user and one file of one byte under these keys, in `full`: what a program in
 // Python gives that was written from the formats alone. In `delta` byte 9 is 1.
-const ONE_FILE: &[u8] = b"\x01OVERENC0\0\0\0\0\0\
+const ONE_FILE: &[u8] = b"\x01OVERENC1\0\0\0\0\0\
     \x2a\x4f\x6d\x54\xa4\x5f\x46\xe7\xa8\x18\xa4\xf5\x94\x51\xe9\xfb\
     \xb0\x95\x9a\xdd\x66\x60\xc9\x0f\xc1\xb8\xbf\x8d\x4b\x73\xc7\x45\
     \xe2\xe6\x63\x1a\x00\x5a\x1d\xa7\x4d\x3f\x29\x1c\x8c\xd9\xe6\x0c\
     \x7a\xbf\x3a\x2a\xb3\x3a\x71\x99\xbf\xf0\x6c\x71\x43\x32\x63\xd4\
     \x01\0\0\0\x03\x01\x01a\
-    \x01\0\0\0J\x02\x01f\
+    \x01\0\0\0M\x02\x01f\
     \x01\0\0\0\0\0\0\0\0\0\0\0\0\0\0\0\0\0\0\0\0\0\0\0\0\0\0\0\0\0\0\0\0\0\
     \xa8\x63\x5f\xae\xc7\x82\xbb\x11\xcb\xd1\x66\x67\xd9\xa3\x28\xa5\
     \xbf\x77\xf6\x38\xe6\x49\x97\xf3\x42\x6e\x66\xa1\x9e\x85\x5d\xe7\
-    \0\0\0\x01\x7f\0";
+    \0\0\0\x01\0\0\0\0\0";
 
 /// The Book of one file, in a mode of this byte.
 pub fn one_file(alloc: Global, mode: u8) -> Result<Vec<u8>, AllocError> {
     changed(alloc, ONE_FILE, 9, mode)
+}
+
+/// Its Blobs, as the same program gives it: the file's byte, under both coats in `full` and under
+/// the base coat alone in `delta`, and zeros up to the end of the block.
+pub fn one_block(alloc: Global, mode: u8) -> Result<Vec<u8>, AllocError> {
+    let zeros = vec![in alloc; 0u8; 4096]?;
+    let byte = if mode == 0 { 0x5a } else { 0x7f };
+    changed(alloc, &zeros, 0, byte)
 }
 
 static CREATION: Row<'static> = Row {
@@ -183,30 +203,109 @@ fn creation() -> &'static Row<'static> {
     &CREATION
 }
 
-#[test]
-fn books_of_a_file(rt: HostRuntime) -> Result<(), Fail> {
-    let alloc = rt.alloc();
-    let full = book_of(&rt, alloc, "full", creation())?;
-    let delta = book_of(&rt, alloc, "delta", creation())?;
-    assert_eq!(rt; full, one_file(alloc, 0)?);
-    assert_eq!(rt; delta, one_file(alloc, 1)?);
+// Asserts what a run of the creation leaves in both areas.
+fn assert_file(rt: &impl Abort, alloc: Global, mode: &str, byte: u8) -> Result<(), AllocError> {
+    let words = words(alloc, &["run", mode])?;
+    let disk = left_by(rt, alloc, &words, creation());
+    assert_eq!(rt; disk.book(), one_file(alloc, byte)?.as_slice());
+    assert_eq!(rt; disk.blobs(), one_block(alloc, byte)?.as_slice());
+    drop(disk);
     Ok(())
 }
 
-// Asserts that where this byte of that Book is another, the record of the creation, whose gate is
-// at 86, isn't taken for the owner's.
-fn assert_false(rt: &impl Abort, alloc: Global, place: usize, byte: u8) -> Result<(), Fail> {
-    let book = one_file(alloc, 1)?;
-    let damaged = changed(alloc, &book, place, byte)?;
-    assert_shut(rt, alloc, "delta", &damaged, 8, b"error damaged book 86\n")
+#[test]
+fn both_areas_of_a_file(rt: HostRuntime) -> Result<(), Fail> {
+    assert_file(&rt, rt.alloc(), "full", 0)?;
+    assert_file(&rt, rt.alloc(), "delta", 1)?;
+    Ok(())
 }
 
-// One bit of the tag's first byte, of its last, and of the file's only byte.
+// Asserts that where one byte of that Book is another, or one of its Blobs, which is then cut, a run
+// is refused so.
+fn assert_refused(
+    rt: &impl Abort,
+    alloc: Global,
+    in_book: (usize, u8),
+    in_blobs: (usize, u8),
+    length: usize,
+    line: &[u8],
+) -> Result<(), Fail> {
+    let book = changed(alloc, &one_file(alloc, 1)?, in_book.0, in_book.1)?;
+    let mut blobs = changed(alloc, &one_block(alloc, 1)?, in_blobs.0, in_blobs.1)?;
+    blobs.truncate(length);
+    assert_shut(rt, alloc, "delta", &book, &blobs, 8, line)
+}
+
+// The first byte of either area, as it is.
+const SAME_BOOK: (usize, u8) = (0, 1);
+
+const SAME_BLOBS: (usize, u8) = (0, 0x7f);
+
+// One bit of the tag's first byte, of its last, and of the file's only byte: the record of the
+// creation, whose gate is at 86, isn't taken for the owner's.
 #[test]
 fn a_record_that_is_not_the_owners(rt: HostRuntime) -> Result<(), Fail> {
-    assert_false(&rt, rt.alloc(), 128, 0xa9)?;
-    assert_false(&rt, rt.alloc(), 159, 0x67)?;
-    assert_false(&rt, rt.alloc(), 164, 0x7e)
+    let alloc = rt.alloc();
+    let line = b"error damaged book 86\n";
+    assert_refused(&rt, alloc, (128, 0xa9), SAME_BLOBS, 4096, line)?;
+    assert_refused(&rt, alloc, (159, 0x67), SAME_BLOBS, 4096, line)?;
+    assert_refused(&rt, alloc, SAME_BOOK, (0, 0x7e), 4096, line)
+}
+
+// The file's first block behind the end of Blobs, and a Blobs in which its block isn't whole.
+#[test]
+fn a_file_past_the_end_of_blobs(rt: HostRuntime) -> Result<(), Fail> {
+    let alloc = rt.alloc();
+    let next = b"error damaged blobs 4096\n";
+    assert_refused(&rt, alloc, (167, 1), SAME_BLOBS, 4096, next)?;
+    let first = b"error damaged blobs 0\n";
+    assert_refused(&rt, alloc, SAME_BOOK, SAME_BLOBS, 4095, first)
+}
+
+static TWO_FILES: Row<'static> = Row {
+    script: b"enrol a\ncreate f a 1\nx\ncreate g a 1\ny\n",
+    status: 0,
+    lines: b"ok 1\nok 2\nok 3\nend epoch 3\n",
+};
+
+fn two_files() -> &'static Row<'static> {
+    &TWO_FILES
+}
+
+// The second file's first block, whose last byte is at 249, is the one that the first file has.
+#[test]
+fn a_block_in_use(rt: HostRuntime) -> Result<(), Fail> {
+    let alloc = rt.alloc();
+    let words = words(alloc, &["run", "delta"])?;
+    let disk = left_by(&rt, alloc, &words, two_files());
+    let book = changed(alloc, disk.book(), 249, 0)?;
+    let line = b"error damaged blobs 0\n";
+    let shut = assert_shut(&rt, alloc, "delta", &book, disk.blobs(), 8, line);
+    drop(disk);
+    shut
+}
+
+static READ: Row<'static> = Row {
+    script: b"read a f\n",
+    status: 0,
+    lines: b"data a f 1\nx\nend epoch 2\n",
+};
+
+fn read() -> &'static Row<'static> {
+    &READ
+}
+
+// Nothing is damaged where a byte behind the file's last one isn't zero.
+#[test]
+fn a_byte_behind_a_file(rt: HostRuntime) -> Result<(), Fail> {
+    let alloc = rt.alloc();
+    let words = words(alloc, &["run", "delta"])?;
+    let blobs = changed(alloc, &one_block(alloc, 1)?, 1, 7)?;
+    let book = one_file(alloc, 1)?;
+    let mut disk = MemDisk::of(alloc, Octets::from_vec(book), Octets::from_vec(blobs));
+    assert_row(&rt, alloc, &words, 4096, read(), &mut disk);
+    drop(disk);
+    Ok(())
 }
 
 #[test]
@@ -217,6 +316,7 @@ fn another_mode(rt: HostRuntime) -> Result<(), Fail> {
         rt.alloc(),
         "full",
         &book,
+        b"",
         9,
         b"error mode delta full\n",
     )

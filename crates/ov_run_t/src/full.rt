@@ -73,8 +73,8 @@ fn files_are_full(rt: HostRuntime) -> Result<(), Fail> {
     Ok(())
 }
 
-// A text with the size on its line, this many bytes from 1 up, and another text.
-fn filled(alloc: Global, head: &str, size: u32, end: &[u8]) -> Result<Vec<u8>, AllocError> {
+/// A text with the size on its line, this many bytes from 1 up, and another text.
+pub fn filled(alloc: Global, head: &str, size: u32, end: &[u8]) -> Result<Vec<u8>, AllocError> {
     let mut text = Vec::new(alloc);
     push(alloc, &mut text, head, size, "\n")?;
     let mut next = 0u8;

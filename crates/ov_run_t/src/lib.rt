@@ -5,6 +5,8 @@
 #[cfg(test)]
 mod disks;
 #[cfg(test)]
+mod extents;
+#[cfg(test)]
 mod faults;
 #[cfg(test)]
 mod frames;

@@ -148,7 +148,8 @@ fn assert_left(
 }
 
 // Asserts that a stop leaves the grant from the call on of which this many come behind it. The
-// grant makes the last four calls.
+// grant makes the last eight calls: it reads two files, each before it writes its new bytes, and
+// then four for its record.
 fn assert_stops(
     rt: &impl Abort,
     alloc: Global,
@@ -157,7 +158,7 @@ fn assert_stops(
     behind: u64,
 ) -> Result<(), Memory> {
     let disk = left_by(rt, alloc, words, grant());
-    for late in 0..5 {
+    for late in 0..9 {
         let call = disk.calls().saturating_sub(late);
         assert_left(rt, alloc, words, &disk, call, tear, late <= behind)?;
     }

@@ -2,7 +2,7 @@
 ghost use Rattle.std.specs.Prelude.{◌≡◌, None, Option, Some};
 ghost use Rattle.ov_disk.specs.Disk.{Image};
 
-use crate::disks::one_file;
+use crate::disks::{one_block, one_file};
 use crate::running::{Frames, Pieces, Wants, assert_ended, key_bytes, words};
 use ov_disk::{Area, Disk, DiskFault};
 use ov_run::run;
@@ -10,30 +10,38 @@ use std::alloc::Global;
 use std::process::Abort;
 use std::test::Fail;
 
-// A Book that nobody may write, which tells nothing. The first read of the byte at `place` gives
-// it with one bit changed.
+// A Book and a Blobs that nobody may write, which tell nothing. The first read of Book's byte at
+// `place` gives it with one bit changed.
 #[derive(Drop)]
 struct Flips<'a> {
     book: &'a [u8],
+    blobs: &'a [u8],
     place: usize,
     given: bool,
     calls: u64,
 }
 
 impl Flips<'_> {
+    fn area(&self, area: Area) -> &[u8] {
+        match area {
+            Area::Book => self.book,
+            Area::Blobs => self.blobs,
+        }
+    }
+
     // Copies from this place on, or gives None where the range isn't inside.
-    fn copy(&self, at: usize, buf: &mut [u8]) -> Option<()> {
-        let rest = self.book.get(at..)?;
+    fn copy(&self, area: Area, at: usize, buf: &mut [u8]) -> Option<()> {
+        let rest = self.area(area).get(at..)?;
         let bytes = rest.get(..buf.len())?;
         buf.copy_from_slice(bytes);
         Some(())
     }
 
-    // Changes the byte, where it lies in what was read for the first time.
-    fn flip(&mut self, at: usize, buf: &mut [u8])
+    // Changes the byte, where it lies in what was read of Book for the first time.
+    fn flip(&mut self, area: Area, at: usize, buf: &mut [u8])
         ensures { self.new.calls ≡ self.old.calls }
     {
-        if self.given || self.place < at {
+        if self.given || area == Area::Blobs || self.place < at {
             return;
         }
         let here = self.place - at;
@@ -59,18 +67,15 @@ impl Disk for Flips<'_> {
 
     fn len(&mut self, area: Area) -> Result<u64, DiskFault> {
         self.calls = self.calls.saturating_add(1);
-        match area {
-            Area::Book => Ok(self.book.len() as u64),
-            Area::Blobs => Ok(0),
-        }
+        Ok(self.area(area).len() as u64)
     }
 
-    fn read(&mut self, _area: Area, at: u64, buf: &mut [u8]) -> Result<(), DiskFault> {
+    fn read(&mut self, area: Area, at: u64, buf: &mut [u8]) -> Result<(), DiskFault> {
         self.calls = self.calls.saturating_add(1);
         let at = at as usize;
-        match self.copy(at, buf) {
+        match self.copy(area, at, buf) {
             Some(()) => {
-                self.flip(at, buf);
+                self.flip(area, at, buf);
                 Ok(())
             }
             None => Err(DiskFault),
@@ -103,10 +108,11 @@ const LINES: &[u8] = b"epoch 2\n\
 #[test]
 fn a_wrong_tag(rt: HostRuntime) -> Result<(), Fail> {
     let words = words(rt.alloc(), &["run", "full"])?;
-    let book = one_file(rt.alloc(), 0)?;
+    let (book, blobs) = (one_file(rt.alloc(), 0)?, one_block(rt.alloc(), 0)?);
     let mut out = Wants::of(LINES);
     let mut disk = Flips {
         book: &book,
+        blobs: &blobs,
         place: 128,
         given: false,
         calls: 0,

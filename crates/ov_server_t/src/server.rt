@@ -147,3 +147,37 @@ fn a_disk_that_fails_is_told_to_each_later_update(rt: HostRuntime) -> Result<(),
     drop(server.into_store().close());
     Ok(())
 }
+
+// ---- reads that fail
+
+/// A question for the stored bytes of the first file.
+const CHUNK: &[u8] = b"\x06\0\0\0\0\0\0\0\x04\0\0\0\0\0\x01\0\0";
+
+/// A disk that fails at the first call behind those of the updates.
+fn disk_failing_behind(alloc: Global) -> Result<MemDisk, Fail> {
+    let mut peer = LocalPeer::new(server_on(alloc, MemDisk::new(alloc))?);
+    let _ = agreed(alloc, &mut peer, UPDATES)?;
+    let made = peer.into_server().into_store().close();
+    let mut disk = MemDisk::new(alloc);
+    disk.fail_at(made.calls())?;
+    Ok(disk)
+}
+
+/// Makes sure that a peer whose disk fails in a question for stored bytes tells so, and has them for
+/// the next one.
+fn expect_failed_read<P: Peer>(rt: &impl Abort, alloc: Global, peer: &mut P) -> Result<(), Fail> {
+    assert_eq!(rt; agreed(alloc, peer, UPDATES)?, 6);
+    let mut found = Vec::new(alloc);
+    assert!(rt; agrees(peer, CHUNK, b"\x8d", &mut found)?);
+    assert!(rt; agrees(peer, CHUNK, b"\x86\x5b\x46", &mut found)?);
+    Ok(())
+}
+
+#[test]
+fn a_read_that_fails_is_told(rt: HostRuntime) -> Result<(), Fail> {
+    let alloc = rt.alloc();
+    let mut peer = LocalPeer::new(server_on(alloc, disk_failing_behind(alloc)?)?);
+    expect_failed_read(&rt, alloc, &mut peer)?;
+    drop(peer.into_server().into_store().close());
+    Ok(())
+}

@@ -6,6 +6,7 @@ ghost use Rattle.ov_state.specs.Plans.{IsFitting};
 
 mod callers;
 mod damage;
+mod stored;
 
 use ov_base::{Key, Mode, Name, Octets, UserSet};
 use ov_disk::{Disk, FileDisk, MemDisk, Tear};
@@ -176,7 +177,7 @@ fn has(rt: &impl Abort, disk: &MemDisk, call: u64, from: usize, bytes: &[u8]) ->
 
 /// The Book of a new store in Delta mode.
 fn first_book(rt: &impl Abort, alloc: Global) -> Vec<u8> {
-    let mut book = b"\x01OVERENC0\x01\0\0\0\0"
+    let mut book = b"\x01OVERENC1\x01\0\0\0\0"
         .as_slice()
         .to_vec(alloc)
         .expect(rt, "memory");
@@ -296,7 +297,7 @@ fn chunk<D: Disk + Drop>(
 }
 
 /// The first record that isn't the owner's is that of the creation, whose tokens are zeros; a user
-/// has none. The stored bytes are those that ov_vault has from Python and OpenSSL.
+/// has none. The stored bytes come from Python and OpenSSL.
 #[test]
 fn what_a_store_answers(rt: HostRuntime) {
     let alloc = rt.alloc();

@@ -9,7 +9,7 @@ use std::alloc::Global;
 use std::test::Fail;
 
 // A place, the byte that is put there, and the length to which the book is then cut.
-static CHANGES: [(usize, u8, usize); 22] = [
+static CHANGES: [(usize, u8, usize); 23] = [
     // The length field of the record.
     (79, 1, 91),
     (79, 255, 91),
@@ -34,6 +34,7 @@ static CHANGES: [(usize, u8, usize); 22] = [
     (78, 1, 90),
     // Magic and mode, and a store that isn't begun.
     (0, 2, 91),
+    (8, 48, 91),
     (9, 2, 91),
     (0, 7, 79),
 ];

@@ -18,7 +18,7 @@
 //! store, in Python, which was written from the same definitions and shares nothing with these
 //! crates: its replies to the same scripts, its frames of an empty script, its answers to changed
 //! books that it made itself, and its lines of the loads. What a stop leaves of the grant was made
-//! from the four calls of its own disk, by the rule of docs/CRASH.md, and read by it again. The
+//! from the calls of its own disk, by the rule of docs/CRASH.md, and read by it again. The
 //! replies to `team.script` are examples/team.replies too.
 #![tactic(auto)]
 

@@ -4,10 +4,15 @@ use crate::running::ran;
 use crate::scripts::{coating, questions};
 use crate::told::{Told, Untold};
 use ov_disk::{MemDisk, Tear};
+use std::alloc::Global;
 use std::test::Fail;
 
-// How many calls the grant makes: the last ones of its run.
-const CALLS: u64 = 4;
+// How many calls the grant makes, the last ones of its run: it reads each of 300 files before it
+// writes the new bytes, and makes four calls for its record.
+const CALLS: u64 = 604;
+
+// The calls for its record.
+const RECORD: u64 = 4;
 
 // What a stop makes of the writes that no sync followed, with its name.
 static TEARS: [(Tear, &str); 5] = [
@@ -22,18 +27,15 @@ fn tears() -> &'static [(Tear, &'static str)] {
     &TEARS
 }
 
-// Prints what a run over the disk that such a stop leaves puts.
-fn tell_stop(
-    rt: &HostRuntime,
+// What a run of a script over the disk that such a stop leaves puts.
+fn line_after(
+    alloc: Global,
     disk: &MemDisk,
     left_out: u64,
     tear: Tear,
-    tear_name: &str,
     script: &[u8],
-) -> Result<(), Fail> {
-    let alloc = rt.alloc();
+) -> Result<String, Fail> {
     let call = disk.calls().saturating_sub(left_out);
-    let made = CALLS.saturating_sub(left_out);
     let mut left = disk.image(call, tear)?;
     let mut told = Told::new();
     let input = Given::once(script);
@@ -46,11 +48,48 @@ fn tell_stop(
         &mut left,
     )?;
     drop(left);
-    let name = format!(in alloc; "a grant stopped after {made} of {CALLS} calls, {tear_name}")?;
-    told.tell(rt, name.as_str(), code)
+    told.line(alloc, code)
 }
 
-/// Prints what is read of all files after each stop.
+// Stops the grant before each of its last calls, so many, and behind them, and prints what such a
+// run puts wherever that isn't what it put one call earlier.
+fn tell_stops(
+    rt: &HostRuntime,
+    disk: &MemDisk,
+    most: u64,
+    tear: Tear,
+    name: &str,
+    script: &[u8],
+) -> Result<(), Fail> {
+    let alloc = rt.alloc();
+    let mut last = String::new(alloc);
+    for made in 0..=most {
+        let left_out = most.saturating_sub(made);
+        let line = line_after(alloc, disk, left_out, tear, script)?;
+        if line.as_str() != last.as_str() {
+            print!(rt; "from {left_out} calls before its end on, {name}: {line}")?;
+            last = line;
+        }
+    }
+    Ok(())
+}
+
+// Prints how a run without commands ends after each stop, which looks at the tags of all files, and
+// what is read of all files after those at the record.
+fn tell_all(rt: &HostRuntime, disk: &MemDisk) -> Result<(), Fail> {
+    println!(rt; "the grant stopped, and an empty script:")?;
+    for (tear, name) in tears() {
+        tell_stops(rt, disk, CALLS, *tear, name, b"")?;
+    }
+    println!(rt; "the grant stopped, and all files are asked for:")?;
+    let script = questions(rt.alloc())?;
+    for (tear, name) in tears() {
+        tell_stops(rt, disk, RECORD, *tear, name, &script)?;
+    }
+    Ok(())
+}
+
+/// Prints what comes of a grant that coats 300 files, and what is left of it by each stop.
 pub fn tell(rt: &HostRuntime) -> Result<(), Fail> {
     let alloc = rt.alloc();
     let mut disk = MemDisk::new(alloc);
@@ -66,12 +105,7 @@ pub fn tell(rt: &HostRuntime) -> Result<(), Fail> {
         &mut disk,
     )?;
     told.tell(rt, "a grant that coats 300 files", code)?;
-    let script = questions(alloc)?;
-    for left_out in 0..=CALLS {
-        for (tear, name) in tears() {
-            tell_stop(rt, &disk, left_out, *tear, name, &script)?;
-        }
-    }
+    tell_all(rt, &disk)?;
     drop(disk);
     Ok(())
 }

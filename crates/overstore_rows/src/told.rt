@@ -33,9 +33,9 @@ impl Told {
         }
     }
 
-    /// Prints a line: a row's name and status, how many bytes were put, their hash, and the last
-    /// piece, which ends the line.
-    pub fn tell(self, rt: &HostRuntime, name: &str, code: u8) -> Result<(), Fail> {
+    /// A line: a status, how many bytes were put, their hash, and the last piece, which ends the
+    /// line.
+    pub fn line(self, alloc: Global, code: u8) -> Result<String, Fail> {
         let Told {
             hasher,
             bytes,
@@ -43,12 +43,18 @@ impl Told {
             length,
             puts: _,
         } = self;
-        let hash = hex::encode(rt.alloc(), hasher.finalize())?;
+        let hash = hex::encode(alloc, hasher.finalize())?;
         let end = match str::from_utf8(&last[..length.min(LONGEST)]) {
             Ok(end) => end,
             Err(_) => "no line\n",
         };
-        print!(rt; "{name}: status {code}, {bytes} bytes, {hash}, {end}")?;
+        Ok(format!(in alloc; "status {code}, {bytes} bytes, {hash}, {end}")?)
+    }
+
+    /// Prints this line behind a row's name.
+    pub fn tell(self, rt: &HostRuntime, name: &str, code: u8) -> Result<(), Fail> {
+        let line = self.line(rt.alloc(), code)?;
+        print!(rt; "{name}: {line}")?;
         Ok(())
     }
 }

@@ -1,4 +1,4 @@
-//! Books with one byte changed, or cut, and the order in which causes are told.
+//! Disks with one byte of Book changed, or an area cut, and the order in which causes are told.
 use super::{BASE_CHECK, check_of, master, small_store};
 use ov_base::{Mode, Octets};
 use ov_disk::{Area, Disk, MemDisk};
@@ -7,27 +7,31 @@ use std::alloc::Global;
 use std::process::Abort;
 
 /// The number of bytes in the book of the small store. The gates of its records are at 78, 90, 100,
-/// 247, 259 and 306, and the last gate at 320.
-const ALL: usize = 321;
+/// 246, 258 and 305, and the last gate at 323.
+const ALL: usize = 324;
+
+/// The number of bytes in its Blobs: two blocks, of which the creation filled the first, and the
+/// revocation the second.
+const ALL_BLOBS: usize = 8192;
 
 /// A place and the byte that is put there, the length to which the book is then cut, and the place
 /// that is damaged, or none where a store is begun: `tools/damaged_books.py` prints these rows.
-const ROWS: [(usize, u8, usize, Option<u64>); 41] = [
+const ROWS: [(usize, u8, usize, Option<u64>); 47] = [
     // As it is; no mode; a gate that isn't open, which ends the records; one that is, at the end.
     (0, 1, ALL, None),
     (9, 2, ALL, Some(9)),
     (78, 0, ALL, None),
     (90, 2, ALL, None),
-    (320, 1, ALL, Some(321)),
+    (323, 1, ALL, Some(324)),
     // Lengths: no room for the body, past the longest, none.
     (79, 1, ALL, Some(79)),
     (80, 17, ALL, Some(79)),
     (82, 0, ALL, Some(79)),
-    (249, 1, ALL, Some(248)),
+    (248, 1, ALL, Some(247)),
     // Cut: behind the last body, in a length, behind a body, behind a gate, within a body.
-    (0, 1, 320, Some(307)),
-    (0, 1, 310, Some(307)),
-    (0, 1, 306, Some(260)),
+    (0, 1, 323, Some(306)),
+    (0, 1, 309, Some(306)),
+    (0, 1, 305, Some(259)),
     (0, 1, 91, Some(91)),
     (0, 1, 90, Some(79)),
     // No kind; another kind; lengths and bytes of a name; a body that goes on, or ends, too early.
@@ -44,43 +48,76 @@ const ROWS: [(usize, u8, usize, Option<u64>); 41] = [
     (82, 6, ALL, Some(89)),
     // A creation's number of tokens, and its length.
     (140, 1, ALL, Some(140)),
-    (141, 1, ALL, Some(210)),
+    (141, 1, ALL, Some(100)),
     (238, 1, ALL, Some(238)),
-    (241, 4, ALL, Some(246)),
-    (241, 6, ALL, Some(247)),
-    // A grant's flag.
-    (273, 2, ALL, Some(273)),
-    (273, 0, ALL, Some(274)),
+    (241, 4, ALL, None),
+    // A file without bytes, which has no first block; bodies that go on behind the first blocks, or end
+    // in one, before it, or in the update.
+    (241, 0, ALL, Some(242)),
+    (104, 142, ALL, Some(246)),
+    (104, 140, ALL, Some(245)),
+    (104, 137, ALL, Some(242)),
+    (104, 136, ALL, Some(241)),
+    (309, 12, ALL, Some(322)),
+    (309, 9, ALL, Some(319)),
+    // A grant's flag: another one, and one that isn't the plan's.
+    (272, 2, ALL, Some(272)),
+    (272, 0, ALL, Some(258)),
     // A grant of no user, of no file, and to a user on the list; a revocation from no user.
-    (268, 3, ALL, Some(259)),
-    (272, 1, ALL, Some(259)),
-    (268, 0, ALL, Some(259)),
-    (315, 3, ALL, Some(306)),
+    (267, 3, ALL, Some(258)),
+    (271, 1, ALL, Some(258)),
+    (267, 0, ALL, Some(258)),
+    (314, 3, ALL, Some(305)),
     // A list with nobody, and one that wants no tokens.
     (108, 0, ALL, Some(100)),
     (108, 1, ALL, Some(100)),
     // Two that are wrong: the first in order is told.
     (86, 33, 200, Some(86)),
-    (268, 3, 310, Some(259)),
-    (315, 3, 320, Some(307)),
+    (267, 3, 309, Some(258)),
+    (314, 3, 323, Some(306)),
 ];
 
-/// A book with one byte changed, and cut.
+/// A place in the book and the byte that is put there, the length to which Blobs is then cut, and
+/// the place of Blobs that is damaged, or none, as the same program prints them.
+const BLOBS_ROWS: [(usize, u8, usize, Option<u64>); 14] = [
+    // As it is; cut within the last block, behind the first, within it, and all.
+    (0, 1, ALL_BLOBS, None),
+    (0, 1, 8191, Some(4096)),
+    (0, 1, 4096, Some(4096)),
+    (0, 1, 4095, Some(0)),
+    (0, 1, 0, Some(0)),
+    // A block in use: by a later record, by the one before, and by a file that is longer.
+    (245, 1, ALL_BLOBS, Some(4096)),
+    (322, 0, ALL_BLOBS, Some(0)),
+    (240, 16, ALL_BLOBS, Some(4096)),
+    // Past the end of Blobs: by one block, by the most, by the last record, by a longer file.
+    (245, 2, ALL_BLOBS, Some(8192)),
+    (242, 128, ALL_BLOBS, Some(8_796_093_022_208)),
+    (322, 2, ALL_BLOBS, Some(8192)),
+    (239, 1, ALL_BLOBS, Some(0)),
+    // Two that are wrong: the first record is told.
+    (322, 0, 4095, Some(0)),
+    (245, 2, 4096, Some(8192)),
+];
+
+/// A disk with one byte of its book changed, and both areas cut.
 fn changed(
     rt: &impl Abort,
     alloc: Global,
-    book: &[u8],
+    disk: &MemDisk,
     place: usize,
     byte: u8,
     length: usize,
+    blobs_length: usize,
 ) -> MemDisk {
-    let mut book = book.to_vec(alloc).expect(rt, "memory");
+    let mut book = disk.book().to_vec(alloc).expect(rt, "memory");
     if place < book.len() {
         book[place] = byte;
     }
     book.truncate(length);
-    let blobs = Octets::from_vec(Vec::new(alloc));
-    MemDisk::of(alloc, Octets::from_vec(book), blobs)
+    let mut blobs = disk.blobs().to_vec(alloc).expect(rt, "memory");
+    blobs.truncate(blobs_length);
+    MemDisk::of(alloc, Octets::from_vec(book), Octets::from_vec(blobs))
 }
 
 /// Why no store is begun on a disk, or none where one is.
@@ -100,12 +137,12 @@ fn refused<D: Disk + Drop>(
     }
 }
 
-/// The place of Book that is damaged, or none where there is no fault.
-fn damaged_at(rt: &impl Abort, fault: Option<BeginFault>) -> Option<u64> {
+/// The place of this area that is damaged, or none where there is no fault.
+fn damaged_at(rt: &impl Abort, fault: Option<BeginFault>, wanted: Area) -> Option<u64> {
     match fault {
         None => None,
         Some(BeginFault::Damaged { area, offset }) => {
-            assert_eq!(rt; area, Area::Book);
+            assert_eq!(rt; area, wanted);
             Some(offset)
         }
         Some(_) => panic!(rt; "another fault"),
@@ -118,12 +155,28 @@ fn damage_and_where_it_is(rt: HostRuntime) {
     let disk = small_store(&rt, alloc);
     assert_eq!(rt; disk.book().len(), ALL);
     for (place, byte, length, damaged) in ROWS {
-        let disk = changed(&rt, alloc, disk.book(), place, byte, length);
+        let disk = changed(&rt, alloc, &disk, place, byte, length, ALL_BLOBS);
         let fault = refused(alloc, disk, 7, BASE_CHECK, Mode::Delta);
         assert_eq!(rt;
-            damaged_at(&rt, fault),
+            damaged_at(&rt, fault, Area::Book),
             damaged,
             "{byte} at {place}, cut to {length}"
+        );
+    }
+}
+
+#[test]
+fn damage_in_blobs(rt: HostRuntime) {
+    let alloc = rt.alloc();
+    let disk = small_store(&rt, alloc);
+    assert_eq!(rt; disk.blobs().len(), ALL_BLOBS);
+    for (place, byte, length, damaged) in BLOBS_ROWS {
+        let disk = changed(&rt, alloc, &disk, place, byte, ALL, length);
+        let fault = refused(alloc, disk, 7, BASE_CHECK, Mode::Delta);
+        assert_eq!(rt;
+            damaged_at(&rt, fault, Area::Blobs),
+            damaged,
+            "{byte} at {place}, Blobs cut to {length}"
         );
     }
 }
@@ -134,13 +187,13 @@ fn causes_in_their_order(rt: HostRuntime) {
     let alloc = rt.alloc();
     let disk = small_store(&rt, alloc);
     let other = [0; 32];
-    let with = |place, byte| changed(&rt, alloc, disk.book(), place, byte, ALL);
+    let with = |place, byte| changed(&rt, alloc, &disk, place, byte, ALL, ALL_BLOBS);
 
-    let found = refused(alloc, with(8, b'1'), 8, other, Mode::Full);
+    let found = refused(alloc, with(8, b'0'), 8, other, Mode::Full);
     assert_eq!(rt; found, Some(BeginFault::NotAStore));
 
     let found = refused(alloc, with(9, 2), 8, other, Mode::Full);
-    assert_eq!(rt; damaged_at(&rt, found), Some(9));
+    assert_eq!(rt; damaged_at(&rt, found, Area::Book), Some(9));
 
     let found = refused(alloc, with(79, 1), 8, other, Mode::Full);
     let (stored, given) = (BASE_CHECK, other);

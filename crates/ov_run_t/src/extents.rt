@@ -1,0 +1,88 @@
+//! Where a file's stored bytes stand in Blobs, as it is created and written again under other coats.
+use crate::full::filled;
+use crate::running::{Row, assert_row, words};
+use ov_disk::MemDisk;
+use std::alloc::Global;
+use std::process::Abort;
+use std::test::Fail;
+
+// Asserts how a script over this disk is answered, how long Blobs is then, and how Book ends.
+fn assert_step(
+    rt: &impl Abort,
+    alloc: Global,
+    words: &[String],
+    row: &Row<'_>,
+    disk: &mut MemDisk,
+    blobs: usize,
+    end: &[u8],
+) {
+    assert_row(rt, alloc, words, 4096, row, disk);
+    assert_eq!(rt; disk.blobs().len(), blobs);
+    assert!(rt; disk.book().ends_with(end));
+}
+
+// How the record of the creation ends: its length, its first block, and a closed gate.
+const CREATED: &[u8] = b"\0\0\x20\x01\0\0\0\0\0";
+
+// User 1 is taken off file 0, which goes to block 3, and put on it again, which goes to block 0.
+const REVOKED: &[u8] = b"\x01\0\0\0\x0d\x04\0\0\0\x01\0\0\0\0\0\0\0\x03\0";
+
+const GRANTED: &[u8] = b"\x01\0\0\0\x0e\x03\0\0\0\x01\0\0\0\0\0\0\0\0\0\0";
+
+// A row with this script and this text in front of the file's bytes and the end of the replies.
+fn assert_changed(
+    rt: &impl Abort,
+    alloc: Global,
+    disk: &mut MemDisk,
+    script: &[u8],
+    head: &str,
+    end: &[u8],
+    book: &[u8],
+) -> Result<(), Fail> {
+    let words = words(alloc, &["run", "full"])?;
+    let lines = filled(alloc, head, 8193, end)?;
+    let row = Row {
+        script,
+        status: 0,
+        lines: &lines,
+    };
+    assert_step(rt, alloc, &words, &row, disk, 24_576, book);
+    Ok(())
+}
+
+/// Three blocks at 0; a revocation writes the file at 3, and what comes next at 0 again.
+#[test]
+fn blocks_are_used_again(rt: HostRuntime) -> Result<(), Fail> {
+    let alloc = rt.alloc();
+    let words = words(alloc, &["run", "full"])?;
+    let mut disk = MemDisk::new(alloc);
+    let script = filled(alloc, "enrol a\nenrol b\ncreate f a,b ", 8193, b"\n")?;
+    let row = Row {
+        script: &script,
+        status: 0,
+        lines: b"ok 1\nok 2\nok 3\nend epoch 3\n",
+    };
+    assert_step(&rt, alloc, &words, &row, &mut disk, 12_288, CREATED);
+    let (script, head) = (b"revoke b f\nread a f\n", "ok 4\ndata a f ");
+    assert_changed(
+        &rt,
+        alloc,
+        &mut disk,
+        script,
+        head,
+        b"\nend epoch 4\n",
+        REVOKED,
+    )?;
+    let (script, head) = (b"grant b f\nread b f\n", "ok 5\ndata b f ");
+    assert_changed(
+        &rt,
+        alloc,
+        &mut disk,
+        script,
+        head,
+        b"\nend epoch 5\n",
+        GRANTED,
+    )?;
+    drop(disk);
+    Ok(())
+}

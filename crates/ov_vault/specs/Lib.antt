@@ -1,4 +1,0 @@
-pub mod Rewritten
-pub mod Vaults
-pub mod Prepared
-pub mod Standing
