@@ -1,15 +1,18 @@
 //! A store that survives a stop: its updates are written down before they are made.
 //!
-//! A [`Store`] has both halves of a store in memory (`ov_vault`), and a disk with a journal of its
-//! updates (`ov_journal`). [`Store::begin`] begins an empty store where there is none, and else
-//! replays the records that an earlier run left. [`Store::update`] prepares an update, writes its
-//! record, and only then makes it, which can't fail: so what was answered with `Ok` outlasts each
-//! later stop, and a stop at any moment leaves the history from before or it with this update.
-//! [`Store::chunk`] gives stored bytes, [`Store::check`] looks whether all updates are as their
-//! owner seals them, and [`Store::close`] gives the disk back.
+//! A [`Store`] has its catalogue in memory, with the first block of each file (`ov_placed`), and a
+//! disk: in Book a journal of its updates (`ov_journal`), in Blobs the stored bytes of its files
+//! (`ov_blocks`). [`Store::begin`] begins an empty store where there is none, and else replays the
+//! records that an earlier run left. [`Store::update`] prepares an update, writes the new bytes of
+//! files to free blocks and then its record, and only then makes it, which can't fail: so what was
+//! answered with `Ok` outlasts each later stop, and a stop at any moment leaves the history from
+//! before or it with this update. [`Store::chunk`] reads stored bytes from the disk,
+//! [`Store::check`] looks whether all updates are as their owner seals them, and [`Store::close`]
+//! gives the disk back.
 //!
-//! **What a contract sees** is one value, `Opened` (`specs/Opened`): the disk, the keys, both
-//! halves, and whether a call of the disk failed in an update. `Serves g s` says that the store
+//! **What a contract sees** is one value, `Opened` (`specs/Opened`): the disk, the keys, the
+//! catalogue, the stored bytes where the disk tells its bytes, and whether a call of the disk failed
+//! in an update. `Serves g s` says that the store
 //! stands for the sealed history g, and that each image which a crash may leave keeps it
 //! (ov_images), or once a call failed it with one update more. No history is kept in code: a clause
 //! reads 'for each history for which the old store stood'. That there is one is part of the store's
