@@ -5,7 +5,7 @@
 //! [`Extents`] keeps, in memory, the extents that are held. A caller that replaces bytes puts the new
 //! ones into another extent, and gives up the old one afterwards: so blocks are used again, and Blobs
 //! grows only where no gap is long enough. `ov_moves` does that, and `ov_images` says which history an
-//! image with extents keeps; the store doesn't name them yet, and keeps its files' bytes in memory.
+//! image keeps by the extents of its files.
 //!
 //! **What a contract sees** is the list of the extents that are held, in the order of their places. In
 //! all calls a length counts blocks, a start counts bytes, and an extent ends at the block behind its

@@ -4,8 +4,7 @@
 //! written over: an update that changes them writes the new ones into another extent, puts a record
 //! behind the others, and gives up the old extent only then. So a crash at any moment leaves either
 //! the records from before, with every file's bytes where they were, or these with the new record and
-//! every file in its new extent. `ov_updating` says this of the histories that images keep; the store
-//! names neither yet, and keeps its files' bytes in memory.
+//! every file in its new extent. `ov_updating` says this of the histories that images keep.
 //!
 //! * [`rewrite`] is the whole of it. It finds and holds the new extents, takes all memory that it
 //!   wants, moves the files, appends the record, and gives up the old extents. Unless it answers

@@ -3,8 +3,7 @@
 //!
 //! A [`PlacedCatalogue`] is a [`ov_state::State`], the first block of each file by number, where the
 //! file has a byte, and the extents of all files ([`ov_blocks::Extents`]). It has no bytes of files:
-//! these lie in Blobs, and no bytes of Blobs are needed to replay a record. The store keeps its files'
-//! bytes in memory yet, in `ov_vault`, and doesn't name this crate.
+//! these lie in Blobs, and no bytes of Blobs are needed to replay a record.
 //!
 //! [`PlacedCatalogue::replay`] takes the body of one record of a journal, whose gate is at some place
 //! of Book, over a Blobs of so many whole blocks:
