@@ -41,7 +41,7 @@ pub record IsOpen (room : ℕ) (bytes : List ℕ) : Type 0 where
   pub short : length bytes < MAX_LINE_BYTES
   pub unsettled : IsUnsettled room bytes
 
--- It is known what is there whatever is left behind the bytes, or their line may go on.
+-- What is there is known, whatever is left behind the bytes, or their line may go on.
 abbrev pub IsSettled : ℕ → List ℕ → Result Seen Ended → Type 0
 IsSettled room bytes (Ok (Whole line)) = (left : Option (List ℕ)) → Finds room bytes left (Ok line)
 IsSettled room bytes (Ok (Open front)) = (front ≡ run Start bytes) × IsOpen room bytes
