@@ -3,7 +3,7 @@ use Rattle.std.proofs.Common.{◌≡◌, ℕ, List, [], ◌∷◌, ◌++◌, len
 use Rattle.std.proofs.Common.{Option, Some, None, Result, Ok, Err, refl, sym, subst, inl, inr}
 use Rattle.ov_surface.specs.Tags.{tag_of_file}
 use Rattle.std.specs.Prelude.{◌⊎◌, ◌+◌, min, nat_lt, ◌==◌, bytes_eq, if◌then◌else◌}
-use Rattle.std.specs.Prelude.{slice_index_or}
+use Rattle.std.specs.Prelude.{option_map, slice_index_or}
 use Rattle.ov_base.specs.declared.limits.TheConstants.{MAX_CHUNK_BYTES}
 use Rattle.ov_client.specs.Readers.{Reader, judged, keys_along, uncovered}
 use Rattle.ov_client.specs.Reads.{Reads}
@@ -91,10 +91,10 @@ sized_other r tries c stored count bytes = by (length bytes == count) where
   by true = goes_on_other r tries c (stored ++ bytes)
   by false = tt
 
-no_fault : (o : Option Filed) (bytes : List ℕ) (generation start count : ℕ)
-    → AnswersChunk o bytes generation start count answers.DeviceFault → ⊥
-no_fault None bytes generation start count is = cc is
-no_fault (Some f) bytes generation start count is = is
+no_fault : (o : Option Filed) (told : Option (List ℕ)) (generation start count : ℕ)
+    → AnswersChunk o told generation start count answers.DeviceFault → ⊥
+no_fault None told generation start count is = cc is
+no_fault (Some f) told generation start count is = is
 
 -- no answer by what is shown says that the disk failed
 chunk_other : (s : Serving) (r : Reader) (tries : List ℕ) (c : Chained) (stored : List ℕ)
@@ -107,8 +107,9 @@ chunk_other s r tries c stored (answers.Moved now) is =
     again_other (tries ++ c.generation ∷ []) now
 chunk_other s r tries c stored (answers.Refused why) is = tt
 chunk_other s r tries c stored answers.DeviceFault is =
-    absurd (no_fault (living_at s.catalogue.files c.file) (slice_index_or s.stored c.file [])
-    c.generation (length stored) MAX_CHUNK_BYTES is)
+    absurd (no_fault (living_at s.catalogue.files c.file)
+    (option_map (λ bytes. slice_index_or bytes c.file []) s.stored) c.generation (length stored)
+    MAX_CHUNK_BYTES is)
 chunk_other s r tries c stored answers.NoMemory is = tt
 chunk_other s r tries c stored a is = tt
 

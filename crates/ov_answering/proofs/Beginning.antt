@@ -1,6 +1,6 @@
 -- A disk that is opened, or isn't, and what follows of a script that is answered over it.
 use Rattle.std.proofs.Common.{◌≡◌, ◌⊎◌, inl, inr, ℕ, List, [], ◌∷◌, refl, sym, ◌∙◌, ap, subst, arith, Option, Some, None, false}
-use Rattle.std.specs.Prelude.{IfSome}
+use Rattle.std.specs.Prelude.{IfSome, IsSome, IsSomeAnd, is_some}
 use Rattle.std.proofs.KnownBytes.{Appends-nil}
 use Rattle.ov_base.specs.declared.mode.Mode.{Mode}
 use Rattle.ov_disk.specs.Disk.{Image, StaysTold, Told}
@@ -11,6 +11,8 @@ use Rattle.ov_images.specs.Images.{Keeps, keys_of}
 use Rattle.ov_history.specs.Masters.{Masters}
 use Rattle.ov_history.specs.Plain.{PlainHistory, history_of}
 use Rattle.ov_history.specs.Refusals.{IsLegal}
+use Rattle.ov_history.specs.Kept.{AreKept, IsKept}
+use Rattle.ov_history.specs.Sealed.{KeepsBytes, catalogue_of, stored_of}
 use Rattle.ov_history.specs.Sealing.{sealed}
 use Rattle.ov_store.specs.Beginning.{IsNew, LeavesHistory}
 use Rattle.ov_store.specs.Opened.{Opened, Serves}
@@ -20,6 +22,7 @@ use Rattle.ov_report.specs.Ends.{EndsIn, EndsOr}
 use Rattle.ov_report.specs.Faults.{disk_line, fault_line, fault_status, memory_line}
 use Rattle.ov_machine.specs.Disks.{Holds, StandsForPlain, TellsNothing}
 use Rattle.ov_machine.specs.Machine.{KeptOn, StandsFor, opened_of}
+use Rattle.ov_machine.proofs.Stays.{and_told}
 use Rattle.ov_machine.proofs.Updating.{now_so}
 use Rattle.ov_answering.specs.Ending.{EndsAs}
 use Rattle.ov_answering.specs.Judging.{FindsPlain, Refuses}
@@ -95,11 +98,15 @@ module _ {D : Type 0} (tells : DiskTells D) (k : Masters) (p : PlainHistory) whe
   -- the disk opened, and the script was answered over it
   module _ (m : KeptOn D) (masters : m.kept.masters ≡ k) (sound : m.failed ≡ false)
       (serves : Serves tells (sealed k p) (opened_of m)) where
-    begun_stands : IsLegal (history_of p) → StandsFor m.kept p
-    begun_stands legal =
-        subst (λ (x : Masters). Rattle.ov_history.specs.Kept.IsKept x p m.kept.catalogue × Rattle.ov_history.specs.Kept.AreKept x p m.kept.stored) (sym masters) (
-          (legal, serves.catalogue.1 ∙ ap (λ (x : Masters). Rattle.ov_history.specs.Sealed.catalogue_of x.surface (sealed k p)) masters),
-          serves.bytes ∙ ap (λ (x : Masters). Rattle.ov_history.specs.Sealed.stored_of x.surface (sealed k p)) masters,
+    begun_stands : IsSome m.kept.stored → IsLegal (history_of p) → StandsFor m.kept p
+    begun_stands told legal =
+        subst (λ (x : Masters). IsKept x p m.kept.catalogue × IsSomeAnd m.kept.stored (AreKept x p))
+        (sym masters) (
+          (legal, serves.catalogue.1 ∙ ap (λ (x : Masters). catalogue_of x.surface (sealed k p)) masters),
+          and_told m.kept.stored
+              (λ bytes. KeepsBytes m.kept.masters.surface bytes (sealed k p)) (AreKept k p) told
+              serves.bytes
+              (λ bytes are. are ∙ ap (λ (x : Masters). stored_of x.surface (sealed k p)) masters),
         )
 
     pub begun_holds : (i : Image) × (tells.reads m.disk ≡ Some i) → Holds tells k p m.disk
@@ -140,7 +147,8 @@ tells_nothing {D} tells k mode first m s is masters sound found none =
     (f.each p mode_is stands) in
     none p
     (begun_stands tells k p m masters
-    (ap (λ (o : Opened D). o.failed) is ∙ sound) serves legal)
+    (ap (λ (o : Opened D). o.failed) is ∙ sound) serves
+    (ap (λ (o : Opened D). is_some o.stored) is ∙ f.told) legal)
 
 module _ {D : Type 0} (tells : DiskTells D) (k : Masters) (mode : Mode) (p : PlainHistory)
     (first : D) (opens : OpensAs tells k mode p first) where
@@ -156,7 +164,10 @@ module _ {D : Type 0} (tells : DiskTells D) (k : Masters) (mode : Mode) (p : Pla
     sound = ap (λ (o : Opened D). o.failed) is ∙ fresh.1
 
     pub over_stands : StandsFor m.kept p
-    over_stands = begun_stands tells k p m masters sound serves opens.legal
+    over_stands =
+        begun_stands tells k p m masters sound serves
+        (ap (λ (o : Opened D). is_some o.stored) is ∙ (found.0 opens.image opens.told).told)
+        opens.legal
 
 module _ {D : Type 0} (tells : DiskTells D) (k : Masters) (mode : Mode) (p : PlainHistory)
     (first : D) (opens : OpensAs tells k mode p first) (input old new : Option (List ℕ))

@@ -258,11 +258,11 @@ module _ (k : Masters) (r : Reader) (file : List ℕ) (holds : HoldsRootKeys k r
 
     pub chunk_stands : (answer : Answer)
         → AnswersChunk (Some (file_in now.files c.file))
-        (slice_index_or (stored_of k.surface (sealed k q)) c.file [])
+        (Some (slice_index_or (stored_of k.surface (sealed k q)) c.file []))
         c.generation (length stored) MAX_CHUNK_BYTES answer
         → StandsAt (later v others) (after r (AsksChunk tries c stored) (Ok answer)) at_one
     unfolding StandsAt
-    chunk_stands (answers.Bytes bytes) (generation, are) =
+    chunk_stands (answers.Bytes bytes) (generation, many, are) =
         bytes_stand bytes generation are (length bytes == chunk_bytes c.length (length stored))
     chunk_stands (answers.Moved to) is = again_stands (later v others) (tries ++ c.generation ∷ [])
         at_one to

@@ -113,13 +113,13 @@ module _ (k : Masters) (r : Reader) (file : List ℕ) (holds : HoldsRootKeys k r
               let found = found_file files c.file
               (still k r file holds v tries c stored at_one f others p legal at_p) in
               let at_k : AnswersChunk (living_at files c.file)
-              (slice_index_or (stored_of k.surface (sealed k p)) c.file [])
+              (Some (slice_index_or (stored_of k.surface (sealed k p)) c.file []))
               c.generation (length stored) MAX_CHUNK_BYTES answer =
               subst (λ (t : List (List ℕ)). AnswersChunk (living_at files c.file)
-              (slice_index_or t c.file []) c.generation (length stored) MAX_CHUNK_BYTES answer)
+              (Some (slice_index_or t c.file [])) c.generation (length stored) MAX_CHUNK_BYTES answer)
               stored_is
               (subst (λ (d : Catalogue). AnswersChunk (living_at d.files c.file)
-              (slice_index_or (stored_of u.surface u.history) c.file []) c.generation
+              (Some (slice_index_or (stored_of u.surface u.history) c.file [])) c.generation
               (length stored) MAX_CHUNK_BYTES answer)
               catalogue_is is) in
               subst (λ (w : Service). Stands w (after r (AsksChunk tries c stored) (Ok answer))
@@ -127,7 +127,7 @@ module _ (k : Masters) (r : Reader) (file : List ℕ) (holds : HoldsRootKeys k r
               (sym (made_nothing none))
               (chunk_stands k r file holds v tries c stored at_one f others p legal at_p answer
               (subst (λ (o : Option Filed). AnswersChunk o
-              (slice_index_or (stored_of k.surface (sealed k p)) c.file []) c.generation
+              (Some (slice_index_or (stored_of k.surface (sealed k p)) c.file [])) c.generation
               (length stored) MAX_CHUNK_BYTES answer)
               found at_k))
           | inr fault ↦

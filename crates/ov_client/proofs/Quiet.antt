@@ -179,12 +179,12 @@ module _ (k : Masters) (r : Reader) (file : List ℕ) (p : PlainHistory)
 
     pub chunk_stands : (a : Answer)
         → AnswersChunk (Some (file_in s.files c.file))
-        (slice_index_or (stored_of k.surface (sealed k p)) c.file [])
+        (Some (slice_index_or (stored_of k.surface (sealed k p)) c.file []))
         c.generation (length stored) MAX_CHUNK_BYTES a
         → HasAnswerForm a
         → IsAnswer (requests.Chunk c.file c.generation (length stored) MAX_CHUNK_BYTES) a
         × StandsQuiet (after r (AsksChunk tries c stored) (Ok a))
-    chunk_stands (answers.Bytes bytes) is form = (form, bytes_stand bytes is.1)
+    chunk_stands (answers.Bytes bytes) is form = (form, bytes_stand bytes is.2)
     chunk_stands (answers.Moved now) is form =
         absurd
         (is.0

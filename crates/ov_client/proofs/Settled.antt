@@ -100,23 +100,25 @@ module _ (k : Masters) (r : Reader) (file : List ℕ) (p : PlainHistory)
         let request : Request = requests.Chunk c.file c.generation (length stored)
         MAX_CHUNK_BYTES in
         let at_v : AnswersChunk (living_at (catalogue_of v.surface v.history).files c.file)
-        (slice_index_or (stored_of v.surface v.history) c.file []) c.generation (length stored)
+        (Some (slice_index_or (stored_of v.surface v.history) c.file [])) c.generation
+        (length stored)
         MAX_CHUNK_BYTES replies.answer =
         answers_so request reply form replies in
         let at_k : AnswersChunk (living_at s.files c.file)
-        (slice_index_or (stored_of k.surface (sealed k p)) c.file [])
+        (Some (slice_index_or (stored_of k.surface (sealed k p)) c.file []))
         c.generation (length stored) MAX_CHUNK_BYTES replies.answer =
         subst (λ (t : List (List ℕ)). AnswersChunk (living_at s.files c.file)
-        (slice_index_or t c.file []) c.generation (length stored) MAX_CHUNK_BYTES replies.answer)
+        (Some (slice_index_or t c.file [])) c.generation (length stored) MAX_CHUNK_BYTES replies.answer)
         stored_is
         (subst (λ (d : Catalogue). AnswersChunk (living_at d.files c.file)
-        (slice_index_or (stored_of v.surface v.history) c.file []) c.generation (length stored)
+        (Some (slice_index_or (stored_of v.surface v.history) c.file [])) c.generation
+        (length stored)
         MAX_CHUNK_BYTES replies.answer)
         catalogue_is at_v) in
         let both = chunk_stands k r file p legal holds roots tries c stored f replies.answer
         (subst (λ (o : Option Filed). AnswersChunk o
-        (slice_index_or (stored_of k.surface (sealed k p)) c.file []) c.generation (length stored)
-        MAX_CHUNK_BYTES replies.answer)
+        (Some (slice_index_or (stored_of k.surface (sealed k p)) c.file [])) c.generation
+        (length stored) MAX_CHUNK_BYTES replies.answer)
         (found_file s.files c.file (low_told k r file p legal holds roots c stored f)) at_k)
         replies.form in
         let read : answer_of request reply ≡ Ok replies.answer =

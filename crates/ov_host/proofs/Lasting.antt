@@ -21,10 +21,11 @@ use Rattle.ov_peer.proofs.Following.{followed-nil}
 use Rattle.ov_base.specs.Causes.{Rose}
 use Rattle.ov_store.specs.Opened.{Opened, Serves}
 use Rattle.ov_store.specs.Updating.{IsCallOf}
-use Rattle.ov_server.specs.Answering.{AnswersOrFails, FailsUpdate, IsAnswered, IsFaulted, IsNewFault, KeepsWith, LeavesAsked, serving_of}
+use Rattle.ov_server.specs.Answering.{AnswersOrFails, FailsUpdate, IsAnswered, IsFaulted, IsNewFault, KeepsWith, LeavesAsked, WritesNothing, serving_of}
 use Rattle.ov_server.specs.Following.{Reaches, RepliesAfter}
 use Rattle.ov_server.proofs.AnswerKinds.{IsMade, accepted_made, nothing_made, says_so}
 use Rattle.ov_server.proofs.Following.{reached_after, replies_ok}
+use Rattle.ov_server.proofs.Shown.{serves_with}
 use Rattle.ov_host.specs.Lasting.{Endures, StoreGoesOn, KeepsAll, KeepsFirst, KeepsSome}
 
 -- ---- counts
@@ -131,8 +132,17 @@ module _ {D : Type 0} (tells : DiskTells D) where
     Lasts : SealedHistory → List SealedUpdate → Opened D → Type 0
     Lasts g us s = Endures tells g us start s
 
-    same_lasts : (g : SealedHistory) (us : List SealedUpdate) → new ≡ old → Lasts g us old → Lasts g us new
-    same_lasts g us same e = subst (Lasts g us) (sym same) e
+    -- where nothing is written they endure as before
+    read_lasts : (g : SealedHistory) (us : List SealedUpdate) → WritesNothing tells old new → Lasts g us old → Lasts g us new
+    unfolding Lasts
+    read_lasts g us quiet e =
+        subst (λ (s : Opened D). Endures tells g us start s) (sym quiet.same) (record {
+          any_moment = then_on tells start.disk old.disk new.disk (KeepsSome start.keys g us old.failed)
+              (tells.may_leave old.disk) e.any_moment quiet.disk.any_moment (λ c left. inr (e.at_end c left));
+          at_end = λ c left. e.at_end c (quiet.disk.no_more c left);
+          goes_on = λ sound. serves_with tells old new.disk quiet.disk (followed g us) (e.goes_on sound);
+          told = λ sound. let told = e.told sound in (told.0, quiet.disk.reads_same ∙ told.1);
+        })
 
     accepted_update : (is : IsAnswered tells old new request reply) → says_accepted reply ≡ true
         → (m : IsMade (request_of request) is.frame.made) × HasUpdate (serving_of old) request m.update
@@ -191,15 +201,15 @@ module _ {D : Type 0} (tells : DiskTells D) where
           told = λ same. absurd (true≢false (sym fails.failed ∙ same));
         }
 
-    faulted_lasts : (g : SealedHistory) (us : List SealedUpdate) → IsFaulted old new request reply → Lasts g us old → Lasts g us new
+    faulted_lasts : (g : SealedHistory) (us : List SealedUpdate) → IsFaulted tells old new request reply → Lasts g us old → Lasts g us new
     faulted_lasts g us is e = by_need is.needs where
       by_failed : (was : Bool) → old.failed ≡ was → FailsUpdate old new request → Lasts g us new
-      by_failed true bad fails = same_lasts g us (is.before bad) e
+      by_failed true bad fails = read_lasts g us (is.before bad) e
       by_failed false sound fails = fails_lasts g us fails sound e
 
-      by_need : FailsUpdate old new request ⊎ (AsksBytes (serving_of old) request × (new ≡ old)) → Lasts g us new
+      by_need : FailsUpdate old new request ⊎ (AsksBytes (serving_of old) request × WritesNothing tells old new) → Lasts g us new
       by_need (inl fails) = by_failed old.failed refl fails
-      by_need (inr (asks, same)) = same_lasts g us same e
+      by_need (inr (asks, quiet)) = read_lasts g us quiet e
 
     answered_lasts : (so : Bool) → says_accepted reply ≡ so → IsAnswered tells old new request reply → (g : SealedHistory)
         → Lasts g (updates_of list) old → Lasts g (updates_of (longer_if so list (spelling_of request))) new
@@ -215,7 +225,7 @@ module _ {D : Type 0} (tells : DiskTells D) where
     answered_lasts false so is g e =
         let r = is.frame.replies in
         let none : is.frame.made ≡ [] = r.makes ∙ nothing_made (request_of request) r.answer (ap says_accepted (sym r.spelled) ∙ so) in
-        same_lasts g (updates_of list) (is.untouched none) e
+        read_lasts g (updates_of list) (is.untouched none) e
 
     lasts_after : (so : Bool) → says_accepted reply ≡ so → AnswersOrFails tells old new request reply → (g : SealedHistory)
         → Lasts g (updates_of list) old → Lasts g (updates_of (longer_if so list (spelling_of request))) new

@@ -28,9 +28,10 @@ use Rattle.ov_owner.specs.declared.fault.OwnerFault.{OwnerFault}
 use Rattle.ov_owner.specs.declared.fault.OwnerFault.TheVariants as faults
 use Rattle.ov_owner.proofs.Fitting.{reads_back}
 use Rattle.ov_owner.proofs.Stepping.{read_back}
-use Rattle.ov_machine.specs.Seats.{LeftBy as LeftBySeat, served, store_peer}
+use Rattle.ov_machine.specs.Seats.{LeftBy as LeftBySeat, Stays, served, store_peer}
 use Rattle.ov_machine.proofs.Errands.{IsHonest, IsMakeable, IsTold}
 use Rattle.ov_machine.proofs.Quiet.{Says, quiet_asked, says}
+use Rattle.ov_machine.proofs.Stays.{stays_same}
 
 -- ---- an update that is sent
 
@@ -79,28 +80,30 @@ module _ {D : Type 0} (tells : DiskTells D) (surface : List ℕ) (e : Errand)
   -- the disk failed in the update, and is told to have; or memory or the link failed after it
   pub record IsFailed (s t : Opened D) (epoch : ℕ) (u : SealedUpdate) (reply : List ℕ)
       (result : Result ℕ OwnerFault) : Type 0 where
-    pub faulted : IsFaulted s t (frame_of epoch u) reply
+    pub faulted : IsFaulted tells s t (frame_of epoch u) reply
     pub ends : (result ≡ Err faults.Device) ⊎ IsAskFault result
 
-  -- an update was sent, which was sealed of an answer of the store
+  -- an update was sent, which was sealed of an answer of the store; all but the disk had stayed
   pub record IsSentTo (s t : Opened D) (result : Result ℕ OwnerFault) : Type 0 where
     pub told : Answer
     pub answers : Answers (serving_of s) e.first told
     pub epoch : ℕ
     pub update : SealedUpdate
     pub sealed : e.sealed told ≡ Ok (epoch, update)
+    pub mid : Opened D
+    pub stays : Stays tells s mid
     pub form : CanSend surface e (Sends [] epoch update)
     pub reply : List ℕ
-    pub asks : asked s (frame_of epoch update) reply t
-    pub comes : IsMade s t epoch update reply result ⊎ IsFailed s t epoch update reply result
+    pub asks : asked mid (frame_of epoch update) reply t
+    pub comes : IsMade mid t epoch update reply result ⊎ IsFailed mid t epoch update reply result
 
-  -- What a call makes of the store: nothing, since the command is refused; nothing, since it was
-  -- cut off; or what one update made.
+  -- What a call makes of the store but for its disk: nothing, since the command is refused;
+  -- nothing, since it was cut off; or what one update made.
   pub data Changes (s t : Opened D) (result : Result ℕ OwnerFault) : Type 0 where
-    refused : (told : Answer) (why : Refusal) → t ≡ s → Answers (serving_of s) e.first told
+    refused : (told : Answer) (why : Refusal) → Stays tells s t → Answers (serving_of s) e.first told
         → e.sealed told ≡ Err (faults.Refused why) → result ≡ Err (faults.Refused why)
         → Changes s t result
-    cut : t ≡ s → IsAskFault result → Changes s t result
+    cut : Stays tells s t → IsAskFault result → Changes s t result
     sent : IsSentTo s t result → Changes s t result
 
   -- ---- the asks
@@ -155,7 +158,7 @@ module _ {D : Type 0} (tells : DiskTells D) (surface : List ℕ) (e : Errand)
         )
 
     -- where the disk failed, the reply reads so
-    failed : IsFaulted s t (frame_of epoch u) reply
+    failed : IsFaulted tells s t (frame_of epoch u) reply
         → answer_of (update_request surface epoch u) reply ≡ Ok answers.DeviceFault
     failed is =
         reads_back (update_request surface epoch u) answers.DeviceFault reply tt tt is.spelled
@@ -221,73 +224,92 @@ module _ {D : Type 0} (tells : DiskTells D) (surface : List ℕ) (e : Errand)
       inr (record { faulted = failed.faulted; ends = inr why })
 
   module _ (s : Opened D) (same : s.keys.surface ≡ surface) where
-    -- an update is due
-    from_sends : (told : Answer) (epoch : ℕ) (u : SealedUpdate)
-        (asks : List Ask) (last : Stage) (o : Option (List ℕ)) (result : Result ℕ OwnerFault)
-        (m t : Opened D)
-        → Answers (serving_of s) e.first told → e.sealed told ≡ Ok (epoch, u)
-        → IsMakeable s.catalogue epoch u
-        → Goes surface e (Sends [] epoch u) asks last → Leads (store_peer tells) s asks m → LeftBy m o t
-        → Closes surface e last o result → Changes s t result
-    from_sends told epoch u [] last None result m t answered is ready goes leads left (inl ends) =
-        let never : Sends [] epoch u ≡ Ends result = goes ∙ ends in absurd (cc never)
-    from_sends told epoch u [] last None result m t answered is ready goes leads left (inr memory) =
-        cut (sym (leads ∙ left)) (inr memory)
-    from_sends told epoch u [] last (Some frame) result m t answered is ready goes leads (inl still)
-        (due, why) =
-        cut (still ∙ sym leads) why
-    from_sends told epoch u [] last (Some frame) result m t answered is ready goes leads
-        (inr (reply, lost)) (at_last, why) =
-        let due = subst (λ (x : Stage). IsDue surface e x frame) (sym goes) at_last in
-        let spelled : frame ≡ frame_of epoch u =
-        due.spelled ∙ ap request_bytes (sym (update_is epoch u frame due)) in
-        let asks : asked s (frame_of epoch u) reply t =
-        subst (λ (x : Opened D). asked x (frame_of epoch u) reply t) (sym leads)
-        (subst (λ (x : List ℕ). asked m x reply t) spelled lost) in
-        sent
-        (record {
-          told = told;
-          answers = answered;
-          epoch = epoch;
-          update = u;
-          sealed = is;
-          form = due.form;
-          reply = reply;
-          asks = asks;
-          comes = comes_cut s t same epoch u ready due.form reply result why asks;
-        })
-    from_sends told epoch u (a ∷ asks) last o result m t answered is ready (next, moves, goes)
-        (n, first, leads) left closes =
-        let due = moves.asked in
-        let ours = update_is epoch u a.request due in
-        let spelled : a.request ≡ frame_of epoch u =
-        due.spelled ∙ ap request_bytes (sym ours) in
-        let asked_so : asked s (frame_of epoch u) a.reply n =
-        subst (λ (x : List ℕ). asked s x a.reply n) spelled first in
-        let then : IsAfter e (Sends [] epoch u) (update_request surface epoch u) a.reply next =
-        subst (λ (r : Request). IsAfter e (Sends [] epoch u) r a.reply next) (sym ours) moves.then in
-        let (r, ends, comes) = comes_so s n same epoch u ready due.form a.reply next then asked_so in
-        let (still, by) = at_end r asks last o result n m t
-        (subst (λ (x : Stage). Goes surface e x asks last) ends goes) leads left closes in
-        let comes_now = ends_with r result s n epoch u a.reply by comes in
-        subst (λ (x : Opened D). Changes s x result) (sym still)
-        (sent
-        (record {
-          told = told;
-          answers = answered;
-          epoch = epoch;
-          update = u;
-          sealed = is;
-          form = due.form;
-          reply = a.reply;
-          asks = asked_so;
-          comes = comes_now;
-        }))
+    -- an update is due, of a store that stayed
+    module _ (n : Opened D) (stays : Stays tells s n) where
+      same_there : n.keys.surface ≡ surface
+      same_there = ap (λ (x : Opened D). x.keys.surface) stays.writes.same ∙ same
+
+      ready_there : (epoch : ℕ) (u : SealedUpdate) → IsMakeable s.catalogue epoch u
+          → IsMakeable n.catalogue epoch u
+      ready_there epoch u ready =
+          subst (λ (c : Catalogue). IsMakeable c epoch u)
+          (sym (ap (λ (x : Opened D). x.catalogue) stays.writes.same)) ready
+
+      from_sends : (told : Answer) (epoch : ℕ) (u : SealedUpdate)
+          (asks : List Ask) (last : Stage) (o : Option (List ℕ)) (result : Result ℕ OwnerFault)
+          (m t : Opened D)
+          → Answers (serving_of s) e.first told → e.sealed told ≡ Ok (epoch, u)
+          → IsMakeable s.catalogue epoch u
+          → Goes surface e (Sends [] epoch u) asks last → Leads (store_peer tells) n asks m
+          → LeftBy m o t
+          → Closes surface e last o result → Changes s t result
+      from_sends told epoch u [] last None result m t answered is ready goes leads left (inl ends) =
+          let never : Sends [] epoch u ≡ Ends result = goes ∙ ends in absurd (cc never)
+      from_sends told epoch u [] last None result m t answered is ready goes leads left
+          (inr memory) =
+          cut (subst (Stays tells s) (leads ∙ left) stays) (inr memory)
+      from_sends told epoch u [] last (Some frame) result m t answered is ready goes leads
+          (inl still) (due, why) =
+          cut (subst (Stays tells s) (leads ∙ sym still) stays) why
+      from_sends told epoch u [] last (Some frame) result m t answered is ready goes leads
+          (inr (reply, lost)) (at_last, why) =
+          let due = subst (λ (x : Stage). IsDue surface e x frame) (sym goes) at_last in
+          let spelled : frame ≡ frame_of epoch u =
+          due.spelled ∙ ap request_bytes (sym (update_is epoch u frame due)) in
+          let asks : asked n (frame_of epoch u) reply t =
+          subst (λ (x : Opened D). asked x (frame_of epoch u) reply t) (sym leads)
+          (subst (λ (x : List ℕ). asked m x reply t) spelled lost) in
+          sent
+          (record {
+            told = told;
+            answers = answered;
+            epoch = epoch;
+            update = u;
+            sealed = is;
+            mid = n;
+            stays = stays;
+            form = due.form;
+            reply = reply;
+            asks = asks;
+            comes = comes_cut n t same_there epoch u (ready_there epoch u ready) due.form reply
+                result why asks;
+          })
+      from_sends told epoch u (a ∷ asks) last o result m t answered is ready (next, moves, goes)
+          (then_at, first, leads) left closes =
+          let due = moves.asked in
+          let ours = update_is epoch u a.request due in
+          let spelled : a.request ≡ frame_of epoch u =
+          due.spelled ∙ ap request_bytes (sym ours) in
+          let asked_so : asked n (frame_of epoch u) a.reply then_at =
+          subst (λ (x : List ℕ). asked n x a.reply then_at) spelled first in
+          let then : IsAfter e (Sends [] epoch u) (update_request surface epoch u) a.reply next =
+          subst (λ (r : Request). IsAfter e (Sends [] epoch u) r a.reply next) (sym ours)
+          moves.then in
+          let (r, ends, comes) = comes_so n then_at same_there epoch u (ready_there epoch u ready)
+          due.form a.reply next then asked_so in
+          let (still, by) = at_end r asks last o result then_at m t
+          (subst (λ (x : Stage). Goes surface e x asks last) ends goes) leads left closes in
+          let comes_now = ends_with r result n then_at epoch u a.reply by comes in
+          subst (λ (x : Opened D). Changes s x result) (sym still)
+          (sent
+          (record {
+            told = told;
+            answers = answered;
+            epoch = epoch;
+            update = u;
+            sealed = is;
+            mid = n;
+            stays = stays;
+            form = due.form;
+            reply = a.reply;
+            asks = asked_so;
+            comes = comes_now;
+          }))
 
     -- after the first ask
     from_told : (told : Answer) (next : Stage) (asks : List Ask) (last : Stage)
         (o : Option (List ℕ)) (result : Result ℕ OwnerFault) (n m t : Opened D)
-        → n ≡ s → Answers (serving_of s) e.first told → IsTold s.catalogue (e.sealed told)
+        → Stays tells s n → Answers (serving_of s) e.first told → IsTold s.catalogue (e.sealed told)
         → next ≡ after_first [] 0 (e.sealed told)
         → Goes surface e next asks last → Leads (store_peer tells) n asks m → LeftBy m o t
         → Closes surface e last o result → Changes s t result
@@ -296,17 +318,17 @@ module _ {D : Type 0} (tells : DiskTells D) (surface : List ℕ) (e : Errand)
         let ends : next ≡ Ends (Err (faults.Refused why)) = after_it ∙ ap (after_first [] 0) is in
         let (now, by) = at_end (Err (faults.Refused why)) asks last o result n m t
         (subst (λ (x : Stage). Goes surface e x asks last) ends goes) leads left closes in
+        let stays : Stays tells s t = subst (Stays tells s) (sym now) still in
         elim by [
-          | inl same_result ↦ refused told why (now ∙ still) answered is (sym same_result)
-          | inr cut_off ↦ cut (now ∙ still) cut_off
+          | inl same_result ↦ refused told why stays answered is (sym same_result)
+          | inr cut_off ↦ cut stays cut_off
         ]
     from_told told next asks last o result n m t still answered (inr (epoch, u, is, ready)) after_it
         goes leads left closes =
         let sends : next ≡ Sends [] epoch u =
         after_it ∙ ap (after_first [] 0) is ∙ sends_on epoch u in
-        from_sends told epoch u asks last o result m t answered is ready
-        (subst (λ (x : Stage). Goes surface e x asks last) sends goes)
-        (subst (λ (x : Opened D). Leads (store_peer tells) x asks m) still leads) left closes
+        from_sends n still told epoch u asks last o result m t answered is ready
+        (subst (λ (x : Stage). Goes surface e x asks last) sends goes) leads left closes
 
     -- a whole call
     pub changed_by : (asks : List Ask) (o : Option (List ℕ)) (result : Result ℕ OwnerFault)
@@ -316,9 +338,9 @@ module _ {D : Type 0} (tells : DiskTells D) (surface : List ℕ) (e : Errand)
     changed_by [] None result m t (last, goes, inl ends) leads left =
         let never : start ≡ Ends result = goes ∙ ends in absurd (cc never)
     changed_by [] None result m t (last, goes, inr memory) leads left =
-        cut (sym (leads ∙ left)) (inr memory)
+        cut (stays_same tells s t (sym (leads ∙ left))) (inr memory)
     changed_by [] (Some frame) result m t (last, goes, (at_last, why)) leads (inl still) =
-        cut (still ∙ sym leads) why
+        cut (stays_same tells s t (still ∙ sym leads)) why
     changed_by [] (Some frame) result m t (last, goes, (at_last, why)) leads (inr (reply, lost)) =
         let due = subst (λ (x : Stage). IsDue surface e x frame) (sym goes) at_last in
         let ours = first_is frame due in
@@ -327,7 +349,7 @@ module _ {D : Type 0} (tells : DiskTells D) (surface : List ℕ) (e : Errand)
         let quiet = quiet_asked tells m t e.first reply
         due.form is_honest.quiet
         (subst (λ (x : List ℕ). asked m x reply t) spelled lost) in
-        cut (quiet.0 ∙ sym leads) why
+        cut (subst (λ (x : Opened D). Stays tells x t) (sym leads) quiet.0) why
     changed_by (a ∷ asks) o result m t (last, (next, moves, goes), closes) (n, first, leads) left =
         let due = moves.asked in
         let ours = first_is a.request due in
@@ -339,14 +361,15 @@ module _ {D : Type 0} (tells : DiskTells D) (surface : List ℕ) (e : Errand)
         let then : IsAfter e start e.first a.reply next =
         subst (λ (r : Request). IsAfter e start r a.reply next) (sym ours) moves.then in
         by_then told said still then where
-          by_then : (told : Answer) → Says (serving_of s) e.first a.reply told → n ≡ s
+          by_then : (told : Answer) → Says (serving_of s) e.first a.reply told → Stays tells s n
               → IsAfter e start e.first a.reply next → Changes s t result
           by_then told said still (inr memory) =
               let (now, by) = at_end (Err faults.Memory) asks last o result n m t
               (subst (λ (x : Stage). Goes surface e x asks last) memory goes) leads left closes in
+              let stays : Stays tells s t = subst (Stays tells s) (sym now) still in
               elim by [
-                | inl same_result ↦ cut (now ∙ still) (inr (sym same_result))
-                | inr cut_off ↦ cut (now ∙ still) cut_off
+                | inl same_result ↦ cut stays (inr (sym same_result))
+                | inr cut_off ↦ cut stays cut_off
               ]
           by_then told said still (inl (bytes, is)) =
               let read : answer_of e.first a.reply ≡ Ok told =

@@ -31,7 +31,7 @@ use Rattle.ov_machine.specs.Disks.{HasMade}
 use Rattle.ov_machine.specs.Frames.{Traces, TracesAt}
 use Rattle.ov_machine.specs.Machine.{IsStep, KeptOn, StandsFor, Steps, StepsAt, opened_of}
 use Rattle.ov_machine.specs.Replying.{HasOwnFault, change_reply, epoch_reply, fault_reply, names_reply}
-use Rattle.ov_machine.specs.Seats.{IsSeat}
+use Rattle.ov_machine.specs.Seats.{IsSeat, Stays}
 use Rattle.ov_machine.specs.declared.fault.StepFault.{StepFault}
 use Rattle.ov_machine.proofs.Changed.{Changes, changed_by}
 use Rattle.ov_machine.proofs.Ending.{changes_call, changes_proper}
@@ -49,8 +49,8 @@ use Rattle.ov_machine.proofs.Updating.{still_made}
 abbrev ListEnds : List ℕ → PlainHistory → Result (List (List ℕ)) OwnerFault → Type 0
 ListEnds file p x = EndsThere p (commands.List file) (names_reply file x)
 
-abbrev ListCauses : ℕ → List ℕ → Result (List (List ℕ)) OwnerFault → Type 0
-ListCauses count file x = HasOwnCause count (names_reply file x)
+abbrev ListCauses : ℕ → ℕ → List ℕ → Result (List (List ℕ)) OwnerFault → Type 0
+ListCauses before now file x = HasOwnCause before now (names_reply file x)
 
 module _ {D : Type 0} (tells : DiskTells D) {P : Type 0} (peer : PeerTells P)
     (server : P → Opened D) (put : P → Option (List ℕ)) (loan : P → ℕ)
@@ -119,30 +119,32 @@ module _ {D : Type 0} (tells : DiskTells D) {P : Type 0} (peer : PeerTells P)
 
   -- ---- questions
 
-  -- a question whose reply is the machine's, and changes nothing
+  -- a question whose reply is the machine's, and changes nothing but the disk
   pub question_done : (command : Command) (old new : KeptOn D) (a b : P) (r : Result Reply StepFault)
-      → server a ≡ opened_of old → server b ≡ opened_of new → server b ≡ server a
+      → server a ≡ opened_of old → server b ≡ opened_of new → Stays tells (server a) (server b)
       → new.kept.masters ≡ old.kept.masters
       → ((p : PlainHistory) → after p command ≡ p)
       → ((p : PlainHistory) → StandsFor old.kept p → EndsThere p command r)
-      → HasOwnCause (tells.faults old.disk) r
+      → HasOwnCause (tells.faults old.disk) (tells.faults new.disk) r
       → ((p : PlainHistory) → StandsFor old.kept p → IsServedBy (server a) (service_of old.kept.masters p)
       → TracesAt old.kept.masters p command (Unit {0}) (put a) (put b) r)
       → IsDone command old new a b r
   question_done command old new a b r at_a at_b still masters stay ends cause put_so =
-      let same : opened_of new ≡ opened_of old = sym at_b ∙ still ∙ at_a in record {
+      let stays : Stays tells (opened_of old) (opened_of new) =
+      subst (λ (t : Opened D). Stays tells (opened_of old) t) at_b
+      (subst (λ (s : Opened D). Stays tells s (server b)) at_a still) in record {
         steps = λ m p is stands.
             subst (λ (x : Masters). StepsAt tells x p command old new r) is
-            (still_steps old new masters same tells p stands command
+            (still_steps tells old new masters stays p stands command
             (stay p) r (ends p stands));
         traced = λ p stands.
             traced_with old.kept.masters p command (HasMade tells old.kept.masters p command old.disk new.disk)
             (put a) (put b) r
             (still_made tells old.kept.masters p command old.disk new.disk (stay p)
-            (ap (λ (s : Opened D). s.disk) same))
+            stays.writes.disk)
             (put_so p stands
             (subst (λ (s : Opened D). IsServedBy s (service_of old.kept.masters p)) (sym at_a) (serves_at old p stands)));
-        step = still_call old new masters same tells r cause;
+        step = still_call tells old new masters stays r cause;
       }
 
   -- what is taken of an answer is no fault but these
@@ -161,7 +163,7 @@ module _ {D : Type 0} (tells : DiskTells D) {P : Type 0} (peer : PeerTells P)
 
   module _ (a b : P) (told : Result Welcome OwnerFault) (form : HasRequestForm requests.Hello)
       (asks : AsksOnce peer a b requests.Hello welcome_in told) where
-    hello_so : (server b ≡ server a) × IsTakenOf (server a) requests.Hello welcome_in told
+    hello_so : Stays tells (server a) (server b) × IsTakenOf (server a) requests.Hello welcome_in told
     hello_so =
         once_so tells peer server put loan seat
         requests.Hello welcome_in (hello_plain form) a b told asks
@@ -179,7 +181,8 @@ module _ {D : Type 0} (tells : DiskTells D) {P : Type 0} (peer : PeerTells P)
     hello_done old new at_a at_b masters =
         question_done commands.Epoch old new a b (epoch_reply told) at_a at_b hello_so.0 masters
         (λ p. refl) (λ p stands. ends p stands (hello_taken (server a) told hello_so.1))
-        (cause (hello_taken (server a) told hello_so.1))
+        (cause (tells.faults old.disk) (tells.faults new.disk)
+        (hello_taken (server a) told hello_so.1))
         (λ p stands serves. question_put tells peer
         server put loan seat old.kept.masters p stands.0.0 commands.Epoch form welcome_in told
         (epoch_reply told) a b tt serves asks
@@ -202,14 +205,15 @@ module _ {D : Type 0} (tells : DiskTells D) {P : Type 0} (peer : PeerTells P)
           ends p stands (inr (inr is)) =
               subst (λ (x : Result Welcome OwnerFault). EndsThere p commands.Epoch (epoch_reply x)) (sym is) tt
 
-          cause : ((w : Welcome) × (w.epoch ≡ (server a).catalogue.epoch) × (told ≡ Ok w)) ⊎ IsCutOff told
-              → HasOwnCause (tells.faults old.disk) (epoch_reply told)
-          cause (inl (w, is, so)) =
-              subst (λ (x : Result Welcome OwnerFault). HasOwnCause (tells.faults old.disk) (epoch_reply x)) (sym so) tt
-          cause (inr (inl is)) =
-              subst (λ (x : Result Welcome OwnerFault). HasOwnCause (tells.faults old.disk) (epoch_reply x)) (sym is) tt
-          cause (inr (inr is)) =
-              subst (λ (x : Result Welcome OwnerFault). HasOwnCause (tells.faults old.disk) (epoch_reply x)) (sym is) tt
+          cause : (before now : ℕ)
+              → ((w : Welcome) × (w.epoch ≡ (server a).catalogue.epoch) × (told ≡ Ok w)) ⊎ IsCutOff told
+              → HasOwnCause before now (epoch_reply told)
+          cause before now (inl (w, is, so)) =
+              subst (λ (x : Result Welcome OwnerFault). HasOwnCause before now (epoch_reply x)) (sym so) tt
+          cause before now (inr (inl is)) =
+              subst (λ (x : Result Welcome OwnerFault). HasOwnCause before now (epoch_reply x)) (sym is) tt
+          cause before now (inr (inr is)) =
+              subst (λ (x : Result Welcome OwnerFault). HasOwnCause before now (epoch_reply x)) (sym is) tt
 
   -- ---- lists
 
@@ -237,7 +241,7 @@ module _ {D : Type 0} (tells : DiskTells D) {P : Type 0} (peer : PeerTells P)
   module _ (file : List ℕ) (a b : P) (told : Result (List (List ℕ)) OwnerFault)
       (form : HasRequestForm (requests.List file))
       (asks : AsksOnce peer a b (requests.List file) names_in told) where
-    list_so : (server b ≡ server a) × IsTakenOf (server a) (requests.List file) names_in told
+    list_so : Stays tells (server a) (server b) × IsTakenOf (server a) (requests.List file) names_in told
     list_so =
         once_so tells peer server put loan seat
         (requests.List file) names_in (list_plain file form) a b told asks
@@ -255,7 +259,8 @@ module _ {D : Type 0} (tells : DiskTells D) {P : Type 0} (peer : PeerTells P)
     list_done old new at_a at_b masters =
         question_done (commands.List file) old new a b (names_reply file told) at_a at_b list_so.0
         masters (λ p. refl) (λ p stands. ends p stands (list_taken (server a) file told list_so.1))
-        (cause (list_taken (server a) file told list_so.1))
+        (cause (tells.faults old.disk) (tells.faults new.disk)
+        (list_taken (server a) file told list_so.1))
         (λ p stands serves. question_put tells peer
         server put loan seat old.kept.masters p stands.0.0 (commands.List file) form names_in told
         (names_reply file told) a b tt serves asks
@@ -281,8 +286,11 @@ module _ {D : Type 0} (tells : DiskTells D) {P : Type 0} (peer : PeerTells P)
           ends p stands (inr (inl is)) = subst (ListEnds file p) (sym is) tt
           ends p stands (inr (inr is)) = subst (ListEnds file p) (sym is) tt
 
-          cause : IsListed (server a) file told ⊎ IsCutOff told → ListCauses (tells.faults old.disk) file told
-          cause (inl (inl (names, so, is))) = subst (ListCauses (tells.faults old.disk) file) (sym so) tt
-          cause (inl (inr (why, so, is))) = subst (ListCauses (tells.faults old.disk) file) (sym so) tt
-          cause (inr (inl is)) = subst (ListCauses (tells.faults old.disk) file) (sym is) tt
-          cause (inr (inr is)) = subst (ListCauses (tells.faults old.disk) file) (sym is) tt
+          cause : (before now : ℕ) → IsListed (server a) file told ⊎ IsCutOff told
+              → ListCauses before now file told
+          cause before now (inl (inl (names, so, is))) =
+              subst (ListCauses before now file) (sym so) tt
+          cause before now (inl (inr (why, so, is))) =
+              subst (ListCauses before now file) (sym so) tt
+          cause before now (inr (inl is)) = subst (ListCauses before now file) (sym is) tt
+          cause before now (inr (inr is)) = subst (ListCauses before now file) (sym is) tt

@@ -8,8 +8,6 @@ use Rattle.ov_script.specs.declared.reply.Reply.{Reply}
 use Rattle.ov_history.specs.Asking.{key_refusal, user_named}
 use Rattle.ov_history.specs.Masters.{Masters}
 use Rattle.ov_history.specs.Plain.{PlainHistory}
-use Rattle.ov_history.specs.Sealed.{SealedHistory}
-use Rattle.ov_history.proofs.Storing.{stored_is_coated}
 use Rattle.ov_wire.specs.declared.answer.Answer.{Answer}
 use Rattle.ov_wire.specs.declared.answer.Answer.TheVariants as answers
 use Rattle.ov_wire.specs.declared.request.Question.TheVariants as questions
@@ -22,7 +20,7 @@ use Rattle.ov_client.specs.Readers.{Reader}
 use Rattle.ov_client.specs.Reads.{Reads}
 use Rattle.ov_client.specs.declared.fault.ClientFault.{ClientFault}
 use Rattle.ov_client.specs.declared.fault.ClientFault.TheVariants as client
-use Rattle.ov_store.specs.Opened.{Opened, Serves}
+use Rattle.ov_store.specs.Opened.{Opened}
 use Rattle.ov_owner.specs.Clients.{reader_in}
 use Rattle.ov_owner.specs.Questions.{AsksOnce}
 use Rattle.ov_owner.specs.declared.fault.OwnerFault.{OwnerFault}
@@ -33,10 +31,10 @@ use Rattle.ov_transcript.specs.Transcripts.{service_of}
 use Rattle.ov_machine.specs.Frames.{TracesAt}
 use Rattle.ov_machine.specs.Machine.{KeptOn, StandsFor, opened_of}
 use Rattle.ov_machine.specs.Replying.{HasOwnFault, HasReadFault, fault_reply, read_reply}
-use Rattle.ov_machine.specs.Seats.{AllStay, IsSeat, store_peer}
+use Rattle.ov_machine.specs.Seats.{AllStay, IsSeat, Stays, store_peer}
 use Rattle.ov_machine.specs.declared.fault.StepFault.{StepFault}
 use Rattle.ov_machine.proofs.Done.{IsDone, question_done}
-use Rattle.ov_machine.proofs.Fetching.{HasLengths, IsReadEnd, reads_so}
+use Rattle.ov_machine.proofs.Fetching.{IsReadEnd, reads_so}
 use Rattle.ov_machine.proofs.Listing.{key_plain}
 use Rattle.ov_machine.proofs.Putting.{read_put, unread_put}
 use Rattle.ov_machine.proofs.Questioning.{IsTakenOf, once_so}
@@ -44,35 +42,29 @@ use Rattle.ov_machine.proofs.ReadingBack.{IsReader, IsReadThere, bytes_are, key_
 use Rattle.ov_machine.proofs.Seating.{leads_so, left_so}
 use Rattle.ov_machine.proofs.Staying.{EndsThere, HasOwnCause}
 
--- what a store that stands for some history stores of a file has the file's length
-pub has_lengths : {D : Type 0} (tells : DiskTells D)
-    (s : Opened D) (g : SealedHistory) → Serves tells g s → HasLengths s
-has_lengths tells s g serves n f is =
-    (stored_is_coated s.keys.surface s.catalogue s.stored g serves.catalogue serves.bytes).lengths n f is
-
 -- a read that ends has no other fault
-end_proper : (count : ℕ) (found : Result (List ℕ) ClientFault) → IsReadEnd count found
+end_proper : (before now : ℕ) (found : Result (List ℕ) ClientFault) → IsReadEnd before now found
     → HasReadFault found
-end_proper count (Ok bytes) is = tt
-end_proper count (Err (client.Refused why)) is = tt
-end_proper count (Err client.Link) is = tt
-end_proper count (Err (client.BadReply place)) is = is
-end_proper count (Err (client.Damaged stored computed)) is = tt
-end_proper count (Err client.Device) is = tt
-end_proper count (Err (client.Unsettled generations)) is = is
-end_proper count (Err client.Memory) is = tt
+end_proper before now (Ok bytes) is = tt
+end_proper before now (Err (client.Refused why)) is = tt
+end_proper before now (Err client.Link) is = tt
+end_proper before now (Err (client.BadReply place)) is = is
+end_proper before now (Err (client.Damaged stored computed)) is = tt
+end_proper before now (Err client.Device) is = tt
+end_proper before now (Err (client.Unsettled generations)) is = is
+end_proper before now (Err client.Memory) is = tt
 
 -- the reply of a read that ends has its cause
-end_cause : (count : ℕ) (user file : List ℕ) (found : Result (List ℕ) ClientFault)
-    → IsReadEnd count found → HasOwnCause count (read_reply user file found)
-end_cause count user file (Ok bytes) is = tt
-end_cause count user file (Err (client.Refused why)) is = tt
-end_cause count user file (Err client.Link) is = tt
-end_cause count user file (Err (client.BadReply place)) is = tt
-end_cause count user file (Err (client.Damaged stored computed)) is = is
-end_cause count user file (Err client.Device) is = is
-end_cause count user file (Err (client.Unsettled generations)) is = tt
-end_cause count user file (Err client.Memory) is = tt
+end_cause : (before now : ℕ) (user file : List ℕ) (found : Result (List ℕ) ClientFault)
+    → IsReadEnd before now found → HasOwnCause before now (read_reply user file found)
+end_cause before now user file (Ok bytes) is = tt
+end_cause before now user file (Err (client.Refused why)) is = tt
+end_cause before now user file (Err client.Link) is = tt
+end_cause before now user file (Err (client.BadReply place)) is = tt
+end_cause before now user file (Err (client.Damaged stored computed)) is = is
+end_cause before now user file (Err client.Device) is = is
+end_cause before now user file (Err (client.Unsettled generations)) is = tt
+end_cause before now user file (Err client.Memory) is = tt
 
 -- where the end of a read is the machine's, so is the reply
 end_there : (p : PlainHistory) (user file : List ℕ) (found : Result (List ℕ) ClientFault)
@@ -109,7 +101,7 @@ module _ {D : Type 0} (tells : DiskTells D) {P : Type 0} (peer : PeerTells P)
 
   module _ (told : Result Reader OwnerFault)
       (asks : AsksOnce peer a b (requests.Ask (questions.Key user)) (reader_in k user) told) where
-    pub key_so : (server b ≡ server a)
+    pub key_so : Stays tells (server a) (server b)
         × IsTakenOf (server a) (requests.Ask (questions.Key user)) (reader_in k user) told
     key_so =
         once_so tells peer server put loan seat
@@ -156,7 +148,8 @@ module _ {D : Type 0} (tells : DiskTells D) {P : Type 0} (peer : PeerTells P)
           question_done tells peer
           server put loan seat (Read user file) old new a b (fault_reply fault) at_a at_b
           (key_so (Err fault) asks).0 masters (λ p. refl)
-          (λ p stands. ends p stands unread_so) (cause unread_so)
+          (λ p stands. ends p stands unread_so)
+          (cause (tells.faults old.disk) (tells.faults new.disk) unread_so)
           (λ p stands serves.
           subst (λ (m : Masters). TracesAt m p (Read user file) (Unit {0}) (put a) (put b) (fault_reply fault)) at_k
           (unread_put tells peer server put loan seat k p
@@ -174,20 +167,20 @@ module _ {D : Type 0} (tells : DiskTells D) {P : Type 0} (peer : PeerTells P)
             ends p stands (inr (inr so)) =
                 subst (λ (f : OwnerFault). EndsThere p (Read user file) (fault_reply f)) (sym so) tt
 
-            cause : IsUnreadFor (server a) → HasOwnCause (tells.faults old.disk) (fault_reply fault)
-            cause (inl (why, so, is)) =
-                subst (λ (f : OwnerFault). HasOwnCause (tells.faults old.disk) (fault_reply f)) (sym so) tt
-            cause (inr (inl so)) =
-                subst (λ (f : OwnerFault). HasOwnCause (tells.faults old.disk) (fault_reply f)) (sym so) tt
-            cause (inr (inr so)) =
-                subst (λ (f : OwnerFault). HasOwnCause (tells.faults old.disk) (fault_reply f)) (sym so) tt
+            cause : (before now : ℕ) → IsUnreadFor (server a)
+                → HasOwnCause before now (fault_reply fault)
+            cause before now (inl (why, so, is)) =
+                subst (λ (f : OwnerFault). HasOwnCause before now (fault_reply f)) (sym so) tt
+            cause before now (inr (inl so)) =
+                subst (λ (f : OwnerFault). HasOwnCause before now (fault_reply f)) (sym so) tt
+            cause before now (inr (inr so)) =
+                subst (λ (f : OwnerFault). HasOwnCause before now (fault_reply f)) (sym so) tt
 
   -- ---- a reader
 
   module _ (r : Reader) (found : Result (List ℕ) ClientFault) (d : P)
       (asks : AsksOnce peer a b (requests.Ask (questions.Key user)) (reader_in k user) (Ok r))
-      (talk : Reads peer b d r file found) (sizes : HasLengths (server a))
-      (sound : (server a).failed ≡ false) where
+      (talk : Reads peer b d r file found) (sound : (server a).failed ≡ false) where
     reader : IsReader k (server a).catalogue user r
     reader = by (key_so (Ok r) asks).1 where
       by : IsTakenOf (server a) (requests.Ask (questions.Key user)) (reader_in k user) (Ok r)
@@ -196,21 +189,22 @@ module _ {D : Type 0} (tells : DiskTells D) {P : Type 0} (peer : PeerTells P)
       by (inr (inl is)) = absurd (cc is)
       by (inr (inr is)) = absurd (cc is)
 
-    still : server b ≡ server a
+    still : Stays tells (server a) (server b)
     still = (key_so (Ok r) asks).0
 
-    fetched : (server d ≡ server a) × IsReadEnd (tells.faults (server a).disk) found
-        × AllStay tells (server a) talk.0
+    fetched : Stays tells (server a) (server d)
+        × IsReadEnd (tells.faults (server a).disk) (tells.faults (server d).disk) found
+        × AllStay tells (server b) talk.0
     fetched =
         let (list, o, (m, leads, ends), talks) = talk in
-        reads_so tells (server a) sizes sound r reader.roots
-        file list o found (server m) (server d) talks
-        (subst (λ (s : Opened D). Leads (store_peer tells) s list (server m)) still
-        (leads_so tells peer server put loan seat list b m leads))
+        reads_so tells (server a) sound r reader.roots
+        file list o found (server b) (server m) (server d) still talks
+        (leads_so tells peer server put loan seat list b m leads)
         (left_so tells peer server put loan seat o m d ends)
 
     pub read_proper : HasReadFault found
-    read_proper = end_proper (tells.faults (server a).disk) found fetched.1
+    read_proper =
+        end_proper (tells.faults (server a).disk) (tells.faults (server d).disk) found fetched.1
 
     pub read_done : (old new : KeptOn D) → k ≡ old.kept.masters → server a ≡ opened_of old
         → server d ≡ opened_of new → new.kept.masters ≡ old.kept.masters
@@ -223,10 +217,12 @@ module _ {D : Type 0} (tells : DiskTells D) {P : Type 0} (peer : PeerTells P)
         (read_there tells old p stands user file r
         (subst (λ (m : Masters). IsReader m old.kept.catalogue user r) at_k
         (subst (λ (s : Opened D). IsReader k s.catalogue user r) at_a reader))
-        talk.0 talk.1 found talk.3
-        (subst (λ (s : Opened D). AllStay tells s talk.0) at_a fetched.2)))
-        (end_cause (tells.faults old.disk) user file found
-        (subst (λ (s : Opened D). IsReadEnd (tells.faults s.disk) found) at_a fetched.1))
+        talk.0 talk.1 found talk.3 (server b)
+        (subst (λ (s : Opened D). Stays tells s (server b)) at_a still) fetched.2))
+        (end_cause (tells.faults old.disk) (tells.faults new.disk) user file found
+        (subst (λ (t : Opened D). IsReadEnd (tells.faults old.disk) (tells.faults t.disk) found) at_d
+        (subst (λ (s : Opened D). IsReadEnd (tells.faults s.disk) (tells.faults (server d).disk) found)
+        at_a fetched.1)))
         (λ p stands serves.
         subst (λ (m : Masters). TracesAt m p (Read user file) (Unit {0}) (put a) (put d) (read_reply user file found)) at_k
         (read_put tells peer server put loan seat k p

@@ -1,5 +1,5 @@
 -- How a change by the owner ends: its reply, and what is true of it at any store.
-use Rattle.std.proofs.Common.{◌≡◌, ℕ, ◌+◌, List, false, Result, Ok, Err, refl, sym, ap, subst, inl, inr, arith}
+use Rattle.std.proofs.Common.{◌≡◌, ◌∙◌, ℕ, ◌+◌, List, false, Result, Ok, Err, refl, sym, subst, inl, inr, arith}
 use Rattle.std.specs.Prelude.{◌⊎◌, OnOk}
 use Rattle.ov_base.specs.Causes.{Rose}
 use Rattle.ov_disk.specs.Tells.{DiskTells}
@@ -15,7 +15,9 @@ use Rattle.ov_machine.specs.declared.fault.BadTag.{BadTag}
 use Rattle.ov_machine.specs.declared.fault.StepFault.{StepFault}
 use Rattle.ov_machine.specs.declared.fault.StepFault.TheVariants.{Disk, Tag, Trace}
 use Rattle.ov_machine.proofs.Changed.{Changes, IsFailed, IsMade, IsSentTo, cut, refused, sent}
+use Rattle.ov_machine.specs.Seats.{Stays}
 use Rattle.ov_machine.proofs.Errands.{IsHonest}
+use Rattle.ov_machine.proofs.Stays.{fails_same, rose_since}
 
 -- a fault of the trace comes of a fault of the link alone
 pub is_link : (made : Result ℕ OwnerFault) → HasOwnFault made → change_reply made ≡ Err Trace
@@ -53,8 +55,8 @@ module _ {D : Type 0} (tells : DiskTells D) (surface : List ℕ) (e : Errand)
     by_failed (inl is) = subst HasOwnFault (sym is) tt
     by_failed (inr why) = cut_proper made why
 
-    by : IsMade tells surface e is_honest s t x.epoch x.update x.reply made
-        ⊎ IsFailed tells surface e is_honest s t x.epoch x.update x.reply made
+    by : IsMade tells surface e is_honest x.mid t x.epoch x.update x.reply made
+        ⊎ IsFailed tells surface e is_honest x.mid t x.epoch x.update x.reply made
         → HasOwnFault made
     by (inl m) = by_made m.ends
     by (inr f) = by_failed f.ends
@@ -75,21 +77,21 @@ module _ {D : Type 0} (tells : DiskTells D) (surface : List ℕ) (e : Errand)
   module _ (old new : KeptOn D) (sound : old.failed ≡ false)
       (masters : new.kept.masters ≡ old.kept.masters) where
     -- nothing changed
-    still_step : (r : Result Reply StepFault) → opened_of new ≡ opened_of old → IsQuiet r
-        → IsStep tells old new r
+    still_step : (r : Result Reply StepFault) → Stays tells (opened_of old) (opened_of new)
+        → IsQuiet r → IsStep tells old new r
     unfolding IsQuiet
-    still_step r same quiet = record {
+    still_step r still quiet = record {
       masters = masters;
       call = record {
-        same = ap (λ (x : Opened D). tells.borrow x.disk) same;
-        later = omega (arith, ap (λ (x : Opened D). tells.faults x.disk) same);
+        same = still.lent;
+        later = still.later;
         rose = λ is. absurd (quiet.0 is);
       };
       sound = by r;
       tag = λ bad is. absurd (quiet.1 bad is);
     } where
       by : (x : Result Reply StepFault) → OnOk x (new.failed ≡ old.failed)
-      by (Ok reply) = ap (λ (x : Opened D). x.failed) same
+      by (Ok reply) = fails_same tells (opened_of old) (opened_of new) still
       by (Err fault) = tt
 
     -- an update was sent
@@ -98,6 +100,9 @@ module _ {D : Type 0} (tells : DiskTells D) (surface : List ℕ) (e : Errand)
         → IsStep tells old new (change_reply made)
     unfolding IsQuiet
     sent_step made x = by x.comes where
+      failed_before : x.mid.failed ≡ old.failed
+      failed_before = fails_same tells (opened_of old) x.mid x.stays
+
       step_of : (r : Result Reply StepFault)
           → (r ≡ Err Disk → Rose (tells.faults old.disk) (tells.faults new.disk))
           → OnOk r (new.failed ≡ old.failed) → ((bad : BadTag) → r ≡ Err (Tag bad) → ⊥)
@@ -105,8 +110,8 @@ module _ {D : Type 0} (tells : DiskTells D) (surface : List ℕ) (e : Errand)
       step_of r disk still no_tag = record {
         masters = masters;
         call = record {
-          same = x.asks.call.1;
-          later = x.asks.call.2;
+          same = x.asks.call.1 ∙ x.stays.lent;
+          later = omega (arith, x.stays.later, x.asks.call.2);
           rose = disk;
         };
         sound = still;
@@ -121,24 +126,27 @@ module _ {D : Type 0} (tells : DiskTells D) (surface : List ℕ) (e : Errand)
           subst (λ (r : Result ℕ OwnerFault). IsStep tells old new (change_reply r)) (sym is)
           (step_of (change_reply (Err faults.Memory)) (λ y. absurd cc) tt (λ bad y. absurd cc))
 
-      by_made : (m : IsMade tells surface e is_honest (opened_of old) (opened_of new) x.epoch x.update x.reply made)
+      by_made : (m : IsMade tells surface e is_honest x.mid (opened_of new) x.epoch x.update x.reply made)
           → (made ≡ Ok (x.epoch + 1)) ⊎ IsAskFault made
           → IsStep tells old new (change_reply made)
       by_made m (inl is) =
           subst (λ (r : Result ℕ OwnerFault). IsStep tells old new (change_reply r)) (sym is)
-          (step_of (change_reply (Ok (x.epoch + 1))) (λ y. absurd cc) m.answered.failed (λ bad y. absurd cc))
+          (step_of (change_reply (Ok (x.epoch + 1))) (λ y. absurd cc) (m.answered.failed ∙ failed_before) (λ bad y. absurd cc))
       by_made m (inr why) = cut_off why
 
-      by_failed : (f : IsFailed tells surface e is_honest (opened_of old) (opened_of new) x.epoch x.update x.reply made)
+      by_failed : (f : IsFailed tells surface e is_honest x.mid (opened_of new) x.epoch x.update x.reply made)
           → (made ≡ Err faults.Device) ⊎ IsAskFault made
           → IsStep tells old new (change_reply made)
       by_failed f (inl is) =
           subst (λ (r : Result ℕ OwnerFault). IsStep tells old new (change_reply r)) (sym is)
-          (step_of (Err Disk) (λ y. x.asks.call.3 (f.faulted.spelled, λ update. sound)) tt (λ bad y. absurd cc))
+          (step_of (Err Disk) (λ y. rose_since (tells.faults old.disk) (tells.faults x.mid.disk)
+          (tells.faults new.disk) x.stays.later
+          (x.asks.call.3 (f.faulted.spelled, λ update. failed_before ∙ sound))) tt
+          (λ bad y. absurd cc))
       by_failed f (inr why) = cut_off why
 
-      by : IsMade tells surface e is_honest (opened_of old) (opened_of new) x.epoch x.update x.reply made
-          ⊎ IsFailed tells surface e is_honest (opened_of old) (opened_of new) x.epoch x.update x.reply made
+      by : IsMade tells surface e is_honest x.mid (opened_of new) x.epoch x.update x.reply made
+          ⊎ IsFailed tells surface e is_honest x.mid (opened_of new) x.epoch x.update x.reply made
           → IsStep tells old new (change_reply made)
       by (inl m) = by_made m m.ends
       by (inr f) = by_failed f f.ends

@@ -20,8 +20,7 @@ use Rattle.ov_client.specs.Readers.{Reader}
 use Rattle.ov_client.specs.Reads.{Reads}
 use Rattle.ov_client.specs.declared.fault.ClientFault.{ClientFault}
 use Rattle.ov_client.specs.declared.fault.ClientFault.TheVariants as client
-use Rattle.ov_history.specs.Sealed.{SealedHistory}
-use Rattle.ov_store.specs.Opened.{Opened, Serves}
+use Rattle.ov_store.specs.Opened.{Opened}
 use Rattle.ov_owner.specs.Causes.{HasOwnerCause}
 use Rattle.ov_owner.specs.Clients.{reader_in}
 use Rattle.ov_owner.specs.Questions.{AsksOnce, names_in, welcome_in}
@@ -38,8 +37,7 @@ use Rattle.ov_machine.specs.declared.fault.StepFault.TheVariants.{Trace}
 use Rattle.ov_machine.specs.declared.replying.Found.{Found}
 use Rattle.ov_machine.specs.declared.replying.Found.TheVariants.{Read, Unread}
 use Rattle.ov_machine.proofs.Done.{IsDone, hello_done, hello_proper, list_done, list_proper}
-use Rattle.ov_machine.proofs.DoneReads.{has_lengths, read_done, read_proper, unread_done, unread_proper}
-use Rattle.ov_machine.proofs.Fetching.{HasLengths}
+use Rattle.ov_machine.proofs.DoneReads.{read_done, read_proper, unread_done, unread_proper}
 use Rattle.ov_machine.proofs.Lent.{IsWhole, Lent, keeps_keys, lent, loan_of, opens_as, put_of, puts_more, seat, store_of}
 use Rattle.ov_machine.proofs.Listing.{hello_plain, key_plain, list_plain}
 use Rattle.ov_machine.proofs.Questioning.{IsPlainQuestion, once_asks}
@@ -241,11 +239,7 @@ module _ {D T : Type 0} (tells : DiskTells D) (sink : SinkTells T) (k : Masters)
 
       module _ (r : Reader) (found : Result (List ℕ) ClientFault) (d : Peer)
           (asks : AsksIt (requests.Ask (questions.Key user)) (reader_in k user) a b (Ok r))
-          (talk : Reads (lent tells sink) b d r file found) (sizes : HasLengths s)
-          (sound : s.failed ≡ false) where
-        sizes_a : HasLengths a.peer.now
-        sizes_a = subst HasLengths (sym at_a) sizes
-
+          (talk : Reads (lent tells sink) b d r file found) (sound : s.failed ≡ false) where
         sound_a : a.peer.now.failed ≡ false
         sound_a = ap (λ (x : Opened D). x.failed) at_a ∙ sound
 
@@ -257,7 +251,7 @@ module _ {D T : Type 0} (tells : DiskTells D) (sink : SinkTells T) (k : Masters)
 
         pub read_fault : HasReadFault found
         read_fault =
-            read_proper tells _ _ _ _ (seat tells sink) k user file a b form r found d asks talk sizes_a sound_a
+            read_proper tells _ _ _ _ (seat tells sink) k user file a b form r found d asks talk sound_a
 
         read_puts : HasFoundCause (0 + sink.faults a.sink.now) (0 + sink.faults d.sink.now) (Read found)
             → PutsTo sink (read_reply user file found ≡ Err Trace) a.sink.now d.sink.now
@@ -278,18 +272,15 @@ module _ {D T : Type 0} (tells : DiskTells D) (sink : SinkTells T) (k : Masters)
         read_all t_old t_new reply put_a put_d cause replied =
             subst (Whole (commands.Read user file) d t_old t_new) (sym replied)
             (whole_so (commands.Read user file) d t_old t_new (read_reply user file found)
-            (read_done tells _ _ _ _ (seat tells sink) k user file a b form r found d asks talk sizes_a sound_a (machine_of k s) (machine_of k d.peer.now) refl
+            (read_done tells _ _ _ _ (seat tells sink) k user file a b form r found d asks talk sound_a (machine_of k s) (machine_of k d.peer.now) refl
             at_old (opens_as k d.peer.now read_keys) refl)
             (read_puts cause) put_a put_d (read_names user file found))
 
   -- a read, whatever came of it
   module _ (user file : List ℕ) (form : HasRequestForm (requests.Ask (questions.Key user)))
-      (d : Peer) (some : (g : SealedHistory) × Serves tells g s) (sound : old.failed ≡ false) where
+      (d : Peer) (sound : old.failed ≡ false) where
     sound_s : s.failed ≡ false
     sound_s = ap (λ (m : KeptOn D). m.failed) seen ∙ sound
-
-    sizes_s : HasLengths s
-    sizes_s = has_lengths tells s some.0 some.1
 
     abbrev ReadsIt : Found → Type 0
     ReadsIt found =
@@ -298,12 +289,12 @@ module _ {D T : Type 0} (tells : DiskTells D) (sink : SinkTells T) (k : Masters)
     pub found_keys : (found : Found) → ReadsIt found → d.peer.now.keys ≡ keys_of k
     found_keys (Unread fault) asks = unread_keys user file form d fault asks
     found_keys (Read found) (r, m, asks, talk) =
-        read_keys user file form m r found d asks talk sizes_s sound_s
+        read_keys user file form m r found d asks talk sound_s
 
     pub found_fault : (found : Found) → ReadsIt found → HasFoundFault found
     found_fault (Unread fault) asks = unread_fault user file form d fault asks
     found_fault (Read found) (r, m, asks, talk) =
-        read_fault user file form m r found d asks talk sizes_s sound_s
+        read_fault user file form m r found d asks talk sound_s
 
     found_so : (found : Found) (t_old t_new : T) → ReadsIt found → a.sink.now ≡ t_old
         → d.sink.now ≡ t_new
@@ -313,7 +304,7 @@ module _ {D T : Type 0} (tells : DiskTells D) (sink : SinkTells T) (k : Masters)
         unread_all user file form d fault asks t_old t_new (fault_reply fault) put_a put_d
         (record { later = cause.later; link = λ is. cause.unread (ap Unread (fault_of fault is)) }) refl
     found_so (Read found) t_old t_new (r, m, asks, talk) put_a put_d cause =
-        read_all user file form m r found d asks talk sizes_s sound_s t_old t_new
+        read_all user file form m r found d asks talk sound_s t_old t_new
         (read_reply user file found) put_a put_d cause refl
 
     pub found_all : (found : Found) (t_old t_new : T) (reply : Result Reply StepFault) → ReadsIt found

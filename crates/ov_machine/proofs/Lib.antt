@@ -16,6 +16,7 @@ pub mod Quiet
 pub mod Reading
 pub mod ReadingBack
 pub mod Seating
+pub mod Stays
 pub mod Staying
 pub mod Stepping
 pub mod TagReplies

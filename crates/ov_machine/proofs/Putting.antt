@@ -42,10 +42,11 @@ use Rattle.ov_transcript.proofs.Questions.{first_answers_are_fronts, first_asks_
 use Rattle.ov_transcript.proofs.ReadersTalks.{reads_are_fronts, reads_are_transcripts}
 use Rattle.ov_machine.specs.Frames.{BreaksOff, TracesAt, Transcribes, TranscribesFront}
 use Rattle.ov_machine.specs.Replying.{change_reply, fault_reply}
-use Rattle.ov_machine.specs.Seats.{IsSeat}
+use Rattle.ov_machine.specs.Seats.{IsSeat, Stays}
 use Rattle.ov_machine.specs.declared.fault.StepFault.{StepFault}
 use Rattle.ov_machine.proofs.Making.{ComesTo, whole_is_made}
 use Rattle.ov_machine.proofs.Seating.{alone_so, are_put, end_on, end_put, frames_put}
+use Rattle.ov_machine.proofs.Stays.{serves_still}
 use Rattle.ov_machine.proofs.Transcripts.{breaks_off}
 
 -- a reply is that of a transcript that was put, and a fault that of a front
@@ -249,7 +250,7 @@ module _ {D : Type 0} (tells : DiskTells D) {P : Type 0} (peer : PeerTells P)
   pub read_put : (user file : List ℕ) (r : Reader) (asks : List Ask) (o : Option (List ℕ))
       (found : Result (List ℕ) ClientFault) (reply : Result Reply StepFault) (a b d : P)
       → HasRequestForm (first_request (Read user file)) → IsServedBy (server a) (service_of k p)
-      → server b ≡ server a → r.name ≡ user
+      → Stays tells (server a) (server b) → r.name ≡ user
       → AsksOnce peer a b (first_request (Read user file)) (reader_in k user) (Ok r)
       → AreAsks peer b asks o d → ReadTalks r file asks o found
       → ((x : Reply) → reply ≡ Ok x → IsReadAnswered found)
@@ -288,7 +289,7 @@ module _ {D : Type 0} (tells : DiskTells D) {P : Type 0} (peer : PeerTells P)
                   ∙ answered.reads ∙ ap Ok (sym same_answer ∙ as_known);
             } in
             let serves_b : IsServedBy (server b) (service_of k p) =
-            subst (λ (s : Opened D). IsServedBy s (service_of k p)) (sym still) serves in
+            serves_still tells (server a) (server b) still (service_of k p) serves in
             let (w, alone, then) = alone_so tells peer
             server put loan seat asks b m (service_of k p) serves_b leads in
             let (more, put_more, are_put) = end_put tells peer server put loan seat o m d w then ends in

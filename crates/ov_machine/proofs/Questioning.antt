@@ -21,8 +21,9 @@ use Rattle.ov_owner.specs.Questions.{AsksOnce, taken}
 use Rattle.ov_owner.specs.declared.fault.OwnerFault.{OwnerFault}
 use Rattle.ov_owner.specs.declared.fault.OwnerFault.TheVariants as faults
 use Rattle.ov_owner.proofs.Fitting.{reads_back}
-use Rattle.ov_machine.specs.Seats.{IsSeat, served, store_peer}
+use Rattle.ov_machine.specs.Seats.{IsSeat, Stays, served, store_peer}
 use Rattle.ov_machine.proofs.Quiet.{quiet_asked}
+use Rattle.ov_machine.proofs.Stays.{stays_same}
 
 -- the question is no more than that: it needs no disk, and its answers are in the grammar
 pub record IsPlainQuestion (request : Request) : Type 0 where
@@ -49,22 +50,23 @@ module _ {D : Type 0} (tells : DiskTells D) {P : Type 0} (peer : PeerTells P)
   store_asked s bytes reply t = served tells s bytes reply t
 
   stays : (p q : P) (reply : List ℕ) → store_asked (server p) (request_bytes request) reply (server q)
-      → server q ≡ server p
+      → Stays tells (server p) (server q)
   stays p q reply asks =
       (quiet_asked tells (server p) (server q) request
       reply question.form question.quiet asks).0
 
-  fault_stays : (p q : P) → peer.failed p (request_bytes request) q → server q ≡ server p
+  fault_stays : (p q : P) → peer.failed p (request_bytes request) q
+      → Stays tells (server p) (server q)
   fault_stays p q fault = by (seat.fails p q (request_bytes request) fault).0 where
     by : TracesFault (store_peer tells)
         (server p) (server q) (put p) (put q) (request_bytes request)
-        → server q ≡ server p
-    by (unasked same n bytes) = same
-    by (unanswered same bytes) = same
+        → Stays tells (server p) (server q)
+    by (unasked same n bytes) = stays_same tells (server p) (server q) same
+    by (unanswered same bytes) = stays_same tells (server p) (server q) same
     by (unput reply n asks bytes) = stays p q reply asks
 
-  forgets_stays : (p q : P) → Forgets peer p q request → server q ≡ server p
-  forgets_stays p q (inl same) = ap server same
+  forgets_stays : (p q : P) → Forgets peer p q request → Stays tells (server p) (server q)
+  forgets_stays p q (inl same) = stays_same tells (server p) (server q) (ap server same)
   forgets_stays p q (inr (inl fault)) = fault_stays p q fault
   forgets_stays p q (inr (inr (reply, asks))) =
       stays p q reply (seat.asks p q (request_bytes request) reply asks).0.peer
@@ -72,7 +74,7 @@ module _ {D : Type 0} (tells : DiskTells D) {P : Type 0} (peer : PeerTells P)
   -- a question changes nothing, and ends so
   pub once_so : (p q : P) (result : Result T OwnerFault)
       → AsksOnce peer p q request take result
-      → (server q ≡ server p) × IsTakenOf (server p) request take result
+      → Stays tells (server p) (server q) × IsTakenOf (server p) request take result
   once_so p q result (inl (read, answered, is)) =
       let asks = (seat.asks p q (request_bytes request) answered.reply answered.sent).0.peer in
       let (same, a, said) = quiet_asked tells (server p)

@@ -14,10 +14,10 @@ use Rattle.ov_protocol.specs.Replies.{AnswersRead, Replies, made_of}
 use Rattle.ov_protocol.proofs.Reading.{request_back}
 use Rattle.ov_peer.specs.Disks.{MayNeedDisk}
 use Rattle.ov_peer.proofs.Needing.{needs_disk}
-use Rattle.ov_server.specs.Answering.{AnswersOrFails, serving_of}
+use Rattle.ov_server.specs.Answering.{AnswersOrFails, WritesNothing, serving_of}
 use Rattle.ov_server.specs.Locally.{needs}
 use Rattle.ov_store.specs.Opened.{Opened}
-use Rattle.ov_machine.specs.Seats.{served}
+use Rattle.ov_machine.specs.Seats.{Stays, served}
 
 -- an answer that a server gave by what it shows
 pub record Says (s : Serving) (request : Request) (reply : List ℕ) (a : Answer) : Type 0 where
@@ -48,18 +48,25 @@ quiet_makes (requests.Update epoch spelling tag) quiet a = absurd (quiet tt)
 quiet_makes request quiet a = refl
 
 module _ {D : Type 0} (tells : DiskTells D) where
+  -- an ask that writes nothing
+  pub asked_stays : (s t : Opened D) (request reply : List ℕ) → served tells s request reply t
+      → WritesNothing tells s t → Stays tells s t
+  asked_stays s t request reply asks writes =
+      record { writes = writes; lent = asks.call.1; later = asks.call.2 }
+
   -- a request that needs no disk is answered, and all stays
   pub quiet_asked : (s t : Opened D) (request : Request) (reply : List ℕ)
       → HasRequestForm request → (MayNeedDisk request → ⊥)
       → served tells s (request_bytes request) reply t
-      → (t ≡ s) × (a : Answer) × Says (serving_of s) request reply a
+      → Stays tells s t × (a : Answer) × Says (serving_of s) request reply a
   quiet_asked s t request reply form quiet asks = by_answer asks.answer where
     by_answer : AnswersOrFails tells s t (request_bytes request) reply
-        → (t ≡ s) × (a : Answer) × Says (serving_of s) request reply a
+        → Stays tells s t × (a : Answer) × Says (serving_of s) request reply a
     by_answer (inl is) =
         let (a, said, makes) = says (serving_of s) request reply is.frame.made form
         is.frame.replies in
-        (is.untouched (makes ∙ quiet_makes request quiet a), a, said)
+        let writes = is.untouched (makes ∙ quiet_makes request quiet a) in
+        (asked_stays s t (request_bytes request) reply asks writes, a, said)
     by_answer (inr is) =
         absurd (quiet (needs_disk (serving_of s) request form
-        (needs s t (request_bytes request) reply is)))
+        (needs tells s t (request_bytes request) reply is)))

@@ -26,7 +26,7 @@ use Rattle.ov_wire.specs.declared.request.Question.TheVariants as questions
 use Rattle.ov_protocol.specs.Asking.{AnswersAsk, known_at, numbers_for}
 use Rattle.ov_protocol.specs.Serving.{Service, Serving, later, served as shown}
 use Rattle.ov_protocol.specs.Replies.{Replies}
-use Rattle.ov_protocol.proofs.GoingOn.{epochs_go_on, services_are_served}
+use Rattle.ov_protocol.proofs.GoingOn.{epochs_go_on}
 use Rattle.ov_protocol.proofs.Leaving.{later-nil}
 use Rattle.ov_peer.specs.Asks.{Along, AreRight, Ask}
 use Rattle.ov_peer.specs.Tells.{IsReplyAt}
@@ -44,8 +44,9 @@ use Rattle.ov_owner.specs.Clients.{reader_in, reader_of}
 use Rattle.ov_owner.specs.declared.fault.OwnerFault.TheVariants as faults
 use Rattle.ov_peer.proofs.Following.{followed-nil}
 use Rattle.ov_machine.specs.Machine.{Kept, KeptOn, StandsFor, opened_of}
-use Rattle.ov_machine.specs.Seats.{AllStay, served}
+use Rattle.ov_machine.specs.Seats.{AllStay, Stays, served}
 use Rattle.ov_machine.proofs.Fetching.{HasRootsAt}
+use Rattle.ov_machine.proofs.Stays.{serves_still, shows_told}
 use Rattle.ov_machine.proofs.Stepping.{serves_at, service_at, shows}
 
 -- ---- the reader that the owner made
@@ -76,24 +77,23 @@ reader_so k c user a r is made = absurd is
 
 -- ---- all is answered at one history
 
-module _ {D : Type 0} (tells : DiskTells D) (s : Opened D) (v : Service)
-    (serves : IsServedBy s v) where
+module _ {D : Type 0} (tells : DiskTells D) (v : Service) where
   abbrev asked : Opened D → List ℕ → List ℕ → Opened D → Type 0
   asked p request reply q = served tells p request reply q
 
-  -- a reply that leaves all as it was is one at the history, and makes nothing
-  reply_at : (t : Opened D) (request reply : List ℕ) → asked s request reply t → t ≡ s
-      → IsReplyAt v request reply []
-  reply_at t request reply asks same = by asks.answer where
+  -- a reply that leaves all but the disk as it was is one at the history, and makes nothing
+  reply_at : (s t : Opened D) (request reply : List ℕ) → IsServedBy s v → asked s request reply t
+      → Stays tells s t → IsReplyAt v request reply []
+  reply_at s t request reply serves asks still = by asks.answer where
     is_shown : serving_of s ≡ shown v
-    is_shown = services_are_served (serving_of s) v serves
+    is_shown = shows_told s v serves
 
     by : AnswersOrFails tells s t request reply → IsReplyAt v request reply []
     by (inl is) =
         let longer = epochs_go_on (serving_of s) (serving_of t) request reply is.frame in
         let none : is.frame.made ≡ [] =
         nil_from_length is.frame.made
-        (omega (arith, longer, ap (λ (x : Opened D). x.catalogue.epoch) same)) in
+        (omega (arith, longer, ap (λ (x : Opened D). x.catalogue.epoch) still.writes.same)) in
         inl
         (subst (λ (x : Serving). Replies x request reply []) is_shown
         (subst (λ (us : List SealedUpdate). Replies (serving_of s) request reply us) none is.frame.replies))
@@ -101,18 +101,20 @@ module _ {D : Type 0} (tells : DiskTells D) (s : Opened D) (v : Service)
         inr (record {
           spelled = is.spelled;
           makes = inl refl;
-          needs = subst (λ (x : Serving). NeedsDisk x request) is_shown (needs s t request reply is);
+          needs = subst (λ (x : Serving). NeedsDisk x request) is_shown
+              (needs tells s t request reply is);
         })
 
-  -- asks that leave all as it was are answered along the history that is served
-  pub along_so : (asks : List Ask)
+  -- asks that leave all but the disk as it was are answered along the history that is served
+  pub along_so : (asks : List Ask) (s : Opened D) → IsServedBy s v
       → AllStay tells s asks
       → (histories : List SealedHistory) × (last : Service) × Along v asks histories last
       × AllAre v.history histories
-  along_so [] stay = ([], v, refl, tt)
-  along_so (a ∷ asks) ((t, first, still), stay) =
-      let at_v = reply_at t a.request a.reply first still in
-      let (histories, last, along, all) = along_so asks stay in
+  along_so [] s serves stay = ([], v, refl, tt)
+  along_so (a ∷ asks) s serves (t, first, still, stay) =
+      let at_v = reply_at s t a.request a.reply serves first still in
+      let (histories, last, along, all) = along_so asks t (serves_still tells s t still v serves)
+      stay in
       let none : later v [] ≡ v = later-nil v in (
         v.history ∷ histories,
         last,
@@ -191,14 +193,14 @@ pub read_there : {D : Type 0} (tells : DiskTells D)
     (user file : List ℕ) (r : Reader) → IsReader old.kept.masters old.kept.catalogue user r
     → (asks : List Ask) (o : Option (List ℕ)) (result : Result (List ℕ) ClientFault)
     → Talks r file asks o result
-    → AllStay tells (opened_of old) asks
+    → (s : Opened D) → Stays tells (opened_of old) s → AllStay tells s asks
     → IsReadThere p user file result
 read_there tells old p stands user file r reader asks o
-    result talks stay =
+    result talks s still stay =
     let k = old.kept.masters in
     let v = service_at k p in
-    let (histories, last, along, all) = along_so tells
-    (opened_of old) v (serves_at old p stands) asks stay in
+    let (histories, last, along, all) = along_so tells v asks s
+    (serves_still tells (opened_of old) s still v (serves_at old p stands)) stay in
     let is = reads_are_the_machines k r file asks o result v last histories reader.keys refl talks
     along (right_all k p v.history histories stands.0.0 refl all) in
     subst (λ (name : List ℕ). IsReadThere p name file result) reader.name

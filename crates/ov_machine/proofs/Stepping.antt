@@ -1,6 +1,6 @@
 -- What a change by the owner is at a history for which the machine stands: the machine's step.
 use Rattle.std.proofs.Common.{◌≡◌, ◌∙◌, inl, inr, ℕ, ◌+◌, [], ◌∷◌, length, length-append, false, refl, sym, ap, subst, arith, true≢false, None, Result, Ok, Err}
-use Rattle.std.specs.Prelude.{◌⊎◌}
+use Rattle.std.specs.Prelude.{◌⊎◌, IfSome, IsSome, is_some}
 use Rattle.ov_base.specs.declared.refusal.Refusal.{Refusal}
 use Rattle.ov_disk.specs.Disk.{Image}
 use Rattle.ov_disk.proofs.Runs.{weaker}
@@ -16,7 +16,9 @@ use Rattle.ov_history.specs.Layers.{layers_of}
 use Rattle.ov_history.specs.Masters.{Masters}
 use Rattle.ov_history.specs.Plain.{PlainHistory, PlainUpdate, history_of, measured, measured_all, with_plain}
 use Rattle.ov_history.specs.Refusals.{IsLegal, refusal_of}
-use Rattle.ov_history.specs.Sealed.{SealedHistory, catalogue_of, stored_of}
+use Rattle.ov_history.specs.Kept.{AreKept}
+use Rattle.ov_history.specs.Sealed.{KeepsBytes, SealedHistory, StandsFor as SealedFor}
+use Rattle.ov_history.specs.Sealed.{catalogue_of, stored_all, stored_of}
 use Rattle.ov_history.specs.Sealing.{sealed, sealed_update}
 use Rattle.ov_history.proofs.Keeping.{kept_shows, kept_stands_for}
 use Rattle.ov_history.proofs.PlainLaws.{measured_all-append}
@@ -31,10 +33,12 @@ use Rattle.ov_protocol.specs.Answers.{Answers}
 use Rattle.ov_protocol.specs.Replies.{updates_asked}
 use Rattle.ov_protocol.specs.Serving.{IsService, Service, Serving, followed, later, served as shown}
 use Rattle.ov_protocol.specs.Updating.{spelled_by}
-use Rattle.ov_protocol.proofs.GoingOn.{servers_go_on, services_are_served}
+use Rattle.ov_protocol.proofs.GoingOn.{servers_go_on}
+use Rattle.ov_protocol.proofs.Untold.{told_still}
 use Rattle.ov_protocol.proofs.Reading.{request_back}
 use Rattle.ov_store.specs.Opened.{Opened, Serves}
 use Rattle.ov_server.specs.Answering.{KeepsWith, serving_of}
+use Rattle.ov_server.specs.Locally.{IsServedBy}
 use Rattle.ov_owner.specs.Errands.{Errand}
 use Rattle.ov_owner.specs.Steps.{IsErrandFor}
 use Rattle.ov_owner.specs.Talks.{IsAskFault, update_request}
@@ -45,12 +49,16 @@ use Rattle.ov_owner.proofs.Stepping.{read_back}
 use Rattle.ov_owner.proofs.Telling.{under}
 use Rattle.ov_machine.specs.Disks.{HasMade, Holds, KeepsPlain, KeepsStep}
 use Rattle.ov_machine.specs.Machine.{Kept, KeptOn, LeavesStep, StandsFor, StepsAt, opened_of}
+use Rattle.ov_machine.specs.Seats.{Stays}
 use Rattle.ov_machine.specs.Replying.{change_reply}
 use Rattle.ov_machine.specs.declared.fault.StepFault.{StepFault}
 use Rattle.ov_machine.specs.declared.fault.StepFault.TheVariants.{Disk, Memory, Tag, Trace}
 use Rattle.ov_machine.proofs.Changed.{Changes, IsFailed, IsMade, IsSentTo, cut, refused, sent}
 use Rattle.ov_machine.proofs.Errands.{IsHonest}
 use Rattle.ov_machine.proofs.Making.{ComesTo}
+use Rattle.ov_machine.proofs.Stays.{and_told, are_told, fails_same, holds_still, if_told, quiet_then}
+use Rattle.ov_machine.proofs.Stays.{serves_still, shows_same, shows_told}
+use Rattle.ov_machine.proofs.Staying.{same_kept}
 use Rattle.ov_machine.proofs.Updating.{now_so, stays, stays_left}
 
 -- what is kept shows the history
@@ -65,32 +73,33 @@ machine_of k s = record {
   failed = s.failed;
 }
 
--- a machine is known by its masters and its store
-pub same_machine : {D : Type 0} (old new : KeptOn D) → new.kept.masters ≡ old.kept.masters
-    → opened_of new ≡ opened_of old → new ≡ old
-same_machine old new masters same = λ i. machine_of (masters i) (same i)
-
 -- the history as it is served
 abbrev pub service_at : Masters → PlainHistory → Service
 service_at k p = under k.surface (check_value_of k.base) (sealed k p)
 
--- a machine that stands for the history serves it
+-- a machine that stands for the history serves it, and tells its bytes
 pub serves_at : {D : Type 0} (m : KeptOn D) (p : PlainHistory) → StandsFor m.kept p
-    → IsService (serving_of (opened_of m)) (service_at m.kept.masters p)
-serves_at m p stands = record {
-  stands = kept_stands_for m.kept.masters p m.kept.catalogue stands.0;
-  keeps = stands.1;
-  surface = refl;
-  base_check = refl;
-}
+    → IsServedBy (opened_of m) (service_at m.kept.masters p)
+serves_at m p stands = (
+  record {
+    stands = kept_stands_for m.kept.masters p m.kept.catalogue stands.0;
+    keeps = if_told m.kept.stored (AreKept m.kept.masters p) (λ bytes. KeepsBytes
+        m.kept.masters.surface bytes (sealed m.kept.masters p)) stands.1 (λ bytes are. are);
+    surface = refl;
+    base_check = refl;
+  },
+  are_told m.kept.stored (AreKept m.kept.masters p) stands.1,
+)
 
 -- a machine that serves the sealed form of a legal history stands for it
 pub stands_at : {D : Type 0} (m : KeptOn D) (p : PlainHistory) (v : Service)
     → IsLegal (history_of p) → v.surface ≡ m.kept.masters.surface → v.history ≡ sealed m.kept.masters p
-    → IsService (serving_of (opened_of m)) v → StandsFor m.kept p
-stands_at m p v legal surface is serves = (
+    → IsServedBy (opened_of m) v → StandsFor m.kept p
+stands_at m p v legal surface is (serves, told) = (
   (legal, serves.stands.1 ∙ (λ i. catalogue_of (surface i) (is i))),
-  serves.keeps ∙ (λ i. stored_of (surface i) (is i)),
+  and_told m.kept.stored (λ bytes. KeepsBytes v.surface bytes v.history)
+      (AreKept m.kept.masters p) told serves.keeps
+      (λ bytes are. are ∙ (λ i. stored_of (surface i) (is i))),
 )
 
 module _ {D : Type 0} (tells : DiskTells D) (old new : KeptOn D) (p : PlainHistory)
@@ -120,7 +129,7 @@ module _ {D : Type 0} (tells : DiskTells D) (old new : KeptOn D) (p : PlainHisto
       → Answers (shown (service_at k p)) e.first a
   at_history a is =
       subst (λ (x : Serving). Answers x e.first a)
-      (services_are_served (serving_of s) (service_at k p) (serves_at old p stands)) is
+      (shows_told s (service_at k p) (serves_at old p stands)) is
 
   -- ---- refusals
 
@@ -134,17 +143,31 @@ module _ {D : Type 0} (tells : DiskTells D) (old new : KeptOn D) (p : PlainHisto
 
   -- ---- an update
 
-  -- the store stands for the history, on a disk that holds it
-  stands_there : Holds tells k p old.disk → Serves tells (sealed k p) s
-  stands_there holds = record {
-    catalogue = kept_stands_for k p old.kept.catalogue stands.0;
-    bytes = stands.1;
-    disk = λ _ i read c left. holds.each c left;
-    after_fault = λ failed. absurd (true≢false (sym failed ∙ sound));
-  }
-
   module _ (result : Result ℕ OwnerFault)
       (x : IsSentTo tells k.surface e is_honest s t result) where
+    abbrev mid : Opened D
+    mid = x.mid
+
+    sound_there : mid.failed ≡ false
+    sound_there = fails_same tells s mid x.stays ∙ sound
+
+    -- the store to which the update is sent serves the history
+    serves_there : IsServedBy mid (service_at k p)
+    serves_there = serves_still tells s mid x.stays (service_at k p) (serves_at old p stands)
+
+    holds_there : Holds tells k p old.disk → Holds tells k p mid.disk
+    holds_there = holds_still tells old.disk mid.disk x.stays.writes.disk k p
+
+    -- it stands for the history, on a disk that holds it
+    stands_there : Holds tells k p old.disk → Serves tells (sealed k p) mid
+    stands_there holds = record {
+      catalogue = subst (λ (y : Opened D). SealedFor y.keys.surface y.catalogue (sealed k p))
+          (sym x.stays.writes.same) (kept_stands_for k p old.kept.catalogue stands.0);
+      bytes = subst (λ (y : Opened D). IfSome y.stored (λ bytes. KeepsBytes y.keys.surface bytes
+          (sealed k p))) (sym x.stays.writes.same) (serves_at old p stands).0.keeps;
+      disk = λ _ i read c left. (holds_there holds).each c left;
+      after_fault = λ failed. absurd (true≢false (sym failed ∙ sound_there));
+    }
     told_so : (x.epoch ≡ (catalogue_of k.surface (sealed k p)).epoch)
         × (x.update ≡ sealed_update k (layers_of (history_of p)) plain)
         × (refusal_of (history_of p) (measured plain) ≡ None)
@@ -175,22 +198,40 @@ module _ {D : Type 0} (tells : DiskTells D) (old new : KeptOn D) (p : PlainHisto
         inr (subst (λ (g : SealedHistory). Keeps (keys_of k) g c)
         (ap (followed (sealed k p)) asks_it ∙ sealed_is) keeps)
 
+    either_there : (c : Image)
+        → KeepsWith mid.keys (sealed k p) (updates_asked (request_of (request_bytes (update_request k.surface x.epoch x.update)))) c
+        → KeepsStep k p command c
+    either_there c keeps =
+        either c (subst (λ (y : Opened D). KeepsWith y.keys (sealed k p)
+        (updates_asked (request_of (request_bytes (update_request k.surface x.epoch x.update)))) c)
+        x.stays.writes.same keeps)
+
     leaves_so : Holds tells k p old.disk
         → LeavesStep tells k p command old.disk new.disk
     leaves_so holds =
-        let moments = weaker tells old.disk new.disk
-        (KeepsWith (keys_of k) (sealed k p) (updates_asked (request_of (request_bytes (update_request k.surface x.epoch x.update)))))
+        let moments = weaker tells mid.disk new.disk
+        (KeepsWith mid.keys (sealed k p) (updates_asked (request_of (request_bytes (update_request k.surface x.epoch x.update)))))
         (KeepsStep k p command)
-        (x.asks.any_moment (sealed k p) (stands_there holds) sound holds.told.0 holds.told.1)
-        either in record {
-          moments = moments;
-          now = now_so tells old.disk new.disk (KeepsStep k p command) moments;
+        (x.asks.any_moment (sealed k p) (stands_there holds) sound_there (holds_there holds).told.0
+        (holds_there holds).told.1)
+        either_there in
+        let all = quiet_then tells old.disk mid.disk x.stays.writes.disk new.disk
+        (KeepsStep k p command) (λ c left. inl (holds.each c left)) moments in record {
+          moments = all;
+          now = now_so tells old.disk new.disk (KeepsStep k p command) all;
         }
 
     -- what is served then is the history after the command
-    module _ (made : IsMade tells k.surface e is_honest s t x.epoch x.update x.reply result) where
+    module _ (made : IsMade tells k.surface e is_honest mid t x.epoch x.update x.reply result) where
       after_it : (later (service_at k p) made.answered.frame.made).history ≡ sealed k (after p command)
       after_it = ap (followed (sealed k p)) made.makes ∙ sealed_is
+
+      -- the store still tells its bytes
+      tells_on : IsSome t.stored
+      tells_on =
+          ap (λ (y : Serving). is_some y.stored) made.answered.frame.next
+          ∙ told_still (λ bytes. stored_all mid.keys.surface mid.catalogue bytes
+          made.answered.frame.made) mid.stored serves_there.1
 
       stands_so : StandsFor new.kept (after p command)
       stands_so =
@@ -198,15 +239,19 @@ module _ {D : Type 0} (tells : DiskTells D) (old new : KeptOn D) (p : PlainHisto
           (legal-after p command legal).0
           (ap (λ (x : Masters). x.surface) (sym masters))
           (after_it ∙ ap (λ (x : Masters). sealed x (after p command)) (sym masters))
-          (servers_go_on (serving_of s) (serving_of t) (service_at k p) _ x.reply
-          made.answered.frame (serves_at old p stands))
+          (
+            servers_go_on (serving_of mid) (serving_of t) (service_at k p) _ x.reply
+                made.answered.frame serves_there.0,
+            tells_on,
+          )
 
       holds_so : Holds tells k p old.disk
           → Holds tells k (after p command) new.disk
       holds_so holds =
-          let image = made.answered.told holds.told.0 holds.told.1 in
+          let there = holds_there holds in
+          let image = made.answered.told there.told.0 there.told.1 in
           let more = made.answered.lasts (sealed k p) (stands_there holds) in
-          let still : t.failed ≡ false = made.answered.failed ∙ sound in record {
+          let still : t.failed ≡ false = made.answered.failed ∙ sound_there in record {
             told = image;
             each = λ c left.
                 subst (λ (g : SealedHistory). Keeps (keys_of k) g c) after_it
@@ -240,36 +285,32 @@ module _ {D : Type 0} (tells : DiskTells D) (old new : KeptOn D) (p : PlainHisto
 
   -- ---- any of them
 
-  -- nothing changed
-  stays_so : (r : Result Reply StepFault) → t ≡ s
-      → StepsAt tells k p command old old r
-      → StepsAt tells k p command old new r
-  stays_so r same is =
-      subst (λ m. StepsAt tells k p command old m r)
-      (sym (same_machine old new masters same)) is
+  -- nothing changed but the disk
+  stands_still : Stays tells s t → StandsFor new.kept p
+  stands_still still =
+      subst (λ (kept : Kept). StandsFor kept p) (sym (same_kept old new masters still)) stands
 
-  cut_so : (result : Result ℕ OwnerFault) → IsAskFault result
-      → StepsAt tells k p command old old (change_reply result)
-  cut_so result (inl is) =
-      subst (λ (r : Result ℕ OwnerFault). StepsAt tells k p command old old (change_reply r)) (sym is)
-      (stays_left tells old k p command)
-  cut_so result (inr is) =
-      subst (λ (r : Result ℕ OwnerFault). StepsAt tells k p command old old (change_reply r)) (sym is)
-      (stays_left tells old k p command)
+  cut_so : (result : Result ℕ OwnerFault) → Stays tells s t → IsAskFault result
+      → StepsAt tells k p command old new (change_reply result)
+  cut_so result still (inl is) =
+      subst (λ (r : Result ℕ OwnerFault). StepsAt tells k p command old new (change_reply r)) (sym is)
+      (stays_left tells old new still.writes.disk k p command)
+  cut_so result still (inr is) =
+      subst (λ (r : Result ℕ OwnerFault). StepsAt tells k p command old new (change_reply r)) (sym is)
+      (stays_left tells old new still.writes.disk k p command)
 
   pub changes_step : (result : Result ℕ OwnerFault)
       → Changes tells k.surface e is_honest s t result
       → StepsAt tells k p command old new (change_reply result)
-  changes_step result (refused a why same answered is so) =
+  changes_step result (refused a why still answered is so) =
       let at_step = refused_so a why answered is in
-      stays_so (change_reply result) same
-      (subst (λ (r : Result ℕ OwnerFault). StepsAt tells k p command old old (change_reply r)) (sym so)
-      (stays tells old k p command (Refused why) stands
-      (ap (λ (r : Reply × PlainHistory). r.0) (sym at_step)) (ap (λ (r : Reply × PlainHistory). r.1) at_step)))
-  changes_step result (cut same why) = stays_so (change_reply result) same (cut_so result why)
+      subst (λ (r : Result ℕ OwnerFault). StepsAt tells k p command old new (change_reply r)) (sym so)
+      (stays tells old new still.writes.disk k p command (Refused why) (stands_still still)
+      (ap (λ (r : Reply × PlainHistory). r.0) (sym at_step)) (ap (λ (r : Reply × PlainHistory). r.1) at_step))
+  changes_step result (cut still why) = cut_so result still why
   changes_step result (sent x) = by x.comes where
-    by : IsMade tells k.surface e is_honest s t x.epoch x.update x.reply result
-        ⊎ IsFailed tells k.surface e is_honest s t x.epoch x.update x.reply result
+    by : IsMade tells k.surface e is_honest x.mid t x.epoch x.update x.reply result
+        ⊎ IsFailed tells k.surface e is_honest x.mid t x.epoch x.update x.reply result
         → StepsAt tells k p command old new (change_reply result)
     by (inl made) = made_so result x made made.ends
     by (inr failed) = failed_so result x failed.ends
@@ -293,12 +334,12 @@ module _ {D : Type 0} (tells : DiskTells D) (old new : KeptOn D) (p : PlainHisto
     by (Err (Tag bad)) never holds c left = absurd never
 
   -- a store that shows what it showed doesn't serve the history with the update
-  still_unmade : (last : Service) (u : PlainUpdate) → IsService (serving_of t) last
+  still_unmade : (last : Service) (u : PlainUpdate) → IsServedBy t last
       → after p command ≡ with_plain p u → last.history ≡ sealed k (after p command)
       → serving_of t ≡ serving_of s → ⊥
   still_unmade last u serves is then same =
       let there : StandsFor new.kept (after p command) =
-      stands_at new (after p command) last (legal-after p command legal).0 (sym serves.surface)
+      stands_at new (after p command) last (legal-after p command legal).0 (sym serves.0.surface)
       (then ∙ ap (λ (x : Masters). sealed x (after p command)) (sym masters)) serves in
       let now = (shows new.kept (after p command) there).epoch in
       let before = (shows old.kept p stands).epoch in
@@ -313,7 +354,7 @@ module _ {D : Type 0} (tells : DiskTells D) (old new : KeptOn D) (p : PlainHisto
   -- the whole transcript was put, and so the command is made
   pub has_made : (result : Result ℕ OwnerFault)
       → Changes tells k.surface e is_honest s t result
-      → (last : Service) → IsService (serving_of t) last → ComesTo k p command last
+      → (last : Service) → IsServedBy t last → ComesTo k p command last
       → HasMade tells k p command old.disk new.disk
   has_made result changes last serves (inl same) =
       same_made (change_reply result) (changes_step result changes) same
@@ -323,11 +364,12 @@ module _ {D : Type 0} (tells : DiskTells D) (old new : KeptOn D) (p : PlainHisto
 
     by : Changes tells k.surface e is_honest s t result
         → HasMade tells k p command old.disk new.disk
-    by (refused a why same answered told so) = absurd (unmade (ap serving_of same))
-    by (cut same why) = absurd (unmade (ap serving_of same))
+    by (refused a why still answered told so) = absurd (unmade (shows_same tells s t still))
+    by (cut still why) = absurd (unmade (shows_same tells s t still))
     by (sent x) = by_reply x.comes where
-      by_reply : IsMade tells k.surface e is_honest s t x.epoch x.update x.reply result
-          ⊎ IsFailed tells k.surface e is_honest s t x.epoch x.update x.reply result
+      by_reply : IsMade tells k.surface e is_honest x.mid t x.epoch x.update x.reply result
+          ⊎ IsFailed tells k.surface e is_honest x.mid t x.epoch x.update x.reply result
           → HasMade tells k p command old.disk new.disk
       by_reply (inl made) = λ holds c left. (holds_so result x made holds).each c left
-      by_reply (inr failed) = absurd (unmade failed.faulted.same)
+      by_reply (inr failed) =
+          absurd (unmade (failed.faulted.same ∙ shows_same tells s x.mid x.stays))

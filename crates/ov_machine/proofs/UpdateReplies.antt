@@ -76,7 +76,7 @@ module _ (k : Masters) (command : Command) (e : Errand) (d : Does k command e) (
         → (reply ≡ answer_bytes told) × (later here made ≡ here)
     first_replies reply made given =
         let (a, said, makes) = says (served here) e.first reply made form given in (
-          said.spelled ∙ ap answer_bytes (one_answer (served here) here e.first a told is_service said.answers answered),
+          said.spelled ∙ ap answer_bytes (one_answer (served here) here e.first a told is_service refl said.answers answered),
           still_served here e.first reply made form d.makes.no_update given,
         )
 

@@ -1,5 +1,5 @@
 -- What the program keeps of a history, and what it does to it.
-use Rattle.std.specs.Prelude.{◌≡◌, ◌≢◌, ℕ, List, Bool, None}
+use Rattle.std.specs.Prelude.{◌≡◌, ◌≢◌, ℕ, List, Bool, Option, None, IsSomeAnd}
 use Rattle.std.specs.Prelude.{Result, Ok, Err, OnOk}
 use Rattle.ov_disk.specs.Calls.{IsDiskCall}
 use Rattle.ov_disk.specs.Disk.{Image}
@@ -31,11 +31,12 @@ use Rattle.ov_machine.specs.declared.fault.BadTag.{BadTag}
 use Rattle.ov_machine.specs.declared.fault.StepFault.{StepFault}
 use Rattle.ov_machine.specs.declared.fault.StepFault.TheVariants.{Memory, Disk, Tag, Trace}
 
--- the two masters, and the catalogue and the stored bytes that are kept under them
+-- the two masters, and the catalogue and the stored bytes that are kept under them; the stored bytes
+-- are said where the disk tells them
 pub record Kept : Type 0 where
   pub masters : Masters
   pub catalogue : Catalogue
-  pub stored : List (List ℕ)
+  pub stored : Option (List (List ℕ))
 
 -- what is kept, the disk on which it lasts, and whether a call of the disk failed in an update
 pub record KeptOn (D : Type 0) : Type 0 where
@@ -62,9 +63,10 @@ abbrev pub AreMasters : List ℕ → Masters → Type 0
 AreMasters file k = IsKeyFile file k.base k.surface
 
 -- The catalogue and the stored bytes are those of a store after the history, sealed under the two
--- masters.
+-- masters; and the disk tells these bytes.
 abbrev pub StandsFor : Kept → PlainHistory → Type 0
-StandsFor kept p = IsKept kept.masters p kept.catalogue × AreKept kept.masters p kept.stored
+StandsFor kept p =
+    IsKept kept.masters p kept.catalogue × IsSomeAnd kept.stored (AreKept kept.masters p)
 
 -- a command that may come: the bytes of a creation are a file's, and its list is one that an owner
 -- takes

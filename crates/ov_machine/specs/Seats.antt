@@ -9,7 +9,7 @@ use Rattle.ov_wire.specs.declared.request.Request.TheVariants.{Ask}
 use Rattle.ov_peer.specs.Asks.{Ask as AskOf}
 use Rattle.ov_peer.specs.Tells.{PeerTells}
 use Rattle.ov_peer.specs.Tracing.{TracesAsk, TracesFault}
-use Rattle.ov_server.specs.Answering.{AsksServer}
+use Rattle.ov_server.specs.Answering.{AsksServer, WritesNothing}
 use Rattle.ov_server.specs.Locally.{IsServedBy, answers_told, same_left}
 use Rattle.ov_store.specs.Opened.{Opened}
 use Rattle.ov_client.specs.Readers.{Reader}
@@ -54,11 +54,18 @@ module _ {D : Type 0} (tells : DiskTells D) where
   LeftBy m None t = m ≡ t
   LeftBy m (Some request) t = (t ≡ m) ⊎ ((reply : List ℕ) × served m request reply t)
 
-  -- each of these was asked of the store, and left all as it was
+  -- All of the store is as it was but its disk: nothing was written to that, it is lent as it was,
+  -- and its count of faults doesn't fall.
+  pub record Stays (s t : Opened D) : Type 0 where
+    pub writes : WritesNothing tells s t
+    pub lent : tells.borrow t.disk ≡ tells.borrow s.disk
+    pub later : tells.faults s.disk ≤ tells.faults t.disk
+
+  -- these were asked of the store, one after the other, and each left all but its disk as it was
   abbrev pub AllStay : Opened D → List AskOf → Type 0
   AllStay s [] = Unit {0}
   AllStay s (a ∷ asks) =
-      ((t : Opened D) × served s a.request a.reply t × (t ≡ s)) × AllStay s asks
+      (t : Opened D) × served s a.request a.reply t × Stays s t × AllStay t asks
 
 -- ---- a read
 

@@ -57,7 +57,6 @@ impl<D: Disk> Machine<D> {
         ensures { IsWholeStep D.tells T.tells
             (Read user file) self.old self.new trace.old trace.new result }
     {
-        self.peer.server().known();
         let mut peer = Traced::new(&mut self.peer, trace);
         let found = kept_loans::read(&self.owner, alloc, &mut peer, &user, &file);
         let Traced { peer: _, sink: _ } = peer;

@@ -35,7 +35,8 @@ pub record PeerTells (P : Type 0) : Type 1 where
   pub asked : P → List ℕ → List ℕ → P → Type 0
   -- an ask that failed: the peer before it, the request, and the peer after it
   pub failed : P → List ℕ → P → Type 0
-  -- the peer serves this sealed history under these keys; a peer that tells none serves none
+  -- the peer serves this sealed history under these keys, and its replies have the stored bytes
+  -- after it; a peer that tells none serves none
   pub serves : P → Service → Type 0
   -- how often the peer has failed; the count stays at 18,446,744,073,709,551,615
   pub faults : P → ℕ

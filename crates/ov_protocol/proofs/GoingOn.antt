@@ -1,7 +1,7 @@
 -- A server goes on with what it makes.
 use Rattle.std.proofs.Common.{◌≡◌, ℕ, ◌+◌, List, [], ◌∷◌, length, Result, Ok, Err}
 use Rattle.std.proofs.Common.{refl, sym, ◌∙◌, ap, subst, arith}
-use Rattle.std.specs.Prelude.{None}
+use Rattle.std.specs.Prelude.{Option, Some, None, IfSome, option_map}
 use Rattle.std.proofs.lemmas.List.{append-nil}
 use Rattle.ov_record.specs.Reading.{update_of}
 use Rattle.ov_record.specs.Updates.{SealedUpdate, SealedEnrol, SealedCreate, SealedGrant}
@@ -9,8 +9,8 @@ use Rattle.ov_record.specs.Updates.{SealedRevoke}
 use Rattle.ov_record.specs.Forms.{first_form}
 use Rattle.ov_history.specs.Briefs.{brief}
 use Rattle.ov_history.specs.Catalogue.{Catalogue, catalogue_after, outline}
-use Rattle.ov_history.specs.Sealed.{HasParts, refusal_shown}
-use Rattle.ov_history.specs.Sealed.{catalogue_all, stored_all}
+use Rattle.ov_history.specs.Sealed.{HasParts, KeepsBytes, SealedHistory, StandsFor}
+use Rattle.ov_history.specs.Sealed.{catalogue_all, catalogue_of, refusal_shown, stored_all}
 use Rattle.ov_history.proofs.GoingOn.{histories_go_on}
 use Rattle.ov_history.proofs.Keeping.{stored_goes_on}
 use Rattle.ov_wire.specs.declared.request.Request.{Request}
@@ -18,21 +18,40 @@ use Rattle.ov_wire.specs.declared.request.Request.TheVariants as requests
 use Rattle.ov_wire.specs.declared.answer.Answer.{Answer}
 use Rattle.ov_wire.specs.declared.answer.Answer.TheVariants as answers
 use Rattle.ov_wire.specs.RequestReading.{request_of}
-use Rattle.ov_protocol.specs.Serving.{IsService, Service, Serving, later, served, serving_after}
+use Rattle.ov_protocol.specs.Serving.{IsService, Service, Serving, followed, later, served}
+use Rattle.ov_protocol.specs.Serving.{serving_after, told_as}
 use Rattle.ov_protocol.specs.Updating.{AnswersSpelled, spelled_by}
 use Rattle.ov_protocol.specs.Replies.{AnswersRead, made_of}
 use Rattle.ov_protocol.specs.Laws.{EpochsGoOn, ServersGoOn, ServicesAreServed}
+use Rattle.ov_protocol.proofs.Untold.{nothing_follows}
+
+as_told : (told : Option (List (List ℕ))) (c : Catalogue) (surface check : List ℕ) (v : Service)
+    → c ≡ catalogue_of v.surface v.history
+    → IfSome told (λ bytes. KeepsBytes v.surface bytes v.history)
+    → surface ≡ v.surface → check ≡ v.base_check
+    → ◌≡◌ {A = Serving} (record {
+      catalogue = c;
+      stored = told;
+      surface = surface;
+      base_check = check;
+    }) (told_as told (served v))
+as_told None c surface check v stands keeps same checks = λ i. record {
+  catalogue = stands i;
+  stored = None;
+  surface = same i;
+  base_check = checks i;
+}
+as_told (Some bytes) c surface check v stands keeps same checks = λ i. record {
+  catalogue = stands i;
+  stored = Some (keeps i);
+  surface = same i;
+  base_check = checks i;
+}
 
 pub services_are_served : ServicesAreServed
 services_are_served s v is =
-    ap (λ (c : Catalogue). record s { catalogue = c }) is.stands.1
-    ∙ ap (λ (bytes : List (List ℕ)). record (served v) {
-      stored = bytes;
-      surface = s.surface;
-      base_check = s.base_check;
-    }) is.keeps
-    ∙ ap (λ (key : List ℕ). record (served v) { surface = key; base_check = s.base_check }) is.surface
-    ∙ ap (λ (check : List ℕ). record (served v) { base_check = check }) is.base_check
+    as_told s.stored s.catalogue s.surface s.base_check v is.stands.1 is.keeps is.surface
+    is.base_check
 
 -- ---- one update
 
@@ -42,16 +61,27 @@ ServiceGoesOn s v made = IsService (serving_after s made) (later v made)
 
 nothing_made : (s : Serving) (v : Service) → IsService s v → ServiceGoesOn s v []
 nothing_made s v is =
-    subst (λ (us : List SealedUpdate). IsService s
+    subst (λ (now : Serving). IsService now (later v [])) (sym (nothing_follows s))
+    (subst (λ (us : List SealedUpdate). IsService s
     (record v { history = record v.history { updates = us } }))
-    (sym (append-nil v.history.updates)) is
+    (sym (append-nil v.history.updates)) is)
 
 -- what the server shows after one update, were this its surface master
 abbrev after_one : List ℕ → Serving → SealedUpdate → Serving
 after_one surface s u = record s {
   catalogue = catalogue_all surface s.catalogue (u ∷ []);
-  stored = stored_all surface s.catalogue s.stored (u ∷ []);
+  stored = option_map (λ bytes. stored_all surface s.catalogue bytes (u ∷ [])) s.stored;
 }
+
+-- stored bytes that are told are those of the history with one update more
+keeps_on : (told : Option (List (List ℕ))) (surface : List ℕ) (c : Catalogue) (g : SealedHistory)
+    (u : SealedUpdate)
+    → StandsFor surface c g → IfSome told (λ bytes. KeepsBytes surface bytes g)
+    → IfSome (option_map (λ bytes. stored_all surface c bytes (u ∷ [])) told)
+    (λ bytes. KeepsBytes surface bytes (followed g (u ∷ [])))
+keeps_on None surface c g u stands keeps = tt
+keeps_on (Some bytes) surface c g u stands keeps =
+    stored_goes_on surface c bytes g u stands keeps
 
 one_made : (s : Serving) (v : Service) (u : SealedUpdate) → IsService s v
     → refusal_shown s.catalogue (brief u) ≡ None → HasParts (outline s.catalogue) (brief u)
@@ -60,7 +90,7 @@ one_made s v u is none parts =
     subst (λ (m : List ℕ). IsService (after_one m s u) (later v (u ∷ []))) (sym is.surface)
     (record {
       stands = histories_go_on v.surface s.catalogue v.history u is.stands none parts;
-      keeps = stored_goes_on v.surface s.catalogue s.stored v.history u is.stands is.keeps;
+      keeps = keeps_on s.stored v.surface s.catalogue v.history u is.stands is.keeps;
       surface = is.surface;
       base_check = is.base_check;
     })

@@ -1,4 +1,5 @@
 pub mod GoingOn
+pub mod Untold
 pub mod OneChain
 pub mod OneAnswer
 pub mod Reading

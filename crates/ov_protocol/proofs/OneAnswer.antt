@@ -1,7 +1,7 @@
 -- A server has one answer to each request.
 use Rattle.std.proofs.Common.{◌≡◌, ◌≢◌, ◌∙◌, ◌+◌, ℕ, List, [], take, drop}
 use Rattle.std.proofs.Common.{Result, Ok, Err, refl, sym, ap}
-use Rattle.std.specs.Prelude.{Option, Some, None, length, slice_index_or}
+use Rattle.std.specs.Prelude.{Option, Some, None, IsSome, length, option_map, slice_index_or}
 use Rattle.ov_base.specs.declared.refusal.Refusal.{Refusal}
 use Rattle.ov_base.specs.declared.limits.TheConstants.{SET_WORDS}
 use Rattle.ov_base_layer.specs.Holders.{AreFirst, accesses_of}
@@ -36,6 +36,7 @@ use Rattle.ov_protocol.specs.Updating.{spelling_place}
 use Rattle.ov_protocol.specs.Reading.{AnswersChain, AnswersChunk, AnswersList, IsChainedFor}
 use Rattle.ov_protocol.specs.Replies.{AnswersRead, made_of}
 use Rattle.ov_protocol.specs.Laws.{OneAnswer, OneReply}
+use Rattle.ov_protocol.proofs.Untold.{told_still}
 use Rattle.ov_protocol.proofs.OneChain.{chained_once}
 
 -- the answer where nothing is refused, or the refusal
@@ -187,9 +188,9 @@ data Chunks (f : Filed) (stored : List ℕ) (generation start count : ℕ) (a : 
       → Chunks f stored generation start count a
 
 chunk_is : (f : Filed) (stored : List ℕ) (generation start count : ℕ) (a : Answer)
-    → AnswersChunk (Some f) stored generation start count a
+    → AnswersChunk (Some f) (Some stored) generation start count a
     → Chunks f stored generation start count a
-chunk_is f stored generation start count (answers.Bytes text) (same, is) =
+chunk_is f stored generation start count (answers.Bytes text) (same, many, is) =
     bytes same (ap answers.Bytes is)
 chunk_is f stored generation start count (answers.Moved now) (other, is) =
     moved other (ap answers.Moved is)
@@ -203,12 +204,13 @@ chunks_once f stored generation start count one other (moved p is) (bytes q too)
 chunks_once f stored generation start count one other (bytes p is) (moved q too) = absurd (q p)
 chunks_once f stored generation start count one other (bytes p is) (bytes q too) = is ∙ sym too
 
-chunk_once : (f : Option Filed) (stored : List ℕ) (generation start count : ℕ)
+chunk_once : (f : Option Filed) (told : Option (List ℕ)) (generation start count : ℕ)
     (one other : Answer)
-    → AnswersChunk f stored generation start count one
-    → AnswersChunk f stored generation start count other → one ≡ other
-chunk_once None stored generation start count one other p q = p ∙ sym q
-chunk_once (Some f) stored generation start count one other p q =
+    → IsSome told → AnswersChunk f told generation start count one
+    → AnswersChunk f told generation start count other → one ≡ other
+chunk_once None told generation start count one other tells p q = p ∙ sym q
+chunk_once (Some f) None generation start count one other tells p q = absurd (cc)
+chunk_once (Some f) (Some stored) generation start count one other tells p q =
     chunks_once f stored generation start count one other
     (chunk_is f stored generation start count one p)
     (chunk_is f stored generation start count other q)
@@ -216,39 +218,41 @@ chunk_once (Some f) stored generation start count one other p q =
 -- ---- the laws
 
 pub one_answer : OneAnswer
-one_answer s v requests.Hello one other is p q = p ∙ sym q
-one_answer s v (requests.Ask question) one other is p q =
+one_answer s v requests.Hello one other is tells p q = p ∙ sym q
+one_answer s v (requests.Ask question) one other is tells p q =
     ask_is s.catalogue question one p ∙ sym (ask_is s.catalogue question other q)
-one_answer s v (requests.Cover file len names) one other is p q =
+one_answer s v (requests.Cover file len names) one other is tells p q =
     let list : ℕ = set_named s.catalogue.users names in
     cover_is s.catalogue file len list one p ∙ sym (cover_is s.catalogue file len list other q)
-one_answer s v (requests.Update epoch spelling tag) one other is p q =
+one_answer s v (requests.Update epoch spelling tag) one other is tells p q =
     tagged_once s.surface s.catalogue epoch spelling tag one other
     (tagged s.surface s.catalogue epoch spelling tag one p)
     (tagged s.surface s.catalogue epoch spelling tag other q)
-one_answer s v (requests.Chain user file) one other is p q =
+one_answer s v (requests.Chain user file) one other is tells p q =
     let c : Catalogue = s.catalogue in
     let sound : IsSound c = histories_are_sound v.surface c v.history is.stands in
     chains_once (length c.users) c (user_named c user) (file_named c file) one other sound.accesses
     (chain_is c (user_named c user) (file_named c file) one p)
     (chain_is c (user_named c user) (file_named c file) other q)
-one_answer s v (requests.Chunk file generation start count) one other is p q =
-    chunk_once (living_at s.catalogue.files file) (slice_index_or s.stored file []) generation start
-    count one other p q
-one_answer s v (requests.Page part number) one other is p q = p ∙ sym q
-one_answer s v (requests.List file) one other is p q =
+one_answer s v (requests.Chunk file generation start count) one other is tells p q =
+    chunk_once (living_at s.catalogue.files file)
+    (option_map (λ stored. slice_index_or stored file []) s.stored) generation start count one
+    other (told_still (λ stored. slice_index_or stored file []) s.stored tells) p q
+one_answer s v (requests.Page part number) one other is tells p q = p ∙ sym q
+one_answer s v (requests.List file) one other is tells p q =
     let number : ℕ = file_named s.catalogue file in
     list_is s.catalogue number one p ∙ sym (list_is s.catalogue number other q)
 
 read_once : (s : Serving) (v : Service) (read : Result Request ℕ) (one other : Answer)
-    → IsService s v → AnswersRead s read one → AnswersRead s read other → one ≡ other
-read_once s v (Ok request) one other is p q = one_answer s v request one other is p q
-read_once s v (Err place) one other is p q = p ∙ sym q
+    → IsService s v → IsSome s.stored → AnswersRead s read one → AnswersRead s read other
+    → one ≡ other
+read_once s v (Ok request) one other is tells p q = one_answer s v request one other is tells p q
+read_once s v (Err place) one other is tells p q = p ∙ sym q
 
 pub one_reply : OneReply
-one_reply old new other v request reply again is p q =
+one_reply old new other v request reply again is tells p q =
     let same : p.replies.answer ≡ q.replies.answer =
-    read_once old v (request_of request) p.replies.answer q.replies.answer is p.replies.answers
+    read_once old v (request_of request) p.replies.answer q.replies.answer is tells p.replies.answers
     q.replies.answers in
     let made : p.made ≡ q.made =
     p.replies.makes ∙ ap (λ (a : Answer). made_of (request_of request) a) same

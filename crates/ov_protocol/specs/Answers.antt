@@ -1,5 +1,5 @@
 -- What a server answers to each request, and the updates that it makes by that.
-use Rattle.std.specs.Prelude.{◌≡◌, List, [], slice_index_or}
+use Rattle.std.specs.Prelude.{◌≡◌, List, [], slice_index_or, option_map}
 use Rattle.ov_record.specs.Updates.{SealedUpdate}
 use Rattle.ov_history.specs.Lists.{set_named}
 use Rattle.ov_wire.specs.declared.request.Request.{Request}
@@ -35,8 +35,8 @@ Answers s (requests.Update epoch spelling tag) answer =
 Answers s (requests.Chain user file) answer =
     AnswersChain s.catalogue (user_named s.catalogue user) (file_named s.catalogue file) answer
 Answers s (requests.Chunk file generation start count) answer =
-    AnswersChunk (living_at s.catalogue.files file) (slice_index_or s.stored file [])
-    generation start count answer
+    AnswersChunk (living_at s.catalogue.files file)
+    (option_map (λ stored. slice_index_or stored file []) s.stored) generation start count answer
 Answers s (requests.Page part number) answer =
     answer ≡ answers.PageOf (page_of (entry_of s.catalogue part number))
 Answers s (requests.List file) answer = AnswersList s.catalogue (file_named s.catalogue file) answer

@@ -1,31 +1,48 @@
 -- The laws of servers.
-use Rattle.std.specs.Prelude.{◌≡◌, ◌<◌, ◌+◌, ℕ, List, length, get_or, Ok}
+use Rattle.std.specs.Prelude.{◌≡◌, ◌<◌, ◌+◌, ℕ, List, length, get_or, Ok, IsSome}
 use Rattle.ov_record.specs.Updates.{SealedUpdate}
 use Rattle.ov_wire.specs.declared.request.Request.{Request}
 use Rattle.ov_wire.specs.declared.answer.Answer.{Answer}
 use Rattle.ov_wire.specs.AnswerReading.{answer_of}
 use Rattle.ov_wire.specs.Frames.{IsFrame}
 use Rattle.ov_wire.specs.Requests.{HasRequestForm, request_bytes}
-use Rattle.ov_protocol.specs.Serving.{Serving, Service, IsService, later, served}
+use Rattle.ov_protocol.specs.Serving.{Serving, Service, IsService, hidden, later, served, told_as}
 use Rattle.ov_protocol.specs.Answers.{Answers, made_by}
 use Rattle.ov_protocol.specs.Replies.{AnswersFrame, Replies}
 
--- a server that serves a history shows what follows from that history and its keys
+-- a server that serves a history shows what follows from that history and its keys, and its stored
+-- bytes where it tells them
 abbrev pub ServicesAreServed : Type 0
-ServicesAreServed = (s : Serving) (v : Service) → IsService s v → s ≡ served v
+ServicesAreServed = (s : Serving) (v : Service) → IsService s v → s ≡ told_as s.stored (served v)
 
--- two answers of a server that serves a history to one request are the same
+-- two answers to one request are the same, of a server that serves a history and tells its stored
+-- bytes
 abbrev pub OneAnswer : Type 0
 OneAnswer =
     (s : Serving) (v : Service) (request : Request) (one other : Answer)
-    → IsService s v → Answers s request one → Answers s request other → one ≡ other
+    → IsService s v → IsSome s.stored
+    → Answers s request one → Answers s request other → one ≡ other
 
--- two servers that show the same reply the same to one frame, and then show the same again
+-- two servers that show the same, their stored bytes too, reply the same to one frame, and then
+-- show the same again
 abbrev pub OneReply : Type 0
 OneReply =
     (old new other : Serving) (v : Service) (request reply again : List ℕ)
-    → IsService old v → AnswersFrame old new request reply → AnswersFrame old other request again
+    → IsService old v → IsSome old.stored
+    → AnswersFrame old new request reply → AnswersFrame old other request again
     → (reply ≡ again) × (new ≡ other)
+
+-- what a server answers it may answer without its stored bytes being told
+abbrev pub HiddenAnswers : Type 0
+HiddenAnswers =
+    (s : Serving) (request : Request) (answer : Answer)
+    → Answers s request answer → Answers (hidden s) request answer
+
+-- what a server replies it may reply without its stored bytes being told, and makes the same
+abbrev pub HiddenReplies : Type 0
+HiddenReplies =
+    (s : Serving) (request reply : List ℕ) (made : List SealedUpdate)
+    → Replies s request reply made → Replies (hidden s) request reply made
 
 -- a server that serves a history serves, after it replied, the history followed by what it made
 abbrev pub ServersGoOn : Type 0

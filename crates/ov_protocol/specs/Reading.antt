@@ -1,5 +1,6 @@
 -- What a reader is told: chains, stored bytes, and the names in a list.
-use Rattle.std.specs.Prelude.{◌≡◌, ◌≢◌, ℕ, List, take, drop, Option, Some, None}
+use Rattle.std.specs.Prelude.{◌≡◌, ◌≢◌, ◌-◌, ℕ, min, List, length, take, drop}
+use Rattle.std.specs.Prelude.{Option, Some, None, IfSome}
 use Rattle.ov_base.specs.declared.refusal.Refusal.TheVariants.{NoFile}
 use Rattle.ov_history.specs.Lists.{file_at, names_in}
 use Rattle.ov_history.specs.Refusals.{list_refusal, read_refusal}
@@ -26,12 +27,14 @@ AnswersChain c user file (answers.Chained chained) =
 AnswersChain c user file (answers.Refused why) = read_refusal (matrix_shown c) user file ≡ Some why
 AnswersChain c user file answer = ⊥
 
--- this many stored bytes of a file from a place on, as far as it has them, where the file is of the
--- generation that was asked for
-abbrev pub AnswersChunk : Option Filed → List ℕ → ℕ → ℕ → ℕ → Answer → Type 0
+-- This many stored bytes of a file from a place on, as far as it has them, where the file is of the
+-- generation that was asked for. How many they are follows from the file's length, and which they
+-- are is said where the stored bytes are told.
+abbrev pub AnswersChunk : Option Filed → Option (List ℕ) → ℕ → ℕ → ℕ → Answer → Type 0
 AnswersChunk None stored generation start count answer = answer ≡ answers.Refused NoFile
 AnswersChunk (Some f) stored generation start count (answers.Bytes bytes) =
-    (f.generation ≡ generation) × (bytes ≡ take count (drop start stored))
+    (f.generation ≡ generation) × (length bytes ≡ min count (f.length - start))
+    × IfSome stored (λ all. bytes ≡ take count (drop start all))
 AnswersChunk (Some f) stored generation start count (answers.Moved now) =
     (f.generation ≢ generation) × (now ≡ f.generation)
 AnswersChunk (Some f) stored generation start count answer = ⊥

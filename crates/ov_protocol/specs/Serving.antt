@@ -1,15 +1,16 @@
 -- What a server answers by, and histories as they are served.
-use Rattle.std.specs.Prelude.{◌≡◌, ℕ, List, ◌++◌}
+use Rattle.std.specs.Prelude.{◌≡◌, ℕ, List, ◌++◌, Option, Some, None, IfSome, option_map}
 use Rattle.ov_record.specs.Updates.{SealedUpdate}
 use Rattle.ov_history.specs.Catalogue.{Catalogue}
 use Rattle.ov_history.specs.Sealed.{SealedHistory, StandsFor, KeepsBytes}
 use Rattle.ov_history.specs.Sealed.{catalogue_all, catalogue_of, stored_all, stored_of}
 
--- all that a server's answers follow from: both halves of its store, the surface master, and the
--- check value of the base master
+-- All that a server's answers follow from: both halves of its store, the surface master, and the
+-- check value of the base master. The stored bytes are told by some servers and not by others: only
+-- the disk knows them.
 pub record Serving : Type 0 where
   pub catalogue : Catalogue
-  pub stored : List (List ℕ)
+  pub stored : Option (List (List ℕ))
   pub surface : List ℕ
   pub base_check : List ℕ
 
@@ -19,28 +20,38 @@ pub record Service : Type 0 where
   pub surface : List ℕ
   pub base_check : List ℕ
 
--- what a server of this history answers by
+-- what a server of this history answers by, where it tells its stored bytes
 abbrev pub served : Service → Serving
 served v = record {
   catalogue = catalogue_of v.surface v.history;
-  stored = stored_of v.surface v.history;
+  stored = Some (stored_of v.surface v.history);
   surface = v.surface;
   base_check = v.base_check;
 }
 
+-- what a server answers by, without its stored bytes
+abbrev pub hidden : Serving → Serving
+hidden s = record s { stored = None }
+
+-- what a server answers by, with its stored bytes just where these are told
+abbrev pub told_as : Option (List (List ℕ)) → Serving → Serving
+told_as None s = hidden s
+told_as (Some bytes) s = s
+
 -- the server serves this history under these keys: it is a sealed one, and both halves of the store
--- are those after it
+-- are those after it, as far as they are told
 pub record IsService (s : Serving) (v : Service) : Type 0 where
   pub stands : StandsFor v.surface s.catalogue v.history
-  pub keeps : KeepsBytes v.surface s.stored v.history
+  pub keeps : IfSome s.stored (λ bytes. KeepsBytes v.surface bytes v.history)
   pub surface : s.surface ≡ v.surface
   pub base_check : s.base_check ≡ v.base_check
 
--- what a server answers by after these updates
+-- what a server answers by after these updates; one that tells its stored bytes tells them again
 abbrev pub serving_after : Serving → List SealedUpdate → Serving
 serving_after s updates = record s {
   catalogue = catalogue_all s.surface s.catalogue updates;
-  stored = stored_all s.surface s.catalogue s.stored updates;
+  stored =
+      option_map (λ bytes. stored_all s.surface s.catalogue bytes updates) s.stored;
 }
 
 -- the history with these updates behind its own

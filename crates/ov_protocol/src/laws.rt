@@ -1,12 +1,19 @@
 //! The laws of servers, for the proofs of callers. The functions do nothing.
-ghost use Rattle.ov_protocol.specs.Laws.{EpochsGoOn, OneAnswer, OneReply, RepliesAreFrames};
+ghost use Rattle.ov_protocol.specs.Laws.{EpochsGoOn, HiddenAnswers, HiddenReplies};
+ghost use Rattle.ov_protocol.specs.Laws.{OneAnswer, OneReply, RepliesAreFrames};
 ghost use Rattle.ov_protocol.specs.Laws.{RepliesAreRead, ServersGoOn, ServicesAreServed};
 
-/// A server that serves a history has one answer to each request, and one reply to each frame: two
-/// that show the same reply the same, and then show the same again.
+/// A server that serves a history and tells its stored bytes has one answer to each request, and
+/// one reply to each frame: two that show the same reply the same, and then show the same again.
 pub fn one_answer()
     ensures answer { OneAnswer }
     ensures reply { OneReply }
+{}
+
+/// What a server answers and replies holds as well where its stored bytes aren't told.
+pub fn bytes_may_be_hidden()
+    ensures answers { HiddenAnswers }
+    ensures replies { HiddenReplies }
 {}
 
 /// A server that serves a history shows just what follows from it. After a reply it serves the

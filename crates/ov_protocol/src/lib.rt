@@ -7,8 +7,11 @@
 //! update is made, and what a server shows next is what it shows after the updates that were made.
 //! The same is said of frames: a *reply* is the spelling of an answer that can be sent.
 //!
+//! A serving may leave its stored bytes untold, since only the server's disk knows them. Then an
+//! answer with bytes is said to have the right number of them, and all else is said as before.
+//!
 //! A *service* is a sealed history with the keys under which it is served. A server serves one
-//! where both halves of its store are those after the history. So what a server answers to a frame
+//! where both halves of its store are those after the history, as far as they are told. So what a server answers to a frame
 //! is said with no store, no disk and no network in sight, and a caller that is told which history
 //! is served knows the answers.
 //!
@@ -31,6 +34,7 @@
 //! | law | function |
 //! |---|---|
 //! | a request has one answer, and a frame one reply, of servers that show the same | [`one_answer`] |
+//! | an answer is one as well where the stored bytes aren't told | [`bytes_may_be_hidden`] |
 //! | a server goes on with what it made, one epoch for each update | [`servers_go_on`] |
 //! | a reply is a frame, and what is read of it is the server's answer | [`replies_are_read`] |
 //!
@@ -39,4 +43,4 @@
 
 mod laws;
 
-pub use laws::{one_answer, replies_are_read, servers_go_on};
+pub use laws::{bytes_may_be_hidden, one_answer, replies_are_read, servers_go_on};

@@ -1,5 +1,5 @@
 -- Rows of replies: single answers, and what a reply says of its server.
-use Rattle.std.specs.Prelude.{◌≡◌, ℕ, List, [], Some}
+use Rattle.std.specs.Prelude.{◌≡◌, ◌-◌, ℕ, min, List, [], length, take, drop, Option, Some}
 use Rattle.ov_record.specs.Updates.{SealedUpdate}
 use Rattle.ov_history.specs.Catalogue.{Catalogue, Filed, no_filed}
 use Rattle.ov_base.specs.declared.refusal.Refusal.{Refusal}
@@ -22,8 +22,23 @@ third = record no_filed { generation = 3 }
 -- would be.
 abbrev pub ChunksHaveGenerations : Type 0
 ChunksHaveGenerations =
-    (stored bytes : List ℕ) (start count : ℕ)
+    (stored : Option (List ℕ)) (bytes : List ℕ) (start count : ℕ)
     → AnswersChunk (Some third) stored 4 start count (answers.Bytes bytes) → ⊥
+
+-- A chunk has as many bytes as were asked for and are there, whether or not a server tells them. If
+-- their number followed from the bytes alone, a server that doesn't tell them could answer with any.
+abbrev pub ChunksHaveSizes : Type 0
+ChunksHaveSizes =
+    (stored : Option (List ℕ)) (bytes : List ℕ) (start count : ℕ)
+    → AnswersChunk (Some third) stored 3 start count (answers.Bytes bytes)
+    → length bytes ≡ min count (third.length - start)
+
+-- A server that tells its bytes answers with just these. Hidden, they could be others.
+abbrev pub ToldChunksAreExact : Type 0
+ToldChunksAreExact =
+    (all bytes : List ℕ) (start count : ℕ)
+    → AnswersChunk (Some third) (Some all) 3 start count (answers.Bytes bytes)
+    → bytes ≡ take count (drop start all)
 
 -- A refused update is none that was made; an accepted one is. If each were made, so would be the
 -- refused one.

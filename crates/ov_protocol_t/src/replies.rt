@@ -1,11 +1,22 @@
 //! Rows of what a server answers, and of what it shows then.
-ghost use Rattle.ov_protocol_t.specs.Replies.{ChunksHaveGenerations, RefusedMakesNothing};
+ghost use Rattle.ov_protocol_t.specs.Replies.{ChunksHaveGenerations, ChunksHaveSizes};
+ghost use Rattle.ov_protocol_t.specs.Replies.{RefusedMakesNothing, ToldChunksAreExact};
 ghost use Rattle.ov_protocol_t.specs.Replies.{RepliesHaveForm, ShowsAccepted, StaleHasTag};
 ghost use Rattle.ov_protocol_t.specs.Replies.{UpdatesHaveEpochs};
 
 /// A chunk of another generation than the one that was asked for isn't answered with bytes.
 pub fn a_chunk_is_of_the_generation_asked()
     ensures { ChunksHaveGenerations }
+{}
+
+/// A chunk has the right number of bytes, of a server that tells them and of one that doesn't.
+pub fn a_chunk_has_its_size()
+    ensures { ChunksHaveSizes }
+{}
+
+/// A chunk of a server that tells its bytes has just these.
+pub fn a_told_chunk_is_exact()
+    ensures { ToldChunksAreExact }
 {}
 
 /// An update that is refused isn't made, and one that is accepted is.

@@ -10,7 +10,7 @@ use Rattle.ov_wire.specs.declared.request.Request.TheVariants as requests
 use Rattle.ov_wire.specs.declared.answer.Answer.{Answer}
 use Rattle.ov_wire.specs.declared.answer.Answer.TheVariants as answers
 use Rattle.ov_wire.specs.AnswerBytes.{answer_bytes}
-use Rattle.std.specs.Prelude.{Option, Some, None, slice_index_or}
+use Rattle.std.specs.Prelude.{Option, Some, None, option_map, slice_index_or}
 use Rattle.ov_history.specs.Catalogue.{Filed}
 use Rattle.ov_protocol.specs.Serving.{Serving}
 use Rattle.ov_protocol.specs.Reading.{AnswersChunk}
@@ -25,7 +25,7 @@ spelled_fault : (c : Catalogue) (read : Result SealedUpdate ℕ)
 spelled_fault c (Ok u) is = is
 spelled_fault c (Err place) is = cc
 
-chunk_fault : (o : Option Filed) (stored : List ℕ) (generation start count : ℕ)
+chunk_fault : (o : Option Filed) (stored : Option (List ℕ)) (generation start count : ℕ)
     → AnswersChunk o stored generation start count answers.DeviceFault → ⊥
 chunk_fault None stored generation start count is = cc
 chunk_fault (Some f) stored generation start count is = is
@@ -39,7 +39,7 @@ no_fault s (Ok (requests.Update epoch spelling tag)) is =
     spelled_fault s.catalogue (update_of first_form spelling) is.2
 no_fault s (Ok (requests.Chain user file)) is = is
 no_fault s (Ok (requests.Chunk file generation start count)) is =
-    chunk_fault (living_at s.catalogue.files file) (slice_index_or s.stored file []) generation
+    chunk_fault (living_at s.catalogue.files file) (option_map (λ stored. slice_index_or stored file []) s.stored) generation
     start count is
 no_fault s (Ok (requests.Page part number)) is = cc
 no_fault s (Ok (requests.List file)) is = is
@@ -112,7 +112,7 @@ accepted_made s (Ok (requests.Chain user file)) n is = absurd is
 accepted_made s (Ok (requests.Chunk file generation start count)) n is =
     absurd (chunk_made (living_at s.catalogue.files file) is) where
       chunk_made : (o : Option Filed)
-          → AnswersChunk o (slice_index_or s.stored file []) generation start count
+          → AnswersChunk o (option_map (λ stored. slice_index_or stored file []) s.stored) generation start count
           (answers.Accepted n)
           → ⊥
       chunk_made None is = cc

@@ -1,52 +1,70 @@
 -- What is answered to a question for stored bytes.
-use Rattle.std.proofs.Common.{◌≡◌, ◌∙◌, inr, ℕ, ◌≤◌, List, [], ◌++◌, length, Result, Ok, Err, refl, sym, ap, subst, arith}
-use Rattle.std.specs.Prelude.{Option, slice_index_or, take, drop}
-use Rattle.std.proofs.lemmas.List.{length-take}
+use Rattle.std.proofs.Common.{◌≡◌, ◌∙◌, inl, inr, ℕ, ◌≤◌, List, [], ◌++◌, Result, Ok, Err, refl, sym, ap, subst, arith}
+use Rattle.std.specs.Prelude.{IfSome, IsErrOf, None, Option, Some, option_map, slice_index_or, take, drop}
 use Rattle.ov_base.specs.Causes.{Rose}
-use Rattle.ov_base.specs.declared.memory.Memory.{Memory as NoMemory}
 use Rattle.ov_base.specs.declared.limits.TheConstants.{MAX_CHUNK_BYTES}
 use Rattle.ov_base.specs.declared.refusal.Refusal.TheVariants.{NoFile as NoSuchFile}
 use Rattle.ov_history.specs.Catalogue.{Catalogue, Filed}
 use Rattle.ov_history.specs.Places.{living_at}
 use Rattle.ov_wire.specs.declared.answer.Answer.{Answer}
 use Rattle.ov_wire.specs.declared.answer.Answer.TheVariants as answers
+use Rattle.ov_wire.specs.AnswerBytes.{answer_bytes}
 use Rattle.ov_wire.specs.AnswerForm.{HasAnswerForm}
+use Rattle.ov_wire.specs.RequestReading.{request_of}
+use Rattle.ov_wire.specs.declared.request.Request.{Request}
 use Rattle.ov_protocol.specs.Reading.{AnswersChunk}
+use Rattle.ov_protocol.specs.Replies.{AnswersRead, made_of}
 use Rattle.ov_disk.specs.Tells.{DiskTells}
-use Rattle.ov_store.specs.Chunks.{Chunks}
+use Rattle.ov_record.specs.Updates.{SealedUpdate}
+use Rattle.ov_store.specs.Chunks.{Chunks, IfUnasked}
 use Rattle.ov_store.specs.Opened.{Opened}
+use Rattle.ov_store.specs.Updating.{IsCallOf}
 use Rattle.ov_store.specs.declared.fault.ChunkFault.{ChunkFault}
 use Rattle.ov_store.specs.declared.fault.ChunkFault.TheVariants.{NoFile, Moved, Disk as DiskFailed}
-use Rattle.ov_peer.specs.Disks.{AsksBytes, IsOfGeneration}
-use Rattle.ov_server.specs.Answering.{AsksServer, LeavesAsked, serving_of}
-use Rattle.ov_server.proofs.Shown.{Puts, forgot, put_is, still_leaves}
+use Rattle.ov_peer.specs.Disks.{AsksBytes, HasUpdate, IsOfGeneration}
+use Rattle.ov_server.specs.Answering.{AsksServer, WritesNothing, serving_of}
+use Rattle.ov_server.proofs.AnswerKinds.{other_bytes}
+use Rattle.ov_server.proofs.Shown.{reading_leaves, says_read}
 
 -- why no bytes were given
 pub chunk_err : (r : Result (Unit {0}) ChunkFault) (fault why : ChunkFault) → r ≡ Err fault
     → fault ≡ why → r ≡ Err why
 chunk_err r fault why is same = is ∙ ap (λ (f : ChunkFault). Err f) same
 
-module _ (c : Catalogue) (stored : List (List ℕ)) (file generation start count : ℕ)
+-- what is said of the bytes of all files is said of those of one
+of_file : (stored : Option (List (List ℕ))) (file start count : ℕ) (bytes : List ℕ)
+    → IfSome stored (λ all. bytes ≡ take count (drop start (slice_index_or all file [])))
+    → IfSome (option_map (λ all. slice_index_or all file []) stored)
+    (λ one. bytes ≡ take count (drop start one))
+of_file None file start count bytes are = tt
+of_file (Some all) file start count bytes are = are
+
+module _ (c : Catalogue) (stored : Option (List (List ℕ))) (file generation start count : ℕ)
     (before after : List ℕ) (result : Result (Unit {0}) ChunkFault)
     (chunks : Chunks c stored file generation start count before after result) where
+  abbrev At : Option Filed → Answer → Type 0
+  At o =
+      AnswersChunk o (option_map (λ all. slice_index_or all file []) stored) generation start count
+
   -- the answer that this is
   abbrev Says : Answer → Type 0
-  Says = AnswersChunk (living_at c.files file) (slice_index_or stored file []) generation start count
-
-  abbrev At : Option Filed → Answer → Type 0
-  At o = AnswersChunk o (slice_index_or stored file []) generation start count
+  Says = At (living_at c.files file)
 
   abbrev Chunked : Result (Unit {0}) ChunkFault → Type 0
   Chunked r = Chunks c stored file generation start count before after r
 
-  pub says_bytes : (done : Unit {0}) (bytes : List ℕ) → result ≡ Ok done → before ≡ []
-      → bytes ≡ after → Says (answers.Bytes bytes)
-  says_bytes done bytes is none same =
-      let (f, there, at_it, new) = subst Chunked is chunks in
-      subst (λ o. At o (answers.Bytes bytes)) (sym there) (
-        at_it,
-        same ∙ new
-            ∙ ap (λ l. l ++ take count (drop start (slice_index_or stored file []))) none,
+  -- bytes behind the kind of an answer that has none yet are the answer that has them
+  pub says_bytes : (done : Unit {0}) → result ≡ Ok done → before ≡ answer_bytes (answers.Bytes [])
+      → count ≤ MAX_CHUNK_BYTES
+      → (bytes : List ℕ) × Says (answers.Bytes bytes) × HasAnswerForm (answers.Bytes bytes)
+      × (after ≡ answer_bytes (answers.Bytes bytes))
+  says_bytes done is begun few =
+      let (f, there, at_it, bytes, (many, are), new) = subst Chunked is chunks in (
+        bytes,
+        subst (λ o. At o (answers.Bytes bytes)) (sym there)
+            (at_it, many, of_file stored file start count bytes are),
+        omega (arith, many, few),
+        new ∙ ap (λ (l : List ℕ). l ++ bytes) begun,
       )
 
   pub says_no_file : result ≡ Err NoFile → Says (answers.Refused NoSuchFile)
@@ -59,42 +77,53 @@ module _ (c : Catalogue) (stored : List (List ℕ)) (file generation start count
       subst (λ o. At o (answers.Moved now)) (sym there)
       ((λ e. other (at_it ∙ e)), at_it)
 
-  -- where the disk failed, it was asked for a file that is there
-  pub is_there : result ≡ Err DiskFailed → IsOfGeneration c file generation
-  is_there is = let (f, there, at_it, same) = subst Chunked is chunks in (f, there, at_it)
+  -- where the disk failed, it was asked for a file that is there, and no bytes were put
+  pub is_there : result ≡ Err DiskFailed → IsOfGeneration c file generation × (after ≡ before)
+  is_there is =
+      let (f, there, at_it, same) = subst Chunked is chunks in ((f, there, at_it), same)
 
-  -- no more bytes than were asked for
-  pub few_bytes : (done : Unit {0}) (bytes : List ℕ) → result ≡ Ok done → before ≡ []
-      → bytes ≡ after → count ≤ MAX_CHUNK_BYTES → HasAnswerForm (answers.Bytes bytes)
-  few_bytes done bytes is none same few =
-      let (f, there, at_it, new) = subst Chunked is chunks in
-      let rest : List ℕ = drop start (slice_index_or stored file []) in
-      let all : bytes ≡ take count rest = same ∙ new ∙ ap (λ l. l ++ take count rest) none in
-      omega (arith, ap (λ (l : List ℕ). length l) all, length-take count rest, few)
+-- where no bytes were asked of the disk all is as it was
+pub unasked : (P : Type 0) (result : Result (Unit {0}) ChunkFault) (why : ChunkFault)
+    → IfUnasked result P → result ≡ Err why → IfUnasked {T = Unit {0}} (Err why) P
+unasked P result why holds is =
+    subst (λ (r : Result (Unit {0}) ChunkFault). IfUnasked r P) is holds
 
--- ---- a fault of the disk
+-- ---- what is said of the call
 
-module _ {D : Type 0} (tells : DiskTells D) where
-  pub chunk_failed : (s new : Opened D) (request reply : List ℕ)
-      (last : Result (Unit {0}) NoMemory) → new ≡ s → AsksBytes (serving_of s) request
-      → Puts (Ok answers.DeviceFault) reply last → Rose (tells.faults s.disk) (tells.faults new.disk)
-      → AsksServer tells s new request reply last
-  chunk_failed s new request reply (Ok done) same asks (put, err) rose = record {
-    answer = inr (record {
-      spelled = put_is _ answers.DeviceFault reply refl put;
-      same = ap (λ (o : Opened D). serving_of o) same;
-      needs = inr (asks, same);
-      before = λ failed. same;
-    });
+module _ {D : Type 0} (tells : DiskTells D) (s new : Opened D) (request reply : List ℕ)
+    (quiet : WritesNothing tells s new) {F : Type 0} (call : IsCallOf tells s new F)
+    (done : Unit {0}) where
+  -- bytes are given
+  pub chunk_given : (asked : Request) (is : request_of request ≡ Ok asked) (a : Answer)
+      → AnswersRead (serving_of s) (Ok asked) a → HasAnswerForm a → made_of (Ok asked) a ≡ []
+      → ((u : SealedUpdate) → HasUpdate (serving_of s) request u → ⊥)
+      → reply ≡ answer_bytes a → AsksServer tells s new request reply (Ok done)
+  chunk_given asked is a fits form none no_update spelled = record {
+    answer = inl
+        (says_read tells s new request (Ok asked) is quiet a reply fits form none spelled
+        (λ u has. absurd (no_update u has)));
     memory = tt;
-    any_moment = subst (LeavesAsked tells request s) (sym same) (still_leaves tells s request);
+    any_moment = reading_leaves tells s new request quiet;
     call = (
-      ap (λ (o : Opened D). o.keys) same,
-      ap (λ (o : Opened D). tells.borrow o.disk) same,
-      omega (arith, ap (λ (o : Opened D). tells.faults o.disk) same),
-      λ fault. rose,
+      call.0,
+      call.1,
+      call.2,
+      λ fault. absurd (other_bytes (serving_of s) (Ok asked) a fits (sym spelled ∙ fault.0)),
     );
   }
-  chunk_failed s new request reply (Err why) same asks (put, err) rose =
-      subst (λ o. AsksServer tells s o request reply (Err why)) (sym same)
-      (forgot tells s request reply why err)
+
+  -- the disk failed
+  pub chunk_failed : AsksBytes (serving_of s) request → reply ≡ answer_bytes answers.DeviceFault
+      → F → AsksServer tells s new request reply (Ok done)
+  chunk_failed asks spelled fault = record {
+    answer = inr (record {
+      spelled = spelled;
+      same = ap (λ (o : Opened D). serving_of o) quiet.same;
+      needs = inr (asks, quiet);
+      before = λ failed. quiet;
+      told = λ i at. (i, quiet.disk.reads_same ∙ at);
+    });
+    memory = tt;
+    any_moment = reading_leaves tells s new request quiet;
+    call = (call.0, call.1, call.2, λ is. call.3 fault);
+  }

@@ -1,18 +1,18 @@
 -- A server goes on from where it began by what it accepts.
 use Rattle.std.proofs.Common.{◌≡◌, ◌∙◌, inl, inr, ℕ, ◌+◌, Bool, true, false, List, [], ◌∷◌, ◌++◌, length, Result, Ok, Err, refl, sym, ap, subst, arith, append_assoc, length-append, true≢false}
-use Rattle.std.specs.Prelude.{OnOk}
+use Rattle.std.specs.Prelude.{OnOk, is_some}
 use Rattle.ov_base.specs.declared.memory.Memory.{Memory}
 use Rattle.std.proofs.lemmas.List.{append-nil}
 use Rattle.ov_record.specs.Updates.{SealedUpdate}
 use Rattle.ov_history.specs.Catalogue.{Catalogue, empty_catalogue}
-use Rattle.ov_history.specs.Sealed.{SealedHistory, catalogue_all}
+use Rattle.ov_history.specs.Sealed.{SealedHistory, catalogue_all, stored_all}
 use Rattle.ov_disk.specs.Tells.{DiskTells}
 use Rattle.ov_wire.specs.declared.request.Request.{Request}
 use Rattle.ov_wire.specs.declared.answer.Answer.TheVariants as answers
 use Rattle.ov_wire.specs.Frames.{IsFrame}
 use Rattle.ov_wire.specs.RequestReading.{request_of}
 use Rattle.ov_wire.proofs.AnswerForms.{answer_is_frame}
-use Rattle.ov_protocol.specs.Serving.{IsService, Service, Serving, later}
+use Rattle.ov_protocol.specs.Serving.{IsService, Service, Serving, later, served}
 use Rattle.ov_protocol.specs.Updating.{spelled_by, updates_in, updates_of}
 use Rattle.ov_protocol.specs.Replies.{AnswersRead, made_of}
 use Rattle.ov_protocol.proofs.GoingOn.{epochs_all, servers_go_on, services_are_served}
@@ -24,6 +24,7 @@ use Rattle.ov_server.specs.Answering.{AnswersOrFails, IsAnswered, serving_of}
 use Rattle.ov_server.specs.Following.{Reaches, RepliesAfter, RepliesAt}
 use Rattle.ov_server.specs.Locally.{needs}
 use Rattle.ov_server.proofs.AnswerKinds.{IsMade, accepted_made, nothing_made, says_so}
+use Rattle.ov_server.proofs.Hidden.{mapped_alike, told_alike}
 
 -- ---- the start
 
@@ -44,6 +45,7 @@ reached_at_once s some = record {
   some = some;
   goes_on = λ v is. subst (IsService s) (sym (later-nil v)) is;
   each = refl;
+  told = refl;
 }
 
 -- ---- epochs
@@ -139,13 +141,24 @@ module _ {D : Type 0} (tells : DiskTells D) (old new : Opened D) (request reply 
       (reaches : Reaches start list (serving_of old)) where
     at_old : AnswersOrFails tells old new request reply → RepliesAt (serving_of old) request reply
     at_old (inl is) = inl (is.frame.made, is.frame.replies)
-    at_old (inr is) = inr (is.spelled, needs old new request reply is)
+    at_old (inr is) = inr (is.spelled, needs tells old new request reply is)
 
     pub replies_after : RepliesAfter start list request reply
     replies_after v is =
         let here = later v (updates_of list) in
         subst (λ (s : Serving). RepliesAt s request reply)
-        (services_are_served (serving_of old) here (reaches.goes_on v is)) (at_old answered)
+        (services_are_served (serving_of old) here (reaches.goes_on v is)
+        ∙ told_alike old.stored start.stored (served here) reaches.told) (at_old answered)
+
+    -- the stored bytes are told then where they were told at the start
+    told_next : (is : IsAnswered tells old new request reply)
+        → is_some new.stored ≡ is_some start.stored
+    told_next is =
+        ap (λ (s : Serving). is_some s.stored) is.frame.next
+        ∙ mapped_alike
+        (λ (all : List (List ℕ)). stored_all old.keys.surface old.catalogue all is.frame.made)
+        old.stored
+        ∙ reaches.told
 
     -- an update more
     one_more : (is : IsAnswered tells old new request reply) → says_accepted reply ≡ true
@@ -167,6 +180,7 @@ module _ {D : Type 0} (tells : DiskTells D) (old new : Opened D) (request reply 
           each = ap length all ∙ length-append (updates_of list) is.frame.made
               ∙ (λ i. reaches.each i + length ((is_made is so ∙ m.makes) i))
               ∙ sym (length-append list (spelling_of request ∷ []));
+          told = told_next is;
         }
 
     -- no update more
@@ -186,6 +200,7 @@ module _ {D : Type 0} (tells : DiskTells D) (old new : Opened D) (request reply 
               (servers_go_on (serving_of old) (serving_of new) here request reply is.frame
               (reaches.goes_on v start_is)));
           each = reaches.each;
+          told = told_next is;
         }
 
     next : (so : Bool) → says_accepted reply ≡ so

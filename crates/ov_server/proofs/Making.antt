@@ -35,9 +35,9 @@ use Rattle.ov_store.specs.Updating.{GoesOnAfter, IsCallOf, LeavesEither, ServesM
 use Rattle.ov_store.specs.declared.fault.StoreFault.{StoreFault}
 use Rattle.ov_store.specs.declared.fault.StoreFault.TheVariants.{Refused, BadPlan, Disk as DiskFailed, Failed, Memory as NoMemory}
 use Rattle.ov_peer.specs.Disks.{HasUpdate}
-use Rattle.ov_server.specs.Answering.{AnswersOrFails, AsksServer, IsAnswered, IsFaulted, IsNewFault, KeepsWith, LeavesAsked, serving_of}
+use Rattle.ov_server.specs.Answering.{AnswersOrFails, AsksServer, IsAnswered, IsFaulted, IsNewFault, KeepsWith, LeavesAsked, WritesNothing, serving_of}
 use Rattle.ov_wire.specs.AnswerForm.{HasAnswerForm}
-use Rattle.ov_server.proofs.Shown.{MakesNone, Puts, answers_still}
+use Rattle.ov_server.proofs.Shown.{MakesNone, Puts, answers_still, writes_none}
 use Rattle.ov_server.proofs.AnswerKinds.{accepted_apart, nothing_made}
 
 -- the place of a wrong part is near the front of a spelling
@@ -128,8 +128,8 @@ module _ {D : Type 0} (tells : DiskTells D)
       (reply_is : reply ≡ answer_bytes (answers.Accepted epoch))
       (epoch_is : epoch ≡ min (old.catalogue.epoch + 1) (2 ^ 32 - 1))
       (made_it : Updates u old new (Ok n)) (state : GoesOnAfter (Ok n) old new)
-      (served : ServesMore tells u old new
-      × StaysTold (tells.reads old.disk) (tells.reads new.disk))
+      (served : ServesMore tells u old new)
+      (stays : StaysTold (tells.reads old.disk) (tells.reads new.disk))
       (keys : new.keys ≡ old.keys) where
     is_answered : IsAnswered tells old new request reply
     is_answered =
@@ -153,9 +153,9 @@ module _ {D : Type 0} (tells : DiskTells D)
               base_check = (keys i).base_check;
             };
           };
-          lasts = served.0;
+          lasts = served;
           untouched = λ nothing. let wrong : u ∷ [] ≡ [] = nothing in absurd (cc);
-          told = served.1;
+          told = stays;
           failed = state.failed.0;
           sound = λ w other.
               false_from_ne_true old.failed
@@ -189,8 +189,9 @@ module _ {D : Type 0} (tells : DiskTells D)
   -- the disk failed
   pub is_faulted : (reply : List ℕ) → reply ≡ answer_bytes answers.DeviceFault
       → Updates u old new (Err DiskFailed) → GoesOnAfter (Err DiskFailed) old new
-      → new.keys ≡ old.keys → IsFaulted old new request reply
-  is_faulted reply spelled answer state keys = record {
+      → StaysTold (tells.reads old.disk) (tells.reads new.disk)
+      → new.keys ≡ old.keys → IsFaulted tells old new request reply
+  is_faulted reply spelled answer state stays keys = record {
     spelled = spelled;
     same = same_serving old new answer.1 answer.2 keys;
     needs = inl (record {
@@ -200,11 +201,12 @@ module _ {D : Type 0} (tells : DiskTells D)
       failed = state.failed.0;
     });
     before = λ failed. let wrong : Err DiskFailed ≡ Err Failed = state.failed.1 failed in absurd (cc);
+    told = stays;
   }
 
   -- the disk had failed before
   pub had_failed : (reply : List ℕ) → reply ≡ answer_bytes answers.DeviceFault
-      → GoesOnAfter (Err Failed) old new → IsFaulted old new request reply
+      → GoesOnAfter (Err Failed) old new → IsFaulted tells old new request reply
   had_failed reply spelled state = record {
     spelled = spelled;
     same = ap (λ (s : Opened D). serving_of s) state.untouched;
@@ -214,7 +216,10 @@ module _ {D : Type 0} (tells : DiskTells D)
       taken = λ none. absurd (true≢false (sym (state.failed.2 refl) ∙ none));
       failed = state.failed.0 ∙ state.failed.2 refl;
     });
-    before = λ failed. state.untouched;
+    before = λ failed.
+        subst (λ (o : Opened D). WritesNothing tells old o) (sym state.untouched)
+        (writes_none tells old);
+    told = λ i at. (i, ap (λ (o : Opened D). tells.reads o.disk) state.untouched ∙ at);
   }
 
   -- ---- by what the store answers
@@ -222,8 +227,8 @@ module _ {D : Type 0} (tells : DiskTells D)
   module _ (result : Result ℕ StoreFault) (answer : Updates u old new result)
       (state : GoesOnAfter result old new)
       (moments : LeavesEither tells u old new)
-      (served : OnOk result (ServesMore tells u old new
-      × StaysTold (tells.reads old.disk) (tells.reads new.disk)))
+      (served : OnOk result (ServesMore tells u old new))
+      (stays : StaysTold (tells.reads old.disk) (tells.reads new.disk))
       (call : IsCallOf tells old new (IsErrOf result DiskFailed))
       (reply : List ℕ) (last : Result (Unit {0}) Memory) where
     abbrev Asked : Type 0
@@ -249,10 +254,8 @@ module _ {D : Type 0} (tells : DiskTells D)
         answered done last_is
         (inl (is_answered n epoch reply reply_is epoch_is (subst (Updates u old new) is answer)
         (subst (λ r. GoesOnAfter r old new) is state)
-        (subst
-        (λ (r : Result ℕ StoreFault). OnOk r (ServesMore tells u old new
-        × StaysTold (tells.reads old.disk) (tells.reads new.disk))) is served)
-        call.0))
+        (subst (λ (r : Result ℕ StoreFault). OnOk r (ServesMore tells u old new)) is served)
+        stays call.0))
         (λ fault. absurd (accepted_apart epoch (sym reply_is ∙ fault.0)))
 
     pub on_refused : (why : Refusal) → result ≡ Err (Refused why)
@@ -289,7 +292,7 @@ module _ {D : Type 0} (tells : DiskTells D)
     on_disk done is last_is reply_is =
         answered done last_is
         (inr (is_faulted reply reply_is (subst (Updates u old new) is answer)
-        (subst (λ r. GoesOnAfter r old new) is state) call.0))
+        (subst (λ r. GoesOnAfter r old new) is state) stays call.0))
         (λ fault. call.3 is)
 
     pub on_failed : (done : Unit {0}) → result ≡ Err Failed → last ≡ Ok done

@@ -1,11 +1,13 @@
 -- What a server answers by what it shows, and what it makes by that.
 use Rattle.std.proofs.Common.{◌≡◌, ◌∙◌, inl, ℕ, false, List, [], Result, Ok, Err, refl, sym, ap, subst, arith, true≢false}
-use Rattle.std.specs.Prelude.{IfOk, IsErr, OnErr, OnOk}
+use Rattle.std.specs.Prelude.{IfOk, IsErr, OnErr, OnOk, Option, is_some}
 use Rattle.ov_base.specs.declared.memory.Memory.{Memory}
 use Rattle.ov_record.specs.Updates.{SealedUpdate}
 use Rattle.ov_history.specs.Sealed.{SealedHistory}
+use Rattle.ov_disk.specs.Disk.{Image}
+use Rattle.ov_disk.specs.Moments.{IsUntouched}
 use Rattle.ov_disk.specs.Tells.{DiskTells}
-use Rattle.ov_disk.proofs.Runs.{started}
+use Rattle.ov_disk.proofs.Runs.{started, untouched, weaker}
 use Rattle.ov_wire.specs.declared.request.Request.{Request}
 use Rattle.ov_wire.specs.declared.request.Request.TheVariants as requests
 use Rattle.ov_wire.specs.declared.answer.Answer.{Answer}
@@ -14,11 +16,12 @@ use Rattle.ov_wire.specs.AnswerBytes.{answer_bytes}
 use Rattle.ov_wire.specs.AnswerForm.{HasAnswerForm}
 use Rattle.ov_wire.specs.RequestReading.{request_of}
 use Rattle.ov_protocol.specs.Replies.{AnswersRead, made_of, updates_asked}
+use Rattle.ov_protocol.proofs.Untold.{nothing_follows}
 use Rattle.ov_store.specs.Opened.{Opened, Serves}
 use Rattle.ov_store.specs.Updating.{IsCallOf}
 use Rattle.ov_peer.specs.Disks.{HasUpdate}
 use Rattle.ov_peer.proofs.Following.{followed-nil}
-use Rattle.ov_server.specs.Answering.{AsksServer, IsAnswered, IsNewFault, KeepsWith, LeavesAsked, serving_of}
+use Rattle.ov_server.specs.Answering.{AsksServer, IsAnswered, IsNewFault, KeepsWith, LeavesAsked, WritesNothing, serving_of}
 use Rattle.ov_server.proofs.AnswerKinds.{other_bytes}
 
 -- this is replied, or memory was refused
@@ -101,13 +104,45 @@ module _ {D : Type 0} (tells : DiskTells D) where
 
   -- ---- an answer that makes nothing
 
-  module _ (s : Opened D) (request : List ℕ) (read : Result Request ℕ)
-      (is : request_of request ≡ read) where
-    pub says : (a : Answer) (reply : List ℕ) → AnswersRead (serving_of s) read a → HasAnswerForm a
-        → made_of read a ≡ [] → reply ≡ answer_bytes a
+  -- a call that doesn't touch the store writes nothing
+  pub writes_none : (s : Opened D) → WritesNothing tells s s
+  writes_none s = record { same = refl; disk = untouched tells s.disk }
+
+  -- where nothing is written, a crash leaves what it might have left before
+  pub reading_leaves : (s new : Opened D) (request : List ℕ) → WritesNothing tells s new
+      → LeavesAsked tells request s new
+  reading_leaves s new request quiet g serves sound i read =
+      weaker tells s.disk new.disk (tells.may_leave s.disk)
+      (KeepsWith s.keys g (updates_asked (request_of request))) quiet.disk.any_moment
+      (λ x left. inl (serves.disk sound i read x left))
+
+  -- with a disk that wasn't written a store stands for what it stood for
+  pub serves_with : (s : Opened D) (d : D) → IsUntouched tells s.disk d → (g : SealedHistory)
+      → Serves tells g s → Serves tells g (record s { disk = d })
+  serves_with s d quiet g serves = record {
+    catalogue = serves.catalogue;
+    bytes = serves.bytes;
+    told = serves.told ∙ ap (λ (r : Option Image). is_some r) (sym quiet.reads_same);
+    disk = λ ok i read x left.
+        serves.disk ok i (sym quiet.reads_same ∙ read) x (quiet.no_more x left);
+    after_fault = λ bad i read.
+        let either = serves.after_fault bad i (sym quiet.reads_same ∙ read) in
+        (either.0, λ x left. either.1 x (quiet.no_more x left));
+  }
+
+  still_serves : (s new : Opened D) → WritesNothing tells s new → (g : SealedHistory)
+      → Serves tells g s → Serves tells g new
+  still_serves s new quiet g serves =
+      subst (λ (o : Opened D). Serves tells g o) (sym quiet.same)
+      (serves_with s new.disk quiet.disk g serves)
+
+  module _ (s new : Opened D) (request : List ℕ) (read : Result Request ℕ)
+      (is : request_of request ≡ read) (quiet : WritesNothing tells s new) where
+    pub says_read : (a : Answer) (reply : List ℕ) → AnswersRead (serving_of s) read a
+        → HasAnswerForm a → made_of read a ≡ [] → reply ≡ answer_bytes a
         → ((u : SealedUpdate) → HasUpdate (serving_of s) request u → s.failed ≡ false)
-        → IsAnswered tells s s request reply
-    says a reply fits form none spelled sound = record {
+        → IsAnswered tells s new request reply
+    says_read a reply fits form none spelled sound = record {
       frame = record {
         made = [];
         replies = record {
@@ -117,15 +152,25 @@ module _ {D : Type 0} (tells : DiskTells D) where
           spelled = spelled;
           makes = sym none ∙ ap (λ (r : Result Request ℕ). made_of r a) (sym is);
         };
-        next = refl;
+        next = ap (λ (o : Opened D). serving_of o) quiet.same ∙ sym (nothing_follows (serving_of s));
       };
       lasts = λ g serves.
-          subst (λ (h : SealedHistory). Serves tells h s) (sym (followed-nil g)) serves;
-      untouched = λ nothing. refl;
-      told = λ i at. (i, at);
-      failed = refl;
+          subst (λ (h : SealedHistory). Serves tells h new) (sym (followed-nil g))
+          (still_serves s new quiet g serves);
+      untouched = λ nothing. quiet;
+      told = λ i at. (i, quiet.disk.reads_same ∙ at);
+      failed = ap (λ (o : Opened D). o.failed) quiet.same;
       sound = sound;
     }
+
+  module _ (s : Opened D) (request : List ℕ) (read : Result Request ℕ)
+      (is : request_of request ≡ read) where
+    pub says : (a : Answer) (reply : List ℕ) → AnswersRead (serving_of s) read a → HasAnswerForm a
+        → made_of read a ≡ [] → reply ≡ answer_bytes a
+        → ((u : SealedUpdate) → HasUpdate (serving_of s) request u → s.failed ≡ false)
+        → IsAnswered tells s s request reply
+    says a reply fits form none spelled sound =
+        says_read s s request read is (writes_none s) a reply fits form none spelled sound
 
     -- all that is said of the call
     pub answers_still : (answer : Result Answer Memory) (reply : List ℕ)

@@ -7,7 +7,7 @@ use Rattle.ov_history.specs.Briefs.{brief}
 use Rattle.ov_history.specs.Sealed.{SealedHistory}
 use Rattle.ov_state.specs.Plans.{IsTaken}
 use Rattle.ov_disk.specs.Disk.{Image, StaysTold, Told}
-use Rattle.ov_disk.specs.Moments.{LeavesOnly}
+use Rattle.ov_disk.specs.Moments.{IsUntouched, LeavesOnly}
 use Rattle.ov_disk.specs.Tells.{DiskTells}
 use Rattle.ov_images.specs.Images.{Keys, Keeps}
 use Rattle.ov_wire.specs.declared.answer.Answer.TheVariants.{DeviceFault}
@@ -31,15 +31,20 @@ serving_of s = record {
 
 -- ---- what is answered
 
+-- a call that writes nothing: all but the disk is what it was, and the disk reads the same
+pub record WritesNothing {D : Type 0} (tells : DiskTells D) (old new : Opened D) : Type 0 where
+  pub same : new ≡ record old { disk = new.disk }
+  pub disk : IsUntouched tells old.disk new.disk
+
 -- The answer is the one by what the server shows, which goes on by what it makes. With that, each
 -- history for which it stood is one for which it stands then: so what is accepted lasts. Where it
--- makes nothing all stays as it was, the disk too. An update is looked at only where the disk has
--- never failed in one.
+-- makes nothing, nothing is written. An update is looked at only where the disk has never failed in
+-- one.
 pub record IsAnswered {D : Type 0} (tells : DiskTells D) (old new : Opened D)
     (request reply : List ℕ) : Type 0 where
   pub frame : AnswersFrame (serving_of old) (serving_of new) request reply
   pub lasts : (g : SealedHistory) → Serves tells g old → Serves tells (followed g frame.made) new
-  pub untouched : frame.made ≡ [] → new ≡ old
+  pub untouched : frame.made ≡ [] → WritesNothing tells old new
   pub told : StaysTold (tells.reads old.disk) (tells.reads new.disk)
   pub failed : new.failed ≡ old.failed
   pub sound : (u : SealedUpdate) → HasUpdate (serving_of old) request u → old.failed ≡ false
@@ -53,19 +58,23 @@ pub record FailsUpdate {D : Type 0} (old new : Opened D) (request : List ℕ) : 
   pub failed : new.failed ≡ true
 
 -- The answer is that the disk failed, and what the server shows stays. It comes only to what needs
--- the disk. Once the disk failed in an update, each later one is answered so, and changes nothing.
-pub record IsFaulted {D : Type 0} (old new : Opened D) (request reply : List ℕ) : Type 0 where
+-- the disk, and where no update failed nothing is written. Once the disk failed in an update, each
+-- later one is answered so, and nothing is written either. A disk that told its bytes still tells
+-- them.
+pub record IsFaulted {D : Type 0} (tells : DiskTells D) (old new : Opened D)
+    (request reply : List ℕ) : Type 0 where
   pub spelled : reply ≡ answer_bytes DeviceFault
   pub same : serving_of new ≡ serving_of old
   pub needs : FailsUpdate old new request
-      ⊎ (AsksBytes (serving_of old) request × (new ≡ old))
-  pub before : old.failed ≡ true → new ≡ old
+      ⊎ (AsksBytes (serving_of old) request × WritesNothing tells old new)
+  pub before : old.failed ≡ true → WritesNothing tells old new
+  pub told : StaysTold (tells.reads old.disk) (tells.reads new.disk)
 
 -- the answer is the one by what the server shows, or that the disk failed
 abbrev pub AnswersOrFails : {D : Type 0} → DiskTells D → Opened D → Opened D → List ℕ → List ℕ
     → Type 0
 AnswersOrFails tells old new request reply =
-    IsAnswered tells old new request reply ⊎ IsFaulted old new request reply
+    IsAnswered tells old new request reply ⊎ IsFaulted tells old new request reply
 
 -- the answer is that the disk failed, and this isn't said because of an earlier update
 abbrev pub IsNewFault : {D : Type 0} → Opened D → List ℕ → List ℕ → Type 0

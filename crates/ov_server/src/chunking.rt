@@ -5,7 +5,7 @@ ghost use Rattle.ov_wire.specs.declared.request.Request.TheVariants.{Chunk};
 ghost use Rattle.ov_wire.specs.RequestReading.{request_of};
 ghost use Rattle.ov_server.specs.Answering.{AsksServer};
 
-use crate::reply::reply_with;
+use crate::reply::{reply_fault, reply_with};
 use crate::server::Server;
 use ov_base::{Memory, Octets, Refusal};
 use ov_disk::Disk;
@@ -27,12 +27,12 @@ impl<D: Disk> Server<D> {
             → request_of request ≡ Ok (Chunk file generation start count)
             → AsksServer D.tells self.old self.new request reply.new.items result }
     {
-        let mut bytes = Vec::new(*reply.allocator());
-        match self.store.chunk(file, generation, start, count, &mut bytes) {
-            Ok(()) => {
-                let bytes = Octets::from_vec(bytes);
-                reply_with(Ok(Answer::Bytes { bytes }), reply)
-            }
+        // The reply is begun before the store is asked, which puts the bytes behind its kind: so all
+        // memory is taken before the disk is read.
+        let bytes = Octets::new(*reply.allocator());
+        reply_with(Ok(Answer::Bytes { bytes }), reply)?;
+        match self.store.chunk(file, generation, start, count, reply) {
+            Ok(()) => Ok(()),
             Err(ChunkFault::NoFile) => {
                 let refusal = Refusal::NoFile;
                 reply_with(Ok(Answer::Refused { refusal }), reply)
@@ -40,7 +40,10 @@ impl<D: Disk> Server<D> {
             Err(ChunkFault::Moved { generation }) => {
                 reply_with(Ok(Answer::Moved { generation }), reply)
             }
-            Err(ChunkFault::Disk) => reply_with(Ok(Answer::DeviceFault), reply),
+            Err(ChunkFault::Disk) => {
+                reply_fault(reply);
+                Ok(())
+            }
             Err(ChunkFault::Memory) => reply_with(Err(Memory), reply),
         }
     }

@@ -4,7 +4,8 @@
 //! is kept. [`Server::answer`] answers a frame in place of what was in the reply, and is the one
 //! call that changes what is shown: it makes the update that it accepts. Of a Cover it keeps the
 //! plan that it told, which no contract shows. A [`LocalPeer`] is a server in this process as a
-//! peer, which tells which history it serves; a server is an [`ov_peer::Answerer`] too.
+//! peer, which tells which history it serves where its disk tells its bytes; a server is an
+//! [`ov_peer::Answerer`] too.
 //!
 //! ```text
 //! frame ── read_request ──► Hello, Ask, Cover, Chain, Page, List   by the catalogue alone
@@ -14,8 +15,8 @@
 //! ```
 //!
 //! **What a contract sees** is the store (`Opened` of ov_store), and what it is answered by is
-//! `serving_of` of that: the catalogue, the stored bytes, the surface master and the check value of
-//! the base master (`Serving` of ov_protocol).
+//! `serving_of` of that: the catalogue, the stored bytes where the disk tells its bytes, the surface
+//! master and the check value of the base master (`Serving` of ov_protocol).
 //!
 //! * The reply is the one of ov_protocol's `AnswersFrame` at what the server shows, which then goes
 //!   on by what it made (`IsAnswered`); so what is accepted lasts on the disk. Or it is
@@ -23,7 +24,8 @@
 //!   where a call of the disk failed in it or in an earlier one.
 //! * A crash at any moment of the call leaves a history for which the server stood, or this with
 //!   the request's update (`LeavesAsked`).
-//! * All memory is taken before the disk is written. Where it is refused all is as it was.
+//! * An answer that makes nothing writes nothing: a question may read the disk, and leaves all else.
+//! * All memory is taken before the disk is asked. Where it is refused all is as it was.
 //!
 //! | file in `specs/` | says |
 //! |---|---|

@@ -8,7 +8,7 @@ use ov_peer::{Peer, PeerFault};
 use std::marker::Model;
 
 /// A server that is asked with no link between: nobody else asks it, and it fails only where memory
-/// is refused. It tells which history it serves.
+/// is refused. Where its disk tells its bytes it tells which history it serves.
 #[derive(Drop)]
 pub struct LocalPeer<D: Disk> {
     server: Server<D>,

@@ -5,7 +5,7 @@ use Rattle.ov_disk.specs.Disk.{Image, Only, Told}
 use Rattle.ov_disk.specs.Moments.{IsUntouched}
 use Rattle.ov_disk.specs.Tells.{DiskTells}
 use Rattle.ov_record.specs.Updates.{SealedUpdate}
-use Rattle.ov_history.specs.Sealed.{SealedHistory, outer_all}
+use Rattle.ov_history.specs.Sealed.{KeepsBytes, SealedHistory, outer_all}
 use Rattle.ov_history.proofs.Showing.{history_is_shown}
 use Rattle.ov_journal.specs.Book.{contents_of, spelled}
 use Rattle.ov_journal.specs.Finding.{IsStore}
@@ -17,8 +17,9 @@ use Rattle.ov_images.specs.Damage.{IsFor}
 use Rattle.ov_images.specs.Images.{Keys, Keeps, bodies_of, header_of}
 use Rattle.ov_images.proofs.Keeping.{is_born, keeps_once}
 use Rattle.ov_store.specs.Beginning.{FindsHistory, IsOpened}
-use Rattle.ov_store.specs.Opened.{IsSafe, Serves, open_with}
+use Rattle.ov_store.specs.Opened.{IsSafe, Serves, open_with, stored_where}
 use Rattle.ov_store.specs.Replaying.{IsReplay}
+use Rattle.ov_store.proofs.Said.{said_where, told_where}
 
 pub length-bodies : (updates : List SealedUpdate) → length (bodies_of updates) ≡ length updates
 length-bodies [] = refl
@@ -69,10 +70,13 @@ module _ {D : Type 0} (tells : DiskTells D) (d0 d1 : D)
       }
 
   pub serves_found : Serves tells found.replay.history
-      (open_with d1 k s.catalogue s.stored)
+      (open_with d1 k s.catalogue (stored_where (tells.reads d1) s.stored))
   serves_found = record {
     catalogue = found.replay.stands.0;
-    bytes = found.replay.stands.1;
+    bytes = said_where (tells.reads d1) s.stored
+        (λ (bytes : List (List ℕ)). KeepsBytes k.surface bytes found.replay.history)
+        found.replay.stands.1;
+    told = told_where (tells.reads d1) s.stored;
     disk = λ ok i read x left.
         let old = sym quiet.reads_same ∙ read in
         subst (Keeps k found.replay.history) (sym (settled i old x (quiet.no_more x left)))
@@ -81,7 +85,7 @@ module _ {D : Type 0} (tells : DiskTells D) (d0 d1 : D)
   }
 
   pub finds : Told (tells.reads d0) (λ i.
-      FindsHistory tells k mode i (open_with d1 k s.catalogue s.stored))
+      FindsHistory tells k mode i (open_with d1 k s.catalogue (stored_where (tells.reads d1) s.stored)))
   finds i at =
       let g = found.replay.history in
       let keeps = keeps_found i at in
@@ -90,11 +94,11 @@ module _ {D : Type 0} (tells : DiskTells D) (d0 d1 : D)
         each = λ x is_mode image.
             ⊎_elim (λ un. absurd ((is_born k g i keeps).1 un.0))
             (λ other. subst (λ (y : SealedHistory).
-            Serves tells y (open_with d1 k s.catalogue s.stored))
+            Serves tells y (open_with d1 k s.catalogue (stored_where (tells.reads d1) s.stored)))
             (keeps_once k g x i keeps other) serves_found) image;
       }
 
-  pub safe_found : IsSafe tells log (open_with d1 k s.catalogue s.stored)
+  pub safe_found : IsSafe tells log (open_with d1 k s.catalogue (stored_where (tells.reads d1) s.stored))
   safe_found =
       let g = found.replay.history in
       let shown = history_is_shown k.surface s.catalogue g found.replay.stands.0 in
@@ -129,7 +133,7 @@ module _ {D : Type 0} (tells : DiskTells D) (d0 d1 : D)
       ∙ found.replay.mode_is ∙ found.keys.mode_is
 
   pub opened_found : IsOpened tells log mode (tells.reads d0)
-      (open_with d1 k s.catalogue s.stored)
+      (open_with d1 k s.catalogue (stored_where (tells.reads d1) s.stored))
   opened_found = record {
     safe = safe_found;
     mode_is = mode_found;

@@ -6,14 +6,15 @@ use Rattle.ov_disk.specs.Moments.{LeavesOnly}
 use Rattle.ov_disk.specs.Tells.{DiskTells}
 use Rattle.ov_disk.proofs.Runs.{started, weaker}
 use Rattle.ov_history.specs.Catalogue.{Catalogue, empty_catalogue}
-use Rattle.ov_history.specs.Sealed.{blank}
+use Rattle.ov_history.specs.Sealed.{KeepsBytes, blank}
 use Rattle.ov_journal.specs.Book.{contents_of, born}
 use Rattle.ov_journal.specs.Log.{Log, IsUnbornOrEmpty, IsKept, Stands}
 use Rattle.ov_journal.specs.Standing.{IsUnborn}
 use Rattle.ov_journal.proofs.Records.{all_first}
 use Rattle.ov_images.specs.Images.{Keys, header_of, Keeps, IsImageOf}
 use Rattle.ov_store.specs.Beginning.{IsBornStore}
-use Rattle.ov_store.specs.Opened.{Serves, IsSafe, open_with}
+use Rattle.ov_store.specs.Opened.{Serves, IsSafe, open_with, stored_where}
+use Rattle.ov_store.proofs.Said.{said_where, told_where}
 
 -- a new store keeps the history without updates
 pub keeps_none : (k : Keys) (mode : Mode) (first : ℕ) (x : Image) → first < 2 ^ 32
@@ -46,10 +47,12 @@ module _ {D : Type 0} (tells : DiskTells D)
       (told : Told (tells.reads d1) (λ _. (i : Image) × (tells.reads d0 ≡ Some i)))
       (kept : Told (tells.reads d0) (λ i.
       IsKept tells d1 (born (header_of k (blank mode first)) []) i.blobs)) where
-    pub serves_none : Serves tells (blank mode first) (open_with d1 k c stored)
+    pub serves_none : Serves tells (blank mode first) (open_with d1 k c (stored_where (tells.reads d1) stored))
     serves_none = record {
       catalogue = (tt, is);
-      bytes = bytes;
+      bytes = said_where (tells.reads d1) stored
+          (λ (all : List (List ℕ)). KeepsBytes k.surface all (blank mode first)) bytes;
+      told = told_where (tells.reads d1) stored;
       disk = λ ok i read x left.
           let before = told i read in
           let one = kept before.0 before.1 in
@@ -60,7 +63,7 @@ module _ {D : Type 0} (tells : DiskTells D)
 
     pub safe_none : (log : Log) → log.bad ≡ false → length log.offsets ≡ 0
         → Stands tells log d1
-        → IsSafe tells log (open_with d1 k c stored)
+        → IsSafe tells log (open_with d1 k c (stored_where (tells.reads d1) stored))
     safe_none log whole count stands = record {
       whole = whole;
       count = omega (arith, count);
@@ -71,7 +74,7 @@ module _ {D : Type 0} (tells : DiskTells D)
 
     pub born_none : (log : Log) → log.bad ≡ false → length log.offsets ≡ 0
         → Stands tells log d1
-        → IsBornStore tells log mode first (tells.reads d0) (open_with d1 k c stored)
+        → IsBornStore tells log mode first (tells.reads d0) (open_with d1 k c (stored_where (tells.reads d1) stored))
     born_none log whole count stands = record {
       safe = safe_none log whole count stands;
       serves = serves_none;

@@ -1,6 +1,7 @@
 -- What the record of an update makes of the histories for which a store stands.
 use Rattle.std.proofs.Common.{◌≡◌, inl, inr, ⊎_elim, ℕ, ◌+◌, List, [], ◌∷◌, length, Bool, true, false, Option, Some, None, refl, sym, ◌∙◌, ap, subst, arith, length-append}
 use Rattle.std.proofs.lemmas.List.{append-nil}
+use Rattle.std.specs.Prelude.{IfSome, is_some, option_map}
 use Rattle.ov_record.specs.Updates.{SealedUpdate}
 use Rattle.ov_history.specs.Briefs.{Brief, BriefEnrol, BriefCreate, BriefGrant, BriefRevoke, brief, text_of}
 use Rattle.ov_history.specs.Catalogue.{Catalogue, catalogue_after}
@@ -40,6 +41,16 @@ bytes_go_on master c stored g u stands keeps =
     (λ j. stored_after master (rewrites_of (stands.1 j) (brief u)) (text_of u) (keeps j))
     ∙ sym (stored-push master g u)
 
+-- they do where they are said
+said_go_on : (master : List ℕ) (c : Catalogue) (stored : Option (List (List ℕ))) (g : SealedHistory)
+    (u : SealedUpdate) → StandsFor master c g
+    → IfSome stored (λ (bytes : List (List ℕ)). KeepsBytes master bytes g)
+    → IfSome (option_map (stored_after master (rewrites_of c (brief u)) (text_of u)) stored)
+    (λ (bytes : List (List ℕ)). KeepsBytes master bytes (with_sealed g u))
+said_go_on master c None g u stands keeps = tt
+said_go_on master c (Some stored) g u stands keeps =
+    bytes_go_on master c stored g u stands keeps
+
 -- what a disk tells it told before, where one that told nothing still tells nothing
 told_before : (old new : Option Image) → StaysUntold old new
     → Told new (λ _. (i : Image) × (old ≡ Some i))
@@ -67,12 +78,12 @@ first_after log other i x body may_leave is same (inr more) = record {
 }
 
 -- an open store with these parts
-abbrev pub store_of : {D : Type 0} → D → Keys → Catalogue → List (List ℕ) → Bool → Opened D
+abbrev pub store_of : {D : Type 0} → D → Keys → Catalogue → Option (List (List ℕ)) → Bool → Opened D
 store_of disk k c stored failed =
     record { disk = disk; keys = k; catalogue = c; stored = stored; failed = failed }
 
 module _ {D : Type 0} (tells : DiskTells D) where
-  module _ (k : Keys) (d0 d1 : D) (c : Catalogue) (stored : List (List ℕ)) (f : Bool)
+  module _ (k : Keys) (d0 d1 : D) (c : Catalogue) (stored : Option (List (List ℕ))) (f : Bool)
       (u : SealedUpdate) (body : List ℕ) (taken : IsTaken c (brief u))
       (is : IsBodyOf u body) where
     module _ (g : SealedHistory)
@@ -110,16 +121,20 @@ module _ {D : Type 0} (tells : DiskTells D) where
     module _ (told : Told (tells.reads d1) (λ _. (i : Image) × (tells.reads d0 ≡ Some i))) (sound : f ≡ false)
         (kept : Told (tells.reads d0) (λ i.
         IsKept tells d1 (with_body body (contents_of i.book)) i.blobs))
-        (now : Catalogue) (bytes : List (List ℕ))
+        (now : Catalogue) (bytes : Option (List (List ℕ)))
+        (said : is_some bytes ≡ is_some (tells.reads d1))
         (made : now ≡ catalogue_after k.surface c (brief u))
         (rewritten : bytes
-        ≡ stored_after k.surface (rewrites_of c (brief u)) (text_of u) stored) where
+        ≡ option_map (stored_after k.surface (rewrites_of c (brief u)) (text_of u)) stored) where
       pub serves_more : ServesMore tells u
           (store_of d0 k c stored f) (store_of d1 k now bytes f)
       serves_more g serves = record {
         catalogue = subst (λ (x : Catalogue). StandsFor k.surface x (with_sealed g u)) (sym made)
             (goes_on g serves);
-        bytes = rewritten ∙ bytes_go_on k.surface c stored g u serves.catalogue serves.bytes;
+        bytes = subst (λ (o : Option (List (List ℕ))). IfSome o
+            (λ (all : List (List ℕ)). KeepsBytes k.surface all (with_sealed g u))) (sym rewritten)
+            (said_go_on k.surface c stored g u serves.catalogue serves.bytes);
+        told = said;
         disk = λ ok i read x left.
             let before = told i read in
             let one = kept before.0 before.1 in
@@ -155,9 +170,10 @@ module _ {D : Type 0} (tells : DiskTells D) where
     pub safe_failed : (log other : Log) → IsSafe tells log (store_of d0 k c stored f)
         → f ≡ false → other.bad ≡ false → HasSameRecords log other
         → AddsAtMost tells body d0 d1
-        → (now : Catalogue) (bytes : List (List ℕ)) → now ≡ c → bytes ≡ stored
+        → (now : Catalogue) (bytes : Option (List (List ℕ))) → now ≡ c → bytes ≡ stored
+        → is_some bytes ≡ is_some (tells.reads d1)
         → IsSafe tells other (store_of d1 k now bytes true)
-    safe_failed log other safe sound whole same adds now bytes is_now is_bytes =
+    safe_failed log other safe sound whole same adds now bytes is_now is_bytes said =
         let g = safe.some_history.0 in
         let serves = safe.some_history.1 in
         let either : (i x : Image) → tells.reads d0 ≡ Some i → tells.may_leave d1 x
@@ -183,7 +199,9 @@ module _ {D : Type 0} (tells : DiskTells D) where
             record {
               catalogue = subst (λ (x : Catalogue). StandsFor k.surface x g) (sym is_now)
                   serves.catalogue;
-              bytes = is_bytes ∙ serves.bytes;
+              bytes = subst (λ (o : Option (List (List ℕ))). IfSome o
+                  (λ (all : List (List ℕ)). KeepsBytes k.surface all g)) (sym is_bytes) serves.bytes;
+              told = said;
               disk = λ ok. absurd (cc ok);
               after_fault = λ bad i read.
                   let before = told_before (tells.reads d0) (tells.reads d1) adds.untold i read in (

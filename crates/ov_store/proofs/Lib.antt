@@ -7,4 +7,5 @@ pub mod Looking
 pub mod Opening
 pub mod OwnersLaws
 pub mod Replays
+pub mod Said
 pub mod Stopping

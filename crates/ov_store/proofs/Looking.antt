@@ -1,7 +1,7 @@
 -- Calls that read the disk of a store and write nothing.
-use Rattle.std.proofs.Common.{◌≡◌, ⊎_elim, ℕ, ◌+◌, ◌-◌, ◌<◌, ◌^◌, List, [], ◌∷◌, ◌++◌, length, Bool, true, false, Option, Result, Ok, Err, refl, sym, ◌∙◌, ap, arith}
+use Rattle.std.proofs.Common.{◌≡◌, ⊎_elim, ℕ, ◌+◌, ◌-◌, ◌<◌, ◌^◌, List, [], ◌∷◌, ◌++◌, length, Bool, true, false, Option, Result, Ok, Err, refl, sym, ◌∙◌, ap, subst, arith}
 use Rattle.std.proofs.lemmas.List.{append-nil}
-use Rattle.std.specs.Prelude.{IfOk}
+use Rattle.std.specs.Prelude.{IfOk, IfSome}
 use Rattle.ov_base.specs.declared.mode.Mode.{Mode}
 use Rattle.ov_disk.specs.Disk.{Image, Told}
 use Rattle.ov_disk.specs.Moments.{IsUntouched}
@@ -11,16 +11,17 @@ use Rattle.ov_record.specs.Spelling.{spelling}
 use Rattle.ov_record.specs.Forms.{first_form}
 use Rattle.ov_history.specs.Catalogue.{Catalogue}
 use Rattle.ov_history.specs.Masters.{Masters}
-use Rattle.ov_history.specs.Sealed.{IsSealed, SealedHistory, StandsFor, with_sealed}
+use Rattle.ov_history.specs.Sealed.{IsSealed, KeepsBytes, SealedHistory, StandsFor, with_sealed}
 use Rattle.ov_history.proofs.Showing.{history_is_shown}
 use Rattle.ov_journal.specs.Book.{Contents, contents_of, spelled}
 use Rattle.ov_journal.specs.Log.{Log}
 use Rattle.ov_images.specs.Images.{AllHaveForm, Keys, Keeps, bodies_of, header_of}
 use Rattle.ov_images.proofs.Keeping.{bodies-push, first_of-spelled}
-use Rattle.ov_store.specs.Opened.{IsSafe, Opened, Serves}
+use Rattle.ov_store.specs.Opened.{IsSafe, Opened, Serves, stored_where}
 use Rattle.ov_store.specs.Owners.{BeginsWith, Checks, IsHistoryOf}
 use Rattle.ov_store.proofs.Begun.{length-outer}
 use Rattle.ov_store.proofs.Going.{store_of}
+use Rattle.ov_store.proofs.Said.{told_where}
 
 -- What a disk reads that keeps the history, or it with one update more: the first records are the
 -- history's, and the header is its own.
@@ -75,11 +76,15 @@ epoch_shown master c g stands =
 module _ {D : Type 0} (tells : DiskTells D) where
   module _ (k : Keys) (c : Catalogue) (stored : List (List ℕ)) (f : Bool) (d0 d1 : D)
       (quiet : IsUntouched tells d0 d1) where
-    pub serves_looked : (g : SealedHistory) → Serves tells g (store_of d0 k c stored f)
-        → Serves tells g (store_of d1 k c stored f)
+    pub serves_looked : (g : SealedHistory)
+        → Serves tells g (store_of d0 k c (stored_where (tells.reads d0) stored) f)
+        → Serves tells g (store_of d1 k c (stored_where (tells.reads d1) stored) f)
     serves_looked g serves = record {
       catalogue = serves.catalogue;
-      bytes = serves.bytes;
+      bytes = subst (λ (read : Option Image). IfSome (stored_where read stored)
+          (λ (all : List (List ℕ)). KeepsBytes k.surface all g)) (sym quiet.reads_same)
+          serves.bytes;
+      told = told_where (tells.reads d1) stored;
       disk = λ ok i read x left.
           serves.disk ok i (sym quiet.reads_same ∙ read) x (quiet.no_more x left);
       after_fault = λ bad i read.
@@ -87,8 +92,9 @@ module _ {D : Type 0} (tells : DiskTells D) where
           (either.0, λ x left. either.1 x (quiet.no_more x left));
     }
 
-    pub safe_looked : (log : Log) → IsSafe tells log (store_of d0 k c stored f)
-        → IsSafe tells log (store_of d1 k c stored f)
+    pub safe_looked : (log : Log)
+        → IsSafe tells log (store_of d0 k c (stored_where (tells.reads d0) stored) f)
+        → IsSafe tells log (store_of d1 k c (stored_where (tells.reads d1) stored) f)
     safe_looked log safe = record {
       whole = safe.whole;
       count = safe.count;

@@ -21,7 +21,7 @@ use Rattle.ov_images.specs.Images.{Keys, IsImageOf}
 use Rattle.ov_images.proofs.Keeping.{is_born}
 use Rattle.ov_store.specs.Beginning.{FindsHistory, IsBeginFault, IsBornStore, IsOpened, LeavesHistory, WritesNoBorn}
 use Rattle.ov_store.specs.Faults.{begin_fault_of, opening_fault_of}
-use Rattle.ov_store.specs.Opened.{Opened, Serves, open_with}
+use Rattle.ov_store.specs.Opened.{Opened, Serves, open_with, stored_where}
 use Rattle.ov_store.specs.declared.fault.BeginFault.TheVariants.{Disk as DiskFailed, Memory as NoMemory}
 
 -- why a journal isn't opened is why a store isn't begun
@@ -125,13 +125,13 @@ module _ {D : Type 0} (tells : DiskTells D) (k : Keys) (mode : Mode) where
     -- a store that was just born is open
     pub opened_at_birth : {E : Type 0} (r : Result (Store × Log) E) → tells.reads d1 ≡ tells.reads d0
         → IfOk r (λ parts. IsBornStore tells parts.1 mode 0 (tells.reads d1)
-        (open_with d2 k parts.0.catalogue parts.0.stored))
+        (open_with d2 k parts.0.catalogue (stored_where (tells.reads d2) parts.0.stored)))
         → IfOk r (λ parts. IsOpened tells parts.1 mode (tells.reads d0)
-        (open_with d2 k parts.0.catalogue parts.0.stored))
+        (open_with d2 k parts.0.catalogue (stored_where (tells.reads d2) parts.0.stored)))
     opened_at_birth (Ok parts) same born = record {
       safe = born.safe;
       mode_is = ap (λ (c : Catalogue). c.mode) born.empty;
-      found = birth_finds (open_with d2 k parts.0.catalogue parts.0.stored) born.serves;
+      found = birth_finds (open_with d2 k parts.0.catalogue (stored_where (tells.reads d2) parts.0.stored)) born.serves;
       told = λ i at. born.told i (same ∙ at);
     }
     opened_at_birth (Err fault) same none = none

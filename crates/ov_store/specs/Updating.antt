@@ -1,5 +1,5 @@
 -- What an update of a store answers, and what it leaves.
-use Rattle.std.specs.Prelude.{◌≡◌, ℕ, ◌≤◌, Bool, true, false, Some, None, Result, Ok, Err, ⊤}
+use Rattle.std.specs.Prelude.{◌≡◌, ℕ, ◌≤◌, Bool, true, false, Some, None, option_map, Result, Ok, Err, ⊤}
 use Rattle.ov_base.specs.Causes.{Rose}
 use Rattle.ov_base.specs.declared.limits.TheConstants.{SET_WORDS}
 use Rattle.ov_record.specs.Updates.{SealedUpdate}
@@ -29,14 +29,15 @@ IsFaultFor c b DiskFailed = IsTaken c b
 IsFaultFor c b Failed = ⊤
 IsFaultFor c b Memory = ⊤
 
--- the update is made in both halves and its epoch is answered; or neither is, for this reason
+-- The update is made in both halves, in the stored bytes where they are said, and its epoch is
+-- answered; or it is made in neither, for this reason.
 abbrev pub Updates : {D : Type 0} → SealedUpdate → Opened D → Opened D → Result ℕ StoreFault
     → Type 0
 Updates u old new (Ok epoch) =
     IsTaken old.catalogue (brief u)
     × (new.catalogue ≡ catalogue_after old.keys.surface old.catalogue (brief u))
-    × (new.stored
-    ≡ stored_after old.keys.surface (rewrites_of old.catalogue (brief u)) (text_of u) old.stored)
+    × (new.stored ≡ option_map
+    (stored_after old.keys.surface (rewrites_of old.catalogue (brief u)) (text_of u)) old.stored)
     × (epoch ≡ new.catalogue.epoch)
 Updates u old new (Err fault) =
     IsFaultFor old.catalogue (brief u) fault × (new.catalogue ≡ old.catalogue)

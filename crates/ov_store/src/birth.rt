@@ -7,7 +7,7 @@ ghost use Rattle.ov_history.specs.Sealed.{blank};
 ghost use Rattle.ov_journal.specs.Standing.{IsUnborn};
 ghost use Rattle.ov_images.specs.Images.{IsImageOf, keys};
 ghost use Rattle.ov_store.specs.Beginning.{IsBeginFault, IsBornStore};
-ghost use Rattle.ov_store.specs.Opened.{open_with};
+ghost use Rattle.ov_store.specs.Opened.{open_with, stored_where};
 ghost use Rattle.ov_store.specs.declared.fault.BeginFault.TheVariants.{Disk as DiskFailed, Memory as NoMemory};
 
 use crate::fault::BeginFault;
@@ -31,7 +31,7 @@ pub(crate) fn birth<D: Disk>(
         IsUnborn i.book × OnlyBook i.book (D.tells.may_leave disk.old)) }
     ensures born { IfOk result (λ parts. IsBornStore D.tells parts.1 mode first
         (D.tells.reads disk.old) (open_with disk.new (keys base_check.now surface.now.bytes)
-        parts.0.catalogue parts.0.stored)) }
+        parts.0.catalogue (stored_where (D.tells.reads disk.new) parts.0.stored))) }
     ensures fault { IfErr result (λ fault. (i : Image)
         → IsBeginFault (keys base_check.now surface.now.bytes) mode i fault) }
     // A crash at any moment leaves no store, or this one without records.

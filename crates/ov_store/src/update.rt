@@ -52,10 +52,11 @@ impl<D: Disk> Store<D> {
 
         // A crash at any moment of the call leaves the history from before, or it with this update.
         ensures any_moment { LeavesEither D.tells (sealed_update update) self.old self.new }
-        // At `Ok` the history with the update lasts, and the disk still tells what it told.
-        ensures served { OnOk result (
-            ServesMore D.tells (sealed_update update) self.old self.new
-            × StaysTold (D.tells.reads self.old.disk) (D.tells.reads self.new.disk)) }
+        // At `Ok` the history with the update lasts.
+        ensures served { OnOk result
+            (ServesMore D.tells (sealed_update update) self.old self.new) }
+        // A disk that told its bytes still tells them, whatever is answered.
+        ensures told { StaysTold (D.tells.reads self.old.disk) (D.tells.reads self.new.disk) }
 
         ensures call { IsCallOf D.tells self.old self.new (IsErrOf result Disk) }
     {

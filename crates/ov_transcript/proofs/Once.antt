@@ -1,5 +1,6 @@
 -- A command has one transcript at a history.
 use Rattle.std.proofs.Common.{◌≡◌, ◌∙◌, ℕ, List, [], ◌∷◌, ◌++◌, Result, Ok, Err, refl, sym, ap}
+use Rattle.std.specs.Prelude.{IsSome}
 use Rattle.std.proofs.Common.{subst}
 use Rattle.ov_record.specs.Updates.{SealedUpdate}
 use Rattle.ov_history.specs.Sealed.{catalogue_of}
@@ -23,15 +24,17 @@ use Rattle.ov_transcript.specs.Transcripts.{service_of}
 -- ---- one reply
 
 read_once : (s : Serving) (v : Service) (read : Result Request ℕ) (one other : Answer)
-    → IsService s v → AnswersRead s read one → AnswersRead s read other → one ≡ other
-read_once s v (Ok request) one other is p q = one_answer s v request one other is p q
-read_once s v (Err place) one other is p q = p ∙ sym q
+    → IsService s v → IsSome s.stored → AnswersRead s read one → AnswersRead s read other
+    → one ≡ other
+read_once s v (Ok request) one other is tells p q = one_answer s v request one other is tells p q
+read_once s v (Err place) one other is tells p q = p ∙ sym q
 
-module _ (s : Serving) (v : Service) (is : IsService s v) (request reply again : List ℕ)
-    (made more : List SealedUpdate)
+module _ (s : Serving) (v : Service) (is : IsService s v) (tells : IsSome s.stored)
+    (request reply again : List ℕ) (made more : List SealedUpdate)
     (p : Replies s request reply made) (q : Replies s request again more) where
   same_answer : p.answer ≡ q.answer
-  same_answer = read_once s v (request_of request) p.answer q.answer is p.answers q.answers
+  same_answer =
+      read_once s v (request_of request) p.answer q.answer is tells p.answers q.answers
 
   pub same_reply : reply ≡ again
   same_reply = p.spelled ∙ ap answer_bytes same_answer ∙ sym q.spelled
@@ -68,9 +71,9 @@ once v (r ∷ rs) (a ∷ asks) (b ∷ others) is (made, asked, replies, begins)
     let same_frame : Replies (served v) a.request b.reply more =
     subst (λ (f : List ℕ). Replies (served v) f b.reply more) (sym requests) replies_too in
     let replied : a.reply ≡ b.reply =
-    same_reply (served v) v is a.request a.reply b.reply made more replies same_frame in
+    same_reply (served v) v is refl a.request a.reply b.reply made more replies same_frame in
     let makes : made ≡ more =
-    same_made (served v) v is a.request a.reply b.reply made more replies same_frame in
+    same_made (served v) v is refl a.request a.reply b.reply made more replies same_frame in
     let first : a ≡ b = λ i. record { request = requests i; reply = replied i } in
     let rest : asks ≡ others =
     once (later v made) (left_unless (says_refused a.reply) rs) asks others

@@ -209,7 +209,7 @@ module _ (k : Masters) (r : Reader) (file : List ℕ) (p : PlainHistory)
       sized_due false bytes is same spelled = tt
 
       found_due : (o : Option Filed) (x : Answer) → living_at s.files c.file ≡ o
-          → AnswersChunk o (slice_index_or (stored_of k.surface (sealed k p)) c.file [])
+          → AnswersChunk o (Some (slice_index_or (stored_of k.surface (sealed k p)) c.file []))
           c.generation (length stored) MAX_CHUNK_BYTES x
           → later here made ≡ here → a.reply ≡ answer_bytes x
           → Due (after r (AsksChunk tries c stored) (Ok x)) (later here made) rest

@@ -29,7 +29,7 @@ returns g c =
     subst P c.self.view_is (λ request has. elim c.match-update-2.branch [
       | in-Ok w ↦
           on_made g.D.Disk.tells old new request u has
-          c.update.result e.answer e.state e.any_moment e.served e.call reply last w.in-Ok.field-0 c.saturating_add-epoch.result _ w.in-Ok.is w.result-is
+          c.update.result e.answer e.state e.any_moment e.served e.told e.call reply last w.in-Ok.field-0 c.saturating_add-epoch.result _ w.in-Ok.is w.result-is
           (ap (λ (v : Vec ℕ Global). v.items) w.reply-is ∙ put_is _ _ c.reply_with.new.reply.items refl c.in_ok-reply_with.ensures.ok)
           (omega (
             arith,
@@ -39,27 +39,27 @@ returns g c =
           ))
       | in-Err-Refused w ↦
           on_refused g.D.Disk.tells old new request u has
-          c.update.result e.answer e.state e.any_moment e.served e.call reply last w.in-Err-Refused.refusal
+          c.update.result e.answer e.state e.any_moment e.served e.told e.call reply last w.in-Err-Refused.refusal
           (err_is c.update.result w.in-Err-Refused.field-0 _ w.in-Err-Refused.is w.in-Err-Refused.field-0-is)
           (puts_same _ w.reply_with-in-Err-Refused.new.reply.items reply w.reply_with-in-Err-Refused.result last
           (w.reply_with-in-Err-Refused.ensures.ok, w.reply_with-in-Err-Refused.ensures.err) (ap (λ (v : Vec ℕ Global). v.items) w.reply-is) w.result-is)
       | in-Err-BadPlan w ↦
           on_bad_plan g.D.Disk.tells old new request u has
-          c.update.result e.answer e.state e.any_moment e.served e.call reply last w.in-Err-BadPlan.at
+          c.update.result e.answer e.state e.any_moment e.served e.told e.call reply last w.in-Err-BadPlan.at
           (err_is c.update.result w.in-Err-BadPlan.field-0 _ w.in-Err-BadPlan.is w.in-Err-BadPlan.field-0-is) c.requires
           (puts_same _ w.reply_with-in-Err-BadPlan.new.reply.items reply w.reply_with-in-Err-BadPlan.result last
           (w.reply_with-in-Err-BadPlan.ensures.ok, w.reply_with-in-Err-BadPlan.ensures.err) (ap (λ (v : Vec ℕ Global). v.items) w.reply-is) w.result-is)
       | in-Err-Disk w ↦
           on_disk g.D.Disk.tells old new request u has
-          c.update.result e.answer e.state e.any_moment e.served e.call reply last _ (err_is c.update.result w.in-Err-Disk.field-0 _ w.in-Err-Disk.is w.in-Err-Disk.field-0-is) w.result-is
+          c.update.result e.answer e.state e.any_moment e.served e.told e.call reply last _ (err_is c.update.result w.in-Err-Disk.field-0 _ w.in-Err-Disk.is w.in-Err-Disk.field-0-is) w.result-is
           (ap (λ (v : Vec ℕ Global). v.items) w.reply-is ∙ w.reply_fault.ensures)
       | in-Err-Failed w ↦
           on_failed g.D.Disk.tells old new request u has
-          c.update.result e.answer e.state e.any_moment e.served e.call reply last _ (err_is c.update.result w.in-Err-Failed.field-0 _ w.in-Err-Failed.is w.in-Err-Failed.field-0-is) w.result-is
+          c.update.result e.answer e.state e.any_moment e.served e.told e.call reply last _ (err_is c.update.result w.in-Err-Failed.field-0 _ w.in-Err-Failed.is w.in-Err-Failed.field-0-is) w.result-is
           (ap (λ (v : Vec ℕ Global). v.items) w.reply-is ∙ w.reply_fault-in-Err-Failed.ensures)
       | in-Err-Memory w ↦
           on_memory g.D.Disk.tells old new request u has
-          c.update.result e.answer e.state e.any_moment e.served e.call reply last _ (err_is c.update.result w.in-Err-Memory.field-0 _ w.in-Err-Memory.is w.in-Err-Memory.field-0-is)
+          c.update.result e.answer e.state e.any_moment e.served e.told e.call reply last _ (err_is c.update.result w.in-Err-Memory.field-0 _ w.in-Err-Memory.is w.in-Err-Memory.field-0-is)
           (puts_same _ w.reply_with-in-Err-Memory.new.reply.items reply w.reply_with-in-Err-Memory.result last
           (w.reply_with-in-Err-Memory.ensures.ok, w.reply_with-in-Err-Memory.ensures.err) (ap (λ (v : Vec ℕ Global). v.items) w.reply-is) w.result-is)
     ])

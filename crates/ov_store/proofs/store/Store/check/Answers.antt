@@ -5,7 +5,7 @@ use Rattle.ov_disk.specs.Disk.{Told}
 use Rattle.ov_history.specs.Catalogue.{Catalogue}
 use Rattle.ov_history.specs.Sealed.{SealedHistory}
 use Rattle.ov_images.specs.Images.{Keys}
-use Rattle.ov_store.specs.Opened.{Opened, Serves}
+use Rattle.ov_store.specs.Opened.{Opened, Serves, stored_where}
 use Rattle.ov_store.specs.Owners.{Checks, masters}
 use Rattle.ov_store.proofs.Going.{store_of}
 use Rattle.ov_store.proofs.Looking.{checks_all, safe_looked, serves_looked}
@@ -50,7 +50,8 @@ returns-clause-checked g c =
     ≡ c.self.inside.vault.catalogue.epoch - length c.self.inside.journal.offsets =
     λ j. epoch j - c.count.ensures j in
     let s : Opened g.row.D.Denot = store_of c.self.inside.disk k c.self.inside.vault.catalogue
-    c.self.inside.vault.stored c.self.inside.failed in
+    (stored_where (g.D.Disk.tells.reads c.self.inside.disk) c.self.inside.vault.stored)
+    c.self.inside.failed in
     subst (λ (old : Opened g.row.D.Denot). IfOk c.first_false.result (λ found.
     (h : SealedHistory) → Serves g.D.Disk.tells h old
     → Told (g.D.Disk.tells.reads old.disk)

@@ -1,4 +1,4 @@
-use Rattle.std.proofs.Common.{rules, ◌≡◌, List, Option, Some, ℕ, true, refl, ◌∙◌, ap, subst, length, arith}
+use Rattle.std.proofs.Common.{rules, ◌≡◌, List, Option, option_map, ℕ, true, refl, ◌∙◌, ap, subst, length, arith}
 use Rattle.ov_record.specs.Updates.{sealed_update}
 use Rattle.ov_record.proofs.UpdateLaws.{some_bytes, few_bytes, first_has_room}
 use Rattle.ov_record.specs.Forms.{first_form}
@@ -6,13 +6,15 @@ use Rattle.ov_history.specs.Briefs.{brief, text_of}
 use Rattle.ov_history.specs.Catalogue.{Catalogue, outline, catalogue_after}
 use Rattle.ov_history.specs.Rewrites.{rewrites_of, stored_after}
 use Rattle.ov_state.specs.Changes.{applied}
+use Rattle.ov_state.specs.Plans.{IsTaken}
 use Rattle.ov_vault.specs.Prepared.{stored_with}
 use Rattle.ov_journal.specs.Log.{HasSameRecords}
 use Rattle.ov_images.specs.Images.{Keys}
 use Rattle.ov_store.specs.Bodies.{IsBodyOf, IsSpelled}
-use Rattle.ov_store.specs.Opened.{Opened}
+use Rattle.ov_store.specs.Opened.{Opened, stored_where}
 use Rattle.ov_store.specs.Updating.{LeavesEither, ServesMore}
 use Rattle.ov_store.proofs.Going.{store_of, not_begun, body_of_some, leaves_either, serves_more, safe_failed, safe_more}
+use Rattle.ov_store.proofs.Said.{told_where, where_after, where_same}
 use Rattle.ov_store.proofs.store.Store.update.Goals as goal
 
 pub returns-in_err-body-clause-any_moment : goal.returns-in_err-body-clause-any_moment
@@ -28,7 +30,8 @@ returns-in_err-prepared-clause-any_moment g c =
     } in
     not_begun g.D.Disk.tells
     (sealed_update c.args.update) c.args.self.now
-    (store_of c.self.inside.disk k c.prepare.new.self.catalogue c.prepare.new.self.stored
+    (store_of c.self.inside.disk k c.prepare.new.self.catalogue
+    (stored_where (g.D.Disk.tells.reads c.self.inside.disk) c.prepare.new.self.stored)
     c.self.inside.failed)
     (ap (λ (s : Opened g.row.D.Denot). s.disk) c.self.view_is)
 
@@ -72,11 +75,13 @@ returns-in-Err-Memory-clause-any_moment g c =
       surface = c.self.inside.surface.bytes;
     } in
     let later : Opened g.row.D.Denot =
-    store_of c.keep.new.disk k c.prepare.new.self.catalogue c.prepare.new.self.stored
+    store_of c.keep.new.disk k c.prepare.new.self.catalogue
+    (stored_where (g.D.Disk.tells.reads c.keep.new.disk) c.prepare.new.self.stored)
     c.self.inside.failed in
     subst (λ (old : Opened g.row.D.Denot). LeavesEither g.D.Disk.tells (sealed_update c.args.update) old later) c.self.view_is
     (leaves_either g.D.Disk.tells k
-    c.self.inside.disk c.keep.new.disk c.self.inside.vault.catalogue c.self.inside.vault.stored
+    c.self.inside.disk c.keep.new.disk c.self.inside.vault.catalogue
+    (stored_where (g.D.Disk.tells.reads c.self.inside.disk) c.self.inside.vault.stored)
     c.self.inside.failed
     (sealed_update c.args.update) c.as_slice.result.now
     c.in_ok-prepared.ensures.prepared.change.taken is
@@ -94,14 +99,33 @@ invariant_of-self-in-Err-Disk g c =
     } in
     let same : HasSameRecords c.self.inside.journal c.keep.new.journal = search rules in
     safe_failed g.D.Disk.tells k
-    c.self.inside.disk c.keep.new.disk c.self.inside.vault.catalogue c.self.inside.vault.stored
+    c.self.inside.disk c.keep.new.disk c.self.inside.vault.catalogue
+    (stored_where (g.D.Disk.tells.reads c.self.inside.disk) c.self.inside.vault.stored)
     c.self.inside.failed
     (sealed_update c.args.update) c.as_slice.result.now
     c.in_ok-prepared.ensures.prepared.change.taken is
     c.self.inside.journal c.keep.new.journal c.self.invariant c.if-self.false
     c.keep.ensures.log.whole same c.keep.ensures.any_moment
-    c.prepare.new.self.catalogue c.prepare.new.self.stored
-    c.in_ok-prepared.ensures.catalogue c.in_ok-prepared.ensures.stored
+    c.prepare.new.self.catalogue
+    (stored_where (g.D.Disk.tells.reads c.keep.new.disk) c.prepare.new.self.stored)
+    c.in_ok-prepared.ensures.catalogue
+    (where_same (g.D.Disk.tells.reads c.self.inside.disk) (g.D.Disk.tells.reads c.keep.new.disk)
+    c.self.inside.vault.stored c.prepare.new.self.stored c.keep.ensures.any_moment.untold
+    c.keep.ensures.any_moment.told c.in_ok-prepared.ensures.stored)
+    (told_where (g.D.Disk.tells.reads c.keep.new.disk) c.prepare.new.self.stored)
+
+pub returns-in-Err-Disk-clause-answer : goal.returns-in-Err-Disk-clause-answer
+returns-in-Err-Disk-clause-answer g c =
+    subst (λ (old : Opened g.row.D.Denot). IsTaken old.catalogue (brief (sealed_update c.args.update))
+    × (c.prepare.new.self.catalogue ≡ old.catalogue)
+    × (stored_where (g.D.Disk.tells.reads c.keep.new.disk) c.prepare.new.self.stored ≡ old.stored))
+    c.self.view_is (
+      c.in_ok-prepared.ensures.prepared.change.taken,
+      c.in_ok-prepared.ensures.catalogue,
+      where_same (g.D.Disk.tells.reads c.self.inside.disk) (g.D.Disk.tells.reads c.keep.new.disk)
+          c.self.inside.vault.stored c.prepare.new.self.stored c.keep.ensures.any_moment.untold
+          c.keep.ensures.any_moment.told c.in_ok-prepared.ensures.stored,
+    )
 
 pub returns-in-Err-Disk-clause-any_moment : goal.returns-in-Err-Disk-clause-any_moment
 returns-in-Err-Disk-clause-any_moment g c =
@@ -114,10 +138,12 @@ returns-in-Err-Disk-clause-any_moment g c =
       surface = c.self.inside.surface.bytes;
     } in
     let later : Opened g.row.D.Denot =
-    store_of c.keep.new.disk k c.prepare.new.self.catalogue c.prepare.new.self.stored true in
+    store_of c.keep.new.disk k c.prepare.new.self.catalogue
+    (stored_where (g.D.Disk.tells.reads c.keep.new.disk) c.prepare.new.self.stored) true in
     subst (λ (old : Opened g.row.D.Denot). LeavesEither g.D.Disk.tells (sealed_update c.args.update) old later) c.self.view_is
     (leaves_either g.D.Disk.tells k
-    c.self.inside.disk c.keep.new.disk c.self.inside.vault.catalogue c.self.inside.vault.stored
+    c.self.inside.disk c.keep.new.disk c.self.inside.vault.catalogue
+    (stored_where (g.D.Disk.tells.reads c.self.inside.disk) c.self.inside.vault.stored)
     c.self.inside.failed
     (sealed_update c.args.update) c.as_slice.result.now
     c.in_ok-prepared.ensures.prepared.change.taken is
@@ -134,11 +160,13 @@ returns-clause-any_moment g c =
       surface = c.self.inside.surface.bytes;
     } in
     let later : Opened g.row.D.Denot =
-    store_of c.keep.new.disk k c.commit.new.self.catalogue c.commit.new.self.stored
+    store_of c.keep.new.disk k c.commit.new.self.catalogue
+    (stored_where (g.D.Disk.tells.reads c.keep.new.disk) c.commit.new.self.stored)
     c.self.inside.failed in
     subst (λ (old : Opened g.row.D.Denot). LeavesEither g.D.Disk.tells (sealed_update c.args.update) old later) c.self.view_is
     (leaves_either g.D.Disk.tells k
-    c.self.inside.disk c.keep.new.disk c.self.inside.vault.catalogue c.self.inside.vault.stored
+    c.self.inside.disk c.keep.new.disk c.self.inside.vault.catalogue
+    (stored_where (g.D.Disk.tells.reads c.self.inside.disk) c.self.inside.vault.stored)
     c.self.inside.failed
     (sealed_update c.args.update) c.as_slice.result.now
     c.in_ok-prepared.ensures.prepared.change.taken is
@@ -160,20 +188,27 @@ invariant_of-self-2 g c =
     c.commit.ensures.catalogue
     ∙ ap (λ (x : Catalogue). applied x c.in_ok-prepared.prepared.change)
     c.in_ok-prepared.ensures.catalogue ∙ c.in_ok-prepared.ensures.prepared.change.made in
-    let rewritten : c.commit.new.self.stored
-    ≡ stored_after k.surface (rewrites_of c.self.inside.vault.catalogue (brief (sealed_update
-    c.args.update)))
-    (text_of (sealed_update c.args.update)) c.self.inside.vault.stored =
-    c.commit.ensures.stored
+    let after = stored_after k.surface (rewrites_of c.self.inside.vault.catalogue
+    (brief (sealed_update c.args.update))) (text_of (sealed_update c.args.update)) in
+    let rewritten : stored_where (g.D.Disk.tells.reads c.keep.new.disk) c.commit.new.self.stored
+    ≡ option_map after
+    (stored_where (g.D.Disk.tells.reads c.self.inside.disk) c.self.inside.vault.stored) =
+    where_after (g.D.Disk.tells.reads c.self.inside.disk) (g.D.Disk.tells.reads c.keep.new.disk)
+    after c.self.inside.vault.stored c.commit.new.self.stored c.keep.ensures.any_moment.untold
+    c.keep.ensures.any_moment.told
+    (c.commit.ensures.stored
     ∙ ap (λ (x : List (List ℕ)). stored_with x c.in_ok-prepared.prepared)
-    c.in_ok-prepared.ensures.stored ∙ c.in_ok-prepared.ensures.prepared.bytes in
+    c.in_ok-prepared.ensures.stored ∙ c.in_ok-prepared.ensures.prepared.bytes) in
     safe_more g.D.Disk.tells k
-    c.self.inside.disk c.keep.new.disk c.self.inside.vault.catalogue c.self.inside.vault.stored
+    c.self.inside.disk c.keep.new.disk c.self.inside.vault.catalogue
+    (stored_where (g.D.Disk.tells.reads c.self.inside.disk) c.self.inside.vault.stored)
     c.self.inside.failed
     (sealed_update c.args.update) c.as_slice.result.now
     c.in_ok-prepared.ensures.prepared.change.taken is
     c.in-Ok.ensures.acknowledged.written.told_before c.if-self.false c.in-Ok.ensures.acknowledged.written.kept
-    c.commit.new.self.catalogue c.commit.new.self.stored made rewritten
+    c.commit.new.self.catalogue
+    (stored_where (g.D.Disk.tells.reads c.keep.new.disk) c.commit.new.self.stored)
+    (told_where (g.D.Disk.tells.reads c.keep.new.disk) c.commit.new.self.stored) made rewritten
     c.self.inside.journal c.keep.new.journal c.self.invariant c.in-Ok.ensures.log.whole
     c.in-Ok.ensures.log.count c.in-Ok.ensures.acknowledged.stands
 
@@ -193,28 +228,29 @@ returns-clause-served g c =
     c.commit.ensures.catalogue
     ∙ ap (λ (x : Catalogue). applied x c.in_ok-prepared.prepared.change)
     c.in_ok-prepared.ensures.catalogue ∙ c.in_ok-prepared.ensures.prepared.change.made in
-    let rewritten : c.commit.new.self.stored
-    ≡ stored_after k.surface (rewrites_of c.self.inside.vault.catalogue (brief (sealed_update
-    c.args.update)))
-    (text_of (sealed_update c.args.update)) c.self.inside.vault.stored =
-    c.commit.ensures.stored
+    let after = stored_after k.surface (rewrites_of c.self.inside.vault.catalogue
+    (brief (sealed_update c.args.update))) (text_of (sealed_update c.args.update)) in
+    let rewritten : stored_where (g.D.Disk.tells.reads c.keep.new.disk) c.commit.new.self.stored
+    ≡ option_map after
+    (stored_where (g.D.Disk.tells.reads c.self.inside.disk) c.self.inside.vault.stored) =
+    where_after (g.D.Disk.tells.reads c.self.inside.disk) (g.D.Disk.tells.reads c.keep.new.disk)
+    after c.self.inside.vault.stored c.commit.new.self.stored c.keep.ensures.any_moment.untold
+    c.keep.ensures.any_moment.told
+    (c.commit.ensures.stored
     ∙ ap (λ (x : List (List ℕ)). stored_with x c.in_ok-prepared.prepared)
-    c.in_ok-prepared.ensures.stored ∙ c.in_ok-prepared.ensures.prepared.bytes in
+    c.in_ok-prepared.ensures.stored ∙ c.in_ok-prepared.ensures.prepared.bytes) in
     let later : Opened g.row.D.Denot = store_of c.keep.new.disk k c.commit.new.self.catalogue
-    c.commit.new.self.stored c.self.inside.failed in
-    let served = subst (λ (old : Opened g.row.D.Denot). ServesMore g.D.Disk.tells
+    (stored_where (g.D.Disk.tells.reads c.keep.new.disk) c.commit.new.self.stored)
+    c.self.inside.failed in
+    subst (λ (old : Opened g.row.D.Denot). ServesMore g.D.Disk.tells
     (sealed_update c.args.update) old later) c.self.view_is
     (serves_more g.D.Disk.tells k
-    c.self.inside.disk c.keep.new.disk c.self.inside.vault.catalogue c.self.inside.vault.stored
+    c.self.inside.disk c.keep.new.disk c.self.inside.vault.catalogue
+    (stored_where (g.D.Disk.tells.reads c.self.inside.disk) c.self.inside.vault.stored)
     c.self.inside.failed
     (sealed_update c.args.update) c.as_slice.result.now
     c.in_ok-prepared.ensures.prepared.change.taken is
     c.in-Ok.ensures.acknowledged.written.told_before c.if-self.false c.in-Ok.ensures.acknowledged.written.kept
-    c.commit.new.self.catalogue c.commit.new.self.stored made rewritten) in (
-      served,
-      λ i is.
-          let before : g.D.Disk.tells.reads c.self.inside.disk ≡ Some i =
-          ap (λ (s : Opened g.row.D.Denot). g.D.Disk.tells.reads s.disk) c.self.view_is ∙ is in
-          let kept = c.in-Ok.ensures.acknowledged.written.kept i before in
-          (kept.now, kept.is_read),
-    )
+    c.commit.new.self.catalogue
+    (stored_where (g.D.Disk.tells.reads c.keep.new.disk) c.commit.new.self.stored)
+    (told_where (g.D.Disk.tells.reads c.keep.new.disk) c.commit.new.self.stored) made rewritten)

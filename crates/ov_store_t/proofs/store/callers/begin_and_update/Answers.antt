@@ -7,7 +7,7 @@ use Rattle.ov_store_t.proofs.store.callers.begin_and_update.Goals as goal
 pub returns-in_ok-_made-in-Ok : goal.returns-in_ok-_made-in-Ok
 returns-in_ok-_made-in-Ok g c i told h is_mode image j read x left =
     let found = c.in-Ok.ensures.begun.found i told in
-    let made = c.in_ok-_made-in-Ok.ensures.served.0 h (found.each h is_mode image) in
+    let made = c.in_ok-_made-in-Ok.ensures.served h (found.each h is_mode image) in
     let still : c.update.new.self.failed ≡ false =
     c.in_ok-_made-in-Ok.ensures.state.failed.0 ∙ c.in-Ok.ensures.begun.new.1 in
     let same : c.update.new.self.keys ≡ keys c.args.base_check c.args.surface.bytes =

@@ -8,8 +8,8 @@ pub returns : goal.returns
 returns g c h serves sound i read x left =
     let first = with_sealed h (sealed_update c.args.one) in
     let both = with_sealed first (sealed_update c.args.other) in
-    let one = c.in_ok-_first.ensures.served.0 h serves in
-    let two = c.in_ok-_second.ensures.served.0 first one in
+    let one = c.in_ok-_first.ensures.served h serves in
+    let two = c.in_ok-_second.ensures.served first one in
     let same : c.update-2.new.self.keys ≡ c.args.store.keys =
     c.update-2.ensures.call.0 ∙ c.update.ensures.call.0 in
     let still : c.update-2.new.self.failed ≡ false =
