@@ -165,9 +165,11 @@ module _ {D : Type 0} (tells : DiskTells D) (old new : KeptOn D) (p : PlainHisto
           (sym x.stays.writes.same) (kept_stands_for k p old.kept.catalogue stands.0);
       bytes = subst (λ (y : Opened D). IfSome y.stored (λ bytes. KeepsBytes y.keys.surface bytes
           (sealed k p))) (sym x.stays.writes.same) (serves_at old p stands).0.keeps;
-      disk = λ _ i read c left. (holds_there holds).each c left;
+      disk = λ _ i read c left. subst (λ (y : Opened D). Keeps y.keys (sealed k p) c)
+          (sym x.stays.writes.same) ((holds_there holds).each c left);
       after_fault = λ failed. absurd (true≢false (sym failed ∙ sound_there));
     }
+
     told_so : (x.epoch ≡ (catalogue_of k.surface (sealed k p)).epoch)
         × (x.update ≡ sealed_update k (layers_of (history_of p)) plain)
         × (refusal_of (history_of p) (measured plain) ≡ None)
@@ -238,8 +240,7 @@ module _ {D : Type 0} (tells : DiskTells D) (old new : KeptOn D) (p : PlainHisto
           stands_at new (after p command) (later (service_at k p) made.answered.frame.made)
           (legal-after p command legal).0
           (ap (λ (x : Masters). x.surface) (sym masters))
-          (after_it ∙ ap (λ (x : Masters). sealed x (after p command)) (sym masters))
-          (
+          (after_it ∙ ap (λ (x : Masters). sealed x (after p command)) (sym masters)) (
             servers_go_on (serving_of mid) (serving_of t) (service_at k p) _ x.reply
                 made.answered.frame serves_there.0,
             tells_on,
