@@ -1,0 +1,35 @@
+-- Extents that are counted, in whatever order they are kept.
+use Rattle.std.specs.Prelude.{◌≡◌, ℕ, ◌+◌, ◌≤◌, Bool, List, [], ◌∷◌, ◌++◌, Option}
+use Rattle.ov_blocks.specs.declared.extents.Extent.{Extent}
+use Rattle.ov_history.specs.Placed.{counted_if, first_if, left_if, takes_place}
+use Rattle.ov_history.specs.Places.{change_at, living_at}
+use Rattle.ov_history.specs.Rewrites.{Rewrite}
+use Rattle.ov_images.specs.PlacedExtents.{extent_at}
+
+-- how many of these extents pass a test
+abbrev pub passing : (Extent → Bool) → List Extent → ℕ
+passing test [] = 0
+passing test (e ∷ extents) = counted_if (test e) (passing test extents)
+
+-- The lists have the same extents, each as often: whatever is tested, as many of the one pass as of
+-- the other.
+abbrev pub HaveAsMany : List Extent → List Extent → Type 0
+HaveAsMany one other = (test : Extent → Bool) → passing test one ≡ passing test other
+
+-- all of these extents are held, each as often
+abbrev pub AreHeld : List Extent → List Extent → Type 0
+AreHeld some held = (test : Extent → Bool) → passing test some ≤ passing test held
+
+-- the extents with all of these more, each as often
+abbrev pub IsWithAll : List Extent → List Extent → List Extent → Type 0
+IsWithAll more old new =
+    (test : Extent → Bool) → passing test new ≡ passing test old + passing test more
+
+-- The extents that files give up where each of these rewrites has the next of these first blocks,
+-- and files had these first blocks before.
+abbrev pub given_up : List Rewrite → List ℕ → List (Option ℕ) → List Extent
+given_up [] firsts placed = []
+given_up (r ∷ rewrites) firsts placed = let takes = takes_place r.length in
+    extent_at (living_at placed r.file) r.length
+    ++ given_up rewrites (left_if takes firsts)
+    (change_at (λ old. first_if takes firsts) r.file placed)

@@ -1,0 +1,4 @@
+pub mod Holding
+pub mod Contents
+pub mod Faults
+pub mod Replaying

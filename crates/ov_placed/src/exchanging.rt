@@ -1,0 +1,84 @@
+//! First blocks that take the place of others.
+ghost use Rattle.std.specs.Prelude.{◌≡◌, ◌<◌, ◌≤◌, ◌-◌, OnOk, length, vec_capacity, vec_len};
+ghost use Rattle.ov_history.specs.Places.{change_at, living_at};
+ghost use Rattle.ov_history.specs.Placed.{replaced, with_unplaced};
+ghost use Rattle.ov_images.specs.PlacedExtents.{extent_at};
+ghost use Rattle.ov_record.specs.Briefs.{plain_brief};
+ghost use Rattle.ov_state.specs.Changes.{AreOfFiles};
+ghost use Rattle.ov_state.specs.Entries.{plain_rewrites};
+ghost use Rattle.ov_placed.specs.Holding.{given_up, AreHeld, IsWithAll};
+
+use crate::first_blocks::next_first;
+use ov_base::Memory;
+use ov_blocks::{Extents, blocks_of};
+use ov_record::Brief;
+use ov_state::Rewrite;
+
+/// Makes room for a new file.
+pub(crate) fn make_room(placed: &mut Vec<Option<u32>>) -> Result<(), Memory>
+    ensures same { placed.new.items ≡ placed.old.items }
+    ensures room { OnOk result (1 ≤ vec_capacity placed.new - vec_len placed.new) }
+{
+    placed.reserve(1)?;
+    Ok(())
+}
+
+/// Adds a new file, which has no first block yet. There is room for it.
+pub(crate) fn add_new<const W: usize>(placed: &mut Vec<Option<u32>>, update: &Brief<W>)
+    requires { 1 ≤ vec_capacity placed.old - vec_len placed.old }
+    ensures { placed.new.items ≡ with_unplaced placed.old.items (plain_brief update.now) }
+{
+    match update {
+        Brief::Create { .. } => {
+            let _ = placed.push(None);
+        }
+        _ => {}
+    }
+}
+
+/// Puts the first block of a file in place of its old one, and gives up the old extent.
+fn exchange_one(
+    placed: &mut Vec<Option<u32>>,
+    extents: &mut Extents,
+    rewrite: Rewrite,
+    first: Option<u32>,
+)
+    requires file { rewrite.file < length placed.old.items }
+    requires held { AreHeld (extent_at (living_at placed.old.items rewrite.file) rewrite.length)
+        extents.old }
+    ensures placed { placed.new.items ≡ change_at (λ _. first) rewrite.file placed.old.items }
+    ensures given { IsWithAll (extent_at (living_at placed.old.items rewrite.file) rewrite.length)
+        extents.new extents.old }
+{
+    let file = rewrite.file as usize;
+    let old = placed[file];
+    placed[file] = first;
+    if let Some(old) = old {
+        extents.release(old, blocks_of(rewrite.length));
+    }
+}
+
+/// Puts the next of these first blocks in place of the old one of each file, and gives up the old
+/// extents. It takes no memory.
+pub(crate) fn exchange(
+    placed: &mut Vec<Option<u32>>,
+    extents: &mut Extents,
+    rewrites: &[Rewrite],
+    firsts: &[u32],
+)
+    requires files { AreOfFiles (length placed.old.items) rewrites.now }
+    requires held { AreHeld (given_up (plain_rewrites rewrites.now) firsts.now placed.old.items)
+        extents.old }
+    ensures placed { placed.new.items
+        ≡ replaced (plain_rewrites rewrites.now) firsts.now placed.old.items }
+    ensures given { IsWithAll
+        (given_up (plain_rewrites rewrites.now) firsts.now placed.old.items)
+        extents.new extents.old }
+{
+    let mut left = firsts;
+    for rewrite in rewrites {
+        let (first, rest) = next_first(rewrite.length, left);
+        left = rest;
+        exchange_one(placed, extents, *rewrite, first);
+    }
+}

@@ -1,0 +1,65 @@
+//! Records whose change is prepared.
+ghost use Rattle.std.specs.Prelude.{◌≡◌, ◌*◌, ℕ, List, Option, IfErr, IfOk};
+ghost use Rattle.ov_record.specs.Briefs.{plain_brief};
+ghost use Rattle.ov_state.specs.Changes.{HasRoomFor};
+ghost use Rattle.ov_state.specs.Plans.{IsChange, IsFitting};
+ghost use Rattle.ov_placed.specs.Faults.{IsBadFor, IsUntaken, NamesSpot};
+ghost use Rattle.ov_placed.specs.Replaying.{placed_update, IsPlacedChange, IsRecordOf};
+
+use crate::fault::ReplayFault;
+use crate::first_blocks::count_of;
+use crate::reading::{read_record, read_update};
+use ov_disk::Area;
+use ov_record::{Brief, Stored};
+use ov_state::{Catalogue, Change, PrepareFault, WIDTH};
+use ov_tokens::Master;
+use std::alloc::Global;
+
+/// The change of an update with which a body begins whose gate is at this place.
+fn prepare_update(
+    alloc: Global,
+    catalogue: &mut Catalogue,
+    surface: &Master,
+    update: Brief<WIDTH>,
+    gate: u64,
+) -> Result<Change<WIDTH>, ReplayFault>
+    requires { IsFitting (plain_brief update) }
+    ensures same { catalogue.new.catalogue ≡ catalogue.old.catalogue }
+    ensures change { IfOk result (λ change. IsChange (64 * WIDTH) surface.now.bytes
+        catalogue.old.catalogue (plain_brief update) change) }
+    ensures room { IfOk result (λ change. HasRoomFor catalogue.new.room change) }
+    ensures fault { IfErr result (NamesSpot
+        (IsUntaken catalogue.old.catalogue (plain_brief update) gate)) }
+{
+    match catalogue.prepare(alloc, surface, update) {
+        Ok(change) => Ok(change),
+        Err(PrepareFault::Memory) => Err(ReplayFault::Memory),
+        Err(_) => Err(ReplayFault::Damaged {
+            area: Area::Book,
+            offset: gate,
+        }),
+    }
+}
+
+/// The record with this body, whose gate is at this place, and the change that it makes.
+pub(crate) fn prepare_record(
+    alloc: Global,
+    catalogue: &mut Catalogue,
+    surface: &Master,
+    body: &[u8],
+    gate: u64,
+) -> Result<(Change<WIDTH>, Stored<WIDTH>), ReplayFault>
+    ensures same { catalogue.new.catalogue ≡ catalogue.old.catalogue }
+    ensures record { IfOk result (λ x. IsRecordOf (placed_update x.1) body.now) }
+    ensures change { IfOk result (λ x. IsPlacedChange (64 * WIDTH) surface.now.bytes
+        catalogue.old.catalogue (placed_update x.1) x.0) }
+    ensures room { IfOk result (λ x. HasRoomFor catalogue.new.room x.0) }
+    ensures fault { (blocks : ℕ) (placed : List (Option ℕ)) → IfErr result (NamesSpot
+        (IsBadFor surface.now.bytes blocks catalogue.old.catalogue placed body.now gate)) }
+{
+    let update = read_update(alloc, body, gate)?;
+    let change = prepare_update(alloc, catalogue, surface, update, gate)?;
+    let count = count_of(change.rewrites());
+    let record = read_record(alloc, body, gate, count)?;
+    Ok((change, record))
+}

@@ -1,0 +1,67 @@
+//! Bodies of records.
+ghost use Rattle.ov_record.specs.Briefs.{plain_brief};
+ghost use Rattle.ov_record.specs.Forms.{first_form};
+ghost use Rattle.ov_record.specs.Stored.{IsBriefWithinLimits};
+
+use ov_base::{Name, UserSet};
+use ov_record::{Brief, Form, Stored, write_stored};
+use ov_state::WIDTH;
+use ov_tokens::{Numbers, Token, Tokens};
+use std::alloc::Global;
+use std::process::Abort;
+
+/// Bytes of the file: they take three blocks.
+const LENGTH: u32 = 8_193;
+
+/// A store doesn't look into the tokens that it is given, but only at how many there are.
+const TOKEN: Token = Token { bytes: [0; 32] };
+
+fn name(rt: &impl Abort, text: &[u8]) -> Name {
+    Name::read(text).expect(rt, "a name")
+}
+
+/// The record of an update with these first blocks.
+fn record(rt: &impl Abort, alloc: Global, update: Brief<WIDTH>, firsts: &[u32]) -> Vec<u8>
+    requires { IsBriefWithinLimits first_form (plain_brief update) }
+{
+    let mut places = Numbers::new(alloc);
+    for first in firsts {
+        places.push(*first).expect(rt, "memory");
+    }
+    let mut body = Vec::new(alloc);
+    write_stored(Form::FIRST, &Stored { update, places }, &mut body).expect(rt, "memory");
+    body
+}
+
+pub(crate) fn enrol(rt: &impl Abort, alloc: Global, text: &[u8]) -> Vec<u8> {
+    record(rt, alloc, Brief::Enrol { name: name(rt, text) }, &[])
+}
+
+/// The creation of a file for the first two users.
+pub(crate) fn create(rt: &impl Abort, alloc: Global, firsts: &[u32]) -> Vec<u8> {
+    let mut tokens = Tokens::new(alloc);
+    tokens.push(TOKEN).expect(rt, "memory");
+    tokens.push(TOKEN).expect(rt, "memory");
+    let update = Brief::Create {
+        name: name(rt, b"f"),
+        list: UserSet::empty().with(0).with(1),
+        tokens,
+        tag: [0; 32],
+        length: LENGTH,
+    };
+    record(rt, alloc, update, firsts)
+}
+
+pub(crate) fn revoke(rt: &impl Abort, alloc: Global, user: u32, firsts: &[u32]) -> Vec<u8> {
+    record(rt, alloc, Brief::Revoke { user, file: 0 }, firsts)
+}
+
+/// A grant to a user who has the file's base key already.
+pub(crate) fn grant(rt: &impl Abort, alloc: Global, user: u32, firsts: &[u32]) -> Vec<u8> {
+    let update = Brief::Grant {
+        user,
+        file: 0,
+        token: None,
+    };
+    record(rt, alloc, update, firsts)
+}

@@ -1,0 +1,83 @@
+//! Records of a file that is created and rewritten, and bad ones.
+ghost use Rattle.std.specs.Prelude.{◌≤◌};
+ghost use Rattle.ov_blocks.specs.declared.extents.TheConstants.{MAX_BLOCKS};
+
+use crate::bodies::{create, enrol, grant, revoke};
+use ov_base::{Key, Mode};
+use ov_blocks::Extent;
+use ov_disk::Area;
+use ov_placed::*;
+use ov_tokens::Master;
+use std::alloc::Global;
+use std::process::Abort;
+
+const MASTER: Key = Key { bytes: [7; 32] };
+
+/// Blocks of Blobs: two files of the length of this one fit.
+const BLOCKS: u32 = 6;
+
+const GATE: u64 = 78;
+
+const fn in_book(place: u64) -> Result<(), ReplayFault> {
+    Err(ReplayFault::Damaged {
+        area: Area::Book,
+        offset: place,
+    })
+}
+
+const fn at_block(first: u64) -> Result<(), ReplayFault> {
+    Err(ReplayFault::Damaged {
+        area: Area::Blobs,
+        offset: 4_096 * first,
+    })
+}
+
+fn replayed(alloc: Global, it: &mut CataloguePlaces, body: &[u8]) -> Result<(), ReplayFault> {
+    it.replay(alloc, &Master::new(&MASTER), body, GATE, BLOCKS)
+}
+
+/// A store of two users with the file.
+fn with_file(rt: &impl Abort, alloc: Global) -> CataloguePlaces {
+    let mut it = PlacedCatalogue::new(alloc, Mode::Full, 0).expect(rt, "memory");
+    assert!(rt; replayed(alloc, &mut it, &enrol(rt, alloc, b"a")).is_ok());
+    assert!(rt; replayed(alloc, &mut it, &enrol(rt, alloc, b"b")).is_ok());
+    assert!(rt; it.first_block(0).is_none());
+    assert!(rt; replayed(alloc, &mut it, &create(rt, alloc, &[0])).is_ok());
+    it
+}
+
+/// Whether this extent alone is held, as that of file 0.
+fn holds(it: &CataloguePlaces, first: u32) -> bool {
+    it.first_block(0) == Some(first) && it.extents().held() == [Extent { first, length: 3 }].as_slice()
+}
+
+#[test]
+fn a_file_goes_to_and_fro(rt: HostRuntime) {
+    let alloc = rt.alloc();
+    let mut it = with_file(&rt, alloc);
+    assert!(rt; holds(&it, 0));
+    assert!(rt; replayed(alloc, &mut it, &revoke(&rt, alloc, 1, &[3])).is_ok());
+    assert!(rt; holds(&it, 3));
+    assert!(rt; replayed(alloc, &mut it, &grant(&rt, alloc, 1, &[0])).is_ok());
+    assert!(rt; holds(&it, 0));
+    assert!(rt; it.first_block(1).is_none());
+}
+
+#[test]
+fn bad_records_are_named(rt: HostRuntime) {
+    let alloc = rt.alloc();
+    let mut it = with_file(&rt, alloc);
+    // No update begins with 9.
+    assert!(rt; replayed(alloc, &mut it, &[9]) == in_book(GATE + 5));
+    assert!(rt; replayed(alloc, &mut it, &enrol(&rt, alloc, b"a")) == in_book(GATE));
+    // One first block too few, and one too many, behind the kind and two numbers.
+    assert!(rt; replayed(alloc, &mut it, &revoke(&rt, alloc, 1, &[])) == in_book(GATE + 5 + 9));
+    let two = revoke(&rt, alloc, 1, &[3, 3]);
+    assert!(rt; replayed(alloc, &mut it, &two) == in_book(GATE + 5 + 13));
+    // Block 2 is in use, and the third block from 4 on is past the end.
+    assert!(rt; replayed(alloc, &mut it, &revoke(&rt, alloc, 1, &[2])) == at_block(2));
+    assert!(rt; replayed(alloc, &mut it, &revoke(&rt, alloc, 1, &[4])) == at_block(4));
+    assert!(rt; holds(&it, 0));
+    assert!(rt; replayed(alloc, &mut it, &revoke(&rt, alloc, 1, &[3])).is_ok());
+    assert!(rt; holds(&it, 3));
+}
