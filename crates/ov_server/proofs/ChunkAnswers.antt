@@ -1,7 +1,6 @@
 -- What is answered to a question for stored bytes.
 use Rattle.std.proofs.Common.{◌≡◌, ◌∙◌, inl, inr, ℕ, ◌≤◌, List, [], ◌++◌, Result, Ok, Err, refl, sym, ap, subst, arith}
-use Rattle.std.specs.Prelude.{IfSome, IsErrOf, None, Option, Some, option_map, slice_index_or, take, drop}
-use Rattle.ov_base.specs.Causes.{Rose}
+use Rattle.std.specs.Prelude.{IfSome, None, Option, Some, option_map, slice_index_or, take, drop}
 use Rattle.ov_base.specs.declared.limits.TheConstants.{MAX_CHUNK_BYTES}
 use Rattle.ov_base.specs.declared.refusal.Refusal.TheVariants.{NoFile as NoSuchFile}
 use Rattle.ov_history.specs.Catalogue.{Catalogue, Filed}

@@ -24,7 +24,7 @@ use Rattle.ov_server.specs.Answering.{AnswersOrFails, IsAnswered, serving_of}
 use Rattle.ov_server.specs.Following.{Reaches, RepliesAfter, RepliesAt}
 use Rattle.ov_server.specs.Locally.{needs}
 use Rattle.ov_server.proofs.AnswerKinds.{IsMade, accepted_made, nothing_made, says_so}
-use Rattle.ov_server.proofs.Hidden.{mapped_alike, told_alike}
+use Rattle.ov_server.proofs.Alike.{mapped_alike, told_alike}
 
 -- ---- the start
 

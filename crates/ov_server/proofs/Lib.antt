@@ -9,7 +9,7 @@ pub mod AnswerKinds
 pub mod Shown
 pub mod Making
 pub mod Following
-pub mod Hidden
+pub mod Alike
 pub mod ChunkAnswers
 pub mod Tagging
 pub mod AskedOnce

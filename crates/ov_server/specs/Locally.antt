@@ -37,10 +37,10 @@ AreAlone {D} asked =
 -- a server that tells its stored bytes shows all of what is served
 all_shown : (s : Serving) (v : Service) → IsService s v → IsSome s.stored → s ≡ served v
 all_shown s v serves told = services_are_served s v serves ∙ as_told s.stored told where
-    as_told : (stored : Option (List (List ℕ))) → IsSome stored
-        → told_as stored (served v) ≡ served v
-    as_told None is = absurd (true≢false (sym is))
-    as_told (Some bytes) is = refl
+  as_told : (stored : Option (List (List ℕ))) → IsSome stored
+      → told_as stored (served v) ≡ served v
+  as_told None is = absurd (true≢false (sym is))
+  as_told (Some bytes) is = refl
 
 -- an answer by what is shown is one at what is served
 answered : {D : Type 0} (tells : DiskTells D) (p q : Opened D) (request reply : List ℕ)

@@ -1,122 +1,103 @@
-use Rattle.std.proofs.Common.{◌≡◌, ◌∙◌, [], Ok, Err, refl, rules, subst, sym}
-use Rattle.std.specs.Prelude.{slice_index_or}
-use Rattle.ov_base.specs.Causes.{Rose}
+use Rattle.std.proofs.Common.{ℕ, ◌≡◌, ◌∙◌, List, [], Vec, Global, Ok, Err, ap, refl, rules, subst, sym}
 use Rattle.ov_base.specs.declared.refusal.Refusal.TheVariants.{NoFile}
-use Rattle.ov_history.specs.Places.{living_at}
 use Rattle.ov_wire.specs.declared.request.Request.{Request}
 use Rattle.ov_wire.specs.declared.request.Request.TheVariants as requests
 use Rattle.ov_wire.specs.declared.answer.Answer.TheVariants as answers
-use Rattle.ov_protocol.specs.Reading.{AnswersChunk}
-use Rattle.ov_peer.specs.Disks.{IsOfGeneration}
+use Rattle.ov_wire.specs.AnswerBytes.{answer_bytes}
+use Rattle.ov_wire.specs.RequestReading.{request_of}
 use Rattle.ov_store.specs.Opened.{Opened}
-use Rattle.ov_server.specs.Answering.{AsksServer}
-use Rattle.ov_server.proofs.ChunkAnswers.{chunk_failed, few_bytes, is_there, says_bytes, says_moved, says_no_file, chunk_err}
-use Rattle.ov_server.proofs.Shown.{answers_still, no_update}
+use Rattle.ov_server.specs.Answering.{AsksServer, WritesNothing}
+use Rattle.ov_server.proofs.ChunkAnswers.{chunk_err, chunk_failed, chunk_given, is_there, says_bytes, says_moved, says_no_file, unasked}
+use Rattle.ov_server.proofs.Shown.{answers_still, forgot_by, no_update, put_is, puts_same}
 use Rattle.ov_server.proofs.server.Server.answer_chunk.Goals as goal
+use Rattle.ov_server.proofs.server.Server.answer_chunk.Goals.{in-Ok, in-Err-NoFile, in-Err-Moved, in-Err-Disk, in-Err-Memory}
 
-pub returns-in-Ok : goal.returns-in-Ok
-returns-in-Ok g c =
-    let s = c.args.self.now in
-    let store = c.self.inside.store in
-    let same : c.chunk.new.self ≡ s = c.chunk.ensures.same ∙ c.self.view_is in
-    let asked : Request = requests.Chunk c.args.file c.args.generation c.args.start c.args.count in
-    λ request is.
-    subst (λ o. AsksServer g.D.Disk.tells s o request c.reply_with.new.reply.items c.reply_with.result) (sym same)
-    (answers_still g.D.Disk.tells s request (Ok asked) is
-    (Ok (answers.Bytes c.from_vec-bytes.result)) c.reply_with.new.reply.items c.reply_with.result
-    (subst
-    (λ (o : Opened g.row.D.Denot). AnswersChunk (living_at o.catalogue.files c.args.file)
-    (slice_index_or o.stored c.args.file []) c.args.generation c.args.start c.args.count
-    (answers.Bytes c.from_vec-bytes.result)) c.self.view_is
-    (says_bytes store.catalogue store.stored c.args.file c.args.generation c.args.start
-    c.args.count c.new-bytes.result.items c.chunk.new.out.items c.chunk.result
-    c.chunk.ensures.answer c.in-Ok.field-0 c.from_vec-bytes.result c.in-Ok.is
-    c.new-bytes.ensures.items c.from_vec-bytes.ensures)) (few_bytes store.catalogue store.stored c.args.file c.args.generation c.args.start
-    c.args.count c.new-bytes.result.items c.chunk.new.out.items c.chunk.result
-    c.chunk.ensures.answer c.in-Ok.field-0 c.from_vec-bytes.result c.in-Ok.is
-    c.new-bytes.ensures.items c.from_vec-bytes.ensures c.requires)
-    (refl, λ u has. absurd (no_update s request u has asked is (λ e. let wrong = e.3 in cc)))
-    (c.reply_with.ensures.ok, c.reply_with.ensures.err))
-
-pub returns-in-Err-NoFile : goal.returns-in-Err-NoFile
-returns-in-Err-NoFile g c =
-    let s = c.args.self.now in
-    let store = c.self.inside.store in
-    let same : c.chunk.new.self ≡ s = c.chunk.ensures.same ∙ c.self.view_is in
-    let asked : Request = requests.Chunk c.args.file c.args.generation c.args.start c.args.count in
-    λ request is.
-    subst (λ o. AsksServer g.D.Disk.tells s o request c.reply_with-in-Err-NoFile.new.reply.items c.reply_with-in-Err-NoFile.result) (sym same)
-    (answers_still g.D.Disk.tells s request (Ok asked) is
-    (Ok (answers.Refused NoFile)) c.reply_with-in-Err-NoFile.new.reply.items c.reply_with-in-Err-NoFile.result
-    (subst
-    (λ (o : Opened g.row.D.Denot). AnswersChunk (living_at o.catalogue.files c.args.file)
-    (slice_index_or o.stored c.args.file []) c.args.generation c.args.start c.args.count
-    (answers.Refused NoFile)) c.self.view_is
-    (says_no_file store.catalogue store.stored c.args.file c.args.generation c.args.start
-    c.args.count c.new-bytes.result.items c.chunk.new.out.items c.chunk.result
-    c.chunk.ensures.answer (chunk_err c.chunk.result c.in-Err-NoFile.field-0 _ c.in-Err-NoFile.is c.in-Err-NoFile.field-0-is))) tt
-    (refl, λ u has. absurd (no_update s request u has asked is (λ e. let wrong = e.3 in cc)))
-    (c.reply_with-in-Err-NoFile.ensures.ok, c.reply_with-in-Err-NoFile.ensures.err))
-
-pub returns-in-Err-Moved : goal.returns-in-Err-Moved
-returns-in-Err-Moved g c =
-    let s = c.args.self.now in
-    let store = c.self.inside.store in
-    let same : c.chunk.new.self ≡ s = c.chunk.ensures.same ∙ c.self.view_is in
-    let asked : Request = requests.Chunk c.args.file c.args.generation c.args.start c.args.count in
-    λ request is.
-    subst (λ o. AsksServer g.D.Disk.tells s o request c.reply_with-in-Err-Moved.new.reply.items c.reply_with-in-Err-Moved.result) (sym same)
-    (answers_still g.D.Disk.tells s request (Ok asked) is
-    (Ok (answers.Moved c.in-Err-Moved.generation)) c.reply_with-in-Err-Moved.new.reply.items c.reply_with-in-Err-Moved.result
-    (subst
-    (λ (o : Opened g.row.D.Denot). AnswersChunk (living_at o.catalogue.files c.args.file)
-    (slice_index_or o.stored c.args.file []) c.args.generation c.args.start c.args.count
-    (answers.Moved c.in-Err-Moved.generation)) c.self.view_is
-    (says_moved store.catalogue store.stored c.args.file c.args.generation c.args.start
-    c.args.count c.new-bytes.result.items c.chunk.new.out.items c.chunk.result
-    c.chunk.ensures.answer c.in-Err-Moved.generation
-    (chunk_err c.chunk.result c.in-Err-Moved.field-0 _ c.in-Err-Moved.is c.in-Err-Moved.field-0-is))) (search rules)
-    (refl, λ u has. absurd (no_update s request u has asked is (λ e. let wrong = e.3 in cc)))
-    (c.reply_with-in-Err-Moved.ensures.ok, c.reply_with-in-Err-Moved.ensures.err))
-
-pub returns-in-Err-Disk : goal.returns-in-Err-Disk
-returns-in-Err-Disk g c =
-    let store = c.self.inside.store in
-    let same : c.chunk.new.self ≡ c.args.self.now = c.chunk.ensures.same ∙ c.self.view_is in
-    let failed = chunk_err c.chunk.result c.in-Err-Disk.field-0 _ c.in-Err-Disk.is c.in-Err-Disk.field-0-is in
-    λ request is.
-    chunk_failed g.D.Disk.tells c.args.self.now
-    c.chunk.new.self request c.reply_with-in-Err-Disk.new.reply.items
-    c.reply_with-in-Err-Disk.result same
-    (record {
-      file = c.args.file;
-      generation = c.args.generation;
-      start = c.args.start;
-      count = c.args.count;
-      is = is;
-      there = subst
-          (λ (o : Opened g.row.D.Denot). IsOfGeneration o.catalogue c.args.file c.args.generation)
-          c.self.view_is
-          (is_there store.catalogue store.stored c.args.file c.args.generation c.args.start
-          c.args.count c.new-bytes.result.items c.chunk.new.out.items c.chunk.result
-          c.chunk.ensures.answer failed);
-    })
-    (c.reply_with-in-Err-Disk.ensures.ok, c.reply_with-in-Err-Disk.ensures.err)
-    (subst
-    (λ (o : Opened g.row.D.Denot). Rose (g.D.Disk.tells.faults o.disk) (g.D.Disk.tells.faults c.chunk.new.self.disk))
-    c.self.view_is
-    (c.chunk.ensures.cause failed))
+pub returns-in_err-reply_with : goal.returns-in_err-reply_with
+returns-in_err-reply_with g c = λ request is.
+    forgot_by g.D.Disk.tells c.args.self.now request c.reply_with.new.reply.items
+    c.from_residual.result c.from_residual.ensures.0 c.in_err-reply_with.ensures.err
 
 pub returns : goal.returns
 returns g c =
-    let s = c.args.self.now in
-    let store = c.self.inside.store in
-    let same : c.chunk.new.self ≡ s = c.chunk.ensures.same ∙ c.self.view_is in
+    let old = c.self.inside.store in
+    let new = c.chunk.new.self in
+    let e = c.chunk.ensures in
+    let before : List ℕ = c.reply_with.new.reply.items in
+    let after : List ℕ = c.chunk.new.out.items in
+    let reply : List ℕ = c.match-chunk.reply.items in
+    let last = c.match-chunk.result in
     let asked : Request = requests.Chunk c.args.file c.args.generation c.args.start c.args.count in
-    λ request is.
-    subst (λ o. AsksServer g.D.Disk.tells s o request c.reply_with-in-Err-Memory.new.reply.items c.reply_with-in-Err-Memory.result) (sym same)
-    (answers_still g.D.Disk.tells s request (Ok asked) is
-    (Err _) c.reply_with-in-Err-Memory.new.reply.items c.reply_with-in-Err-Memory.result
-    tt tt
-    tt
-    (c.reply_with-in-Err-Memory.ensures.ok, c.reply_with-in-Err-Memory.ensures.err))
+    let quiet : WritesNothing g.D.Disk.tells old new =
+    record { same = e.kept; disk = e.untouched } in
+    let begun : before ≡ answer_bytes (answers.Bytes []) =
+    put_is _ (answers.Bytes c.new-bytes.result) before refl c.in_ok-reply_with.ensures.ok
+    ∙ ap (λ (bytes : List ℕ). answer_bytes (answers.Bytes bytes)) c.new-bytes.ensures in
+    let P : Opened g.row.D.Denot → Type 0 =
+    λ o. (request : List ℕ) → request_of request ≡ Ok asked
+    → AsksServer g.D.Disk.tells o new request reply last in
+    subst P c.self.view_is (λ request is. elim c.match-chunk.branch [
+      | in-Ok w ↦
+          let (bytes, says, form, put) = says_bytes old.catalogue old.stored c.args.file
+          c.args.generation c.args.start c.args.count before after c.chunk.result e.answer
+          w.in-Ok.field-0 w.in-Ok.is begun c.requires in
+          subst (AsksServer g.D.Disk.tells old new request reply) (sym w.result-is)
+          (chunk_given g.D.Disk.tells old new request reply quiet e.call _ asked is
+          (answers.Bytes bytes) says form refl
+          (λ u has. no_update old request u has asked is (λ x. let wrong = x.3 in cc))
+          (ap (λ (v : Vec ℕ Global). v.items) w.reply-is ∙ put))
+      | in-Err-NoFile w ↦
+          let failed = chunk_err c.chunk.result w.in-Err-NoFile.field-0 _ w.in-Err-NoFile.is
+          w.in-Err-NoFile.field-0-is in
+          let same : new ≡ old = unasked (new ≡ old) c.chunk.result _ e.unasked failed in
+          subst (λ o. AsksServer g.D.Disk.tells old o request reply last) (sym same)
+          (answers_still g.D.Disk.tells old request (Ok asked) is (Ok (answers.Refused NoFile))
+          reply last
+          (says_no_file old.catalogue old.stored c.args.file c.args.generation c.args.start
+          c.args.count before after c.chunk.result e.answer failed) tt
+          (refl, λ u has. absurd (no_update old request u has asked is (λ x. let wrong = x.3 in cc)))
+          (puts_same _ w.reply_with-in-Err-NoFile.new.reply.items reply
+          w.reply_with-in-Err-NoFile.result last
+          (w.reply_with-in-Err-NoFile.ensures.ok, w.reply_with-in-Err-NoFile.ensures.err)
+          (ap (λ (v : Vec ℕ Global). v.items) w.reply-is) w.result-is))
+      | in-Err-Moved w ↦
+          let failed = chunk_err c.chunk.result w.in-Err-Moved.field-0 _ w.in-Err-Moved.is
+          w.in-Err-Moved.field-0-is in
+          let same : new ≡ old = unasked (new ≡ old) c.chunk.result _ e.unasked failed in
+          subst (λ o. AsksServer g.D.Disk.tells old o request reply last) (sym same)
+          (answers_still g.D.Disk.tells old request (Ok asked) is
+          (Ok (answers.Moved w.in-Err-Moved.generation)) reply last
+          (says_moved old.catalogue old.stored c.args.file c.args.generation c.args.start
+          c.args.count before after c.chunk.result e.answer w.in-Err-Moved.generation failed)
+          (search rules)
+          (refl, λ u has. absurd (no_update old request u has asked is (λ x. let wrong = x.3 in cc)))
+          (puts_same _ w.reply_with-in-Err-Moved.new.reply.items reply
+          w.reply_with-in-Err-Moved.result last
+          (w.reply_with-in-Err-Moved.ensures.ok, w.reply_with-in-Err-Moved.ensures.err)
+          (ap (λ (v : Vec ℕ Global). v.items) w.reply-is) w.result-is))
+      | in-Err-Disk w ↦
+          let failed = chunk_err c.chunk.result w.in-Err-Disk.field-0 _ w.in-Err-Disk.is
+          w.in-Err-Disk.field-0-is in
+          let there = is_there old.catalogue old.stored c.args.file c.args.generation c.args.start
+          c.args.count before after c.chunk.result e.answer failed in
+          subst (AsksServer g.D.Disk.tells old new request reply) (sym w.result-is)
+          (chunk_failed g.D.Disk.tells old new request reply quiet e.call _
+          (record {
+            file = c.args.file;
+            generation = c.args.generation;
+            start = c.args.start;
+            count = c.args.count;
+            is = is;
+            there = there.0;
+          })
+          (ap (λ (v : Vec ℕ Global). v.items) w.reply-is ∙ w.reply_fault.ensures) failed)
+      | in-Err-Memory w ↦
+          let failed = chunk_err c.chunk.result w.in-Err-Memory.field-0 _ w.in-Err-Memory.is
+          w.in-Err-Memory.field-0-is in
+          let same : new ≡ old = unasked (new ≡ old) c.chunk.result _ e.unasked failed in
+          subst (λ o. AsksServer g.D.Disk.tells old o request reply last) (sym same)
+          (answers_still g.D.Disk.tells old request (Ok asked) is (Err _) reply last tt tt tt
+          (puts_same _ w.reply_with-in-Err-Memory.new.reply.items reply
+          w.reply_with-in-Err-Memory.result last
+          (w.reply_with-in-Err-Memory.ensures.ok, w.reply_with-in-Err-Memory.ensures.err)
+          (ap (λ (v : Vec ℕ Global). v.items) w.reply-is) w.result-is))
+    ])
