@@ -1,6 +1,6 @@
 -- A disk that is opened, or isn't, and what follows of a script that is answered over it.
 use Rattle.std.proofs.Common.{◌≡◌, ◌⊎◌, inl, inr, ℕ, List, [], ◌∷◌, refl, sym, ◌∙◌, ap, subst, arith, Option, Some, None, false}
-use Rattle.std.specs.Prelude.{IfSome, IsSome, IsSomeAnd, is_some}
+use Rattle.std.specs.Prelude.{IfSome, IsSomeAnd, is_some}
 use Rattle.std.proofs.KnownBytes.{Appends-nil}
 use Rattle.ov_base.specs.declared.mode.Mode.{Mode}
 use Rattle.ov_disk.specs.Disk.{Image, StaysTold, Told}
@@ -98,14 +98,15 @@ module _ {D : Type 0} (tells : DiskTells D) (k : Masters) (p : PlainHistory) whe
   -- the disk opened, and the script was answered over it
   module _ (m : KeptOn D) (masters : m.kept.masters ≡ k) (sound : m.failed ≡ false)
       (serves : Serves tells (sealed k p) (opened_of m)) where
-    begun_stands : IsSome m.kept.stored → IsLegal (history_of p) → StandsFor m.kept p
-    begun_stands told legal =
+    begun_stands : (i : Image) × (tells.reads m.disk ≡ Some i) → IsLegal (history_of p)
+        → StandsFor m.kept p
+    begun_stands (i, read) legal =
         subst (λ (x : Masters). IsKept x p m.kept.catalogue × IsSomeAnd m.kept.stored (AreKept x p))
         (sym masters) (
           (legal, serves.catalogue.1 ∙ ap (λ (x : Masters). catalogue_of x.surface (sealed k p)) masters),
           and_told m.kept.stored
-              (λ bytes. KeepsBytes m.kept.masters.surface bytes (sealed k p)) (AreKept k p) told
-              serves.bytes
+              (λ bytes. KeepsBytes m.kept.masters.surface bytes (sealed k p)) (AreKept k p)
+              (serves.told ∙ ap is_some read) serves.bytes
               (λ bytes are. are ∙ ap (λ (x : Masters). stored_of x.surface (sealed k p)) masters),
         )
 
@@ -134,21 +135,27 @@ module _ {D : Type 0} (tells : DiskTells D) (k : Masters) (p : PlainHistory) whe
 
 -- ---- from the call that opens the disk
 
+-- a disk that is the same tells its bytes
+reads_on : {D : Type 0} (tells : DiskTells D) (one other : D) → other ≡ one
+    → (i : Image) × (tells.reads one ≡ Some i) → (i : Image) × (tells.reads other ≡ Some i)
+reads_on tells one other same (i, read) = (i, ap tells.reads same ∙ read)
+
 -- from a disk that tells its bytes what is kept stands for a history
 pub tells_nothing : {D : Type 0} (tells : DiskTells D) (k : Masters) (mode : Mode) (first : D)
     (m : KeptOn D) (s : Opened D) → opened_of m ≡ s → m.kept.masters ≡ k → s.failed ≡ false
     → Told (tells.reads first) (λ i. FindsPlain tells k mode i s)
+    × StaysTold (tells.reads first) (tells.reads s.disk)
     → ((p : PlainHistory) → StandsFor m.kept p → ⊥) → TellsNothing (tells.reads first)
 tells_nothing {D} tells k mode first m s is masters sound found none =
     λ i read.
-    let f = found i read in
+    let f = found.0 i read in
     let (p, legal, mode_is, stands) = f.some in
     let serves = subst (λ (o : Opened D). Serves tells (sealed k p) o) (sym is)
     (f.each p mode_is stands) in
     none p
     (begun_stands tells k p m masters
     (ap (λ (o : Opened D). o.failed) is ∙ sound) serves
-    (ap (λ (o : Opened D). is_some o.stored) is ∙ f.told) legal)
+    (reads_on tells s.disk m.disk (ap (λ (o : Opened D). o.disk) is) (found.1 i read)) legal)
 
 module _ {D : Type 0} (tells : DiskTells D) (k : Masters) (mode : Mode) (p : PlainHistory)
     (first : D) (opens : OpensAs tells k mode p first) where
@@ -166,7 +173,8 @@ module _ {D : Type 0} (tells : DiskTells D) (k : Masters) (mode : Mode) (p : Pla
     pub over_stands : StandsFor m.kept p
     over_stands =
         begun_stands tells k p m masters sound serves
-        (ap (λ (o : Opened D). is_some o.stored) is ∙ (found.0 opens.image opens.told).told)
+        (reads_on tells s.disk m.disk (ap (λ (o : Opened D). o.disk) is)
+        (found.1 opens.image opens.told))
         opens.legal
 
 module _ {D : Type 0} (tells : DiskTells D) (k : Masters) (mode : Mode) (p : PlainHistory)

@@ -2,7 +2,6 @@
 use Rattle.std.proofs.Common.{◌≡◌, ◌⊎◌, inl, inr, ℕ, ◌≤◌, List, [], ◌∷◌, ◌++◌, refl, sym, ◌∙◌, ap}
 use Rattle.std.proofs.Common.{subst, arith}
 use Rattle.std.proofs.Common.{Option, Some, None, Result, Ok, Err, IfOk, IfErr, IsErrOf}
-use Rattle.std.specs.Prelude.{IsSome, is_some}
 use Rattle.std.specs.Io.KnownBytes.{Appends}
 use Rattle.ov_base.specs.declared.mode.Mode.{Mode}
 use Rattle.ov_disk.specs.Calls.{IsDiskCall}
@@ -30,7 +29,7 @@ use Rattle.ov_history.proofs.Pushing.{with_updates, with_updates-all}
 use Rattle.ov_history.proofs.Sealing.{measured-sealed, owners_histories}
 use Rattle.ov_store.specs.Beginning.{FindsHistory, IsBeginFault, IsNew, LeavesHistory}
 use Rattle.ov_store.specs.Beginning.{WritesNoBorn, disk_left}
-use Rattle.ov_store.specs.Opened.{Opened, Serves, TellsStored}
+use Rattle.ov_store.specs.Opened.{Opened, Serves}
 use Rattle.ov_store.specs.Owners.{HasFalseUpdate, IsOwners, masters, with_first}
 use Rattle.ov_store.specs.declared.begin.BeginRefused.{BeginRefused}
 use Rattle.ov_store.specs.declared.fault.BeginFault.{BeginFault}
@@ -197,33 +196,24 @@ module _ {D : Type 0} (tells : DiskTells D) where
         let told = found.1 i read in
         owners g ((found.0 i read).each g is image) told.0 told.1
 
-    -- a store that was just begun tells its bytes where its disk does
-    tells_bytes : (t : Opened D) → t ≡ record s { disk = t.disk } → TellsStored tells s
-        → (i : Image) → tells.reads first ≡ Some i → IsSome t.stored
-    tells_bytes t same stored i read =
-        ap (λ (x : Opened D). is_some x.stored) same ∙ stored ∙ ap is_some (found.1 i read).1
-
-    opens_found : (t : Opened D) → t ≡ record s { disk = t.disk } → TellsStored tells s
-        → Owners (Ok t) → (i : Image) → tells.reads first ≡ Some i
+    opens_found : (t : Opened D) → Owners (Ok t) → (i : Image) → tells.reads first ≡ Some i
         → FindsPlain tells k mode i t
-    opens_found t same stored owners i read =
+    opens_found t owners i read =
         let (g, is, image) = (found.0 i read).some in record {
-          told = tells_bytes t same stored i read;
           some = opens_so k mode i g is image ((found.0 i read).each g is image).catalogue.0
               (seen (Ok t) owners i read g is image).0;
           each = λ p same stands. (seen (Ok t) owners i read (sealed k p) same stands).1;
         }
 
     plain_found : (r : Result (Opened D) (BeginRefused D)) → Owners r
-        → IfOk r (λ t. t ≡ record s { disk = t.disk }) → TellsStored tells s
         → tells.reads (disk_left r) ≡ tells.reads s.disk
         → IfOk r (λ t. Told (tells.reads first) (λ i. FindsPlain tells k mode i t)
         × StaysTold (tells.reads first) (tells.reads t.disk))
-    plain_found (Ok t) owners still stored same = (
-      λ i read. opens_found t still stored owners i read,
+    plain_found (Ok t) owners same = (
+      λ i read. opens_found t owners i read,
       λ i read. let told = found.1 i read in (told.0, same ∙ told.1),
     )
-    plain_found (Err refused) owners still stored same = tt
+    plain_found (Err refused) owners same = tt
 
     false_record : (i : Image) (g : SealedHistory) (place : ℕ) → g.mode ≡ mode
         → IsImageOf (keys_of k) g i → HasFalseUpdate k g place
@@ -265,19 +255,18 @@ module _ {D : Type 0} (tells : DiskTells D) where
       → (r : Result (Opened D) (BeginRefused D))
       → ((g : SealedHistory) → Serves tells g s → Told (tells.reads s.disk)
       (λ _. IsChecked tells (masters k.base s.keys.surface) g r))
-      → IfOk r (λ t. t ≡ record s { disk = t.disk }) → TellsStored tells s
       → tells.reads (disk_left r) ≡ tells.reads s.disk
       → IfOk r (λ t. Told (tells.reads first) (λ i. FindsPlain tells k mode i t)
       × StaysTold (tells.reads first) (tells.reads t.disk))
       × IfErr r (λ refused. Told (tells.reads first) (λ i. Refuses k mode i refused.fault))
-  looked k ks mode first s same fresh found r owners still stored quiet =
+  looked k ks mode first s same fresh found r owners quiet =
       let under = subst
       (λ (x : Keys). Told (tells.reads first) (λ i. FindsHistory tells x mode i s)
       × StaysTold (tells.reads first) (tells.reads s.disk)) same found in
       let own = subst
       (λ (x : Keys). (g : SealedHistory) → Serves tells g s → Told (tells.reads s.disk)
       (λ _. IsChecked tells (masters k.base x.surface) g r)) (fresh ∙ same) owners in
-      (plain_found k mode first s under r own still stored quiet, false_refused k mode first s under r own)
+      (plain_found k mode first s under r own quiet, false_refused k mode first s under r own)
 
 -- no store was begun
 pub begin_refused : (k : Masters) (ks : Keys) (mode : Mode) (i : Image) (fault : BeginFault)

@@ -1,5 +1,5 @@
 -- Why a run refuses the image of its disk, and on what it begins.
-use Rattle.std.specs.Prelude.{◌≡◌, ◌⊎◌, ℕ, Option, Some, None, IsSome, Result, Ok, Err, ⊤}
+use Rattle.std.specs.Prelude.{◌≡◌, ◌⊎◌, ℕ, Option, Some, None, Result, Ok, Err, ⊤}
 use Rattle.ov_base.specs.declared.mode.Mode.{Mode}
 use Rattle.ov_disk.specs.Disk.{Image}
 use Rattle.ov_disk.specs.declared.area.Area.TheVariants.{Book}
@@ -46,12 +46,11 @@ pub record Refuses (k : Masters) (mode : Mode) (i : Image) (fault : BeginFault) 
   pub why : IsRefusal k mode i fault
   pub opens : Opens k mode i → (fault ≡ Disk) ⊎ (fault ≡ Memory)
 
--- The image opens for the masters and the mode, the store tells its stored bytes, and it stands for
--- each history of the mode whose sealed form the image stands for.
+-- The image opens for the masters and the mode, and the store stands for each history of the mode
+-- whose sealed form the image stands for.
 pub record FindsPlain {D : Type 0} (tells : DiskTells D) (k : Masters) (mode : Mode) (i : Image)
     (s : Opened D) : Type 0 where
   pub some : Opens k mode i
-  pub told : IsSome s.stored
   pub each : (p : PlainHistory) → p.mode ≡ mode → StandsForPlain k p i
       → Serves tells (sealed k p) s
 

@@ -74,7 +74,7 @@ pub fn begin<D: Disk>(
     mode: Mode,
 ) -> Result<Store<D>, BeginRefused<D>>
     ensures new { IfOk result (IsNew (keys_of (plain_masters masters)) mode) }
-    // The image opens, and the store stands for its history, which lasts, and tells its bytes.
+    // The image opens, and the store stands for its history, which lasts.
     ensures found { IfOk result (λ s. Told (D.tells.reads disk) (λ i.
         FindsPlain D.tells (plain_masters masters) mode i s)
         × StaysTold (D.tells.reads disk) (D.tells.reads s.disk)) }
@@ -90,10 +90,7 @@ pub fn begin<D: Disk>(
 {
     let base_check = base_check_of(&masters.base);
     match Store::begin(alloc, disk, masters.surface, base_check, mode) {
-        Ok(store) => {
-            store.known();
-            checked(alloc, store, &masters.base)
-        }
+        Ok(store) => checked(alloc, store, &masters.base),
         Err(refused) => {
             values_are_known(refused.fault);
             Err(refused)

@@ -13,7 +13,6 @@ use Rattle.ov_wire.specs.declared.answer.Answer.TheVariants as answers
 use Rattle.ov_wire.specs.declared.request.Question.TheVariants as questions
 use Rattle.ov_wire.specs.declared.request.Request.TheVariants as requests
 use Rattle.ov_wire.specs.Requests.{HasRequestForm}
-use Rattle.ov_peer.specs.Asks.{Leads}
 use Rattle.ov_peer.specs.Tells.{PeerTells}
 use Rattle.ov_protocol.specs.Asking.{AnswersAsk}
 use Rattle.ov_client.specs.Readers.{Reader}
@@ -31,7 +30,7 @@ use Rattle.ov_transcript.specs.Transcripts.{service_of}
 use Rattle.ov_machine.specs.Frames.{TracesAt}
 use Rattle.ov_machine.specs.Machine.{KeptOn, StandsFor, opened_of}
 use Rattle.ov_machine.specs.Replying.{HasOwnFault, HasReadFault, fault_reply, read_reply}
-use Rattle.ov_machine.specs.Seats.{AllStay, IsSeat, Stays, store_peer}
+use Rattle.ov_machine.specs.Seats.{AllStay, IsSeat, Stays}
 use Rattle.ov_machine.specs.declared.fault.StepFault.{StepFault}
 use Rattle.ov_machine.proofs.Done.{IsDone, question_done}
 use Rattle.ov_machine.proofs.Fetching.{IsReadEnd, reads_so}

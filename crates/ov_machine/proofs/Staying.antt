@@ -7,7 +7,6 @@ use Rattle.ov_script.specs.declared.command.Command.{Command}
 use Rattle.ov_script.specs.declared.reply.Reply.{Reply}
 use Rattle.ov_history.specs.Plain.{PlainHistory}
 use Rattle.ov_model.specs.Step.{after, reply_to}
-use Rattle.ov_store.specs.Opened.{Opened}
 use Rattle.ov_machine.specs.Machine.{AreOtherTags, IsStep, Kept, KeptOn, StandsFor, StepsAt, opened_of}
 use Rattle.ov_machine.specs.Seats.{Stays}
 use Rattle.ov_machine.specs.declared.fault.BadTag.{BadTag}

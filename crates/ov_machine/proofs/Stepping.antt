@@ -31,7 +31,7 @@ use Rattle.ov_wire.specs.Requests.{request_bytes}
 use Rattle.ov_wire.specs.RequestReading.{request_of}
 use Rattle.ov_protocol.specs.Answers.{Answers}
 use Rattle.ov_protocol.specs.Replies.{updates_asked}
-use Rattle.ov_protocol.specs.Serving.{IsService, Service, Serving, followed, later, served as shown}
+use Rattle.ov_protocol.specs.Serving.{Service, Serving, followed, later, served as shown}
 use Rattle.ov_protocol.specs.Updating.{spelled_by}
 use Rattle.ov_protocol.proofs.GoingOn.{servers_go_on}
 use Rattle.ov_protocol.proofs.Untold.{told_still}
@@ -165,6 +165,7 @@ module _ {D : Type 0} (tells : DiskTells D) (old new : KeptOn D) (p : PlainHisto
           (sym x.stays.writes.same) (kept_stands_for k p old.kept.catalogue stands.0);
       bytes = subst (λ (y : Opened D). IfSome y.stored (λ bytes. KeepsBytes y.keys.surface bytes
           (sealed k p))) (sym x.stays.writes.same) (serves_at old p stands).0.keeps;
+      told = serves_there.1 ∙ sym (ap is_some (holds_there holds).told.1);
       disk = λ _ i read c left. subst (λ (y : Opened D). Keeps y.keys (sealed k p) c)
           (sym x.stays.writes.same) ((holds_there holds).each c left);
       after_fault = λ failed. absurd (true≢false (sym failed ∙ sound_there));
@@ -289,7 +290,7 @@ module _ {D : Type 0} (tells : DiskTells D) (old new : KeptOn D) (p : PlainHisto
   -- nothing changed but the disk
   stands_still : Stays tells s t → StandsFor new.kept p
   stands_still still =
-      subst (λ (kept : Kept). StandsFor kept p) (sym (same_kept old new masters still)) stands
+      subst (λ (kept : Kept). StandsFor kept p) (sym (same_kept tells old new masters still)) stands
 
   cut_so : (result : Result ℕ OwnerFault) → Stays tells s t → IsAskFault result
       → StepsAt tells k p command old new (change_reply result)

@@ -19,7 +19,7 @@ returns-in-Ok-clause-found g c =
     (keys c.base_check_of-base_check.result c.args.masters.surface.bytes) c.args.mode c.args.disk
     c.in-Ok.store (ap (λ b. keys b c.args.masters.surface.bytes) c.base_check_of-base_check.ensures)
     c.in-Ok.ensures.begun.new.0 (c.in-Ok.ensures.begun.found, c.in-Ok.ensures.begun.told)
-    c.checked.result c.checked.ensures.owners c.checked.ensures.same c.known.ensures.told
+    c.checked.result c.checked.ensures.owners
     c.checked.ensures.untouched.reads_same).0
 
 pub returns-in-Ok-clause-fault : goal.returns-in-Ok-clause-fault
@@ -28,7 +28,7 @@ returns-in-Ok-clause-fault g c =
     (keys c.base_check_of-base_check.result c.args.masters.surface.bytes) c.args.mode c.args.disk
     c.in-Ok.store (ap (λ b. keys b c.args.masters.surface.bytes) c.base_check_of-base_check.ensures)
     c.in-Ok.ensures.begun.new.0 (c.in-Ok.ensures.begun.found, c.in-Ok.ensures.begun.told)
-    c.checked.result c.checked.ensures.owners c.checked.ensures.same c.known.ensures.told
+    c.checked.result c.checked.ensures.owners
     c.checked.ensures.untouched.reads_same).1
 
 pub returns-in-Ok-clause-any_moment : goal.returns-in-Ok-clause-any_moment

@@ -98,7 +98,7 @@ returns-in-Ok-clause-causes g c =
             tells_nothing g.D.Disk.tells
                 (plain_masters c.args.masters) c.args.mode c.args.disk c.of-machine.result c.in-Ok.store
                 c.of-machine.ensures.store c.of-machine.ensures.masters c.in-Ok.ensures.new.1
-                c.in-Ok.ensures.found.0 wrong.1,
+                c.in-Ok.ensures.found wrong.1,
           );
     }
 

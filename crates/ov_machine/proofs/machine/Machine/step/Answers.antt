@@ -1,4 +1,4 @@
-use Rattle.std.proofs.Common.{subst, sym}
+use Rattle.std.proofs.Common.{subst}
 use Rattle.ov_script.specs.declared.command.Command.{Command}
 use Rattle.ov_machine.specs.Steps.{IsWholeStep}
 use Rattle.ov_machine.proofs.machine.Machine.step.Goals as goal
