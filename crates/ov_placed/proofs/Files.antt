@@ -1,14 +1,12 @@
 -- The extents of files before and after an update.
-use Rattle.std.proofs.Common.{◌≡◌, inl, inr, ℕ, zero, suc, ◌+◌, ◌≤◌, ◌<◌, Bool, true, false, List, [], ◌∷◌, ◌++◌, length, map, get_or, Option, Some, None, refl, sym, ◌∙◌, ap, subst, arith, length-append}
+use Rattle.std.proofs.Common.{◌≡◌, inl, inr, ℕ, zero, suc, ◌+◌, ◌≤◌, ◌<◌, Bool, true, false, List, [], ◌∷◌, ◌++◌, length, get_or, Option, Some, None, refl, sym, ◌∙◌, ap, subst, arith, length-append}
 use Rattle.std.specs.Prelude.{Contains, is_some}
-use Rattle.std.proofs.lemmas.List.{get_or_past}
-use Rattle.std.proofs.lemmas.Bool.{cases_lt}
 use Rattle.ov_blocks.specs.declared.extents.Extent.{Extent}
 use Rattle.ov_graph.proofs.ListLaws.{Contains-first, Contains-later}
 use Rattle.ov_history.specs.Briefs.{Brief, BriefEnrol, BriefCreate, BriefGrant, BriefRevoke}
-use Rattle.ov_history.specs.Catalogue.{Catalogue, Filed, catalogue_after, grown_catalogue}
+use Rattle.ov_history.specs.Catalogue.{Catalogue, Filed, catalogue_after}
 use Rattle.ov_history.specs.Layers.{same_surface}
-use Rattle.ov_history.specs.Placed.{ArePlaced, HasFirsts, PlacedUpdate, first_if, left_if}
+use Rattle.ov_history.specs.Placed.{HasFirsts, PlacedUpdate, first_if, left_if}
 use Rattle.ov_history.specs.Placed.{placed_after, replaced, takes_place, with_unplaced}
 use Rattle.ov_history.specs.Places.{change_at, living_at}
 use Rattle.ov_history.specs.Rewrites.{Rewrite, files_after, length_left, rewrite_of, rewrite_unless}
@@ -16,7 +14,7 @@ use Rattle.ov_history.specs.Rewrites.{rewrites_from, rewrites_of}
 use Rattle.ov_history.specs.Texts.{lengths_of}
 use Rattle.ov_history.proofs.ChangeLaws.{below_some, length-change_at}
 use Rattle.ov_history.proofs.Living.{AllThere, there-after, there-at}
-use Rattle.ov_history.proofs.Placing.{good_all, length-with_unplaced, old_size, sized, size_after}
+use Rattle.ov_history.proofs.Placing.{good_all, length-with_unplaced, old_size, sized}
 use Rattle.ov_history.proofs.RewriteLaws.{rewrites_are_exact}
 use Rattle.ov_history.proofs.Storing.{length-files_after}
 use Rattle.ov_images.specs.PlacedExtents.{extent_at, extents_in_use, extents_of, new_extents}
@@ -27,7 +25,7 @@ use Rattle.ov_state.specs.Plans.{IsChange}
 use Rattle.ov_state.specs.declared.change.Change.{Change}
 use Rattle.ov_state.specs.declared.change.Rewrite.{Rewrite as StateRewrite}
 use Rattle.ov_placed.specs.Contents.{AreAllThere, HoldsFiles}
-use Rattle.ov_placed.specs.Holding.{AreHeld, HaveAsMany, IsWithAll, given_up, passing}
+use Rattle.ov_placed.specs.Holding.{AreHeld, IsWithAll, given_up, passing}
 use Rattle.ov_placed.proofs.Counting.{passing-append}
 
 -- ---- no file is gone
@@ -43,11 +41,11 @@ each_there files all file lt = ap (λ (o : Option Filed). is_some o) (there-at f
 
 -- ---- lengths by file number
 
-length-lengths : (files : List (Option Filed)) → length (lengths_of files) ≡ length files
+pub length-lengths : (files : List (Option Filed)) → length (lengths_of files) ≡ length files
 length-lengths [] = refl
 length-lengths (f ∷ files) = ap suc (length-lengths files)
 
-lengths-at : (files : List (Option Filed)) (n : ℕ)
+pub lengths-at : (files : List (Option Filed)) (n : ℕ)
     → get_or (lengths_of files) n 0 ≡ length_left (living_at files n)
 lengths-at [] n = refl
 lengths-at (f ∷ files) zero = refl

@@ -80,14 +80,14 @@ pub each_has_block : (rewrites : List PlainRewrite) (firsts : List ℕ)
 each_has_block [] firsts = none_lacks
 each_has_block (r ∷ rewrites) firsts =
     pick (takes_place r.length) firsts refl (each_has_block rewrites) where
-  pick : (b : Bool) (left : List ℕ) → takes_place r.length ≡ b
-      → ((rest : List ℕ) → All HasBlock (new_extents rewrites rest))
-      → All HasBlock (extent_at (first_if b left) r.length ++ new_extents rewrites (left_if b left))
-  pick false left is behind = behind left
-  pick true [] is behind = behind []
-  pick true (first ∷ left) is behind =
-      all_more (record { first = first; length = blocks_of r.length }) (new_extents rewrites left)
-      (has_block r.length is) (behind left)
+      pick : (b : Bool) (left : List ℕ) → takes_place r.length ≡ b
+          → ((rest : List ℕ) → All HasBlock (new_extents rewrites rest))
+          → All HasBlock (extent_at (first_if b left) r.length ++ new_extents rewrites (left_if b left))
+      pick false left is behind = behind left
+      pick true [] is behind = behind []
+      pick true (first ∷ left) is behind =
+          all_more (record { first = first; length = blocks_of r.length }) (new_extents rewrites left)
+          (has_block r.length is) (behind left)
 
 -- ---- exchanged, one after the other
 

@@ -5,3 +5,4 @@ pub mod Spots
 pub mod Files
 pub mod Replays
 pub mod Taking
+pub mod Knowing

@@ -6,7 +6,6 @@ use Rattle.ov_history.specs.Catalogue.{Catalogue, empty_catalogue}
 use Rattle.ov_history.specs.Placed.{IsReplayedTo, PlacedHistory, blank_placed, with_placed}
 use Rattle.ov_history.proofs.Placed.{replays_begin}
 use Rattle.ov_images.specs.PlacedDamage.{HasBadRecord, IsBadBody, Spot}
-use Rattle.ov_images.specs.PlacedRecords.{bodies_of}
 use Rattle.ov_images.proofs.PlacedRecords.{bodies-push, form-push}
 use Rattle.ov_placed.specs.Contents.{PlacedStore}
 use Rattle.ov_placed.specs.Faults.{EndsInBook, IsBadFor}

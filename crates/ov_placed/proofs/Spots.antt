@@ -11,7 +11,7 @@ use Rattle.ov_history.specs.Rewrites.{rewrites_of}
 use Rattle.ov_history.specs.Texts.{IsSealedBriefly, with_brief}
 use Rattle.ov_history.proofs.Placed.{replays_go_on}
 use Rattle.ov_history.proofs.Replaying.{briefs_go_on, briefs_stop}
-use Rattle.ov_images.specs.PlacedDamage.{BeginsWith, IsMisspelled, Spot, in_book}
+use Rattle.ov_images.specs.PlacedDamage.{BeginsWith, IsMisspelled, in_book}
 use Rattle.ov_images.specs.PlacedExtents.{IsFirstTaken, UpdateTakesFree, extents_in_use}
 use Rattle.ov_images.specs.PlacedExtents.{new_extents}
 use Rattle.ov_images.specs.PlacedRecords.{StopsInRecord}

@@ -1,11 +1,14 @@
 //! The catalogue with the first blocks of its files and the extents that are held.
-ghost use Rattle.std.specs.Prelude.{◌≡◌, ◌≤◌, ◌*◌, [], IfOk};
-ghost use Rattle.ov_base.specs.declared.limits.TheConstants.{MAX_SET_WORDS, MAX_USERS};
+ghost use Rattle.std.specs.Prelude.{◌≡◌, ◌≤◌, ◌*◌, [], All, IfOk, IfSome, length};
+ghost use Rattle.ov_base.specs.declared.limits.TheConstants.{MAX_FILES, MAX_SET_WORDS, MAX_USERS};
+ghost use Rattle.ov_blocks.specs.declared.extents.Extent.{Extent};
 ghost use Rattle.ov_history.specs.Catalogue.{empty_catalogue};
 ghost use Rattle.ov_history.specs.Places.{living_at};
 ghost use Rattle.ov_state.specs.Contents.{IsWell};
 ghost use Rattle.ov_state.specs.Remembering.{IsPlannedIn};
-ghost use Rattle.ov_placed.specs.Contents.{HoldsFiles};
+ghost use Rattle.ov_images.specs.PlacedExtents.{extents_in_use};
+ghost use Rattle.ov_images.specs.PlacedLaws.{HaveSameExtents};
+ghost use Rattle.ov_placed.specs.Contents.{HoldsFile, HoldsFiles, with_a_byte};
 
 use ov_base::{Memory, Mode};
 use ov_blocks::Extents;
@@ -14,6 +17,13 @@ use ov_state::{LayerGraph, Planned, State, WIDTH};
 use ov_tokens::{Base, Surface};
 use std::alloc::Global;
 use std::marker::Model;
+
+/// The first block of the file of this number, where it has one.
+fn place_at(placed: &[Option<u32>], file: u32) -> Option<u32>
+    ensures { result ≡ living_at placed.now file }
+{
+    placed.get(file as usize).copied().flatten()
+}
 
 /// The placed catalogue of a store.
 pub type CataloguePlaces = PlacedCatalogue<LayerGraph<Base>, LayerGraph<Surface>, WIDTH>;
@@ -60,9 +70,15 @@ impl<B: Graph<Base, W>, S: Graph<Surface, W>, const W: usize> PlacedCatalogue<B,
     /// Does nothing. Its contract is what holds of every placed catalogue.
     pub fn known(&self)
         ensures catalogue { IsWell (64 * W) self.now.catalogue }
-        ensures held { HoldsFiles self.now.catalogue self.now.placed self.now.held }
+        ensures files { HoldsFiles self.now.catalogue self.now.placed self.now.held }
+        ensures extents { HaveSameExtents self.now.held
+            (extents_in_use self.now.catalogue self.now.placed) }
+        ensures many { length self.now.held ≡ with_a_byte self.now.catalogue.files }
+        ensures few { length self.now.held ≤ MAX_FILES }
+        ensures short { All (λ (e : Extent). e.length ≤ 256) self.now.held }
     {
         self.catalogue.known();
+        let _extents = &self.extents;
     }
 
     /// The catalogue.
@@ -81,11 +97,13 @@ impl<B: Graph<Base, W>, S: Graph<Surface, W>, const W: usize> PlacedCatalogue<B,
         self.catalogue.remember(planned);
     }
 
-    /// The first block of the file of this number, where it has one.
+    /// The first block of the file of this number, where it has one. Then its extent is held.
     pub fn first_block(&self, file: u32) -> Option<u32>
-        ensures { result ≡ living_at self.now.placed file }
+        ensures first { result ≡ living_at self.now.placed file }
+        ensures held { IfSome result (λ first.
+            HoldsFile self.now.catalogue self.now.held file first) }
     {
-        self.placed.get(file as usize).copied().flatten()
+        place_at(&self.placed, file)
     }
 
     /// The extents of all files.

@@ -1,7 +1,7 @@
-use Rattle.std.proofs.Common.{◌≡◌, ◌∙◌, ℕ, Option, Some, None, ap, sym, subst, get_or}
+use Rattle.std.proofs.Common.{◌∙◌, None, sym}
 use Rattle.std.proofs.lemmas.List.{get_or_read}
 use Rattle.ov_history.specs.Places.{living_at}
-use Rattle.ov_placed.proofs.FirstBlocks.{none_given, one_given, one_held, set_is}
+use Rattle.ov_placed.proofs.FirstBlocks.{one_given, one_held, set_is}
 use Rattle.ov_placed.proofs.exchanging.exchange_one.Goals as goal
 
 pub release-requires : goal.release-requires

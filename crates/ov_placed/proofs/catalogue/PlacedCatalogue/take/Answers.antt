@@ -1,10 +1,10 @@
 use Rattle.std.proofs.Common.{◌≡◌, ◌*◌, ℕ, ◌∙◌, List, Option, ap, subst, sym}
 use Rattle.std.proofs.lemmas.Result.{err_from_is_err_and}
-use Rattle.ov_blocks.specs.declared.extents.Extent.{Extent}
 use Rattle.ov_history.specs.Placed.{with_unplaced}
-use Rattle.ov_images.specs.PlacedExtents.{AllTakeFree}
+use Rattle.ov_images.specs.PlacedExtents.{AllTakeFree, new_extents}
 use Rattle.ov_record.specs.Briefs.{plain_brief}
 use Rattle.ov_state.specs.Changes.{applied}
+use Rattle.ov_state.specs.Entries.{plain_rewrites}
 use Rattle.ov_placed.specs.Contents.{HoldsFiles, PlacedStore}
 use Rattle.ov_placed.specs.Faults.{IsTakenAt, NamesSpot, UpdateIsTakenAt}
 use Rattle.ov_placed.specs.Holding.{IsWithAll}
@@ -40,7 +40,8 @@ exchange-requires-clause-files g c =
     let s : PlacedStore = c.args.self.now in
     let holds = subst (λ (t : PlacedStore). HoldsFiles t.catalogue t.placed t.held) c.self.view_is
     c.self.invariant in
-    let grown = c.add_new.ensures
+    let grown : c.add_new.new.placed.items
+    ≡ with_unplaced s.placed (plain_brief c.args.stored.now.update) = c.add_new.ensures
     ∙ ap (λ (ps : List (Option ℕ)). with_unplaced ps (plain_brief c.args.stored.now.update))
     (c.in_ok-make_room.ensures.same ∙ ap (λ (t : PlacedStore). t.placed) c.self.view_is) in
     files_there g.row.W (64 * g.row.W) c.requires.change.0 s (placed_update c.args.stored.now)
@@ -52,10 +53,12 @@ exchange-requires-clause-held g c =
     let s : PlacedStore = c.args.self.now in
     let holds = subst (λ (t : PlacedStore). HoldsFiles t.catalogue t.placed t.held) c.self.view_is
     c.self.invariant in
-    let grown = c.add_new.ensures
+    let grown : c.add_new.new.placed.items
+    ≡ with_unplaced s.placed (plain_brief c.args.stored.now.update) = c.add_new.ensures
     ∙ ap (λ (ps : List (Option ℕ)). with_unplaced ps (plain_brief c.args.stored.now.update))
     (c.in_ok-make_room.ensures.same ∙ ap (λ (t : PlacedStore). t.placed) c.self.view_is) in
-    let new = c.deref.ensures.value ∙ c.in_ok-new.ensures in
+    let new : c.deref.result.now ≡ new_extents (plain_rewrites c.rewrites-rewritten.result.now)
+    c.as_slice-firsts.result.now = c.deref.ensures.value ∙ c.in_ok-new.ensures in
     let with = subst (λ (t : PlacedStore). IsWithAll c.deref.result.now t.held
     c.hold_all.new.extents) c.self.view_is c.in_ok-hold_all.ensures.held in
     gone_are_held g.row.W (64 * g.row.W) c.requires.change.0 s (placed_update c.args.stored.now)
@@ -68,7 +71,8 @@ returns-clause-placed g c =
     let s : PlacedStore = c.args.self.now in
     let holds = subst (λ (t : PlacedStore). HoldsFiles t.catalogue t.placed t.held) c.self.view_is
     c.self.invariant in
-    let grown = c.add_new.ensures
+    let grown : c.add_new.new.placed.items
+    ≡ with_unplaced s.placed (plain_brief c.args.stored.now.update) = c.add_new.ensures
     ∙ ap (λ (ps : List (Option ℕ)). with_unplaced ps (plain_brief c.args.stored.now.update))
     (c.in_ok-make_room.ensures.same ∙ ap (λ (t : PlacedStore). t.placed) c.self.view_is) in
     placed_is g.row.W (64 * g.row.W) c.requires.change.0 s (placed_update c.args.stored.now)
@@ -93,10 +97,12 @@ invariant_of-self-2 g c =
     let s : PlacedStore = c.args.self.now in
     let holds = subst (λ (t : PlacedStore). HoldsFiles t.catalogue t.placed t.held) c.self.view_is
     c.self.invariant in
-    let grown = c.add_new.ensures
+    let grown : c.add_new.new.placed.items
+    ≡ with_unplaced s.placed (plain_brief c.args.stored.now.update) = c.add_new.ensures
     ∙ ap (λ (ps : List (Option ℕ)). with_unplaced ps (plain_brief c.args.stored.now.update))
     (c.in_ok-make_room.ensures.same ∙ ap (λ (t : PlacedStore). t.placed) c.self.view_is) in
-    let new = c.deref.ensures.value ∙ c.in_ok-new.ensures in
+    let new : c.deref.result.now ≡ new_extents (plain_rewrites c.rewrites-rewritten.result.now)
+    c.as_slice-firsts.result.now = c.deref.ensures.value ∙ c.in_ok-new.ensures in
     let with = subst (λ (t : PlacedStore). IsWithAll c.deref.result.now t.held
     c.hold_all.new.extents) c.self.view_is c.in_ok-hold_all.ensures.held in
     holds_then g.row.W (64 * g.row.W) c.requires.change.0 s (placed_update c.args.stored.now)
