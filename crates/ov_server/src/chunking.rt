@@ -27,8 +27,8 @@ impl<D: Disk> Server<D> {
             → request_of request ≡ Ok (Chunk file generation start count)
             → AsksServer D.tells self.old self.new request reply.new.items result }
     {
-        // The reply is begun before the store is asked, which puts the bytes behind its kind: so all
-        // memory is taken before the disk is read.
+        // The reply is begun before the store is asked, which puts the bytes behind its kind: a
+        // refusal of memory then comes before the disk is read.
         let bytes = Octets::new(*reply.allocator());
         reply_with(Ok(Answer::Bytes { bytes }), reply)?;
         match self.store.chunk(file, generation, start, count, reply) {

@@ -15,8 +15,8 @@
 //! ```
 //!
 //! **What a contract sees** is the store (`Opened` of ov_store), and what it is answered by is
-//! `serving_of` of that: the catalogue, the stored bytes where the disk tells its bytes, the surface
-//! master and the check value of the base master (`Serving` of ov_protocol).
+//! `serving_of` of that: the catalogue, the stored bytes where the disk tells its bytes, the
+//! surface master and the check value of the base master (`Serving` of ov_protocol).
 //!
 //! * The reply is the one of ov_protocol's `AnswersFrame` at what the server shows, which then goes
 //!   on by what it made (`IsAnswered`); so what is accepted lasts on the disk. Or it is
@@ -24,7 +24,7 @@
 //!   where a call of the disk failed in it or in an earlier one.
 //! * A crash at any moment of the call leaves a history for which the server stood, or this with
 //!   the request's update (`LeavesAsked`).
-//! * An answer that makes nothing writes nothing: a question may read the disk, and leaves all else.
+//! * An answer that makes nothing writes nothing: a question may read the disk, and all else stays.
 //! * All memory is taken before the disk is asked. Where it is refused all is as it was.
 //!
 //! | file in `specs/` | says |
