@@ -1,5 +1,57 @@
 //! The catalogue of a store with the extents in which its files' stored bytes lie, in memory, and the
 //! replay of one record after another over it.
+//!
+//! A [`PlacedCatalogue`] is a [`ov_state::State`], the first block of each file by number, where the
+//! file has a byte, and the extents of all files ([`ov_blocks::Extents`]). It has no bytes of files:
+//! these lie in Blobs, and no bytes of Blobs are needed to replay a record. The store keeps its files'
+//! bytes in memory yet, in `ov_vault`, and doesn't name this crate.
+//!
+//! [`PlacedCatalogue::replay`] takes the body of one record of a journal, whose gate is at some place
+//! of Book, over a Blobs of so many whole blocks:
+//!
+//! ```text
+//! body ── read_brief ──► update ── State::prepare ──► change ── count_of ──► how many first blocks
+//!   │                                                    │                           │
+//!   └──── read_stored ◄──────────────────────────────────┼───────────────────────────┘
+//!              │                                         │
+//!              └─ first blocks ──► new extents: each held, while the old ones are still held
+//!                                                        │
+//!                              first blocks put, old extents given up, change committed
+//! ```
+//!
+//! **What a contract sees** is one value, `PlacedStore` (`specs/Contents`): the catalogue and its
+//! room, the first blocks by file number, and what is held.
+//!
+//! * [`PlacedCatalogue::known`] does nothing; its contract is what holds of every placed catalogue.
+//!   Just the files with a byte have a first block, and what is held are just the extents of files,
+//!   each once: whatever is tested, as many of those held pass as of those in use. So no update loses
+//!   a block, and none holds one twice. There are as many as files with a byte, and none is longer
+//!   than that of the longest file.
+//! * `replay` answers `Ok` just where the record's update is one that the store takes, with as many
+//!   first blocks as its rewrites need, and with new extents that take free blocks. Then the catalogue
+//!   is `catalogue_after`, and the first blocks are `placed_after`; each history that was replayed to
+//!   the store, and can stand in so many blocks, goes on with that update (`TakesRecord`).
+//! * Otherwise it names a place of Book or of Blobs at which the record is bad, for each history that
+//!   was replayed to the store (`IsBadFor`, which is `IsBadBody` of `ov_images`), or memory was
+//!   refused. Catalogue, first blocks and what is held are as they were.
+//! * [`PlacedCatalogue::first_block`] gives the first block of a file; its extent is held.
+//!
+//! | file in `specs/` | says |
+//! |---|---|
+//! | `Contents` | `PlacedStore`, and what holds of every one |
+//! | `Replaying` | records that are taken, and histories that go on with them |
+//! | `Faults` | which spot a fault names |
+//! | `Holding` | extents that are counted, in whatever order they are kept |
+//!
+//! A store begins at [`PlacedCatalogue::new`] with no record (`replay_none` of `proofs/Replays`), and
+//! goes on record by record (`replay_more`, `replay_stops`); `ov_placed_t` has a caller that does so
+//! with a list of bodies.
+//!
+//! **Limits.** A place past 64 bits isn't told: where a record ends at one, as none does that a disk
+//! tells, the place that a fault names in Book means nothing.
+//!
+//! **Errors.** [`ReplayFault::Damaged`] comes only where the record is bad, and [`ReplayFault::Memory`]
+//! only where memory was refused, which nothing here rules out.
 #![tactic(auto)]
 
 mod catalogue;

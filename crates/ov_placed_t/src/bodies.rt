@@ -34,7 +34,14 @@ fn record(rt: &impl Abort, alloc: Global, update: Brief<WIDTH>, firsts: &[u32]) 
 }
 
 pub(crate) fn enrol(rt: &impl Abort, alloc: Global, text: &[u8]) -> Vec<u8> {
-    record(rt, alloc, Brief::Enrol { name: name(rt, text) }, &[])
+    record(
+        rt,
+        alloc,
+        Brief::Enrol {
+            name: name(rt, text),
+        },
+        &[],
+    )
 }
 
 /// The creation of a file for the first two users.

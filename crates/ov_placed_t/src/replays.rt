@@ -3,7 +3,8 @@ ghost use Rattle.std.specs.Prelude.{◌≤◌};
 ghost use Rattle.ov_blocks.specs.declared.extents.TheConstants.{MAX_BLOCKS};
 
 use crate::bodies::{create, enrol, grant, revoke};
-use ov_base::{Key, Mode};
+use crate::replaying::replay_all;
+use ov_base::{Key, Mode, Octets};
 use ov_blocks::Extent;
 use ov_disk::Area;
 use ov_placed::*;
@@ -18,17 +19,17 @@ const BLOCKS: u32 = 6;
 
 const GATE: u64 = 78;
 
-const fn in_book(place: u64) -> Result<(), ReplayFault> {
+fn in_book(place: u64) -> Result<(), ReplayFault> {
     Err(ReplayFault::Damaged {
         area: Area::Book,
         offset: place,
     })
 }
 
-const fn at_block(first: u64) -> Result<(), ReplayFault> {
+fn at_block(first: u32) -> Result<(), ReplayFault> {
     Err(ReplayFault::Damaged {
         area: Area::Blobs,
-        offset: 4_096 * first,
+        offset: 4_096 * u64::from(first),
     })
 }
 
@@ -48,7 +49,8 @@ fn with_file(rt: &impl Abort, alloc: Global) -> CataloguePlaces {
 
 /// Whether this extent alone is held, as that of file 0.
 fn holds(it: &CataloguePlaces, first: u32) -> bool {
-    it.first_block(0) == Some(first) && it.extents().held() == [Extent { first, length: 3 }].as_slice()
+    it.first_block(0) == Some(first)
+        && it.extents().held() == [Extent { first, length: 3 }].as_slice()
 }
 
 #[test]
@@ -80,4 +82,25 @@ fn bad_records_are_named(rt: HostRuntime) {
     assert!(rt; holds(&it, 0));
     assert!(rt; replayed(alloc, &mut it, &revoke(&rt, alloc, 1, &[3])).is_ok());
     assert!(rt; holds(&it, 3));
+}
+
+#[test]
+fn records_are_replayed_in_order(rt: HostRuntime) {
+    let alloc = rt.alloc();
+    let mut bodies = Vec::new(alloc);
+    let all = [
+        enrol(&rt, alloc, b"a"),
+        enrol(&rt, alloc, b"b"),
+        create(&rt, alloc, &[0]),
+        revoke(&rt, alloc, 1, &[3]),
+    ];
+    for body in all {
+        bodies.push(Octets::from_vec(body)).expect(&rt, "memory");
+    }
+    let surface = Master::new(&MASTER);
+    let made = replay_all(alloc, &surface, Mode::Full, 0, &bodies, BLOCKS);
+    assert!(rt; made.is_ok_and(|it| holds(&it, 3)));
+    // Over three blocks the last record's extent is past the end.
+    let made = replay_all(alloc, &surface, Mode::Full, 0, &bodies, 3);
+    assert!(rt; made.err() == at_block(3).err());
 }
