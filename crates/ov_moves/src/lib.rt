@@ -4,8 +4,8 @@
 //! written over: an update that changes them writes the new ones into another extent, puts a record
 //! behind the others, and gives up the old extent only then. So a crash at any moment leaves either
 //! the records from before, with every file's bytes where they were, or these with the new record and
-//! every file in its new extent. No crate above names this one yet: the store keeps its files' bytes
-//! in memory.
+//! every file in its new extent. `ov_updating` says this of the histories that images keep; the store
+//! names neither yet, and keeps its files' bytes in memory.
 //!
 //! * [`rewrite`] is the whole of it. It finds and holds the new extents, takes all memory that it
 //!   wants, moves the files, appends the record, and gives up the old extents. Unless it answers
@@ -30,10 +30,10 @@
 //!   have left at the start by a step that keeps Book, makes Blobs no shorter, and changes no byte
 //!   outside of the new extents (`GoesBy`, `IsKeptOutside`). How many calls there are doesn't enter.
 //! * `rewrite` says of each such image that it stands for whatever the one at the start stood for; or
-//!   for that with the record, and then each new extent has the old one's bytes, turned
-//!   (`StandsForEither`). At `Ok` there is one image that a crash may leave, the second of these
-//!   (`LastsWith`), and what is held is just what was held and wasn't given up, and the new extents
-//!   (`MayGoOn`).
+//!   for that with the record, and then each new extent took blocks that were free (`GoToFree`) and
+//!   has the old one's bytes, turned (`StandsForEither`). At `Ok` there is one image that a crash may
+//!   leave, the second of these (`LastsWith`), and what is held is just what was held and wasn't given
+//!   up, and the new extents (`MayGoOn`).
 //! * Why blocks that are used again do no harm is one law, [`standing_is_kept`]: an image stands for
 //!   what another one stands for that has the same records and the same bytes in the files' extents.
 //!   A new extent is free of all that was held when it was found, so no file has a byte in it.

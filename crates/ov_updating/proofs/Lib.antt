@@ -1,4 +1,5 @@
 pub mod Asking
+pub mod Counts
 pub mod Going
 pub mod HeldAfter
 pub mod Holding

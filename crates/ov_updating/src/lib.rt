@@ -27,8 +27,15 @@
 //! | file in `specs/` | says |
 //! |---|---|
 //! | `Files` | the files whose bytes are written, and the extents that files have |
+//! | `Counting` | extents that are counted |
 //! | `Recording` | the body of the record |
 //! | `Updating` | what an update is made from, and which history is kept |
+//!
+//! A law is a public function with an empty body, whose contract is the law.
+//!
+//! | law | function |
+//! |---|---|
+//! | just the files' extents are held exactly where they are as many, whatever is tested | [`extents_may_be_counted`] |
 //!
 //! **What it asks for.** The update is one that the catalogue takes, and just the extents of the
 //! catalogue's files are held, all in Blobs. Before it a crash leaves just what the disk reads, and
@@ -42,9 +49,11 @@
 //! again.
 #![tactic(auto)]
 
+mod counting;
 mod files;
 mod recording;
 mod updating;
 
+pub use counting::extents_may_be_counted;
 pub use recording::{Recording, spell_update};
 pub use updating::update;
