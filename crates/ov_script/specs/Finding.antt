@@ -70,6 +70,16 @@ NeedsPieces tells room old new more =
     TakesPieces tells (λ seen. IsUnsettled room (old.pending ++ seen))
     old.source new.source more
 
+-- This line of an item and its LF were used, which may be read, and those of their bytes that
+-- weren't pending were taken in pieces, while it was unsettled what item was there; or there is no
+-- item.
+abbrev pub UsesLine : {S : Type 0} → SourceTells S → ℕ → Fed S → Fed S → Result Line Ended → Type 0
+UsesLine tells room old new (Ok found) =
+    (line : List ℕ) × NoLf line × SaysLine line found.said
+    × (length line + 1 ≡ found.size) × (found.size ≤ room)
+    × (uses : Uses tells old new (line ++ 10 ∷ [])) × NeedsPieces tells room old new uses.more
+UsesLine tells room old new (Err ended) = IsWhyNone room (text_of tells old) ended
+
 -- A body of this many bytes and its LF were used, which may be read; or there is none.
 abbrev pub Gathers : {S : Type 0} → SourceTells S → ℕ → ℕ → Fed S → Fed S
     → Result (Vec ℕ Global) Ended → Type 0
