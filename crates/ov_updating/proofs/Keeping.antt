@@ -10,7 +10,7 @@ use Rattle.ov_blocks.specs.declared.extents.Extent.{Extent}
 use Rattle.ov_blocks.specs.declared.extents.TheConstants.{BLOCK_BYTES}
 use Rattle.ov_moves.specs.Placing.{GoToFree}
 use Rattle.ov_moves.specs.Rewriting.{StandsAfter, StandsAsBefore, StandsForEither}
-use Rattle.ov_moves.specs.Rewriting.{LastsWith as MovesLastWith}
+use Rattle.ov_moves.specs.Rewriting.{LastsWith}
 use Rattle.ov_moves.specs.declared.moves.Move.{Move}
 use Rattle.ov_fields.specs.Spelling.{u32}
 use Rattle.ov_record.specs.Updates.{SealedUpdate}
@@ -31,7 +31,7 @@ use Rattle.ov_images.proofs.PlacedKeeping.{keeps_more, keeps_same}
 use Rattle.ov_recoat.specs.Recoats.{recoated}
 use Rattle.ov_updating.specs.Files.{files_of, firsts_of}
 use Rattle.ov_updating.specs.Recording.{body_with}
-use Rattle.ov_updating.specs.Updating.{Asked, CanGoOn, KeepsItOrMore, KeepsMore, LastsWith}
+use Rattle.ov_updating.specs.Updating.{Asked, CanGoOn, KeepsOneOfBoth, KeepsItOrMore, KeepsMore, UpdateLasts}
 use Rattle.ov_updating.proofs.Asking.{length-firsts}
 use Rattle.ov_updating.proofs.Holding.{hold_all}
 use Rattle.ov_updating.proofs.Standing.{HasAsMuch, all_ready, cut_same, ends_whole, same_bytes}
@@ -71,14 +71,21 @@ module _ (master : List ℕ) (a : Asked) (k : Keys) (p : PlacedHistory) (g : Sea
 
   -- ---- as before
 
-  as_before : (x : Image) → StandsAsBefore a.held i x → KeepsAt k p g x
+  as_before : (x : Image) → StandsAsBefore a.held i x → KeepsOneOfBoth k p g u i x
   as_before x stands =
-      keeps_same k p g i x can.keeps
-      (stands.stands (contents_of i.book) [] (λ n d lt. absurd (omega (arith, lt)))
-      (record { book = refl; files_are = λ n d lt. absurd (omega (arith, lt)) })).book
-      stands.no_shorter
-      (same_stored x (λ all held filled.
-      (stands.stands (contents_of i.book) all held (record { book = refl; files_are = filled })).files_are))
+      let bytes = same_stored x (λ all held filled.
+      (stands.stands (contents_of i.book) all held (record { book = refl; files_are = filled })).files_are) in
+      record {
+        keeps =
+            inl (
+              p,
+              keeps_same k p g i x can.keeps
+                  (stands.stands (contents_of i.book) [] (λ n d lt. absurd (omega (arith, lt)))
+                  (record { book = refl; files_are = λ n d lt. absurd (omega (arith, lt)) })).book
+                  stands.no_shorter bytes,
+            );
+        bytes = bytes;
+      }
 
   -- ---- with the update
 
@@ -130,6 +137,12 @@ module _ (master : List ℕ) (a : Asked) (k : Keys) (p : PlacedHistory) (g : Sea
     with_update : KeepsAt k (with_placed p (placed_as u firsts)) (with_sealed g u) x
     with_update = keeps_more k p g u firsts i x can.keeps is_sealed one_more
 
+    as_after : KeepsOneOfBoth k p g u i x
+    as_after = record {
+      keeps = inr (with_placed p (placed_as u firsts), with_update);
+      bytes = same_stored x as_much;
+    }
+
 -- ---- the clauses
 
 module _ (master : List ℕ) (a : Asked) (i x : Image) where
@@ -149,18 +162,18 @@ module _ (master : List ℕ) (a : Asked) (i x : Image) where
 
   pub keeps_either : StandsForEither (recoated master a.rewrites) a.text (body_with a.front) a.held
       (files_of a.placed a.rewrites) i x → KeepsItOrMore master a i x
-  keeps_either (inl before) k p g u can = inl (p, as_before master a k p g u i can x before)
+  keeps_either (inl before) k p g u can = as_before master a k p g u i can x before
   keeps_either (inr (moves, go, after)) k p g u can =
-      inr (with_placed p (placed_as u (firsts_of moves)), keeps_with moves go after k p g u can)
+      as_after master a k p g u i can moves x go (turned_by moves k can.surface after)
 
 -- before the first call of the disk
 pub keeps_yet : (master : List ℕ) (a : Asked) (i : Image) → KeepsItOrMore master a i i
-keeps_yet master a i k p g u can = inl (p, can.keeps)
+keeps_yet master a i k p g u can = record { keeps = inl (p, can.keeps); bytes = refl }
 
 pub lasts : {D : Type 0} (tells : DiskTells D) (master : List ℕ) (a : Asked) (disk : D) (i : Image) (moves : List Move)
     → GoToFree (files_of a.placed a.rewrites) a.held moves
-    → MovesLastWith tells (recoated master a.rewrites) a.text (body_with a.front moves) a.held moves disk i
-    → LastsWith tells master a (firsts_of moves) disk i
+    → LastsWith tells (recoated master a.rewrites) a.text (body_with a.front moves) a.held moves disk i
+    → UpdateLasts tells master a (firsts_of moves) disk i
 lasts tells master a disk i moves go made = record {
   now = made.now;
   is_read = made.is_read;

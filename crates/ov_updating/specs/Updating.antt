@@ -14,7 +14,7 @@ use Rattle.ov_history.specs.Placed.{PlacedHistory, placed_after, placed_of, with
 use Rattle.ov_history.specs.Rewrites.{Rewrite, files_after, rewrites_of}
 use Rattle.ov_history.specs.Sealed.{SealedHistory, with_sealed}
 use Rattle.ov_images.specs.Images.{Keys}
-use Rattle.ov_images.specs.PlacedExtents.{catalogue_at}
+use Rattle.ov_images.specs.PlacedExtents.{catalogue_at, stored_in}
 use Rattle.ov_images.specs.PlacedImages.{KeepsAt, KeepsEither}
 use Rattle.ov_images.specs.PlacedLaws.{placed_as}
 use Rattle.ov_state.specs.Plans.{IsTaken}
@@ -64,11 +64,18 @@ pub record CanGoOn (master : List ℕ) (a : Asked) (k : Keys) (p : PlacedHistory
   pub update : IsAskedFor (catalogue_at k.surface p) u a
   pub keeps : KeepsAt k p g i
 
+-- The second image keeps the history, or it with the update. Either way the extents that files had
+-- in the first one hold what they held.
+pub record KeepsOneOfBoth (k : Keys) (p : PlacedHistory) (g : SealedHistory) (u : SealedUpdate)
+    (i c : Image) : Type 0 where
+  pub keeps : KeepsEither k g u c
+  pub bytes : stored_in k.surface p c.blobs ≡ stored_in k.surface p i.blobs
+
 -- whatever history the first image keeps, the second keeps that, or it with the update
 abbrev pub KeepsItOrMore : List ℕ → Asked → Image → Image → Type 0
 KeepsItOrMore master a i c =
     (k : Keys) (p : PlacedHistory) (g : SealedHistory) (u : SealedUpdate)
-    → CanGoOn master a k p g u i → KeepsEither k g u c
+    → CanGoOn master a k p g u i → KeepsOneOfBoth k p g u i c
 
 -- whatever history the first image keeps, the second keeps it with the update, which has these first
 -- blocks
@@ -80,7 +87,7 @@ KeepsMore master a firsts i c =
 
 -- A crash leaves one image alone, which the disk reads. Whatever history an older image kept, it
 -- keeps that with the update.
-pub record LastsWith {D : Type 0} (tells : DiskTells D) (master : List ℕ) (a : Asked)
+pub record UpdateLasts {D : Type 0} (tells : DiskTells D) (master : List ℕ) (a : Asked)
     (firsts : List ℕ) (disk : D) (i : Image) : Type 0 where
   pub now : Image
   pub is_read : tells.reads disk ≡ Some now

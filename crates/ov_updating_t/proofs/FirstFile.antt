@@ -1,0 +1,70 @@
+-- A store with one user takes the creation of its first file.
+use Rattle.std.proofs.Common.{◌≡◌, ℕ, zero, suc, ◌≤◌, List, [], ◌∷◌, Some, None, refl, sym, ◌∙◌, ap, subst, arith, lit≤}
+use Rattle.ov_base.specs.declared.limits.TheConstants.{MAX_FILE_BYTES}
+use Rattle.ov_base.specs.declared.mode.Mode.TheVariants.{Full}
+use Rattle.ov_blocks.specs.declared.extents.Extent.{Extent}
+use Rattle.ov_tokens.specs.declared.token.Token.{Token}
+use Rattle.ov_record.specs.Briefs.{Brief, BriefCreate, BriefEnrol}
+use Rattle.ov_record.specs.Forms.{first_form}
+use Rattle.ov_record.specs.Stored.{HasBriefForm, brief_spelling}
+use Rattle.ov_record.specs.Updates.{SealedCreate}
+use Rattle.ov_history.specs.Catalogue.{Catalogue, Filed, catalogue_after, empty_catalogue}
+use Rattle.ov_history.specs.Places.{living_at}
+use Rattle.ov_history.specs.Rewrites.{Rewrite, files_after}
+use Rattle.ov_updating.specs.Files.{AreHeldFor}
+use Rattle.ov_updating.specs.Updating.{IsAsked, IsAskedFor, asked}
+
+-- the store
+abbrev one_user : Catalogue
+one_user = catalogue_after [] (empty_catalogue Full 0) (BriefEnrol (97 ∷ []))
+
+abbrev text : List ℕ
+text = 1 ∷ 2 ∷ 3 ∷ []
+
+-- the file gets the surface of its list
+abbrev rewrites : List Rewrite
+rewrites = record { file = 0; length = 3; old = None; new = Some 0 } ∷ []
+
+module _ (name tag : List ℕ) where
+  abbrev creation : Brief
+  creation = BriefCreate name 1 [] tag 3
+
+  short : (file : ℕ) (f : Filed) → living_at (files_after one_user creation) file ≡ Some f → f.length ≤ MAX_FILE_BYTES
+  short zero f is = let same : 3 ≡ f.length = cc is in omega (arith, same)
+  short (suc n) f is = absurd (cc is)
+
+  none_held : AreHeldFor [] [] []
+  none_held = record {
+    there = λ file lt. absurd (omega (arith, lt));
+    placed_are = record { many = refl; each = λ file lt. absurd (omega (arith, lt)) };
+    same = record { there = λ e is. is; back = λ e is. is };
+    apart = λ file other first lt one two. absurd (cc one);
+    many = omega arith;
+  }
+
+  created : (front : List ℕ) → HasBriefForm first_form creation → front ≡ brief_spelling first_form creation
+      → IsAskedFor one_user (SealedCreate name 1 [] tag text) (asked rewrites [] [] front text)
+  created front form is = record {
+    taken = (refl, refl);
+    rewrites = refl;
+    form = form;
+    front = is;
+    text = λ t same. cc same;
+    files = lit≤ tt;
+    short = short;
+    held = none_held;
+  }
+
+  pub first_asked : (front : List ℕ) (list : ℕ) (tokens : List Token) (held : List Extent)
+      → list ≡ 1 → tokens ≡ [] → held ≡ []
+      → HasBriefForm first_form (BriefCreate name list tokens tag 3)
+      → front ≡ brief_spelling first_form (BriefCreate name list tokens tag 3)
+      → IsAsked (asked rewrites [] held front text)
+  first_asked front list tokens held one none empty form is =
+      let same : BriefCreate name list tokens tag 3 ≡ creation =
+      ap (λ (l : ℕ). BriefCreate name l tokens tag 3) one ∙ ap (λ (t : List Token). BriefCreate name 1 t tag 3) none in
+      subst (λ (h : List Extent). IsAsked (asked rewrites [] h front text)) (sym empty) (
+        one_user,
+        SealedCreate name 1 [] tag text,
+        created front (subst (HasBriefForm first_form) same form) (is ∙ ap (brief_spelling first_form) same),
+      )

@@ -1,0 +1,40 @@
+//! A record that is read again.
+use ov_base::Memory;
+use ov_moves::{Move, Spell};
+use ov_record::{Brief, Form, read_stored};
+use ov_state::WIDTH;
+use ov_updating::{Recording, spell_update};
+use std::alloc::Global;
+use std::process::Abort;
+use std::test::Fail;
+
+fn move_to(file: u32, to: u32) -> Move {
+    Move {
+        file,
+        length: 1,
+        from: None,
+        to,
+    }
+}
+
+// The body of the record of a revocation by which two files go elsewhere.
+fn body(alloc: Global) -> Result<Vec<u8>, Memory> {
+    let revoke: Brief<WIDTH> = Brief::Revoke { user: 3, file: 4 };
+    let (_, front) = spell_update(alloc, revoke)?;
+    let moves = [move_to(4, 0x0102_0304), move_to(9, 7)];
+    Recording { front: &front }.spell(alloc, &moves)
+}
+
+const BODY: [u8; 17] = [4, 0, 0, 0, 3, 0, 0, 0, 4, 1, 2, 3, 4, 0, 0, 0, 7];
+
+#[test]
+fn a_record_is_read_again(rt: HostRuntime) -> Result<(), Fail> {
+    let body = body(rt.alloc())?;
+    assert!(rt; body.as_slice() == BODY.as_slice());
+    let read = read_stored(rt.alloc(), Form::FIRST, &body, 2);
+    match read {
+        Ok(stored) => assert!(rt; stored.places.as_slice() == [0x0102_0304, 7].as_slice()),
+        Err(_) => assert!(rt; false),
+    }
+    Ok(())
+}
