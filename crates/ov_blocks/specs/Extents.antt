@@ -11,8 +11,9 @@ blocks_of count = (count + (BLOCK_BYTES - 1)) / BLOCK_BYTES
 
 -- ---- what is held
 
--- Each of these extents has a block or more. The first begins at block `from` or behind it, and each
--- other one where the one before it ends, or behind that. The last ends where blocks end, or before.
+-- Each of these extents has a block or more. The first begins at block `from` or behind it, and
+-- each other one where the one before it ends, or behind that. The last ends where blocks end, or
+-- before.
 abbrev pub AreApart : ℕ → List Extent → Type 0
 AreApart from [] = from ≤ MAX_BLOCKS
 AreApart from (e ∷ held) = (from ≤ e.first) × (1 ≤ e.length) × AreApart (e.first + e.length) held
@@ -66,7 +67,7 @@ abbrev pub Holds : Extent → List Extent → List Extent → Bool → Type 0
 Holds e old new true = IsFree e.first e.length old × IsWith e old new
 Holds e old new false = (IsFree e.first e.length old → ⊥) × (new ≡ old)
 
--- so many bytes, from `start` on, lie in the held extent with this first block
+-- this many bytes, from `start` on, lie in the held extent with this first block
 pub record IsInside (first start count : ℕ) (held : List Extent) : Type 0 where
   pub extent : Extent
   pub is_held : Contains held extent

@@ -4,7 +4,7 @@ use Rattle.std.specs.Prelude.{◌≡◌, ℕ, ◌+◌, ◌≤◌, ◌<◌, List,
 use Rattle.ov_blocks.specs.declared.extents.Extent.{Extent}
 use Rattle.ov_blocks.specs.Extents.{IsFree}
 
--- so many of the extents begin before this block
+-- the first `place` of the extents, and no others, begin before this block
 pub record IsCountBefore (first place : ℕ) (held : List Extent) : Type 0 where
   pub inside : place ≤ length held
   pub before : (k : ℕ) (d : Extent) → k < place → (slice_index_or held k d).first < first

@@ -8,7 +8,8 @@ use Rattle.ov_blocks.specs.declared.extents.TheConstants.{BLOCK_BYTES}
 abbrev pub place_in_blobs : ℕ → ℕ → ℕ
 place_in_blobs first start = BLOCK_BYTES * first + start
 
--- the same Book, a Blobs that is no shorter, and the same bytes outside of these places
+-- the new image has the old one's Book, a Blobs that is no shorter, and the old one's bytes outside
+-- of these places
 pub record IsChangedIn (at count : ℕ) (old new : Image) : Type 0 where
   pub book : new.book ≡ old.book
   pub no_shorter : length old.blobs ≤ length new.blobs

@@ -6,7 +6,8 @@ ghost use Rattle.ov_blocks.specs.declared.extents.TheConstants.{MAX_BLOCKS};
 
 use crate::extents::Extent;
 
-// The lowest first block of a free run: behind the last extent, unless an earlier gap is long enough.
+// The lowest first block of a free run: behind the last extent, unless an earlier gap is long
+// enough.
 pub(crate) fn lowest_run(held: &[Extent], length: u32) -> u32
     requires apart { AreApart 0 held.now }
     requires short { HasPlace length held.now }

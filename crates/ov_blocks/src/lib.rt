@@ -7,24 +7,24 @@
 //! grows only where no gap is long enough. `ov_moves` does that, and `ov_images` says which history an
 //! image keeps by the extents of its files.
 //!
-//! **What a contract sees** is the list of the extents that are held, in the order of their places. In
-//! all calls a length counts blocks, a start counts bytes, and an extent ends at the block behind its
-//! last.
+//! **What a contract sees** is the list of the extents that are held, in the order of their places.
+//! In all calls a length counts blocks, a start counts bytes, and an extent ends at the block
+//! behind its last.
 //!
 //! * [`blocks_of`] tells how many blocks take so many bytes.
 //! * [`Extents::place`] answers the lowest run of free blocks that is long enough. Behind the last
-//!   extent all blocks are free, whatever the length of Blobs. It takes no memory and walks over the
-//!   held extents at most once: at 16,384 of them that is 16,384 steps.
+//!   extent all blocks are free, whatever the length of Blobs. It takes no memory and walks over
+//!   the held extents at most once: at 16,384 of them that is 16,384 steps.
 //! * [`Extents::hold`] answers `false` exactly where a block of the range is in use, and else holds
-//!   the range; [`Extents::release`] gives one up, and takes no memory. Both find the place by halves
-//!   and move what stands behind it.
-//! * [`Extents::held`] gives the list. [`Extents::known`] does nothing; its contract is what holds of
-//!   every such list: a block is in the extent at one place of it at most, so that no two extents
-//!   share one and none stands there twice.
+//!   the range; [`Extents::release`] gives one up, and takes no memory. Both find the place by
+//!   halves and move what stands behind it.
+//! * [`Extents::held`] gives the list. [`Extents::known`] does nothing; its contract is what holds
+//!   of every such list: a block is in the extent at one place of it at most, so that no two
+//!   extents share one and none stands there twice.
 //! * [`Extents::put`] writes into a held extent by one call of the disk. At every moment since its
-//!   start a crash leaves an image that it could have left at the start, changed in the range alone:
-//!   Book is the same, Blobs is no shorter, and no byte of another held extent has changed. Nothing
-//!   is synced.
+//!   start a crash leaves an image that it could have left at the start, changed in the range
+//!   alone: Book is the same, Blobs is no shorter, and no byte of another held extent has changed.
+//!   Nothing is synced.
 //! * [`Extents::read`] reads from a held extent by one call, and writes nothing.
 //!
 //! | file in `specs/` | says |
@@ -42,14 +42,15 @@
 //! | changes within one range, one after the other, are a change of that range | [`changes_go_on`] |
 //!
 //! **Limits** ([`BLOCK_BYTES`], [`MAX_BLOCKS`], [`MAX_EXTENT_BLOCKS`], [`MAX_HELD`]): Blobs has
-//! 2,147,483,648 blocks, and no extent ends behind the last. `place` wants at most 65,535 extents to
-//! be held, none of them with more than 4,096 blocks, nor the new one; then what it answers ends
-//! within Blobs. Whether an extent has bytes in a given Blobs is for the caller to know: `put` wants
-//! to begin at the end of Blobs or before it, and `read` to end there, where the disk tells its bytes.
+//! 2,147,483,648 blocks, and no extent ends behind the last. `place` wants at most 65,535 extents
+//! to be held, none of them with more than 4,096 blocks, nor the new one; then what it answers ends
+//! within Blobs. Whether an extent has bytes in a given Blobs is for the caller to know: `put`
+//! wants to begin at the end of Blobs or before it, and `read` to end there, where the disk tells
+//! its bytes.
 //!
-//! **Errors.** `hold` may answer [`ov_base::Memory`], and has then changed nothing. `put` and `read`
-//! answer [`ov_disk::DiskFault`] only where the disk's count of faults rose; what a failed put has
-//! changed is in its range.
+//! **Errors.** `hold` may answer [`ov_base::Memory`], and has then changed nothing. `put` and
+//! `read` answer [`ov_disk::DiskFault`] only where the disk's count of faults rose; what a failed
+//! put has changed is in its range.
 //!
 //! Nothing is promised of a block that was given up: its old bytes stay until it is used again.
 #![tactic(auto)]

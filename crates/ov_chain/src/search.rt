@@ -75,8 +75,8 @@ fn steps_back<L: Layer, G: Graph<L, W>, const W: usize>(
 /// that goes, back from `node`, each time over the first edge into a node whose start lies one edge
 /// nearer to `root`. None exactly where the edges don't lead from `root` to `node`.
 ///
-/// It takes memory for the search before it begins, and for the steps once it is known how many
-/// they are: the chain keeps no more.
+/// Memory for the search is taken before the search begins, and that for the steps once it is known
+/// how many they are: the chain keeps no more.
 pub fn shortest<L: Layer, G: Graph<L, W>, const W: usize>(
     alloc: Global,
     graph: &G,

@@ -161,12 +161,10 @@ impl Client {
         ensures same { P.tells.borrow peer.new ≡ P.tells.borrow peer.old }
         ensures cause { HasClientCause (P.tells.faults peer.old) (P.tells.faults peer.new) result }
     {
-        match self.fetch(alloc, peer, file) {
-            Ok(bytes) => match into.extend_from_slice(bytes.as_slice()) {
-                Ok(()) => Ok(()),
-                Err(_) => Err(ClientFault::Memory),
-            },
-            Err(fault) => Err(fault),
+        let bytes = self.fetch(alloc, peer, file)?;
+        match into.extend_from_slice(bytes.as_slice()) {
+            Ok(()) => Ok(()),
+            Err(_) => Err(ClientFault::Memory),
         }
     }
 }

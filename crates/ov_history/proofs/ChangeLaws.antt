@@ -43,7 +43,7 @@ below_some [] n there = absurd (cc)
 below_some (x ∷ xs) zero there = omega arith
 below_some (x ∷ xs) (suc n) there = omega (arith, below_some xs n there)
 
--- and it has its number with more behind it
+-- an item that isn't gone has its number with more behind it
 pub is_some-append : {A : Type 0} (xs more : List (Option A)) (n : ℕ)
     → is_some (living_at xs n) ≡ true → is_some (living_at (xs ++ more) n) ≡ true
 is_some-append [] more n there = absurd (cc)

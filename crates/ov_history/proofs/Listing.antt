@@ -90,14 +90,14 @@ wanted_list Delta sets list held found = bare_list (list == held) sets list held
 abbrev resurfaced : Layers → List ℕ → List (Option Place) → Layers
 resurfaced y sets files = record y { surface = sets; files = files }
 
--- there are both, or the file is gone
+-- a file has both a list and a place, or is gone and has neither
 abbrev pub AreAlike : Option ℕ → Option Place → Type 0
 AreAlike None None = Unit {0}
 AreAlike None (Some p) = ⊥
 AreAlike (Some list) None = ⊥
 AreAlike (Some list) (Some p) = Unit {0}
 
--- so it is of each file
+-- each file has both a list and a place, or neither
 abbrev pub AllAlike : List (Option ℕ) → List (Option Place) → Type 0
 AllAlike [] [] = Unit {0}
 AllAlike [] (p ∷ places) = ⊥

@@ -1,7 +1,10 @@
--- No update makes a file gone, so each file of a catalogue is there.
+-- No update makes a file gone, so each file of a catalogue is there; and none puts a file where one
+-- is gone.
 use Rattle.std.proofs.Common.{◌≡◌, ◌<◌, ◌+◌, ℕ, zero, suc, Bool, true, false, List, [], ◌∷◌, ◌++◌}
-use Rattle.std.proofs.Common.{length, refl, sym, subst, arith}
-use Rattle.std.specs.Prelude.{Option, Some, None}
+use Rattle.std.proofs.Common.{length, refl, sym, ◌∙◌, subst, arith}
+use Rattle.std.specs.Prelude.{◌≤◌, Option, Some, None, nat_lt}
+use Rattle.std.proofs.lemmas.Bool.Decides.{nat_tests}
+use Rattle.std.proofs.lemmas.List.{get_or_append_left}
 use Rattle.ov_history.specs.Places.{living_at}
 use Rattle.ov_history.specs.Layers.{lists_after, lists_of, node_for, same_surface, surface_at}
 use Rattle.ov_history.specs.Layers.{wants_of, with_wants}
@@ -79,6 +82,50 @@ pub there-of : (master : List ℕ) (g : SealedHistory) → AllThere (catalogue_o
 there-of master g =
     subst (λ (c : Catalogue). AllThere c.files) (sym (catalogue-brief master g))
     (there-by master (brief_of g))
+
+-- ---- files that are gone
+
+gone-settled : (epoch : ℕ) (sets : List ℕ) (wants : List (Option ℕ)) (files : List (Option Filed))
+    (n : ℕ) → living_at files n ≡ None → living_at (settled_files epoch sets wants files) n ≡ None
+gone-settled epoch sets [] files n gone = gone
+gone-settled epoch sets (want ∷ wants) [] n gone = refl
+gone-settled epoch sets (want ∷ wants) (None ∷ files) zero gone = refl
+gone-settled epoch sets (want ∷ wants) (Some f ∷ files) zero gone = absurd (cc)
+gone-settled epoch sets (want ∷ wants) (f ∷ files) (suc n) gone =
+    gone-settled epoch sets wants files n gone
+
+gone-grown : (c : Catalogue) (b : Brief) (n : ℕ) → n < length c.files
+    → living_at c.files n ≡ None → living_at (grown_catalogue c b).files n ≡ None
+gone-grown c (BriefEnrol user) n below gone = gone
+gone-grown c (BriefCreate file list tokens tag size) n below gone =
+    let new : Filed =
+    record {
+      name = file;
+      node = node_for c.base.sets list;
+      surface = None;
+      generation = c.epoch + 1;
+      tag = tag;
+      length = size;
+    } in
+    get_or_append_left c.files (Some new ∷ []) None n below ∙ gone
+gone-grown c (BriefGrant user file token) n below gone = gone
+gone-grown c (BriefRevoke user file) n below gone = gone
+
+-- a file that is there after an update, and wasn't before, has a number that was never given
+pub never_given : (c : Catalogue) (b : Brief) (n : ℕ) (now : Filed)
+    → living_at c.files n ≡ None → living_at (files_after c b) n ≡ Some now → length c.files ≤ n
+never_given c b n now gone there = by_test (nat_lt n (length c.files)) refl where
+  by_test : (given : Bool) → nat_lt n (length c.files) ≡ given → length c.files ≤ n
+  by_test false is = grind (arith, nat_tests)
+  by_test true is =
+      let below : n < length c.files = grind (arith, nat_tests) in
+      let next : Catalogue = grown_catalogue c b in
+      let wants : List (Option ℕ) =
+      wants_of (outline next) (lists_after (lists_of (outline c)) (outer b)) in
+      let still : living_at (files_after c b) n ≡ None =
+      gone-settled next.epoch (with_wants next.surface.sets wants) wants next.files n
+      (gone-grown c b n below gone) in
+      absurd (cc)
 
 -- ---- lengths
 

@@ -2,19 +2,21 @@
 -- order.
 use Rattle.std.proofs.Common.{◌≡◌, ◌≢◌, ◌⊎◌, ◌<◌, ◌+◌, ℕ, zero, suc, Bool, true, false, List}
 use Rattle.std.proofs.Common.{[], ◌∷◌, ◌++◌, refl, sym, ◌∙◌, ap, subst, arith, inl, inr}
-use Rattle.std.specs.Prelude.{Contains, Some, None, slice_get}
+use Rattle.std.specs.Prelude.{Contains, Option, Some, None, slice_get}
 use Rattle.std.proofs.lemmas.List.Elements.{Contains-append_cases, Contains-append_left}
 use Rattle.std.proofs.lemmas.List.Elements.{Contains-append_right}
 use Rattle.std.proofs.lemmas.Option.{get_or_from_slice_get, slice_get_within}
 use Rattle.ov_graph.proofs.ListLaws.{Contains-cases, Contains-first, Contains-none}
 use Rattle.ov_history.specs.Layers.{same_surface}
-use Rattle.ov_history.specs.Catalogue.{Filed}
-use Rattle.ov_history.specs.Rewrites.{Rewrite, files_after, rewrite_unless, rewrites_from}
-use Rattle.ov_history.specs.Laws.{FilesAreThoseAfter, RewritesAreExact, RewritesAreInOrder}
-use Rattle.ov_history.proofs.Listing.{same_surface-is, same_surface-not}
-use Rattle.std.specs.Prelude.{Option}
 use Rattle.ov_history.specs.Places.{living_at}
-use Rattle.ov_history.specs.Rewrites.{rewrite_of}
+use Rattle.ov_history.specs.Briefs.{Brief}
+use Rattle.ov_history.specs.Catalogue.{Catalogue, Filed}
+use Rattle.ov_history.specs.Rewrites.{Rewrite, files_after, rewrite_of, rewrite_unless}
+use Rattle.ov_history.specs.Rewrites.{rewrites_from}
+use Rattle.ov_history.specs.Laws.{FilesAreThoseAfter, IsNewFile, RewritesAreExact}
+use Rattle.ov_history.specs.Laws.{RewritesAreInOrder}
+use Rattle.ov_history.proofs.Listing.{same_surface-is, same_surface-not}
+use Rattle.ov_history.proofs.Living.{never_given}
 
 pub files_are_those_after : FilesAreThoseAfter
 files_are_those_after master c b = refl
@@ -93,7 +95,7 @@ of_one first (Some f) (Some now) files after r there =
     let at : r.file ≡ first = ap (λ (s : Rewrite). s.file) both.1 in
     (at, inl (f, now, refl, refl, both.0, both.1 ∙ ap (λ n. moved_to n f now) (sym at)))
 
--- the same where none were there
+-- the rewrite of one file, where none were there
 of_new : (first : ℕ) (now : Option Filed) (after : List (Option Filed)) (r : Rewrite)
     → Contains (rewrite_of first None now) r → IsOfSome first [] (now ∷ after) r
 of_new first now after r there =
@@ -179,6 +181,11 @@ added_there first (old ∷ files) (new ∷ after) (suc place) r at_place (now, p
     Contains-append_right (rewrite_of first old new) (rewrites_from (first + 1) files after) r
     (added_there (first + 1) files after place r (omega arith) (now, past, then_is, is))
 
+new_file : (c : Catalogue) (b : Brief) (r : Rewrite)
+    → IsAdded c.files (files_after c b) r.file r → IsNewFile c b r
+new_file c b r (now, gone, there, is) =
+    (now, never_given c b r.file now gone there, gone, there, is)
+
 at_file : (r : Rewrite) (place : ℕ) (P : ℕ → Type 0) → r.file ≡ 0 + place → P place → P r.file
 at_file r place P is p = subst P (omega arith) p
 
@@ -187,10 +194,14 @@ rewrites_are_exact c b r =
     let after : List (Option Filed) = files_after c b in (
       λ there.
           let (place, is, how) = of_some 0 c.files after r there in
-          at_file r place (λ n. IsMoved c.files after n r ⊎ IsAdded c.files after n r) is how,
+          elim (at_file r place (λ n. IsMoved c.files after n r ⊎ IsAdded c.files after n r) is how) [
+            | inl moved ↦ inl moved
+            | inr added ↦ inr (new_file c b r added)
+          ],
       elim [
         | inl moved ↦ moved_there 0 c.files after r.file r (omega arith) moved
-        | inr added ↦ added_there 0 c.files after r.file r (omega arith) added
+        | inr (now, past, gone, there, is) ↦
+            added_there 0 c.files after r.file r (omega arith) (now, gone, there, is)
       ],
     )
 

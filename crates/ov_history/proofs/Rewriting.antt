@@ -154,7 +154,7 @@ module _ (master : List ℕ) where
       ≡ restored master (surface_left f) there.surface m (at_number stored m)) here
       (stepped-here number f there stored)
 
-  -- and a later one
+  -- the rewrite of one file leaves the bytes of another
   later-step : (number : ℕ) (f now : Option Filed) (from to : Option ℕ) (rewrites : List Rewrite)
       (stored : List (List ℕ)) (n : ℕ) → n ≢ number
       → ((next : List (List ℕ)) → at_number (rewritten_all master rewrites next) n

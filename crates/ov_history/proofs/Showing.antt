@@ -32,7 +32,7 @@ use Rattle.ov_history.specs.Catalogue.{settled_file}
 abbrev row_with : Filed → ℕ → File
 row_with f list = record { name = f.name; length = f.length; list = list }
 
--- so it is with one that may be gone
+-- the file of the matrix with this list, where it isn't gone
 abbrev row : Option Filed → Option ℕ → Option File
 row None list = None
 row (Some f) None = None

@@ -32,7 +32,7 @@ IsHeld y None (Some p) = ⊥
 IsHeld y (Some list) None = ⊥
 IsHeld y (Some list) (Some p) = (p.node < length y.base) × Within list (holders y p.node)
 
--- so it is of each file
+-- each file of these is held so, or is gone from both
 abbrev pub AreHeld : Layers → List (Option ℕ) → List (Option Place) → Type 0
 AreHeld y [] [] = Unit {0}
 AreHeld y [] (p ∷ placed) = ⊥

@@ -21,6 +21,7 @@ use Rattle.ov_history.proofs.Listing.{settled_at-node}
 use Rattle.ov_history.proofs.MatrixLaws.{files_of-layers_of}
 use Rattle.ov_history.proofs.PlanLaws.{with_set-has}
 use Rattle.ov_history.proofs.Pushing.{layers_of-push, matrix_of-push, with_updates, with_updates-is}
+use Rattle.ov_history.proofs.StayingFiles.{files_begin}
 use Rattle.ov_history.proofs.Wanting.{file_below, place_at, settled_after, wanted_in}
 use Rattle.std.specs.Prelude.{option_map}
 use Rattle.std.specs.Prelude.{unwrap_or}
@@ -123,7 +124,7 @@ numbers_stay h more file below =
           (subst (λ (m : Matrix). file < length m.files) (sym (matrix_of-push h u))
           (number_stays (matrix_of h) u file below))
 
--- and a file that was gone stays gone
+-- a file that was gone stays gone
 was_there : (m : Matrix) (u : Update) (file : ℕ) → file < length m.files
     → is_file (changed m u) file ≡ true → is_file m file ≡ true
 was_there m (Enrolled name) file below there = there
@@ -228,11 +229,7 @@ pub base_node_is_of_list : BaseNodeIsOfList
 base_node_is_of_list h name list size more still =
     let next : History = with_update h (Created name list size) in
     let n : ℕ = length (matrix_of h).files in
-    let there : HasFile next n =
-    subst (λ (m : Matrix). is_file m n ≡ true) (sym (matrix_of-push h (Created name list size)))
-    (ap (λ (o : Option File). is_some o)
-    (last_item (matrix_of h).files (Some (record { name = name; length = size; list = list })) n None
-    refl)) in
+    let there : HasFile next n = files_begin h name list size in
     subst (λ node. slice_get (layers_of (longer next more)).base node ≡ Some list)
     (sym (file_stays next more n there still))
     ((longer_stays next more).0 (place_in next n).node list (created_list h name list size))

@@ -50,7 +50,7 @@ length-files_after c b =
     wants_of (outline next) (lists_after (lists_of (outline c)) (outer b)) in
     length-settled_files next.epoch (with_wants next.surface.sets wants) wants next.files
 
--- the same file, with another surface perhaps
+-- two entries of one file, which may have another surface
 pub record IsSameFile (f now : Filed) : Type 0 where
   pub name : now.name ≡ f.name
   pub node : now.node ≡ f.node

@@ -143,10 +143,11 @@ IsResurfaced c b r =
     × (f.surface ≢ now.surface)
     × (r ≡ record { file = r.file; length = now.length; old = f.surface; new = now.surface })
 
--- a file is new with the update, and this is its rewrite
+-- A file is new with the update, and this is its rewrite. It has a number that no file had before:
+-- that of a file that is gone isn't given again.
 abbrev pub IsNewFile : Catalogue → Brief → Rewrite → Type 0
 IsNewFile c b r =
-    (now : Filed) × (living_at c.files r.file ≡ None)
+    (now : Filed) × (length c.files ≤ r.file) × (living_at c.files r.file ≡ None)
     × (living_at (files_after c b) r.file ≡ Some now)
     × (r ≡ record { file = r.file; length = now.length; old = None; new = now.surface })
 

@@ -32,6 +32,19 @@ WantedIsThere =
     (h : History) (file set : ℕ)
     → HasFile h file → wanted_of h file ≡ Some set → Contains (layers_of h).surface set
 
+-- ---- files
+
+-- a file that is created is there, and has the next number
+abbrev pub FilesBegin : Type 0
+FilesBegin =
+    (h : History) (name : List ℕ) (list size : ℕ)
+    → HasFile (with_update h (Created name list size)) (length (matrix_of h).files)
+
+-- a file that is there stays there, after any further updates
+abbrev pub FilesStay : Type 0
+FilesStay =
+    (h : History) (more : List Update) (file : ℕ) → HasFile h file → HasFile (longer h more) file
+
 -- ---- generations
 
 -- with one more update a file keeps its generation where it keeps its wanted set

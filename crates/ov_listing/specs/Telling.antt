@@ -24,7 +24,8 @@ Told alone v Then IsRight (Ok value) =
     × Then (later v others) × IsRight value (later v others)
 Told alone v Then IsRight (Err fault) = Unit {0}
 
--- the same of a value of several answers, which is right where others made nothing meanwhile
+-- what is served then is this history with what others made of it, and the value, which several
+-- answers gave, is right where others made nothing meanwhile
 abbrev pub ToldOfOne : {T : Type 0} → Bool → Service → (Service → Type 0)
     → (T → Service → Type 0) → Result T ListingFault → Type 0
 ToldOfOne alone v Then IsRight (Ok value) =

@@ -21,11 +21,11 @@ use std::alloc::Global;
 /// What is asked of a store.
 #[derive(Drop)]
 pub enum Question {
-    /// Its mode and its epoch.
+    /// The store's mode and its epoch.
     Epoch,
-    /// Its users.
+    /// The users of the store.
     Users,
-    /// Its files with their lists; or the files that list this user.
+    /// The files of the store with their lists; or the files that list this user.
     Files { user: Option<Name> },
 }
 

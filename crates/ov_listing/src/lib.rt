@@ -9,7 +9,7 @@
 //!
 //! ```text
 //! answer ──► ask_listing ──► try_once ──► ask_welcome           Hello: mode and epoch
-//!                 ▲             ├───────► names_of ──► name_at  Page: a name, or that there is none
+//!                 ▲             ├───────► names_of ──► name_at  Page: a name, or none
 //!                 │             ├───────► lists_of ──► list_of  List: the names in a file's list
 //!                 │             └───────► ask_welcome           Hello: the epoch again
 //!                 └── again, up to nine tries, where the epoch is another

@@ -14,7 +14,7 @@ pub enum Part {
 }
 
 impl Part {
-    /// Its number in a request.
+    /// The number that a request has for the part.
     pub fn number(self) -> u8
         ensures { result ≡ part_number self }
     {

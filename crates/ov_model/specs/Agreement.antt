@@ -8,11 +8,11 @@ use Rattle.ov_record.specs.Forms.{first_form}
 use Rattle.ov_wire.specs.RequestReading.{spelling_at}
 use Rattle.ov_wire.specs.Updates.{IsSpelling}
 
--- a frame's reader takes just the bytes that an update is read from, with sets in 32 bytes, or
--- fails at the same byte
+-- a frame's reader takes just the bytes from which an update of the first form is read, or fails at
+-- the same byte
 abbrev pub FramesHoldSpellings : Type 0
 FramesHoldSpellings = (bytes : List ℕ) → spelling_at bytes ≡ spanned (update_at first_form) bytes
 
--- a frame can have the spelling of each update with form, with sets in 32 bytes
+-- a frame can have the spelling of each update that has the first form
 abbrev pub FramesTakeUpdates : Type 0
 FramesTakeUpdates = (u : SealedUpdate) → HasForm first_form u → IsSpelling (spelling first_form u)

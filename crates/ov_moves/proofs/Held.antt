@@ -150,3 +150,8 @@ same_held from (x ∷ xs) (y ∷ ys) p q there back =
     let rest = same_held (x.first + x.length) xs ys p.2 (subst (λ (n : ℕ). AreApart n ys) (sym ends) q.2)
     (rest_of from x y xs ys p same there) (rest_of from y x ys xs q (sym same) back) in
     λ i. same i ∷ rest i
+
+-- a run beside each of these extents is free of them
+pub all_beside : (first count : ℕ) (held : List Extent) → ((e : Extent) → Contains held e → IsBeside first count e) → IsFree first count held
+all_beside first count [] each = tt
+all_beside first count (e ∷ held) each = (each e (0, omega arith, refl), all_beside first count held (λ x is. each x (suc is.0, omega (arith, is.1), is.2)))

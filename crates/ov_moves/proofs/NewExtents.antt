@@ -9,10 +9,10 @@ use Rattle.ov_blocks.specs.Extents.{AreApart, IsBeside, blocks_of, end_from}
 use Rattle.ov_blocks.specs.declared.extents.Extent.{Extent}
 use Rattle.ov_moves.specs.Bytes.{extent_of, new_extent}
 use Rattle.ov_moves.specs.Moves.{CanMoveAll, HasText, MayMoveAll}
-use Rattle.ov_moves.specs.Placing.{AreMovesOf, ArePlaced, HasNewText, HoldsLowest, IsFiled, IsNewOf, LiesIn, move_to, no_move}
+use Rattle.ov_moves.specs.Placing.{AreMovesOf, ArePlaced, HasNewText, HoldsLowest, IsFiled, IsFreeOfFirst, IsLowest, IsNewOf, LiesIn, move_to, no_move}
 use Rattle.ov_moves.specs.declared.moves.Move.{Move}
 use Rattle.ov_moves.specs.declared.placing.Placed.{Placed}
-use Rattle.ov_moves.proofs.Held.{contains_split, end_above, end_more, free_beside, is_held, short_more, turned_round, was_held}
+use Rattle.ov_moves.proofs.Held.{all_beside, contains_split, end_above, end_more, free_beside, is_held, short_more, turned_round, was_held}
 use Rattle.ov_moves.proofs.Pieces.{fits_blocks}
 
 pub blocks_some : (count : ℕ) → 1 ≤ count → 1 ≤ blocks_of count
@@ -32,6 +32,7 @@ none_placed files held short = record {
   held_are = λ a d lt. absurd (omega (arith, lt));
   new_apart = λ a b d lt below. absurd (omega (arith, below));
   old_apart = λ e b d is below. absurd (omega (arith, below));
+  lowest = λ b d lt. absurd (omega (arith, lt));
   begins = λ b d lt. absurd (omega (arith, lt));
   ends = λ d. inl (omega arith);
 }
@@ -93,6 +94,23 @@ module _ (count : ℕ) (files : List Placed) (old mid new : List Extent) (moves 
     ]
   ]
 
+  -- a run that is free of the new extents before this one, and of what was held, is free of all
+  free_of_mid : (first : ℕ) → IsFreeOfFirst count old more first (blocks_of (get_or files count fd).length) → (e : Extent) → Contains mid e → IsBeside first (blocks_of (get_or files count fd).length) e
+  free_of_mid first free e is = elim (was.only e is) [
+    | inl held ↦ free.of_held e held
+    | inr one ↦ subst (IsBeside first (blocks_of (get_or files count fd).length)) (sym (one.2 ∙ ap new_extent (sym (at_old one.0 no_move one.1)))) (free.of_new one.0 no_move one.1)
+  ]
+
+  lowest_here : IsLowest count old more m
+  lowest_here first below_it free = lowest.lowest first below_it (all_beside first (blocks_of (get_or files count fd).length) mid (free_of_mid first free))
+
+  -- one move more says nothing of the runs that were free of those before
+  lowest_before : (b : ℕ) (x : Move) → b < count → IsLowest b old moves x → IsLowest b old more x
+  lowest_before b x lt low first below_it free = low first below_it (record {
+    of_held = free.of_held;
+    of_new = λ a d first_ones. subst (λ (y : Move). IsBeside first (blocks_of x.length) (new_extent y)) (at_old a d (omega (arith, lt, first_ones))) (free.of_new a d first_ones);
+  })
+
   pub one_placed : ArePlaced (count + 1) files old new more
   one_placed = record {
     many = omega (arith, length-append moves (m ∷ []), was.many);
@@ -117,6 +135,7 @@ module _ (count : ℕ) (files : List Placed) (old mid new : List Extent) (moves 
         b inside_all lt;
     old_apart = λ e b d is. of_each (λ n x. IsBeside x.to (blocks_of x.length) e) d (λ n inside. was.old_apart e n d is inside)
         (free_beside to (blocks_of (get_or files count fd).length) mid e lowest.free (was.kept e is)) b;
+    lowest = λ b d. of_each (λ n x. IsLowest n old more x) d (λ n lt. lowest_before n (get_or moves n d) lt (was.lowest n d lt)) lowest_here b;
     begins = λ b d. of_each (λ n x. (x.to ≤ end_from 0 old) ⊎ ((a : ℕ) × (a < n) × (x.to ≤ (get_or more a d).to + blocks_of (get_or more a d).length))) d
         (λ n lt. elim (was.begins n d lt) [ inl first ↦ inl first | inr behind ↦ inr (begins_at n d (get_or moves n d).to (omega (arith, lt)) behind) ])
         (elim (was.ends d) [ inl first ↦ inl (omega (arith, first, lowest.near)) | inr behind ↦ inr (begins_at count d to (omega arith) (behind.0, behind.1, omega (arith, behind.2, lowest.near))) ])

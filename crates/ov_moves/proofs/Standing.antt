@@ -43,6 +43,7 @@ go_to_free files old new moves are_moves placed apart = record {
       omega (arith, end_above 0 new (new_extent (get_or moves a d)) apart there, end_within 0 new apart);
   new_apart = λ a b d lt below. placed.new_apart a b d lt (omega (arith, below, placed.many));
   old_apart = λ e b d held lt. placed.old_apart e b d held (omega (arith, lt, placed.many));
+  lowest = λ b d lt. placed.lowest b d (omega (arith, lt, placed.many));
 }
 
 module _ (turned : ℕ → ℕ → ℕ → ℕ) (text : List ℕ) (spelled : List Move → List ℕ) (old new : List Extent) (files : List Placed) (moves : List Move)

@@ -47,9 +47,23 @@ abbrev pub IsNewOf : ℕ → List Move → Extent → Type 0
 IsNewOf count moves e =
     (a : ℕ) × (a < count) × (e ≡ new_extent (slice_index_or moves a no_move))
 
+-- The run of so many blocks from here on has no block in common with an extent that was held, nor
+-- with the new extents of the first of these moves.
+pub record IsFreeOfFirst (count : ℕ) (held : List Extent) (moves : List Move) (first blocks : ℕ)
+    : Type 0 where
+  pub of_held : (e : Extent) → Contains held e → IsBeside first blocks e
+  pub of_new : (a : ℕ) (d : Move) → a < count
+      → IsBeside first blocks (new_extent (slice_index_or moves a d))
+
+-- The move goes to the lowest run of blocks that is long enough and free of what was held and of
+-- the new extents before it.
+abbrev pub IsLowest : ℕ → List Extent → List Move → Move → Type 0
+IsLowest count held moves m =
+    (first : ℕ) → first < m.to → IsFreeOfFirst count held moves first (blocks_of m.length) → ⊥
+
 -- The first of these files have new extents. These are held beside all that were, and nothing else
--- is. None has a block in common with another, or with one that was held. Each begins at the end of
--- those that were held, or of a new one before it, or sooner.
+-- is. None has a block in common with another, or with one that was held, and each is the lowest
+-- that is so. Each begins at the end of those that were held, or of a new one before it, or sooner.
 pub record ArePlaced (count : ℕ) (files : List Placed) (old new : List Extent) (moves : List Move)
     : Type 0 where
   pub many : length moves ≡ count
@@ -66,6 +80,7 @@ pub record ArePlaced (count : ℕ) (files : List Placed) (old new : List Extent)
       (new_extent (slice_index_or moves b d))
   pub old_apart : (e : Extent) (b : ℕ) (d : Move) → Contains old e → b < count
       → IsBeside (slice_index_or moves b d).to (blocks_of (slice_index_or moves b d).length) e
+  pub lowest : (b : ℕ) (d : Move) → b < count → IsLowest b old moves (slice_index_or moves b d)
   pub begins : (b : ℕ) (d : Move) → b < count
       → ((slice_index_or moves b d).to ≤ end_from 0 old)
       ⊎ ((a : ℕ) × (a < b) × ((slice_index_or moves b d).to
@@ -75,7 +90,7 @@ pub record ArePlaced (count : ℕ) (files : List Placed) (old new : List Extent)
       ≤ (slice_index_or moves a d).to + blocks_of (slice_index_or moves a d).length))
 
 -- These are the moves of these files, in their order. Each new extent ends where blocks end, or
--- before, and has no block of what was held, nor of a new one before it.
+-- before, has no block of what was held, nor of a new one before it, and is the lowest that is so.
 pub record GoToFree (files : List Placed) (held : List Extent) (moves : List Move) : Type 0 where
   pub moves_are : AreMovesOf files moves
   pub within : (a : ℕ) (d : Move) → a < length moves
@@ -85,9 +100,12 @@ pub record GoToFree (files : List Placed) (held : List Extent) (moves : List Mov
       (new_extent (slice_index_or moves b d))
   pub old_apart : (e : Extent) (b : ℕ) (d : Move) → Contains held e → b < length moves
       → IsBeside (slice_index_or moves b d).to (blocks_of (slice_index_or moves b d).length) e
+  pub lowest : (b : ℕ) (d : Move) → b < length moves
+      → IsLowest b held moves (slice_index_or moves b d)
 
 -- The lowest free run of so many blocks is held.
 pub record HoldsLowest (count first : ℕ) (old new : List Extent) : Type 0 where
   pub free : IsFree first count old
+  pub lowest : (lower : ℕ) → lower < first → IsFree lower count old → ⊥
   pub near : first ≤ end_from 0 old
   pub held : IsWith (record { first = first; length = count }) old new

@@ -22,10 +22,7 @@ fn put_short<T: Sink>(sink: &mut T, frame: &[u8]) -> Result<(), Fault>
     let end = 4 + frame.len();
     whole[..4].copy_from_slice(&(frame.len() as u32).to_be_bytes());
     whole[4..end].copy_from_slice(frame);
-    match sink.put(&whole[..end]) {
-        Ok(()) => Ok(()),
-        Err(Fault) => Err(Fault),
-    }
+    sink.put(&whole[..end])
 }
 
 /// Puts a frame behind its length field: a short one in one call, a longer one in two, so that its

@@ -173,7 +173,7 @@ file_below : (c : Catalogue) (b : Brief) (r : Rewrite) → Contains (rewrites_of
 file_below c b r there =
     below_some (files_after c b) r.file (elim ((rewrites_are_exact c b r).0 there) [
       | inl (f, now, was, is, other, same) ↦ ap (λ (o : Option Filed). is_some o) is
-      | inr (now, past, is, same) ↦ ap (λ (o : Option Filed). is_some o) is
+      | inr (now, past, gone, is, same) ↦ ap (λ (o : Option Filed). is_some o) is
     ])
 
 are_sized : (c : Catalogue) (b : Brief) → AreSized (lengths_of (files_after c b)) (rewrites_of c b)

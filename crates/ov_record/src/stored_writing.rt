@@ -10,7 +10,7 @@ ghost use Rattle.ov_record.specs.Stored.{brief_spelling, plain_stored, stored_sp
 ghost use Rattle.ov_record.specs.Stored.{HasStoredForm, IsBriefWithinLimits};
 
 use crate::pieces::{put_creation, put_grant, put_revocation};
-use crate::within::has_stored_form;
+use crate::within::known_stored_form;
 use crate::{Brief, Form, Stored};
 use ov_base::Memory;
 use ov_fields::{append, put_name, put_u32};
@@ -68,7 +68,7 @@ pub fn write_stored<const W: usize>(
     ensures form { HasStoredForm (form_of form.entry) (length stored.now.places)
         (plain_stored stored.now) }
 {
-    has_stored_form(form, stored);
+    known_stored_form(form, stored);
     let mut update = Vec::new(*out.allocator());
     put_brief(form, &stored.update, &mut update)?;
     let mut places = Vec::new(*out.allocator());

@@ -1,4 +1,5 @@
-//! Each update within the limits has a spelling.
+//! Each update within the limits has a spelling. The functions do nothing: a caller that names one
+//! may use what its contract says.
 
 ghost use Rattle.std.specs.Prelude.{◌≤◌, ◌*◌, length, IfSome};
 ghost use Rattle.std.specs.List.{AllByRecursion};
@@ -17,7 +18,7 @@ use ov_base::UserSet;
 use ov_fields::{known_name, known_tag, known_token, known_tokens};
 use ov_tokens::Token;
 
-fn is_token_or_none(token: &Option<Token>)
+fn known_token_or_none(token: &Option<Token>)
     ensures { IfSome token.now IsToken }
 {
     match token {
@@ -26,8 +27,8 @@ fn is_token_or_none(token: &Option<Token>)
     }
 }
 
-/// What holds of each update within the limits: it has a spelling.
-pub fn has_form<const W: usize>(form: Form<W>, update: &Update<W>)
+/// An update within the limits has a spelling.
+pub fn known_form<const W: usize>(form: Form<W>, update: &Update<W>)
     requires width { (1 ≤ W) × (W ≤ MAX_SET_WORDS) }
     requires limits { IsWithinLimits (form_of form) (sealed_update update.now) }
     ensures { HasForm (form_of form.entry) (sealed_update update.now) }
@@ -42,13 +43,13 @@ pub fn has_form<const W: usize>(form: Form<W>, update: &Update<W>)
             ..
         } => {
             known_name(name);
-            is_set(list);
+            known_set(list);
             known_tokens(tokens.as_slice());
             known_tag(tag);
         }
         Update::Grant { token, user, file } => {
             let _numbers = (*user, *file);
-            is_token_or_none(token);
+            known_token_or_none(token);
         }
         Update::Revoke { user, file } => {
             let _numbers = (*user, *file);
@@ -56,7 +57,7 @@ pub fn has_form<const W: usize>(form: Form<W>, update: &Update<W>)
     }
 }
 
-fn has_brief_form<const W: usize>(form: Form<W>, brief: &Brief<W>)
+fn known_brief_form<const W: usize>(form: Form<W>, brief: &Brief<W>)
     requires width { (1 ≤ W) × (W ≤ MAX_SET_WORDS) }
     requires limits { IsBriefWithinLimits (form_of form) (plain_brief brief.now) }
     ensures { HasBriefForm (form_of form.entry) (plain_brief brief.now) }
@@ -71,13 +72,13 @@ fn has_brief_form<const W: usize>(form: Form<W>, brief: &Brief<W>)
             ..
         } => {
             known_name(name);
-            is_set(list);
+            known_set(list);
             known_tokens(tokens.as_slice());
             known_tag(tag);
         }
         Brief::Grant { token, user, file } => {
             let _numbers = (*user, *file);
-            is_token_or_none(token);
+            known_token_or_none(token);
         }
         Brief::Revoke { user, file } => {
             let _numbers = (*user, *file);
@@ -85,22 +86,22 @@ fn has_brief_form<const W: usize>(form: Form<W>, brief: &Brief<W>)
     }
 }
 
-fn are_numbers(places: &[u32])
+fn known_numbers(places: &[u32])
     ensures { AllByRecursion IsNumber places.now }
 {}
 
-/// What holds of each record within the limits: it has a spelling.
-pub fn has_stored_form<const W: usize>(form: Form<W>, stored: &Stored<W>)
+/// A record within the limits has a spelling.
+pub fn known_stored_form<const W: usize>(form: Form<W>, stored: &Stored<W>)
     requires width { (1 ≤ W) × (W ≤ MAX_SET_WORDS) }
     requires limits { IsBriefWithinLimits (form_of form) (plain_brief stored.now.update) }
     ensures { HasStoredForm (form_of form.entry) (length stored.now.places)
         (plain_stored stored.now) }
 {
-    has_brief_form(form, &stored.update);
-    are_numbers(stored.places.as_slice());
+    known_brief_form(form, &stored.update);
+    known_numbers(stored.places.as_slice());
 }
 
-fn is_set<const W: usize>(set: &UserSet<W>)
+fn known_set<const W: usize>(set: &UserSet<W>)
     ensures { IsBelow (8 * (8 * W)) set.now }
 {
     let _ = set.contains(0);

@@ -7,7 +7,7 @@ ghost use Rattle.ov_record.specs.Forms.{form_of};
 ghost use Rattle.ov_record.specs.Updates.{sealed_update};
 
 use crate::pieces::{put_creation, put_grant, put_revocation};
-use crate::within::has_form;
+use crate::within::known_form;
 use crate::{Form, Update};
 use ov_base::Memory;
 use ov_fields::{append, put_name};
@@ -67,7 +67,7 @@ pub fn write<const W: usize>(
     // What is written can be read again.
     ensures form { HasForm (form_of form.entry) (sealed_update update.now) }
 {
-    has_form(form, update);
+    known_form(form, update);
     let mut front = Vec::new(*out.allocator());
     put_front(form, update, &mut front)?;
     append(&front, body(update), &[], out)

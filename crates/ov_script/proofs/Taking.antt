@@ -62,6 +62,14 @@ pub why_kept : {S : Type 0} (tells : SourceTells S) (room : ℕ) (a b : Fed S) (
     → IsWhyNone room (text_of tells b) ended → IsWhyNone room (text_of tells a) ended
 why_kept tells room a b more ended taken why = why_at room (text_of tells a) (text_of tells b) ended (text_kept tells a b more taken) why
 
+-- why there is no item in these bytes, whatever is left behind them, is why there was none before
+-- they were taken
+pub why_settled : {S : Type 0} (tells : SourceTells S) (room : ℕ) (a b : Fed S) (more bytes : List ℕ) (ended : Ended) → Takes tells a b more
+    → bytes ≡ b.pending → ((left : Option (List ℕ)) → IsWhyNone room (prepend_known bytes left) ended) → IsWhyNone room (text_of tells a) ended
+why_settled tells room a b more bytes ended taken is why =
+    why_kept tells room a b more ended taken
+    (subst (λ all. IsWhyNone room (prepend_known all (tells.left b.source)) ended) is (why (tells.left b.source)))
+
 -- nothing was taken
 pub none_taken : (old new more : List ℕ) → new ≡ old ++ more → length more ≡ 0 → new ≡ old
 none_taken old new [] e none = e ∙ append-nil old

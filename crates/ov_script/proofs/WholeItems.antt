@@ -9,7 +9,7 @@ use Rattle.ov_script.specs.declared.find.Line.{Line}
 use Rattle.ov_script.specs.declared.first_line.FirstLine.TheVariants.{Whole, WithBody}
 use Rattle.ov_script.specs.declared.item.Item.{Item}
 use Rattle.ov_script.specs.Feed.{Fed, Uses, Takes, text_of}
-use Rattle.ov_script.specs.Finding.{Finds, Creates, Tells, IsBadBody, cut, no_lf, IsWhyNoBody, NeedsPieces, TakesBelow}
+use Rattle.ov_script.specs.Finding.{Finds, Creates, Tells, IsBadBody, cut, no_lf, IsWhyNoBody, NeedsPieces, TakesBelow, UsesLine}
 use Rattle.ov_script.specs.ItemLines.{SaysLine}
 use Rattle.ov_script.specs.Items.{BeginsWithItem, CanBegin}
 use Rattle.ov_script.specs.LineFeeds.{lf_count}
@@ -78,83 +78,95 @@ drop_line bytes line rest size count e =
     let n : length (line ++ 10 ∷ []) ≡ size = length-append line (10 ∷ []) ∙ count in
     ap (drop size) (e ∙ sym (append_assoc line (10 ∷ []) rest)) ∙ ap (λ n. drop n ((line ++ 10 ∷ []) ++ rest)) (sym n) ∙ drop-append_seam (line ++ 10 ∷ []) rest
 
-module _ {S : Type 0} (tells : SourceTells S) (room : ℕ) (a b m : Fed S) (more : List ℕ) (line : Line) (taken : Takes tells a b more)
-    (found : Finds room b.pending (tells.left b.source) (Ok line)) (used : m ≡ record { source = b.source; pending = drop line.size b.pending }) where
-  pub line_used : m.source ≡ b.source
-  line_used = ap (λ (f : Fed S). f.source) used
-
-  uses_line : Uses tells a m (found.0 ++ 10 ∷ [])
-  uses_line =
-      let rest : m.pending ≡ found.1 = ap (λ (f : Fed S). f.pending) used ∙ drop_line b.pending found.0 found.1 line.size found.4 found.6 in
+-- the line that was found, behind what was taken, is used
+pub line_used : {S : Type 0} (tells : SourceTells S) (room : ℕ) (a b m : Fed S) (more : List ℕ) (line : Line) → Takes tells a b more
+    → Finds room b.pending (tells.left b.source) (Ok line) → m ≡ record { source = b.source; pending = drop line.size b.pending }
+    → NeedsPieces tells room a b more → UsesLine tells room a m (Ok line)
+line_used {S} tells room a b m more line taken found used pieces =
+    let same : m.source ≡ b.source = ap (λ (f : Fed S). f.source) used in
+    let rest : m.pending ≡ found.1 = ap (λ (f : Fed S). f.pending) used ∙ drop_line b.pending found.0 found.1 line.size found.4 found.6 in (
+      found.0,
+      found.2,
+      found.3,
+      found.4,
+      found.5,
       record {
         more = more;
-        source = subst (λ s. Consumes (tells.left a.source) (tells.left s) more) (sym line_used) taken.source;
+        source = subst (λ s. Consumes (tells.left a.source) (tells.left s) more) (sym same) taken.source;
         pending = sym taken.pending ∙ found.6 ∙ sym (append_assoc found.0 (10 ∷ []) found.1) ∙ ap (λ r. (found.0 ++ 10 ∷ []) ++ r) (sym rest);
-      }
+      },
+      pieces_same tells (λ seen. IsUnsettled room (a.pending ++ seen)) a.source b.source m.source more same pieces,
+    )
 
+-- the line is there in what was found
+pub line_within : {S : Type 0} (tells : SourceTells S) (room : ℕ) (b : Fed S) (line : Line)
+    → Finds room b.pending (tells.left b.source) (Ok line) → line.size ≤ length b.pending
+line_within tells room b line found =
+    let whole : length b.pending ≡ length found.0 + suc (length found.1) = ap length found.6 ∙ length-append found.0 (10 ∷ found.1) in
+    let size : length found.0 + 1 ≡ line.size = found.4 in
+    omega arith
+
+module _ {S : Type 0} (tells : SourceTells S) (room : ℕ) (a m : Fed S) (line : Line) (found : UsesLine tells room a m (Ok line)) where
   -- a whole item
   pub tells_line : (item : Item) → line.said ≡ Whole item.command → item.size ≡ line.size → item.lines ≡ 1 → Tells tells room a m (Ok item)
   tells_line item is size_is lines_is =
-      let says = subst (SaysLine found.0) is found.3 in
-      let count : length (found.0 ++ 10 ∷ []) ≡ line.size = length-append found.0 (10 ∷ []) ∙ found.4 in
-      (found.0 ++ 10 ∷ [], item_from found.0 [] (Whole item.command) item.command says (refl, refl), count ∙ sym size_is, subst (λ n. n ≤ room) (sym size_is) found.5, lf_count-line found.0 [] found.2 ∙ sym lines_is, uses_line)
+      let says = subst (SaysLine found.0) is found.2 in
+      let count : length (found.0 ++ 10 ∷ []) ≡ line.size = length-append found.0 (10 ∷ []) ∙ found.3 in
+      (found.0 ++ 10 ∷ [], item_from found.0 [] (Whole item.command) item.command says (refl, refl), count ∙ sym size_is, subst (λ n. n ≤ room) (sym size_is) found.4, lf_count-line found.0 [] found.1 ∙ sym lines_is, found.5)
 
   -- an item with a body
   module _ (file : List ℕ) (names : List (List ℕ)) (body : ℕ) (is : line.said ≡ WithBody file names body) (c : Fed S) where
     says_body : SaysLine found.0 (WithBody file names body)
-    says_body = subst (SaysLine found.0) is found.3
+    says_body = subst (SaysLine found.0) is found.2
 
     fits : length found.0 + 1 ≤ room
-    fits = subst (λ n. n ≤ room) (sym found.4) found.5
+    fits = subst (λ n. n ≤ room) (sym found.3) found.4
 
     -- why there is no body is why there is no item
     no_item : (ended : Ended) → IsWhyNoBody (room - line.size) body (text_of tells m) ended → IsWhyNone room (text_of tells a) ended
     no_item End p = absurd p
     no_item Bad p = fact_behind (IsBad room) (IsBadBody (room - line.size) body) (text_of tells a) (text_of tells m) (found.0 ++ 10 ∷ [])
         (λ text bad. subst (IsBad room) (sym (append_assoc found.0 (10 ∷ []) text))
-        (bad_body found.0 file names body room says_body fits text (subst (λ n. IsBadBody (room - n) body text) (sym found.4) bad)))
-        (text_used tells a m (found.0 ++ 10 ∷ []) uses_line) p
+        (bad_body found.0 file names body room says_body fits text (subst (λ n. IsBadBody (room - n) body text) (sym found.3) bad)))
+        (text_used tells a m (found.0 ++ 10 ∷ []) found.5) p
     no_item Long p = fact_behind (IsTooLong room) (λ text. (room - line.size < length text) × (room - line.size ≤ body)) (text_of tells a) (text_of tells m) (found.0 ++ 10 ∷ [])
         (λ text long. subst (IsTooLong room) (sym (append_assoc found.0 (10 ∷ []) text))
         (long_body found.0 file names body room says_body fits text
-        (subst (λ n. room - n < length text) (sym found.4) long.0) (subst (λ n. room - n ≤ body) (sym found.4) long.1)))
-        (text_used tells a m (found.0 ++ 10 ∷ []) uses_line) p
+        (subst (λ n. room - n < length text) (sym found.3) long.0) (subst (λ n. room - n ≤ body) (sym found.3) long.1)))
+        (text_used tells a m (found.0 ++ 10 ∷ []) found.5) p
     no_item (Fault fault) p = tt
 
     pub tells_created : (result : Result Item Ended) → Creates tells room (file, names) line.size body m c result → Tells tells room a c result
     tells_created (Ok item) (bytes, e, n, total, within, lfs, uses) =
-        let size_is : length found.0 + 1 ≡ line.size = found.4 in
+        let size_is : length found.0 + 1 ≡ line.size = found.3 in
         let tail : length (bytes ++ 10 ∷ []) ≡ length bytes + 1 = length-append bytes (10 ∷ []) in
         let whole : length (found.0 ++ 10 ∷ (bytes ++ 10 ∷ [])) ≡ length found.0 + suc (length (bytes ++ 10 ∷ [])) = length-append found.0 (10 ∷ (bytes ++ 10 ∷ [])) in
         let lf_tail : lf_count (bytes ++ 10 ∷ []) ≡ lf_count bytes + 1 = lf_count-append bytes (10 ∷ []) in
-        let lf_all : lf_count (found.0 ++ 10 ∷ (bytes ++ 10 ∷ [])) ≡ 1 + lf_count (bytes ++ 10 ∷ []) = lf_count-line found.0 (bytes ++ 10 ∷ []) found.2 in
+        let lf_all : lf_count (found.0 ++ 10 ∷ (bytes ++ 10 ∷ [])) ≡ 1 + lf_count (bytes ++ 10 ∷ []) = lf_count-line found.0 (bytes ++ 10 ∷ []) found.1 in
         let lf_is : item.lines ≡ lf_count bytes + 2 = lfs in (
           found.0 ++ 10 ∷ (bytes ++ 10 ∷ []),
           item_from found.0 (bytes ++ 10 ∷ []) (WithBody file names body) item.command says_body (bytes, n, refl, e),
           omega arith,
           within,
           omega arith,
-          subst (Uses tells a c) (append_assoc found.0 (10 ∷ []) (bytes ++ 10 ∷ [])) (uses_trans tells a m c (found.0 ++ 10 ∷ []) (bytes ++ 10 ∷ []) uses_line uses),
+          subst (Uses tells a c) (append_assoc found.0 (10 ∷ []) (bytes ++ 10 ∷ [])) (uses_trans tells a m c (found.0 ++ 10 ∷ []) (bytes ++ 10 ∷ []) found.5 uses),
         )
     tells_created (Err ended) p = no_item ended p
 
     pub sized_created : (result : Result Item Ended) → Creates tells room (file, names) line.size body m c result → IfOk result (λ item. (0 < item.size) × (item.lines ≤ item.size))
     sized_created (Ok item) (bytes, e, n, total, within, lfs, uses) =
-        let size_is : length found.0 + 1 ≡ line.size = found.4 in
+        let size_is : length found.0 + 1 ≡ line.size = found.3 in
         let few : lf_count bytes ≤ length bytes = lf_count-within bytes in
         (omega arith, omega arith)
     sized_created (Err ended) p = tt
 
-    pub needed_created : (E F : Type 0) → NeedsPieces tells room a b more
-        → TakesBelow tells (min (room - line.size) body + 1) m.pending E F m.source c.source → TakesWhatItNeeds tells room a.pending E F a.source c.source
-    unfolding uses_line
-    needed_created E F before after' =
+    pub needed_created : (E F : Type 0) → TakesBelow tells (min (room - line.size) body + 1) m.pending E F m.source c.source → TakesWhatItNeeds tells room a.pending E F a.source c.source
+    needed_created E F after' =
         while_behind tells (λ seen. IsUnsettled room (a.pending ++ seen)) (λ seen. length (m.pending ++ seen) < min (room - line.size) body + 1) E F
-        a.source m.source c.source more wider (pieces_same tells (λ seen. IsUnsettled room (a.pending ++ seen)) a.source b.source m.source more line_used before) after' where
-          wider : (seen : List ℕ) → length (m.pending ++ seen) < min (room - line.size) body + 1 → IsUnsettled room (a.pending ++ (more ++ seen))
+        a.source m.source c.source found.5.more wider found.6 after' where
+          wider : (seen : List ℕ) → length (m.pending ++ seen) < min (room - line.size) body + 1 → IsUnsettled room (a.pending ++ (found.5.more ++ seen))
           wider seen small =
-              let u = uses_line in
-              let whole : a.pending ++ (more ++ seen) ≡ found.0 ++ 10 ∷ (m.pending ++ seen) =
-              sym (append_assoc a.pending more seen) ∙ ap (λ l. l ++ seen) u.pending ∙ append_assoc (found.0 ++ 10 ∷ []) m.pending seen ∙ append_assoc found.0 (10 ∷ []) (m.pending ++ seen) in
+              let whole : a.pending ++ (found.5.more ++ seen) ≡ found.0 ++ 10 ∷ (m.pending ++ seen) =
+              sym (append_assoc a.pending found.5.more seen) ∙ ap (λ l. l ++ seen) found.5.pending ∙ append_assoc (found.0 ++ 10 ∷ []) m.pending seen ∙ append_assoc found.0 (10 ∷ []) (m.pending ++ seen) in
               subst (IsUnsettled room) (sym whole) (unsettled_body found.0 file names body room says_body fits (m.pending ++ seen)
-              (subst (λ n. length (m.pending ++ seen) < min (room - n) body + 1) (sym found.4) small))
+              (subst (λ n. length (m.pending ++ seen) < min (room - n) body + 1) (sym found.3) small))

@@ -41,7 +41,7 @@ pub record IsOpen (room : ℕ) (bytes : List ℕ) : Type 0 where
   pub short : length bytes < MAX_LINE_BYTES
   pub unsettled : IsUnsettled room bytes
 
--- It is known what is there whatever is left behind the bytes, or their line may go on.
+-- What is there is known, whatever is left behind the bytes, or their line may go on.
 abbrev pub IsSettled : ℕ → List ℕ → Result Seen Ended → Type 0
 IsSettled room bytes (Ok (Whole line)) = (left : Option (List ℕ)) → Finds room bytes left (Ok line)
 IsSettled room bytes (Ok (Open front)) = (front ≡ run Start bytes) × IsOpen room bytes
@@ -69,6 +69,16 @@ abbrev pub NeedsPieces : {S : Type 0} → SourceTells S → ℕ → Fed S → Fe
 NeedsPieces tells room old new more =
     TakesPieces tells (λ seen. IsUnsettled room (old.pending ++ seen))
     old.source new.source more
+
+-- This line of an item and its LF were used, which may be read, and those of their bytes that
+-- weren't pending were taken in pieces, while it was unsettled what item was there; or there is no
+-- item.
+abbrev pub UsesLine : {S : Type 0} → SourceTells S → ℕ → Fed S → Fed S → Result Line Ended → Type 0
+UsesLine tells room old new (Ok found) =
+    (line : List ℕ) × NoLf line × SaysLine line found.said
+    × (length line + 1 ≡ found.size) × (found.size ≤ room)
+    × (uses : Uses tells old new (line ++ 10 ∷ [])) × NeedsPieces tells room old new uses.more
+UsesLine tells room old new (Err ended) = IsWhyNone room (text_of tells old) ended
 
 -- A body of this many bytes and its LF were used, which may be read; or there is none.
 abbrev pub Gathers : {S : Type 0} → SourceTells S → ℕ → ℕ → Fed S → Fed S

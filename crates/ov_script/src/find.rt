@@ -3,8 +3,7 @@ ghost use Rattle.std.specs.Prelude.{◌≡◌, ◌≢◌, ℕ, List, Option, ◌
 ghost use Rattle.std.specs.Io.KnownBytes.{IsAtEnd, prepend_known};
 ghost use Rattle.ov_io.specs.Calls.{IsCallOf};
 ghost use Rattle.ov_script.specs.declared.front.Front.TheVariants.{Start};
-ghost use Rattle.ov_script.specs.Feed.{Takes};
-ghost use Rattle.ov_script.specs.Finding.{Finds, IsSettled, NeedsPieces};
+ghost use Rattle.ov_script.specs.Finding.{Finds, IsSettled, UsesLine};
 ghost use Rattle.ov_script.specs.LineFeeds.{NoLf};
 ghost use Rattle.ov_script.specs.LineEnds.{may_go_on};
 ghost use Rattle.ov_script.specs.LineFronts.{run};
@@ -147,11 +146,9 @@ fn at_end(count: usize) -> Ended
 }
 
 /// Takes bytes until it is known what is at the front of the text, of which `room` bytes may be
-/// read.
+/// read, and uses the line that is there.
 pub fn find<S: Source + Drop>(feed: &mut Feed<S>, room: usize) -> Result<Line, Ended>
-    ensures found { Finds room feed.new.pending (S.tells.left feed.new.source) result }
-    ensures taken { (more : List ℕ) × Takes S.tells feed.old feed.new more
-        × IfOk result (λ _. NeedsPieces S.tells room feed.old feed.new more) }
+    ensures found { UsesLine S.tells room feed.old feed.new result }
     ensures needed { TakesWhatItNeeds S.tells room feed.old.pending
         (IsErr result) (IsReadFault result) feed.old.source feed.new.source }
     ensures call { IsCallOf S.tells (IsReadFault result) feed.old.source feed.new.source }
@@ -162,7 +159,10 @@ pub fn find<S: Source + Drop>(feed: &mut Feed<S>, room: usize) -> Result<Line, E
     'pieces: loop {
         let bytes = feed.pending();
         match settled(bytes, seen, front, room, alloc)? {
-            Seen::Whole(line) => return Ok(line),
+            Seen::Whole(line) => {
+                feed.advance(line.size);
+                return Ok(line);
+            }
             Seen::Open(open) => {
                 front = open;
                 seen = bytes.len();

@@ -11,7 +11,7 @@ ghost use Rattle.ov_script.specs.LineFeeds.{Lacks};
 
 use crate::command::Command;
 use crate::list::list_of;
-use crate::words::{behind, size_of_digits, split, two_names};
+use crate::words::{size_of_digits, split, two_names};
 use ov_base::limits::MAX_LINE_BYTES;
 use ov_base::{Memory, Name, Names};
 use std::alloc::Global;
@@ -27,6 +27,14 @@ pub enum FirstLine {
         list: Names,
         size: usize,
     },
+}
+
+// What follows the word.
+fn behind<'a>(line: &'a [u8], word: &[u8]) -> Option<&'a [u8]>
+    ensures found { IfSome result (λ rest. line.now ≡ word.now ++ rest.now) }
+    ensures none { IfNone result ((rest : List ℕ) → line.now ≡ word.now ++ rest → ⊥) }
+{
+    line.strip_prefix(word)
 }
 
 fn enrol(line: &[u8]) -> Option<Command>

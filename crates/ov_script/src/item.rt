@@ -1,17 +1,14 @@
-//! What item is at the front of a text.
-ghost use Rattle.std.specs.Prelude.{◌≡◌, ◌+◌, ◌-◌, min, ◌≤◌, ◌<◌, length, IfOk, IsErr};
+//! A whole item, and the one of a `create`.
+ghost use Rattle.std.specs.Prelude.{◌≡◌, ◌+◌, ◌-◌, min, ◌≤◌, length, IsErr};
 ghost use Rattle.ov_io.specs.Calls.{IsCallOf};
-ghost use Rattle.ov_script.specs.Finding.{Tells, Creates, TakesBelow};
+ghost use Rattle.ov_script.specs.Finding.{Creates, TakesBelow};
 ghost use Rattle.ov_script.specs.LineFeeds.{lf_count};
-ghost use Rattle.ov_script.specs.Taking.{TakesWhatItNeeds};
 ghost use Rattle.ov_script.specs.NoItem.{IsReadFault};
 
 use crate::body::body_of;
 use crate::command::Command;
 use crate::ended::Ended;
 use crate::feed::Feed;
-use crate::find::{Line, find};
-use crate::first_line::FirstLine;
 use ov_base::{Name, Names, Octets};
 use ov_io::Source;
 
@@ -40,8 +37,8 @@ fn lf_count(bytes: &[u8]) -> usize
     count
 }
 
-// The item of a `create`, whose line of `line` bytes was used.
-fn create<S: Source + Drop>(
+/// The item of a `create`, whose line of `line` bytes was used.
+pub fn create<S: Source + Drop>(
     feed: &mut Feed<S>,
     room: usize,
     names: (Name, Names),
@@ -66,28 +63,4 @@ fn create<S: Source + Drop>(
         size: line + size + 1,
         lines,
     })
-}
-
-/// Uses the item that is at the front of the text, of which `room` bytes may be read.
-pub fn item_of<S: Source + Drop>(feed: &mut Feed<S>, room: usize) -> Result<Item, Ended>
-    ensures found { Tells S.tells room feed.old feed.new result }
-    ensures size { IfOk result (λ item. (0 < item.size) × (item.lines ≤ item.size)) }
-    ensures needed { TakesWhatItNeeds S.tells room feed.old.pending
-        (IsErr result) (IsReadFault result) feed.old.source feed.new.source }
-    ensures call { IsCallOf S.tells (IsReadFault result) feed.old.source feed.new.source }
-{
-    let Line { said, size } = find(feed, room)?;
-    feed.advance(size);
-    match said {
-        FirstLine::Whole(command) => Ok(Item {
-            command,
-            size,
-            lines: 1,
-        }),
-        FirstLine::WithBody {
-            file,
-            list,
-            size: body,
-        } => create(feed, room, (file, list), size, body),
-    }
 }

@@ -3,7 +3,7 @@ ghost use Rattle.std.specs.Prelude.{◌≡◌, ◌+◌, ◌<◌, ◌≤◌, [], 
 ghost use Rattle.std.specs.Option.{option_map};
 ghost use Rattle.ov_base.specs.declared.limits.TheConstants.{MAX_SCRIPT_BYTES};
 ghost use Rattle.ov_io.specs.Calls.{IsCallOf};
-ghost use Rattle.ov_script.specs.Finding.{Gives};
+ghost use Rattle.ov_script.specs.Finding.{Gives, Tells};
 ghost use Rattle.ov_script.specs.NoItem.{IsReadFault};
 ghost use Rattle.ov_script.specs.Place.{Place, start, answer_of, PlaceGoesOn};
 ghost use Rattle.ov_script.specs.Saying.{SaysOf, IfCommand, IsOfItem};
@@ -12,7 +12,9 @@ ghost use Rattle.ov_script.specs.Taking.{EndsReading, IsFreshFault, TakesWhatItN
 use crate::command::Command;
 use crate::ended::Ended;
 use crate::feed::{Buffer, Feed};
-use crate::item::item_of;
+use crate::find::{Line, find};
+use crate::first_line::FirstLine;
+use crate::item::{Item, create};
 use crate::next::{Next, ScriptFault};
 use ov_base::Memory;
 use ov_base::limits::MAX_SCRIPT_BYTES;
@@ -41,6 +43,29 @@ impl<S> Model for Script<S> {
     } };
 
     ghost invariant = { λ s. s.line + s.room ≤ MAX_SCRIPT_BYTES + 1 };
+}
+
+// Uses the item that is at the front of the text, of which `room` bytes may be read.
+fn item_of<S: Source + Drop>(feed: &mut Feed<S>, room: usize) -> Result<Item, Ended>
+    ensures found { Tells S.tells room feed.old feed.new result }
+    ensures size { IfOk result (λ item. (0 < item.size) × (item.lines ≤ item.size)) }
+    ensures needed { TakesWhatItNeeds S.tells room feed.old.pending
+        (IsErr result) (IsReadFault result) feed.old.source feed.new.source }
+    ensures call { IsCallOf S.tells (IsReadFault result) feed.old.source feed.new.source }
+{
+    let Line { said, size } = find(feed, room)?;
+    match said {
+        FirstLine::Whole(command) => Ok(Item {
+            command,
+            size,
+            lines: 1,
+        }),
+        FirstLine::WithBody {
+            file,
+            list,
+            size: body,
+        } => create(feed, room, (file, list), size, body),
+    }
 }
 
 impl<S: Source + Drop> Script<S> {

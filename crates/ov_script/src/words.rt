@@ -9,14 +9,6 @@ use crate::front::Front;
 use memchr::memchr;
 use ov_base::Name;
 
-/// What follows the word.
-pub fn behind<'a>(line: &'a [u8], word: &[u8]) -> Option<&'a [u8]>
-    ensures found { IfSome result (λ rest. line.now ≡ word.now ++ rest.now) }
-    ensures none { IfNone result ((rest : List ℕ) → line.now ≡ word.now ++ rest → ⊥) }
-{
-    line.strip_prefix(word)
-}
-
 /// What is before the first such byte, and behind it.
 pub fn split(text: &[u8], byte: u8) -> Option<(&[u8], &[u8])>
     ensures found { IfSome result (λ p. Lacks byte p.0.now

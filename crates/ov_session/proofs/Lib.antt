@@ -1,5 +1,6 @@
 pub mod Answering
 pub mod Doors
+pub mod Filling
 pub mod Going
 pub mod Inputs
 pub mod Mapping

@@ -3,9 +3,7 @@ use Rattle.std.proofs.Common.{◌≡◌, ◌∙◌, ℕ, ◌+◌, ◌<◌, ◌�
 use Rattle.std.specs.Prelude.{◌⊎◌, Option, Result}
 use Rattle.std.specs.Io.KnownBytes.{Appends, Consumes, Keeps}
 use Rattle.std.proofs.KnownBytes.{Consumes-kept, Consumes-nil, Consumes-trans}
-use Rattle.std.proofs.Math.Seq.{take-append-add}
-use Rattle.std.proofs.lemmas.List.{length-take-le, take-append-le, take_all}
-use borrow.Rule.Slice.PartMut.{put_mid, post_of}
+use Rattle.std.proofs.lemmas.List.{length-take-le, take_all}
 use Rattle.ov_base.specs.declared.limits.TheConstants.{MAX_FRAME_BYTES}
 use Rattle.ov_base.specs.Causes.{Rose}
 use Rattle.ov_fields.specs.Spelling.{u32}
@@ -18,15 +16,7 @@ use Rattle.ov_session.specs.Reading.{ExchangesOrFails, FailsReading, Fills, IsRe
 use Rattle.ov_session.specs.Replies.{Breaks, LinkFails}
 use Rattle.ov_session.specs.Steps.{PutsFrame}
 
--- what was put into the middle of a list follows its front
-pub take_put : (a k n : ℕ) (xs ys : List ℕ) → a ≤ length xs → n ≤ length ys
-    → take (a + n) (put_mid a k xs ys) ≡ take a xs ++ take n ys
-take_put a k n xs ys within fits =
-    ap (λ (m : ℕ). take (m + n) (put_mid a k xs ys)) (sym (length-take-le a xs within))
-    ∙ take-append-add (take a xs) (ys ++ post_of a k xs) n
-    ∙ ap (λ (l : List ℕ). take a xs ++ l) (take-append-le n ys (post_of a k xs) fits)
-
-pub reads_on : (a b c : Link) (xs ys : List ℕ) → Reads a b xs → Reads b c ys → Reads a c (xs ++ ys)
+reads_on : (a b c : Link) (xs ys : List ℕ) → Reads a b xs → Reads b c ys → Reads a c (xs ++ ys)
 reads_on a b c xs ys one two = record {
   read = Consumes-trans a.left b.left c.left xs ys one.read two.read;
   written = two.written ∙ one.written;

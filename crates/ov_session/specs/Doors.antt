@@ -15,9 +15,9 @@ pub record Given (S : Type 0) : Type 0 where
   pub stream : S
   pub back : Option (Back S)
 
--- what a door shows: the address at which it listens, where it tells that; the streams that it gave,
--- where it tells them; their number; whether it has answered that there are no more; and how often
--- it has failed
+-- what a door shows: the address at which it listens, where it tells that; the streams that it
+-- gave, where it tells them; their number; whether it has answered that there are no more; and how
+-- often it has failed
 pub record Doorway (S : Type 0) : Type 0 where
   pub listens_at : Option (List ℕ)
   pub told : Option (List (Given S))

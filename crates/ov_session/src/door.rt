@@ -10,9 +10,9 @@ pub trait Door {
     /// The streams that the door gives.
     type Stream: Stream + Drop;
 
-    /// What the door shows: the address at which it listens, and the streams that it gave and took back,
-    /// where it tells these; the number of the streams; whether it has answered that there are no
-    /// more; and how often it has failed.
+    /// What the door shows: the address at which it listens, and the streams that it gave and took
+    /// back, where it tells these; the number of the streams; whether it has answered that there
+    /// are no more; and how often it has failed.
     ghost shows: { Self → Doorway Self.Stream };
 
     /// Begins to listen, and appends the address at which it listens.

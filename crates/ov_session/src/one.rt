@@ -50,16 +50,14 @@ impl Reading {
         ensures { IfOk result (λ r.
             (r.decoder ≡ record { start = 0; rest = []; bad = false }) × (r.taken ≡ 0)) }
     {
-        match Decoder::new(alloc) {
-            Ok(decoder) => Ok(Reading {
-                alloc,
-                decoder,
-                reply: Vec::new(alloc),
-                taken: 0,
-                asked: 0,
-            }),
-            Err(memory) => Err(memory),
-        }
+        let decoder = Decoder::new(alloc)?;
+        Ok(Reading {
+            alloc,
+            decoder,
+            reply: Vec::new(alloc),
+            taken: 0,
+            asked: 0,
+        })
     }
 
     /// How the session ends where the input does.

@@ -10,7 +10,7 @@ ghost use Rattle.ov_session.specs.Replies.{Breaks, CountsFault, Exchanges};
 use crate::putting::put_frame;
 use ov_base::Memory;
 use ov_base::limits::MAX_FRAME_BYTES;
-use ov_io::{Fault, Stream};
+use ov_io::{Fault, Stream, fill};
 use ov_peer::{Peer, PeerFault};
 
 /// A server behind a stream: each request is written to it, and the next frame that comes is the
@@ -52,25 +52,14 @@ impl<L: Stream + Drop> NetPeer<L> {
 }
 
 /// Takes bytes until all of `buf` is filled or the input ends, and answers how many.
-fn fill<L: Stream>(stream: &mut L, buf: &mut [u8]) -> Result<usize, Fault>
+fn take_into<L: Stream>(stream: &mut L, buf: &mut [u8]) -> Result<usize, Fault>
     ensures fills { FillsUp
         (link L.Source.tells L.Sink.tells stream.old) (link L.Source.tells L.Sink.tells stream.new)
         buf.new result }
     ensures len { length buf.new ≡ length buf.old }
     ensures same { IsSameLoan L.Source.tells L.Sink.tells stream.old stream.new }
 {
-    let mut at = 0;
-    while at < buf.len() {
-        let count = match stream.take(&mut buf[at..]) {
-            Ok(count) => count,
-            Err(Fault) => return Err(Fault),
-        };
-        if count == 0 {
-            return Ok(at);
-        }
-        at += count;
-    }
-    Ok(at)
+    fill(stream, buf)
 }
 
 /// The number in a length field.
@@ -90,7 +79,7 @@ fn take_length<L: Stream>(stream: &mut L) -> Result<usize, Fault>
     ensures same { IsSameLoan L.Source.tells L.Sink.tells stream.old stream.new }
 {
     let mut head = [0; 4];
-    let count = match fill(stream, &mut head) {
+    let count = match take_into(stream, &mut head) {
         Ok(count) => count,
         Err(Fault) => return Err(Fault),
     };
@@ -120,7 +109,7 @@ fn take_body<L: Stream>(stream: &mut L, wanted: usize, reply: &mut Vec<u8>) -> R
         Ok(()) => {}
         Err(_) => return Err(PeerFault::Memory),
     }
-    match fill(stream, reply.as_mut_slice()) {
+    match take_into(stream, reply.as_mut_slice()) {
         Ok(count) => {
             if count < wanted {
                 return Err(PeerFault::Link);

@@ -44,27 +44,6 @@ fn root_in<B: Graph<Base, W>, const W: usize>(layer: &BaseLayer<B, W>, user: u32
 }
 
 impl<B: Graph<Base, W>, S: Graph<Surface, W>, const W: usize> State<B, S, W> {
-    /// The number of the user of this name, or one past the last.
-    fn user_or_next(&self, name: &Name) -> u32
-        ensures { result ≡ user_named self.now.catalogue name.now }
-    {
-        self.known();
-        match self.user_number(name) {
-            Some(user) => user,
-            None => self.users.len() as u32,
-        }
-    }
-
-    /// The number of the file of this name, or one past the last.
-    fn file_or_next(&self, name: &Name) -> u32
-        ensures { result ≡ file_named self.now.catalogue name.now }
-    {
-        match self.file_number(name) {
-            Some(file) => file,
-            None => self.files.count(),
-        }
-    }
-
     /// What is told of a user.
     pub fn told_of_user(&self, user: u32) -> Asked
         requires { user < length self.now.catalogue.users }
@@ -87,10 +66,12 @@ impl<B: Graph<Base, W>, S: Graph<Surface, W>, const W: usize> State<B, S, W> {
         requires file { is_some (living_at self.now.catalogue.files file) ≡ true }
         ensures { numbers_of result ≡ of_both self.now.catalogue user file }
     {
-        let mut asked = self.told_of_user(user);
-        asked.file = file;
-        asked.node = self.entry(file).node;
-        asked
+        let node = self.entry(file).node;
+        Asked {
+            file,
+            node,
+            ..self.told_of_user(user)
+        }
     }
 
     /// What is told of a user who is to be enrolled: which numbers the user and both roots will

@@ -1,6 +1,7 @@
 //! What a state answers of its catalogue.
 ghost use Rattle.std.specs.Prelude.{◌≡◌, ◌<◌, ◌*◌, length, option_map, slice_get};
 ghost use Rattle.std.specs.Option.{option_copied};
+ghost use Rattle.ov_history.specs.Asking.{file_named, user_named};
 ghost use Rattle.ov_history.specs.Catalogue.{filed_at, matrix_shown, outline, place_of_file};
 ghost use Rattle.ov_history.specs.Layers.{list_at};
 ghost use Rattle.ov_history.specs.Lists.{file_names};
@@ -89,11 +90,32 @@ impl<B: Graph<Base, W>, S: Graph<Surface, W>, const W: usize> State<B, S, W> {
         }
     }
 
+    /// The number of the user of this name, or one past the last.
+    pub(crate) fn user_or_next(&self, name: &Name) -> u32
+        ensures { result ≡ user_named self.now.catalogue name.now }
+    {
+        self.known();
+        match self.user_number(name) {
+            Some(user) => user,
+            None => self.users.len() as u32,
+        }
+    }
+
     /// The number of the file of this name.
     pub fn file_number(&self, name: &Name) -> Option<u32>
         ensures { IsNumber (file_names (matrix_shown self.now.catalogue).files) name.now result }
     {
         self.files.number_of(name)
+    }
+
+    /// The number of the file of this name, or one past the last.
+    pub(crate) fn file_or_next(&self, name: &Name) -> u32
+        ensures { result ≡ file_named self.now.catalogue name.now }
+    {
+        match self.file_number(name) {
+            Some(file) => file,
+            None => self.files.count(),
+        }
     }
 
     /// The name of the user of this number.

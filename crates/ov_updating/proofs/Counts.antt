@@ -1,10 +1,10 @@
 -- Extents that are counted, and extents that are told apart by their first blocks.
-use Rattle.std.proofs.Common.{◌≡◌, ◌⊎◌, inl, inr, ℕ, zero, suc, ◌+◌, ◌<◌, ◌≤◌, List, [], ◌∷◌, ◌++◌, length, refl, sym, ◌∙◌, ap, subst, arith}
+use Rattle.std.proofs.Common.{◌≡◌, ◌⊎◌, inl, inr, ℕ, zero, suc, ◌+◌, ◌<◌, ◌≤◌, List, [], ◌∷◌, length, refl, sym, ◌∙◌, ap, subst, arith}
 use Rattle.std.specs.Prelude.{Bool, true, false, ◌==◌, ◌&&◌, Contains, Option, Some, None, is_some, slice_index_or}
 use Rattle.std.proofs.lemmas.Bool.{eq-eqb, eqb-true, false≢true}
 use Rattle.std.proofs.lemmas.Bool.Decides.{eqb_tells}
 use Rattle.ov_graph.proofs.ListLaws.{Contains-cases, Contains-first, Contains-later, Contains-none}
-use Rattle.ov_blocks.specs.Extents.{AreApart, blocks_of}
+use Rattle.ov_blocks.specs.Extents.{AreApart}
 use Rattle.ov_blocks.specs.declared.extents.Extent.{Extent}
 use Rattle.ov_moves.proofs.Held.{begins}
 use Rattle.ov_history.proofs.ChangeLaws.{below_some}
@@ -14,7 +14,7 @@ use Rattle.ov_history.specs.Rewrites.{length_left}
 use Rattle.ov_history.specs.Texts.{lengths_of}
 use Rattle.ov_images.specs.Extents.{extent_at, extents_of}
 use Rattle.ov_updating.specs.Counting.{CountsAreEnough, HaveAsMany, HeldAreCounted, passing}
-use Rattle.ov_updating.proofs.Using.{IsOfFile, extent, in_use, of_file}
+use Rattle.ov_updating.proofs.Using.{extent, in_use, of_file}
 
 -- ---- a test that passes
 

@@ -10,7 +10,7 @@ use Rattle.ov_blocks.specs.declared.extents.Extent.{Extent}
 use Rattle.ov_blocks.specs.declared.extents.TheConstants.{BLOCK_BYTES}
 use Rattle.ov_moves.specs.Placing.{GoToFree}
 use Rattle.ov_moves.specs.Rewriting.{StandsAfter, StandsAsBefore, StandsForEither}
-use Rattle.ov_moves.specs.Rewriting.{LastsWith as MovesLastWith}
+use Rattle.ov_moves.specs.Rewriting.{LastsWith}
 use Rattle.ov_moves.specs.declared.moves.Move.{Move}
 use Rattle.ov_fields.specs.Spelling.{u32}
 use Rattle.ov_record.specs.Updates.{SealedUpdate}
@@ -31,7 +31,7 @@ use Rattle.ov_images.proofs.Keeping.{keeps_more, keeps_same}
 use Rattle.ov_recoat.specs.Recoats.{recoated}
 use Rattle.ov_updating.specs.Files.{files_of, firsts_of}
 use Rattle.ov_updating.specs.Recording.{body_with}
-use Rattle.ov_updating.specs.Updating.{Asked, CanGoOn, KeepsItOrMore, KeepsMore, LastsWith}
+use Rattle.ov_updating.specs.Updating.{Asked, CanGoOn, KeepsOneOfBoth, KeepsItOrMore, KeepsMore, UpdateLasts}
 use Rattle.ov_updating.proofs.Asking.{length-firsts}
 use Rattle.ov_updating.proofs.Holding.{hold_all}
 use Rattle.ov_updating.proofs.Standing.{HasAsMuch, all_ready, cut_same, ends_whole, same_bytes}
@@ -134,6 +134,12 @@ module _ (master : List ℕ) (a : Asked) (k : Keys) (p : PlacedHistory) (g : Sea
     with_update : KeepsAt k (with_placed p (placed_as u firsts)) (with_sealed g u) x
     with_update = keeps_more k p g u firsts i x can.keeps is_sealed one_more
 
+    as_after : KeepsOneOfBoth k p g u i x
+    as_after = record {
+      keeps = inr (with_placed p (placed_as u firsts), with_update);
+      bytes = same_stored x as_much;
+    }
+
 -- ---- the clauses
 
 module _ (master : List ℕ) (a : Asked) (i x : Image) where
@@ -169,8 +175,8 @@ keeps_yet master a i k p g u can = (inl can.keeps, refl)
 
 pub lasts : {D : Type 0} (tells : DiskTells D) (master : List ℕ) (a : Asked) (disk : D) (i : Image) (moves : List Move)
     → GoToFree (files_of a.placed a.rewrites) a.held moves
-    → MovesLastWith tells (recoated master a.rewrites) a.text (body_with a.front moves) a.held moves disk i
-    → LastsWith tells master a (firsts_of moves) disk i
+    → LastsWith tells (recoated master a.rewrites) a.text (body_with a.front moves) a.held moves disk i
+    → UpdateLasts tells master a (firsts_of moves) disk i
 lasts tells master a disk i moves go made = record {
   now = made.now;
   is_read = made.is_read;

@@ -33,7 +33,7 @@ pub file_below : (c : Catalogue) (b : Brief) (r : Rewrite) → Contains (rewrite
 file_below c b r there = elim ((rewrites_are_exact c b r).0 there) [
   | inl (f, now, was, is, other, same) ↦
       below_some (files_after c b) r.file (ap (λ (o : Option Filed). is_some o) is)
-  | inr (now, past, is, same) ↦
+  | inr (now, past, gone, is, same) ↦
       below_some (files_after c b) r.file (ap (λ (o : Option Filed). is_some o) is)
 ]
 

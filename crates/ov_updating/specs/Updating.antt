@@ -88,7 +88,7 @@ KeepsMore master a firsts i c =
 
 -- A crash leaves one image alone, which the disk reads. Whatever history an older image kept, it
 -- keeps that with the update.
-pub record LastsWith {D : Type 0} (tells : DiskTells D) (master : List ℕ) (a : Asked)
+pub record UpdateLasts {D : Type 0} (tells : DiskTells D) (master : List ℕ) (a : Asked)
     (firsts : List ℕ) (disk : D) (i : Image) : Type 0 where
   pub now : Image
   pub is_read : tells.reads disk ≡ Some now

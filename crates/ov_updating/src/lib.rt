@@ -19,9 +19,10 @@
 //! under several keys, is never an argument: the clauses hold of each that the disk's image keeps.
 //!
 //! * At any moment a crash leaves an image that keeps the history, or it with the update
-//!   (`KeepsItOrMore`).
+//!   (`KeepsItOrMore`); and the extents that files had hold what they held, so that a store whose disk
+//!   failed can go on reading them.
 //! * At `Ok` one image alone can be left, and it keeps the history with the update and with the first
-//!   blocks that are answered (`LastsWith`); just the extents of the files after it are held
+//!   blocks that are answered (`UpdateLasts`); just the extents of the files after it are held
 //!   (`AreHeldAfter`), so that the next update may be made in the same way.
 //!
 //! | file in `specs/` | says |

@@ -9,7 +9,7 @@ ghost use Rattle.ov_moves.specs.Runs.{LeavesAtMost};
 ghost use Rattle.ov_state.specs.Entries.{plain_rewrites};
 ghost use Rattle.ov_updating.specs.Files.{files_of, firsts_of};
 ghost use Rattle.ov_updating.specs.Recording.{body_with};
-ghost use Rattle.ov_updating.specs.Updating.{AreHeldAfter, IsAsked, KeepsItOrMore, LastsWith, asked};
+ghost use Rattle.ov_updating.specs.Updating.{AreHeldAfter, IsAsked, KeepsItOrMore, UpdateLasts, asked};
 
 use crate::files::list_files;
 use crate::recording::Recording;
@@ -54,7 +54,7 @@ pub fn update<D: Disk>(
     ensures moves { IfOk result (λ moves.
         AreMovesOf (files_of placed.now (plain_rewrites recoat.now.rewrites.now)) moves.items) }
     ensures lasts { IfOk result (λ moves. Told (D.tells.reads disk.old)
-        (LastsWith D.tells recoat.now.master.now.bytes
+        (UpdateLasts D.tells recoat.now.master.now.bytes
         (asked (plain_rewrites recoat.now.rewrites.now) placed.now extents.old front.now text.now)
         (firsts_of moves.items) disk.new)) }
 

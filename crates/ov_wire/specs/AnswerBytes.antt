@@ -24,7 +24,7 @@ known_bytes known =
     u32 known.epoch ++ u32 known.user ++ u32 known.base_root ++ u32 known.surface_root
     ++ u32 known.file ++ u32 known.node ++ u8 (flag known.wants)
 
--- the set in 32 bytes, between numbers, and the starts of edges
+-- the set in SET_BYTES bytes, between numbers, and the starts of edges
 abbrev pub plan_bytes : Plan → List ℕ
 plan_bytes plan =
     u32 plan.epoch ++ u32 plan.file ++ bytes_of SET_BYTES plan.list ++ u32 plan.node

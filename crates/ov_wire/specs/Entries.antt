@@ -85,7 +85,7 @@ edge (from, token) = record { from = from; token = token }
 abbrev pub edge_at : List ℕ → Read Edge
 edge_at = making edge edge_fields_at
 
--- a set in 32 bytes, and edges
+-- a set in SET_BYTES bytes, and edges
 abbrev pub node_entry_at : List ℕ → Read (ℕ × List Edge)
 node_entry_at = set_at SET_BYTES >> counted_at MAX_USERS edge_at
 

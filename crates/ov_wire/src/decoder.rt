@@ -14,8 +14,8 @@ use std::mem;
 
 /// Cuts a stream into frames, whatever the pieces it comes in.
 ///
-/// It keeps the frame that isn't whole, and no more memory for it than the bytes of it that came
-/// need.
+/// A decoder keeps the frame that isn't whole, and no more memory for it than the bytes of it that
+/// came need.
 #[derive(Drop)]
 pub struct Decoder {
     alloc: Global,
@@ -103,7 +103,7 @@ impl Decoder {
     pub fn feed_all(&mut self, pieces: &[Octets], frames: &mut Vec<Octets>) -> Result<(), FeedFault>
         ensures { FeedsAll self.old self.new pieces.now frames.old.items frames.new.items result }
     {
-        // Of no pieces a decoder says too whether it met a bad length field.
+        // A decoder that is given no pieces also says whether it met a bad length field before.
         self.feed(&[], frames)?;
         for piece in pieces {
             self.feed(piece.as_slice(), frames)?;

@@ -1,11 +1,12 @@
-//! Each request within the limits has a spelling.
+//! Each request within the limits has a spelling. The functions do nothing: a caller that names one
+//! may use what its contract says.
 
 ghost use Rattle.ov_wire.specs.Requests.{HasQuestionForm, HasRequestForm, HasRequestLimits};
 
 use crate::{Question, Request};
 use ov_fields::{known_name, known_names, known_tag};
 
-fn has_question_form(question: &Question)
+fn known_question_form(question: &Question)
     ensures { HasQuestionForm question.now }
 {
     match question {
@@ -22,14 +23,14 @@ fn has_question_form(question: &Question)
     }
 }
 
-/// What holds of each request within the limits: it has a spelling.
-pub fn has_request_form(request: &Request)
+/// A request within the limits has a spelling.
+pub fn known_request_form(request: &Request)
     requires { HasRequestLimits request.now }
     ensures { HasRequestForm request.now }
 {
     match request {
         Request::Hello => {}
-        Request::Ask { question } => has_question_form(question),
+        Request::Ask { question } => known_question_form(question),
         Request::Cover { file, names, .. } => {
             known_name(file);
             known_names(names);

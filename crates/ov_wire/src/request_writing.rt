@@ -4,7 +4,7 @@ ghost use Rattle.std.specs.Prelude.{◌≡◌, ◌≤◌, ◌∷◌, ◌++◌, l
 ghost use Rattle.ov_fields.specs.Spelling.{counted, name_field, u32};
 ghost use Rattle.ov_wire.specs.Requests.{question_bytes, request_bytes, request_body, HasRequestForm, HasRequestLimits};
 
-use crate::form::has_request_form;
+use crate::form::known_request_form;
 use crate::names::put_names;
 use crate::{Question, Request, kinds};
 use ov_base::{Memory, Name, Names};
@@ -122,7 +122,7 @@ pub fn write_request(request: &Request, out: &mut Vec<u8>) -> Result<(), Memory>
     // What is written can be read again.
     ensures form { HasRequestForm request.now }
 {
-    has_request_form(request);
+    known_request_form(request);
     let mut front = Vec::new(*out.allocator());
     put_front(request, &mut front)?;
     let (body, end) = body(request);

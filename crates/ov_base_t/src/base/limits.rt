@@ -17,6 +17,10 @@ const _: () = prove!(MAX_ACCESS_TOKENS == 1_048_576);
 
 const _: () = prove!(LAST_EPOCH == 4_294_967_295);
 
+const _: () = prove!(SET_WORDS == 4);
+
+const _: () = prove!(SET_BYTES == 32);
+
 const _: () = prove!(MAX_SET_WORDS == 1_024);
 
 const _: () = prove!(MAX_NAME_BYTES == 64);

@@ -1,13 +1,17 @@
-use Rattle.std.proofs.Common.{◌≡◌, [], is_err, append-nil, length, arith, ap, sym, refl, ◌∙◌}
+use Rattle.std.proofs.Common.{◌≡◌, [], Ok, is_err, append-nil, length, arith, ap, sym, refl, ◌∙◌}
 use Rattle.std.proofs.lemmas.List.{nil_from_length}
 use Rattle.std.proofs.lemmas.Result.{err_from_is_err_and}
 use Rattle.std.proofs.KnownBytes.{Consumes-nil, Consumes-kept}
 use Rattle.ov_io.specs.Calls.{no_piece, each_gave}
-use Rattle.ov_script.specs.Feed.{Takes}
+use Rattle.ov_io.proofs.Pieces.{pieces_same}
+use Rattle.ov_script.specs.Feed.{Fed, Takes, text_of}
+use Rattle.ov_script.specs.Finding.{Finds}
+use Rattle.ov_script.specs.NoItem.{IsWhyNone}
 use Rattle.ov_script.specs.declared.front.Front.TheVariants.{Start}
 use Rattle.ov_script.specs.LineFronts.{run}
 use Rattle.ov_script.proofs.Needing.{needs_more, needs_none, none_given}
-use Rattle.ov_script.proofs.Taking.{seen_again, Takes-trans, seen_behind, none_taken}
+use Rattle.ov_script.proofs.Taking.{seen_again, Takes-trans, seen_behind, none_taken, why_kept, why_settled}
+use Rattle.ov_script.proofs.WholeItems.{line_used, line_within}
 use Rattle.ov_script.proofs.find.find.Goals as goal
 
 pub pieces-init : goal.pieces-init
@@ -22,21 +26,31 @@ pieces-init g c = record {
 pub returns-in_err-line-clause-found : goal.returns-in_err-line-clause-found
 returns-in_err-line-clause-found g c =
     let p = err_from_is_err_and c.from_residual.result c.from_residual.ensures.1 in
-    let told = c.in_err-line.ensures.settled in
-    rw (p.1, p.2, ← c.pending-bytes.ensures) (told _)
+    rw (p.1, p.2) (why_settled g.S.Source.tells c.args.room c.args.feed.now c.pieces.feed _ _ _ c.pieces.invariant.taken.1 c.pending-bytes.ensures c.in_err-line.ensures.settled)
 
 pub returns-in_err-line-clause-needed : goal.returns-in_err-line-clause-needed
 returns-in_err-line-clause-needed g c =
     let p = err_from_is_err_and c.from_residual.result c.from_residual.ensures.1 in
     each_gave _ c.pieces.invariant.taken.2 (λ e. c.in_err-line.ensures.no_fault (let is = p.1 in let that = p.2 in cc))
 
+pub advance-requires : goal.advance-requires
+advance-requires g c =
+    let told = rw c.in-Whole.is at c.in_ok-line.ensures.settled in
+    let here : Finds c.args.room c.pieces.feed.pending (g.S.Source.tells.left c.pieces.feed.source) (Ok c.in-Whole.line) =
+    rw (← c.pending-bytes.ensures) (told (g.S.Source.tells.left c.pieces.feed.source)) in
+    line_within g.S.Source.tells c.args.room c.pieces.feed c.in-Whole.line here
+
 pub returns-in-Whole-clause-found : goal.returns-in-Whole-clause-found
 returns-in-Whole-clause-found g c =
+    let inv = c.pieces.invariant in
     let told = rw c.in-Whole.is at c.in_ok-line.ensures.settled in
-    rw (← c.pending-bytes.ensures) (told (g.S.Source.tells.left c.pieces.feed.source))
+    let here : Finds c.args.room c.pieces.feed.pending (g.S.Source.tells.left c.pieces.feed.source) (Ok c.in-Whole.line) =
+    rw (← c.pending-bytes.ensures) (told (g.S.Source.tells.left c.pieces.feed.source)) in
+    line_used g.S.Source.tells c.args.room c.args.feed.now c.pieces.feed c.advance.new.self _ c.in-Whole.line inv.taken.1 here c.advance.ensures inv.taken.2
 
 pub returns-in-Whole-clause-needed : goal.returns-in-Whole-clause-needed
-returns-in-Whole-clause-needed g c = each_gave _ c.pieces.invariant.taken.2 (λ e. absurd (cc))
+returns-in-Whole-clause-needed g c =
+    each_gave _ (pieces_same g.S.Source.tells _ _ _ _ _ (ap (λ (f : Fed _). f.source) c.advance.ensures) c.pieces.invariant.taken.2) (λ e. absurd (cc))
 
 pub returns-in_err-fill-in-Open-clause-needed : goal.returns-in_err-fill-in-Open-clause-needed
 returns-in_err-fill-in-Open-clause-needed g c =
@@ -54,12 +68,10 @@ returns-then-branch-eq0-clause-found g c =
     let more = c.in_ok-fill-in-Open.ensures.taken in
     let zero : c.in_ok-fill-in-Open.field-0 ≡ 0 = c.if-branch-eq0.true in
     let same = none_taken _ _ more.0 more.1 (more.2 ∙ zero) in
-    c.at_end.ensures.found _ _ _ (ap length (same ∙ sym c.pending-bytes.ensures)) (rw same unsettled) (more.4 zero)
-
-pub returns-then-branch-eq0-clause-taken : goal.returns-then-branch-eq0-clause-taken
-returns-then-branch-eq0-clause-taken g c =
-    let more = c.in_ok-fill-in-Open.ensures.taken in
-    (_, Takes-trans _ _ _ _ _ _ c.pieces.invariant.taken.1 (record { pending = more.1; source = more.3 }), tt)
+    let why : IsWhyNone c.args.room (text_of g.S.Source.tells c.fill.new.self) c.at_end.result =
+    c.at_end.ensures.found _ _ _ (ap length (same ∙ sym c.pending-bytes.ensures)) (rw same unsettled) (more.4 zero) in
+    why_kept g.S.Source.tells c.args.room c.args.feed.now c.fill.new.self _ _
+    (Takes-trans _ _ _ _ _ _ c.pieces.invariant.taken.1 (record { pending = more.1; source = more.3 })) why
 
 pub returns-then-branch-eq0-clause-needed : goal.returns-then-branch-eq0-clause-needed
 returns-then-branch-eq0-clause-needed g c =

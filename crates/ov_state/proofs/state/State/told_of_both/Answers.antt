@@ -12,5 +12,5 @@ returns g c =
     let s = c.args.self.now.catalogue in
     let node : c.entry.result.now.node ≡ node_of (outline s) c.args.file =
     ap (λ (f : Filed). f.node) (sym (filed-at s c.args.file (plain_file c.entry.result.now) c.entry.ensures.kept)) ∙ node-shown s c.args.file in
-    ap (λ (n : Numbers). record n { file = c.args.file; node = c.entry.result.now.node }) c.told_of_user-asked.ensures
+    ap (λ (n : Numbers). record n { file = c.args.file; node = c.entry.result.now.node }) c.told_of_user.ensures
     ∙ ap (λ n. record (of_user s c.args.user) { file = c.args.file; node = n }) node

@@ -3,7 +3,7 @@ use Rattle.std.proofs.Common.{◌≡◌, ◌≢◌, List, ℕ, ◌++◌, Option,
 use Rattle.std.specs.Prelude.{MatchOption, IfSome, IfNone}
 use Rattle.std.proofs.lemmas.Bool.Decides.{Decides-eqb}
 use Rattle.std.proofs.lemmas.Slice.Eq.{strip_prefix_is}
-use Rattle.ov_script.proofs.words.behind.Goals as goal
+use Rattle.ov_script.proofs.first_line.behind.Goals as goal
 
 abbrev Stripped : List ℕ → List ℕ → Option (Bor (List ℕ)) → Type 0
 Stripped line word found = MatchOption found ((rest : List ℕ) → line ≢ word ++ rest) (λ x. line ≡ word ++ x.now)
