@@ -58,6 +58,7 @@ mod exchanging;
 mod fault;
 mod first_blocks;
 mod holding;
+mod laws;
 mod prepared;
 mod preparing;
 mod reading;
@@ -66,4 +67,5 @@ mod updating;
 
 pub use catalogue::{CataloguePlaces, PlacedCatalogue};
 pub use fault::ReplayFault;
+pub use laws::bad_records_are_not_taken;
 pub use preparing::Prepared;
