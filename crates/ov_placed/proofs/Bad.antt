@@ -2,7 +2,6 @@
 -- that was replayed to the store.
 use Rattle.std.proofs.Common.{◌≡◌, inl, inr, ℕ, ◌+◌, List, Option, sym, ◌∙◌, ap, subst}
 use Rattle.std.specs.Prelude.{◌⊎◌}
-use Rattle.ov_disk.specs.declared.area.Area.TheVariants.{Book}
 use Rattle.ov_history.specs.Briefs.{Brief}
 use Rattle.ov_history.specs.Catalogue.{Catalogue}
 use Rattle.ov_history.specs.Placed.{HasFirsts, IsReplayedTo, PlacedHistory, PlacedUpdate, count_of}
@@ -11,15 +10,15 @@ use Rattle.ov_history.specs.Rewrites.{rewrites_of}
 use Rattle.ov_history.specs.Texts.{IsSealedBriefly, with_brief}
 use Rattle.ov_history.proofs.Replaying.{briefs_go_on, briefs_stop}
 use Rattle.ov_images.specs.Damage.{BeginsWith, IsBadBody, Spot, at_block, in_book}
-use Rattle.ov_images.specs.Extents.{AllTakeFree, IsFirstTaken, UpdateTakesFree, extents_in_use}
+use Rattle.ov_images.specs.Extents.{IsFirstTaken, UpdateTakesFree, extents_in_use}
 use Rattle.ov_images.specs.Extents.{new_extents}
 use Rattle.ov_images.specs.Records.{StopsInRecord}
 use Rattle.ov_images.proofs.Extents.{none_taken, one_taken}
-use Rattle.ov_images.proofs.Records.{firsts_spelling, never_stops, record_never_stops}
+use Rattle.ov_images.proofs.Records.{never_stops, record_never_stops}
 use Rattle.ov_images.proofs.Records.{records_apart}
 use Rattle.ov_state.specs.Plans.{IsTaken}
 use Rattle.ov_placed.specs.Faults.{BeginsUntaken, EndsInBook, HasOtherFirsts, IsAtByte, IsBadFor}
-use Rattle.ov_placed.specs.Faults.{StopsInBody, StopsInFront, TakesUsedBlocks}
+use Rattle.ov_placed.specs.Faults.{StopsInFront, TakesUsedBlocks}
 use Rattle.ov_placed.specs.Laws.{IsBadAtOneSpot, IsBadBehindEach, NoneIsTakenAndBad}
 use Rattle.ov_placed.specs.Replaying.{IsRecordOf}
 use Rattle.ov_placed.proofs.Spots.{begins, one_front}
