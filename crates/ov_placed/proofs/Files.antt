@@ -13,7 +13,7 @@ use Rattle.ov_history.specs.Rewrites.{Rewrite, files_after, length_left, rewrite
 use Rattle.ov_history.specs.Rewrites.{rewrites_from, rewrites_of}
 use Rattle.ov_history.specs.Texts.{lengths_of}
 use Rattle.ov_history.proofs.ChangeLaws.{below_some, length-change_at}
-use Rattle.ov_history.proofs.Living.{AllThere, there-after, there-at}
+use Rattle.ov_history.proofs.Living.{there-after}
 use Rattle.ov_history.proofs.Placing.{good_all, length-with_unplaced, old_size, sized}
 use Rattle.ov_history.proofs.RewriteLaws.{rewrites_are_exact}
 use Rattle.ov_history.proofs.Storing.{length-files_after}
@@ -24,20 +24,11 @@ use Rattle.ov_state.specs.Entries.{plain_rewrites}
 use Rattle.ov_state.specs.Plans.{IsChange}
 use Rattle.ov_state.specs.declared.change.Change.{Change}
 use Rattle.ov_state.specs.declared.change.Rewrite.{Rewrite as StateRewrite}
-use Rattle.ov_placed.specs.Contents.{AreAllThere, HoldsFiles}
-use Rattle.ov_placed.specs.Holding.{AreHeld, IsWithAll, given_up, passing}
+use Rattle.ov_updating.specs.Counting.{passing}
+use Rattle.ov_updating.proofs.Listing.{all_there, are_there}
+use Rattle.ov_placed.specs.Contents.{HoldsFiles}
+use Rattle.ov_placed.specs.Holding.{AreHeld, IsWithAll, given_up}
 use Rattle.ov_placed.proofs.Counting.{passing-append}
-
--- ---- no file is gone
-
-there_by_each : (files : List (Option Filed)) → AreAllThere files → AllThere files
-there_by_each [] each = tt
-there_by_each (None ∷ files) each = absurd (cc (each 0 (omega arith)))
-there_by_each (Some f ∷ files) each =
-    there_by_each files (λ file lt. each (suc file) (omega (arith, lt)))
-
-each_there : (files : List (Option Filed)) → AllThere files → AreAllThere files
-each_there files all file lt = ap (λ (o : Option Filed). is_some o) (there-at files file all lt).1
 
 -- ---- lengths by file number
 
@@ -293,9 +284,9 @@ module _ (c : Catalogue) (u : PlacedUpdate) (placed : List (Option ℕ)) (held :
       → IsWithAll more held next → IsWithAll less after next
       → HoldsFiles (catalogue_after master c u.update) (placed_after c u placed) after
   holds_after master next after firsts with without =
-      let all = there_by_each c.files holds.there in
+      let all = all_there c.files holds.there in
       record {
-        there = each_there (files_after c u.update) (there-after c u.update all);
+        there = are_there (files_after c u.update) (there-after c u.update all);
         places = good_all master c placed (u ∷ []) all holds.places (firsts, tt);
         extents = λ test. omega (arith, changed test, with test, without test);
       }

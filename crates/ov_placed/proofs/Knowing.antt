@@ -1,5 +1,5 @@
 -- What holds of the extents of every placed catalogue.
-use Rattle.std.proofs.Common.{◌≡◌, ℕ, zero, suc, ◌+◌, ◌≤◌, ◌<◌, Bool, true, false, List, [], ◌∷◌, ◌++◌, length, get_or, ltb, Option, Some, None, refl, sym, ◌∙◌, ap, subst, arith, length-append}
+use Rattle.std.proofs.Common.{◌≡◌, ℕ, zero, suc, ◌+◌, ◌≤◌, ◌<◌, Bool, true, false, List, [], ◌∷◌, length, get_or, ltb, Option, Some, None, refl, sym, ◌∙◌, ap, subst, arith, length-append}
 use Rattle.std.specs.Prelude.{All, Contains, IfSome, is_some}
 use Rattle.std.proofs.lemmas.Bool.{le-ltb, ltb-false}
 use Rattle.ov_base.specs.declared.limits.TheConstants.{MAX_FILES, MAX_FILE_BYTES}
@@ -13,7 +13,7 @@ use Rattle.ov_history.specs.Texts.{lengths_of}
 use Rattle.ov_images.specs.Extents.{extent_at, extents_in_use, extents_of}
 use Rattle.ov_state.specs.Contents.{IsWell}
 use Rattle.ov_placed.specs.Contents.{HoldsFile, HoldsFiles, with_a_byte}
-use Rattle.ov_placed.specs.Holding.{passing}
+use Rattle.ov_updating.specs.Counting.{passing}
 use Rattle.ov_placed.proofs.Counting.{is_member, is_this, one_passes, one_passes-this, passing-append, same_length}
 use Rattle.ov_placed.proofs.Files.{length-lengths, lengths-at}
 

@@ -2,6 +2,7 @@ pub mod Counting
 pub mod Free
 pub mod FirstBlocks
 pub mod Spots
+pub mod Bad
 pub mod Files
 pub mod Replays
 pub mod Taking

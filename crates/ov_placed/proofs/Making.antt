@@ -1,7 +1,6 @@
 -- An update that is made here, once it is on the disk.
-use Rattle.std.proofs.Common.{◌≡◌, inl, ℕ, ◌+◌, ◌<◌, ◌≤◌, Bool, true, List, [], ◌∷◌, length, drop, get_or}
-use Rattle.std.proofs.Common.{Option, Some, None, refl, sym, ◌∙◌, ap, subst, arith}
-use Rattle.std.specs.Prelude.{is_some}
+use Rattle.std.proofs.Common.{◌≡◌, inl, ℕ, ◌+◌, ◌<◌, List, [], length, drop, get_or}
+use Rattle.std.proofs.Common.{Option, refl, sym, ◌∙◌, ap, subst, arith}
 use Rattle.std.proofs.lemmas.List.{drop_more}
 use Rattle.ov_blocks.specs.Extents.{AreApart}
 use Rattle.ov_blocks.specs.declared.extents.Extent.{Extent}
@@ -27,7 +26,7 @@ use Rattle.ov_state.specs.declared.change.Rewrite.{Rewrite}
 use Rattle.ov_updating.proofs.Asking.{length-firsts}
 use Rattle.ov_updating.proofs.Counts.{counts_are_enough, held_are_counted}
 use Rattle.ov_updating.proofs.Taking.{files_counted}
-use Rattle.ov_updating.specs.Files.{AreHeldFor, AreThere, files_of, firsts_of}
+use Rattle.ov_updating.specs.Files.{AreHeldFor, files_of, firsts_of}
 use Rattle.ov_updating.specs.Updating.{CanGoOn, IsAskedFor, KeepsItOrMore, UpdateLasts}
 use Rattle.ov_placed.specs.Contents.{HoldsFiles, PlacedStore}
 use Rattle.ov_placed.specs.Updating.{IsPrepared, KeepsOrGoesOn, LastsMore, asked_of, bytes_of}
@@ -74,19 +73,12 @@ module _ (all : List Rewrite) (firsts : List ℕ) (old : List (Option ℕ)) wher
 
 -- ---- what an update is made from
 
-some_there : (o : Option Filed) → is_some o ≡ true → (f : Filed) × (o ≡ Some f)
-some_there None is = absurd (cc is)
-some_there (Some f) is = (f, refl)
-
 module _ {W : ℕ} (limit : ℕ) (master : List ℕ) (store : PlacedStore) (u : SealedUpdate)
     (p : Prepared W) (is : IsPrepared limit master store.catalogue u p)
     (holds : HoldsFiles store.catalogue store.placed store.held) (apart : AreApart 0 store.held)
   where
     files_are : (applied store.catalogue p.change).files ≡ files_after store.catalogue (brief u)
     files_are = ap (λ (d : Catalogue). d.files) is.change.made
-
-    there : AreThere store.catalogue.files
-    there file lt = some_there (living_at store.catalogue.files file) (holds.there file lt)
 
     pub is_asked : IsAskedFor store.catalogue u (asked_of store p)
     is_asked = record {
@@ -103,8 +95,8 @@ module _ {W : ℕ} (limit : ℕ) (master : List ℕ) (store : PlacedStore) (u : 
       short = λ file f at.
           is.change.suits.well.each file f
           (ap (λ (fs : List (Option Filed)). living_at fs file) files_are ∙ at);
-      held = counts_are_enough store.catalogue.files store.placed store.held there holds.places
-          apart holds.extents;
+      held = counts_are_enough store.catalogue.files store.placed store.held holds.there
+          holds.places apart holds.extents;
     }
 
     -- where the files are after it
@@ -133,7 +125,7 @@ module _ {W : ℕ} (limit : ℕ) (master : List ℕ) (store : PlacedStore) (u : 
         (subst (λ (ps : List (Option ℕ)).
         AreHeldFor (files_after store.catalogue (brief u)) ps held) (sym places_are) are) in
         record {
-          there = λ file lt. ap (λ (o : Option Filed). is_some o) (here.there file lt).1;
+          there = here.there;
           places = here.placed_are;
           extents = held_are_counted d.files places held beside here;
         }

@@ -10,6 +10,7 @@ use Rattle.ov_images.proofs.Records.{bodies-push, form-push}
 use Rattle.ov_placed.specs.Contents.{PlacedStore}
 use Rattle.ov_placed.specs.Faults.{EndsInBook, IsBadFor}
 use Rattle.ov_placed.specs.Replaying.{IsReplayOf, TakesRecord}
+use Rattle.ov_placed.proofs.Bad.{is_bad_behind_each}
 
 module _ (master : List ℕ) (mode : Mode) (first blocks : ℕ) where
   pub replay_none : (s : PlacedStore) → s.catalogue ≡ empty_catalogue mode first → s.placed ≡ []
@@ -56,7 +57,7 @@ module _ (master : List ℕ) (mode : Mode) (first blocks : ℕ) where
   -- a record that isn't taken is the first that is bad
   pub replay_stops : (bodies rest : List (List ℕ)) (s : PlacedStore) (body : List ℕ) (gate : ℕ)
       (spot : Spot) → IsReplayOf master mode first blocks bodies s → gate ≡ end_from 78 bodies
-      → EndsInBook gate body → IsBadFor master blocks s.catalogue s.placed body gate spot
+      → EndsInBook gate body → IsBadFor blocks s.catalogue s.placed body gate spot
       → HasBadRecord master mode first blocks (bodies ++ body ∷ rest) spot
   replay_stops bodies rest s body gate spot was at_gate ends wrong =
       let p : PlacedHistory = was.history in
@@ -68,5 +69,6 @@ module _ (master : List ℕ) (mode : Mode) (first blocks : ℕ) where
         split = ap (λ (front : List (List ℕ)). front ++ body ∷ rest) (sym was.bodies_are);
         bad = subst (λ (n : ℕ). IsBadBody master blocks p body n spot)
             (at_gate ∙ ap (end_from 78) (sym was.bodies_are))
-            (wrong ends p was.placed.replayed);
+            (is_bad_behind_each master blocks s.catalogue s.placed body gate spot ends wrong p
+            was.placed.replayed);
       }

@@ -1,25 +1,22 @@
 -- The spots that faults name, and records that are taken.
 use Rattle.std.proofs.Common.{◌≡◌, inl, inr, ℕ, ◌+◌, ◌-◌, ◌≤◌, ◌<◌, ◌^◌, List, length, Option, Result, Ok, Err, sym, ◌∙◌, subst, arith}
+use Rattle.ov_disk.specs.declared.area.Area.TheVariants.{Book}
 use Rattle.ov_fields.specs.Reading.{all_of, placed}
 use Rattle.ov_record.specs.Forms.{first_form}
 use Rattle.ov_record.specs.Reading.{brief_at, brief_of, front_of, stored_at, stored_of}
 use Rattle.ov_history.specs.Briefs.{Brief}
 use Rattle.ov_history.specs.Catalogue.{Catalogue, catalogue_after}
 use Rattle.ov_history.specs.Placed.{HasFirsts, IsReplayedTo, PlacedHistory, PlacedUpdate, count_of}
-use Rattle.ov_history.specs.Placed.{placed_after, placed_of, unplaced, with_placed}
+use Rattle.ov_history.specs.Placed.{placed_after, placed_of, with_placed}
 use Rattle.ov_history.specs.Rewrites.{rewrites_of}
-use Rattle.ov_history.specs.Texts.{IsSealedBriefly, with_brief}
 use Rattle.ov_history.proofs.Placed.{replays_go_on}
-use Rattle.ov_history.proofs.Replaying.{briefs_go_on, briefs_stop}
-use Rattle.ov_images.specs.Damage.{BeginsWith, IsMisspelled, in_book}
-use Rattle.ov_images.specs.Extents.{IsFirstTaken, UpdateTakesFree, extents_in_use}
-use Rattle.ov_images.specs.Extents.{new_extents}
-use Rattle.ov_images.specs.Records.{StopsInRecord}
+use Rattle.ov_images.specs.Damage.{BeginsWith, Spot}
+use Rattle.ov_images.specs.Extents.{UpdateTakesFree}
 use Rattle.ov_images.proofs.Extents.{as_said, laid_out_push}
 use Rattle.ov_images.proofs.Records.{firsts_spelling, fronts_apart}
 use Rattle.ov_state.specs.Plans.{IsTaken}
 use Rattle.ov_placed.specs.Contents.{PlacedStore}
-use Rattle.ov_placed.specs.Faults.{EndsInBook, IsBadFor, IsUntaken, NamesSpot, StopsInBody}
+use Rattle.ov_placed.specs.Faults.{IsBadFor, IsUntaken, NamesSpot, StopsInBody, StopsInFront}
 use Rattle.ov_placed.specs.Faults.{UpdateIsTakenAt}
 use Rattle.ov_placed.specs.Replaying.{IsPlacedAs, IsRecordOf}
 use Rattle.ov_placed.specs.declared.fault.ReplayFault.{ReplayFault}
@@ -37,27 +34,35 @@ placed_within count place (Err left) is =
 -- the fault names this place of the body whose gate is here
 abbrev NamesPlace : ℕ → ℕ → ReplayFault → Type 0
 NamesPlace gate place fault =
-    NamesSpot (λ spot. gate + 5 + place < 2 ^ 64 → spot ≡ in_book (gate + 5 + place)) fault
+    NamesSpot (λ spot. gate + 5 + place < 2 ^ 64 → spot.place ≡ gate + 5 + place) fault
 
 pub misspelled : (body : List ℕ) (gate place : ℕ) (fault : ReplayFault)
-    → brief_of first_form body ≡ Err place → NamesPlace gate place fault
-    → NamesSpot (λ spot. EndsInBook gate body → IsMisspelled body gate spot) fault
-misspelled body gate place (Damaged area offset) stops is = λ ends.
+    → brief_of first_form body ≡ Err place → NamesSpot (λ spot. spot.area ≡ Book) fault
+    → NamesPlace gate place fault → NamesSpot (StopsInFront body gate) fault
+misspelled body gate place (Damaged area offset) stops in_area at =
     let within = placed_within (length body) place (front_of (length body) (brief_at first_form
     body)) stops in
-    record { at_byte = place; stops = stops; spot_is = is (omega (arith, ends, within)) }
-misspelled body gate place Memory stops is = tt
+    record {
+      at_byte = place;
+      stops = stops;
+      spot_is = record { area = in_area; place = λ ends. at (omega (arith, ends, within)) };
+    }
+misspelled body gate place Memory stops in_area at = tt
 
 pub miscounted : (count : ℕ) (body : List ℕ) (gate place : ℕ) (fault : ReplayFault)
-    → stored_of first_form count body ≡ Err place → NamesPlace gate place fault
-    → NamesSpot (λ spot. EndsInBook gate body → StopsInBody count body gate spot) fault
-miscounted count body gate place (Damaged area offset) stops is = λ ends.
+    → stored_of first_form count body ≡ Err place → NamesSpot (λ spot. spot.area ≡ Book) fault
+    → NamesPlace gate place fault → NamesSpot (StopsInBody count body gate) fault
+miscounted count body gate place (Damaged area offset) stops in_area at =
     let within = placed_within (length body) place (all_of (stored_at first_form count body)) stops
     in
-    record { at_byte = place; stops = stops; spot_is = is (omega (arith, ends, within)) }
-miscounted count body gate place Memory stops is = tt
+    record {
+      at_byte = place;
+      stops = stops;
+      spot_is = record { area = in_area; place = λ ends. at (omega (arith, ends, within)) };
+    }
+miscounted count body gate place Memory stops in_area at = tt
 
--- ---- for each history
+-- ---- what is at the front
 
 -- a record begins with its update
 pub begins : (u : PlacedUpdate) (body : List ℕ) → IsRecordOf u body → BeginsWith u.update body
@@ -72,66 +77,52 @@ pub one_front : (u v : Brief) (body : List ℕ) → BeginsWith u body → Begins
 one_front u v body one two =
     (fronts_apart u v one.rest two.rest one.form two.form (sym one.bytes ∙ two.bytes)).0
 
--- a history goes on with an update that is taken
-fits : (master : List ℕ) (c : Catalogue) (placed : List (Option ℕ)) (p : PlacedHistory) (u : Brief)
-    → IsReplayedTo master p c placed → IsTaken c u → IsSealedBriefly (with_brief (unplaced p) u)
-fits master c placed p u so_far taken =
-    (briefs_go_on master c (unplaced p) u so_far.stands taken.0 taken.1).0
+-- ---- what is wrong
 
-module _ (master : List ℕ) (blocks : ℕ) (c : Catalogue) (placed : List (Option ℕ)) (body : List ℕ)
-    (gate : ℕ) where
-  pub bad_if_misspelled : (fault : ReplayFault)
-      → NamesSpot (λ spot. EndsInBook gate body → IsMisspelled body gate spot) fault
-      → NamesSpot (IsBadFor master blocks c placed body gate) fault
-  bad_if_misspelled (Damaged area offset) wrong = λ ends p so_far. inl (wrong ends)
-  bad_if_misspelled Memory wrong = tt
+-- a fault that names a spot of which one holds names one of which another does
+named_so : (P Q : Spot → Type 0) (fault : ReplayFault) → ((spot : Spot) → P spot → Q spot)
+    → NamesSpot P fault → NamesSpot Q fault
+named_so P Q (Damaged area offset) so wrong = so (record { area = area; place = offset }) wrong
+named_so P Q Memory so wrong = tt
 
-  pub bad_if_untaken : (u : Brief) (fault : ReplayFault) → BeginsWith u body
-      → NamesSpot (IsUntaken c u gate) fault
-      → NamesSpot (IsBadFor master blocks c placed body gate) fault
-  bad_if_untaken u (Damaged area offset) front wrong = λ ends p so_far. inr (inl (record {
-    update = u;
-    begins = front;
-    unfit = λ sealed. wrong.untaken (briefs_stop master c (unplaced p) u so_far.stands sealed);
-    spot_is = wrong.spot_is;
-  }))
-  bad_if_untaken u Memory front wrong = tt
+module _ (blocks : ℕ) (c : Catalogue) (placed : List (Option ℕ)) (body : List ℕ) (gate : ℕ)
+    (fault : ReplayFault) where
+  abbrev IsBad : Spot → Type 0
+  IsBad spot = IsBadFor blocks c placed body gate spot
 
-  pub bad_if_miscounted : (u : Brief) (fault : ReplayFault) → BeginsWith u body → IsTaken c u
-      → NamesSpot (λ spot. EndsInBook gate body
-      → StopsInBody (count_of (rewrites_of c u)) body gate spot) fault
-      → NamesSpot (IsBadFor master blocks c placed body gate) fault
-  bad_if_miscounted u (Damaged area offset) front taken wrong = λ ends p so_far.
-      let stop = wrong ends in inr (inr (inl (record {
+  pub bad_if_misspelled : NamesSpot (StopsInFront body gate) fault → NamesSpot IsBad fault
+  bad_if_misspelled wrong =
+      named_so (StopsInFront body gate) IsBad fault (λ spot stops. inl stops) wrong
+
+  pub bad_if_untaken : (u : Brief) → BeginsWith u body → NamesSpot (IsUntaken c u gate) fault
+      → NamesSpot IsBad fault
+  bad_if_untaken u front wrong =
+      named_so (IsUntaken c u gate) IsBad fault
+      (λ spot is. inr (inl (record { update = u; begins = front; wrong = is }))) wrong
+
+  pub bad_if_miscounted : (u : Brief) → BeginsWith u body → IsTaken c u
+      → NamesSpot (StopsInBody (count_of (rewrites_of c u)) body gate) fault
+      → NamesSpot IsBad fault
+  bad_if_miscounted u front taken wrong =
+      named_so (StopsInBody (count_of (rewrites_of c u)) body gate) IsBad fault
+      (λ spot stops. inr (inr (inl (record {
         update = u;
         begins = front;
-        fit = fits master c placed p u so_far taken;
-        at_byte = stop.at_byte;
-        stops = subst (λ (d : Catalogue).
-            StopsInRecord (count_of (rewrites_of d u)) body stop.at_byte) so_far.stands.1 stop.stops;
-        spot_is = stop.spot_is;
-      })))
-  bad_if_miscounted u Memory front taken wrong = tt
+        taken = taken;
+        wrong = stops;
+      })))) wrong
 
-  pub bad_if_taken : (u : PlacedUpdate) (fault : ReplayFault) → IsRecordOf u body
-      → IsTaken c u.update → HasFirsts c u → NamesSpot (UpdateIsTakenAt blocks c placed u) fault
-      → NamesSpot (IsBadFor master blocks c placed body gate) fault
-  bad_if_taken u (Damaged area offset) is taken firsts wrong = λ ends p so_far.
-      inr (inr (inr (record {
+  pub bad_if_taken : (u : PlacedUpdate) → IsRecordOf u body → IsTaken c u.update → HasFirsts c u
+      → NamesSpot (UpdateIsTakenAt blocks c placed u) fault → NamesSpot IsBad fault
+  bad_if_taken u is taken firsts wrong =
+      named_so (UpdateIsTakenAt blocks c placed u) IsBad fault
+      (λ spot used. inr (inr (inr (record {
         update = u;
-        form = is.form;
-        bytes = is.bytes;
-        fit = fits master c placed p u.update so_far taken;
-        firsts = subst (λ (d : Catalogue). HasFirsts d u) so_far.stands.1 firsts;
-        first = wrong.first;
-        taken = subst (λ (d : Catalogue). IsFirstTaken blocks
-            (extents_in_use d (placed_of master p)) (new_extents (rewrites_of d u.update) u.firsts)
-            wrong.first) so_far.stands.1
-            (subst (λ (ps : List (Option ℕ)). IsFirstTaken blocks (extents_in_use c ps)
-            (new_extents (rewrites_of c u.update) u.firsts) wrong.first) so_far.places wrong.taken);
-        spot_is = wrong.spot_is;
-      })))
-  bad_if_taken u Memory is taken firsts wrong = tt
+        is = is;
+        taken = taken;
+        firsts = firsts;
+        wrong = used;
+      })))) wrong
 
 -- ---- a record that is taken
 

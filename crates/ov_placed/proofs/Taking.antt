@@ -160,9 +160,9 @@ module _ (W limit : ℕ) (master : List ℕ) (blocks : ℕ) (s : PlacedStore) (u
 
   pub bad_if_not_free : (gate : ℕ) (fault : ReplayFault)
       → NamesSpot (UpdateIsTakenAt blocks d places u) fault
-      → NamesSpot (IsBadFor master blocks s.catalogue s.placed body gate) fault
+      → NamesSpot (IsBadFor blocks s.catalogue s.placed body gate) fault
   bad_if_not_free gate fault wrong =
-      bad_if_taken master blocks s.catalogue s.placed body gate u fault record_is is.made.taken
+      bad_if_taken blocks s.catalogue s.placed body gate fault u record_is is.made.taken
       is.firsts
       (subst (λ (ps : List (Option ℕ)). NamesSpot (UpdateIsTakenAt blocks s.catalogue ps u) fault)
       same_places

@@ -1,5 +1,5 @@
 -- What a placed catalogue contains: a catalogue, and where the stored bytes of its files lie.
-use Rattle.std.specs.Prelude.{◌≡◌, ℕ, ◌<◌, true, List, [], ◌∷◌, length, Option, Contains, is_some}
+use Rattle.std.specs.Prelude.{◌≡◌, ℕ, List, [], ◌∷◌, Option, Contains}
 use Rattle.ov_blocks.specs.Extents.{blocks_of}
 use Rattle.ov_blocks.specs.declared.extents.Extent.{Extent}
 use Rattle.ov_history.specs.Catalogue.{Catalogue, Filed}
@@ -8,7 +8,8 @@ use Rattle.ov_history.specs.Places.{living_at}
 use Rattle.ov_history.specs.Rewrites.{length_left}
 use Rattle.ov_images.specs.Extents.{extents_in_use}
 use Rattle.ov_state.specs.Contents.{Room}
-use Rattle.ov_placed.specs.Holding.{HaveAsMany}
+use Rattle.ov_updating.specs.Counting.{HaveAsMany}
+use Rattle.ov_updating.specs.Files.{AreThere}
 
 -- the catalogue and the room that it has, the first block of each file by number, where it has one,
 -- and the extents that are held
@@ -18,11 +19,6 @@ pub record PlacedStore : Type 0 where
   pub placed : List (Option ℕ)
   pub held : List Extent
 
--- none of these files is gone
-abbrev pub AreAllThere : List (Option Filed) → Type 0
-AreAllThere files =
-    (file : ℕ) → file < length files → is_some (living_at files file) ≡ true
-
 -- how many of these files have a byte
 abbrev pub with_a_byte : List (Option Filed) → ℕ
 with_a_byte [] = 0
@@ -31,7 +27,7 @@ with_a_byte (f ∷ files) = counted_if (takes_place (length_left f)) (with_a_byt
 -- Just the files with a byte have a first block, and what is held are the extents of files, each
 -- once for each file that has it. So no block is lost.
 pub record HoldsFiles (c : Catalogue) (placed : List (Option ℕ)) (held : List Extent) : Type 0 where
-  pub there : AreAllThere c.files
+  pub there : AreThere c.files
   pub places : ArePlaced c.files placed
   pub extents : HaveAsMany held (extents_in_use c placed)
 

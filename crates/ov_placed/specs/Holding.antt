@@ -5,7 +5,7 @@ use Rattle.ov_history.specs.Placed.{first_if, left_if, takes_place}
 use Rattle.ov_history.specs.Places.{change_at, living_at}
 use Rattle.ov_history.specs.Rewrites.{Rewrite}
 use Rattle.ov_images.specs.Extents.{extent_at}
-pub use Rattle.ov_updating.specs.Counting.{HaveAsMany, passing}
+use Rattle.ov_updating.specs.Counting.{passing}
 
 -- all of these extents are held, each as often
 abbrev pub AreHeld : List Extent → List Extent → Type 0

@@ -3,3 +3,4 @@ pub mod Contents
 pub mod Faults
 pub mod Replaying
 pub mod Updating
+pub mod Laws

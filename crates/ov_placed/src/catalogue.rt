@@ -1,6 +1,7 @@
 //! The catalogue with the first blocks of its files and the extents that are held.
 ghost use Rattle.std.specs.Prelude.{◌≡◌, ◌≤◌, ◌*◌, [], All, IfOk, IfSome, length};
 ghost use Rattle.ov_base.specs.declared.limits.TheConstants.{MAX_FILES, MAX_SET_WORDS, MAX_USERS};
+ghost use Rattle.ov_blocks.specs.Extents.{AreApart};
 ghost use Rattle.ov_blocks.specs.declared.extents.Extent.{Extent};
 ghost use Rattle.ov_history.specs.Catalogue.{empty_catalogue};
 ghost use Rattle.ov_history.specs.Places.{living_at};
@@ -71,6 +72,7 @@ impl<B: Graph<Base, W>, S: Graph<Surface, W>, const W: usize> PlacedCatalogue<B,
     pub fn known(&self)
         ensures catalogue { IsWell (64 * W) self.now.catalogue }
         ensures files { HoldsFiles self.now.catalogue self.now.placed self.now.held }
+        ensures apart { AreApart 0 self.now.held }
         ensures extents { HaveSameExtents self.now.held
             (extents_in_use self.now.catalogue self.now.placed) }
         ensures many { length self.now.held ≡ with_a_byte self.now.catalogue.files }
@@ -78,7 +80,7 @@ impl<B: Graph<Base, W>, S: Graph<Surface, W>, const W: usize> PlacedCatalogue<B,
         ensures short { All (λ (e : Extent). e.length ≤ 256) self.now.held }
     {
         self.catalogue.known();
-        let _extents = &self.extents;
+        self.extents.known();
     }
 
     /// The catalogue.

@@ -55,7 +55,7 @@ pub(crate) fn prepare_record(
         catalogue.old.catalogue (placed_update x.1) x.0) }
     ensures room { IfOk result (λ x. HasRoomFor catalogue.new.room x.0) }
     ensures fault { (blocks : ℕ) (placed : List (Option ℕ)) → IfErr result (NamesSpot
-        (IsBadFor surface.now.bytes blocks catalogue.old.catalogue placed body.now gate)) }
+        (IsBadFor blocks catalogue.old.catalogue placed body.now gate)) }
 {
     let update = read_update(alloc, body, gate)?;
     let change = prepare_update(alloc, catalogue, surface, update, gate)?;

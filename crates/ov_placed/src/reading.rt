@@ -1,9 +1,10 @@
 //! Records that are read out of their bodies.
 ghost use Rattle.std.specs.Prelude.{◌≡◌, ◌≤◌, ◌+◌, ◌<◌, ◌^◌, IfErr, IfOk, length};
+ghost use Rattle.ov_disk.specs.declared.area.Area.TheVariants.{Book};
 ghost use Rattle.ov_base.specs.declared.limits.TheConstants.{MAX_FILES};
 ghost use Rattle.ov_record.specs.Briefs.{plain_brief};
-ghost use Rattle.ov_images.specs.Damage.{BeginsWith, IsMisspelled, in_book};
-ghost use Rattle.ov_placed.specs.Faults.{EndsInBook, NamesSpot, StopsInBody};
+ghost use Rattle.ov_images.specs.Damage.{BeginsWith};
+ghost use Rattle.ov_placed.specs.Faults.{NamesSpot, StopsInBody, StopsInFront};
 ghost use Rattle.ov_placed.specs.Replaying.{placed_update, IsRecordOf};
 
 use crate::fault::ReplayFault;
@@ -14,7 +15,9 @@ use std::alloc::Global;
 
 /// A place of the body whose gate is at this place.
 fn damaged_body(gate: u64, at: u32) -> ReplayFault
-    ensures { NamesSpot (λ spot. gate + 5 + at < 2 ^ 64 → spot ≡ in_book (gate + 5 + at)) result }
+    ensures area { NamesSpot (λ spot. spot.area ≡ Book) result }
+    ensures place { NamesSpot (λ spot.
+        gate + 5 + at < 2 ^ 64 → spot.place ≡ gate + 5 + at) result }
 {
     ReplayFault::Damaged {
         area: Area::Book,
@@ -29,8 +32,7 @@ pub(crate) fn read_update(
     gate: u64,
 ) -> Result<Brief<WIDTH>, ReplayFault>
     ensures found { IfOk result (λ update. BeginsWith (plain_brief update) body.now) }
-    ensures fault { IfErr result (NamesSpot (λ spot.
-        EndsInBook gate body.now → IsMisspelled body.now gate spot)) }
+    ensures fault { IfErr result (NamesSpot (StopsInFront body.now gate)) }
 {
     match read_brief(alloc, Form::FIRST, body) {
         Ok((update, _)) => Ok(update),
@@ -50,8 +52,7 @@ pub(crate) fn read_record(
     requires { count ≤ MAX_FILES }
     ensures found { IfOk result (λ read. IsRecordOf (placed_update read) body.now) }
     ensures count { IfOk result (λ read. length read.places ≡ count) }
-    ensures fault { IfErr result (NamesSpot (λ spot.
-        EndsInBook gate body.now → StopsInBody count body.now gate spot)) }
+    ensures fault { IfErr result (NamesSpot (StopsInBody count body.now gate)) }
 {
     match read_stored(alloc, Form::FIRST, body, count) {
         Ok(record) => Ok(record),

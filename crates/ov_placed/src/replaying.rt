@@ -70,8 +70,8 @@ impl CataloguePlaces {
         requires { blocks ≤ MAX_BLOCKS }
         ensures taken { OnOk result
             (TakesRecord surface.now.bytes blocks self.old body.now self.new) }
-        ensures fault { IfErr result (NamesSpot (IsBadFor surface.now.bytes blocks
-            self.old.catalogue self.old.placed body.now gate)) }
+        ensures fault { IfErr result (NamesSpot
+            (IsBadFor blocks self.old.catalogue self.old.placed body.now gate)) }
         ensures same { OnErr result (HoldsTheSame self.old self.new) }
     {
         let (change, record) = prepare_record(alloc, &mut self.catalogue, surface, body, gate)?;

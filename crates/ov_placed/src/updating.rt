@@ -108,7 +108,8 @@ impl CataloguePlaces {
         requires lies { Told (D.tells.reads disk.old) (LiesIn self.old.held) }
         requires settled { Told (D.tells.reads disk.old) (λ i. Only i (D.tells.may_leave disk.old)) }
 
-        // A crash at any moment leaves the history from before, or it with the update.
+        // Where the disk tells its bytes, a crash at any moment leaves the history from before, or it
+        // with the update.
         ensures any_moment { LeavesAtMost D.tells
             (KeepsOrGoesOn (64 * WIDTH) surface.now.bytes self.old prepared) disk.old disk.new }
         // At `Ok` it lasts with the update, which is made here too.

@@ -48,7 +48,7 @@ module _ (bodies : List (List ℕ)) (i : ℕ) (d : List ℕ) (lt : i < length bo
 
     pub next_stops : (gate : ℕ) (fault : ReplayFault)
         → (end_from 78 bodies < 2 ^ 64 → gate ≡ end_from 78 (take i bodies))
-        → NamesSpot (IsBadFor master blocks s.catalogue s.placed (get_or bodies i d) gate) fault
+        → NamesSpot (IsBadFor blocks s.catalogue s.placed (get_or bodies i d) gate) fault
         → NamesSpot (λ spot. end_from 78 bodies < 2 ^ 64
         → HasBadRecord master mode first blocks bodies spot) fault
     next_stops gate (Damaged area offset) at_gate wrong = λ low.

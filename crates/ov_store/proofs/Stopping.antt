@@ -21,6 +21,7 @@ use Rattle.ov_placed.specs.Faults.{IsBadFor, NamesSpot}
 use Rattle.ov_placed.specs.declared.fault.ReplayFault.{ReplayFault}
 use Rattle.ov_placed.specs.declared.fault.ReplayFault.TheVariants.{Damaged as ReplayDamaged}
 use Rattle.ov_placed.specs.declared.fault.ReplayFault.TheVariants.{Memory as ReplayMemory}
+use Rattle.ov_placed.proofs.Bad.{is_bad_behind_each}
 use Rattle.ov_store.specs.Beginning.{IsBeginFault}
 use Rattle.ov_store.specs.Faults.{replay_fault_of}
 use Rattle.ov_store.specs.Replaying.{IsReplay, IsReplayFault}
@@ -57,7 +58,7 @@ module _ (master : List ℕ) (mode : Mode) (first blocks : ℕ) (reads : Option 
     (at_gate : gate ≡ get_or log.offsets i 0) where
   -- a record that isn't taken
   bad_record : (spot : Spot)
-      → IsBadFor master blocks store.catalogue store.placed body gate spot
+      → IsBadFor blocks store.catalogue store.placed body gate spot
       → Told reads (λ d. IsNext i body d
       → HasBadRecord master mode first blocks (contents_of d.book).records.bodies spot)
   bad_record spot why d at next =
@@ -90,11 +91,12 @@ module _ (master : List ℕ) (mode : Mode) (first blocks : ℕ) (reads : Option 
             ∙ ap (λ (l : List (List ℕ)). bodies_of p.updates ++ l) (drop_more all i [] next.0)
             ∙ (λ j. bodies_of p.updates ++ sym next.1 j ∷ drop (i + 1) all);
         bad = subst (λ (n : ℕ). IsBadBody master blocks p body n spot) starts
-            (why ends p so_far.placed.replayed);
+            (is_bad_behind_each master blocks store.catalogue store.placed body gate spot ends why p
+            so_far.placed.replayed);
       }
 
   pub fault_of_body : Told reads (λ d. blocks ≡ blocks_in d.blobs) → (fault : ReplayFault)
-      → NamesSpot (IsBadFor master blocks store.catalogue store.placed body gate) fault
+      → NamesSpot (IsBadFor blocks store.catalogue store.placed body gate) fault
       → Told reads (λ d. IsNext i body d
       → IsReplayFault master mode first d (replay_fault_of fault))
   fault_of_body whole (ReplayDamaged area place) why d at next =

@@ -12,7 +12,7 @@ use Rattle.ov_history.specs.Catalogue.{Filed}
 use Rattle.ov_history.specs.Placed.{counted_if}
 use Rattle.ov_history.specs.Rewrites.{length_left}
 use Rattle.ov_history.specs.Texts.{lengths_of}
-use Rattle.ov_images.specs.Extents.{extent_at, extents_of}
+use Rattle.ov_images.specs.Extents.{extents_of}
 use Rattle.ov_updating.specs.Counting.{CountsAreEnough, HaveAsMany, HeldAreCounted, passing}
 use Rattle.ov_updating.proofs.Using.{extent, in_use, of_file}
 

@@ -4,8 +4,8 @@
 //! are turned, and of records that are lists of bytes. `ov_images` says which history an image of a
 //! disk keeps. This crate joins the two: what is turned is the coats of files ([`ov_recoat`]), the
 //! record is an update's spelling and the first blocks of the extents that it fills, and so an image
-//! that kept a history keeps it, or it with the update. The store doesn't call it yet, and keeps its
-//! files' bytes in memory.
+//! that kept a history keeps it, or it with the update. `ov_placed` calls it, and makes the update in
+//! the catalogue.
 //!
 //! * [`update`] is the whole of an update but for the catalogue: it finds new extents, writes the new
 //!   bytes of each file there, appends the record, and gives up the old extents. Its caller has the
@@ -18,12 +18,13 @@
 //! `IsAskedFor` says of which catalogue and update this is. A history, of which there may be several
 //! under several keys, is never an argument: the clauses hold of each that the disk's image keeps.
 //!
-//! * At any moment a crash leaves an image that keeps the history, or it with the update
-//!   (`KeepsItOrMore`); and the extents that files had hold what they held, so that a store whose disk
-//!   failed can go on reading them.
-//! * At `Ok` one image alone can be left, and it keeps the history with the update and with the first
-//!   blocks that are answered (`UpdateLasts`); just the extents of the files after it are held
-//!   (`AreHeldAfter`), so that the next update may be made in the same way.
+//! * Where the disk tells its bytes, a crash at any moment leaves an image that keeps the history, or
+//!   it with the update (`KeepsItOrMore`); and the extents that files had hold what they held, so that
+//!   a store whose disk failed can go on reading them.
+//! * Where the disk told its bytes, one image alone can be left at `Ok`, and it keeps the history with
+//!   the update and with the first blocks that are answered (`UpdateLasts`).
+//! * At `Ok` just the extents of the files after the update are held (`AreHeldAfter`), so that the
+//!   next one may be made in the same way.
 //!
 //! | file in `specs/` | says |
 //! |---|---|
@@ -39,8 +40,9 @@
 //! | just the files' extents are held exactly where they are as many, whatever is tested | [`extents_may_be_counted`] |
 //!
 //! **What it asks for.** The update is one that the catalogue takes, and just the extents of the
-//! catalogue's files are held, all in Blobs. Before it a crash leaves just what the disk reads, and
-//! Book is the journal's.
+//! catalogue's files are held. The journal has no bad length behind its records, of which there are
+//! fewer than 2^40. Where the disk tells its bytes, Book is the journal's, all that is held lies in
+//! Blobs, and a crash before the update leaves just what the disk reads.
 //!
 //! **Errors.** Memory is refused before the first call of the disk, and nothing has changed then. A
 //! fault of the disk comes only where its count rose; after it the journal has the same records and

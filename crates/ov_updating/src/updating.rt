@@ -44,8 +44,8 @@ pub fn update<D: Disk>(
     requires lies { Told (D.tells.reads disk.old) (LiesIn extents.old) }
     requires settled { Told (D.tells.reads disk.old) (λ i. Only i (D.tells.may_leave disk.old)) }
 
-    // A crash at any moment leaves an image that keeps the history from before, or it with the
-    // update.
+    // Where the disk tells its bytes, a crash at any moment leaves an image that keeps the history
+    // from before, or it with the update.
     ensures any_moment { LeavesAtMost D.tells (KeepsItOrMore recoat.now.master.now.bytes
         (asked (plain_rewrites recoat.now.rewrites.now) placed.now extents.old front.now text.now))
         disk.old disk.new }

@@ -9,7 +9,7 @@ use Rattle.ov_state.specs.Entries.{plain_rewrites}
 use Rattle.ov_state.specs.Plans.{IsChange}
 use Rattle.ov_state.specs.declared.change.Rewrite.{Rewrite as StateRewrite}
 use Rattle.ov_state.specs.declared.state.TheConstants.{WIDTH}
-use Rattle.ov_placed.specs.Faults.{EndsInBook, IsBadFor, NamesSpot, StopsInBody}
+use Rattle.ov_placed.specs.Faults.{IsBadFor, NamesSpot, StopsInBody}
 use Rattle.ov_placed.specs.Replaying.{placed_update}
 use Rattle.ov_placed.specs.declared.fault.ReplayFault.{ReplayFault}
 use Rattle.ov_placed.proofs.Files.{few_rewrites}
@@ -21,20 +21,18 @@ pub returns-in_err-update-clause-fault : goal.returns-in_err-update-clause-fault
 returns-in_err-update-clause-fault c = λ blocks placed.
     let d = c.args.catalogue.now.catalogue in
     let p = err_from_is_err_and c.from_residual.result c.from_residual.ensures.1 in
-    rw p.1 (subst (λ (fault : ReplayFault). NamesSpot (IsBadFor c.args.surface.now.bytes blocks d
-    placed c.args.body.now c.args.gate) fault) (sym p.2)
-    (bad_if_misspelled c.args.surface.now.bytes blocks d placed c.args.body.now c.args.gate
-    c.in_err-update.field-0.0 c.in_err-update.ensures.fault))
+    rw p.1 (subst (λ (fault : ReplayFault). NamesSpot (IsBadFor blocks d placed c.args.body.now c.args.gate) fault) (sym p.2)
+    (bad_if_misspelled blocks d placed c.args.body.now c.args.gate c.in_err-update.field-0.0
+    c.in_err-update.ensures.fault))
 
 pub returns-in_err-change-clause-fault : goal.returns-in_err-change-clause-fault
 returns-in_err-change-clause-fault c = λ blocks placed.
     let d = c.args.catalogue.now.catalogue in
     let p = err_from_is_err_and c.from_residual-in_err-change.result
     c.from_residual-in_err-change.ensures.1 in
-    rw p.1 (subst (λ (fault : ReplayFault). NamesSpot (IsBadFor c.args.surface.now.bytes blocks d
-    placed c.args.body.now c.args.gate) fault) (sym p.2)
-    (bad_if_untaken c.args.surface.now.bytes blocks d placed c.args.body.now c.args.gate
-    (plain_brief c.in_ok-update.update) c.in_err-change.field-0.0 c.in_ok-update.ensures.found
+    rw p.1 (subst (λ (fault : ReplayFault). NamesSpot (IsBadFor blocks d placed c.args.body.now c.args.gate) fault) (sym p.2)
+    (bad_if_untaken blocks d placed c.args.body.now c.args.gate c.in_err-change.field-0.0
+    (plain_brief c.in_ok-update.update) c.in_ok-update.ensures.found
     c.in_err-change.ensures.fault))
 
 pub count_of-count-requires : goal.count_of-count-requires
@@ -54,12 +52,10 @@ returns-in_err-record-clause-fault c = λ blocks placed.
     c.count_of-count.ensures.count
     ∙ ap (λ (rs : List StateRewrite). count_of (plain_rewrites rs)) c.rewrites.ensures
     ∙ ap (λ (rs : List Rewrite). count_of rs) is.rewrites in
-    rw p.1 (subst (λ (fault : ReplayFault). NamesSpot (IsBadFor c.args.surface.now.bytes blocks d
-    placed c.args.body.now c.args.gate) fault) (sym p.2)
-    (bad_if_miscounted c.args.surface.now.bytes blocks d placed c.args.body.now c.args.gate b
-    c.in_err-record.field-0.0 c.in_ok-update.ensures.found is.taken
-    (subst (λ (n : ℕ). NamesSpot (λ spot. EndsInBook c.args.gate c.args.body.now
-    → StopsInBody n c.args.body.now c.args.gate spot) c.in_err-record.field-0.0) count
+    rw p.1 (subst (λ (fault : ReplayFault). NamesSpot (IsBadFor blocks d placed c.args.body.now c.args.gate) fault) (sym p.2)
+    (bad_if_miscounted blocks d placed c.args.body.now c.args.gate c.in_err-record.field-0.0 b
+    c.in_ok-update.ensures.found is.taken
+    (subst (λ (n : ℕ). NamesSpot (StopsInBody n c.args.body.now c.args.gate) c.in_err-record.field-0.0) count
     c.in_err-record.ensures.fault)))
 
 pub returns-clause-change : goal.returns-clause-change

@@ -5,4 +5,5 @@ pub returns-in-Err-BadRecord-clause-fault : goal.returns-in-Err-BadRecord-clause
 returns-in-Err-BadRecord-clause-fault c =
     miscounted c.args.count c.args.body.now c.args.gate c.in-Err-BadRecord.at
     c.damaged_body.result
-    (rw c.in-Err-BadRecord.field-0-is at c.in-Err-BadRecord.ensures.exact) c.damaged_body.ensures
+    (rw c.in-Err-BadRecord.field-0-is at c.in-Err-BadRecord.ensures.exact) c.damaged_body.ensures.area
+    c.damaged_body.ensures.place

@@ -59,7 +59,7 @@ returns-in_err-replay-clause-fault c =
     (next_stops bodies i [] c.loop-body-test.true master c.args.mode c.args.first c.args.blocks
     c.loop-body.replayed c.loop-body.invariant.replay c.loop-body.gate c.in_err-replay.field-0.0
     c.loop-body.invariant.gate
-    (subst (λ (l : List ℕ). NamesSpot (IsBadFor master c.args.blocks
+    (subst (λ (l : List ℕ). NamesSpot (IsBadFor c.args.blocks
     c.loop-body.replayed.catalogue c.loop-body.replayed.placed l c.loop-body.gate)
     c.in_err-replay.field-0.0) same c.in_err-replay.ensures.fault)))
 

@@ -14,12 +14,11 @@ use Rattle.ov_placed.proofs.replaying.CataloguePlaces.replay.Goals as goal
 
 pub returns-in_err-change-clause-fault : goal.returns-in_err-change-clause-fault
 returns-in_err-change-clause-fault c =
-    let master = c.args.surface.now.bytes in
     let s : PlacedStore = c.args.self.now in
     let p = err_from_is_err_and c.from_residual.result c.from_residual.ensures.1 in
-    rw p.1 (subst (λ (fault : ReplayFault). NamesSpot (IsBadFor master c.args.blocks s.catalogue
+    rw p.1 (subst (λ (fault : ReplayFault). NamesSpot (IsBadFor c.args.blocks s.catalogue
     s.placed c.args.body.now c.args.gate) fault) (sym p.2)
-    (subst (λ (t : PlacedStore). NamesSpot (IsBadFor master c.args.blocks t.catalogue t.placed
+    (subst (λ (t : PlacedStore). NamesSpot (IsBadFor c.args.blocks t.catalogue t.placed
     c.args.body.now c.args.gate) c.in_err-change.field-0.0) c.self.view_is
     (c.in_err-change.ensures.fault c.args.blocks c.self.inside.placed.items)))
 
@@ -72,7 +71,7 @@ returns-clause-fault c =
     let is = subst (λ (t : PlacedStore). IsPlacedChange {W = WIDTH} (64 * WIDTH) master t.catalogue
     u change) c.self.view_is c.in_ok-change.ensures.change in
     IfErr-weaker c.take.result (NamesSpot (UpdateIsTakenAt c.args.blocks d places u))
-    (NamesSpot (IsBadFor master c.args.blocks s.catalogue s.placed c.args.body.now c.args.gate))
+    (NamesSpot (IsBadFor c.args.blocks s.catalogue s.placed c.args.body.now c.args.gate))
     (bad_if_not_free WIDTH (64 * WIDTH) master c.args.blocks s u change is c.args.body.now
     c.in_ok-change.ensures.record d places
     (c.in_ok-change.ensures.same ∙ ap (λ (t : PlacedStore). t.catalogue) c.self.view_is)

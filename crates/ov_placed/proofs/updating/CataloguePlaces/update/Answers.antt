@@ -1,12 +1,11 @@
-use Rattle.std.proofs.Common.{rules, ◌≡◌, ℕ, List, [], length, Option, refl, sym, ◌∙◌, ap, subst}
-use Rattle.ov_history.specs.Briefs.{brief, text_of}
+use Rattle.std.proofs.Common.{◌≡◌, ℕ, List, [], length, Option, sym, ◌∙◌, ap, subst}
+use Rattle.ov_history.specs.Briefs.{brief}
 use Rattle.ov_history.specs.Placed.{replaced, with_unplaced}
 use Rattle.ov_history.specs.Rewrites.{rewrites_of}
 use Rattle.ov_images.specs.Laws.{placed_as}
 use Rattle.ov_moves.proofs.Runs.{leaves_none, leaves_weaker}
 use Rattle.ov_moves.specs.Placing.{AreMovesOf}
 use Rattle.ov_moves.specs.Runs.{LeavesAtMost}
-use Rattle.ov_record.specs.Updates.{SealedUpdate}
 use Rattle.ov_state.specs.Changes.{AreOfFiles}
 use Rattle.ov_state.specs.Entries.{plain_rewrites}
 use Rattle.ov_updating.specs.Files.{files_of, firsts_of}
