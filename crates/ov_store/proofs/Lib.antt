@@ -14,4 +14,3 @@ pub mod OwnersLaws
 pub mod Replays
 pub mod Said
 pub mod Stopping
-pub mod Unmade

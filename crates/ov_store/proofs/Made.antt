@@ -1,20 +1,23 @@
 -- An update of an open store, for each clause of its contract.
-use Rattle.std.proofs.Common.{◌≡◌, ℕ, Bool, true, false, Ok, Err, refl, sym, ◌∙◌, ap, subst}
-use Rattle.ov_disk.specs.Disk.{StaysTold}
+use Rattle.std.proofs.Common.{◌≡◌, inl, ℕ, Bool, true, false, Ok, Err, refl, sym, ◌∙◌, ap, subst}
+use Rattle.ov_disk.specs.Disk.{Told}
+use Rattle.ov_disk.specs.Moments.{LeavesOnly}
 use Rattle.ov_disk.specs.Tells.{DiskTells}
+use Rattle.ov_disk.proofs.Runs.{started}
 use Rattle.ov_history.specs.Catalogue.{Catalogue}
-use Rattle.ov_images.specs.Images.{Keys}
+use Rattle.ov_images.specs.Images.{KeepsEither, Keys}
 use Rattle.ov_journal.specs.Log.{HasSameRecords, Log, Stands, appended}
+use Rattle.ov_moves.specs.Placing.{LiesIn}
 use Rattle.ov_moves.specs.Runs.{LeavesAtMost}
-use Rattle.ov_placed.specs.Contents.{HoldsTheSame, PlacedStore}
+use Rattle.ov_placed.specs.Contents.{HoldsFiles, HoldsTheSame, PlacedStore}
 use Rattle.ov_placed.specs.Updating.{IsPrepared, KeepsOrGoesOn, MakesUpdate}
 use Rattle.ov_placed.specs.declared.preparing.Prepared.{Prepared}
 use Rattle.ov_record.specs.Updates.{SealedUpdate}
 use Rattle.ov_store.specs.Opened.{IsSafe, Opened}
-use Rattle.ov_store.specs.Updating.{GoesOnAfter, LeavesEither, ServesMore, Updates}
+use Rattle.ov_store.specs.Updating.{LeavesEither, ServesMore, Updates}
 use Rattle.ov_store.specs.declared.fault.StoreFault.TheVariants.{Disk as DiskFailed}
-use Rattle.ov_store.proofs.Going.{catalogue_more, leaves_either, safe_failed, safe_more, safe_same}
-use Rattle.ov_store.proofs.Going.{same_view, serves_more, stored_failed, stored_more}
+use Rattle.ov_store.proofs.Going.{catalogue_more, leaves_either, lies_in, safe_failed, safe_more}
+use Rattle.ov_store.proofs.Going.{safe_same, same_view, serves_more, stored_failed, stored_more}
 use Rattle.ov_store.proofs.Looking.{store_of}
 
 -- The store `old` is as `mid` once the update is prepared, and as `new` after it.
@@ -45,9 +48,6 @@ module _ {D : Type 0} (tells : DiskTells D) (k : Keys) (d0 d1 : D) (f : Bool) (s
       subst (λ (s : Opened D). LeavesEither tells u s later) view
       (leaves_either tells k d0 d1 mid log still_safe u prepared prepared_is leaves later disk_is)
 
-  pub told : StaysTold (tells.reads d0) (tells.reads d1)
-  told = leaves.told
-
   module _ (new : PlacedStore) (made : MakesUpdate tells 256 k.surface mid prepared d0 d1 new) where
     abbrev after : Opened D
     after = store_of tells d1 k new f
@@ -75,12 +75,6 @@ module _ {D : Type 0} (tells : DiskTells D) (k : Keys) (d0 d1 : D) (f : Bool) (s
           epoch_is,
         )
 
-    pub goes_on : (epoch : ℕ) → GoesOnAfter (Ok epoch) before after
-    goes_on epoch = record {
-      failed = (refl, λ bad. absurd (cc (sound, bad)), λ failed. absurd (cc failed));
-      untouched = tt;
-    }
-
   module _ (new : PlacedStore) (kept : HoldsTheSame mid new) where
     abbrev after_fault : Opened D
     after_fault = store_of tells d1 k new true
@@ -101,16 +95,29 @@ module _ {D : Type 0} (tells : DiskTells D) (k : Keys) (d0 d1 : D) (f : Bool) (s
               (tells.reads d0) (tells.reads d1) refl refl,
         )
 
-    pub goes_on_failed : GoesOnAfter (Err DiskFailed) before after_fault
-    goes_on_failed = record {
-      failed = (refl, λ bad. absurd (cc (sound, bad)), λ failed. absurd (cc failed));
-      untouched = tt;
-    }
+-- ---- what is prepared and not made
 
--- what is prepared, and then not made, leaves the store as it was
-pub as_it_was : {D : Type 0} (tells : DiskTells D) (k : Keys) (d0 d1 : D) (f : Bool)
-    (old mid new : PlacedStore) → d1 ≡ d0 → HoldsTheSame old mid → HoldsTheSame mid new
-    → store_of tells d1 k new f ≡ store_of tells d0 k old f
-as_it_was {D} tells k d0 d1 f old mid new disk same kept =
-    ap (λ (d : D). store_of tells d k new f) disk ∙ same_view tells k d0 f mid new kept
-    ∙ same_view tells k d0 f old mid same
+-- before the first call of the disk
+pub not_begun : {D : Type 0} (tells : DiskTells D) (u : SealedUpdate) (s later : Opened D)
+    → later.disk ≡ s.disk → LeavesEither tells u s later
+not_begun {D} tells u s later same g serves sound i read =
+    subst (λ (d : D). LeavesOnly tells s.disk d (KeepsEither s.keys g u)) (sym same)
+    (started tells s.disk (KeepsEither s.keys g u)
+    (λ x left. inl (serves.disk sound i read x left)))
+
+-- The store is as it was but for its room, and so is its disk.
+module _ {D : Type 0} (tells : DiskTells D) (k : Keys) (d0 : D) (f : Bool) (log : Log)
+    (old mid : PlacedStore) (same : HoldsTheSame old mid)
+    (safe : IsSafe tells log old (store_of tells d0 k old f)) where
+  pub safe_unmade : (d1 : D) (later : Log) (new : PlacedStore) → d1 ≡ d0 → later ≡ log
+      → HoldsTheSame mid new → IsSafe tells later new (store_of tells d1 k new f)
+  safe_unmade d1 later new disk journal kept =
+      subst (λ (d : D). IsSafe tells later new (store_of tells d k new f)) (sym disk)
+      (subst (λ (l : Log). IsSafe tells l new (store_of tells d0 k new f)) (sym journal)
+      (safe_same tells k d0 f log mid new kept (safe_same tells k d0 f log old mid same safe)))
+
+  pub held_lies : f ≡ false → HoldsFiles mid.catalogue mid.placed mid.held
+      → Told (tells.reads d0) (LiesIn mid.held)
+  held_lies sound holds i read =
+      let again = safe_same tells k d0 f log old mid same safe in
+      lies_in k.surface again.history mid i again.replayed (again.kept sound i read).laid_out holds
