@@ -49,7 +49,7 @@ invariant_of-self-in-Err-Memory g c =
       base_check = c.self.inside.base_check;
       surface = c.self.inside.surface.bytes;
     } in
-    let kept = c.in-Err-Memory.ensures.memory refl in
+    let kept = c.in-Err-Memory.ensures.memory (λ j. Err (c.in-Err-Memory.field-0-is j)) in
     safe_unmade g.D.Disk.tells k c.self.inside.disk c.self.inside.failed c.self.inside.journal
     c.self.inside.placed c.prepare.new.self c.prepare.ensures.same c.self.invariant c.update.new.disk
     c.update.new.journal c.update.new.self kept.0 kept.1 c.in-Err-Memory.ensures.same
