@@ -10,7 +10,7 @@ use Rattle.ov_blocks.specs.declared.extents.TheConstants.{BLOCK_BYTES}
 use Rattle.ov_disk.specs.Disk.{Image, Only, StaysTold, StaysUntold, Told}
 use Rattle.ov_disk.specs.Moments.{LeavesOnly}
 use Rattle.ov_disk.specs.Tells.{DiskTells}
-use Rattle.ov_disk.proofs.Runs.{started, weaker}
+use Rattle.ov_disk.proofs.Runs.{weaker}
 use Rattle.ov_moves.specs.Placing.{LiesIn}
 use Rattle.ov_moves.specs.Runs.{LeavesAtMost}
 use Rattle.ov_record.specs.Updates.{SealedUpdate}
@@ -187,12 +187,12 @@ module _ {D : Type 0} (tells : DiskTells D) (k : Keys) (d0 d1 : D) (store : Plac
     abbrev q : PlacedHistory
     q = with_placed p v
 
-    catalogue_is : new.catalogue ≡ catalogue_after k.surface store.catalogue (brief u)
-    catalogue_is = made.catalogue ∙ is.change.made
+    pub catalogue_more : new.catalogue ≡ catalogue_after k.surface store.catalogue (brief u)
+    catalogue_more = made.catalogue ∙ is.change.made
 
     replayed : IsReplayedTo k.surface q new.catalogue new.placed
     replayed =
-        subst (λ (c : Catalogue). IsReplayedTo k.surface q c new.placed) (sym catalogue_is)
+        subst (λ (c : Catalogue). IsReplayedTo k.surface q c new.placed) (sym catalogue_more)
         (subst (λ (ps : List (Option ℕ)).
         IsReplayedTo k.surface q (catalogue_after k.surface store.catalogue (brief u)) ps)
         (sym (made.placed u is))
@@ -220,7 +220,7 @@ module _ {D : Type 0} (tells : DiskTells D) (k : Keys) (d0 d1 : D) (store : Plac
         (store_of tells d1 k new false)
     serves_more g serves = record {
       catalogue = subst (λ (c : Catalogue). StandsFor k.surface c (with_sealed g u))
-          (sym catalogue_is)
+          (sym catalogue_more)
           (histories_go_on k.surface store.catalogue g u serves.catalogue is.change.taken.0
           is.change.taken.1);
       bytes = said (tells.reads d1) new (λ all. KeepsBytes k.surface all (with_sealed g u))
@@ -358,25 +358,3 @@ module _ {D : Type 0} (tells : DiskTells D) (k : Keys) (d0 d1 : D) (store : Plac
           },
         );
       }
-
--- before the first call of the disk
-pub not_begun : {D : Type 0} (tells : DiskTells D) (u : SealedUpdate) (s later : Opened D)
-    → later.disk ≡ s.disk → LeavesEither tells u s later
-not_begun tells u s later same g serves sound i read =
-    subst (λ d. LeavesOnly tells s.disk d (KeepsEither s.keys g u)) (sym same)
-    (started tells s.disk (KeepsEither s.keys g u)
-    (λ x left. inl (serves.disk sound i read x left)))
-
--- ---- twice the same
-
-pub same_then : (a b c : PlacedStore) → HoldsTheSame a b → HoldsTheSame b c → HoldsTheSame a c
-same_then a b c one two = record {
-  catalogue = two.catalogue ∙ one.catalogue;
-  placed = two.placed ∙ one.placed;
-  held = two.held ∙ one.held;
-}
-
-pub same_stored : (reads : Option Image) (old new : PlacedStore) → HoldsTheSame old new
-    → stored_by reads new ≡ stored_by reads old
-same_stored reads old new same =
-    λ j. option_map (λ i. cut i.blobs (same.catalogue j).files (same.placed j)) reads

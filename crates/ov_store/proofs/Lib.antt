@@ -6,6 +6,7 @@ pub mod Extents
 pub mod Going
 pub mod Histories
 pub mod Looking
+pub mod Made
 pub mod NewTexts
 pub mod Opening
 pub mod Parts

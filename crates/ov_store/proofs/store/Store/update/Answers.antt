@@ -1,21 +1,14 @@
-use Rattle.std.proofs.Common.{rules, ◌≡◌, Bool, true, false, Option, List, ℕ, refl, sym, ◌∙◌, ap, subst}
-use Rattle.std.specs.Prelude.{option_map}
-use Rattle.ov_disk.specs.Disk.{Told}
-use Rattle.ov_moves.specs.Placing.{LiesIn}
-use Rattle.ov_record.specs.Updates.{sealed_update}
-use Rattle.ov_history.specs.Briefs.{brief, text_of}
-use Rattle.ov_history.specs.Catalogue.{Catalogue, catalogue_after}
-use Rattle.ov_history.specs.Rewrites.{rewrites_of, stored_after}
-use Rattle.ov_journal.specs.Log.{Log}
+use Rattle.std.proofs.Common.{◌≡◌, true, Ok, Err, refl, ◌∙◌, ap, subst}
 use Rattle.ov_images.specs.Images.{Keys}
-use Rattle.ov_placed.specs.Contents.{PlacedStore}
-use Rattle.ov_placed.specs.Updating.{IsPrepared}
-use Rattle.ov_store.specs.Opened.{IsSafe, Opened, stored_by}
-use Rattle.ov_store.specs.Updating.{LeavesEither, ServesMore}
-use Rattle.ov_store.proofs.Going.{leaves_either, lies_in, not_begun, safe_failed, safe_more, safe_same}
-use Rattle.ov_store.proofs.Going.{same_stored, same_then, same_view, serves_more, stored_failed}
-use Rattle.ov_store.proofs.Going.{stored_more}
+use Rattle.ov_record.specs.Updates.{sealed_update}
+use Rattle.ov_history.specs.Catalogue.{Catalogue}
+use Rattle.ov_store.specs.Opened.{Opened}
+use Rattle.ov_store.specs.Updating.{LeavesEither, ServesMore, Updates}
+use Rattle.ov_store.specs.declared.fault.StoreFault.TheVariants.{Disk as DiskFailed}
+use Rattle.ov_store.proofs.Going.{safe_same}
 use Rattle.ov_store.proofs.Looking.{store_of}
+use Rattle.ov_store.proofs.Made.{answered, any_moment, faulted, held_lies, not_begun, safe_after}
+use Rattle.ov_store.proofs.Made.{safe_after_fault, safe_unmade, served}
 use Rattle.ov_store.proofs.store.Store.update.Goals as goal
 
 pub invariant_of-self : goal.invariant_of-self
@@ -37,18 +30,42 @@ returns-in_err-prepared-clause-any_moment g c =
     (store_of g.D.Disk.tells c.self.inside.disk k c.prepare.new.self c.self.inside.failed)
     (ap (λ (s : Opened g.row.D.Denot). s.disk) c.self.view_is)
 
+pub update-requires-clause-stands : goal.update-requires-clause-stands
+update-requires-clause-stands g c = c.self.invariant.stands c.if-self.false
+
 pub update-requires-clause-lies : goal.update-requires-clause-lies
-update-requires-clause-lies g c i read =
-    let safe = c.self.invariant in
-    let kept = safe.kept c.if-self.false i read in
+update-requires-clause-lies g c =
     let k : Keys = record {
       base_check = c.self.inside.base_check;
       surface = c.self.inside.surface.bytes;
     } in
-    let again = safe_same g.D.Disk.tells k c.self.inside.disk c.self.inside.failed
-    c.self.inside.journal c.self.inside.placed c.prepare.new.self c.prepare.ensures.same safe in
-    lies_in k.surface safe.history c.prepare.new.self i again.replayed kept.laid_out
+    held_lies g.D.Disk.tells k c.self.inside.disk c.self.inside.failed c.self.inside.journal
+    c.self.inside.placed c.prepare.new.self c.prepare.ensures.same c.self.invariant c.if-self.false
     c.known-2.ensures.files
+
+pub invariant_of-self-in-Err-Memory : goal.invariant_of-self-in-Err-Memory
+invariant_of-self-in-Err-Memory g c =
+    let k : Keys = record {
+      base_check = c.self.inside.base_check;
+      surface = c.self.inside.surface.bytes;
+    } in
+    let kept = c.in-Err-Memory.ensures.memory (λ j. Err (c.in-Err-Memory.field-0-is j)) in
+    safe_unmade g.D.Disk.tells k c.self.inside.disk c.self.inside.failed c.self.inside.journal
+    c.self.inside.placed c.prepare.new.self c.prepare.ensures.same c.self.invariant c.update.new.disk
+    c.update.new.journal c.update.new.self kept.0 kept.1 c.in-Err-Memory.ensures.same
+
+pub returns-in-Err-Memory-clause-any_moment : goal.returns-in-Err-Memory-clause-any_moment
+returns-in-Err-Memory-clause-any_moment g c =
+    let k : Keys = record {
+      base_check = c.self.inside.base_check;
+      surface = c.self.inside.surface.bytes;
+    } in
+    let later : Opened g.row.D.Denot = store_of g.D.Disk.tells c.update.new.disk k c.update.new.self c.self.inside.failed in
+    subst (λ (s : Opened g.row.D.Denot). LeavesEither g.D.Disk.tells (sealed_update c.args.update) s later) c.self.view_is
+    (any_moment g.D.Disk.tells k c.self.inside.disk c.update.new.disk c.self.inside.failed c.if-self.false
+    c.self.inside.journal c.self.inside.placed c.prepare.new.self c.prepare.ensures.same
+    c.self.invariant (sealed_update c.args.update) c.in_ok-prepared.prepared
+    c.in_ok-prepared.ensures.prepared c.update.ensures.any_moment later refl)
 
 pub returns-in-Err-Disk-clause-any_moment : goal.returns-in-Err-Disk-clause-any_moment
 returns-in-Err-Disk-clause-any_moment g c =
@@ -56,30 +73,12 @@ returns-in-Err-Disk-clause-any_moment g c =
       base_check = c.self.inside.base_check;
       surface = c.self.inside.surface.bytes;
     } in
-    let u = sealed_update c.args.update in
-    let old : PlacedStore = c.self.inside.placed in
-    let mid : PlacedStore = c.prepare.new.self in
-    let d0 = c.self.inside.disk in
-    let d1 = c.update.new.disk in
-    let log = c.self.inside.journal in
-    let prepared = c.in_ok-prepared.prepared in
-    let sound : c.self.inside.failed ≡ false = c.if-self.false in
-    let safe = subst (λ (b : Bool). IsSafe g.D.Disk.tells log mid (store_of g.D.Disk.tells d0 k mid b))
-    sound
-    (safe_same g.D.Disk.tells k d0 c.self.inside.failed log old mid c.prepare.ensures.same
-    c.self.invariant) in
-    let is = subst (λ (x : Catalogue). IsPrepared 256 k.surface x u prepared)
-    (sym c.prepare.ensures.same.catalogue) c.in_ok-prepared.ensures.prepared in
-    let leaves = c.update.ensures.any_moment in
-    let before = store_of g.D.Disk.tells d0 k mid false in
-    let view : before ≡ c.args.self.now =
-    ap (λ (b : Bool). store_of g.D.Disk.tells d0 k mid b) (sym sound)
-    ∙ same_view g.D.Disk.tells k d0 c.self.inside.failed old mid c.prepare.ensures.same
-    ∙ c.self.view_is in
-    let later : Opened g.row.D.Denot =
-    store_of g.D.Disk.tells d1 k c.update.new.self true in
-    subst (λ (s : Opened g.row.D.Denot). LeavesEither g.D.Disk.tells u s later) view
-    (leaves_either g.D.Disk.tells k d0 d1 mid log safe u prepared is leaves later refl)
+    let later : Opened g.row.D.Denot = store_of g.D.Disk.tells c.update.new.disk k c.update.new.self true in
+    subst (λ (s : Opened g.row.D.Denot). LeavesEither g.D.Disk.tells (sealed_update c.args.update) s later) c.self.view_is
+    (any_moment g.D.Disk.tells k c.self.inside.disk c.update.new.disk c.self.inside.failed c.if-self.false
+    c.self.inside.journal c.self.inside.placed c.prepare.new.self c.prepare.ensures.same
+    c.self.invariant (sealed_update c.args.update) c.in_ok-prepared.prepared
+    c.in_ok-prepared.ensures.prepared c.update.ensures.any_moment later refl)
 
 pub returns-clause-any_moment : goal.returns-clause-any_moment
 returns-clause-any_moment g c =
@@ -87,30 +86,12 @@ returns-clause-any_moment g c =
       base_check = c.self.inside.base_check;
       surface = c.self.inside.surface.bytes;
     } in
-    let u = sealed_update c.args.update in
-    let old : PlacedStore = c.self.inside.placed in
-    let mid : PlacedStore = c.prepare.new.self in
-    let d0 = c.self.inside.disk in
-    let d1 = c.update.new.disk in
-    let log = c.self.inside.journal in
-    let prepared = c.in_ok-prepared.prepared in
-    let sound : c.self.inside.failed ≡ false = c.if-self.false in
-    let safe = subst (λ (b : Bool). IsSafe g.D.Disk.tells log mid (store_of g.D.Disk.tells d0 k mid b))
-    sound
-    (safe_same g.D.Disk.tells k d0 c.self.inside.failed log old mid c.prepare.ensures.same
-    c.self.invariant) in
-    let is = subst (λ (x : Catalogue). IsPrepared 256 k.surface x u prepared)
-    (sym c.prepare.ensures.same.catalogue) c.in_ok-prepared.ensures.prepared in
-    let leaves = c.update.ensures.any_moment in
-    let before = store_of g.D.Disk.tells d0 k mid false in
-    let view : before ≡ c.args.self.now =
-    ap (λ (b : Bool). store_of g.D.Disk.tells d0 k mid b) (sym sound)
-    ∙ same_view g.D.Disk.tells k d0 c.self.inside.failed old mid c.prepare.ensures.same
-    ∙ c.self.view_is in
-    let later : Opened g.row.D.Denot =
-    store_of g.D.Disk.tells d1 k c.update.new.self c.self.inside.failed in
-    subst (λ (s : Opened g.row.D.Denot). LeavesEither g.D.Disk.tells u s later) view
-    (leaves_either g.D.Disk.tells k d0 d1 mid log safe u prepared is leaves later refl)
+    let later : Opened g.row.D.Denot = store_of g.D.Disk.tells c.update.new.disk k c.update.new.self c.self.inside.failed in
+    subst (λ (s : Opened g.row.D.Denot). LeavesEither g.D.Disk.tells (sealed_update c.args.update) s later) c.self.view_is
+    (any_moment g.D.Disk.tells k c.self.inside.disk c.update.new.disk c.self.inside.failed c.if-self.false
+    c.self.inside.journal c.self.inside.placed c.prepare.new.self c.prepare.ensures.same
+    c.self.invariant (sealed_update c.args.update) c.in_ok-prepared.prepared
+    c.in_ok-prepared.ensures.prepared c.update.ensures.any_moment later refl)
 
 pub invariant_of-self-in-Err-Disk : goal.invariant_of-self-in-Err-Disk
 invariant_of-self-in-Err-Disk g c =
@@ -118,25 +99,52 @@ invariant_of-self-in-Err-Disk g c =
       base_check = c.self.inside.base_check;
       surface = c.self.inside.surface.bytes;
     } in
-    let u = sealed_update c.args.update in
-    let old : PlacedStore = c.self.inside.placed in
-    let mid : PlacedStore = c.prepare.new.self in
-    let d0 = c.self.inside.disk in
-    let d1 = c.update.new.disk in
-    let log = c.self.inside.journal in
-    let prepared = c.in_ok-prepared.prepared in
-    let sound : c.self.inside.failed ≡ false = c.if-self.false in
-    let safe = subst (λ (b : Bool). IsSafe g.D.Disk.tells log mid (store_of g.D.Disk.tells d0 k mid b))
-    sound
-    (safe_same g.D.Disk.tells k d0 c.self.inside.failed log old mid c.prepare.ensures.same
-    c.self.invariant) in
-    let is = subst (λ (x : Catalogue). IsPrepared 256 k.surface x u prepared)
-    (sym c.prepare.ensures.same.catalogue) c.in_ok-prepared.ensures.prepared in
-    let leaves = c.update.ensures.any_moment in
-    safe_same g.D.Disk.tells k d1 true c.update.new.journal mid c.update.new.self
-    c.in-Err-Disk.ensures.same
-    (safe_failed g.D.Disk.tells k d0 d1 mid log safe u prepared is leaves c.update.new.journal
-    c.in-Err-Disk.ensures.log)
+    safe_after_fault g.D.Disk.tells k c.self.inside.disk c.update.new.disk c.self.inside.failed c.if-self.false
+    c.self.inside.journal c.self.inside.placed c.prepare.new.self c.prepare.ensures.same
+    c.self.invariant (sealed_update c.args.update) c.in_ok-prepared.prepared
+    c.in_ok-prepared.ensures.prepared c.update.ensures.any_moment
+    c.update.new.self c.in-Err-Disk.ensures.same c.update.new.journal c.in-Err-Disk.ensures.log
+
+pub returns-in-Err-Disk-clause-answer : goal.returns-in-Err-Disk-clause-answer
+returns-in-Err-Disk-clause-answer g c =
+    let k : Keys = record {
+      base_check = c.self.inside.base_check;
+      surface = c.self.inside.surface.bytes;
+    } in
+    let later : Opened g.row.D.Denot = store_of g.D.Disk.tells c.update.new.disk k c.update.new.self true in
+    subst (λ (s : Opened g.row.D.Denot). Updates (sealed_update c.args.update) s later (Err DiskFailed)) c.self.view_is
+    (faulted g.D.Disk.tells k c.self.inside.disk c.update.new.disk c.self.inside.failed c.if-self.false
+    c.self.inside.journal c.self.inside.placed c.prepare.new.self c.prepare.ensures.same
+    c.self.invariant (sealed_update c.args.update) c.in_ok-prepared.prepared
+    c.in_ok-prepared.ensures.prepared c.update.ensures.any_moment c.update.new.self c.in-Err-Disk.ensures.same)
+
+pub invariant_of-self-2 : goal.invariant_of-self-2
+invariant_of-self-2 g c =
+    let k : Keys = record {
+      base_check = c.self.inside.base_check;
+      surface = c.self.inside.surface.bytes;
+    } in
+    safe_after g.D.Disk.tells k c.self.inside.disk c.update.new.disk c.self.inside.failed c.if-self.false
+    c.self.inside.journal c.self.inside.placed c.prepare.new.self c.prepare.ensures.same
+    c.self.invariant (sealed_update c.args.update) c.in_ok-prepared.prepared
+    c.in_ok-prepared.ensures.prepared c.update.ensures.any_moment
+    c.update.new.self c.in-Ok.ensures.made c.update.new.journal c.in-Ok.ensures.log.0
+    c.in-Ok.ensures.log.1 c.in-Ok.ensures.stands
+
+pub returns-clause-answer : goal.returns-clause-answer
+returns-clause-answer g c =
+    let k : Keys = record {
+      base_check = c.self.inside.base_check;
+      surface = c.self.inside.surface.bytes;
+    } in
+    let later : Opened g.row.D.Denot = store_of g.D.Disk.tells c.update.new.disk k c.update.new.self c.self.inside.failed in
+    subst (λ (s : Opened g.row.D.Denot). Updates (sealed_update c.args.update) s later (Ok c.epoch.result)) c.self.view_is
+    (answered g.D.Disk.tells k c.self.inside.disk c.update.new.disk c.self.inside.failed c.if-self.false
+    c.self.inside.journal c.self.inside.placed c.prepare.new.self c.prepare.ensures.same
+    c.self.invariant (sealed_update c.args.update) c.in_ok-prepared.prepared
+    c.in_ok-prepared.ensures.prepared c.update.ensures.any_moment c.update.new.self c.in-Ok.ensures.made
+    c.epoch.result
+    (c.epoch.ensures ∙ ap (λ (x : Catalogue). x.epoch) c.catalogue.ensures.catalogue))
 
 pub returns-clause-served : goal.returns-clause-served
 returns-clause-served g c =
@@ -144,29 +152,9 @@ returns-clause-served g c =
       base_check = c.self.inside.base_check;
       surface = c.self.inside.surface.bytes;
     } in
-    let u = sealed_update c.args.update in
-    let old : PlacedStore = c.self.inside.placed in
-    let mid : PlacedStore = c.prepare.new.self in
-    let d0 = c.self.inside.disk in
-    let d1 = c.update.new.disk in
-    let log = c.self.inside.journal in
-    let prepared = c.in_ok-prepared.prepared in
-    let sound : c.self.inside.failed ≡ false = c.if-self.false in
-    let safe = subst (λ (b : Bool). IsSafe g.D.Disk.tells log mid (store_of g.D.Disk.tells d0 k mid b))
-    sound
-    (safe_same g.D.Disk.tells k d0 c.self.inside.failed log old mid c.prepare.ensures.same
-    c.self.invariant) in
-    let is = subst (λ (x : Catalogue). IsPrepared 256 k.surface x u prepared)
-    (sym c.prepare.ensures.same.catalogue) c.in_ok-prepared.ensures.prepared in
-    let leaves = c.update.ensures.any_moment in
-    let before = store_of g.D.Disk.tells d0 k mid false in
-    let view : before ≡ c.args.self.now =
-    ap (λ (b : Bool). store_of g.D.Disk.tells d0 k mid b) (sym sound)
-    ∙ same_view g.D.Disk.tells k d0 c.self.inside.failed old mid c.prepare.ensures.same
-    ∙ c.self.view_is in
-    subst (λ (b : Bool). ServesMore g.D.Disk.tells u c.args.self.now
-    (store_of g.D.Disk.tells d1 k c.update.new.self b)) (sym sound)
-    (subst (λ (s : Opened g.row.D.Denot). ServesMore g.D.Disk.tells u s
-    (store_of g.D.Disk.tells d1 k c.update.new.self false)) view
-    (serves_more g.D.Disk.tells k d0 d1 mid log safe u prepared is leaves c.update.new.self
-    c.in-Ok.ensures.made))
+    let later : Opened g.row.D.Denot = store_of g.D.Disk.tells c.update.new.disk k c.update.new.self c.self.inside.failed in
+    subst (λ (s : Opened g.row.D.Denot). ServesMore g.D.Disk.tells (sealed_update c.args.update) s later) c.self.view_is
+    (served g.D.Disk.tells k c.self.inside.disk c.update.new.disk c.self.inside.failed c.if-self.false
+    c.self.inside.journal c.self.inside.placed c.prepare.new.self c.prepare.ensures.same
+    c.self.invariant (sealed_update c.args.update) c.in_ok-prepared.prepared
+    c.in_ok-prepared.ensures.prepared c.update.ensures.any_moment c.update.new.self c.in-Ok.ensures.made)
