@@ -31,8 +31,8 @@
 //! * At `Ok` the disk reads each file in its new extent, and behind the old end of Blobs nothing but
 //!   bytes of new extents (`GrowsIntoMoves`). These are whole blocks: where Blobs ended at the end of
 //!   a block, it does so again, by the law [`blobs_ends_with_an_extent`]. `update` and `rewrite` say
-//!   the same of each image with the new record (`AreMoved`), but before the record a crash may leave
-//!   a Blobs of any greater length.
+//!   the same of each image with the new record (`AreMoved`). Of an image without it, which a crash
+//!   may leave, nothing is said behind the old end.
 //! * `rewrite` says of each such image that it stands for whatever the one at the start stood for; or
 //!   for that with the record, and then each new extent took blocks that were free (`GoToFree`) and
 //!   has the old one's bytes, turned (`StandsForEither`). At `Ok` there is one image that a crash may
@@ -47,7 +47,7 @@
 //! | `Bytes` | what is to stand in a new extent |
 //! | `Moves` | what may be moved, and what that leaves of both areas |
 //! | `Placing`, `Releasing` | new extents, and those that are given up |
-//! | `Updating` | files and the record behind them |
+//! | `Updating` | files and the record behind them, and where Blobs ends |
 //! | `Standing`, `Rewriting` | what images stand for, and the whole of an update |
 //! | `Runs` | calls that write by steps of one kind |
 //!
