@@ -28,7 +28,7 @@ const PLACES: [(&[(u32, u32)], u32, u32); 15] = [
     (&[(0, 2), (5, 1)], 4, 6),
     (&[(0, 2), (5, 1), (9, 1)], 3, 2),
     (&[(0, 2), (5, 1), (9, 1)], 4, 10),
-    // Each gap is too short by a block: no run of so many begins further behind so many extents.
+    // Each gap is too short by a block, so that the run begins as far behind as it may.
     (&[(1, 1), (3, 1), (5, 1)], 2, 6),
     (&[(3, 1), (7, 5), (15, 2)], 4, 17),
     // No gap: the run begins where the last extent ends.
