@@ -1,11 +1,11 @@
 -- The lowest free run.
-use Rattle.std.proofs.Common.{◌≡◌, ◌⊎◌, inl, inr, ℕ, suc, ◌+◌, ◌*◌, ◌≤◌, ◌<◌, List, [], ◌∷◌, length, drop, get_or, Bool, leb, if◌then◌else◌, sym, ◌∙◌, ap, subst, arith}
+use Rattle.std.proofs.Common.{◌≡◌, ◌⊎◌, inl, inr, ℕ, suc, ◌+◌, ◌-◌, ◌*◌, ◌≤◌, ◌<◌, List, [], ◌∷◌, length, drop, get_or, Bool, leb, if◌then◌else◌, sym, ◌∙◌, ap, subst, arith}
 use Rattle.std.specs.Prelude.{All}
 use Rattle.std.proofs.lemmas.Bool.Decides.{leb_tells}
 use Rattle.std.proofs.lemmas.List.{at_drop_more}
 use Rattle.ov_blocks.specs.declared.extents.Extent.{Extent}
 use Rattle.ov_blocks.specs.declared.extents.TheConstants.{MAX_BLOCKS}
-use Rattle.ov_blocks.specs.Extents.{AreApart, IsFree, end_from}
+use Rattle.ov_blocks.specs.Extents.{AreApart, IsFree, blocks_held, end_from}
 
 -- the lowest first block, from `from` on, of a run of so many that ends before one of these extents begins, or of the run behind them
 abbrev pub lowest_in : ℕ → ℕ → List Extent → ℕ
@@ -61,6 +61,14 @@ near from count (e ∷ held) apart = elim (step from count e held) [
   end_least : (from : ℕ) (held : List Extent) → AreApart from held → from ≤ end_from from held
   end_least from [] apart = omega arith
   end_least from (e ∷ held) apart = omega (arith, apart.0, apart.1, end_least (e.first + e.length) held apart.2)
+
+-- each gap that is passed over is shorter than the run
+pub bound : (from count : ℕ) (held : List Extent) → AreApart from held → lowest_in from count held ≤ from + (blocks_held held + length held * (count - 1))
+bound from count [] apart = omega arith
+bound from count (e ∷ held) apart = elim (step from count e held) [
+  | inl fits ↦ omega (arith, fits.1)
+  | inr not ↦ omega (arith, apart.0, not.0, not.1, bound (e.first + e.length) count held apart.2)
+]
 
 -- with gaps and extents that are short, each new run begins early
 pub early : (from count : ℕ) (held : List Extent) → count ≤ 4096 → All (λ (e : Extent). e.length ≤ 4096) held → lowest_in from count held ≤ from + 8192 * length held

@@ -23,6 +23,11 @@ abbrev pub end_from : ℕ → List Extent → ℕ
 end_from from [] = from
 end_from from (e ∷ held) = end_from (e.first + e.length) held
 
+-- how many blocks these extents have
+abbrev pub blocks_held : List Extent → ℕ
+blocks_held [] = 0
+blocks_held (e ∷ held) = e.length + blocks_held held
+
 -- the block is one of the extent's
 abbrev pub IsBlockOf : ℕ → Extent → Type 0
 IsBlockOf block e = (e.first ≤ block) × (block < e.first + e.length)

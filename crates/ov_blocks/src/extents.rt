@@ -1,6 +1,6 @@
 //! The extents that are held.
-ghost use Rattle.std.specs.Prelude.{◌≡◌, ◌≤◌, ◌<◌, ◌+◌, ℕ, [], IfOk, OnErr, Contains};
-ghost use Rattle.ov_blocks.specs.Extents.{AreApart, HasPlace, Holds, IsFree, IsWith, ShareNoBlock, blocks_of, end_from};
+ghost use Rattle.std.specs.Prelude.{◌≡◌, ◌≤◌, ◌<◌, ◌+◌, ◌-◌, ◌*◌, ℕ, [], IfOk, OnErr, Contains, length};
+ghost use Rattle.ov_blocks.specs.Extents.{AreApart, HasPlace, Holds, IsFree, IsWith, ShareNoBlock, blocks_held, blocks_of, end_from};
 
 use crate::free::{count_before, is_free, lowest_run};
 use ov_base::Memory;
@@ -80,14 +80,17 @@ impl Extents {
 
     /// The first block of the lowest run of so many free blocks. It takes no memory, and walks over
     /// the held extents at most once.
-    pub fn place(&self, length: u32) -> u32
-        requires { HasPlace length self.now }
-        ensures free { IsFree result length self.now }
-        ensures lowest { (first : ℕ) → first < result → IsFree first length self.now → ⊥ }
-        ensures end { result + length ≤ MAX_BLOCKS }
+    pub fn place(&self, blocks: u32) -> u32
+        requires { HasPlace blocks self.now }
+        ensures free { IsFree result blocks self.now }
+        ensures lowest { (first : ℕ) → first < result → IsFree first blocks self.now → ⊥ }
+        ensures end { result + blocks ≤ MAX_BLOCKS }
         ensures near { result ≤ end_from 0 self.now }
+
+        // Each gap before the run is too short for it.
+        ensures bound { result ≤ blocks_held self.now + length self.now * (blocks - 1) }
     {
-        lowest_run(&self.held, length)
+        lowest_run(&self.held, blocks)
     }
 
     /// Holds a range, unless one of its blocks is in use.

@@ -1,6 +1,6 @@
 //! Which blocks are free, by the extents that are held.
-ghost use Rattle.std.specs.Prelude.{◌≤◌, ◌<◌, ◌+◌, ℕ};
-ghost use Rattle.ov_blocks.specs.Extents.{AreApart, HasPlace, IsFree, end_from};
+ghost use Rattle.std.specs.Prelude.{◌≤◌, ◌<◌, ◌+◌, ◌-◌, ◌*◌, ℕ, length};
+ghost use Rattle.ov_blocks.specs.Extents.{AreApart, HasPlace, IsFree, blocks_held, end_from};
 ghost use Rattle.ov_blocks.specs.Places.{IsCountBefore, TellsFree};
 ghost use Rattle.ov_blocks.specs.declared.extents.TheConstants.{MAX_BLOCKS};
 
@@ -8,17 +8,18 @@ use crate::extents::Extent;
 
 // The lowest first block of a free run: behind the last extent, unless an earlier gap is long
 // enough.
-pub(crate) fn lowest_run(held: &[Extent], length: u32) -> u32
+pub(crate) fn lowest_run(held: &[Extent], blocks: u32) -> u32
     requires apart { AreApart 0 held.now }
-    requires short { HasPlace length held.now }
-    ensures free { IsFree result length held.now }
-    ensures lowest { (first : ℕ) → first < result → IsFree first length held.now → ⊥ }
-    ensures end { result + length ≤ MAX_BLOCKS }
+    requires short { HasPlace blocks held.now }
+    ensures free { IsFree result blocks held.now }
+    ensures lowest { (first : ℕ) → first < result → IsFree first blocks held.now → ⊥ }
+    ensures end { result + blocks ≤ MAX_BLOCKS }
     ensures near { result ≤ end_from 0 held.now }
+    ensures bound { result ≤ blocks_held held.now + length held.now * (blocks - 1) }
 {
     let mut first = 0;
     for extent in held {
-        if extent.first - first >= length {
+        if extent.first - first >= blocks {
             return first;
         }
         first = extent.first + extent.length;

@@ -13,8 +13,10 @@
 //!
 //! * [`blocks_of`] tells how many blocks take so many bytes.
 //! * [`Extents::place`] answers the lowest run of free blocks that is long enough. Behind the last
-//!   extent all blocks are free, whatever the length of Blobs. It takes no memory and walks over
-//!   the held extents at most once: at 16,384 of them that is 16,384 steps.
+//!   extent all blocks are free, whatever the length of Blobs. Each gap before the run is too short
+//!   for it. So no more blocks lie before the run than all held extents have and, for each of these,
+//!   one block less than the run has, which bounds how far Blobs grows. `place` takes no memory and
+//!   walks over the held extents at most once: at 16,384 of them that is 16,384 steps.
 //! * [`Extents::hold`] answers `false` exactly where a block of the range is in use, and else holds
 //!   the range; [`Extents::release`] gives one up, and takes no memory. Both find the place by
 //!   halves and move what stands behind it.

@@ -17,7 +17,7 @@ fn holding(rt: &impl Abort, alloc: Global, held: &[(u32, u32)]) -> Result<Extent
 }
 
 // What is held, the length that is wanted, and its place.
-const PLACES: [(&[(u32, u32)], u32, u32); 13] = [
+const PLACES: [(&[(u32, u32)], u32, u32); 15] = [
     (&[], 1, 0),
     (&[], 4_096, 0),
     (&[(0, 3)], 3, 3),
@@ -28,6 +28,9 @@ const PLACES: [(&[(u32, u32)], u32, u32); 13] = [
     (&[(0, 2), (5, 1)], 4, 6),
     (&[(0, 2), (5, 1), (9, 1)], 3, 2),
     (&[(0, 2), (5, 1), (9, 1)], 4, 10),
+    // Each gap is too short by a block, so that the run begins as far behind as it may.
+    (&[(1, 1), (3, 1), (5, 1)], 2, 6),
+    (&[(3, 1), (7, 5), (15, 2)], 4, 17),
     // No gap: the run begins where the last extent ends.
     (&[(0, 2), (2, 1), (3, 4)], 1, 7),
     // An extent in front of a long gap, whatever comes behind it.

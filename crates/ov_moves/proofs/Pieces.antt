@@ -53,6 +53,7 @@ module _ (turned : ℕ → ℕ → ℕ → ℕ) (text : List ℕ) (start count :
   puts = record {
     changed = wider (place_in_blobs m.to start) (length bytes) (place_in_blobs m.to 0) (rounded m.length) i (written Blobs (place_in_blobs m.to start) bytes i)
         (record { begins = omega arith; ends = omega (arith, long, piece_blocks start m.length count whole lt is) }) (puts_change_their_range (place_in_blobs m.to start) bytes i le);
+    no_longer = omega (arith, long, put_length (place_in_blobs m.to start) bytes i.blobs le, piece_blocks start m.length count whole lt is);
     before = λ q below. put_outside (place_in_blobs m.to start) bytes i.blobs le (place_in_blobs m.to q) (inl (omega (arith, below)));
     there = omega (arith, long, put_length (place_in_blobs m.to start) bytes i.blobs le, piece_end start m.length count whole lt is);
     each = λ q ge below.
@@ -74,6 +75,7 @@ old_beside m from (inr behind) q lt = inr (omega (arith, behind))
 pub none_moved : (turned : ℕ → ℕ → ℕ → ℕ) (text : List ℕ) (m : Move) (i : Image) → place_in_blobs m.to 0 ≤ length i.blobs → MovesTo 0 turned text m i i
 none_moved turned text m i begins = record {
   changed = unchanged (place_in_blobs m.to 0) (rounded m.length) i;
+  no_longer = omega arith;
   moved = record { there = omega (arith, begins); each = λ q lt. absurd (omega (arith, lt)) };
 }
 
@@ -82,6 +84,7 @@ pub more_moved : (turned : ℕ → ℕ → ℕ → ℕ) (text : List ℕ) (m : M
     → IsThere m i → MovesTo done turned text m i j → PutsPiece turned text done m j k → MovesTo (done + 65536) turned text m i k
 more_moved turned text m done i j k beside there so_far put = record {
   changed = changed_then (place_in_blobs m.to 0) (rounded m.length) i j k so_far.changed put.changed;
+  no_longer = omega (arith, so_far.no_longer, put.no_longer);
   moved = record {
     there = put.there;
     each = λ q lt. elim (cases_lt q done) [
@@ -96,6 +99,7 @@ more_moved turned text m done i j k beside there so_far put = record {
 pub all_moved : (turned : ℕ → ℕ → ℕ → ℕ) (text : List ℕ) (m : Move) (done : ℕ) (i k : Image) → rounded m.length ≤ done → MovesTo done turned text m i k → MovesOne turned text m i k
 all_moved turned text m done i k most so_far = record {
   changed = so_far.changed;
+  no_longer = so_far.no_longer;
   moved = record {
     there = omega (arith, so_far.moved.there, most);
     each = λ q lt. so_far.moved.each q (omega (arith, lt, most));

@@ -1,5 +1,5 @@
 -- Files that are written into other extents: what that needs, and what it leaves of both areas.
-use Rattle.std.specs.Prelude.{◌≡◌, ◌⊎◌, ℕ, ◌+◌, ◌*◌, ◌/◌, ◌≤◌, ◌<◌, min, List, length, All, slice_index, slice_index_or, Some, None}
+use Rattle.std.specs.Prelude.{◌≡◌, ◌⊎◌, ℕ, ◌+◌, ◌*◌, ◌/◌, ◌≤◌, ◌<◌, min, max, List, length, All, slice_index, slice_index_or, Some, None}
 use Rattle.ov_base.specs.declared.limits.TheConstants.{MAX_FILE_BYTES}
 use Rattle.ov_disk.specs.Disk.{Image}
 use Rattle.ov_blocks.specs.Extents.{IsBeside, IsInside, blocks_of}
@@ -24,6 +24,11 @@ pub record AreKeptOutside (moves : List Move) (old new : List ℕ) : Type 0 wher
   pub no_shorter : length old ≤ length new
   pub outside : (p : ℕ) → p < length old → IsOutside moves p
       → slice_index new p ≡ slice_index old p
+
+-- Behind its old end Blobs has nothing but bytes of the new extents.
+abbrev pub GrowsIntoMoves : List Move → List ℕ → List ℕ → Type 0
+GrowsIntoMoves moves old new =
+    (p : ℕ) → length old ≤ p → p < length new → IsOutside moves p → ⊥
 
 -- Book is the same, and so is Blobs outside of all new extents.
 pub record IsKeptOutside (moves : List Move) (old new : Image) : Type 0 where
@@ -69,14 +74,17 @@ pub record CanMoveAll (moves : List Move) (i : Image) : Type 0 where
 
 -- ---- what was moved
 
--- Nothing is changed outside of the new extents, and the first of these files are in theirs.
+-- Nothing is changed outside of the new extents, Blobs grows into these alone, and the first of
+-- these files are in theirs.
 pub record MovesFirst (turned : ℕ → ℕ → ℕ → ℕ) (text : List ℕ) (count : ℕ) (moves : List Move)
     (i k : Image) : Type 0 where
   pub kept : IsKeptOutside moves i k
+  pub grows : GrowsIntoMoves moves i.blobs k.blobs
   pub moved : (a : ℕ) (d : Move) → a < count
       → HasMoved turned text (slice_index_or moves a d) i.blobs k.blobs
 
--- Nothing is changed outside of the new extents, and all files are in theirs.
+-- Nothing is changed outside of the new extents, Blobs grows into these alone, and all files are in
+-- theirs.
 abbrev pub MovesAll : (ℕ → ℕ → ℕ → ℕ) → List ℕ → List Move → Image → Image → Type 0
 MovesAll turned text moves i k = MovesFirst turned text (length moves) moves i k
 
@@ -101,23 +109,31 @@ pub record CanMovePiece (start : ℕ) (m : Move) (i : Image) : Type 0 where
   pub begins : place_in_blobs m.to start ≤ length i.blobs
 
 -- The piece stands in the new extent. Nothing is changed outside of that, and nothing before the
--- piece.
+-- piece. Blobs grows no further than to the extent's end.
 pub record PutsPiece (turned : ℕ → ℕ → ℕ → ℕ) (text : List ℕ) (start : ℕ) (m : Move) (i k : Image)
     : Type 0 where
   pub changed : IsChangedIn (place_in_blobs m.to 0) (rounded m.length) i k
+  pub no_longer : length k.blobs
+      ≤ max (length i.blobs) (place_in_blobs m.to (rounded m.length))
   pub before : (q : ℕ) → q < start
       → slice_index k.blobs (place_in_blobs m.to q) ≡ slice_index i.blobs (place_in_blobs m.to q)
   pub there : place_in_blobs m.to (min (start + PIECE_BYTES) (rounded m.length)) ≤ length k.blobs
   pub each : (q : ℕ) → start ≤ q → q < min (start + PIECE_BYTES) (rounded m.length)
       → IsNewByte turned text m i.blobs q (slice_index k.blobs (place_in_blobs m.to q))
 
--- So many of the file's first bytes are in its new extent, and nothing is changed outside of that.
+-- So many of the file's first bytes are in its new extent. Nothing is changed outside of that, and
+-- Blobs grows no further than to its end.
 pub record MovesTo (done : ℕ) (turned : ℕ → ℕ → ℕ → ℕ) (text : List ℕ) (m : Move) (i k : Image)
     : Type 0 where
   pub changed : IsChangedIn (place_in_blobs m.to 0) (rounded m.length) i k
+  pub no_longer : length k.blobs
+      ≤ max (length i.blobs) (place_in_blobs m.to (rounded m.length))
   pub moved : HasMovedTo done turned text m i.blobs k.blobs
 
--- The file is in its new extent, and nothing is changed outside of that.
+-- The file is in its new extent. Nothing is changed outside of that, and Blobs grows no further than
+-- to its end.
 pub record MovesOne (turned : ℕ → ℕ → ℕ → ℕ) (text : List ℕ) (m : Move) (i k : Image) : Type 0 where
   pub changed : IsChangedIn (place_in_blobs m.to 0) (rounded m.length) i k
+  pub no_longer : length k.blobs
+      ≤ max (length i.blobs) (place_in_blobs m.to (rounded m.length))
   pub moved : HasMoved turned text m i.blobs k.blobs

@@ -13,8 +13,8 @@
 //!   long enough. Where memory ends, what is held is the very same as before.
 //! * [`move_all`] moves files, one after the other, through one buffer of [`PIECE_BYTES`]: a piece is
 //!   read from the old extent, turned, and put into the new one, with zeros to the end of its last
-//!   block. So Blobs ends where a block ends, and no byte of another file stays in the buffer. A file
-//!   that has no old extent gets the bytes of a text, turned in the same way.
+//!   block, so that no byte of another file stays behind it. A file that has no old extent gets the
+//!   bytes of a text, turned in the same way.
 //! * [`update`] moves files, and then appends the record. No sync comes between: the first one of the
 //!   append makes Blobs last, and only then is the record's gate opened. It takes no memory.
 //! * [`release_all`] gives up the old extents of files, [`release_new`] the new ones of moves.
@@ -28,6 +28,11 @@
 //! * `move_all` says of each image that a crash leaves meanwhile that it comes from one that it might
 //!   have left at the start by a step that keeps Book, makes Blobs no shorter, and changes no byte
 //!   outside of the new extents (`GoesBy`, `IsKeptOutside`). How many calls there are doesn't enter.
+//! * At `Ok` the disk reads each file in its new extent, and behind the old end of Blobs nothing but
+//!   bytes of new extents (`GrowsIntoMoves`). These are whole blocks: where Blobs ended at the end of
+//!   a block, it does so again, by the law [`blobs_ends_with_an_extent`]. `update` and `rewrite` say
+//!   the same of each image with the new record (`AreMoved`). Of an image without it, which a crash
+//!   may leave, nothing is said behind the old end.
 //! * `rewrite` says of each such image that it stands for whatever the one at the start stood for; or
 //!   for that with the record, and then each new extent took blocks that were free (`GoToFree`) and
 //!   has the old one's bytes, turned (`StandsForEither`). At `Ok` there is one image that a crash may
@@ -42,7 +47,7 @@
 //! | `Bytes` | what is to stand in a new extent |
 //! | `Moves` | what may be moved, and what that leaves of both areas |
 //! | `Placing`, `Releasing` | new extents, and those that are given up |
-//! | `Updating` | files and the record behind them |
+//! | `Updating` | files and the record behind them, and where Blobs ends |
 //! | `Standing`, `Rewriting` | what images stand for, and the whole of an update |
 //! | `Runs` | calls that write by steps of one kind |
 //!
@@ -69,7 +74,7 @@ mod spelling;
 mod turning;
 mod updating;
 
-pub use laws::standing_is_kept;
+pub use laws::{blobs_ends_with_an_extent, standing_is_kept};
 pub use moves::{Move, move_all};
 pub use piece::PIECE_BYTES;
 pub use placing::{Placed, place_all};

@@ -56,7 +56,8 @@ fn move_one<D: Disk, T: Turn>(
 /// copied from the text, turned, and put into the new extent. It takes no memory and syncs nothing.
 ///
 /// Whatever it answers, an image that a crash leaves meanwhile is one that it might have left at the
-/// start but for the new extents: Book is the same, and no byte outside of them has changed.
+/// start but for the new extents: Book is the same, and no byte outside of them has changed. At `Ok`
+/// Blobs has nothing behind its old end but bytes of new extents.
 pub fn move_all<D: Disk, T: Turn>(
     extents: &Extents,
     disk: &mut D,

@@ -119,7 +119,8 @@ pub fn rewrite<D: Disk, T: Turn, S: Spell>(
     ensures any_moment { LeavesAtMost D.tells (StandsForEither (T.turned turn.now) text.now
         (S.spelled spell.now) extents.old files.now) disk.old disk.new }
 
-    // At `Ok` it lasts with the record, and each file is in its new extent.
+    // At `Ok` it lasts with the record, each file is in its new extent, and Blobs has grown into new
+    // extents alone.
     ensures moves { IfOk result (λ moves. GoToFree files.now extents.old moves.items) }
     ensures lasts { IfOk result (λ moves. Told (D.tells.reads disk.old)
         (LastsWith D.tells (T.turned turn.now) text.now (S.spelled spell.now moves.items)

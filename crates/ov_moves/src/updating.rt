@@ -38,11 +38,11 @@ pub fn update<D: Disk, T: Turn>(
     requires settled { Told (D.tells.reads disk.old) (λ i. Only i (D.tells.may_leave disk.old)) }
 
     // A crash at any moment leaves what was there outside of the new extents, with the records from
-    // before; or the records with this one, and each file moved.
+    // before; or the records with this one, each file moved, and no other bytes behind the old end.
     ensures any_moment { LeavesAtMost D.tells
         (IsBeforeOrAfterAll (T.turned turn.now) text.now moves.now body.now) disk.old disk.new }
 
-    // At `Ok` there is one image that a crash may leave, with the record and the files.
+    // At `Ok` there is one image that a crash may leave, the second of these.
     ensures lasts { OnOk result (Told (D.tells.reads disk.old)
         (IsMadeLast D.tells (T.turned turn.now) text.now moves.now body.now disk.new)) }
     ensures stands { OnOk result (Stands D.tells journal.new disk.new) }

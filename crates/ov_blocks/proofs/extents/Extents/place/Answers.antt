@@ -4,4 +4,4 @@ use Rattle.ov_blocks.proofs.extents.Extents.place.Goals as goal
 
 pub returns-clause-lowest : goal.returns-clause-lowest
 returns-clause-lowest c first lt is =
-    c.lowest_run.ensures.lowest first lt (subst (λ l. IsFree first c.args.length l) (sym (c.deref.ensures.value ∙ c.self.view_is)) is)
+    c.lowest_run.ensures.lowest first lt (subst (λ l. IsFree first c.args.blocks l) (sym (c.deref.ensures.value ∙ c.self.view_is)) is)
