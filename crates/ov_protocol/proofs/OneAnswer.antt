@@ -214,24 +214,26 @@ chunk_once (Some f) (Some stored) generation start count one other tells p q =
     (chunk_is f stored generation start count other q)
 
 -- where the stored bytes aren't told as many are given
-chunk_alike : (f : Option Filed) (told : Option (List ℕ)) (generation start count : ℕ)
+chunk_alike : (f : Option Filed) (stored : Option (List ℕ)) (generation start count : ℕ)
     (one other : Answer)
-    → AnswersChunk f told generation start count one
-    → AnswersChunk f told generation start count other → AreAlike one other
-chunk_alike None told generation start count one other p q = inl (p ∙ sym q)
-chunk_alike (Some f) told generation start count (answers.Bytes a) (answers.Bytes b)
+    → AnswersChunk f stored generation start count one
+    → AnswersChunk f stored generation start count other → AreAlike one other
+chunk_alike None stored generation start count one other p q = inl (p ∙ sym q)
+chunk_alike (Some f) stored generation start count (answers.Bytes a) (answers.Bytes b)
     (same, many, are) (still, as_many, too) =
     inr (a, b, refl, refl, many ∙ sym as_many)
-chunk_alike (Some f) told generation start count (answers.Bytes a) (answers.Moved now)
-    (same, many, are) (other, is) =
-    absurd (other same)
-chunk_alike (Some f) told generation start count (answers.Moved now) (answers.Bytes b) (other, is)
+chunk_alike (Some f) stored generation start count (answers.Bytes a) (answers.Moved now)
+    (same, many, are) (apart, is) =
+    absurd (apart same)
+chunk_alike (Some f) stored generation start count (answers.Bytes a) other p q = absurd q
+chunk_alike (Some f) stored generation start count (answers.Moved now) (answers.Bytes b) (apart, is)
     (same, many, are) =
-    absurd (other same)
-chunk_alike (Some f) told generation start count (answers.Moved now) (answers.Moved again)
-    (other, is) (still, too) =
+    absurd (apart same)
+chunk_alike (Some f) stored generation start count (answers.Moved now) (answers.Moved again)
+    (apart, is) (still_apart, too) =
     inl (ap answers.Moved (is ∙ sym too))
-chunk_alike (Some f) told generation start count one other p q = absurd (cc (p, q))
+chunk_alike (Some f) stored generation start count (answers.Moved now) other p q = absurd q
+chunk_alike (Some f) stored generation start count one other p q = absurd p
 
 -- ---- the laws
 
