@@ -124,11 +124,11 @@ module _ {D : Type 0} (tells : DiskTells D) (old new : KeptOn D) (p : PlainHisto
   abbrev legal : IsLegal (history_of p)
   legal = stands.0.0
 
-  abbrev pub change_is : Does k command e
-  change_is = does k command e ours
+  does_it : Does k command e
+  does_it = does k command e ours
 
   abbrev plain : PlainUpdate
-  plain = change_is.plain p
+  plain = does_it.plain p
 
   -- what the store answers is answered at the history
   at_history : (a : Answer) → Answers (serving_of s) e.first a
@@ -142,9 +142,9 @@ module _ {D : Type 0} (tells : DiskTells D) (old new : KeptOn D) (p : PlainHisto
       → e.sealed a ≡ Err (faults.Refused why)
       → step p command ≡ (Refused why, p)
   refused_so a why answered is =
-      change_is.as_update p
+      does_it.as_update p
       ∙ ap (update_step p plain)
-      (change_is.makes.refused (check_value_of k.base) p a why legal (at_history a answered) is).1
+      (does_it.makes.refused (check_value_of k.base) p a why legal (at_history a answered) is).1
 
   -- what is kept stands for the history still
   still_stands : Stays tells s t → StandsAsTold new.kept p
@@ -162,15 +162,15 @@ module _ {D : Type 0} (tells : DiskTells D) (old new : KeptOn D) (p : PlainHisto
         subst (λ (y : Serving). IsService y (service_at k p)) (sym (shows_same tells s x.mid x.stays))
         (serves_as_told old p stands)
 
-    pub told_so : (x.epoch ≡ (catalogue_of k.surface (sealed k p)).epoch)
+    told_so : (x.epoch ≡ (catalogue_of k.surface (sealed k p)).epoch)
         × (x.update ≡ sealed_update k (layers_of (history_of p)) plain)
         × (refusal_of (history_of p) (measured plain) ≡ None)
     told_so =
-        change_is.makes.told (check_value_of k.base) p x.told x.epoch x.update legal
+        does_it.makes.told (check_value_of k.base) p x.told x.epoch x.update legal
         (at_history x.told x.answers) x.sealed
 
-    pub step_is : step p command ≡ (Accepted (epoch_of (history_of p) + 1), with_plain p plain)
-    step_is = change_is.as_update p ∙ ap (update_step p plain) told_so.2
+    step_is : step p command ≡ (Accepted (epoch_of (history_of p) + 1), with_plain p plain)
+    step_is = does_it.as_update p ∙ ap (update_step p plain) told_so.2
 
     pub sealed_is : followed (sealed k p) (x.update ∷ []) ≡ sealed k (after p command)
     sealed_is =
@@ -211,7 +211,7 @@ module _ {D : Type 0} (tells : DiskTells D) (old new : KeptOn D) (p : PlainHisto
   changes_as_told result (refused a why still answered is so) =
       let at_step = refused_so a why answered is in
       subst Answered (sym so) (
-        λ other. ap (λ (r : Reply × PlainHistory). r.0) (sym at_step),
+        (λ other. ap (λ (r : Reply × PlainHistory). r.0) (sym at_step)),
         subst (StandsAsTold new.kept) (ap (λ (r : Reply × PlainHistory). r.1) (sym at_step))
             (still_stands still),
       )
@@ -220,7 +220,7 @@ module _ {D : Type 0} (tells : DiskTells D) (old new : KeptOn D) (p : PlainHisto
     by_made : (made : IsMade tells k.surface e is_honest x.mid t x.epoch x.update x.reply result)
         → (result ≡ Ok (x.epoch + 1)) ⊎ IsAskFault result → Answered result
     by_made made (inl is) =
-        subst Answered (sym is) (λ other. reply_is result x, stands_then result x made)
+        subst Answered (sym is) ((λ other. reply_is result x), stands_then result x made)
     by_made made (inr why) = cut_so result why
 
     by_failed : (result ≡ Err faults.Device) ⊎ IsAskFault result → Answered result
