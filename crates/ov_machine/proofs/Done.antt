@@ -29,10 +29,12 @@ use Rattle.ov_server.specs.Locally.{IsServedBy}
 use Rattle.ov_transcript.specs.Transcripts.{service_of}
 use Rattle.ov_machine.specs.Disks.{HasMade}
 use Rattle.ov_machine.specs.Frames.{Traces, TracesAt}
-use Rattle.ov_machine.specs.Machine.{IsStep, KeptOn, StandsFor, Steps, StepsAt, opened_of}
+use Rattle.ov_machine.specs.Machine.{IsStep, KeptOn, StandsAsTold, StandsFor, Steps, StepsAt, opened_of}
 use Rattle.ov_machine.specs.Replying.{HasOwnFault, change_reply, epoch_reply, fault_reply, names_reply}
 use Rattle.ov_machine.specs.Seats.{IsSeat, Stays}
+use Rattle.ov_machine.specs.Steps.{IsReadOf, StepsAsTold}
 use Rattle.ov_machine.specs.declared.fault.StepFault.{StepFault}
+use Rattle.ov_machine.proofs.AsTold.{as_far_as_told, changes_as_told}
 use Rattle.ov_machine.proofs.Changed.{Changes, changed_by}
 use Rattle.ov_machine.proofs.Ending.{changes_call, changes_proper}
 use Rattle.ov_machine.proofs.Errands.{honest}
@@ -40,7 +42,7 @@ use Rattle.ov_machine.proofs.Listing.{epoch_is, hello_plain, list_is, list_plain
 use Rattle.ov_machine.proofs.Putting.{change_put, question_put}
 use Rattle.ov_machine.proofs.Questioning.{IsCutOff, IsTakenOf, once_so}
 use Rattle.ov_machine.proofs.Seating.{leads_so, left_so}
-use Rattle.ov_machine.proofs.Staying.{EndsThere, HasOwnCause, still_call, still_steps}
+use Rattle.ov_machine.proofs.Staying.{EndsThere, HasOwnCause, still_as_told, still_call, still_steps}
 use Rattle.ov_machine.proofs.Stepping.{changes_step, has_made, serves_at}
 use Rattle.ov_machine.proofs.Transcripts.{traced_with}
 use Rattle.ov_machine.proofs.Updating.{still_made}
@@ -60,6 +62,7 @@ module _ {D : Type 0} (tells : DiskTells D) {P : Type 0} (peer : PeerTells P)
       (r : Result Reply StepFault) : Type 0 where
     pub steps : Steps tells command old new r
     pub traced : Traces tells command old new (put a) (put b) r
+    pub as_told : StepsAsTold command old new r
     pub step : IsStep tells old new r
 
   -- ---- changes
@@ -113,6 +116,8 @@ module _ {D : Type 0} (tells : DiskTells D) {P : Type 0} (peer : PeerTells P)
             ours
             (subst (λ (s : Opened D). IsServedBy s (service_of k p)) (sym at_a) (serves_at old p stands))
             runs.are_asks runs.talks;
+        as_told = λ p stands.
+            changes_as_told tells old new p stands masters command e ours is_honest made is;
         step = changes_call tells k.surface e is_honest old
             new sound masters made is;
       }
@@ -125,11 +130,13 @@ module _ {D : Type 0} (tells : DiskTells D) {P : Type 0} (peer : PeerTells P)
       → new.kept.masters ≡ old.kept.masters
       → ((p : PlainHistory) → after p command ≡ p)
       → ((p : PlainHistory) → StandsFor old.kept p → EndsThere p command r)
+      → ((p : PlainHistory) → StandsAsTold old.kept p
+      → ((file : List ℕ) → IsReadOf file command → ⊥) → EndsThere p command r)
       → HasOwnCause (tells.faults old.disk) (tells.faults new.disk) r
       → ((p : PlainHistory) → StandsFor old.kept p → IsServedBy (server a) (service_of old.kept.masters p)
       → TracesAt old.kept.masters p command (Unit {0}) (put a) (put b) r)
       → IsDone command old new a b r
-  question_done command old new a b r at_a at_b still masters stay ends cause put_so =
+  question_done command old new a b r at_a at_b still masters stay ends as_told cause put_so =
       let stays : Stays tells (opened_of old) (opened_of new) =
       subst (λ (t : Opened D). Stays tells (opened_of old) t) at_b
       (subst (λ (s : Opened D). Stays tells s (server b)) at_a still) in record {
@@ -144,6 +151,8 @@ module _ {D : Type 0} (tells : DiskTells D) {P : Type 0} (peer : PeerTells P)
             stays.writes.disk)
             (put_so p stands
             (subst (λ (s : Opened D). IsServedBy s (service_of old.kept.masters p)) (sym at_a) (serves_at old p stands)));
+        as_told = λ p stands.
+            still_as_told tells old new masters stays p stands command (stay p) r (as_told p stands);
         step = still_call tells old new masters stays r cause;
       }
 
@@ -180,7 +189,10 @@ module _ {D : Type 0} (tells : DiskTells D) {P : Type 0} (peer : PeerTells P)
         → IsDone commands.Epoch old new a b (epoch_reply told)
     hello_done old new at_a at_b masters =
         question_done commands.Epoch old new a b (epoch_reply told) at_a at_b hello_so.0 masters
-        (λ p. refl) (λ p stands. ends p stands (hello_taken (server a) told hello_so.1))
+        (λ p. refl)
+        (λ p stands.
+        ends p (as_far_as_told old.kept p stands) (hello_taken (server a) told hello_so.1))
+        (λ p stands other. ends p stands (hello_taken (server a) told hello_so.1))
         (cause (tells.faults old.disk) (tells.faults new.disk)
         (hello_taken (server a) told hello_so.1))
         (λ p stands serves. question_put tells peer
@@ -194,7 +206,7 @@ module _ {D : Type 0} (tells : DiskTells D) {P : Type 0} (peer : PeerTells P)
           no_memory : {reply : Reply} → fault_reply faults.Memory ≡ Ok reply → ⊥
           no_memory is = cc is
 
-          ends : (p : PlainHistory) → StandsFor old.kept p
+          ends : (p : PlainHistory) → StandsAsTold old.kept p
               → ((w : Welcome) × (w.epoch ≡ (server a).catalogue.epoch) × (told ≡ Ok w)) ⊎ IsCutOff told
               → EndsThere p commands.Epoch (epoch_reply told)
           ends p stands (inl (w, is, so)) =
@@ -258,7 +270,10 @@ module _ {D : Type 0} (tells : DiskTells D) {P : Type 0} (peer : PeerTells P)
         → IsDone (commands.List file) old new a b (names_reply file told)
     list_done old new at_a at_b masters =
         question_done (commands.List file) old new a b (names_reply file told) at_a at_b list_so.0
-        masters (λ p. refl) (λ p stands. ends p stands (list_taken (server a) file told list_so.1))
+        masters (λ p. refl)
+        (λ p stands.
+        ends p (as_far_as_told old.kept p stands) (list_taken (server a) file told list_so.1))
+        (λ p stands other. ends p stands (list_taken (server a) file told list_so.1))
         (cause (tells.faults old.disk) (tells.faults new.disk)
         (list_taken (server a) file told list_so.1))
         (λ p stands serves. question_put tells peer
@@ -277,7 +292,7 @@ module _ {D : Type 0} (tells : DiskTells D) {P : Type 0} (peer : PeerTells P)
           at_old x is =
               subst (λ (s : Opened D). AnswersList s.catalogue (file_named s.catalogue file) x) at_a is
 
-          ends : (p : PlainHistory) → StandsFor old.kept p → IsListed (server a) file told ⊎ IsCutOff told
+          ends : (p : PlainHistory) → StandsAsTold old.kept p → IsListed (server a) file told ⊎ IsCutOff told
               → ListEnds file p told
           ends p stands (inl (inl (names, so, is))) =
               subst (ListEnds file p) (sym so) (list_is old.kept p stands file names (at_old (answers.Listed names) is))

@@ -148,6 +148,7 @@ module _ {D : Type 0} (tells : DiskTells D) {P : Type 0} (peer : PeerTells P)
           server put loan seat (Read user file) old new a b (fault_reply fault) at_a at_b
           (key_so (Err fault) asks).0 masters (λ p. refl)
           (λ p stands. ends p stands unread_so)
+          (λ p stands other. absurd (other file (user, refl)))
           (cause (tells.faults old.disk) (tells.faults new.disk) unread_so)
           (λ p stands serves.
           subst (λ (m : Masters). TracesAt m p (Read user file) (Unit {0}) (put a) (put b) (fault_reply fault)) at_k
@@ -218,6 +219,7 @@ module _ {D : Type 0} (tells : DiskTells D) {P : Type 0} (peer : PeerTells P)
         (subst (λ (s : Opened D). IsReader k s.catalogue user r) at_a reader))
         talk.0 talk.1 found talk.3 (server b)
         (subst (λ (s : Opened D). Stays tells s (server b)) at_a still) fetched.2))
+        (λ p stands other. absurd (other file (user, refl)))
         (end_cause (tells.faults old.disk) (tells.faults new.disk) user file found
         (subst (λ (t : Opened D). IsReadEnd (tells.faults old.disk) (tells.faults t.disk) found) at_d
         (subst (λ (s : Opened D). IsReadEnd (tells.faults s.disk) (tells.faults (server d).disk) found)

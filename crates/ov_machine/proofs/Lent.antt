@@ -141,6 +141,7 @@ module _ {D T : Type 0} (tells : DiskTells D) (sink : SinkTells T) where
               subst (λ (x : T). TracesAt k p command (HasMade tells k p command s.disk t.disk) (sink.written t_old) (sink.written x) (change_reply made)) put_b
               (subst (λ (x : T). TracesAt k p command (HasMade tells k p command s.disk t.disk) (sink.written x) (sink.written b.sink.now) (change_reply made)) put_a
               (is.traced p stands));
+          as_told = is.as_told;
           step = is.step;
           sink = subst (λ (x : T). PutsTo sink (change_reply made ≡ Err Trace) t_old x) put_b
               (subst (λ (x : T). PutsTo sink (change_reply made ≡ Err Trace) x b.sink.now) put_a puts);

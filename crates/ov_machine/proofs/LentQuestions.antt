@@ -128,6 +128,7 @@ module _ {D T : Type 0} (tells : DiskTells D) (sink : SinkTells T) (k : Masters)
             subst (λ (x : T). TracesAt k p command (HasMade tells k p command s.disk b.peer.now.disk) (sink.written t_old) (sink.written x) r) put_b
             (subst (λ (x : T). TracesAt k p command (HasMade tells k p command s.disk b.peer.now.disk) (sink.written x) (sink.written b.sink.now) r) put_a
             (is.traced p stands));
+        as_told = is.as_told;
         step = is.step;
         sink = subst (λ (x : T). PutsTo sink (r ≡ Err Trace) t_old x) put_b
             (subst (λ (x : T). PutsTo sink (r ≡ Err Trace) x b.sink.now) put_a puts);

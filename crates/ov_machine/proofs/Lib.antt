@@ -1,3 +1,4 @@
+pub mod AsTold
 pub mod Changed
 pub mod Done
 pub mod DoneReads

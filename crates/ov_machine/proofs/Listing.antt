@@ -21,9 +21,9 @@ use Rattle.ov_wire.specs.AnswersTo.{IsAnswer}
 use Rattle.ov_wire.specs.Requests.{HasRequestForm}
 use Rattle.ov_protocol.specs.Reading.{AnswersList}
 use Rattle.ov_owner.proofs.Fitting.{ask_fits}
-use Rattle.ov_machine.specs.Machine.{Kept, StandsFor}
+use Rattle.ov_machine.specs.Machine.{Kept, StandsAsTold}
+use Rattle.ov_machine.proofs.AsTold.{shows_as_told}
 use Rattle.ov_machine.proofs.Questioning.{IsPlainQuestion}
-use Rattle.ov_machine.proofs.Stepping.{shows}
 
 -- ---- plain questions
 
@@ -62,17 +62,17 @@ key_plain user form = record {
   fits = λ s. ask_fits s.catalogue (questions.Key user);
 }
 
--- ---- at a history for which the machine stands
+-- ---- at a history for which the machine stands as far as its disk tells
 
-module _ (old : Kept) (p : PlainHistory) (stands : StandsFor old p) where
+module _ (old : Kept) (p : PlainHistory) (stands : StandsAsTold old p) where
   pub epoch_is : EpochIs old.catalogue.epoch ≡ reply_to p AskEpoch
-  epoch_is = ap EpochIs (shows old p stands).epoch
+  epoch_is = ap EpochIs (shows_as_told old p stands).epoch
 
   list_named : (file : List ℕ)
       → list_refusal (matrix_shown old.catalogue) (file_named old.catalogue file)
       ≡ list_refusal (matrix_of (history_of p)) (file_number (matrix_of (history_of p)) file)
   list_named file =
-      ap (λ (m : Matrix). list_refusal m (file_number m file)) (shows old p stands).matrix
+      ap (λ (m : Matrix). list_refusal m (file_number m file)) (shows_as_told old p stands).matrix
 
   -- names that are listed, and a refusal, are the machine's reply
   pub list_is : (file : List ℕ) (names : List (List ℕ))
@@ -84,7 +84,7 @@ module _ (old : Kept) (p : PlainHistory) (stands : StandsFor old p) where
       ≡ names_reply (matrix_shown old.catalogue) file (file_named old.catalogue file) =
       ap (Listed file) is in
       let none : list_refusal m (file_number m file) ≡ None = sym (list_named file) ∙ allowed in
-      given ∙ ap (λ (n : Matrix). names_reply n file (file_number n file)) (shows old p stands).matrix
+      given ∙ ap (λ (n : Matrix). names_reply n file (file_number n file)) (shows_as_told old p stands).matrix
       ∙ sym (ap (reply_or (names_reply m file (file_number m file))) none)
 
   pub refused_is : (file : List ℕ) (why : Refusal)

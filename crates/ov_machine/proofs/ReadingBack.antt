@@ -47,7 +47,8 @@ use Rattle.ov_machine.specs.Machine.{Kept, KeptOn, StandsFor, opened_of}
 use Rattle.ov_machine.specs.Seats.{AllStay, Stays, served}
 use Rattle.ov_machine.proofs.Fetching.{HasRootsAt}
 use Rattle.ov_machine.proofs.Stays.{serves_still, shows_told}
-use Rattle.ov_machine.proofs.Stepping.{serves_at, service_at, shows}
+use Rattle.ov_machine.proofs.AsTold.{service_at}
+use Rattle.ov_machine.proofs.Stepping.{serves_at, shows}
 
 -- ---- the reader that the owner made
 

@@ -1,14 +1,15 @@
 -- Steps that change nothing.
-use Rattle.std.proofs.Common.{◌≡◌, ℕ, Result, Ok, Err, sym, subst}
-use Rattle.std.specs.Prelude.{OnOk}
+use Rattle.std.proofs.Common.{◌≡◌, ℕ, List, Result, Ok, Err, sym, subst}
+use Rattle.std.specs.Prelude.{IfOk, OnOk}
 use Rattle.ov_base.specs.Causes.{Rose}
 use Rattle.ov_disk.specs.Tells.{DiskTells}
 use Rattle.ov_script.specs.declared.command.Command.{Command}
 use Rattle.ov_script.specs.declared.reply.Reply.{Reply}
 use Rattle.ov_history.specs.Plain.{PlainHistory}
 use Rattle.ov_model.specs.Step.{after, reply_to}
-use Rattle.ov_machine.specs.Machine.{AreOtherTags, IsStep, Kept, KeptOn, StandsFor, StepsAt, opened_of}
+use Rattle.ov_machine.specs.Machine.{AreOtherTags, IsStep, Kept, KeptOn, StandsAsTold, StandsFor, StepsAt, opened_of}
 use Rattle.ov_machine.specs.Seats.{Stays}
+use Rattle.ov_machine.specs.Steps.{AnswersAsTold, IsReadOf}
 use Rattle.ov_machine.specs.declared.fault.BadTag.{BadTag}
 use Rattle.ov_machine.specs.declared.fault.StepFault.{StepFault}
 use Rattle.ov_machine.specs.declared.fault.StepFault.TheVariants.{Disk, Memory, Tag, Trace}
@@ -50,6 +51,19 @@ module _ {D : Type 0} (tells : DiskTells D) (old new : KeptOn D)
     still_steps (Err Memory) is =
         stays_left tells old new still.writes.disk old.kept.masters p command
     still_steps (Err (Tag bad)) is = absurd is
+
+  -- as far as the disk tells, what is kept stands for the history still
+  module _ (p : PlainHistory) (stands : StandsAsTold old.kept p) (command : Command)
+      (stay : after p command ≡ p) where
+    pub still_as_told : (r : Result Reply StepFault)
+        → (((file : List ℕ) → IsReadOf file command → ⊥) → EndsThere p command r)
+        → IfOk r (AnswersAsTold p command new.kept)
+    still_as_told (Ok reply) is = (
+      is,
+      subst (StandsAsTold new.kept) (sym stay)
+          (subst (λ (kept : Kept). StandsAsTold kept p) (sym same_kept) stands),
+    )
+    still_as_told (Err fault) is = tt
 
   pub still_call : (r : Result Reply StepFault)
       → HasOwnCause (tells.faults old.disk) (tells.faults new.disk) r → IsStep tells old new r

@@ -1,39 +1,31 @@
 -- What a change by the owner is at a history for which the machine stands: the machine's step.
-use Rattle.std.proofs.Common.{◌≡◌, ◌∙◌, inl, inr, ℕ, ◌+◌, [], ◌∷◌, length, length-append, false, refl, sym, ap, subst, arith, true≢false, None, Result, Ok, Err}
+use Rattle.std.proofs.Common.{◌≡◌, ◌∙◌, inl, inr, ℕ, ◌+◌, [], ◌∷◌, length, length-append, false, sym, ap, subst, arith, true≢false, Result, Ok, Err}
 use Rattle.std.specs.Prelude.{◌⊎◌, IfSome, IsSome, is_some}
-use Rattle.ov_base.specs.declared.refusal.Refusal.{Refusal}
 use Rattle.ov_disk.specs.Disk.{Image}
 use Rattle.ov_disk.proofs.Runs.{weaker}
 use Rattle.ov_disk.specs.Tells.{DiskTells}
 use Rattle.ov_images.specs.Images.{Keeps, keys_of}
-use Rattle.ov_record.specs.Updates.{SealedUpdate}
 use Rattle.ov_script.specs.declared.command.Command.{Command}
 use Rattle.ov_script.specs.declared.reply.Reply.{Reply}
-use Rattle.ov_script.specs.declared.reply.Reply.TheVariants.{Accepted, Refused}
+use Rattle.ov_script.specs.declared.reply.Reply.TheVariants.{Refused}
 use Rattle.ov_history.specs.History.{epoch_of}
 use Rattle.ov_history.specs.Laws.{ShowsHistory}
-use Rattle.ov_history.specs.Layers.{layers_of}
 use Rattle.ov_history.specs.Masters.{Masters}
-use Rattle.ov_history.specs.Plain.{PlainHistory, PlainUpdate, history_of, measured, measured_all, with_plain}
-use Rattle.ov_history.specs.Refusals.{IsLegal, refusal_of}
+use Rattle.ov_history.specs.Plain.{PlainHistory, PlainUpdate, history_of, measured_all, with_plain}
+use Rattle.ov_history.specs.Refusals.{IsLegal}
 use Rattle.ov_history.specs.Kept.{AreKept}
 use Rattle.ov_history.specs.Sealed.{KeepsBytes, SealedHistory, StandsFor as SealedFor}
-use Rattle.ov_history.specs.Sealed.{catalogue_of, stored_all, stored_of}
-use Rattle.ov_history.specs.Sealing.{sealed, sealed_update}
-use Rattle.ov_history.proofs.Keeping.{kept_shows, kept_stands_for}
+use Rattle.ov_history.specs.Sealed.{stored_all}
+use Rattle.ov_history.specs.Sealing.{sealed}
+use Rattle.ov_history.proofs.Keeping.{kept_stands_for}
 use Rattle.ov_history.proofs.PlainLaws.{measured_all-append}
-use Rattle.ov_history.proofs.Sealing.{sealing_goes_on}
-use Rattle.ov_model.specs.Step.{after, reply_to, step, update_step}
+use Rattle.ov_model.specs.Step.{after, step}
 use Rattle.ov_model.proofs.Legality.{legal-after}
-use Rattle.ov_tokens.specs.Keys.{check_value_of}
-use Rattle.ov_wire.specs.declared.answer.Answer.{Answer}
 use Rattle.ov_wire.specs.Requests.{request_bytes}
 use Rattle.ov_wire.specs.RequestReading.{request_of}
-use Rattle.ov_protocol.specs.Answers.{Answers}
 use Rattle.ov_protocol.specs.Replies.{updates_asked}
-use Rattle.ov_protocol.specs.Serving.{Service, Serving, followed, later, served as shown}
+use Rattle.ov_protocol.specs.Serving.{Service, Serving, followed, later}
 use Rattle.ov_protocol.specs.Updating.{spelled_by}
-use Rattle.ov_protocol.proofs.GoingOn.{servers_go_on}
 use Rattle.ov_protocol.proofs.Untold.{told_still}
 use Rattle.ov_protocol.proofs.Reading.{request_back}
 use Rattle.ov_store.specs.Opened.{Opened, Serves}
@@ -44,26 +36,25 @@ use Rattle.ov_owner.specs.Steps.{IsErrandFor}
 use Rattle.ov_owner.specs.Talks.{IsAskFault, update_request}
 use Rattle.ov_owner.specs.declared.fault.OwnerFault.{OwnerFault}
 use Rattle.ov_owner.specs.declared.fault.OwnerFault.TheVariants as faults
-use Rattle.ov_owner.proofs.Doing.{Does, does}
 use Rattle.ov_owner.proofs.Stepping.{read_back}
-use Rattle.ov_owner.proofs.Telling.{under}
 use Rattle.ov_machine.specs.Disks.{HasMade, Holds, KeepsPlain, KeepsStep}
-use Rattle.ov_machine.specs.Machine.{Kept, KeptOn, LeavesStep, StandsFor, StepsAt, opened_of}
+use Rattle.ov_machine.specs.Machine.{Kept, KeptOn, LeavesStep, StandsAsTold, StandsFor, StepsAt, opened_of}
 use Rattle.ov_machine.specs.Seats.{Stays}
 use Rattle.ov_machine.specs.Replying.{change_reply}
 use Rattle.ov_machine.specs.declared.fault.StepFault.{StepFault}
 use Rattle.ov_machine.specs.declared.fault.StepFault.TheVariants.{Disk, Memory, Tag, Trace}
+use Rattle.ov_machine.proofs.AsTold.{after_it, all_told, as_far_as_told, refused_so, reply_is, sealed_is, serves_as_told, service_at, shows_as_told, stands_as_told, stands_then}
 use Rattle.ov_machine.proofs.Changed.{Changes, IsFailed, IsMade, IsSentTo, cut, refused, sent}
 use Rattle.ov_machine.proofs.Errands.{IsHonest}
 use Rattle.ov_machine.proofs.Making.{ComesTo}
-use Rattle.ov_machine.proofs.Stays.{and_told, are_told, fails_same, holds_still, if_told, quiet_then}
-use Rattle.ov_machine.proofs.Stays.{serves_still, shows_same, shows_told}
+use Rattle.ov_machine.proofs.Stays.{are_told, fails_same, holds_still, quiet_then}
+use Rattle.ov_machine.proofs.Stays.{serves_still, shows_same}
 use Rattle.ov_machine.proofs.Staying.{same_kept}
 use Rattle.ov_machine.proofs.Updating.{now_so, stays, stays_left}
 
 -- what is kept shows the history
 pub shows : (old : Kept) (p : PlainHistory) → StandsFor old p → ShowsHistory (history_of p) old.catalogue
-shows old p stands = kept_shows old.masters p old.catalogue stands.0
+shows old p stands = shows_as_told old p (as_far_as_told old p stands)
 
 -- the machine with these masters over an open store
 abbrev pub machine_of : {D : Type 0} → Masters → Opened D → KeptOn D
@@ -73,21 +64,11 @@ machine_of k s = record {
   failed = s.failed;
 }
 
--- the history as it is served
-abbrev pub service_at : Masters → PlainHistory → Service
-service_at k p = under k.surface (check_value_of k.base) (sealed k p)
-
 -- a machine that stands for the history serves it, and tells its bytes
 pub serves_at : {D : Type 0} (m : KeptOn D) (p : PlainHistory) → StandsFor m.kept p
     → IsServedBy (opened_of m) (service_at m.kept.masters p)
 serves_at m p stands = (
-  record {
-    stands = kept_stands_for m.kept.masters p m.kept.catalogue stands.0;
-    keeps = if_told m.kept.stored (AreKept m.kept.masters p) (λ bytes. KeepsBytes
-        m.kept.masters.surface bytes (sealed m.kept.masters p)) stands.1 (λ bytes are. are);
-    surface = refl;
-    base_check = refl;
-  },
+  serves_as_told m p (as_far_as_told m.kept p stands),
   are_told m.kept.stored (AreKept m.kept.masters p) stands.1,
 )
 
@@ -95,12 +76,8 @@ serves_at m p stands = (
 pub stands_at : {D : Type 0} (m : KeptOn D) (p : PlainHistory) (v : Service)
     → IsLegal (history_of p) → v.surface ≡ m.kept.masters.surface → v.history ≡ sealed m.kept.masters p
     → IsServedBy (opened_of m) v → StandsFor m.kept p
-stands_at m p v legal surface is (serves, told) = (
-  (legal, serves.stands.1 ∙ (λ i. catalogue_of (surface i) (is i))),
-  and_told m.kept.stored (λ bytes. KeepsBytes v.surface bytes v.history)
-      (AreKept m.kept.masters p) told serves.keeps
-      (λ bytes are. are ∙ (λ i. stored_of (surface i) (is i))),
-)
+stands_at m p v legal surface is (serves, told) =
+    all_told m.kept p (stands_as_told m p v legal surface is serves) told
 
 module _ {D : Type 0} (tells : DiskTells D) (old new : KeptOn D) (p : PlainHistory)
     (stands : StandsFor old.kept p) (masters : new.kept.masters ≡ old.kept.masters)
@@ -118,28 +95,9 @@ module _ {D : Type 0} (tells : DiskTells D) (old new : KeptOn D) (p : PlainHisto
   abbrev legal : IsLegal (history_of p)
   legal = stands.0.0
 
-  d : Does k command e
-  d = does k command e ours
-
-  abbrev plain : PlainUpdate
-  plain = d.plain p
-
-  -- what the store answers is answered at the history
-  at_history : (a : Answer) → Answers (serving_of s) e.first a
-      → Answers (shown (service_at k p)) e.first a
-  at_history a is =
-      subst (λ (x : Serving). Answers x e.first a)
-      (shows_told s (service_at k p) (serves_at old p stands)) is
-
-  -- ---- refusals
-
-  refused_so : (a : Answer) (why : Refusal) → Answers (serving_of s) e.first a
-      → e.sealed a ≡ Err (faults.Refused why)
-      → step p command ≡ (Refused why, p)
-  refused_so a why answered is =
-      d.as_update p
-      ∙ ap (update_step p plain)
-      (d.makes.refused (check_value_of k.base) p a why legal (at_history a answered) is).1
+  -- what is kept stands for the history as far as the disk tells
+  abbrev as_told : StandsAsTold old.kept p
+  as_told = as_far_as_told old.kept p stands
 
   -- ---- an update
 
@@ -171,21 +129,8 @@ module _ {D : Type 0} (tells : DiskTells D) (old new : KeptOn D) (p : PlainHisto
       after_fault = λ failed. absurd (true≢false (sym failed ∙ sound_there));
     }
 
-    told_so : (x.epoch ≡ (catalogue_of k.surface (sealed k p)).epoch)
-        × (x.update ≡ sealed_update k (layers_of (history_of p)) plain)
-        × (refusal_of (history_of p) (measured plain) ≡ None)
-    told_so =
-        d.makes.told (check_value_of k.base) p x.told x.epoch x.update legal
-        (at_history x.told x.answers) x.sealed
-
-    step_is : step p command ≡ (Accepted (epoch_of (history_of p) + 1), with_plain p plain)
-    step_is = d.as_update p ∙ ap (update_step p plain) told_so.2
-
-    sealed_is : followed (sealed k p) (x.update ∷ []) ≡ sealed k (after p command)
-    sealed_is =
-        ap (λ (u : SealedUpdate). followed (sealed k p) (u ∷ [])) told_so.1
-        ∙ sym (sealing_goes_on k p plain)
-        ∙ ap (λ (r : Reply × PlainHistory). sealed k r.1) (sym step_is)
+    after_is : followed (sealed k p) (x.update ∷ []) ≡ sealed k (after p command)
+    after_is = sealed_is tells old new p as_told masters command e ours is_honest result x
 
     -- what the request asks for is the update
     asks_it : updates_asked (request_of (request_bytes (update_request k.surface x.epoch x.update))) ≡ x.update ∷ []
@@ -199,7 +144,7 @@ module _ {D : Type 0} (tells : DiskTells D) (old new : KeptOn D) (p : PlainHisto
     either c (inl keeps) = inl keeps
     either c (inr keeps) =
         inr (subst (λ (g : SealedHistory). Keeps (keys_of k) g c)
-        (ap (followed (sealed k p)) asks_it ∙ sealed_is) keeps)
+        (ap (followed (sealed k p)) asks_it ∙ after_is) keeps)
 
     either_there : (c : Image)
         → KeepsWith mid.keys (sealed k p) (updates_asked (request_of (request_bytes (update_request k.surface x.epoch x.update)))) c
@@ -226,8 +171,8 @@ module _ {D : Type 0} (tells : DiskTells D) (old new : KeptOn D) (p : PlainHisto
 
     -- what is served then is the history after the command
     module _ (made : IsMade tells k.surface e is_honest mid t x.epoch x.update x.reply result) where
-      after_it : (later (service_at k p) made.answered.frame.made).history ≡ sealed k (after p command)
-      after_it = ap (followed (sealed k p)) made.makes ∙ sealed_is
+      served_is : (later (service_at k p) made.answered.frame.made).history ≡ sealed k (after p command)
+      served_is = after_it tells old new p as_told masters command e ours is_honest result x made
 
       -- the store still tells its bytes
       tells_on : IsSome t.stored
@@ -238,14 +183,8 @@ module _ {D : Type 0} (tells : DiskTells D) (old new : KeptOn D) (p : PlainHisto
 
       stands_so : StandsFor new.kept (after p command)
       stands_so =
-          stands_at new (after p command) (later (service_at k p) made.answered.frame.made)
-          (legal-after p command legal).0
-          (ap (λ (x : Masters). x.surface) (sym masters))
-          (after_it ∙ ap (λ (x : Masters). sealed x (after p command)) (sym masters)) (
-            servers_go_on (serving_of mid) (serving_of t) (service_at k p) _ x.reply
-                made.answered.frame serves_there.0,
-            tells_on,
-          )
+          all_told new.kept (after p command)
+          (stands_then tells old new p as_told masters command e ours is_honest result x made) tells_on
 
       holds_so : Holds tells k p old.disk
           → Holds tells k (after p command) new.disk
@@ -256,21 +195,16 @@ module _ {D : Type 0} (tells : DiskTells D) (old new : KeptOn D) (p : PlainHisto
           let still : t.failed ≡ false = made.answered.failed ∙ sound_there in record {
             told = image;
             each = λ c left.
-                subst (λ (g : SealedHistory). Keeps (keys_of k) g c) after_it
+                subst (λ (g : SealedHistory). Keeps (keys_of k) g c) served_is
                 (subst (λ (x : Masters). Keeps (keys_of x) (followed (sealed k p) made.answered.frame.made) c)
                 masters (more.disk still image.0 image.1 c left));
           }
-
-      reply_is : Accepted (x.epoch + 1) ≡ reply_to p command
-      reply_is =
-          ap (λ n. Accepted (n + 1)) (told_so.0 ∙ (shows (record { masters = k; catalogue = catalogue_of k.surface (sealed k p); stored = old.kept.stored }) p ((legal, refl), stands.1)).epoch)
-          ∙ ap (λ (r : Reply × PlainHistory). r.0) (sym step_is)
 
       made_so : (result ≡ Ok (x.epoch + 1)) ⊎ IsAskFault result
           → StepsAt tells k p command old new (change_reply result)
       made_so (inl is) =
           subst (λ (r : Result ℕ OwnerFault). StepsAt tells k p command old new (change_reply r)) (sym is)
-          (reply_is, record { stands = stands_so; leaves = leaves_so; holds = holds_so })
+          (reply_is tells old new p as_told masters command e ours is_honest result x, record { stands = stands_so; leaves = leaves_so; holds = holds_so })
       made_so (inr (inl is)) =
           subst (λ (r : Result ℕ OwnerFault). StepsAt tells k p command old new (change_reply r)) (sym is) leaves_so
       made_so (inr (inr is)) =
@@ -305,7 +239,7 @@ module _ {D : Type 0} (tells : DiskTells D) (old new : KeptOn D) (p : PlainHisto
       → Changes tells k.surface e is_honest s t result
       → StepsAt tells k p command old new (change_reply result)
   changes_step result (refused a why still answered is so) =
-      let at_step = refused_so a why answered is in
+      let at_step = refused_so tells old new p as_told masters command e ours is_honest a why answered is in
       subst (λ (r : Result ℕ OwnerFault). StepsAt tells k p command old new (change_reply r)) (sym so)
       (stays tells old new still.writes.disk k p command (Refused why) (stands_still still)
       (ap (λ (r : Reply × PlainHistory). r.0) (sym at_step)) (ap (λ (r : Reply × PlainHistory). r.1) at_step))

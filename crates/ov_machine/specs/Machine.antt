@@ -1,5 +1,5 @@
 -- What the program keeps of a history, and what it does to it.
-use Rattle.std.specs.Prelude.{◌≡◌, ◌≢◌, ℕ, List, Bool, Option, None, IsSomeAnd}
+use Rattle.std.specs.Prelude.{◌≡◌, ◌≢◌, ℕ, List, Bool, Option, None, IfSome, IsSomeAnd}
 use Rattle.std.specs.Prelude.{Result, Ok, Err, OnOk}
 use Rattle.ov_disk.specs.Calls.{IsDiskCall}
 use Rattle.ov_disk.specs.Disk.{Image}
@@ -67,6 +67,12 @@ AreMasters file k = IsKeyFile file k.base k.surface
 abbrev pub StandsFor : Kept → PlainHistory → Type 0
 StandsFor kept p =
     IsKept kept.masters p kept.catalogue × IsSomeAnd kept.stored (AreKept kept.masters p)
+
+-- The catalogue is that of a store after the history, sealed under the two masters, and so are the
+-- stored bytes as far as the disk tells them.
+abbrev pub StandsAsTold : Kept → PlainHistory → Type 0
+StandsAsTold kept p =
+    IsKept kept.masters p kept.catalogue × IfSome kept.stored (AreKept kept.masters p)
 
 -- a command that may come: the bytes of a creation are a file's, and its list is one that an owner
 -- takes

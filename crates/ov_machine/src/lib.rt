@@ -1,9 +1,13 @@
 //! The access-matrix machine over frames: an owner, and the server that it asks, over a store.
 //!
-//! [`Machine::step`] answers one command. It makes what the definition's step makes of the history
-//! that is kept, and puts each frame that is asked and replied for it to a sink, the trace. Where a
-//! command isn't answered, [`StepFault`] says why, and the disk has the history from before the
-//! command or from after it.
+//! [`Machine::step`] answers one command. Over a disk that tells its bytes it makes what the
+//! definition's step makes of the history that is kept, and puts each frame that is asked and replied
+//! for it to a sink, the trace. Where a command isn't answered, [`StepFault`] says why, and such a
+//! disk has the history from before the command or from after it.
+//!
+//! Over a disk that doesn't tell its bytes, what is kept still goes on as the definition's step does,
+//! and the reply to each command but a read is the definition's. Nothing is said there of the bytes
+//! that a read gives, of the trace, or of what the disk has after a crash.
 //!
 //! A contract sees a machine as [`KeptOn`](../specs/Machine.antt): the two masters, the catalogue,
 //! the stored bytes where the disk tells them, the disk on which they last, and whether a call of

@@ -104,7 +104,8 @@ impl<D: Disk> Machine<D> {
     }
 
     /// One step, at whatever history the machine stands for. Each frame that is asked and replied
-    /// for it is put to `trace`.
+    /// for it is put to `trace`. What a read gives, and the trace, are said where the disk tells its
+    /// bytes.
     pub fn step<T: Sink>(
         &mut self,
         alloc: Global,

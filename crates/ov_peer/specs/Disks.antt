@@ -1,5 +1,5 @@
 -- Requests to which a server may reply that its disk failed.
-use Rattle.std.specs.Prelude.{◌≡◌, ◌⊎◌, ℕ, List, Some, Ok}
+use Rattle.std.specs.Prelude.{◌≡◌, ◌≤◌, ◌⊎◌, ◌-◌, ℕ, min, List, Some, Ok}
 use Rattle.ov_record.specs.Reading.{update_of}
 use Rattle.ov_record.specs.Updates.{SealedUpdate}
 use Rattle.ov_record.specs.Forms.{first_form}
@@ -22,19 +22,22 @@ pub record HasUpdate (s : Serving) (request : List ℕ) (u : SealedUpdate) : Typ
   pub right : tag ≡ owner_tag s.surface s.catalogue.epoch spelling
   pub spells : update_of first_form spelling ≡ Ok u
 
--- the file of this number is there, with this generation
-abbrev pub IsOfGeneration : Catalogue → (file generation : ℕ) → Type 0
-IsOfGeneration c file generation =
+-- the file of this number is there, with this generation, and has at least one byte among the
+-- `count` bytes from `start` on
+abbrev pub HasBytesAt : Catalogue → (file generation start count : ℕ) → Type 0
+HasBytesAt c file generation start count =
     (f : Filed) × (living_at c.files file ≡ Some f) × (f.generation ≡ generation)
+    × (1 ≤ min count (f.length - start))
 
--- the frame asks for stored bytes of a file that is there, with the file's generation
+-- the frame asks for stored bytes of a file that is there, with the file's generation, and there is
+-- at least one of them
 pub record AsksBytes (s : Serving) (request : List ℕ) : Type 0 where
   pub file : ℕ
   pub generation : ℕ
   pub start : ℕ
   pub count : ℕ
   pub is : request_of request ≡ Ok (requests.Chunk file generation start count)
-  pub there : IsOfGeneration s.catalogue file generation
+  pub there : HasBytesAt s.catalogue file generation start count
 
 -- the request is an update that is to be made, or asks for stored bytes that are there
 abbrev pub NeedsDisk : Serving → List ℕ → Type 0

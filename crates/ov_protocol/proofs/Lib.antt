@@ -2,6 +2,7 @@ pub mod GoingOn
 pub mod Untold
 pub mod OneChain
 pub mod OneAnswer
+pub mod OneReply
 pub mod Reading
 pub mod Leaving
 mod Rows

@@ -1,6 +1,6 @@
 -- A server has one answer to each request.
 use Rattle.std.proofs.Common.{◌≡◌, ◌≢◌, ◌∙◌, ◌+◌, ℕ, List, [], take, drop}
-use Rattle.std.proofs.Common.{Result, Ok, Err, refl, sym, ap}
+use Rattle.std.proofs.Common.{Result, Ok, Err, refl, sym, ap, inl, inr, subst}
 use Rattle.std.specs.Prelude.{Option, Some, None, IsSome, length, option_map, slice_index_or}
 use Rattle.ov_base.specs.declared.refusal.Refusal.{Refusal}
 use Rattle.ov_base.specs.declared.limits.TheConstants.{SET_WORDS}
@@ -23,9 +23,7 @@ use Rattle.ov_wire.specs.declared.request.Request.TheVariants as requests
 use Rattle.ov_wire.specs.declared.answer.Chained.{Chained}
 use Rattle.ov_wire.specs.declared.answer.Answer.{Answer}
 use Rattle.ov_wire.specs.declared.answer.Answer.TheVariants as answers
-use Rattle.ov_wire.specs.AnswerBytes.{answer_bytes}
-use Rattle.ov_wire.specs.RequestReading.{request_of}
-use Rattle.ov_protocol.specs.Serving.{IsService, Service, Serving, serving_after}
+use Rattle.ov_protocol.specs.Serving.{IsService, Service, Serving}
 use Rattle.ov_protocol.specs.Asking.{AnswersAsk, AnswersCover, known_at, numbers_for, plan_for}
 use Rattle.ov_history.specs.Asking.{file_named}
 use Rattle.ov_history.specs.Asking.{refusal_at, user_named}
@@ -34,8 +32,8 @@ use Rattle.ov_protocol.specs.Updating.{AnswersSealed, AnswersSpelled, AnswersUpd
 use Rattle.ov_history.specs.Briefs.{part_place}
 use Rattle.ov_protocol.specs.Updating.{spelling_place}
 use Rattle.ov_protocol.specs.Reading.{AnswersChain, AnswersChunk, AnswersList, IsChainedFor}
-use Rattle.ov_protocol.specs.Replies.{AnswersRead, made_of}
-use Rattle.ov_protocol.specs.Laws.{OneAnswer, OneReply}
+use Rattle.ov_protocol.specs.Answers.{Answers}
+use Rattle.ov_protocol.specs.Laws.{AlikeAnswers, AreAlike, OneAnswer}
 use Rattle.ov_protocol.proofs.Untold.{told_still}
 use Rattle.ov_protocol.proofs.OneChain.{chained_once}
 
@@ -215,48 +213,78 @@ chunk_once (Some f) (Some stored) generation start count one other tells p q =
     (chunk_is f stored generation start count one p)
     (chunk_is f stored generation start count other q)
 
+-- where the stored bytes aren't told as many are given
+chunk_alike : (f : Option Filed) (stored : Option (List ℕ)) (generation start count : ℕ)
+    (one other : Answer)
+    → AnswersChunk f stored generation start count one
+    → AnswersChunk f stored generation start count other → AreAlike one other
+chunk_alike None stored generation start count one other p q = inl (p ∙ sym q)
+chunk_alike (Some f) stored generation start count (answers.Bytes a) (answers.Bytes b)
+    (same, many, are) (still, as_many, too) =
+    inr (a, b, refl, refl, many ∙ sym as_many)
+chunk_alike (Some f) stored generation start count (answers.Bytes a) (answers.Moved now)
+    (same, many, are) (apart, is) =
+    absurd (apart same)
+chunk_alike (Some f) stored generation start count (answers.Bytes a) other p q = absurd q
+chunk_alike (Some f) stored generation start count (answers.Moved now) (answers.Bytes b) (apart, is)
+    (same, many, are) =
+    absurd (apart same)
+chunk_alike (Some f) stored generation start count (answers.Moved now) (answers.Moved again)
+    (apart, is) (still_apart, too) =
+    inl (ap answers.Moved (is ∙ sym too))
+chunk_alike (Some f) stored generation start count (answers.Moved now) other p q = absurd q
+chunk_alike (Some f) stored generation start count one other p q = absurd p
+
 -- ---- the laws
 
-pub one_answer : OneAnswer
-one_answer s v requests.Hello one other is tells p q = p ∙ sym q
-one_answer s v (requests.Ask question) one other is tells p q =
-    ask_is s.catalogue question one p ∙ sym (ask_is s.catalogue question other q)
-one_answer s v (requests.Cover file len names) one other is tells p q =
+-- what holds of equal answers, and of those to a question for stored bytes, holds of all answers
+by_request : (s : Serving) (v : Service) (request : Request) (one other : Answer) (P : Type 0)
+    → IsService s v → Answers s request one → Answers s request other → (one ≡ other → P)
+    → ((file generation start count : ℕ) → request ≡ requests.Chunk file generation start count
+    → P)
+    → P
+by_request s v requests.Hello one other P is p q same chunk = same (p ∙ sym q)
+by_request s v (requests.Ask question) one other P is p q same chunk =
+    same (ask_is s.catalogue question one p ∙ sym (ask_is s.catalogue question other q))
+by_request s v (requests.Cover file len names) one other P is p q same chunk =
     let list : ℕ = set_named s.catalogue.users names in
-    cover_is s.catalogue file len list one p ∙ sym (cover_is s.catalogue file len list other q)
-one_answer s v (requests.Update epoch spelling tag) one other is tells p q =
-    tagged_once s.surface s.catalogue epoch spelling tag one other
+    same
+    (cover_is s.catalogue file len list one p ∙ sym (cover_is s.catalogue file len list other q))
+by_request s v (requests.Update epoch spelling tag) one other P is p q same chunk =
+    same
+    (tagged_once s.surface s.catalogue epoch spelling tag one other
     (tagged s.surface s.catalogue epoch spelling tag one p)
-    (tagged s.surface s.catalogue epoch spelling tag other q)
-one_answer s v (requests.Chain user file) one other is tells p q =
+    (tagged s.surface s.catalogue epoch spelling tag other q))
+by_request s v (requests.Chain user file) one other P is p q same chunk =
     let c : Catalogue = s.catalogue in
     let sound : IsSound c = histories_are_sound v.surface c v.history is.stands in
-    chains_once (length c.users) c (user_named c user) (file_named c file) one other sound.accesses
+    same
+    (chains_once (length c.users) c (user_named c user) (file_named c file) one other sound.accesses
     (chain_is c (user_named c user) (file_named c file) one p)
-    (chain_is c (user_named c user) (file_named c file) other q)
-one_answer s v (requests.Chunk file generation start count) one other is tells p q =
+    (chain_is c (user_named c user) (file_named c file) other q))
+by_request s v (requests.Chunk file generation start count) one other P is p q same chunk =
+    chunk file generation start count refl
+by_request s v (requests.Page part number) one other P is p q same chunk = same (p ∙ sym q)
+by_request s v (requests.List file) one other P is p q same chunk =
+    let number : ℕ = file_named s.catalogue file in
+    same (list_is s.catalogue number one p ∙ sym (list_is s.catalogue number other q))
+
+pub one_answer : OneAnswer
+one_answer s v request one other is tells p q =
+    by_request s v request one other (one ≡ other) is p q (λ same. same)
+    (λ file generation start count chunk.
     chunk_once (living_at s.catalogue.files file)
     (option_map (λ stored. slice_index_or stored file []) s.stored) generation start count one
-    other (told_still (λ stored. slice_index_or stored file []) s.stored tells) p q
-one_answer s v (requests.Page part number) one other is tells p q = p ∙ sym q
-one_answer s v (requests.List file) one other is tells p q =
-    let number : ℕ = file_named s.catalogue file in
-    list_is s.catalogue number one p ∙ sym (list_is s.catalogue number other q)
+    other (told_still (λ stored. slice_index_or stored file []) s.stored tells)
+    (subst (λ (r : Request). Answers s r one) chunk p)
+    (subst (λ (r : Request). Answers s r other) chunk q))
 
-read_once : (s : Serving) (v : Service) (read : Result Request ℕ) (one other : Answer)
-    → IsService s v → IsSome s.stored → AnswersRead s read one → AnswersRead s read other
-    → one ≡ other
-read_once s v (Ok request) one other is tells p q = one_answer s v request one other is tells p q
-read_once s v (Err place) one other is tells p q = p ∙ sym q
-
-pub one_reply : OneReply
-one_reply old new other v request reply again is tells p q =
-    let same : p.replies.answer ≡ q.replies.answer =
-    read_once old v (request_of request) p.replies.answer q.replies.answer is tells p.replies.answers
-    q.replies.answers in
-    let made : p.made ≡ q.made =
-    p.replies.makes ∙ ap (λ (a : Answer). made_of (request_of request) a) same
-    ∙ sym q.replies.makes in (
-      p.replies.spelled ∙ ap answer_bytes same ∙ sym q.replies.spelled,
-      p.next ∙ ap (λ (us : List SealedUpdate). serving_after old us) made ∙ sym q.next,
-    )
+pub alike_answers : AlikeAnswers
+alike_answers s v request one other is p q =
+    by_request s v request one other (AreAlike one other) is p q (λ same. inl same)
+    (λ file generation start count chunk.
+    chunk_alike (living_at s.catalogue.files file)
+    (option_map (λ stored. slice_index_or stored file []) s.stored) generation start count one
+    other
+    (subst (λ (r : Request). Answers s r one) chunk p)
+    (subst (λ (r : Request). Answers s r other) chunk q))

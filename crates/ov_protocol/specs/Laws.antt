@@ -1,8 +1,10 @@
 -- The laws of servers.
-use Rattle.std.specs.Prelude.{◌≡◌, ◌<◌, ◌+◌, ℕ, List, length, get_or, Ok, IsSome}
+use Rattle.std.specs.Prelude.{◌≡◌, ◌⊎◌, ◌<◌, ◌+◌, ℕ, List, length, get_or, Ok, IsSome}
 use Rattle.ov_record.specs.Updates.{SealedUpdate}
 use Rattle.ov_wire.specs.declared.request.Request.{Request}
 use Rattle.ov_wire.specs.declared.answer.Answer.{Answer}
+use Rattle.ov_wire.specs.declared.answer.Answer.TheVariants.{Bytes}
+use Rattle.ov_wire.specs.AnswerBytes.{answer_bytes}
 use Rattle.ov_wire.specs.AnswerReading.{answer_of}
 use Rattle.ov_wire.specs.Frames.{IsFrame}
 use Rattle.ov_wire.specs.Requests.{HasRequestForm, request_bytes}
@@ -14,6 +16,34 @@ use Rattle.ov_protocol.specs.Replies.{AnswersFrame, Replies}
 -- bytes where it tells them
 abbrev pub ServicesAreServed : Type 0
 ServicesAreServed = (s : Serving) (v : Service) → IsService s v → s ≡ told_as s.stored (served v)
+
+-- two answers are the same, or both give stored bytes, and as many
+abbrev pub AreAlike : Answer → Answer → Type 0
+AreAlike one other =
+    (one ≡ other)
+    ⊎ ((a b : List ℕ) × (one ≡ Bytes a) × (other ≡ Bytes b) × (length a ≡ length b))
+
+-- two replies are the same, or both spell an answer that gives stored bytes, and as many
+abbrev pub AreAlikeFrames : List ℕ → List ℕ → Type 0
+AreAlikeFrames one other =
+    (one ≡ other)
+    ⊎ ((a b : List ℕ) × (one ≡ answer_bytes (Bytes a)) × (other ≡ answer_bytes (Bytes b))
+    × (length a ≡ length b))
+
+-- Two answers to one request are the same, of a server that serves a history, but for the stored
+-- bytes that they give: of these, how many they are is the same.
+abbrev pub AlikeAnswers : Type 0
+AlikeAnswers =
+    (s : Serving) (v : Service) (request : Request) (one other : Answer)
+    → IsService s v → Answers s request one → Answers s request other → AreAlike one other
+
+-- Two servers that show the same reply the same to one frame, but for the stored bytes that they
+-- give, and then show the same again.
+abbrev pub AlikeReplies : Type 0
+AlikeReplies =
+    (old new other : Serving) (v : Service) (request reply again : List ℕ)
+    → IsService old v → AnswersFrame old new request reply → AnswersFrame old other request again
+    → AreAlikeFrames reply again × (new ≡ other)
 
 -- two answers to one request are the same, of a server that serves a history and tells its stored
 -- bytes

@@ -33,7 +33,7 @@
 //!
 //! | law | function |
 //! |---|---|
-//! | a request has one answer, and a frame one reply, of servers that show the same | [`one_answer`] |
+//! | a request has one answer, and a frame one reply, of servers that show the same; bytes that aren't told are as many | [`one_answer`] |
 //! | an answer is one as well where the stored bytes aren't told | [`bytes_may_be_hidden`] |
 //! | a server goes on with what it made, one epoch for each update | [`servers_go_on`] |
 //! | a reply is a frame, and what is read of it is the server's answer | [`replies_are_read`] |

@@ -1,5 +1,6 @@
 -- What is answered to a question for stored bytes.
-use Rattle.std.proofs.Common.{◌≡◌, ◌∙◌, inl, inr, ℕ, ◌≤◌, List, [], ◌++◌, Result, Ok, Err, refl, sym, ap, subst, arith}
+use Rattle.std.proofs.Common.{◌≡◌, ◌∙◌, inl, inr, ℕ, zero, suc, ◌≤◌, ◌-◌, min, List, [], ◌∷◌, ◌++◌, length, Result, Ok, Err, refl, sym, ap, subst, arith}
+use Rattle.std.proofs.lemmas.List.{append-nil}
 use Rattle.std.specs.Prelude.{IfSome, None, Option, Some, option_map, slice_index_or, take, drop}
 use Rattle.ov_base.specs.declared.limits.TheConstants.{MAX_CHUNK_BYTES}
 use Rattle.ov_base.specs.declared.refusal.Refusal.TheVariants.{NoFile as NoSuchFile}
@@ -20,7 +21,7 @@ use Rattle.ov_store.specs.Opened.{Opened}
 use Rattle.ov_store.specs.Updating.{IsCallOf}
 use Rattle.ov_store.specs.declared.fault.ChunkFault.{ChunkFault}
 use Rattle.ov_store.specs.declared.fault.ChunkFault.TheVariants.{NoFile, Moved, Disk as DiskFailed}
-use Rattle.ov_peer.specs.Disks.{AsksBytes, HasUpdate, IsOfGeneration}
+use Rattle.ov_peer.specs.Disks.{AsksBytes, HasBytesAt, HasUpdate}
 use Rattle.ov_server.specs.Answering.{AsksServer, WritesNothing, serving_of}
 use Rattle.ov_server.proofs.AnswerKinds.{other_bytes}
 use Rattle.ov_server.proofs.Shown.{reading_leaves, says_read}
@@ -29,6 +30,14 @@ use Rattle.ov_server.proofs.Shown.{reading_leaves, says_read}
 pub chunk_err : (r : Result (Unit {0}) ChunkFault) (fault why : ChunkFault) → r ≡ Err fault
     → fault ≡ why → r ≡ Err why
 chunk_err r fault why is same = is ∙ ap (λ (f : ChunkFault). Err f) same
+
+no_bytes : (bytes : List ℕ) → length bytes ≡ 0 → bytes ≡ []
+no_bytes [] none = refl
+no_bytes (b ∷ bytes) none = absurd (cc none)
+
+not_some : (n : ℕ) → (1 ≤ n → ⊥) → n ≡ 0
+not_some zero none = refl
+not_some (suc n) none = absurd (none (omega arith))
 
 -- what is said of the bytes of all files is said of those of one
 of_file : (stored : Option (List (List ℕ))) (file start count : ℕ) (bytes : List ℕ)
@@ -76,30 +85,42 @@ module _ (c : Catalogue) (stored : Option (List (List ℕ))) (file generation st
       subst (λ o. At o (answers.Moved now)) (sym there)
       ((λ e. other (at_it ∙ e)), at_it)
 
-  -- where the disk failed, it was asked for a file that is there, and no bytes were put
-  pub is_there : result ≡ Err DiskFailed → IsOfGeneration c file generation × (after ≡ before)
+  -- where no bytes are there, none were put
+  pub none_put : (done : Unit {0}) → result ≡ Ok done
+      → (HasBytesAt c file generation start count → ⊥) → after ≡ before
+  none_put done is none =
+      let (f, there, at_it, bytes, (many, are), new) = subst Chunked is chunks in
+      new
+      ∙ ap (λ (l : List ℕ). before ++ l)
+      (no_bytes bytes
+      (many ∙ not_some (min count (f.length - start)) (λ some. none (f, there, at_it, some))))
+      ∙ append-nil before
+
+  -- where the disk failed, it was asked for bytes that are there, and none were put
+  pub is_there : result ≡ Err DiskFailed
+      → HasBytesAt c file generation start count × (after ≡ before)
   is_there is =
-      let (f, there, at_it, same) = subst Chunked is chunks in ((f, there, at_it), same)
+      let (f, there, at_it, some, same) = subst Chunked is chunks in ((f, there, at_it, some), same)
 
 -- where no bytes were asked of the disk all is as it was
-pub unasked : (P : Type 0) (result : Result (Unit {0}) ChunkFault) (why : ChunkFault)
-    → IfUnasked result P → result ≡ Err why → IfUnasked {T = Unit {0}} (Err why) P
-unasked P result why holds is =
-    subst (λ (r : Result (Unit {0}) ChunkFault). IfUnasked r P) is holds
+pub unasked : (P : Type 0) (before after : List ℕ) (result last : Result (Unit {0}) ChunkFault)
+    → IfUnasked before after result P → result ≡ last → IfUnasked before after last P
+unasked P before after result last holds is =
+    subst (λ (r : Result (Unit {0}) ChunkFault). IfUnasked before after r P) is holds
 
 -- ---- what is said of the call
 
 module _ {D : Type 0} (tells : DiskTells D) (s new : Opened D) (request reply : List ℕ)
     (quiet : WritesNothing tells s new) {F : Type 0} (call : IsCallOf tells s new F)
     (done : Unit {0}) where
-  -- bytes are given
-  pub chunk_given : (asked : Request) (is : request_of request ≡ Ok asked) (a : Answer)
+  -- bytes are given, and where none were asked for that are there, all is as it was
+  pub chunk_given : ((AsksBytes (serving_of s) request → ⊥) → new ≡ s) → (asked : Request) (is : request_of request ≡ Ok asked) (a : Answer)
       → AnswersRead (serving_of s) (Ok asked) a → HasAnswerForm a → made_of (Ok asked) a ≡ []
       → ((u : SealedUpdate) → HasUpdate (serving_of s) request u → ⊥)
       → reply ≡ answer_bytes a → AsksServer tells s new request reply (Ok done)
-  chunk_given asked is a fits form none no_update spelled = record {
+  chunk_given same asked is a fits form none no_update spelled = record {
     answer = inl
-        (says_read tells s new request (Ok asked) is quiet a reply fits form none spelled
+        (says_read tells s new request (Ok asked) is quiet same a reply fits form none spelled
         (λ u has. absurd (no_update u has)));
     memory = tt;
     any_moment = reading_leaves tells s new request quiet;
@@ -120,6 +141,7 @@ module _ {D : Type 0} (tells : DiskTells D) (s new : Opened D) (request reply : 
       same = ap (λ (o : Opened D). serving_of o) quiet.same;
       needs = inr (asks, quiet);
       before = λ failed. quiet;
+      unasked = λ none failed. absurd (none asks);
       told = λ i at. (i, quiet.disk.reads_same ∙ at);
     });
     memory = tt;

@@ -155,6 +155,7 @@ module _ {D : Type 0} (tells : DiskTells D)
           };
           lasts = served;
           untouched = λ nothing. let wrong : u ∷ [] ≡ [] = nothing in absurd (cc);
+          unasked = λ none nothing. let wrong : u ∷ [] ≡ [] = nothing in absurd (cc);
           told = stays;
           failed = state.failed.0;
           sound = λ w other.
@@ -201,6 +202,8 @@ module _ {D : Type 0} (tells : DiskTells D)
       failed = state.failed.0;
     });
     before = λ failed. let wrong : Err DiskFailed ≡ Err Failed = state.failed.1 failed in absurd (cc);
+    unasked = λ none failed.
+        let wrong : Err DiskFailed ≡ Err Failed = state.failed.1 failed in absurd (cc);
     told = stays;
   }
 
@@ -219,6 +222,7 @@ module _ {D : Type 0} (tells : DiskTells D)
     before = λ failed.
         subst (λ (o : Opened D). WritesNothing tells old o) (sym state.untouched)
         (writes_none tells old);
+    unasked = λ none failed. state.untouched;
     told = λ i at. (i, ap (λ (o : Opened D). tells.reads o.disk) state.untouched ∙ at);
   }
 

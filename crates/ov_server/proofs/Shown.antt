@@ -19,7 +19,7 @@ use Rattle.ov_protocol.specs.Replies.{AnswersRead, made_of, updates_asked}
 use Rattle.ov_protocol.proofs.Untold.{nothing_follows}
 use Rattle.ov_store.specs.Opened.{Opened, Serves}
 use Rattle.ov_store.specs.Updating.{IsCallOf}
-use Rattle.ov_peer.specs.Disks.{HasUpdate}
+use Rattle.ov_peer.specs.Disks.{AsksBytes, HasUpdate}
 use Rattle.ov_peer.proofs.Following.{followed-nil}
 use Rattle.ov_server.specs.Answering.{AsksServer, IsAnswered, IsNewFault, KeepsWith, LeavesAsked, WritesNothing, serving_of}
 use Rattle.ov_server.proofs.AnswerKinds.{other_bytes}
@@ -137,7 +137,8 @@ module _ {D : Type 0} (tells : DiskTells D) where
       (serves_with s new.disk quiet.disk g serves)
 
   module _ (s new : Opened D) (request : List ℕ) (read : Result Request ℕ)
-      (is : request_of request ≡ read) (quiet : WritesNothing tells s new) where
+      (is : request_of request ≡ read) (quiet : WritesNothing tells s new)
+      (same : (AsksBytes (serving_of s) request → ⊥) → new ≡ s) where
     pub says_read : (a : Answer) (reply : List ℕ) → AnswersRead (serving_of s) read a
         → HasAnswerForm a → made_of read a ≡ [] → reply ≡ answer_bytes a
         → ((u : SealedUpdate) → HasUpdate (serving_of s) request u → s.failed ≡ false)
@@ -158,6 +159,7 @@ module _ {D : Type 0} (tells : DiskTells D) where
           subst (λ (h : SealedHistory). Serves tells h new) (sym (followed-nil g))
           (still_serves s new quiet g serves);
       untouched = λ nothing. quiet;
+      unasked = λ none nothing. same none;
       told = λ i at. (i, quiet.disk.reads_same ∙ at);
       failed = ap (λ (o : Opened D). o.failed) quiet.same;
       sound = sound;
@@ -170,7 +172,7 @@ module _ {D : Type 0} (tells : DiskTells D) where
         → ((u : SealedUpdate) → HasUpdate (serving_of s) request u → s.failed ≡ false)
         → IsAnswered tells s s request reply
     says a reply fits form none spelled sound =
-        says_read s s request read is (writes_none s) a reply fits form none spelled sound
+        says_read s s request read is (writes_none s) (λ none. refl) a reply fits form none spelled sound
 
     -- all that is said of the call
     pub answers_still : (answer : Result Answer Memory) (reply : List ℕ)

@@ -38,13 +38,14 @@ pub record WritesNothing {D : Type 0} (tells : DiskTells D) (old new : Opened D)
 
 -- The answer is the one by what the server shows, which goes on by what it makes. With that, each
 -- history for which it stood is one for which it stands then: so what is accepted lasts. Where it
--- makes nothing, nothing is written. An update is looked at only where the disk has never failed in
--- one.
+-- makes nothing, nothing is written, and where no stored bytes are asked for either, all is as it
+-- was. An update is looked at only where the disk has never failed in one.
 pub record IsAnswered {D : Type 0} (tells : DiskTells D) (old new : Opened D)
     (request reply : List ℕ) : Type 0 where
   pub frame : AnswersFrame (serving_of old) (serving_of new) request reply
   pub lasts : (g : SealedHistory) → Serves tells g old → Serves tells (followed g frame.made) new
   pub untouched : frame.made ≡ [] → WritesNothing tells old new
+  pub unasked : (AsksBytes (serving_of old) request → ⊥) → frame.made ≡ [] → new ≡ old
   pub told : StaysTold (tells.reads old.disk) (tells.reads new.disk)
   pub failed : new.failed ≡ old.failed
   pub sound : (u : SealedUpdate) → HasUpdate (serving_of old) request u → old.failed ≡ false
@@ -59,8 +60,8 @@ pub record FailsUpdate {D : Type 0} (old new : Opened D) (request : List ℕ) : 
 
 -- The answer is that the disk failed, and what the server shows stays. It comes only to what needs
 -- the disk, and where no update failed nothing is written. Once the disk failed in an update, each
--- later one is answered so, and nothing is written either. A disk that told its bytes still tells
--- them.
+-- later one is answered so, and leaves all as it was; where stored bytes were asked for, nothing is
+-- written. A disk that told its bytes still tells them.
 pub record IsFaulted {D : Type 0} (tells : DiskTells D) (old new : Opened D)
     (request reply : List ℕ) : Type 0 where
   pub spelled : reply ≡ answer_bytes DeviceFault
@@ -68,6 +69,7 @@ pub record IsFaulted {D : Type 0} (tells : DiskTells D) (old new : Opened D)
   pub needs : FailsUpdate old new request
       ⊎ (AsksBytes (serving_of old) request × WritesNothing tells old new)
   pub before : old.failed ≡ true → WritesNothing tells old new
+  pub unasked : (AsksBytes (serving_of old) request → ⊥) → old.failed ≡ true → new ≡ old
   pub told : StaysTold (tells.reads old.disk) (tells.reads new.disk)
 
 -- the answer is the one by what the server shows, or that the disk failed

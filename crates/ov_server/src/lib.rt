@@ -24,7 +24,8 @@
 //!   where a call of the disk failed in it or in an earlier one.
 //! * A crash at any moment of the call leaves a history for which the server stood, or this with
 //!   the request's update (`LeavesAsked`).
-//! * An answer that makes nothing writes nothing: a question may read the disk, and all else stays.
+//! * An answer that makes nothing writes nothing: a question for stored bytes that are there may
+//!   read the disk, and all else stays. Any other question leaves the very same server.
 //! * All memory is taken before the disk is asked. Where it is refused all is as it was.
 //!
 //! | file in `specs/` | says |

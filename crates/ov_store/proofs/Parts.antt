@@ -128,11 +128,12 @@ module _ (store : PlacedStore) (file : ℕ) (f : Filed)
 -- a fault of the read is one of the question, and nothing is appended
 pub fault_of_part : (T : Type 0) (why : CheckFault) (c : Catalogue) (stored : Option (List (List ℕ)))
     (file generation start count : ℕ) (old new : List ℕ) (f : Filed)
-    → living_at c.files file ≡ Some f → f.generation ≡ generation → new ≡ old
+    → living_at c.files file ≡ Some f → f.generation ≡ generation
+    → 1 ≤ min count (f.length - start) → new ≡ old
     → Chunks {T = T} c stored file generation start count old new (Err (chunk_fault_of why))
-fault_of_part T CheckDisk c stored file generation start count old new f there is same =
-    (f, there, is, same)
-fault_of_part T CheckMemory c stored file generation start count old new f there is same = same
+fault_of_part T CheckDisk c stored file generation start count old new f there is some same =
+    (f, there, is, some, same)
+fault_of_part T CheckMemory c stored file generation start count old new f there is some same = same
 
 -- what follows at Ok from what holds there
 pub ok_more : {T E : Type 0} (r : Result T E) (P Q : Type 0) → (P → Q) → OnOk r P → OnOk r Q

@@ -6,8 +6,9 @@ use Rattle.ov_wire.specs.declared.answer.Answer.TheVariants as answers
 use Rattle.ov_wire.specs.AnswerBytes.{answer_bytes}
 use Rattle.ov_wire.specs.RequestReading.{request_of}
 use Rattle.ov_store.specs.Opened.{Opened}
-use Rattle.ov_server.specs.Answering.{AsksServer, WritesNothing}
-use Rattle.ov_server.proofs.ChunkAnswers.{chunk_err, chunk_failed, chunk_given, is_there, says_bytes, says_moved, says_no_file, unasked}
+use Rattle.ov_peer.specs.Disks.{AsksBytes}
+use Rattle.ov_server.specs.Answering.{AsksServer, WritesNothing, serving_of}
+use Rattle.ov_server.proofs.ChunkAnswers.{chunk_err, chunk_failed, chunk_given, is_there, none_put, says_bytes, says_moved, says_no_file, unasked}
 use Rattle.ov_server.proofs.Shown.{answers_still, forgot_by, no_update, put_is, puts_same}
 use Rattle.ov_server.proofs.server.Server.answer_chunk.Goals as goal
 use Rattle.ov_server.proofs.server.Server.answer_chunk.Goals.{in-Ok, in-Err-NoFile, in-Err-Moved, in-Err-Disk, in-Err-Memory}
@@ -40,15 +41,27 @@ returns g c =
           let (bytes, says, form, put) = says_bytes old.catalogue old.stored c.args.file
           c.args.generation c.args.start c.args.count before after c.chunk.result e.answer
           w.in-Ok.field-0 w.in-Ok.is begun c.requires in
+          let same : (AsksBytes (serving_of old) request → ⊥) → new ≡ old =
+          λ none. unasked (new ≡ old) before after c.chunk.result _ e.unasked w.in-Ok.is
+          (none_put old.catalogue old.stored c.args.file c.args.generation c.args.start c.args.count
+          before after c.chunk.result e.answer w.in-Ok.field-0 w.in-Ok.is (λ there. none
+          (record {
+            file = c.args.file;
+            generation = c.args.generation;
+            start = c.args.start;
+            count = c.args.count;
+            is = is;
+            there = there;
+          }))) in
           subst (AsksServer g.D.Disk.tells old new request reply) (sym w.result-is)
-          (chunk_given g.D.Disk.tells old new request reply quiet e.call _ asked is
+          (chunk_given g.D.Disk.tells old new request reply quiet e.call _ same asked is
           (answers.Bytes bytes) says form refl
           (λ u has. no_update old request u has asked is (λ x. let wrong = x.3 in cc))
           (ap (λ (v : Vec ℕ Global). v.items) w.reply-is ∙ put))
       | in-Err-NoFile w ↦
           let failed = chunk_err c.chunk.result w.in-Err-NoFile.field-0 _ w.in-Err-NoFile.is
           w.in-Err-NoFile.field-0-is in
-          let same : new ≡ old = unasked (new ≡ old) c.chunk.result _ e.unasked failed in
+          let same : new ≡ old = unasked (new ≡ old) before after c.chunk.result _ e.unasked failed in
           subst (λ o. AsksServer g.D.Disk.tells old o request reply last) (sym same)
           (answers_still g.D.Disk.tells old request (Ok asked) is (Ok (answers.Refused NoFile))
           reply last
@@ -62,7 +75,7 @@ returns g c =
       | in-Err-Moved w ↦
           let failed = chunk_err c.chunk.result w.in-Err-Moved.field-0 _ w.in-Err-Moved.is
           w.in-Err-Moved.field-0-is in
-          let same : new ≡ old = unasked (new ≡ old) c.chunk.result _ e.unasked failed in
+          let same : new ≡ old = unasked (new ≡ old) before after c.chunk.result _ e.unasked failed in
           subst (λ o. AsksServer g.D.Disk.tells old o request reply last) (sym same)
           (answers_still g.D.Disk.tells old request (Ok asked) is
           (Ok (answers.Moved w.in-Err-Moved.generation)) reply last
@@ -93,7 +106,7 @@ returns g c =
       | in-Err-Memory w ↦
           let failed = chunk_err c.chunk.result w.in-Err-Memory.field-0 _ w.in-Err-Memory.is
           w.in-Err-Memory.field-0-is in
-          let same : new ≡ old = unasked (new ≡ old) c.chunk.result _ e.unasked failed in
+          let same : new ≡ old = unasked (new ≡ old) before after c.chunk.result _ e.unasked failed in
           subst (λ o. AsksServer g.D.Disk.tells old o request reply last) (sym same)
           (answers_still g.D.Disk.tells old request (Ok asked) is (Err _) reply last tt tt tt
           (puts_same _ w.reply_with-in-Err-Memory.new.reply.items reply

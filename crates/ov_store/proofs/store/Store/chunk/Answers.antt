@@ -1,4 +1,4 @@
-use Rattle.std.proofs.Common.{rules, ◌≡◌, ◌+◌, ◌-◌, ◌<◌, ◌≤◌, min, length, Some, None, [], refl, sym, ◌∙◌, ap, subst, arith}
+use Rattle.std.proofs.Common.{rules, ◌≡◌, ◌+◌, ◌-◌, ◌<◌, ◌≤◌, min, length, length-append, Some, None, [], refl, sym, ◌∙◌, ap, subst, arith}
 use Rattle.std.proofs.lemmas.List.{append-nil}
 use Rattle.std.proofs.lemmas.Result.{err_from_is_err_and}
 use Rattle.std.specs.Prelude.{Err, Ok}
@@ -74,13 +74,15 @@ pub returns-in_err-append-in-Some-first_block-clause-answer :
 returns-in_err-append-in-Some-first_block-clause-answer g c =
     let f = plain_file c.in-Some.entry.now in
     let there : living_at c.args.self.now.catalogue.files c.args.file ≡ Some f = search rules in
+    let some : 1 ≤ min c.args.count (f.length - c.args.start) =
+    omega (arith, c.count_part-count.ensures, c.if-count-gt0.true) in
     let p = err_from_is_err_and c.from_residual.result c.from_residual.ensures.1 in
     rw p.1 (subst (λ (fault : ChunkFault). Chunks {T = Unit {0}} c.args.self.now.catalogue c.args.self.now.stored
     c.args.file c.args.generation c.args.start c.args.count c.args.out.now.items
     c.append.new.out.items (Err fault)) (sym p.2)
     (fault_of_part (Unit {0}) c.in_err-append-in-Some-first_block.field-0.0 c.args.self.now.catalogue
     c.args.self.now.stored c.args.file c.args.generation c.args.start c.args.count
-    c.args.out.now.items c.append.new.out.items f there c.if-entry-generation.false
+    c.args.out.now.items c.append.new.out.items f there c.if-entry-generation.false some
     c.in_err-append-in-Some-first_block.ensures.appended))
 
 pub returns-in_err-append-in-Some-first_block-clause-served :
@@ -129,6 +131,21 @@ returns-in_ok-append-in-Some-first_block-clause-answer g c =
           c.count_part-count.ensures c.in-Some-first_block.first is ends read.0 read.1 read.3,
       read.2,
     )
+
+-- bytes were appended
+pub returns-in_ok-append-in-Some-first_block-clause-unasked :
+    goal.returns-in_ok-append-in-Some-first_block-clause-unasked
+returns-in_ok-append-in-Some-first_block-clause-unasked g c = λ none.
+    let read = c.in_ok-append-in-Some-first_block.ensures.appended in
+    absurd
+    (omega (
+      arith,
+      ap length none,
+      ap length read.2,
+      length-append c.args.out.now.items read.0,
+      read.1,
+      c.if-count-gt0.true,
+    ))
 
 pub returns-in_default-clause-answer : goal.returns-in_default-clause-answer
 returns-in_default-clause-answer g c =
