@@ -28,7 +28,7 @@ use Rattle.ov_updating.proofs.Asking.{length-firsts}
 use Rattle.ov_updating.proofs.Counts.{counts_are_enough, held_are_counted}
 use Rattle.ov_updating.proofs.Taking.{files_counted}
 use Rattle.ov_updating.specs.Files.{AreHeldFor, AreThere, files_of, firsts_of}
-use Rattle.ov_updating.specs.Updating.{CanGoOn, IsAskedFor, KeepsItOrMore, LastsWith}
+use Rattle.ov_updating.specs.Updating.{CanGoOn, IsAskedFor, KeepsItOrMore, UpdateLasts}
 use Rattle.ov_placed.specs.Contents.{HoldsFiles, PlacedStore}
 use Rattle.ov_placed.specs.Updating.{IsPrepared, KeepsOrGoesOn, LastsMore, asked_of, bytes_of}
 use Rattle.ov_placed.specs.declared.preparing.Prepared.{Prepared}
@@ -183,7 +183,7 @@ module _ {W : ℕ} (limit : ℕ) (master : List ℕ) (store : PlacedStore) (p : 
     keeps_still i k h g u surface may = (inl may.keeps, refl)
 
     pub lasts_more : {D : Type 0} (tells : DiskTells D) (firsts : List ℕ) (disk : D) (i : Image)
-        → LastsWith tells master (asked_of store p) firsts disk i
+        → UpdateLasts tells master (asked_of store p) firsts disk i
         → LastsMore tells limit master store p firsts disk i
     lasts_more tells firsts disk i made = record {
       now = made.now;

@@ -31,7 +31,7 @@ use Rattle.ov_images.proofs.Keeping.{keeps_more, keeps_same}
 use Rattle.ov_recoat.specs.Recoats.{recoated}
 use Rattle.ov_updating.specs.Files.{files_of, firsts_of}
 use Rattle.ov_updating.specs.Recording.{body_with}
-use Rattle.ov_updating.specs.Updating.{Asked, CanGoOn, KeepsOneOfBoth, KeepsItOrMore, KeepsMore, UpdateLasts}
+use Rattle.ov_updating.specs.Updating.{Asked, CanGoOn, KeepsItOrMore, KeepsMore, UpdateLasts}
 use Rattle.ov_updating.proofs.Asking.{length-firsts}
 use Rattle.ov_updating.proofs.Holding.{hold_all}
 use Rattle.ov_updating.proofs.Standing.{HasAsMuch, all_ready, cut_same, ends_whole, same_bytes}
@@ -133,12 +133,6 @@ module _ (master : List ℕ) (a : Asked) (k : Keys) (p : PlacedHistory) (g : Sea
 
     with_update : KeepsAt k (with_placed p (placed_as u firsts)) (with_sealed g u) x
     with_update = keeps_more k p g u firsts i x can.keeps is_sealed one_more
-
-    as_after : KeepsOneOfBoth k p g u i x
-    as_after = record {
-      keeps = inr (with_placed p (placed_as u firsts), with_update);
-      bytes = same_stored x as_much;
-    }
 
 -- ---- the clauses
 

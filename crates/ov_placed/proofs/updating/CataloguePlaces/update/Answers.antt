@@ -10,7 +10,7 @@ use Rattle.ov_record.specs.Updates.{SealedUpdate}
 use Rattle.ov_state.specs.Changes.{AreOfFiles}
 use Rattle.ov_state.specs.Entries.{plain_rewrites}
 use Rattle.ov_updating.specs.Files.{files_of, firsts_of}
-use Rattle.ov_updating.specs.Updating.{AreHeldAfter, Asked, IsAskedFor, KeepsItOrMore, LastsWith}
+use Rattle.ov_updating.specs.Updating.{AreHeldAfter, Asked, IsAskedFor, KeepsItOrMore, UpdateLasts}
 use Rattle.ov_updating.specs.Updating.{asked}
 use Rattle.ov_placed.specs.Contents.{PlacedStore}
 use Rattle.ov_placed.specs.Updating.{IsPrepared, KeepsOrGoesOn, MakesUpdate, asked_of}
@@ -208,6 +208,6 @@ returns-clause-made g c =
       lasts = λ i read.
           lasts_more 256 master s c.args.prepared c.self.invariant order g.D.Disk.tells firsts
           c.update.new.disk i
-          (subst (λ (a : Asked). LastsWith g.D.Disk.tells master a firsts c.update.new.disk i) same
+          (subst (λ (a : Asked). UpdateLasts g.D.Disk.tells master a firsts c.update.new.disk i) same
           (c.in_ok-moves.ensures.lasts i read));
     })
