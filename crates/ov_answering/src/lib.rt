@@ -1,10 +1,10 @@
 //! A script, answered: the store that is begun for it, its commands one after another, and the last
 //! line.
 //!
-//! [`begin`] begins the store on a disk under the two masters and looks at all its records.
-//! [`answer_all`] answers the commands of a script by a machine, puts each reply line, and says why
-//! it stopped ([`Stop`]). [`finish`] puts the last line, by that, and gives the exit status. What a
-//! run and a load have in common is here.
+//! [`begin`] begins the store on a disk under the two masters and looks at all its records, with the
+//! texts of the files that they create. [`answer_all`] answers the commands of a script by a
+//! machine, puts each reply line, and says why it stopped ([`Stop`]). [`finish`] puts the last line,
+//! by that, and gives the exit status. What a run and a load have in common is here.
 //!
 //! | module | what it does |
 //! |---|---|

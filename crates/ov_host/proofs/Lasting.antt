@@ -4,7 +4,7 @@ use Rattle.std.specs.Prelude.{OnErr, OnOk}
 use Rattle.ov_base.specs.declared.memory.Memory.{Memory as NoRoom}
 use Rattle.ov_record.specs.Updates.{SealedUpdate}
 use Rattle.ov_history.specs.Sealed.{SealedHistory}
-use Rattle.ov_disk.specs.Disk.{Image}
+use Rattle.ov_disk.specs.Disk.{Image, StaysTold}
 use Rattle.ov_disk.specs.Tells.{DiskTells}
 use Rattle.ov_disk.proofs.Runs.{started, then_on, weaker}
 use Rattle.ov_images.specs.Images.{Keeps, Keys}
@@ -119,7 +119,7 @@ module _ {D : Type 0} (tells : DiskTells D) where
           any_moment = started tells s.disk (KeepsSome s.keys g [] s.failed) (λ c left. inr (inl (here c left)));
           at_end = λ c left. inl (here c left);
           goes_on = λ same. subst (λ (h : SealedHistory). Serves tells h s) (sym (followed-nil g)) serves;
-          told = λ same. (i, told);
+          told = (i, told);
         };
   }
 
@@ -141,7 +141,7 @@ module _ {D : Type 0} (tells : DiskTells D) where
               (tells.may_leave old.disk) e.any_moment quiet.disk.any_moment (λ c left. inr (e.at_end c left));
           at_end = λ c left. e.at_end c (quiet.disk.no_more c left);
           goes_on = λ sound. serves_with tells old new.disk quiet.disk (followed g us) (e.goes_on sound);
-          told = λ sound. let told = e.told sound in (told.0, quiet.disk.reads_same ∙ told.1);
+          told = (e.told.0, quiet.disk.reads_same ∙ e.told.1);
         })
 
     accepted_update : (is : IsAnswered tells old new request reply) → says_accepted reply ≡ true
@@ -163,7 +163,7 @@ module _ {D : Type 0} (tells : DiskTells D) where
     unfolding Lasts
     made_lasts g us is asked sound e =
         let serves : Serves tells (followed g us) old = e.goes_on sound in
-        let told = e.told sound in
+        let told = e.told in
         let still : new.failed ≡ false = is.failed ∙ sound in
         let next : Serves tells (followed g (us ++ is.frame.made)) new =
         subst (λ (h : SealedHistory). Serves tells h new) (followed-append g us is.frame.made) (is.lasts (followed g us) serves) in
@@ -179,14 +179,15 @@ module _ {D : Type 0} (tells : DiskTells D) where
           at_end = λ c left.
               inl (subst (λ (k : Keys). Keeps k (followed g (us ++ is.frame.made)) c) (call.0 ∙ before.keys) (next.disk still told_new.0 told_new.1 c left));
           goes_on = λ same. next;
-          told = λ same. told_new;
+          told = told_new;
         }
 
     -- the disk fails in an update
-    fails_lasts : (g : SealedHistory) (us : List SealedUpdate) → FailsUpdate old new request → old.failed ≡ false → Lasts g us old → Lasts g us new
+    fails_lasts : (g : SealedHistory) (us : List SealedUpdate) → FailsUpdate old new request → StaysTold (tells.reads old.disk) (tells.reads new.disk)
+        → old.failed ≡ false → Lasts g us old → Lasts g us new
     unfolding Lasts
-    fails_lasts g us fails sound e =
-        let told = e.told sound in
+    fails_lasts g us fails stays sound e =
+        let told = e.told in
         let step = any (followed g us) (e.goes_on sound) sound told.0 told.1 in
         let asked : updates_asked (request_of request) ≡ fails.update ∷ [] = ap updates_asked fails.has.is ∙ ap spelled_by fails.has.spells in
         let here : (c : Image) → KeepsWith old.keys (followed g us) (updates_asked (request_of request)) c → KeepsAll start.keys g us new.failed c =
@@ -198,14 +199,14 @@ module _ {D : Type 0} (tells : DiskTells D) where
               (KeepsWith old.keys (followed g us) (updates_asked (request_of request))) so_far step (λ c keeps. inr (here c keeps));
           at_end = λ c left. here c (step.each c (tells.counts_now new.disk (tells.moment old.disk) c step.later left));
           goes_on = λ same. absurd (true≢false (sym fails.failed ∙ same));
-          told = λ same. absurd (true≢false (sym fails.failed ∙ same));
+          told = stays told.0 told.1;
         }
 
     faulted_lasts : (g : SealedHistory) (us : List SealedUpdate) → IsFaulted tells old new request reply → Lasts g us old → Lasts g us new
     faulted_lasts g us is e = by_need is.needs where
       by_failed : (was : Bool) → old.failed ≡ was → FailsUpdate old new request → Lasts g us new
       by_failed true bad fails = read_lasts g us (is.before bad) e
-      by_failed false sound fails = fails_lasts g us fails sound e
+      by_failed false sound fails = fails_lasts g us fails is.told sound e
 
       by_need : FailsUpdate old new request ⊎ (AsksBytes (serving_of old) request × WritesNothing tells old new) → Lasts g us new
       by_need (inl fails) = by_failed old.failed refl fails

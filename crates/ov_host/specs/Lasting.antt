@@ -39,7 +39,7 @@ module _ {D : Type 0} (tells : DiskTells D) where
   -- These updates lead from one store, which stands for the history, to another. A crash at any
   -- moment between them leaves the history with some first ones of them, and a crash now leaves it
   -- with all of them; or, once the disk failed in an update, with one more. Until then the store
-  -- stands for it with all of them, and its disk tells its bytes.
+  -- stands for it with all of them. The disk tells its bytes.
   pub record Endures (g : SealedHistory) (updates : List SealedUpdate) (start now : Opened D)
       : Type 0 where
     pub any_moment : LeavesOnly tells start.disk now.disk
@@ -47,7 +47,7 @@ module _ {D : Type 0} (tells : DiskTells D) where
     pub at_end : (c : Image) → tells.may_leave now.disk c
         → KeepsAll start.keys g updates now.failed c
     pub goes_on : now.failed ≡ false → Serves tells (followed g updates) now
-    pub told : now.failed ≡ false → (i : Image) × (tells.reads now.disk ≡ Some i)
+    pub told : (i : Image) × (tells.reads now.disk ≡ Some i)
 
   -- From one store the updates with these spellings lead to another: what is served goes on by
   -- them, the keys and the disk's loan stay, and, where the disk tells its bytes and hadn't failed,

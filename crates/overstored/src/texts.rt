@@ -175,7 +175,7 @@ pub fn on_store(status: u8) -> Option<(&'static str, &'static str)> {
     match status {
         8 => Some((
             "it is damaged or no store, or the store's blobs are damaged",
-            "copy both files away, and before you put a copy in place read Restoring in OPERATING.md",
+            "copy both files away; before you put copies of both in place read Restoring in OPERATING.md",
         )),
         9 => Some((
             "it is a store of other keys or of the other mode",
