@@ -1,8 +1,9 @@
 //! A grant that coats 300 of 301 files, stopped at each call that it makes of the disk.
 use crate::given::Given;
 use crate::running::ran;
-use crate::scripts::{coating, questions};
+use crate::scripts::{bare_files, questions};
 use crate::told::{Told, Untold};
+use ov_base::Octets;
 use ov_disk::{MemDisk, Tear};
 use std::alloc::Global;
 use std::test::Fail;
@@ -27,16 +28,9 @@ fn tears() -> &'static [(Tear, &'static str)] {
     &TEARS
 }
 
-// What a run of a script over the disk that such a stop leaves puts.
-fn line_after(
-    alloc: Global,
-    disk: &MemDisk,
-    left_out: u64,
-    tear: Tear,
-    script: &[u8],
-) -> Result<String, Fail> {
-    let call = disk.calls().saturating_sub(left_out);
-    let mut left = disk.image(call, tear)?;
+// What a run of a script over such a disk puts. The disk stays as it is.
+fn line_over(alloc: Global, left: &MemDisk, script: &[u8]) -> Result<String, Fail> {
+    let mut disk = left.image(0, Tear::Old)?;
     let mut told = Told::new();
     let input = Given::once(script);
     let code = ran(
@@ -45,14 +39,20 @@ fn line_after(
         input,
         &mut told,
         &mut Untold::new(),
-        &mut left,
+        &mut disk,
     )?;
-    drop(left);
+    drop(disk);
     told.line(alloc, code)
 }
 
-// Stops the grant before each of its last calls, so many, and behind them, and prints what such a
-// run puts wherever that isn't what it put one call earlier.
+// Whether both have the same bytes.
+fn is_same(one: &MemDisk, other: &MemDisk) -> bool {
+    one.book() == other.book() && one.blobs() == other.blobs()
+}
+
+// Stops the grant before each of its last calls, so many, and behind them, and prints what a run over
+// what is left puts wherever that isn't what it put one call earlier. A call that leaves what the call
+// before it left, as each read does, needs no run of its own.
 fn tell_stops(
     rt: &HostRuntime,
     disk: &MemDisk,
@@ -63,14 +63,21 @@ fn tell_stops(
 ) -> Result<(), Fail> {
     let alloc = rt.alloc();
     let mut last = String::new(alloc);
+    let mut before = MemDisk::new(alloc);
     for made in 0..=most {
         let left_out = most.saturating_sub(made);
-        let line = line_after(alloc, disk, left_out, tear, script)?;
+        let left = disk.image(disk.calls().saturating_sub(left_out), tear)?;
+        if is_same(&left, &before) {
+            continue;
+        }
+        let line = line_over(alloc, &left, script)?;
         if line.as_str() != last.as_str() {
             print!(rt; "from {left_out} calls before its end on, {name}: {line}")?;
             last = line;
         }
+        before = left;
     }
+    drop(before);
     Ok(())
 }
 
@@ -89,22 +96,41 @@ fn tell_all(rt: &HostRuntime, disk: &MemDisk) -> Result<(), Fail> {
     Ok(())
 }
 
-/// Prints what comes of a grant that coats 300 files, and what is left of it by each stop.
-pub fn tell(rt: &HostRuntime) -> Result<(), Fail> {
-    let alloc = rt.alloc();
-    let mut disk = MemDisk::new(alloc);
+// Runs a script over a disk, and prints what it puts.
+fn tell_run(rt: &HostRuntime, name: &str, script: &[u8], disk: &mut MemDisk) -> Result<(), Fail> {
     let mut told = Told::new();
-    let script = coating(alloc)?;
-    let input = Given::once(&script);
+    let input = Given::once(script);
     let code = ran(
-        alloc,
+        rt.alloc(),
         "delta",
         input,
         &mut told,
         &mut Untold::new(),
+        disk,
+    )?;
+    told.tell(rt, name, code)
+}
+
+// A disk with 301 files as it is after a sync, so that no stop replays how they were made.
+fn files(rt: &HostRuntime) -> Result<MemDisk, Fail> {
+    let alloc = rt.alloc();
+    let mut disk = MemDisk::new(alloc);
+    tell_run(rt, "301 files", &bare_files(alloc)?, &mut disk)?;
+    let book = Octets::copy(alloc, disk.book())?;
+    let blobs = Octets::copy(alloc, disk.blobs())?;
+    drop(disk);
+    Ok(MemDisk::of(alloc, book, blobs))
+}
+
+/// Prints what comes of a grant that coats 300 files, and what is left of it by each stop.
+pub fn tell(rt: &HostRuntime) -> Result<(), Fail> {
+    let mut disk = files(rt)?;
+    tell_run(
+        rt,
+        "a grant that coats 300 of them",
+        b"grant c f0\n",
         &mut disk,
     )?;
-    told.tell(rt, "a grant that coats 300 files", code)?;
     tell_all(rt, &disk)?;
     drop(disk);
     Ok(())
