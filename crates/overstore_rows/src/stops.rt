@@ -8,12 +8,18 @@ use ov_disk::{MemDisk, Tear};
 use std::alloc::Global;
 use std::test::Fail;
 
-// How many calls the grant makes, the last ones of its run: it reads each of 300 files before it
-// writes the new bytes, and makes four calls for its record.
-const CALLS: u64 = 604;
+// How many times the grant is stopped: before its first call, after it wrote the new bytes of each of
+// 300 files, and after each call for its record.
+const STOPS: u64 = 304;
 
 // The calls for its record.
 const RECORD: u64 = 4;
+
+// How many calls come behind the stop that so many stops follow. Each file is read before its new bytes
+// are written, and a read leaves what the call before it left.
+fn calls_behind(stops: u64) -> u64 {
+    stops.saturating_add(stops.saturating_sub(RECORD))
+}
 
 // What a stop makes of the writes that no sync followed, with its name.
 static TEARS: [(Tear, &str); 5] = [
@@ -28,20 +34,11 @@ fn tears() -> &'static [(Tear, &'static str)] {
     &TEARS
 }
 
-// What a run of a script over such a disk puts. The disk stays as it is.
-fn line_over(alloc: Global, left: &MemDisk, script: &[u8]) -> Result<String, Fail> {
-    let mut disk = left.image(0, Tear::Old)?;
+// What a run of a script over such a disk puts. It has questions alone, and so changes nothing there.
+fn line_over(alloc: Global, left: &mut MemDisk, script: &[u8]) -> Result<String, Fail> {
     let mut told = Told::new();
     let input = Given::once(script);
-    let code = ran(
-        alloc,
-        "delta",
-        input,
-        &mut told,
-        &mut Untold::new(),
-        &mut disk,
-    )?;
-    drop(disk);
+    let code = ran(alloc, "delta", input, &mut told, &mut Untold::new(), left)?;
     told.line(alloc, code)
 }
 
@@ -50,9 +47,9 @@ fn is_same(one: &MemDisk, other: &MemDisk) -> bool {
     one.book() == other.book() && one.blobs() == other.blobs()
 }
 
-// Stops the grant before each of its last calls, so many, and behind them, and prints what a run over
-// what is left puts wherever that isn't what it put one call earlier. A call that leaves what the call
-// before it left, as each read does, needs no run of its own.
+// Stops the grant at its last stops, so many, and behind its end, and prints what a run over what is
+// left puts wherever that isn't what it put one stop earlier. What is left has no run of its own where
+// it is the same as one stop earlier.
 fn tell_stops(
     rt: &HostRuntime,
     disk: &MemDisk,
@@ -65,14 +62,14 @@ fn tell_stops(
     let mut last = String::new(alloc);
     let mut before = MemDisk::new(alloc);
     for made in 0..=most {
-        let left_out = most.saturating_sub(made);
-        let left = disk.image(disk.calls().saturating_sub(left_out), tear)?;
+        let behind = calls_behind(most.saturating_sub(made));
+        let mut left = disk.image(disk.calls().saturating_sub(behind), tear)?;
         if is_same(&left, &before) {
             continue;
         }
-        let line = line_over(alloc, &left, script)?;
+        let line = line_over(alloc, &mut left, script)?;
         if line.as_str() != last.as_str() {
-            print!(rt; "from {left_out} calls before its end on, {name}: {line}")?;
+            print!(rt; "from {behind} calls before its end on, {name}: {line}")?;
             last = line;
         }
         before = left;
@@ -86,7 +83,7 @@ fn tell_stops(
 fn tell_all(rt: &HostRuntime, disk: &MemDisk) -> Result<(), Fail> {
     println!(rt; "the grant stopped, and an empty script:")?;
     for (tear, name) in tears() {
-        tell_stops(rt, disk, CALLS, *tear, name, b"")?;
+        tell_stops(rt, disk, STOPS, *tear, name, b"")?;
     }
     println!(rt; "the grant stopped, and all files are asked for:")?;
     let script = questions(rt.alloc())?;
