@@ -1,4 +1,4 @@
-//! A grant that coats 300 of 301 files, stopped at each call that it makes of the disk.
+//! A grant that coats 300 of 301 files, stopped behind each call by which it changes the disk.
 use crate::given::Given;
 use crate::running::ran;
 use crate::scripts::{bare_files, questions};
