@@ -3,9 +3,11 @@ import atexit
 import functools
 import hashlib
 import hmac
+import os
 import pathlib
 import struct
 import tempfile
+import time
 
 ROOT = pathlib.Path(__file__).resolve().parent.parent
 KEYS = ROOT / "examples" / "keys.hex"
@@ -37,3 +39,21 @@ def framed(frame):
 def literal(data):
     """The bytes as a byte string of Rattle."""
     return 'b"' + "".join(f"\\x{byte:02x}" for byte in data) + '"'
+
+
+def timed(words, folder, script):
+    """User and system time in seconds, elapsed time, and the peak of memory in MiB, of a program in a folder over
+    a file. The program is begun by `time`, which is small: a child of Python has Python's peak at least."""
+    told = run_folder() / "peak"
+    child = os.fork()
+    if child == 0:
+        os.chdir(folder)
+        os.dup2(os.open(script, os.O_RDONLY), 0)
+        for stream in (1, 2):
+            os.dup2(os.open(os.devnull, os.O_WRONLY), stream)
+        os.execv("/usr/bin/time", ["time", "-f", "%M", "-o", str(told), *map(str, words)])
+    begun = time.monotonic()
+    _, status, used = os.wait4(child, 0)
+    elapsed = time.monotonic() - begun
+    assert status == 0, (words, status)
+    return used.ru_utime + used.ru_stime, elapsed, int(told.read_text()) / 1024

@@ -3,9 +3,11 @@
 //
 //     rustc --edition 2021 -O tools/plain_cipher.rs -o out/plain_cipher
 //     out/plain_cipher 67108864; out/plain_cipher 4096; out/plain_cipher 64
+//
+// tools/plain_store.rs has its cipher from here.
 const SIZE: usize = 67_108_864;
 
-struct Tables {
+pub struct Tables {
     sbox: [u8; 256],
     terms: [[u32; 256]; 4],
 }
@@ -14,7 +16,7 @@ fn twice(byte: u8) -> u8 {
     (byte << 1) ^ ((byte >> 7) * 0x1b)
 }
 
-fn tables() -> Tables {
+pub fn tables() -> Tables {
     let mut sbox = [0x63u8; 256];
     let (mut p, mut q) = (1u8, 1u8);
     loop {
@@ -84,11 +86,13 @@ fn block(t: &Tables, words: &[u32; 60], input: [u8; 16]) -> [u8; 16] {
     output
 }
 
-fn apply(t: &Tables, key: &[u8; 32], bytes: &mut [u8]) {
+// Takes the pad of a layer off bytes of a file from `start` on, which is a multiple of 16, or lays it.
+pub fn apply(t: &Tables, key: &[u8; 32], layer: u8, file: u32, start: u64, bytes: &mut [u8]) {
     let words = expand(t, key);
+    let mut counter = [layer, 0, 0, 0, 0, 0, 0, 0, 0, 0, 0, 0, 0, 0, 0, 0];
+    counter[4..8].copy_from_slice(&file.to_be_bytes());
     for (number, piece) in bytes.chunks_mut(16).enumerate() {
-        let mut counter = [b'B', 0, 0, 0, 0, 0, 0, 2, 0, 0, 0, 0, 0, 0, 0, 0];
-        counter[8..].copy_from_slice(&(number as u64).to_be_bytes());
+        counter[8..].copy_from_slice(&(start / 16 + number as u64).to_be_bytes());
         let pad = block(t, &words, counter);
         for (byte, other) in piece.iter_mut().zip(pad) {
             *byte ^= other;
@@ -101,7 +105,7 @@ fn main() {
     let t = tables();
     let mut bytes = vec![0u8; length];
     for _ in 0..SIZE / length {
-        apply(&t, &[7; 32], &mut bytes);
+        apply(&t, &[7; 32], b'B', 2, 0, &mut bytes);
     }
     println!("{length} {}", bytes.iter().map(|byte| u64::from(*byte)).sum::<u64>());
 }

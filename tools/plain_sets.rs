@@ -4,6 +4,8 @@
 //! one, or with `sorted` keeps two orders of the list, by bytes and by size. Nothing of it is proved,
 //! and bad input ends it.
 //!
+//! tools/plain_store.rs has its hash from here.
+//!
 //! Run: rustc -O tools/plain_sets.rs -o out/plain_sets && out/plain_sets full|delta [sorted] < SCRIPT
 use std::cmp::Ordering;
 use std::collections::HashMap;
@@ -11,7 +13,7 @@ use std::fs::{self, File};
 use std::io::{self, BufRead, BufReader, Read, Write};
 use std::os::fd::AsFd;
 
-type Key = [u8; 32];
+pub type Key = [u8; 32];
 type Set = [u64; 4];
 
 const ROUND: [u32; 64] = [
@@ -25,7 +27,11 @@ const ROUND: [u32; 64] = [
     0x748f82ee, 0x78a5636f, 0x84c87814, 0x8cc70208, 0x90befffa, 0xa4506ceb, 0xbef9a3f7, 0xc67178f2,
 ];
 
-fn compress(state: &mut [u32; 8], block: &[u8]) {
+// The state of a hash of nothing.
+pub const FIRST: [u32; 8] =
+    [0x6a09e667, 0xbb67ae85, 0x3c6ef372, 0xa54ff53a, 0x510e527f, 0x9b05688c, 0x1f83d9ab, 0x5be0cd19];
+
+pub fn compress(state: &mut [u32; 8], block: &[u8]) {
     let mut w = [0u32; 64];
     for (word, bytes) in w.iter_mut().zip(block.chunks_exact(4)) {
         *word = u32::from_be_bytes([bytes[0], bytes[1], bytes[2], bytes[3]]);
@@ -50,15 +56,13 @@ fn compress(state: &mut [u32; 8], block: &[u8]) {
 }
 
 // SHA-256 of a text of at most 119 bytes, the longest that is hashed here being 96.
-fn sha256(text: &[u8]) -> Key {
+pub fn sha256(text: &[u8]) -> Key {
     let mut blocks = [0; 128];
     blocks[..text.len()].copy_from_slice(text);
     blocks[text.len()] = 0x80;
     let end = if text.len() < 56 { 64 } else { 128 };
     blocks[end - 8..end].copy_from_slice(&(8 * text.len() as u64).to_be_bytes());
-    let mut state = [
-        0x6a09e667, 0xbb67ae85, 0x3c6ef372, 0xa54ff53a, 0x510e527f, 0x9b05688c, 0x1f83d9ab, 0x5be0cd19,
-    ];
+    let mut state = FIRST;
     for block in blocks[..end].chunks_exact(64) {
         compress(&mut state, block);
     }

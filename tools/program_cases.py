@@ -490,10 +490,10 @@ def moving_body(number):
 
 
 def moving_commands():
-    """Commands that are an update each, in rounds: a user, twelve files for that user and `a`, another user, and
-    a grant of the first file to them, which coats the other eleven."""
+    """Commands that are an update each, in ten rounds: a user, twelve files for that user and `a`, another user,
+    and a grant of the first file to them, which coats the other eleven."""
     commands = [b"enrol a\n"]
-    for turn in range(60):
+    for turn in range(10):
         commands.append(b"enrol c%d\n" % turn)
         for number in range(12):
             body = moving_body(number)
@@ -527,22 +527,26 @@ def killed_in(folder, script, seconds):
 
 
 def killed_while_files_move():
-    """Updates that write many files are made or not, and every file is read after each kill."""
+    """Updates that write many files are made or not, and every file is read after each kill. A kill comes while
+    the store is opened, which takes the longer the more files it has, or in the time of some updates behind it."""
     chance = random.Random(11)
     commands = moving_commands()
-    folder, epoch = store_folder(), 0
+    folder, epoch, opening, made = store_folder(), 0, 0.0, 0
     for _ in range(KILLS_IN_MOVES):
-        seen = killed_in(folder, b"".join(commands[epoch:]), chance.random() * 0.05)
+        seen = killed_in(folder, b"".join(commands[epoch:]), chance.uniform(0.7 * opening, 1.3 * opening + 0.05))
+        begun = time.monotonic()
         status, lines = run(folder)
+        opening = time.monotonic() - begun
         assert status == 0, lines
         now = int(lines.split()[-1])
         assert epoch + seen <= now <= epoch + seen + 1, (epoch, seen, now)
         script, replies = reads_of(commands[:now])
         expect(run(folder, script), 0, replies + b"end epoch %d\n" % now)
-        epoch = now
+        made, epoch = made + now - epoch, now
         if epoch == len(commands):
             shutil.rmtree(folder)
-            folder, epoch = store_folder(), 0
+            folder, epoch, opening = store_folder(), 0, 0.0
+    assert made > KILLS_IN_MOVES, made
 
 
 cases = [

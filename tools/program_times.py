@@ -15,7 +15,8 @@ import pathlib
 import shutil
 import sys
 import tempfile
-import time
+
+from common import KEYS, timed
 
 RUNS = 7
 words = sys.argv[1:]
@@ -28,31 +29,14 @@ if asked[0] == "load":
 else:
     asked, script, places = ["run", words[1]], pathlib.Path(words[2]).resolve(), words[3:]
 place = places[0] if places else "/dev/shm"
-keys = pathlib.Path(__file__).resolve().parent.parent / "examples" / "keys.hex"
-
-
-def timed(folder, text):
-    """User and system time, elapsed time and peak memory of one run."""
-    child = os.fork()
-    if child == 0:
-        os.chdir(folder)
-        os.dup2(os.open(text, os.O_RDONLY), 0)
-        os.dup2(os.open(os.devnull, os.O_WRONLY), 1)
-        os.execv(program, [str(program), *asked])
-    begun = time.monotonic()
-    _, status, used = os.wait4(child, 0)
-    elapsed = time.monotonic() - begun
-    assert status == 0, status
-    return used.ru_utime + used.ru_stime, elapsed, used.ru_maxrss / 1024
-
 
 seen = []
 for _ in range(RUNS):
     folder = tempfile.mkdtemp(dir=place)
-    shutil.copy(keys, folder)
-    figures = timed(folder, script)
+    shutil.copy(KEYS, folder)
+    figures = timed([program, *asked], folder, script)
     if again:
-        figures = timed(folder, os.devnull)
+        figures = timed([program, *asked], folder, os.devnull)
     seen.append(figures)
     shutil.rmtree(folder)
 print("%.3f s user and system, %.3f s elapsed, %.1f MiB" % tuple(min(column) for column in zip(*seen)))

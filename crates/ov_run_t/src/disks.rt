@@ -110,8 +110,8 @@ pub fn changed(alloc: Global, bytes: &[u8], place: usize, byte: u8) -> Result<Ve
     Ok(bytes)
 }
 
-// Asserts that a run in this mode over these areas is refused so, and leaves them.
-fn assert_shut(
+/// Asserts that a run in this mode over these areas is refused so, and leaves them.
+pub fn assert_shut(
     rt: &impl Abort,
     alloc: Global,
     mode: &str,

@@ -1,6 +1,9 @@
-//! Where a file's stored bytes stand in Blobs, as it is created and written again under other coats.
+//! Where a file's stored bytes stand in Blobs, as it is created and written again under other coats, and
+//! which of the bytes there count.
+use crate::disks::{assert_shut, changed, left_by};
 use crate::full::filled;
 use crate::running::{Row, assert_row, words};
+use ov_base::Octets;
 use ov_disk::MemDisk;
 use std::alloc::Global;
 use std::process::Abort;
@@ -85,4 +88,50 @@ fn blocks_are_used_again(rt: HostRuntime) -> Result<(), Fail> {
     )?;
     drop(disk);
     Ok(())
+}
+
+// The file goes from block 0 to block 1.
+static REWRITTEN: Row<'static> = Row {
+    script: b"enrol a\nenrol b\ncreate f a,b 1\nx\nrevoke b f\n",
+    status: 0,
+    lines: b"ok 1\nok 2\nok 3\nok 4\nend epoch 4\n",
+};
+
+static READ: Row<'static> = Row {
+    script: b"read a f\n",
+    status: 0,
+    lines: b"data a f 1\nx\nend epoch 4\n",
+};
+
+fn rewritten() -> &'static Row<'static> {
+    &REWRITTEN
+}
+
+fn read() -> &'static Row<'static> {
+    &READ
+}
+
+// Asserts that the file is read over these areas.
+fn assert_read(rt: &impl Abort, alloc: Global, words: &[String], book: Octets, blobs: Octets) {
+    let mut disk = MemDisk::of(alloc, book, blobs);
+    assert_row(rt, alloc, words, 4096, read(), &mut disk);
+    drop(disk);
+}
+
+/// In the block that was given up any byte may stand. A byte of the file in its new one is damage, at the
+/// gate of the creation, which has the tag.
+#[test]
+fn bytes_of_the_old_block_and_of_the_new_one(rt: HostRuntime) -> Result<(), Fail> {
+    let alloc = rt.alloc();
+    let words = words(alloc, &["run", "delta"])?;
+    let disk = left_by(&rt, alloc, &words, rewritten());
+    assert_eq!(rt; disk.blobs().len(), 8192);
+    let old = changed(alloc, disk.blobs(), 0, 7)?;
+    let book = Octets::copy(alloc, disk.book())?;
+    assert_read(&rt, alloc, &words, book, Octets::from_vec(old));
+    let new = changed(alloc, disk.blobs(), 4096, 7)?;
+    let line = b"error damaged book 94\n";
+    let shut = assert_shut(&rt, alloc, "delta", disk.book(), &new, 8, line);
+    drop(disk);
+    shut
 }

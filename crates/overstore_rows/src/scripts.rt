@@ -82,15 +82,14 @@ pub fn creation(alloc: Global) -> Result<Vec<u8>, AllocError> {
     Ok(text)
 }
 
-/// Three users and 301 files for two of them, each of one base node, and then the third is granted
-/// the first file, so that the other 300 are coated.
-pub fn coating(alloc: Global) -> Result<Vec<u8>, AllocError> {
+/// Three users and 301 files for two of them, all of one base node: a grant of the first one to the
+/// third user coats the other 300.
+pub fn bare_files(alloc: Global) -> Result<Vec<u8>, AllocError> {
     let mut text = Vec::new(alloc);
     text.extend_from_slice(b"enrol a\nenrol b\nenrol c\n")?;
     for number in 0..301u32 {
         push(alloc, &mut text, "create f", number, " a,b 1\nx\n")?;
     }
-    text.extend_from_slice(b"grant c f0\n")?;
     Ok(text)
 }
 

@@ -1,18 +1,25 @@
-//! A grant that coats 300 of 301 files, stopped at each call that it makes of the disk.
+//! A grant that coats 300 of 301 files, stopped behind each call by which it changes the disk.
 use crate::given::Given;
 use crate::running::ran;
-use crate::scripts::{coating, questions};
+use crate::scripts::{bare_files, questions};
 use crate::told::{Told, Untold};
+use ov_base::Octets;
 use ov_disk::{MemDisk, Tear};
 use std::alloc::Global;
 use std::test::Fail;
 
-// How many calls the grant makes, the last ones of its run: it reads each of 300 files before it
-// writes the new bytes, and makes four calls for its record.
-const CALLS: u64 = 604;
+// How many times the grant is stopped: before its first call, after it wrote the new bytes of each of
+// 300 files, and after each call for its record.
+const STOPS: u64 = 304;
 
 // The calls for its record.
 const RECORD: u64 = 4;
+
+// How many calls come behind the stop that so many stops follow. Each file is read before its new bytes
+// are written, and a read leaves what the call before it left.
+fn calls_behind(stops: u64) -> u64 {
+    stops.saturating_add(stops.saturating_sub(RECORD))
+}
 
 // What a stop makes of the writes that no sync followed, with its name.
 static TEARS: [(Tear, &str); 5] = [
@@ -27,32 +34,22 @@ fn tears() -> &'static [(Tear, &'static str)] {
     &TEARS
 }
 
-// What a run of a script over the disk that such a stop leaves puts.
-fn line_after(
-    alloc: Global,
-    disk: &MemDisk,
-    left_out: u64,
-    tear: Tear,
-    script: &[u8],
-) -> Result<String, Fail> {
-    let call = disk.calls().saturating_sub(left_out);
-    let mut left = disk.image(call, tear)?;
+// What a run of a script over such a disk puts. It has questions alone, and so changes nothing there.
+fn line_over(alloc: Global, left: &mut MemDisk, script: &[u8]) -> Result<String, Fail> {
     let mut told = Told::new();
     let input = Given::once(script);
-    let code = ran(
-        alloc,
-        "delta",
-        input,
-        &mut told,
-        &mut Untold::new(),
-        &mut left,
-    )?;
-    drop(left);
+    let code = ran(alloc, "delta", input, &mut told, &mut Untold::new(), left)?;
     told.line(alloc, code)
 }
 
-// Stops the grant before each of its last calls, so many, and behind them, and prints what such a
-// run puts wherever that isn't what it put one call earlier.
+// Whether both have the same bytes.
+fn is_same(one: &MemDisk, other: &MemDisk) -> bool {
+    one.book() == other.book() && one.blobs() == other.blobs()
+}
+
+// Stops the grant at its last stops, so many, and behind its end, and prints what a run over what is
+// left puts wherever that isn't what it put one stop earlier. What is left has no run of its own where
+// it is the same as one stop earlier.
 fn tell_stops(
     rt: &HostRuntime,
     disk: &MemDisk,
@@ -63,14 +60,21 @@ fn tell_stops(
 ) -> Result<(), Fail> {
     let alloc = rt.alloc();
     let mut last = String::new(alloc);
+    let mut before = MemDisk::new(alloc);
     for made in 0..=most {
-        let left_out = most.saturating_sub(made);
-        let line = line_after(alloc, disk, left_out, tear, script)?;
+        let behind = calls_behind(most.saturating_sub(made));
+        let mut left = disk.image(disk.calls().saturating_sub(behind), tear)?;
+        if is_same(&left, &before) {
+            continue;
+        }
+        let line = line_over(alloc, &mut left, script)?;
         if line.as_str() != last.as_str() {
-            print!(rt; "from {left_out} calls before its end on, {name}: {line}")?;
+            print!(rt; "from {behind} calls before its end on, {name}: {line}")?;
             last = line;
         }
+        before = left;
     }
+    drop(before);
     Ok(())
 }
 
@@ -79,7 +83,7 @@ fn tell_stops(
 fn tell_all(rt: &HostRuntime, disk: &MemDisk) -> Result<(), Fail> {
     println!(rt; "the grant stopped, and an empty script:")?;
     for (tear, name) in tears() {
-        tell_stops(rt, disk, CALLS, *tear, name, b"")?;
+        tell_stops(rt, disk, STOPS, *tear, name, b"")?;
     }
     println!(rt; "the grant stopped, and all files are asked for:")?;
     let script = questions(rt.alloc())?;
@@ -89,22 +93,41 @@ fn tell_all(rt: &HostRuntime, disk: &MemDisk) -> Result<(), Fail> {
     Ok(())
 }
 
-/// Prints what comes of a grant that coats 300 files, and what is left of it by each stop.
-pub fn tell(rt: &HostRuntime) -> Result<(), Fail> {
-    let alloc = rt.alloc();
-    let mut disk = MemDisk::new(alloc);
+// Runs a script over a disk, and prints what it puts.
+fn tell_run(rt: &HostRuntime, name: &str, script: &[u8], disk: &mut MemDisk) -> Result<(), Fail> {
     let mut told = Told::new();
-    let script = coating(alloc)?;
-    let input = Given::once(&script);
+    let input = Given::once(script);
     let code = ran(
-        alloc,
+        rt.alloc(),
         "delta",
         input,
         &mut told,
         &mut Untold::new(),
+        disk,
+    )?;
+    told.tell(rt, name, code)
+}
+
+// A disk with 301 files as it is after a sync, so that no stop replays how they were made.
+fn files(rt: &HostRuntime) -> Result<MemDisk, Fail> {
+    let alloc = rt.alloc();
+    let mut disk = MemDisk::new(alloc);
+    tell_run(rt, "301 files", &bare_files(alloc)?, &mut disk)?;
+    let book = Octets::copy(alloc, disk.book())?;
+    let blobs = Octets::copy(alloc, disk.blobs())?;
+    drop(disk);
+    Ok(MemDisk::of(alloc, book, blobs))
+}
+
+/// Prints what comes of a grant that coats 300 files, and what is left of it by each stop.
+pub fn tell(rt: &HostRuntime) -> Result<(), Fail> {
+    let mut disk = files(rt)?;
+    tell_run(
+        rt,
+        "a grant that coats 300 of them",
+        b"grant c f0\n",
         &mut disk,
     )?;
-    told.tell(rt, "a grant that coats 300 files", code)?;
     tell_all(rt, &disk)?;
     drop(disk);
     Ok(())
