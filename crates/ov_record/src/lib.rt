@@ -16,7 +16,7 @@
 //! how many bytes spell it, by which a caller learns how many first blocks follow; [`read_stored`]
 //! gives the record with as many, and [`write_stored`] appends it. An update's spelling is that of
 //! its brief, and then the bytes of its file ([`briefs_begin_spellings`]). The laws of these
-//! spellings are as those above. No crate above reads or writes such records yet.
+//! spellings are as those above. `ov_updating` writes such records, and `ov_placed` reads them.
 //!
 //! [`user_entry`], [`node_entry`], [`access_entry`] and [`file_entry`] append entries of the public
 //! catalogue, by `specs/Entries` of ov_fields.
