@@ -1,13 +1,14 @@
 //! What `docs/PERFORMANCE.md` times: `speed` and one of these words: `pad`, `pages`, `short`,
 //! `tag`, `graph`, `chain`, `journal`, `wire`, `copy`; a number of nodes and then `fill`, `find` or
-//! `plan`, or these behind `list_`, over the graph that looks at every node; `lengths`, which
-//! `tools/announced_lengths.sh` runs; and `cuts`, `plain` and `starts`, whose numbers
-//! `tools/pad_vectors.py` computes by OpenSSL.
+//! `plan`, or these behind `list_`, over the graph that looks at every node; a number of extents and
+//! then `place`; `lengths`, which `tools/announced_lengths.sh` runs; and `cuts`, `plain` and
+//! `starts`, whose numbers `tools/pad_vectors.py` computes by OpenSSL.
 //!
 //! Each does one piece of work and prints one line that shows that it was done. It is timed from
 //! outside.
 #![tactic(auto)]
 
+mod blocks;
 mod graph;
 mod journal;
 mod lengths;
@@ -75,6 +76,7 @@ fn main(rt: HostRuntime) -> Result<(), Fail> {
             "list_find" => graph::finds::<Listed>(alloc, nodes, 100)?,
             "plan" => graph::plans::<Indexed>(alloc, nodes, 100)?,
             "list_plan" => graph::plans::<Listed>(alloc, nodes, 100)?,
+            "place" => blocks::places(alloc, nodes)?,
             "journal" => journal::appends(rt)?,
             "cuts" => pads::cuts(100_000),
             "pages" => pads::pages(),
