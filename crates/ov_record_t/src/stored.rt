@@ -10,7 +10,6 @@ use ov_base::limits::{MAX_FILES, SET_WORDS};
 use ov_record::*;
 use std::alloc::Global;
 use std::process::Abort;
-use std::test::Fail;
 
 /// A creation of `f1` of 5 bytes for the users 0 and 3, with two tokens, up to its length field.
 const CREATION: &[u8] = b"\x02\x02f1\
@@ -23,8 +22,8 @@ const CREATION: &[u8] = b"\x02\x02f1\
     \xd8\xd9\xda\xdb\xdc\xdd\xde\xdf\xe0\xe1\xe2\xe3\xe4\xe5\xe6\xe7\
     \0\0\0\x05";
 
-/// Whole records: the update up to a new file's bytes, and then its first blocks.
-const RECORDS: [(&[u8], &[u8], u32); 5] = [
+/// Whole records: the update up to a new file's bytes, then its first blocks, and how many these are.
+static RECORDS: [(&[u8], &[u8], u32); 5] = [
     (b"\x01\x05alice", b"", 0),
     (CREATION, b"\0\0\0\0", 1),
     (
@@ -39,6 +38,11 @@ const RECORDS: [(&[u8], &[u8], u32); 5] = [
         3,
     ),
 ];
+
+// No clause says what they are, so that no proof computes with them.
+fn records() -> &'static [(&'static [u8], &'static [u8], u32)] {
+    &RECORDS
+}
 
 fn joined(rt: &impl Abort, alloc: Global, front: &[u8], back: &[u8]) -> Vec<u8> {
     let mut bytes = Vec::new(alloc);
@@ -57,51 +61,58 @@ fn record(alloc: Global, bytes: &[u8], count: u32) -> Result<Stored<SET_WORDS>, 
     read_stored(alloc, Form::FIRST, bytes, count)
 }
 
-#[test]
-fn records_are_read_and_written_again(rt: HostRuntime) -> Result<(), Fail> {
-    let mut out = Vec::new(rt.alloc());
-    for (update, places, count) in RECORDS {
-        let bytes = joined(&rt, rt.alloc(), update, places);
-        out.clear();
-        match record(rt.alloc(), &bytes, count) {
-            Ok(stored) => {
-                assert_eq!(rt; stored.places.as_slice().len(), count as usize);
-                write_stored(Form::FIRST, &stored, &mut out)?;
-            }
-            Err(_) => {}
+/// The record that these bytes spell, spelled again, or nothing where they spell none.
+fn written_again(rt: &impl Abort, alloc: Global, bytes: &[u8], count: u32) -> Vec<u8> {
+    let mut out = Vec::new(alloc);
+    match record(alloc, bytes, count) {
+        Ok(stored) => {
+            assert_eq!(rt; stored.places.as_slice().len(), count as usize);
+            write_stored(Form::FIRST, &stored, &mut out).expect(rt, "memory");
         }
-        assert_eq!(rt; out.as_slice(), bytes.as_slice());
+        Err(_) => {}
     }
-    Ok(())
+    out
+}
+
+#[test]
+fn records_are_read_and_written_again(rt: HostRuntime) {
+    for (update, places, count) in records() {
+        let bytes = joined(&rt, rt.alloc(), update, places);
+        let again = written_again(&rt, rt.alloc(), &bytes, *count);
+        assert_eq!(rt; again.as_slice(), bytes.as_slice());
+    }
+}
+
+/// How many bytes of these the update in front of them has, or 0 where there is none.
+fn front_length(alloc: Global, bytes: &[u8]) -> usize {
+    match read_brief(alloc, Form::FIRST, bytes) {
+        Ok((_, length)) => length as usize,
+        Err(_) => 0,
+    }
 }
 
 #[test]
 fn an_update_is_read_from_the_front(rt: HostRuntime) {
-    for (update, places, _) in RECORDS {
+    for (update, places, _) in records() {
         let bytes = joined(&rt, rt.alloc(), update, places);
-        let length = match read_brief(rt.alloc(), Form::FIRST, &bytes) {
-            Ok((_, length)) => length,
-            Err(_) => 0,
-        };
-        assert_eq!(rt; length as usize, update.len());
+        assert_eq!(rt; front_length(rt.alloc(), &bytes), update.len());
+    }
+}
+
+/// The only first block of a creation, how many tokens it has, and its length.
+fn creation_of(alloc: Global, bytes: &[u8]) -> Option<(u32, usize, u32)> {
+    let stored = record(alloc, bytes, 1).ok()?;
+    let first = *stored.places.as_slice().first()?;
+    match &stored.update {
+        Brief::Create { tokens, length, .. } => Some((first, tokens.as_slice().len(), *length)),
+        _ => None,
     }
 }
 
 #[test]
 fn fields_of_a_creation(rt: HostRuntime) {
     let bytes = joined(&rt, rt.alloc(), CREATION, b"\0\0\x01\x02");
-    match record(rt.alloc(), &bytes, 1) {
-        Ok(stored) => {
-            assert_eq!(rt; stored.places.as_slice(), [258].as_slice());
-            match &stored.update {
-                Brief::Create { tokens, length, .. } => {
-                    assert_eq!(rt; (tokens.as_slice().len(), *length), (2, 5));
-                }
-                _ => assert!(rt; false),
-            }
-        }
-        Err(_) => assert!(rt; false),
-    }
+    assert_eq!(rt; creation_of(rt.alloc(), &bytes), Some((258, 2, 5)));
 }
 
 /// The place of the first wrong byte of a record with so many first blocks.
@@ -113,7 +124,7 @@ fn wrong_at(alloc: Global, bytes: &[u8], count: u32) -> Option<u32> {
 }
 
 /// Bytes that are no record with so many first blocks, with the place of the first wrong one.
-const WRONG: [(&[u8], u32, u32); 9] = [
+static WRONG: [(&[u8], u32, u32); 9] = [
     (b"", 0, 0),
     (b"\x05", 0, 0),
     (b"\x01\x05ali", 0, 5),
@@ -125,10 +136,14 @@ const WRONG: [(&[u8], u32, u32); 9] = [
     (b"\x03\0\0\0\x01\0\0\0\x01\x02\0\0\0\x05", 1, 9),
 ];
 
+fn wrong() -> &'static [(&'static [u8], u32, u32)] {
+    &WRONG
+}
+
 #[test]
 fn the_first_wrong_byte_of_a_record_is_named(rt: HostRuntime) {
-    for (bytes, count, place) in WRONG {
-        assert_eq!(rt; wrong_at(rt.alloc(), bytes, count), Some(place));
+    for (bytes, count, place) in wrong() {
+        assert_eq!(rt; wrong_at(rt.alloc(), bytes, *count), Some(*place));
     }
     assert_eq!(rt; wrong_at(rt.alloc(), CREATION, 1), Some(138));
     let long = joined(&rt, rt.alloc(), &CREATION[..134], b"\0\x10\0\x01\0\0\0\0");
