@@ -38,6 +38,12 @@ module _ {A : Type 0} (tells : AnswererTells A) (start : A) where
       BeginsWith log k.seen × (own k.number log ≡ own k.number k.seen)
       × (k.told ≤ epoch_after log)
 
+  -- the value is at home, as these updates left it
+  abbrev pub IsAtHome : State A (View A) → List Entry → Type 0
+  IsAtHome s log =
+      (value : A) × (s.homes ≡ maybe.some value ∷ [])
+      × tells.reached start (spellings log) value
+
 -- ---- tickets
 
 -- this of each, added up
@@ -84,6 +90,19 @@ module _ {A : Type 0} where
   abbrev pub draws_of : View A → ℕ
   draws_of v = v.past + v.calls
 
+  -- a seat has the value
+  abbrev pub IsOut : State A (View A) → Type 0
+  IsOut s =
+      (holder : ℕ) × (v : View A) × (s.homes ≡ maybe.none ∷ [])
+      × (get_elem? s.views holder ≡ maybe.some v) × HasValue v.stage
+
+  -- no two seats have the same ticket
+  abbrev pub HaveOwnTickets : List (View A) → Type 0
+  HaveOwnTickets views =
+      (i j : ℕ) (v w : View A) (ticket : ℕ)
+      → get_elem? views i ≡ maybe.some v → get_elem? views j ≡ maybe.some w
+      → HasTicket ticket v.stage → HasTicket ticket w.stage → i ≡ j
+
   -- the seat of this number was taken in
   abbrev pub IsSpentAt : List (View A) → ℕ → Type 0
   IsSpentAt views number = get_elem? views number ≡ maybe.some spent
@@ -104,41 +123,24 @@ module _ {A : Type 0} where
 -- ---- the rule
 
 module _ {A : Type 0} (tells : AnswererTells A) (start : A) (passes : ℕ) where
-  module _ (served next : ℕ) (log : List Entry) (s : State A (View A)) where
-    -- What the seat at this place knows. A pass has at most 4,294,967,295 calls.
+  module _ (served next : ℕ) (log : List Entry) (homes : List (maybe.Option A))
+      (views : List (View A)) where
+    -- What the seat at this place knows, if it isn't spent. A pass has at most 4,294,967,295 calls.
     pub record IsSeat (place : ℕ) (v : View A) : Type 0 where
+      pub live : 0 < v.parts
       pub begun : v.start ≡ Some start
       pub named : v.knowledge.number ≡ place
       pub called : draws_of v ≤ 4294967295 * v.parts
-      pub staged : IsAtStage served next log s.homes v v.stage
+      pub staged : IsAtStage served next log homes v v.stage
       -- the list goes on from what its pass has seen and was told
       pub known : GoesOnFrom tells start v.knowledge log
       pub numbered : All (λ e. e.pass ≡ place → e.call < unused_call v.stage v.calls) log
       -- a seat that stands for several passes and took none in is the last, and for those to come
       pub last :
           1 < v.parts → v.taken_in ≡ []
-          → (place + 1 ≡ length s.views) × (place + v.parts ≡ passes)
+          → (place + 1 ≡ length views) × (place + v.parts ≡ passes)
       pub taken_in :
-          All (λ k. GoesOnFrom tells start k log × IsSpentAt s.views k.number) v.taken_in
-
-  -- the value is at home, as these updates left it
-  abbrev pub IsAtHome : State A (View A) → List Entry → Type 0
-  IsAtHome s log =
-      (value : A) × (s.homes ≡ maybe.some value ∷ [])
-      × tells.reached start (spellings log) value
-
-  -- a seat has the value
-  abbrev pub IsOut : State A (View A) → Type 0
-  IsOut s =
-      (holder : ℕ) × (v : View A) × (s.homes ≡ maybe.none ∷ [])
-      × (get_elem? s.views holder ≡ maybe.some v) × HasValue v.stage
-
-  -- no two seats have the same ticket
-  abbrev pub HaveOwnTickets : List (View A) → Type 0
-  HaveOwnTickets views =
-      (i j : ℕ) (v w : View A) (ticket : ℕ)
-      → get_elem? views i ≡ maybe.some v → get_elem? views j ≡ maybe.some w
-      → HasTicket ticket v.stage → HasTicket ticket w.stage → i ≡ j
+          All (λ k. GoesOnFrom tells start k log × IsSpentAt views k.number) v.taken_in
 
   -- Word 0 is the next ticket to draw, word 1 the ticket that is served, and word 2 the epoch. Slot
   -- 0 is where the value is at home.
@@ -153,9 +155,9 @@ module _ {A : Type 0} (tells : AnswererTells A) (start : A) (passes : ℕ) where
     pub few : passes ≤ 65536
     pub whole : total parts_of s.views ≡ passes
     pub known : length s.views ≤ passes
-    pub value : IsAtHome s log ⊎ IsOut s
+    pub value : IsAtHome tells start s log ⊎ IsOut s
     pub numbered : IsNumbered (length s.views) log
     pub seats :
         (place : ℕ) (v : View A) → get_elem? s.views place ≡ maybe.some v
-        → (v ≡ spent) ⊎ IsSeat served next log s place v
+        → (v ≡ spent) ⊎ IsSeat served next log s.homes s.views place v
     pub tickets_differ : HaveOwnTickets s.views

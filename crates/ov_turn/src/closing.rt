@@ -13,7 +13,8 @@ use ov_peer::Answerer;
 impl<A: Answerer> Shared<A> {
     /// Takes another seat in.
     fn take_in(&self, seat: &mut Place<A>, other: Place<A>)
-        requires own { IsSeatOf self.now.table seat.old × IsSeatOf self.now.table other }
+        requires own { IsSeatOf self.now.table seat.old }
+        requires other { IsSeatOf self.now.table other }
         ensures own { IsSeatOf self.now.table seat.new }
         ensures view { seat.new.me.0 ≡ joined seat.old.me.0 other.me.0 }
     {
