@@ -10,3 +10,4 @@ pub mod FirstSeat
 pub mod Cutting
 pub mod Joining
 pub mod GivingUp
+pub mod Dealing

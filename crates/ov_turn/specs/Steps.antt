@@ -107,11 +107,11 @@ module _ {A : Type 0} where
       (seat.table_id ≡ table) × (seat.me.0.stage ≡ Idle) × (seat.me.1 ≡ [])
       × (0 < seat.me.0.parts)
 
-  -- the seat took the seats of these passes in
-  abbrev pub TakesAllIn : View A → List (PassState A) → View A → Type 0
-  TakesAllIn v passes w =
-      (w.knowledge ≡ v.knowledge) × (w.parts ≡ v.parts + length passes)
-      × (w.taken_in ≡ map (λ p. p.knowledge) passes ++ v.taken_in)
+  -- the seat took the seats of these passes in, but for the first of them that are left
+  abbrev pub TakesIn : View A → List (PassState A) → List (PassState A) → View A → Type 0
+  TakesIn v passes left w =
+      (w.knowledge ≡ v.knowledge) × (w.parts + length left ≡ v.parts + length passes)
+      × (map (λ p. p.knowledge) left ++ w.taken_in ≡ map (λ p. p.knowledge) passes ++ v.taken_in)
 
 module _ {A : Type 0} (tells : AnswererTells A) (start : A) where
   -- the seat stands for passes that haven't asked

@@ -2,7 +2,7 @@
 ghost use Rattle.std.specs.Prelude.{◌≡◌, ◌<◌, ◌+◌, All, [], length, map};
 ghost use Rattle.ov_turn.specs.declared.view.Stage.TheVariants.{Idle};
 ghost use Rattle.ov_turn.specs.Passes.{IsLeft, IsPassOf};
-ghost use Rattle.ov_turn.specs.Steps.{GivesUp, IsSeatOf, TakesAllIn};
+ghost use Rattle.ov_turn.specs.Steps.{GivesUp, IsSeatOf, TakesIn};
 ghost use Rattle.ov_turn.specs.Views.{joined};
 
 use crate::pass::Pass;
@@ -26,7 +26,7 @@ impl<A: Answerer> Shared<A> {
         requires own { IsSeatOf self.now.table seat.old }
         requires passes { All (IsPassOf self.now) passes.items }
         ensures own { IsSeatOf self.now.table seat.new }
-        ensures all { TakesAllIn seat.old.me.0 passes.items seat.new.me.0 }
+        ensures all { TakesIn seat.old.me.0 passes.items [] seat.new.me.0 }
     {
         while let Some(pass) = passes.pop() {
             let Pass { seat: other, calls: _ } = pass;

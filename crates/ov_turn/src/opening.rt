@@ -1,6 +1,6 @@
 //! A shared value is made, with its passes.
 ghost use Rattle.std.specs.Prelude.{◌≡◌, ◌<◌, ◌≤◌, ◌+◌, [], length, vec_capacity, IfErr, IfOk};
-ghost use Rattle.ov_turn.specs.Passes.{AreFirst};
+ghost use Rattle.ov_turn.specs.Passes.{AreFirst, first_pass};
 ghost use Rattle.ov_turn.specs.Steps.{IsUnasked};
 ghost use Rattle.ov_turn.specs.Views.{first_part, opened, other_parts};
 
@@ -66,7 +66,17 @@ impl<A: Answerer> Shared<A> {
         self.table.shared.split_seat::<Cut>(seat)
     }
 
-    /// Cuts the first seat into passes.
+    /// The pass of a seat that stands for one.
+    fn pass_of(&self, seat: Place<A>) -> Pass<A>
+        requires own { seat.table_id ≡ self.now.table }
+        requires one { seat.me.0.parts ≡ 1 }
+        requires first { IsUnasked A.tells self.now.start seat.me }
+        ensures { result ≡ first_pass A.tells self.now seat.me.0.knowledge.number }
+    {
+        Pass { seat, calls: 0 }
+    }
+
+    /// Cuts the first seat into passes. The list has room for them.
     fn deal(&self, mut seat: Place<A>, passes: u32, list: &mut Vec<Pass<A>>)
         requires own { seat.table_id ≡ self.now.table }
         requires first { seat.me ≡ (opened A.tells self.now.start 0 passes, []) }
@@ -75,12 +85,12 @@ impl<A: Answerer> Shared<A> {
         ensures dealt { (length list.new.items ≡ passes)
             × AreFirst A.tells self.now list.new.items }
     {
-        for _ in 1..passes {
+        while list.len() + 1 < passes as usize {
             let next = self.cut(&mut seat);
-            list.push_reserved(Pass { seat, calls: 0 });
+            list.push_reserved(self.pass_of(seat));
             seat = next;
         }
-        list.push_reserved(Pass { seat, calls: 0 });
+        list.push_reserved(self.pass_of(seat));
     }
 
     /// Threads share this answerer, by so many passes. Where memory is refused the answerer comes
