@@ -15,9 +15,10 @@ use Rattle.ov_turn.specs.declared.view.Knowledge.{Knowledge}
 use Rattle.ov_turn.specs.declared.view.Stage.{Stage}
 use Rattle.ov_turn.specs.declared.view.Stage.TheVariants.{Idle, Waiting, Serving, Raised}
 use Rattle.ov_turn.specs.declared.view.View.{View}
-use Rattle.ov_turn.specs.Rule.{GoesOnFrom, HasTicket, HasValue, HaveOwnTickets, IsAtHome, IsKept, IsNumbered, IsOut, IsSeat, IsSpentAt, draws_of, epoch_after, parts_of, tickets_at, tickets_of, total, unused_call}
-use Rattle.ov_turn.specs.Steps.{IsUnasked, Sitting}
-use Rattle.ov_turn.specs.Views.{first_part, opened, other_parts, own, spent}
+use Rattle.ov_turn.specs.Logs.{GoesOnFrom, IsNumbered, epoch_after, own}
+use Rattle.ov_turn.specs.Rule.{HasTicket, HasValue, HaveOwnTickets, IsAtHome, IsKept, IsOut, IsSeat, IsSpentAt, draws_of, parts_of, tickets_at, tickets_of, total, unused_call}
+use Rattle.ov_turn.specs.Steps.{IsUnasked, SeatState}
+use Rattle.ov_turn.specs.Views.{first_part, opened, other_parts, spent}
 use Rattle.ov_turn.proofs.Lists.{all_first, own_of_later, total_push, total_set}
 use Rattle.ov_turn.proofs.Seats.{live, next_state, out_elsewhere, same_ticket, seats_stay, spent_stays}
 
@@ -90,7 +91,7 @@ module _ {A : Type 0} (tells : AnswererTells A) (start : A) (passes : ℕ) where
         let l = long in
         let new : n + 1 ≡ length s.views = omega arith in
         let below : All (λ (e : Entry). e.pass < n + 1) r.log =
-            subst (λ m. All (λ (e : Entry). e.pass < m) r.log) (sym new) r.numbered.0 in
+        subst (λ m. All (λ (e : Entry). e.pass < m) r.log) (sym new) r.numbered.0 in
         record {
           live = omega arith;
           begun = refl;
@@ -128,16 +129,16 @@ module _ {A : Type 0} (tells : AnswererTells A) (start : A) (passes : ℕ) where
     tickets_apart i j x y t at_i at_j has_i has_j =
         let vs : List (View A) = set s.views id one in
         ⊎_elim
-          (λ (p : get_elem? vs i ≡ maybe.some x). ⊎_elim
-              (λ (q : get_elem? vs j ≡ maybe.some y).
-                  same_ticket tells start passes s r id v one at (λ t' h. h) i j x y t p q has_i
-                      has_j)
-              (λ (q : others ≡ y).
-                  absurd (subst (λ (z : View A). HasTicket t z.stage) (sym q) has_j))
-              (at_snoc vs others y j at_j))
-          (λ (p : others ≡ x).
-              absurd (subst (λ (z : View A). HasTicket t z.stage) (sym p) has_i))
-          (at_snoc vs others x i at_i)
+        (λ (p : get_elem? vs i ≡ maybe.some x). ⊎_elim
+        (λ (q : get_elem? vs j ≡ maybe.some y).
+        same_ticket tells start passes s r id v one at (λ t' h. h) i j x y t p q has_i
+        has_j)
+        (λ (q : others ≡ y).
+        absurd (subst (λ (z : View A). HasTicket t z.stage) (sym q) has_j))
+        (at_snoc vs others y j at_j))
+        (λ (p : others ≡ x).
+        absurd (subst (λ (z : View A). HasTicket t z.stage) (sym p) has_i))
+        (at_snoc vs others x i at_i)
 
     cut_state : Rule record { words = s.words; homes = s.homes; views = cut }
     cut_state =
@@ -167,8 +168,8 @@ module _ {A : Type 0} (tells : AnswererTells A) (start : A) (passes : ℕ) where
           known = omega arith;
           value = ⊎_elim (λ (h : IsAtHome tells start s r.log). inl h)
               (λ (o : IsOut s).
-                  let p = out_elsewhere tells start passes s id v one vs at (λ h. h) refl o in
-                  inr (p.0, p.1, p.2, at_longer vs (others ∷ []) p.0 p.1 p.3, p.4))
+              let p = out_elsewhere tells start passes s id v one vs at (λ h. h) refl o in
+              inr (p.0, p.1, p.2, at_longer vs (others ∷ []) p.0 p.1 p.3, p.4))
               r.value;
           numbered = (
             All-weaker (λ (e : Entry). e.pass < length s.views) (λ e. e.pass < length cut)
@@ -177,15 +178,15 @@ module _ {A : Type 0} (tells : AnswererTells A) (start : A) (passes : ℕ) where
           );
           seats = seats_more (λ j d. (d ≡ spent) ⊎ Seat j d) vs others (inr others_seat)
               (seats_stay (λ j d. (d ≡ spent) ⊎ Seat j d) s.views id one (inr one_seat)
-                  (λ j d ne e. ⊎_elim (λ (p : d ≡ spent). inl p)
-                      (λ q. inr (third_seat j d ne q)) (r.seats j d e)));
+              (λ j d ne e. ⊎_elim (λ (p : d ≡ spent). inl p)
+              (λ q. inr (third_seat j d ne q)) (r.seats j d e)));
           tickets_differ = tickets_apart;
         }
 
-  pub cuts : (id : ℕ) (m : Sitting A) → IsUnasked tells start m → 1 < m.0.parts
+  pub cuts : (id : ℕ) (m : SeatState A) → IsUnasked tells start m → 1 < m.0.parts
       → Splits Rule id m.0 (first_part m.0) (other_parts m.0)
   cuts id m unasked some =
       let is : m.0 ≡ opened tells start m.0.knowledge.number m.0.parts =
-          ap (λ n. n.0) unasked in
+      ap (λ n. n.0) unasked in
       subst (λ (z : View A). Splits Rule id z (first_part z) (other_parts z)) (sym is)
-          (λ s r at. cut_state s r id m.0.knowledge.number m.0.parts at some)
+      (λ s r at. cut_state s r id m.0.knowledge.number m.0.parts at some)

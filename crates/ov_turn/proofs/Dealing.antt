@@ -7,8 +7,8 @@ use Rattle.ov_peer.specs.Tells.{AnswererTells}
 use Rattle.ov_turn.specs.declared.view.Entry.{Entry}
 use Rattle.ov_turn.specs.declared.view.Knowledge.{Knowledge}
 use Rattle.ov_turn.specs.declared.view.View.{View}
-use Rattle.ov_turn.specs.Passes.{IsLeft, PassState, Sharing}
-use Rattle.ov_turn.specs.Rule.{GoesOnFrom}
+use Rattle.ov_turn.specs.Passes.{IsLeft, PassState, SharedState}
+use Rattle.ov_turn.specs.Logs.{GoesOnFrom}
 use Rattle.ov_turn.specs.Steps.{GivesUp, TakesIn}
 
 -- what holds of the image of each holds of each
@@ -19,7 +19,7 @@ all_of_map P f xs h k d lt =
 
 module _ {A : Type 0} (tells : AnswererTells A) where
   -- all passes given back
-  pub left_by_all : (s : Sharing A) (passes rest : List (PassState A)) (last : PassState A)
+  pub left_by_all : (s : SharedState A) (passes rest : List (PassState A)) (last : PassState A)
       (v w : View A) (value : A) → passes ≡ rest ++ last ∷ [] → v.knowledge ≡ last.knowledge
       → v.taken_in ≡ [] → TakesIn v rest [] w → GivesUp tells s.start s.passes w value
       → IsLeft tells s passes value
@@ -29,7 +29,7 @@ module _ {A : Type 0} (tells : AnswererTells A) where
       let K : Knowledge → Type 0 = λ k. GoesOnFrom tells s.start k log in
       let all : w.taken_in ≡ ks = taken.2 ∙ (ap (λ l. ks ++ l) none ∙ append-nil ks) in
       let others : All (λ (q : PassState A). K q.knowledge) rest =
-          all_of_map K (λ q. q.knowledge) rest (subst (All K) all given.4) in
+      all_of_map K (λ q. q.knowledge) rest (subst (All K) all given.4) in
       let one : K last.knowledge = subst K (taken.0 ∙ same) given.3 in (
         log,
         given.1,

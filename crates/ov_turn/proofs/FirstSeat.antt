@@ -15,7 +15,8 @@ use Rattle.ov_turn.specs.declared.view.Knowledge.{Knowledge}
 use Rattle.ov_turn.specs.declared.view.Stage.{Stage}
 use Rattle.ov_turn.specs.declared.view.Stage.TheVariants.{Idle, Waiting, Serving, Raised}
 use Rattle.ov_turn.specs.declared.view.View.{View}
-use Rattle.ov_turn.specs.Rule.{DifferInCall, HasTicket, IsKept, IsSeat, epoch_after}
+use Rattle.ov_turn.specs.Logs.{DifferInCall, epoch_after}
+use Rattle.ov_turn.specs.Rule.{HasTicket, IsKept, IsSeat}
 use Rattle.ov_turn.specs.Views.{opened, spent}
 use Rattle.ov_turn.proofs.Lists.{begins_self}
 
@@ -27,7 +28,7 @@ module _ {A : Type 0} (tells : AnswererTells A) (start : A) (passes : ℕ) where
 
   opened_seat : (homes : List (maybe.Option A)) → 0 < passes
       → IsSeat tells start passes 0 0 [] homes (opened tells start 0 passes ∷ []) 0
-          (opened tells start 0 passes)
+      (opened tells start 0 passes)
   opened_seat homes some = record {
     live = some;
     begun = refl;
@@ -43,10 +44,10 @@ module _ {A : Type 0} (tells : AnswererTells A) (start : A) (passes : ℕ) where
   pub opens : (epoch : ℕ) → tells.reached start [] start → epoch ≡ tells.epoch_of start + 0
       → epoch < 4294967296 → 0 < passes → passes ≤ 65536
       → IsKept tells start passes record {
-            words = 0 ∷ 0 ∷ epoch ∷ [];
-            homes = maybe.some start ∷ [];
-            views = opened tells start 0 passes ∷ [];
-          }
+        words = 0 ∷ 0 ∷ epoch ∷ [];
+        homes = maybe.some start ∷ [];
+        views = opened tells start 0 passes ∷ [];
+      }
   opens epoch begins is small some few = record {
     next = 0;
     served = 0;
@@ -63,9 +64,9 @@ module _ {A : Type 0} (tells : AnswererTells A) (start : A) (passes : ℕ) where
         (All-nil (λ (e : Entry). e.pass < 1), λ i j d lt within. absurd (omega arith));
     seats = only
         (λ i v. (v ≡ spent) ⊎ IsSeat tells start passes 0 0 [] (maybe.some start ∷ [])
-            (opened tells start 0 passes ∷ []) i v)
+        (opened tells start 0 passes ∷ []) i v)
         (opened tells start 0 passes) (inr (opened_seat (maybe.some start ∷ []) some));
     tickets_differ = λ i j v w t at_i at_j has_i has_j. absurd
         (only (λ i v. HasTicket t v.stage → ⊥) (opened tells start 0 passes) (λ h. h) i v at_i
-            has_i);
+        has_i);
   }

@@ -15,9 +15,10 @@ use Rattle.ov_turn.specs.declared.view.Knowledge.{Knowledge}
 use Rattle.ov_turn.specs.declared.view.Stage.{Stage}
 use Rattle.ov_turn.specs.declared.view.Stage.TheVariants.{Idle, Waiting, Serving, Raised}
 use Rattle.ov_turn.specs.declared.view.View.{View}
-use Rattle.ov_turn.specs.Rule.{GoesOnFrom, HasValue, IsAtHome, IsKept, IsNumbered, IsOut, IsSeat, IsSpentAt, epoch_after, parts_of, tickets_at}
+use Rattle.ov_turn.specs.Logs.{GoesOnFrom, IsNumbered, epoch_after, spellings}
+use Rattle.ov_turn.specs.Rule.{HasValue, IsAtHome, IsKept, IsOut, IsSeat, IsSpentAt, parts_of, tickets_at}
 use Rattle.ov_turn.specs.Steps.{GivesUp}
-use Rattle.ov_turn.specs.Views.{spellings, spent}
+use Rattle.ov_turn.specs.Views.{spent}
 use Rattle.ov_turn.proofs.Lists.{total_two}
 use Rattle.ov_turn.proofs.Seats.{live}
 use Rattle.ov_turn.proofs.Stages.{value_one}
@@ -32,16 +33,16 @@ module _ {A : Type 0} (tells : AnswererTells A) (start : A) (passes : ℕ) where
       → IsAtHome tells start s r.log
   closes s r id v at idle whole = ⊎_elim (λ (h : IsAtHome tells start s r.log). h)
       (λ (o : IsOut s). absurd (dite (ℕ_discrete o.0 id)
-          (λ here. subst HasValue idle (subst (λ (z : View A). HasValue z.stage)
-              (maybe.some-injective o.1 v (sym o.3 ∙ (ap (get_elem? s.views) here ∙ at))) o.4))
-          (λ other. ⊎_elim
-              (λ (p : o.1 ≡ spent). subst (λ (z : View A). HasValue z.stage) p o.4)
-              (λ (q : IsSeat tells start passes r.served r.next r.log s.homes s.views o.0 o.1).
-                  let some = q.live in
-                  let two = total_two parts_of s.views o.0 id o.1 v other o.3 at in
-                  let all = r.whole in
-                  absurd (omega arith))
-              (r.seats o.0 o.1 o.3))))
+      (λ here. subst HasValue idle (subst (λ (z : View A). HasValue z.stage)
+      (maybe.some-injective o.1 v (sym o.3 ∙ (ap (get_elem? s.views) here ∙ at))) o.4))
+      (λ other. ⊎_elim
+      (λ (p : o.1 ≡ spent). subst (λ (z : View A). HasValue z.stage) p o.4)
+      (λ (q : IsSeat tells start passes r.served r.next r.log s.homes s.views o.0 o.1).
+      let some = q.live in
+      let two = total_two parts_of s.views o.0 id o.1 v other o.3 at in
+      let all = r.whole in
+      absurd (omega arith))
+      (r.seats o.0 o.1 o.3))))
       r.value
 
   -- what is known of the value that comes back
@@ -52,7 +53,7 @@ module _ {A : Type 0} (tells : AnswererTells A) (start : A) (passes : ℕ) where
   gives_up s r id v y at idle some whole out =
       let home = closes s r id v at idle whole in
       let same : home.0 ≡ y =
-          out home.0 (ap (λ (hs : List (maybe.Option A)). get_elem? hs 0) home.1) in
+      out home.0 (ap (λ (hs : List (maybe.Option A)). get_elem? hs 0) home.1) in
       let q = live tells start passes s r id v at some in
       let few = r.known in (
         r.log,

@@ -11,8 +11,8 @@ use lib.ListN.{get_elem?}
 use Rattle.ov_peer.specs.Tells.{AnswererTells}
 use Rattle.ov_turn.specs.declared.view.Entry.{Entry}
 use Rattle.ov_turn.specs.declared.view.Knowledge.{Knowledge}
-use Rattle.ov_turn.specs.Rule.{BeginsWith, DifferInCall, GoesOnFrom, IsNumbered, total}
-use Rattle.ov_turn.specs.Views.{own}
+use Rattle.ov_turn.specs.Rule.{total}
+use Rattle.ov_turn.specs.Logs.{BeginsWith, DifferInCall, GoesOnFrom, IsNumbered, own}
 
 -- ---- sums
 
@@ -108,10 +108,11 @@ own_of_later pass (e ∷ log) h =
   where
     below : e.pass < pass
     below = h 0 e (omega arith)
+
     by_test : (b : Bool) → (e.pass == pass) ≡ b → own pass log ≡ [] → own pass (e ∷ log) ≡ []
     by_test true is none =
         absurd
-            (let same : e.pass ≡ pass = grind (arith, nat_tests) in let b = below in omega arith)
+        (let same : e.pass ≡ pass = grind (arith, nat_tests) in let b = below in omega arith)
     by_test false is none = rw is none
 
 -- ---- the list gets longer
@@ -133,15 +134,15 @@ pairs_push {X} R xs x pairs all i j d lt within =
     let long : length (xs ++ x ∷ []) ≡ length xs + 1 = length-append xs (x ∷ []) in
     let below : i < length xs = omega arith in
     let first : get_or (xs ++ x ∷ []) i d ≡ get_or xs i d =
-        get_or_append_left xs (x ∷ []) d i below in
+    get_or_append_left xs (x ∷ []) d i below in
     dite (ℕ_discrete j (length xs))
-        (λ last. subst (λ (p : X × X). R p.0 p.1)
-            (λ t. (sym first t, sym (get_or_push xs x d j (sym last)) t)) (all i d below))
-        (λ other.
-            let inside : j < length xs = omega arith in
-            subst (λ (p : X × X). R p.0 p.1)
-                (λ t. (sym first t, sym (get_or_append_left xs (x ∷ []) d j inside) t))
-                (pairs i j d lt inside))
+    (λ last. subst (λ (p : X × X). R p.0 p.1)
+    (λ t. (sym first t, sym (get_or_push xs x d j (sym last)) t)) (all i d below))
+    (λ other.
+    let inside : j < length xs = omega arith in
+    subst (λ (p : X × X). R p.0 p.1)
+    (λ t. (sym first t, sym (get_or_append_left xs (x ∷ []) d j inside) t))
+    (pairs i j d lt inside))
 
 pub numbered_push : (passes : ℕ) (log : List Entry) (e : Entry) → IsNumbered passes log
     → e.pass < passes → All (λ f. f.pass ≡ e.pass → f.call < e.call) log
@@ -150,5 +151,5 @@ numbered_push passes log e n below earlier = (
   All-push (λ (f : Entry). f.pass < passes) log e n.0 below,
   pairs_push DifferInCall log e n.1
       (All-weaker (λ (f : Entry). f.pass ≡ e.pass → f.call < e.call) (λ f. DifferInCall f e)
-          (λ f less same equal. let l = less same in absurd (omega arith)) log earlier),
+      (λ f less same equal. let l = less same in absurd (omega arith)) log earlier),
 )

@@ -15,9 +15,10 @@ use Rattle.ov_turn.specs.declared.view.Knowledge.{Knowledge}
 use Rattle.ov_turn.specs.declared.view.Stage.{Stage}
 use Rattle.ov_turn.specs.declared.view.Stage.TheVariants.{Idle, Waiting, Serving, Raised}
 use Rattle.ov_turn.specs.declared.view.View.{View}
-use Rattle.ov_turn.specs.Rule.{GoesOnFrom, HasTicket, HasValue, IsAtStage, IsKept, IsNumbered, IsOut, IsSeat, IsSpentAt, draws_of, epoch_after, parts_of, tickets_at, tickets_of, total, unused_call}
-use Rattle.ov_turn.specs.Steps.{Raises, Sitting}
-use Rattle.ov_turn.specs.Views.{entry, own, raised, spent}
+use Rattle.ov_turn.specs.Logs.{GoesOnFrom, IsNumbered, entry, epoch_after, own}
+use Rattle.ov_turn.specs.Rule.{HasTicket, HasValue, IsAtStage, IsKept, IsOut, IsSeat, IsSpentAt, draws_of, parts_of, tickets_at, tickets_of, total, unused_call}
+use Rattle.ov_turn.specs.Steps.{Raises, SeatState}
+use Rattle.ov_turn.specs.Views.{raised, spent}
 use Rattle.ov_turn.proofs.Lists.{at_inside, begins_self, goes_on_push, numbered_push, total_set}
 use Rattle.ov_turn.proofs.Seats.{busy, next_state, no_value, not_spent, same_ticket, seats_stay, set_there, spent_stays}
 use Rattle.ov_turn.proofs.Stages.{has_between, others_stay}
@@ -40,7 +41,7 @@ module _ {A : Type 0} (tells : AnswererTells A) (start : A) (passes : ℕ) where
       (λ k p. (
         goes_on_push tells start k log e
             (λ same. not_spent v some_parts (maybe.some-injective v spent
-                (sym at ∙ (ap (get_elem? views) (sym is ∙ same) ∙ p.1))))
+            (sym at ∙ (ap (get_elem? views) (sym is ∙ same) ∙ p.1))))
             p.0,
         spent_stays views id v w at some_parts k.number p.1,
       ))
@@ -64,7 +65,7 @@ module _ {A : Type 0} (tells : AnswererTells A) (start : A) (passes : ℕ) where
     earlier : All (λ (e : Entry). e.pass ≡ id → e.call < v.calls) r.log
     earlier =
         subst (λ st. All (λ (e : Entry). e.pass ≡ id → e.call < unused_call st v.calls) r.log)
-            serves q.numbered
+        serves q.numbered
 
     raised_known : GoesOnFrom tells start w.knowledge log'
     raised_known =
@@ -72,7 +73,7 @@ module _ {A : Type 0} (tells : AnswererTells A) (start : A) (passes : ℕ) where
         let long = length-append r.log (asked ∷ []) in
         let same : v.base ++ asked ∷ [] ≡ log' = ap (λ l. l ++ asked ∷ []) stage.2 in
         subst (λ (l : List Entry). GoesOnFrom tells start (record v.knowledge { seen = l }) log')
-            (sym same) (begins_self log', refl, omega arith)
+        (sym same) (begins_self log', refl, omega arith)
 
     raised_seat : Sat (next_state 0 0 0 s.homes (set s.views id w)) r.served r.next log' id w
     raised_seat = record {
@@ -84,8 +85,8 @@ module _ {A : Type 0} (tells : AnswererTells A) (start : A) (passes : ℕ) where
       known = raised_known;
       numbered = All-push (λ (e : Entry). e.pass ≡ id → e.call < v.calls + 1) r.log asked
           (All-weaker (λ (e : Entry). e.pass ≡ id → e.call < v.calls)
-              (λ e. e.pass ≡ id → e.call < v.calls + 1)
-              (λ e less is. let l = less is in omega arith) r.log earlier)
+          (λ e. e.pass ≡ id → e.call < v.calls + 1)
+          (λ e less is. let l = less is in omega arith) r.log earlier)
           (λ _. omega arith);
       last = λ many none.
           (let l = q.last many none in (l.0 ∙ sym (length-set s.views id w), l.1));
@@ -99,7 +100,7 @@ module _ {A : Type 0} (tells : AnswererTells A) (start : A) (passes : ℕ) where
         → Sat (next_state 0 0 0 s.homes (set s.views id w)) r.served r.next log' j d
     other_seat j d ne e p =
         let mine : HasTicket r.served v.stage =
-            subst (HasTicket r.served) (sym serves) (sym stage.0) in
+        subst (HasTicket r.served) (sym serves) (sym stage.0) in
         record {
           live = p.live;
           begun = p.begun;
@@ -121,7 +122,7 @@ module _ {A : Type 0} (tells : AnswererTells A) (start : A) (passes : ℕ) where
 
     raised_state : epoch_after tells start v.base + 1 < 4294967296
         → Rule (next_state r.next r.served (epoch_after tells start log') s.homes
-            (set s.views id w))
+        (set s.views id w))
     raised_state small =
         let more = total_set tickets_of s.views id v w at in
         let uses = total_set draws_of s.views id v w at in
@@ -149,39 +150,39 @@ module _ {A : Type 0} (tells : AnswererTells A) (start : A) (passes : ℕ) where
           value = inr (id, w, stage.3, set_there s.views id v w at, tt);
           numbered = subst (λ n. IsNumbered n log') (sym long)
               (numbered_push (length s.views) r.log asked r.numbered (omega arith)
-                  (All-weaker (λ (e : Entry). e.pass ≡ id → e.call < v.calls)
-                      (λ e. e.pass ≡ v.knowledge.number → e.call < v.calls)
-                      (λ e less is. less (is ∙ named)) r.log earlier));
+              (All-weaker (λ (e : Entry). e.pass ≡ id → e.call < v.calls)
+              (λ e. e.pass ≡ v.knowledge.number → e.call < v.calls)
+              (λ e less is. less (is ∙ named)) r.log earlier));
           seats = seats_stay
               (λ j d. (d ≡ spent)
               ⊎ Sat (next_state 0 0 0 s.homes (set s.views id w)) r.served r.next log' j d)
               s.views id w (inr raised_seat)
               (λ j d ne e. ⊎_elim (λ (p : d ≡ spent). inl p) (λ p. inr (other_seat j d ne e p))
-                  (r.seats j d e));
+              (r.seats j d e));
           tickets_differ = same_ticket tells start passes s r id v w at
               (λ t' h. subst (HasTicket t') (sym serves) h);
         }
 
-  pub raises : (slots id : ℕ) (me : Sitting A) (t : ℕ) (u : List ℕ) → me.0.stage ≡ Serving t
+  pub raises : (slots id : ℕ) (me : SeatState A) (t : ℕ) (u : List ℕ) → me.0.stage ≡ Serving t
       → epoch_after tells start me.0.base + 1 < 4294967296
       → Allows Rule slots id me 2 (λ n. (n + 1) % 18446744073709551616)
-          (Raises u (step slots 2 1 0 maybe.none) me)
+      (Raises u (step slots 2 1 0 maybe.none) me)
   raises slots id me t u serves small s r _ at _ =
       let P : List ℕ → Type 0 = λ ws.
-          (v : View A) × (a : Act A) × Valid s.homes me.1 a
-          × Rule record {
-              words = set ws 2 ((get_or ws 2 0 + 1) % 18446744073709551616);
-              homes = homes_after s.homes me.1 a;
-              views = set s.views id v;
-            }
-          × Raises u (step slots 2 1 0 maybe.none) me (get_or ws 2 0) (v, carried_after me.1 a) in
+      (v : View A) × (a : Act A) × Valid s.homes me.1 a
+      × Rule record {
+        words = set ws 2 ((get_or ws 2 0 + 1) % 18446744073709551616);
+        homes = homes_after s.homes me.1 a;
+        views = set s.views id v;
+      }
+      × Raises u (step slots 2 1 0 maybe.none) me (get_or ws 2 0) (v, carried_after me.1 a) in
       let one : tickets_at me.0.stage ≡ 1 = ap tickets_at serves in
       let q = busy tells start passes s r id me.0 at (omega arith) in
       let e : Entry = entry me.0.knowledge.number me.0.calls u in
       let longer = length-append r.log (e ∷ []) in
       let below = r.small in
       let next : (epoch_after tells start r.log + 1) % 18446744073709551616
-          ≡ epoch_after tells start (r.log ++ e ∷ []) = omega arith in
+      ≡ epoch_after tells start (r.log ++ e ∷ []) = omega arith in
       subst P (sym r.words) (
         raised me.0 t u,
         keeps,

@@ -15,8 +15,9 @@ use Rattle.ov_turn.specs.declared.view.Knowledge.{Knowledge}
 use Rattle.ov_turn.specs.declared.view.Stage.{Stage}
 use Rattle.ov_turn.specs.declared.view.Stage.TheVariants.{Idle, Waiting, Serving, Raised}
 use Rattle.ov_turn.specs.declared.view.View.{View}
-use Rattle.ov_turn.specs.Rule.{GoesOnFrom, IsAtHome, IsKept, IsOut, IsSeat, IsSpentAt, draws_of, epoch_after, tickets_of, total}
-use Rattle.ov_turn.specs.Steps.{Reads, Sitting}
+use Rattle.ov_turn.specs.Logs.{GoesOnFrom, epoch_after}
+use Rattle.ov_turn.specs.Rule.{IsAtHome, IsKept, IsOut, IsSeat, IsSpentAt, draws_of, tickets_of, total}
+use Rattle.ov_turn.specs.Steps.{Reads, SeatState}
 use Rattle.ov_turn.specs.Views.{informed}
 use Rattle.ov_turn.proofs.Lists.{begins_length, total_set}
 use Rattle.ov_turn.proofs.Seats.{live, next_state, out_told, same_ticket, spent_stays, steps}
@@ -34,7 +35,7 @@ module _ {A : Type 0} (tells : AnswererTells A) (start : A) (passes : ℕ) where
       → get_elem? s.views id ≡ maybe.some v → epoch ≡ epoch_after tells start r.log
       → Sat s r.served r.next r.log id v
       → Sat (next_state 0 0 0 s.homes (set s.views id (informed v epoch))) r.served r.next r.log id
-          (informed v epoch)
+      (informed v epoch)
   informed_seat s r id v epoch at is q =
       let w : View A = informed v epoch in
       record {
@@ -55,18 +56,18 @@ module _ {A : Type 0} (tells : AnswererTells A) (start : A) (passes : ℕ) where
             v.taken_in q.taken_in;
       }
 
-  pub reads : (slots id : ℕ) (me : Sitting A) → 0 < me.0.parts
+  pub reads : (slots id : ℕ) (me : SeatState A) → 0 < me.0.parts
       → Allows Rule slots id me 2 (λ n. n) (Reads tells (step slots 2 0 0 maybe.none) me)
   reads slots id me some_parts s r _ at _ =
       let P : List ℕ → Type 0 = λ ws.
-          (v : View A) × (a : Act A) × Valid s.homes me.1 a
-          × Rule record {
-              words = set ws 2 (get_or ws 2 0);
-              homes = homes_after s.homes me.1 a;
-              views = set s.views id v;
-            }
-          × Reads tells (step slots 2 0 0 maybe.none) me (get_or ws 2 0)
-              (v, carried_after me.1 a) in
+      (v : View A) × (a : Act A) × Valid s.homes me.1 a
+      × Rule record {
+        words = set ws 2 (get_or ws 2 0);
+        homes = homes_after s.homes me.1 a;
+        views = set s.views id v;
+      }
+      × Reads tells (step slots 2 0 0 maybe.none) me (get_or ws 2 0)
+      (v, carried_after me.1 a) in
       let e : ℕ = epoch_after tells start r.log in
       let w : View A = informed me.0 e in
       let q = live tells start passes s r id me.0 at some_parts in
@@ -75,14 +76,14 @@ module _ {A : Type 0} (tells : AnswererTells A) (start : A) (passes : ℕ) where
       let sum = r.tickets in
       let before = r.drawn in
       let kept = steps tells start passes s r id me.0 w at some_parts refl r.served r.next s.homes
-          (omega arith)
-          (omega arith)
-          (⊎_elim (λ (h : IsAtHome tells start s r.log). inl h)
-              (λ (o : IsOut s). inr (out_told tells start passes s id me.0 w at refl o))
-              r.value)
-          (informed_seat s r id me.0 e at refl q)
-          (λ j d ne f p. p.staged)
-          (same_ticket tells start passes s r id me.0 w at (λ t' h. h)) in
+      (omega arith)
+      (omega arith)
+      (⊎_elim (λ (h : IsAtHome tells start s r.log). inl h)
+      (λ (o : IsOut s). inr (out_told tells start passes s id me.0 w at refl o))
+      r.value)
+      (informed_seat s r id me.0 e at refl q)
+      (λ j d ne f p. p.staged)
+      (same_ticket tells start passes s r id me.0 w at (λ t' h. h)) in
       subst P (sym r.words) (
         w,
         keeps,
@@ -97,6 +98,6 @@ module _ {A : Type 0} (tells : AnswererTells A) (start : A) (passes : ℕ) where
               let same : x ≡ start = cc (begun, q.begun) in
               let short = begins_length r.log me.0.knowledge.seen q.known.0 in
               subst (λ (z : A). epoch_after tells z me.0.knowledge.seen ≤ e) (sym same)
-                  (omega arith),
+              (omega arith),
         ),
       )

@@ -15,7 +15,8 @@ use Rattle.ov_turn.specs.declared.view.Knowledge.{Knowledge}
 use Rattle.ov_turn.specs.declared.view.Stage.{Stage}
 use Rattle.ov_turn.specs.declared.view.Stage.TheVariants.{Idle, Waiting, Serving, Raised}
 use Rattle.ov_turn.specs.declared.view.View.{View}
-use Rattle.ov_turn.specs.Rule.{GoesOnFrom, HasTicket, HasValue, HaveOwnTickets, IsAtHome, IsAtStage, IsKept, IsNumbered, IsOut, IsSeat, IsSpentAt, draws_of, epoch_after, parts_of, tickets_at, tickets_of, total}
+use Rattle.ov_turn.specs.Logs.{GoesOnFrom, IsNumbered, epoch_after}
+use Rattle.ov_turn.specs.Rule.{HasTicket, HasValue, HaveOwnTickets, IsAtHome, IsAtStage, IsKept, IsOut, IsSeat, IsSpentAt, draws_of, parts_of, tickets_at, tickets_of, total}
 use Rattle.ov_turn.specs.Views.{spent}
 use Rattle.ov_turn.proofs.Lists.{total_below, total_set}
 use Rattle.ov_turn.proofs.Stages.{value_served}
@@ -31,7 +32,7 @@ module _ {A : Type 0} where
       → (j : ℕ) (d : View A) → get_elem? (set vs me w) j ≡ maybe.some d → K j d
   seats_stay K vs me w mine others j d e = ⊎_elim
       (λ (t : (j ≡ me) × (w ≡ d)).
-          subst (λ (x : ℕ × View A). K x.0 x.1) (λ i. (sym t.0 i, t.1 i)) mine)
+      subst (λ (x : ℕ × View A). K x.0 x.1) (λ i. (sym t.0 i, t.1 i)) mine)
       (λ (t : (j ≢ me) × (get_elem? vs j ≡ maybe.some d)). others j d t.0 t.1)
       (at_set vs me j w d e)
 
@@ -41,18 +42,18 @@ module _ {A : Type 0} where
       → HasTicket t w.stage → HasTicket t d.stage → ⊥) → HaveOwnTickets (set vs me w)
   apart_stays vs me w old other i j v d t at_i at_j has_i has_j = ⊎_elim
       (λ (p : (i ≡ me) × (w ≡ v)). ⊎_elim
-          (λ (q : (j ≡ me) × (w ≡ d)). p.0 ∙ sym q.0)
-          (λ (q : (j ≢ me) × (get_elem? vs j ≡ maybe.some d)).
-              absurd (other t j d q.0 q.1
-                  (subst (λ (z : View A). HasTicket t z.stage) (sym p.1) has_i) has_j))
-          (at_set vs me j w d at_j))
+      (λ (q : (j ≡ me) × (w ≡ d)). p.0 ∙ sym q.0)
+      (λ (q : (j ≢ me) × (get_elem? vs j ≡ maybe.some d)).
+      absurd (other t j d q.0 q.1
+      (subst (λ (z : View A). HasTicket t z.stage) (sym p.1) has_i) has_j))
+      (at_set vs me j w d at_j))
       (λ (p : (i ≢ me) × (get_elem? vs i ≡ maybe.some v)). ⊎_elim
-          (λ (q : (j ≡ me) × (w ≡ d)).
-              absurd (other t i v p.0 p.1
-                  (subst (λ (z : View A). HasTicket t z.stage) (sym q.1) has_j) has_i))
-          (λ (q : (j ≢ me) × (get_elem? vs j ≡ maybe.some d)).
-              old i j v d t p.1 q.1 has_i has_j)
-          (at_set vs me j w d at_j))
+      (λ (q : (j ≡ me) × (w ≡ d)).
+      absurd (other t i v p.0 p.1
+      (subst (λ (z : View A). HasTicket t z.stage) (sym q.1) has_j) has_i))
+      (λ (q : (j ≢ me) × (get_elem? vs j ≡ maybe.some d)).
+      old i j v d t p.1 q.1 has_i has_j)
+      (at_set vs me j w d at_j))
       (at_set vs me i w v at_i)
 
   pub set_there : (vs : List (View A)) (i : ℕ) (v w : View A) → get_elem? vs i ≡ maybe.some v
@@ -72,7 +73,7 @@ module _ {A : Type 0} where
       → (n : ℕ) → IsSpentAt vs n → IsSpentAt (set vs me w) n
   spent_stays vs me v w at live n is =
       let other : n ≢ me = λ e. not_spent v live
-          (maybe.some-injective v spent (sym at ∙ (ap (get_elem? vs) (sym e) ∙ is))) in
+      (maybe.some-injective v spent (sym at ∙ (ap (get_elem? vs) (sym e) ∙ is))) in
       set_else vs me n w other ∙ is
 
 module _ {A : Type 0} (tells : AnswererTells A) (start : A) (passes : ℕ) where
@@ -94,8 +95,8 @@ module _ {A : Type 0} (tells : AnswererTells A) (start : A) (passes : ℕ) where
       → Sat r.served r.next r.log s id v
   busy s r id v at one = ⊎_elim
       (λ (e : v ≡ spent).
-          let none : tickets_at v.stage ≡ 0 = ap (λ (z : View A). tickets_at z.stage) e in
-          absurd (omega arith))
+      let none : tickets_at v.stage ≡ 0 = ap (λ (z : View A). tickets_at z.stage) e in
+      absurd (omega arith))
       (λ q. q) (r.seats id v at)
 
   -- a seat keeps what it knows, where the updates are the same and no seat moves
@@ -151,9 +152,9 @@ module _ {A : Type 0} (tells : AnswererTells A) (start : A) (passes : ℕ) where
         seats = seats_stay (λ j d. (d ≡ spent) ⊎ Sat served next r.log t j d) s.views id w
             (inr mine)
             (λ j d ne e. ⊎_elim (λ (p : d ≡ spent). inl p)
-                (λ q. inr (same_log s t r.served r.next served next r.log j d q
-                    (others j d ne e q) long (spent_stays s.views id v w at some_parts)))
-                (r.seats j d e));
+            (λ q. inr (same_log s t r.served r.next served next r.log j d q
+            (others j d ne e q) long (spent_stays s.views id v w at some_parts)))
+            (r.seats j d e));
         tickets_differ = apart;
       }
 
@@ -164,7 +165,7 @@ module _ {A : Type 0} (tells : AnswererTells A) (start : A) (passes : ℕ) where
       → Sat r.served r.next r.log s j d → HasValue d.stage → ⊥
   no_value s r id v at mine j d other e q h =
       other (sym (r.tickets_differ id j v d r.served at e mine
-          (value_served r.served r.next r.log s.homes d d.stage q.staged h)))
+      (value_served r.served r.next r.log s.homes d d.stage q.staged h)))
 
   -- the tickets stay different where the seat keeps its own
   pub same_ticket : (s : State A (View A)) (r : Rule s) (id : ℕ) (v w : View A)
@@ -173,15 +174,15 @@ module _ {A : Type 0} (tells : AnswererTells A) (start : A) (passes : ℕ) where
       → HaveOwnTickets (set s.views id w)
   same_ticket s r id v w at same = apart_stays s.views id w r.tickets_differ
       (λ t j d other e mine theirs.
-          other (sym (r.tickets_differ id j v d t at e (same t mine) theirs)))
+      other (sym (r.tickets_differ id j v d t at e (same t mine) theirs)))
 
   -- so many tickets aren't drawn that their count would come round
   pub next_small : (s : State A (View A)) (r : Rule s) → r.next ≤ 281474976645120
   next_small s r =
       let uses : total draws_of s.views ≤ 4294967295 * total parts_of s.views =
-          total_below draws_of parts_of 4294967295 s.views
-              (λ i v e. ⊎_elim (λ (p : v ≡ spent). none v p)
-                  (λ (q : Sat r.served r.next r.log s i v). q.called) (r.seats i v e)) in
+      total_below draws_of parts_of 4294967295 s.views
+      (λ i v e. ⊎_elim (λ (p : v ≡ spent). none v p)
+      (λ (q : Sat r.served r.next r.log s i v). q.called) (r.seats i v e)) in
       let whole = r.whole in
       let few = r.few in
       let drawn = r.drawn in
@@ -200,13 +201,12 @@ module _ {A : Type 0} (tells : AnswererTells A) (start : A) (passes : ℕ) where
       let holder : ℕ = out.0 in
       let there = out.3 in
       let other : holder ≢ id = λ e. not (subst (λ (z : View A). HasValue z.stage)
-          (maybe.some-injective out.1 v (sym there ∙ (ap (get_elem? s.views) e ∙ at))) out.4) in
-      (
+      (maybe.some-injective out.1 v (sym there ∙ (ap (get_elem? s.views) e ∙ at))) out.4) in (
         holder,
         out.1,
         out.2,
         ap (λ (l : List (View A)). get_elem? l holder) is
-        ∙ (set_else s.views id holder w other ∙ there),
+            ∙ (set_else s.views id holder w other ∙ there),
         out.4,
       )
 
@@ -216,14 +216,13 @@ module _ {A : Type 0} (tells : AnswererTells A) (start : A) (passes : ℕ) where
       → IsOut (next_state 0 0 0 s.homes (set s.views id w))
   out_told s id v w at same out = dite (ℕ_discrete out.0 id)
       (λ here.
-          let one : out.1 ≡ v = maybe.some-injective out.1 v
-              (sym out.3 ∙ (ap (get_elem? s.views) here ∙ at)) in
-          (
-            id,
-            w,
-            out.2,
-            set_there s.views id v w at,
-            subst HasValue (sym same) (subst (λ (z : View A). HasValue z.stage) one out.4),
-          ))
+      let one : out.1 ≡ v = maybe.some-injective out.1 v
+      (sym out.3 ∙ (ap (get_elem? s.views) here ∙ at)) in (
+        id,
+        w,
+        out.2,
+        set_there s.views id v w at,
+        subst HasValue (sym same) (subst (λ (z : View A). HasValue z.stage) one out.4),
+      ))
       (λ other.
-          (out.0, out.1, out.2, set_else s.views id out.0 w other ∙ out.3, out.4))
+      (out.0, out.1, out.2, set_else s.views id out.0 w other ∙ out.3, out.4))

@@ -11,18 +11,19 @@ use Rattle.ov_turn.specs.declared.view.Entry.{Entry}
 use Rattle.ov_turn.specs.declared.view.Knowledge.{Knowledge}
 use Rattle.ov_turn.specs.declared.view.Stage.TheVariants.{Idle}
 use Rattle.ov_turn.specs.declared.view.View.{View}
-use Rattle.ov_turn.specs.Rule.{GoesOnFrom, IsNumbered}
-use Rattle.ov_turn.specs.Views.{entry, longer_if, spellings}
+use Rattle.ov_turn.specs.Logs.{GoesOnFrom, IsNumbered, entry, longer_if, spellings}
 
 -- ---- what there is
 
--- a value that threads share: its table, the value as it was at first, and how many passes there are
-pub record Sharing (A : Type 0) : Type 0 where
+-- a value that threads share: the table that it lies in, what it was at first, and how many passes
+-- it has
+pub record SharedState (A : Type 0) : Type 0 where
   pub table : TableId
   pub start : A
   pub passes : ℕ
 
--- a pass: its table and the value as it was at first, how often it has asked, and what it knows
+-- a pass: the table that it is of, what the value was at first, how often the pass has asked, and
+-- what it knows
 pub record PassState (A : Type 0) : Type 0 where
   pub table : TableId
   pub start : Option A
@@ -31,7 +32,7 @@ pub record PassState (A : Type 0) : Type 0 where
 
 module _ {A : Type 0} where
   -- the pass is of this shared value
-  abbrev pub IsPassOf : Sharing A → PassState A → Type 0
+  abbrev pub IsPassOf : SharedState A → PassState A → Type 0
   IsPassOf s p = (p.table ≡ s.table) × (p.start ≡ Some s.start)
 
   -- the seat of a pass that has asked so often, between two calls
@@ -92,7 +93,7 @@ module _ {A : Type 0} (tells : AnswererTells A) where
   -- ---- the first passes, and the last
 
   -- a pass that hasn't asked
-  abbrev pub first_pass : Sharing A → ℕ → PassState A
+  abbrev pub first_pass : SharedState A → ℕ → PassState A
   first_pass s number = record {
     table = s.table;
     start = Some s.start;
@@ -101,13 +102,13 @@ module _ {A : Type 0} (tells : AnswererTells A) where
   }
 
   -- so many passes, numbered from 0
-  abbrev pub AreFirst : Sharing A → List (PassState A) → Type 0
+  abbrev pub AreFirst : SharedState A → List (PassState A) → Type 0
   AreFirst s items =
       (k : ℕ) (d : PassState A) → k < length items → slice_index_or items k d ≡ first_pass s k
 
   -- The value as its passes left it: it has accepted one list of updates, each of another call of
   -- one of them, that goes on from what every pass knows.
-  abbrev pub IsLeft : Sharing A → List (PassState A) → A → Type 0
+  abbrev pub IsLeft : SharedState A → List (PassState A) → A → Type 0
   IsLeft s items value =
       (log : List Entry) × tells.reached s.start (spellings log) value
       × IsNumbered s.passes log × All (λ p. GoesOnFrom tells s.start p.knowledge log) items

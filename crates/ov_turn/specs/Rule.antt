@@ -10,39 +10,8 @@ use Rattle.ov_turn.specs.declared.view.Knowledge.{Knowledge}
 use Rattle.ov_turn.specs.declared.view.Stage.{Stage}
 use Rattle.ov_turn.specs.declared.view.Stage.TheVariants.{Idle, Waiting, Serving, Raised}
 use Rattle.ov_turn.specs.declared.view.View.{View}
-use Rattle.ov_turn.specs.Views.{own, spellings, spent}
-
--- ---- lists of accepted updates
-
--- the list begins with this one
-abbrev pub BeginsWith : List Entry → List Entry → Type 0
-BeginsWith log first = (rest : List Entry) × (log ≡ first ++ rest)
-
--- the entries are of different calls
-abbrev pub DifferInCall : Entry → Entry → Type 0
-DifferInCall e f = e.pass ≡ f.pass → e.call ≢ f.call
-
--- each entry is of one of the first so many passes, and no two are of the same call
-abbrev pub IsNumbered : ℕ → List Entry → Type 0
-IsNumbered passes log = All (λ e. e.pass < passes) log × AllPairs DifferInCall log
-
-module _ {A : Type 0} (tells : AnswererTells A) (start : A) where
-  -- the epoch after these updates
-  abbrev pub epoch_after : List Entry → ℕ
-  epoch_after log = tells.epoch_of start + length log
-
-  -- The list goes on from what a pass knows, by the updates of others: it begins with those that
-  -- the pass has seen, has no more of its own, and its epoch is at least the one that it was told.
-  abbrev pub GoesOnFrom : Knowledge → List Entry → Type 0
-  GoesOnFrom k log =
-      BeginsWith log k.seen × (own k.number log ≡ own k.number k.seen)
-      × (k.told ≤ epoch_after log)
-
-  -- the value is at home, as these updates left it
-  abbrev pub IsAtHome : State A (View A) → List Entry → Type 0
-  IsAtHome s log =
-      (value : A) × (s.homes ≡ maybe.some value ∷ [])
-      × tells.reached start (spellings log) value
+use Rattle.ov_turn.specs.Logs.{GoesOnFrom, IsNumbered, epoch_after, spellings}
+use Rattle.ov_turn.specs.Views.{spent}
 
 -- ---- tickets
 
@@ -121,6 +90,13 @@ module _ {A : Type 0} where
         × (homes ≡ maybe.none ∷ [])
 
 -- ---- the rule
+
+module _ {A : Type 0} (tells : AnswererTells A) (start : A) where
+  -- the value is at home, as these updates left it
+  abbrev pub IsAtHome : State A (View A) → List Entry → Type 0
+  IsAtHome s log =
+      (value : A) × (s.homes ≡ maybe.some value ∷ [])
+      × tells.reached start (spellings log) value
 
 module _ {A : Type 0} (tells : AnswererTells A) (start : A) (passes : ℕ) where
   module _ (served next : ℕ) (log : List Entry) (homes : List (maybe.Option A))

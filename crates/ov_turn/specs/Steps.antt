@@ -11,44 +11,44 @@ use Rattle.ov_turn.specs.declared.view.Entry.{Entry}
 use Rattle.ov_turn.specs.declared.view.Stage.TheVariants.{Idle, Waiting, Serving}
 use Rattle.ov_turn.specs.declared.view.View.{View}
 use Rattle.ov_turn.specs.Passes.{PassState}
-use Rattle.ov_turn.specs.Rule.{GoesOnFrom, IsNumbered, epoch_after}
-use Rattle.ov_turn.specs.Views.{drawn, entry, informed, longer_if, opened, raised, rested, serving, spellings}
+use Rattle.ov_turn.specs.Logs.{GoesOnFrom, IsNumbered, entry, epoch_after, longer_if, spellings}
+use Rattle.ov_turn.specs.Views.{drawn, informed, opened, raised, rested, serving}
 
 -- a seat: what it knows, and the value, where it has it
-abbrev pub Sitting : Type 0 → Type 0
-Sitting A = Me A (View A)
+abbrev pub SeatState : Type 0 → Type 0
+SeatState A = Me A (View A)
 
 -- what a step tells
-abbrev pub Telling : Type 0 → Type 1
-Telling A = Step A → Sitting A → ℕ → Sitting A → Type 0
+abbrev pub StepTells : Type 0 → Type 1
+StepTells A = Step A → SeatState A → ℕ → SeatState A → Type 0
 
 module _ {A : Type 0} where
   -- a ticket was drawn
-  abbrev pub Draws : Telling A
+  abbrev pub Draws : StepTells A
   Draws step m ticket n = (n.0 ≡ drawn m.0 ticket) × (n.1 ≡ m.1)
 
   module _ (tells : AnswererTells A) where
     -- the seat has the value, which accepted these updates
-    abbrev pub Holds : Sitting A → List Entry → Type 0
+    abbrev pub Holds : SeatState A → List Entry → Type 0
     Holds m log =
         (start : A) × (value : A) × (m.0.start ≡ Some start)
         × (m.1 ≡ (0, value) ∷ []) × tells.reached start (spellings log) value
 
     -- the ticket is served: the seat took the value, as updates left it that go on from what its
     -- pass knows
-    abbrev pub Takes : ℕ → Sitting A → Sitting A → Type 0
+    abbrev pub Takes : ℕ → SeatState A → SeatState A → Type 0
     Takes ticket m n =
         (log : List Entry) × (n.0 ≡ serving m.0 ticket log) × Holds n log
         × ((start : A) → m.0.start ≡ Some start → GoesOnFrom tells start m.0.knowledge log)
 
     -- a seat that waits looked which ticket is served
-    abbrev pub Looks : Telling A
+    abbrev pub Looks : StepTells A
     Looks step m found n =
         (ticket : ℕ) → m.0.stage ≡ Waiting ticket → m.1 ≡ []
         → (found ≡ ticket → Takes ticket m n) × (found ≢ ticket → n ≡ m)
 
     -- the epoch was read: no less than the one told before, and than that of the updates seen
-    abbrev pub Reads : Telling A
+    abbrev pub Reads : StepTells A
     Reads step m epoch n =
         (n.0 ≡ informed m.0 epoch) × (n.1 ≡ m.1) × (epoch < 4294967296)
         × (m.0.knowledge.told ≤ epoch)
@@ -56,12 +56,12 @@ module _ {A : Type 0} where
         → epoch_after tells start m.0.knowledge.seen ≤ epoch)
 
   -- the epoch was raised by an update of this spelling
-  abbrev pub Raises : List ℕ → Telling A
+  abbrev pub Raises : List ℕ → StepTells A
   Raises spelling step m found n =
       (ticket : ℕ) → m.0.stage ≡ Serving ticket → (n.0 ≡ raised m.0 ticket spelling) × (n.1 ≡ m.1)
 
   -- the value was given back, and the turn passed on
-  abbrev pub PassesOn : Telling A
+  abbrev pub PassesOn : StepTells A
   PassesOn step m found n = (n.0 ≡ rested m.0) × (n.1 ≡ [])
 
 -- ---- an answer in the seat's turn
@@ -115,7 +115,7 @@ module _ {A : Type 0} where
 
 module _ {A : Type 0} (tells : AnswererTells A) (start : A) where
   -- the seat stands for passes that haven't asked
-  abbrev pub IsUnasked : Sitting A → Type 0
+  abbrev pub IsUnasked : SeatState A → Type 0
   IsUnasked m = m ≡ (opened tells start m.0.knowledge.number m.0.parts, [])
 
   -- one call in the seat's turn

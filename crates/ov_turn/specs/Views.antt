@@ -1,33 +1,12 @@
 -- What a seat at the table knows, and what becomes of it by each step.
-use Rattle.std.specs.Prelude.{◌≡◌, ℕ, ◌+◌, ◌-◌, ◌==◌, List, [], ◌∷◌, ◌++◌, filter, map}
-use Rattle.std.specs.Prelude.{Bool, true, false, Option, Some, None}
+use Rattle.std.specs.Prelude.{ℕ, ◌+◌, ◌-◌, List, [], ◌∷◌, ◌++◌, Some, None}
 use Rattle.ov_peer.specs.Tells.{AnswererTells}
 use Rattle.ov_turn.specs.declared.view.Entry.{Entry}
 use Rattle.ov_turn.specs.declared.view.Knowledge.{Knowledge}
 use Rattle.ov_turn.specs.declared.view.Stage.{Stage}
 use Rattle.ov_turn.specs.declared.view.Stage.TheVariants.{Idle, Waiting, Serving, Raised}
 use Rattle.ov_turn.specs.declared.view.View.{View}
-
--- ---- lists of accepted updates
-
--- the update of this call of this pass
-abbrev pub entry : ℕ → ℕ → List ℕ → Entry
-entry pass call spelling = record { pass = pass; call = call; spelling = spelling }
-
--- the updates, by their spellings alone
-abbrev pub spellings : List Entry → List (List ℕ)
-spellings log = map (λ e. e.spelling) log
-
--- the list, with one more where the test says so
-abbrev pub longer_if : Bool → List Entry → Entry → List Entry
-longer_if true log e = log ++ e ∷ []
-longer_if false log e = log
-
--- the updates that this pass asked
-abbrev pub own : ℕ → List Entry → List Entry
-own pass log = filter (λ e. e.pass == pass) log
-
--- ---- what a seat knows
+use Rattle.ov_turn.specs.Logs.{entry}
 
 module _ {A : Type 0} where
   -- a seat that stands for so many passes, from this number on, which haven't asked

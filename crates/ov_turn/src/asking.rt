@@ -1,18 +1,49 @@
 //! A call in its turn, and a look at the epoch.
-ghost use Rattle.std.specs.Prelude.{◌≡◌, ◌↔◌, ◌≤◌, Err, OnOk};
+ghost use Rattle.std.specs.Prelude.{◌≡◌, ◌↔◌, ◌<◌, ◌≤◌, [], Err, OnOk, Some};
 ghost use Rattle.ov_wire.specs.Frames.{IsFrame};
-ghost use Rattle.ov_turn.specs.Passes.{IsPassOf, TellsAsk, after_epoch};
-ghost use Rattle.ov_turn.specs.Rule.{epoch_after};
+ghost use Rattle.ov_turn.specs.Passes.{IsAtRest, IsPassOf, TellsAsk, after_epoch};
+ghost use Rattle.ov_turn.specs.Steps.{TakesTurn};
+ghost use Rattle.ov_turn.specs.Logs.{epoch_after};
 
 use crate::pass::Pass;
 use crate::plays::ReadEpoch;
-use crate::shared::Shared;
+use crate::shared::{Place, Shared};
 use crate::steps::EPOCH;
 use ov_base::Memory;
-use ov_peer::{Answerer, AskFault};
+use ov_peer::{Answerer, AskFault, is_accepted};
+use std::marker::Brand;
 use std::sync::Wait;
 
 impl<A: Answerer> Shared<A> {
+    /// One call in the seat's turn.
+    fn ask_in_turn<R: Wait>(
+        &self,
+        rt: &R,
+        seat: &mut Place<A>,
+        request: &[u8],
+        reply: &mut Vec<u8>,
+    ) -> Result<u32, Memory>
+        requires frame { IsFrame request.now }
+        requires own { (seat.old.table_id ≡ self.now.table)
+            × (seat.old.me.0.start ≡ Some self.now.start) }
+        requires rest { IsAtRest seat.old seat.old.me.0.calls }
+        requires left { seat.old.me.0.calls < 4294967295 }
+        ensures own { seat.new.table_id ≡ seat.old.table_id }
+        ensures frame { OnOk result (IsFrame reply.new.items) }
+        ensures hand { seat.new.me.1 ≡ [] }
+        ensures turn { TakesTurn A.tells self.now.start seat.old.me.0 request.now result
+            reply.new.items seat.new.me.0 }
+    {
+        let ticket = self.draw(seat);
+        self.wait_turn(rt, seat, ticket);
+        let done = self.answer_here(seat, request, reply);
+        if done.is_ok() && is_accepted(reply.as_slice()) {
+            self.raise::<Brand>(seat, ticket, request);
+        }
+        self.pass_on(seat);
+        done
+    }
+
     /// Asks a frame in the pass's turn, for which it waits; the reply replaces what `reply` had.
     /// Both are without their length fields.
     pub fn ask<R: Wait>(

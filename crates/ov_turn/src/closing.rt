@@ -29,7 +29,10 @@ impl<A: Answerer> Shared<A> {
         ensures all { TakesIn seat.old.me.0 passes.items [] seat.new.me.0 }
     {
         while let Some(pass) = passes.pop() {
-            let Pass { seat: other, calls: _ } = pass;
+            let Pass {
+                seat: other,
+                calls: _,
+            } = pass;
             self.take_in(seat, other);
         }
     }

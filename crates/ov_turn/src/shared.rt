@@ -39,9 +39,9 @@ pub struct Shared<A: Answerer> {
 
 impl<A: Answerer> Model for Shared<A> {
     ghost use Rattle.std.specs.Prelude.{◌≡◌, ◌<◌};
-    ghost use Rattle.ov_turn.specs.Passes.{Sharing};
+    ghost use Rattle.ov_turn.specs.Passes.{SharedState};
 
-    ghost Value = { Sharing A };
+    ghost Value = { SharedState A };
 
     ghost view = { λ s. record {
       table = s.table.shared.table_id;
@@ -50,5 +50,5 @@ impl<A: Answerer> Model for Shared<A> {
     } };
 
     ghost invariant = { λ s. (s.table.shared.table_id.words ≡ 3)
-      × (s.table.shared.table_id.slots ≡ 1) × (0 < s.table.shared.key.passes) };
+        × (s.table.shared.table_id.slots ≡ 1) × (0 < s.table.shared.key.passes) };
 }

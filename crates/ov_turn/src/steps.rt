@@ -1,20 +1,20 @@
-//! The steps of a call, one atomic step each.
-ghost use Rattle.std.specs.Prelude.{◌≡◌, ℕ, ◌+◌, ◌*◌, ◌<◌, ◌≤◌, [], ◌∷◌, List, OnOk, Some};
+//! The steps of a call: a ticket lock round the value, and the epoch beside it.
+//!
+//! A thread waits for its ticket asleep, and whoever passes the turn on wakes those that wait.
+ghost use Rattle.std.specs.Prelude.{◌≡◌, ℕ, ◌+◌, ◌*◌, ◌<◌, ◌≤◌, [], ◌∷◌, List, OnOk};
 ghost use Rattle.ov_wire.specs.Frames.{IsFrame};
 ghost use Rattle.ov_peer.specs.Spellings.{spelling_of};
 ghost use Rattle.ov_turn.specs.declared.view.Stage.TheVariants.{Idle, Serving, Waiting};
-ghost use Rattle.ov_turn.specs.Rule.{HasValue, draws_of, epoch_after};
-ghost use Rattle.ov_turn.specs.Passes.{IsAtRest};
-ghost use Rattle.ov_turn.specs.Steps.{Answers, Holds, Takes, TakesTurn};
+ghost use Rattle.ov_turn.specs.Logs.{epoch_after};
+ghost use Rattle.ov_turn.specs.Rule.{HasValue, draws_of};
+ghost use Rattle.ov_turn.specs.Steps.{Answers, Holds, Takes};
 ghost use Rattle.ov_turn.specs.Views.{drawn, log_in_hand, raised, rested};
 
 use crate::plays::{Draw, Look, PassOn, Raise, Spelled};
 use crate::shared::{Place, Shared};
 use ov_base::Memory;
-use ov_peer::{Answerer, is_accepted};
-use std::marker::Brand;
+use ov_peer::Answerer;
 use std::sync::Wait;
-use std::thread;
 
 /// The word of the next ticket to draw.
 pub(crate) const NEXT: usize = 0;
@@ -47,7 +47,7 @@ impl<A: Answerer> Shared<A> {
             if served == ticket {
                 return;
             }
-            thread::yield_now();
+            self.table.shared.park(rt, SERVED, (served % (1 << 32)) as u32);
         }
         unreachable!()
     }
@@ -80,8 +80,10 @@ impl<A: Answerer> Shared<A> {
         requires small { epoch_after A.tells self.now.start seat.old.me.0.base + 1 < 4294967296 }
         requires spelled { N.spelling ≡ spelling_of request.now }
         ensures own { seat.new.table_id ≡ seat.old.table_id }
-        ensures view { seat.new.me ≡ (raised seat.old.me.0 ticket (spelling_of request.now),
-            seat.old.me.1) }
+        ensures view { seat.new.me ≡ (
+          raised seat.old.me.0 ticket (spelling_of request.now),
+          seat.old.me.1,
+        ) }
     {
         let _ = ticket;
         let _ = request;
@@ -97,36 +99,6 @@ impl<A: Answerer> Shared<A> {
         ensures view { seat.new.me ≡ (rested seat.old.me.0, []) }
     {
         self.table.shared.fetch_add::<PassOn>(seat, SERVED, 1);
-    }
-}
-
-impl<A: Answerer> Shared<A> {
-    /// One call in the seat's turn.
-    pub(crate) fn ask_in_turn<R: Wait>(
-        &self,
-        rt: &R,
-        seat: &mut Place<A>,
-        request: &[u8],
-        reply: &mut Vec<u8>,
-    ) -> Result<u32, Memory>
-        requires frame { IsFrame request.now }
-        requires own { (seat.old.table_id ≡ self.now.table)
-            × (seat.old.me.0.start ≡ Some self.now.start) }
-        requires rest { IsAtRest seat.old seat.old.me.0.calls }
-        requires left { seat.old.me.0.calls < 4294967295 }
-        ensures own { seat.new.table_id ≡ seat.old.table_id }
-        ensures frame { OnOk result (IsFrame reply.new.items) }
-        ensures hand { seat.new.me.1 ≡ [] }
-        ensures turn { TakesTurn A.tells self.now.start seat.old.me.0 request.now result
-            reply.new.items seat.new.me.0 }
-    {
-        let ticket = self.draw(seat);
-        self.wait_turn(rt, seat, ticket);
-        let done = self.answer_here(seat, request, reply);
-        if done.is_ok() && is_accepted(reply.as_slice()) {
-            self.raise::<Brand>(seat, ticket, request);
-        }
-        self.pass_on(seat);
-        done
+        self.table.shared.wake_all(SERVED);
     }
 }

@@ -1,4 +1,4 @@
-use Rattle.std.proofs.Common.{◌≡◌, ap}
+use Rattle.std.proofs.Common.{ap}
 use Rattle.ov_turn.specs.Passes.{PassState}
 use Rattle.ov_turn.proofs.Dealing.{left_by_all}
 use Rattle.ov_turn.proofs.shared.Shared.close.Goals as goal

@@ -1,4 +1,4 @@
-use Rattle.std.proofs.Common.{◌≡◌, ℕ, ◌+◌, ◌-◌, ◌<◌, ◌≤◌, [], length}
+use Rattle.std.proofs.Common.{◌≡◌, ◌+◌, ◌-◌, ◌<◌, ◌≤◌, [], length}
 use Rattle.std.specs.Prelude.{vec_capacity}
 use Rattle.ov_turn.specs.Passes.{AreFirst}
 use Rattle.ov_turn.specs.Views.{opened}
@@ -8,8 +8,11 @@ abbrev pub invariant-loop-seat : goal.invariant-loop-seat
 invariant-loop-seat g l = record {
   own : l.seat.table_id ≡ l.fn.self.table;
   seat : l.seat.me
-      ≡ (opened g.A.Answerer.tells l.fn.self.start (length l.list.items)
-          l.seat.me.0.parts, []);
+      ≡ (
+        opened g.A.Answerer.tells l.fn.self.start (length l.list.items)
+            l.seat.me.0.parts,
+        [],
+      );
   parts : length l.list.items + l.seat.me.0.parts ≡ l.fn.passes;
   some : 0 < l.seat.me.0.parts;
   room : l.fn.passes ≤ vec_capacity l.list;

@@ -1,6 +1,6 @@
-use Rattle.std.proofs.Common.{rules, ℕ, ◌+◌, ◌<◌, subst, sym}
-use Rattle.ov_turn.specs.Passes.{Sharing}
-use Rattle.ov_turn.specs.Rule.{epoch_after}
+use Rattle.std.proofs.Common.{rules, ◌+◌, ◌<◌, subst, sym}
+use Rattle.ov_turn.specs.Passes.{SharedState}
+use Rattle.ov_turn.specs.Logs.{epoch_after}
 use Rattle.ov_turn.proofs.Raising.{raises}
 use Rattle.ov_turn.proofs.shared.Shared.raise.Goals as goal
 
@@ -9,9 +9,9 @@ fetch_add-requires g c =
     let tells = g.A.Answerer.tells in
     let key = c.self.inside.table.shared.key in
     let small : epoch_after tells key.start.value c.args.seat.now.me.0.base + 1 < 4294967296 =
-        subst (λ (s : Sharing g.row.A.Denot).
-                epoch_after tells s.start c.args.seat.now.me.0.base + 1 < 4294967296)
-            (sym c.self.view_is) c.requires.small in (
+    subst (λ (s : SharedState g.row.A.Denot).
+    epoch_after tells s.start c.args.seat.now.me.0.base + 1 < 4294967296)
+    (sym c.self.view_is) c.requires.small in (
       search rules,
       search rules,
       raises tells key.start.value key.passes _ _ c.args.seat.now.me c.args.ticket

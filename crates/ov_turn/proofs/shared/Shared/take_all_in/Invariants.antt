@@ -1,4 +1,4 @@
-use Rattle.std.proofs.Common.{◌≡◌, ℕ, length}
+use Rattle.std.proofs.Common.{length}
 use Rattle.std.specs.Prelude.{All}
 use Rattle.ov_turn.specs.Passes.{IsPassOf}
 use Rattle.ov_turn.specs.Steps.{IsSeatOf, TakesIn}

@@ -1,5 +1,5 @@
 use Rattle.std.proofs.Common.{rules, ◌≡◌, ap, subst, ◌∙◌}
-use Rattle.ov_turn.specs.Steps.{Sitting, Takes}
+use Rattle.ov_turn.specs.Steps.{SeatState, Takes}
 use Rattle.ov_turn.proofs.Looking.{looks}
 use Rattle.ov_turn.proofs.shared.Shared.wait_turn.Goals as goal
 
@@ -19,8 +19,8 @@ returns-then-served-ticket-clause-takes g c =
     let same = c.loop.invariant.1 in
     let hit : c.load-served.result ≡ c.args.ticket = search rules in
     let took = (c.load-served.ensures.2 c.args.ticket
-        (ap (λ m. m.0.stage) same ∙ c.requires.waits.0)
-        (ap (λ m. m.1) same ∙ c.requires.waits.1)).0 hit in
-    subst (λ (m : Sitting g.row.A.Denot).
-            Takes g.A.Answerer.tells c.args.ticket m c.load-served.new.seat.me)
-        same took
+    (ap (λ m. m.0.stage) same ∙ c.requires.waits.0)
+    (ap (λ m. m.1) same ∙ c.requires.waits.1)).0 hit in
+    subst (λ (m : SeatState g.row.A.Denot).
+    Takes g.A.Answerer.tells c.args.ticket m c.load-served.new.seat.me)
+    same took
