@@ -1,26 +1,22 @@
 -- Cutting a seat in two keeps the rule of turns.
-use Rattle.std.proofs.Common.{◌≡◌, ◌≢◌, ℕ, zero, suc, ◌+◌, ◌*◌, ◌%◌, ◌<◌, ◌≤◌, ◌⊎◌, List, [], ◌∷◌, ◌++◌, length, get_or, set, refl, ap, sym, ◌∙◌, subst, inl, inr, ⊎_elim, arith, length-append, Some}
+use Rattle.std.proofs.Common.{◌≡◌, ◌≢◌, ℕ, zero, suc, ◌+◌, ◌<◌, ◌⊎◌, List, [], ◌∷◌, ◌++◌, length, set, refl, ap, sym, subst, inl, inr, ⊎_elim, arith, length-append}
 use Rattle.std.specs.Prelude.{All}
 use Rattle.std.proofs.lemmas.List.{length-set}
-use Rattle.std.proofs.lemmas.List.Elements.{All-nil, All-cons, All-push, All-weaker}
-use mathlib.Core.Logic.{dite}
+use Rattle.std.proofs.lemmas.List.Elements.{All-weaker}
 use mathlib.Core.Option as maybe
-use native.Mathlib.Decide.{ℕ_discrete}
 use lib.ListN.{get_elem?}
-use Rattle.atomic_table.specs.Table.{State, Act, step, keeps, takes, gives, Allows, Splits, Joins, Valid, carried_after, homes_after, rest}
-use Rattle.atomic_table.proofs.Lists.{at_longer, at_set, at_snoc, set_again, set_else}
+use Rattle.atomic_table.specs.Table.{State, Splits}
+use Rattle.atomic_table.proofs.Lists.{at_longer, at_snoc}
 use Rattle.ov_peer.specs.Tells.{AnswererTells}
 use Rattle.ov_turn.specs.declared.view.Entry.{Entry}
 use Rattle.ov_turn.specs.declared.view.Knowledge.{Knowledge}
-use Rattle.ov_turn.specs.declared.view.Stage.{Stage}
-use Rattle.ov_turn.specs.declared.view.Stage.TheVariants.{Idle, Waiting, Serving, Raised}
 use Rattle.ov_turn.specs.declared.view.View.{View}
-use Rattle.ov_turn.specs.Logs.{GoesOnFrom, IsNumbered, epoch_after, own}
-use Rattle.ov_turn.specs.Rule.{HasTicket, HasValue, HaveOwnTickets, IsAtHome, IsKept, IsOut, IsSeat, IsSpentAt, draws_of, parts_of, tickets_at, tickets_of, total, unused_call}
+use Rattle.ov_turn.specs.Logs.{GoesOnFrom}
+use Rattle.ov_turn.specs.Rule.{HasTicket, HaveOwnTickets, IsAtHome, IsKept, IsOut, IsSeat, IsSpentAt, draws_of, parts_of, tickets_of}
 use Rattle.ov_turn.specs.Steps.{IsUnasked, SeatState}
 use Rattle.ov_turn.specs.Views.{first_part, opened, other_parts, spent}
-use Rattle.ov_turn.proofs.Lists.{all_first, own_of_later, total_push, total_set}
-use Rattle.ov_turn.proofs.Seats.{live, next_state, out_elsewhere, same_ticket, seats_stay, spent_stays}
+use Rattle.ov_turn.proofs.Lists.{own_of_later, total_push, total_set}
+use Rattle.ov_turn.proofs.Seats.{live, out_elsewhere, same_ticket, seats_stay, spent_stays}
 
 -- a fact of each seat, the new one included
 seats_more : {X : Type 0} (K : ℕ → X → Type 0) (vs : List X) (a : X) → K (length vs) a

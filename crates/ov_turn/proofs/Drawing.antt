@@ -1,26 +1,22 @@
 -- Drawing a ticket keeps the rule of turns.
-use Rattle.std.proofs.Common.{◌≡◌, ◌≢◌, ℕ, zero, suc, ◌+◌, ◌*◌, ◌%◌, ◌<◌, ◌≤◌, ◌⊎◌, List, [], ◌∷◌, ◌++◌, length, get_or, set, refl, ap, sym, ◌∙◌, subst, inl, inr, ⊎_elim, arith, length-append, Some}
+use Rattle.std.proofs.Common.{◌≡◌, ℕ, ◌+◌, ◌*◌, ◌%◌, ◌<◌, ◌≤◌, List, get_or, set, refl, ap, sym, ◌∙◌, subst, inl, inr, ⊎_elim, arith}
 use Rattle.std.specs.Prelude.{All}
 use Rattle.std.proofs.lemmas.List.{length-set}
-use Rattle.std.proofs.lemmas.List.Elements.{All-nil, All-cons, All-push, All-weaker}
-use mathlib.Core.Logic.{dite}
+use Rattle.std.proofs.lemmas.List.Elements.{All-weaker}
 use mathlib.Core.Option as maybe
-use native.Mathlib.Decide.{ℕ_discrete}
 use lib.ListN.{get_elem?}
-use Rattle.atomic_table.specs.Table.{State, Act, step, keeps, takes, gives, Allows, Splits, Joins, Valid, carried_after, homes_after, rest}
-use Rattle.atomic_table.proofs.Lists.{at_longer, at_set, at_snoc, set_again, set_else}
+use Rattle.atomic_table.specs.Table.{State, Act, step, keeps, Allows, Valid, carried_after, homes_after}
 use Rattle.ov_peer.specs.Tells.{AnswererTells}
 use Rattle.ov_turn.specs.declared.view.Entry.{Entry}
 use Rattle.ov_turn.specs.declared.view.Knowledge.{Knowledge}
-use Rattle.ov_turn.specs.declared.view.Stage.{Stage}
-use Rattle.ov_turn.specs.declared.view.Stage.TheVariants.{Idle, Waiting, Serving, Raised}
+use Rattle.ov_turn.specs.declared.view.Stage.TheVariants.{Idle}
 use Rattle.ov_turn.specs.declared.view.View.{View}
 use Rattle.ov_turn.specs.Logs.{GoesOnFrom, epoch_after}
-use Rattle.ov_turn.specs.Rule.{HasValue, IsAtHome, IsAtStage, HasTicket, IsKept, IsOut, IsSeat, IsSpentAt, draws_of, tickets_at, tickets_of, total, unused_call}
+use Rattle.ov_turn.specs.Rule.{HasValue, IsAtHome, HasTicket, IsKept, IsOut, IsSeat, IsSpentAt, draws_of, tickets_at, tickets_of, unused_call}
 use Rattle.ov_turn.specs.Steps.{Draws, SeatState}
 use Rattle.ov_turn.specs.Views.{drawn, spent}
 use Rattle.ov_turn.proofs.Lists.{total_set}
-use Rattle.ov_turn.proofs.Seats.{apart_stays, live, next_small, next_state, out_elsewhere, same_log, spent_stays, steps}
+use Rattle.ov_turn.proofs.Seats.{apart_stays, live, next_small, next_state, out_elsewhere, spent_stays, steps}
 use Rattle.ov_turn.proofs.Stages.{has_between, more_drawn}
 
 module _ {A : Type 0} (tells : AnswererTells A) (start : A) (passes : ℕ) where

@@ -1,27 +1,22 @@
 -- The value comes back for a seat that took all others in.
-use Rattle.std.proofs.Common.{◌≡◌, ◌≢◌, ℕ, zero, suc, ◌+◌, ◌*◌, ◌%◌, ◌<◌, ◌≤◌, ◌⊎◌, List, [], ◌∷◌, ◌++◌, length, get_or, set, refl, ap, sym, ◌∙◌, subst, inl, inr, ⊎_elim, arith, length-append, Some}
-use Rattle.std.specs.Prelude.{All}
-use Rattle.std.proofs.lemmas.List.{length-set}
-use Rattle.std.proofs.lemmas.List.Elements.{All-nil, All-cons, All-push, All-weaker}
+use Rattle.std.proofs.Common.{◌≡◌, ℕ, ◌<◌, List, length, ap, sym, ◌∙◌, subst, ⊎_elim, arith}
+use Rattle.std.proofs.lemmas.List.Elements.{All-weaker}
 use mathlib.Core.Logic.{dite}
 use mathlib.Core.Option as maybe
 use native.Mathlib.Decide.{ℕ_discrete}
 use lib.ListN.{get_elem?}
-use Rattle.atomic_table.specs.Table.{State, Act, step, keeps, takes, gives, Allows, Splits, Joins, Valid, carried_after, homes_after, rest}
-use Rattle.atomic_table.proofs.Lists.{at_longer, at_set, at_snoc, set_again, set_else}
+use Rattle.atomic_table.specs.Table.{State}
 use Rattle.ov_peer.specs.Tells.{AnswererTells}
 use Rattle.ov_turn.specs.declared.view.Entry.{Entry}
 use Rattle.ov_turn.specs.declared.view.Knowledge.{Knowledge}
-use Rattle.ov_turn.specs.declared.view.Stage.{Stage}
-use Rattle.ov_turn.specs.declared.view.Stage.TheVariants.{Idle, Waiting, Serving, Raised}
+use Rattle.ov_turn.specs.declared.view.Stage.TheVariants.{Idle}
 use Rattle.ov_turn.specs.declared.view.View.{View}
-use Rattle.ov_turn.specs.Logs.{GoesOnFrom, IsNumbered, epoch_after, spellings}
-use Rattle.ov_turn.specs.Rule.{HasValue, IsAtHome, IsKept, IsOut, IsSeat, IsSpentAt, parts_of, tickets_at}
+use Rattle.ov_turn.specs.Logs.{GoesOnFrom, spellings}
+use Rattle.ov_turn.specs.Rule.{HasValue, IsAtHome, IsKept, IsOut, IsSeat, IsSpentAt, parts_of}
 use Rattle.ov_turn.specs.Steps.{GivesUp}
 use Rattle.ov_turn.specs.Views.{spent}
 use Rattle.ov_turn.proofs.Lists.{total_two}
 use Rattle.ov_turn.proofs.Seats.{live}
-use Rattle.ov_turn.proofs.Stages.{value_one}
 
 module _ {A : Type 0} (tells : AnswererTells A) (start : A) (passes : ℕ) where
   abbrev Rule : State A (View A) → Type 0

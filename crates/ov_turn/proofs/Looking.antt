@@ -1,23 +1,22 @@
 -- A look at the ticket that is served, and taking the value, keep the rule of turns.
-use Rattle.std.proofs.Common.{◌≡◌, ◌≢◌, ℕ, zero, suc, ◌+◌, ◌*◌, ◌%◌, ◌<◌, ◌≤◌, ◌⊎◌, List, [], ◌∷◌, ◌++◌, length, get_or, set, refl, ap, sym, ◌∙◌, subst, inl, inr, ⊎_elim, arith, length-append, Some}
+use Rattle.std.proofs.Common.{◌≡◌, ℕ, ◌<◌, List, [], ◌∷◌, get_or, set, refl, ap, sym, ◌∙◌, subst, inr, ⊎_elim, arith}
 use Rattle.std.specs.Prelude.{All}
 use Rattle.std.proofs.lemmas.List.{length-set}
-use Rattle.std.proofs.lemmas.List.Elements.{All-nil, All-cons, All-push, All-weaker}
+use Rattle.std.proofs.lemmas.List.Elements.{All-weaker}
 use mathlib.Core.Logic.{dite}
 use mathlib.Core.Option as maybe
 use native.Mathlib.Decide.{ℕ_discrete}
 use lib.ListN.{get_elem?}
-use Rattle.atomic_table.specs.Table.{State, Act, step, keeps, takes, gives, Allows, Splits, Joins, Valid, carried_after, homes_after, rest}
-use Rattle.atomic_table.proofs.Lists.{at_longer, at_set, at_snoc, set_again, set_else}
+use Rattle.atomic_table.specs.Table.{State, Act, step, keeps, takes, Allows, Valid, carried_after, homes_after}
+use Rattle.atomic_table.proofs.Lists.{set_again}
 use Rattle.ov_peer.specs.Tells.{AnswererTells}
 use Rattle.ov_turn.specs.declared.view.Entry.{Entry}
 use Rattle.ov_turn.specs.declared.view.Knowledge.{Knowledge}
-use Rattle.ov_turn.specs.declared.view.Stage.{Stage}
-use Rattle.ov_turn.specs.declared.view.Stage.TheVariants.{Idle, Waiting, Serving, Raised}
+use Rattle.ov_turn.specs.declared.view.Stage.TheVariants.{Waiting}
 use Rattle.ov_turn.specs.declared.view.View.{View}
-use Rattle.ov_turn.specs.Logs.{GoesOnFrom, epoch_after, spellings}
-use Rattle.ov_turn.specs.Rule.{HasTicket, HasValue, IsAtHome, IsAtStage, IsKept, IsOut, IsSeat, IsSpentAt, draws_of, tickets_at, tickets_of, total, unused_call}
-use Rattle.ov_turn.specs.Steps.{Looks, SeatState, Takes}
+use Rattle.ov_turn.specs.Logs.{GoesOnFrom, epoch_after}
+use Rattle.ov_turn.specs.Rule.{HasTicket, HasValue, IsAtHome, IsAtStage, IsKept, IsOut, IsSeat, IsSpentAt, draws_of, tickets_at, tickets_of, unused_call}
+use Rattle.ov_turn.specs.Steps.{Looks, SeatState}
 use Rattle.ov_turn.specs.Views.{serving, spent}
 use Rattle.ov_turn.proofs.Lists.{total_set}
 use Rattle.ov_turn.proofs.Seats.{busy, next_state, no_value, same_ticket, set_there, spent_stays, steps}

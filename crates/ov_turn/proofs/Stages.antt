@@ -1,5 +1,5 @@
 -- What a seat knows at each stage.
-use Rattle.std.proofs.Common.{◌≡◌, ◌≢◌, ℕ, zero, suc, ◌+◌, ◌<◌, ◌≤◌, List, [], ◌∷◌, refl, ap, sym, ◌∙◌, subst, arith}
+use Rattle.std.proofs.Common.{◌≡◌, ℕ, ◌+◌, ◌<◌, ◌≤◌, List, [], ◌∷◌, refl, sym, arith}
 use mathlib.Core.Option as maybe
 use Rattle.ov_turn.specs.declared.view.Entry.{Entry}
 use Rattle.ov_turn.specs.declared.view.Stage.{Stage}

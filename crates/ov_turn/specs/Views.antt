@@ -2,7 +2,6 @@
 use Rattle.std.specs.Prelude.{ℕ, ◌+◌, ◌-◌, List, [], ◌∷◌, ◌++◌, Some, None}
 use Rattle.ov_peer.specs.Tells.{AnswererTells}
 use Rattle.ov_turn.specs.declared.view.Entry.{Entry}
-use Rattle.ov_turn.specs.declared.view.Knowledge.{Knowledge}
 use Rattle.ov_turn.specs.declared.view.Stage.{Stage}
 use Rattle.ov_turn.specs.declared.view.Stage.TheVariants.{Idle, Waiting, Serving, Raised}
 use Rattle.ov_turn.specs.declared.view.View.{View}

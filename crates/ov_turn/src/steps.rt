@@ -47,7 +47,9 @@ impl<A: Answerer> Shared<A> {
             if served == ticket {
                 return;
             }
-            self.table.shared.park(rt, SERVED, (served % (1 << 32)) as u32);
+            self.table
+                .shared
+                .park(rt, SERVED, (served % (1 << 32)) as u32);
         }
         unreachable!()
     }
