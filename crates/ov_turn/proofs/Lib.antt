@@ -1,0 +1,13 @@
+pub mod Lists
+pub mod Stages
+pub mod Seats
+pub mod Drawing
+pub mod Looking
+pub mod Raising
+pub mod Passing
+pub mod Reading
+pub mod FirstSeat
+pub mod Cutting
+pub mod Joining
+pub mod GivingUp
+pub mod Dealing

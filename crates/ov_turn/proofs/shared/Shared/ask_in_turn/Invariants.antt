@@ -1,0 +1,5 @@
+use Rattle.ov_peer.specs.Spellings.{spelling_of}
+use Rattle.ov_turn.proofs.shared.Shared.ask_in_turn.Given as goal
+
+abbrev pub ghosts-raise : goal.ghosts-raise
+ghosts-raise g a = record { spelling = spelling_of a.request.now }

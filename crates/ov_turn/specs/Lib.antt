@@ -1,0 +1,5 @@
+pub mod Logs
+pub mod Views
+pub mod Rule
+pub mod Passes
+pub mod Steps
