@@ -4,6 +4,7 @@ use Rattle.std.specs.Prelude.{All, Contains}
 use Rattle.std.proofs.lemmas.List.{get_or_default}
 use Rattle.ov_blocks.specs.Extents.{AreApart, IsBeside, IsFree, IsWith, end_from}
 use Rattle.ov_blocks.specs.declared.extents.Extent.{Extent}
+use Rattle.ov_blocks.specs.declared.extents.TheConstants.{MAX_BLOCKS}
 use Rattle.ov_blocks.proofs.Places.{beside_at, one}
 
 -- ---- one extent more
@@ -51,6 +52,11 @@ end_above from [] e apart (k, lt, is) = absurd (omega (arith, lt))
 end_above from (x ∷ held) e apart (zero, lt, is) =
     omega (arith, ap (λ (y : Extent). y.first) is, ap (λ (y : Extent). y.length) is, end_least (x.first + x.length) held apart.2)
 end_above from (x ∷ held) e apart (suc k, lt, is) = end_above (x.first + x.length) held e apart.2 (k, omega (arith, lt), is)
+
+-- where the last of all does is where blocks end, or before
+pub end_within : (from : ℕ) (held : List Extent) → AreApart from held → end_from from held ≤ MAX_BLOCKS
+end_within from [] apart = apart
+end_within from (e ∷ held) apart = end_within (e.first + e.length) held apart.2
 
 -- all of them end at once, or where one of them ends
 pub last_end : (from : ℕ) (held : List Extent) → (end_from from held ≡ from) ⊎ ((e : Extent) × Contains held e × (end_from from held ≡ e.first + e.length))

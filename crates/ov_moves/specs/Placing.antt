@@ -4,7 +4,7 @@ use Rattle.ov_base.specs.declared.limits.TheConstants.{MAX_FILE_BYTES}
 use Rattle.ov_disk.specs.Disk.{Image}
 use Rattle.ov_blocks.specs.Extents.{IsBeside, IsWith, IsFree, blocks_of, end_from}
 use Rattle.ov_blocks.specs.declared.extents.Extent.{Extent}
-use Rattle.ov_blocks.specs.declared.extents.TheConstants.{BLOCK_BYTES, MAX_EXTENT_BLOCKS, MAX_HELD}
+use Rattle.ov_blocks.specs.declared.extents.TheConstants.{BLOCK_BYTES, MAX_BLOCKS, MAX_EXTENT_BLOCKS, MAX_HELD}
 use Rattle.ov_moves.specs.Bytes.{extent_of, new_extent}
 use Rattle.ov_moves.specs.declared.moves.Move.{Move}
 use Rattle.ov_moves.specs.declared.placing.Placed.{Placed}
@@ -73,6 +73,18 @@ pub record ArePlaced (count : ℕ) (files : List Placed) (old new : List Extent)
   pub ends : (d : Move) → (end_from 0 new ≤ end_from 0 old)
       ⊎ ((a : ℕ) × (a < count) × (end_from 0 new
       ≤ (slice_index_or moves a d).to + blocks_of (slice_index_or moves a d).length))
+
+-- These are the moves of these files, in their order. Each new extent ends where blocks end, or
+-- before, and has no block of what was held, nor of a new one before it.
+pub record GoToFree (files : List Placed) (held : List Extent) (moves : List Move) : Type 0 where
+  pub moves_are : AreMovesOf files moves
+  pub within : (a : ℕ) (d : Move) → a < length moves
+      → (slice_index_or moves a d).to + blocks_of (slice_index_or moves a d).length ≤ MAX_BLOCKS
+  pub new_apart : (a b : ℕ) (d : Move) → a < b → b < length moves
+      → IsBeside (slice_index_or moves a d).to (blocks_of (slice_index_or moves a d).length)
+      (new_extent (slice_index_or moves b d))
+  pub old_apart : (e : Extent) (b : ℕ) (d : Move) → Contains held e → b < length moves
+      → IsBeside (slice_index_or moves b d).to (blocks_of (slice_index_or moves b d).length) e
 
 -- The lowest free run of so many blocks is held.
 pub record HoldsLowest (count first : ℕ) (old new : List Extent) : Type 0 where

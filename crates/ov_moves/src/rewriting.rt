@@ -7,7 +7,7 @@ ghost use Rattle.ov_journal.specs.Log.{HasSameRecords, IsLogOf, Stands, appended
 ghost use Rattle.ov_journal.specs.Taking.{IsBody, MayTake};
 ghost use Rattle.ov_journal.specs.declared.fault.CheckFault.TheVariants.{Disk as DiskFailed, Memory as NoMemory};
 ghost use Rattle.ov_moves.specs.Moves.{CanMoveAll, HasText, MayMoveAll};
-ghost use Rattle.ov_moves.specs.Placing.{AreMovesOf, HasNewText, HasPlaces, IsFiled, LiesIn};
+ghost use Rattle.ov_moves.specs.Placing.{GoToFree, HasNewText, HasPlaces, IsFiled, LiesIn};
 ghost use Rattle.ov_moves.specs.Releasing.{AreDistinct, MayGoOn};
 ghost use Rattle.ov_moves.specs.Rewriting.{LastsWith, SpellsBodies, StandsForEither};
 ghost use Rattle.ov_moves.specs.Runs.{LeavesAtMost};
@@ -120,7 +120,7 @@ pub fn rewrite<D: Disk, T: Turn, S: Spell>(
         (S.spelled spell.now) extents.old files.now) disk.old disk.new }
 
     // At `Ok` it lasts with the record, and each file is in its new extent.
-    ensures moves { IfOk result (λ moves. AreMovesOf files.now moves.items) }
+    ensures moves { IfOk result (λ moves. GoToFree files.now extents.old moves.items) }
     ensures lasts { IfOk result (λ moves. Told (D.tells.reads disk.old)
         (LastsWith D.tells (T.turned turn.now) text.now (S.spelled spell.now moves.items)
         extents.old moves.items disk.new)) }
@@ -146,10 +146,10 @@ pub fn rewrite<D: Disk, T: Turn, S: Spell>(
 {
     extents.known();
     let moves = place_all(alloc, extents, files)?;
+    extents.known();
     match spell_and_update(alloc, extents, journal, disk, turn, text, &moves, spell) {
         Ok(()) => {
             // Only now, with the record on the disk.
-            extents.known();
             release_all(extents, files);
             Ok(moves)
         }

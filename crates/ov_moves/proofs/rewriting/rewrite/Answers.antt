@@ -11,7 +11,7 @@ use Rattle.ov_moves.specs.declared.moves.Move.{Move}
 use Rattle.ov_moves.proofs.Given.{are_held, given_back, go_apart, goes_on, lies_on, same_some}
 use Rattle.ov_moves.proofs.NewExtents.{texts_of}
 use Rattle.ov_moves.proofs.Runs.{leaves_none, leaves_weaker, told_before}
-use Rattle.ov_moves.proofs.Standing.{either_of, last_of, stands_same}
+use Rattle.ov_moves.proofs.Standing.{either_of, go_to_free, last_of, stands_same}
 use Rattle.ov_moves.proofs.rewriting.rewrite.Goals as goal
 
 pub returns-in_err-moves-clause-any_moment : goal.returns-in_err-moves-clause-any_moment
@@ -40,7 +40,7 @@ returns-in-Ok-clause-any_moment g c =
     let placed = subst (ArePlaced (length c.args.files.now) c.args.files.now c.args.extents.now c.place_all.new.extents) (sym c.deref.ensures.value) c.in_ok-moves.ensures.placed in
     leaves_weaker g.D.Disk.tells (IsBeforeOrAfterAll (g.T.Turn.turned c.args.turn.now) c.args.text.now c.deref.result.now (g.S.Spell.spelled c.args.spell.now c.deref.result.now))
     (StandsForEither (g.T.Turn.turned c.args.turn.now) c.args.text.now (g.S.Spell.spelled c.args.spell.now) c.args.extents.now c.args.files.now) c.args.disk.now c.spell_and_update.new.disk
-    (λ i x. either_of (g.T.Turn.turned c.args.turn.now) c.args.text.now (g.S.Spell.spelled c.args.spell.now) c.args.extents.now c.place_all.new.extents c.args.files.now c.deref.result.now are placed i x)
+    (λ i x. either_of (g.T.Turn.turned c.args.turn.now) c.args.text.now (g.S.Spell.spelled c.args.spell.now) c.args.extents.now c.place_all.new.extents c.args.files.now c.deref.result.now are placed c.known-2.ensures.order i x)
     c.spell_and_update.ensures.any_moment
 
 pub returns-in-Err-clause-any_moment : goal.returns-in-Err-clause-any_moment
@@ -49,19 +49,23 @@ returns-in-Err-clause-any_moment g c =
     let placed = subst (ArePlaced (length c.args.files.now) c.args.files.now c.args.extents.now c.place_all.new.extents) (sym c.deref.ensures.value) c.in_ok-moves.ensures.placed in
     leaves_weaker g.D.Disk.tells (IsBeforeOrAfterAll (g.T.Turn.turned c.args.turn.now) c.args.text.now c.deref.result.now (g.S.Spell.spelled c.args.spell.now c.deref.result.now))
     (StandsForEither (g.T.Turn.turned c.args.turn.now) c.args.text.now (g.S.Spell.spelled c.args.spell.now) c.args.extents.now c.args.files.now) c.args.disk.now c.spell_and_update.new.disk
-    (λ i x. either_of (g.T.Turn.turned c.args.turn.now) c.args.text.now (g.S.Spell.spelled c.args.spell.now) c.args.extents.now c.place_all.new.extents c.args.files.now c.deref.result.now are placed i x)
+    (λ i x. either_of (g.T.Turn.turned c.args.turn.now) c.args.text.now (g.S.Spell.spelled c.args.spell.now) c.args.extents.now c.place_all.new.extents c.args.files.now c.deref.result.now are placed c.known-2.ensures.order i x)
     c.spell_and_update.ensures.any_moment
+
+pub returns-in-Ok-clause-moves : goal.returns-in-Ok-clause-moves
+returns-in-Ok-clause-moves g c =
+    go_to_free c.args.files.now c.args.extents.now c.place_all.new.extents c.in_ok-moves.moves.items c.in_ok-moves.ensures.moves c.in_ok-moves.ensures.placed c.known-2.ensures.order
 
 pub returns-in-Ok-clause-lasts : goal.returns-in-Ok-clause-lasts
 returns-in-Ok-clause-lasts g c i is =
     last_of (g.T.Turn.turned c.args.turn.now) c.args.text.now (g.S.Spell.spelled c.args.spell.now) c.args.extents.now c.place_all.new.extents c.args.files.now c.in_ok-moves.moves.items
-    c.in_ok-moves.ensures.moves c.in_ok-moves.ensures.placed i g.D.Disk.tells c.spell_and_update.new.disk
+    c.in_ok-moves.ensures.moves c.in_ok-moves.ensures.placed c.known-2.ensures.order i g.D.Disk.tells c.spell_and_update.new.disk
     (subst (λ m. IsMadeLast g.D.Disk.tells (g.T.Turn.turned c.args.turn.now) c.args.text.now m (g.S.Spell.spelled c.args.spell.now m) c.spell_and_update.new.disk i) c.deref.ensures.value (c.in-Ok.ensures.lasts i is))
 
 pub returns-in-Ok-clause-held : goal.returns-in-Ok-clause-held
 returns-in-Ok-clause-held g c =
     goes_on c.args.files.now c.args.extents.now c.place_all.new.extents c.release_all.new.extents c.in_ok-moves.moves.items c.requires.files c.in_ok-moves.ensures.placed
-    c.release_all.ensures.given c.release_all.ensures.many c.known-in-Ok.ensures.order
+    c.release_all.ensures.given c.release_all.ensures.many c.known-2.ensures.order
 
 pub returns-in-Ok-clause-lies : goal.returns-in-Ok-clause-lies
 returns-in-Ok-clause-lies g c k is_k =
@@ -69,7 +73,7 @@ returns-in-Ok-clause-lies g c k is_k =
     let made = c.in-Ok.ensures.lasts from.0 from.1 in
     subst (LiesIn c.release_all.new.extents) (same_some made.now k (sym made.is_read ∙ is_k))
     (lies_on c.args.files.now c.args.extents.now c.place_all.new.extents c.release_all.new.extents c.in_ok-moves.moves.items c.requires.files c.in_ok-moves.ensures.placed
-    c.release_all.ensures.given c.release_all.ensures.many c.known-in-Ok.ensures.order (g.T.Turn.turned c.args.turn.now) c.args.text.now from.0 made.now (c.requires.lies from.0 from.1)
+    c.release_all.ensures.given c.release_all.ensures.many c.known-2.ensures.order (g.T.Turn.turned c.args.turn.now) c.args.text.now from.0 made.now (c.requires.lies from.0 from.1)
     (subst (λ m. AreMoved (g.T.Turn.turned c.args.turn.now) c.args.text.now m (from.0).blobs (made.now).blobs) c.deref.ensures.value made.blobs))
 
 pub returns-in-Ok-clause-settled : goal.returns-in-Ok-clause-settled

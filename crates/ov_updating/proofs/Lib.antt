@@ -1,0 +1,13 @@
+pub mod Asking
+pub mod Going
+pub mod HeldAfter
+pub mod Holding
+pub mod Keeping
+pub mod Listing
+pub mod Lists
+pub mod Ordering
+pub mod Origins
+pub mod Sources
+pub mod Standing
+pub mod Taking
+pub mod Using

@@ -1,0 +1,94 @@
+-- One update of a store, and which history its images keep before and after it.
+use Rattle.std.specs.Prelude.{◌≡◌, ℕ, ◌≤◌, List, length, Option, Some}
+use Rattle.ov_base.specs.declared.limits.TheConstants.{MAX_FILES, MAX_FILE_BYTES}
+use Rattle.ov_disk.specs.Disk.{Image, Only}
+use Rattle.ov_disk.specs.Tells.{DiskTells}
+use Rattle.ov_blocks.specs.declared.extents.Extent.{Extent}
+use Rattle.ov_record.specs.Forms.{first_form}
+use Rattle.ov_record.specs.Stored.{HasBriefForm, brief_spelling}
+use Rattle.ov_record.specs.Updates.{SealedUpdate}
+use Rattle.ov_history.specs.Briefs.{brief, text_of}
+use Rattle.ov_history.specs.Catalogue.{Catalogue, Filed}
+use Rattle.ov_history.specs.Places.{living_at}
+use Rattle.ov_history.specs.Placed.{PlacedHistory, placed_after, placed_of, with_placed}
+use Rattle.ov_history.specs.Rewrites.{Rewrite, files_after, rewrites_of}
+use Rattle.ov_history.specs.Sealed.{SealedHistory, with_sealed}
+use Rattle.ov_images.specs.Images.{Keys}
+use Rattle.ov_images.specs.PlacedExtents.{catalogue_at}
+use Rattle.ov_images.specs.PlacedImages.{KeepsAt, KeepsEither}
+use Rattle.ov_images.specs.PlacedLaws.{placed_as}
+use Rattle.ov_state.specs.Plans.{IsTaken}
+use Rattle.ov_updating.specs.Files.{AreHeldFor}
+
+-- ---- what an update is made from
+
+-- The rewrites of an update, the first blocks of all files by number, the extents that are held, the
+-- spelling of the update before its own first blocks, and the bytes of a new file.
+pub record Asked : Type 0 where
+  pub rewrites : List Rewrite
+  pub placed : List (Option ℕ)
+  pub held : List Extent
+  pub front : List ℕ
+  pub text : List ℕ
+
+-- what an update is made from, of these parts
+abbrev pub asked : List Rewrite → List (Option ℕ) → List Extent → List ℕ → List ℕ → Asked
+asked rewrites placed held front text =
+    record { rewrites = rewrites; placed = placed; held = held; front = front; text = text }
+
+-- A store with this catalogue takes the update, and this is what the update is made from. After it
+-- there are no more files than a store may have, and each is no longer than a file may be.
+pub record IsAskedFor (c : Catalogue) (u : SealedUpdate) (a : Asked) : Type 0 where
+  pub taken : IsTaken c (brief u)
+  pub rewrites : a.rewrites ≡ rewrites_of c (brief u)
+  pub form : HasBriefForm first_form (brief u)
+  pub front : a.front ≡ brief_spelling first_form (brief u)
+  pub text : (text : List ℕ) → text_of u ≡ Some text → a.text ≡ text
+  pub files : length (files_after c (brief u)) ≤ MAX_FILES
+  pub short : (file : ℕ) (f : Filed) → living_at (files_after c (brief u)) file ≡ Some f
+      → f.length ≤ MAX_FILE_BYTES
+  pub held : AreHeldFor c.files a.placed a.held
+
+-- a store of some catalogue takes some update that is made from this
+abbrev pub IsAsked : Asked → Type 0
+IsAsked a = (c : Catalogue) × (u : SealedUpdate) × IsAskedFor c u a
+
+-- ---- which history is kept
+
+-- The image keeps the history, with the first blocks of files as they are asked for, and the update
+-- goes on with it.
+pub record CanGoOn (master : List ℕ) (a : Asked) (k : Keys) (p : PlacedHistory) (g : SealedHistory)
+    (u : SealedUpdate) (i : Image) : Type 0 where
+  pub surface : k.surface ≡ master
+  pub placed : placed_of k.surface p ≡ a.placed
+  pub update : IsAskedFor (catalogue_at k.surface p) u a
+  pub keeps : KeepsAt k p g i
+
+-- whatever history the first image keeps, the second keeps that, or it with the update
+abbrev pub KeepsItOrMore : List ℕ → Asked → Image → Image → Type 0
+KeepsItOrMore master a i c =
+    (k : Keys) (p : PlacedHistory) (g : SealedHistory) (u : SealedUpdate)
+    → CanGoOn master a k p g u i → KeepsEither k g u c
+
+-- whatever history the first image keeps, the second keeps it with the update, which has these first
+-- blocks
+abbrev pub KeepsMore : List ℕ → Asked → List ℕ → Image → Image → Type 0
+KeepsMore master a firsts i c =
+    (k : Keys) (p : PlacedHistory) (g : SealedHistory) (u : SealedUpdate)
+    → CanGoOn master a k p g u i
+    → KeepsAt k (with_placed p (placed_as u firsts)) (with_sealed g u) c
+
+-- A crash leaves one image alone, which the disk reads. Whatever history an older image kept, it
+-- keeps that with the update.
+pub record LastsWith {D : Type 0} (tells : DiskTells D) (master : List ℕ) (a : Asked)
+    (firsts : List ℕ) (disk : D) (i : Image) : Type 0 where
+  pub now : Image
+  pub is_read : tells.reads disk ≡ Some now
+  pub only : Only now (tells.may_leave disk)
+  pub keeps : KeepsMore master a firsts i now
+
+-- just the extents of the files after the update are held
+abbrev pub AreHeldAfter : Asked → List ℕ → List Extent → Type 0
+AreHeldAfter a firsts held =
+    (c : Catalogue) (u : SealedUpdate) → IsAskedFor c u a
+    → AreHeldFor (files_after c (brief u)) (placed_after c (placed_as u firsts) a.placed) held

@@ -1,0 +1,50 @@
+//! One update of a store whose files' stored bytes lie in extents of Blobs.
+//!
+//! `ov_moves` moves files into other extents and puts a record behind them; it knows of bytes that
+//! are turned, and of records that are lists of bytes. `ov_images` says which history an image of a
+//! disk keeps. This crate joins the two: what is turned is the coats of files ([`ov_recoat`]), the
+//! record is an update's spelling and the first blocks of the extents that it fills, and so an image
+//! that kept a history keeps it, or it with the update. The store doesn't call it yet, and keeps its
+//! files' bytes in memory.
+//!
+//! * [`update`] is the whole of an update but for the catalogue: it finds new extents, writes the new
+//!   bytes of each file there, appends the record, and gives up the old extents. Its caller has the
+//!   rewrites of a change that its catalogue prepared, and commits that change at `Ok`.
+//! * [`spell_update`] spells an update before it is prepared, as its record begins.
+//! * [`Recording`] spells the record, once the new extents are known.
+//!
+//! **What a contract sees** is what the update is made from (`Asked`): its rewrites, the first blocks
+//! of all files, the extents that are held, the update's spelling, and the text of a new file.
+//! `IsAskedFor` says of which catalogue and update this is. A history, of which there may be several
+//! under several keys, is never an argument: the clauses hold of each that the disk's image keeps.
+//!
+//! * At any moment a crash leaves an image that keeps the history, or it with the update
+//!   (`KeepsItOrMore`).
+//! * At `Ok` one image alone can be left, and it keeps the history with the update and with the first
+//!   blocks that are answered (`LastsWith`); just the extents of the files after it are held
+//!   (`AreHeldAfter`), so that the next update may be made in the same way.
+//!
+//! | file in `specs/` | says |
+//! |---|---|
+//! | `Files` | the files whose bytes are written, and the extents that files have |
+//! | `Recording` | the body of the record |
+//! | `Updating` | what an update is made from, and which history is kept |
+//!
+//! **What it asks for.** The update is one that the catalogue takes, and just the extents of the
+//! catalogue's files are held, all in Blobs. Before it a crash leaves just what the disk reads, and
+//! Book is the journal's.
+//!
+//! **Errors.** Memory is refused before the first call of the disk, and nothing has changed then. A
+//! fault of the disk comes only where its count rose; after it the journal has the same records and
+//! what is held is as before, but the disk may have the update: the store has to be opened again.
+//!
+//! Nothing is claimed of secrecy. Blocks that were given up keep their old bytes until they are used
+//! again.
+#![tactic(auto)]
+
+mod files;
+mod recording;
+mod updating;
+
+pub use recording::{Recording, spell_update};
+pub use updating::update;

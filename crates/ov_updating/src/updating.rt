@@ -1,0 +1,86 @@
+//! One update.
+ghost use Rattle.std.specs.Prelude.{◌≡◌, ◌<◌, ◌^◌, IfOk, IsErrOf, MatchResult, OnErr, OnOk, false, length};
+ghost use Rattle.ov_disk.specs.Calls.{IsDiskCall};
+ghost use Rattle.ov_disk.specs.Disk.{Only, Told};
+ghost use Rattle.ov_journal.specs.Log.{HasSameRecords, Stands, appended};
+ghost use Rattle.ov_journal.specs.declared.fault.CheckFault.TheVariants.{Disk as DiskFailed, Memory as NoMemory};
+ghost use Rattle.ov_moves.specs.Placing.{AreMovesOf, LiesIn};
+ghost use Rattle.ov_moves.specs.Runs.{LeavesAtMost};
+ghost use Rattle.ov_state.specs.Entries.{plain_rewrites};
+ghost use Rattle.ov_updating.specs.Files.{files_of, firsts_of};
+ghost use Rattle.ov_updating.specs.Recording.{body_with};
+ghost use Rattle.ov_updating.specs.Updating.{AreHeldAfter, IsAsked, KeepsItOrMore, LastsWith, asked};
+
+use crate::files::list_files;
+use crate::recording::Recording;
+use ov_blocks::Extents;
+use ov_disk::Disk;
+use ov_journal::{CheckFault, Journal};
+use ov_moves::{Move, rewrite};
+use ov_recoat::Recoat;
+use std::alloc::Global;
+
+/// Makes an update on the disk: finds new extents for the files of these rewrites, writes their bytes
+/// there under their new surfaces, and then the record, and gives up the old extents. It answers
+/// where the files went.
+///
+/// The first blocks of all files are by number; `front` is the update's spelling, and `text` the bytes
+/// of a new file. All memory is taken before the first call of the disk.
+pub fn update<D: Disk>(
+    alloc: Global,
+    extents: &mut Extents,
+    journal: &mut Journal,
+    disk: &mut D,
+    recoat: &Recoat,
+    placed: &[Option<u32>],
+    front: &[u8],
+    text: &[u8],
+) -> Result<Vec<Move>, CheckFault>
+    requires asked { IsAsked (asked (plain_rewrites recoat.now.rewrites.now) placed.now extents.old
+        front.now text.now) }
+    requires whole { journal.old.bad ≡ false }
+    requires count { length journal.old.offsets < 2 ^ 40 }
+    requires stands { Stands D.tells journal.old disk.old }
+    requires lies { Told (D.tells.reads disk.old) (LiesIn extents.old) }
+    requires settled { Told (D.tells.reads disk.old) (λ i. Only i (D.tells.may_leave disk.old)) }
+
+    // A crash at any moment leaves an image that keeps the history from before, or it with the
+    // update.
+    ensures any_moment { LeavesAtMost D.tells (KeepsItOrMore recoat.now.master.now.bytes
+        (asked (plain_rewrites recoat.now.rewrites.now) placed.now extents.old front.now text.now))
+        disk.old disk.new }
+
+    // At `Ok` the history with the update lasts, and the files of its rewrites have gone there.
+    ensures moves { IfOk result (λ moves.
+        AreMovesOf (files_of placed.now (plain_rewrites recoat.now.rewrites.now)) moves.items) }
+    ensures lasts { IfOk result (λ moves. Told (D.tells.reads disk.old)
+        (LastsWith D.tells recoat.now.master.now.bytes
+        (asked (plain_rewrites recoat.now.rewrites.now) placed.now extents.old front.now text.now)
+        (firsts_of moves.items) disk.new)) }
+
+    // The next one may be made in the same way.
+    ensures held { IfOk result (λ moves. AreHeldAfter
+        (asked (plain_rewrites recoat.now.rewrites.now) placed.now extents.old front.now text.now)
+        (firsts_of moves.items) extents.new) }
+    ensures lies { OnOk result (Told (D.tells.reads disk.new) (LiesIn extents.new)) }
+    ensures stands { OnOk result (Stands D.tells journal.new disk.new) }
+    ensures settled { OnOk result
+        (Told (D.tells.reads disk.new) (λ i. Only i (D.tells.may_leave disk.new))) }
+
+    // What it was given, unless it answers `Ok`.
+    ensures given_back { OnErr result (extents.new ≡ extents.old) }
+    ensures log { MatchResult result
+        (λ moves. HasSameRecords
+        (appended (length (body_with front.now moves.items)) journal.old) journal.new)
+        (λ _. HasSameRecords journal.old journal.new) }
+    ensures memory { IsErrOf result NoMemory
+        → (disk.new ≡ disk.old) × (journal.new ≡ journal.old) }
+
+    ensures call { IsDiskCall D.tells (IsErrOf result DiskFailed) disk.old disk.new }
+{
+    let files = list_files(alloc, placed, recoat.rewrites)?;
+    let recording = Recording { front };
+    rewrite(
+        alloc, extents, journal, disk, recoat, text, &files, &recording,
+    )
+}
