@@ -30,7 +30,7 @@ use Rattle.ov_placed.proofs.Counting.{passing-append}
 
 -- ---- no file is gone
 
-there_by_each : (files : List (Option Filed)) → AreAllThere files → AllThere files
+pub there_by_each : (files : List (Option Filed)) → AreAllThere files → AllThere files
 there_by_each [] each = tt
 there_by_each (None ∷ files) each = absurd (cc (each 0 (omega arith)))
 there_by_each (Some f ∷ files) each =

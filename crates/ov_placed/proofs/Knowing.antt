@@ -1,5 +1,5 @@
 -- What holds of the extents of every placed catalogue.
-use Rattle.std.proofs.Common.{◌≡◌, ℕ, zero, suc, ◌+◌, ◌≤◌, ◌<◌, Bool, true, false, List, [], ◌∷◌, ◌++◌, length, get_or, ltb, Option, Some, None, refl, sym, ◌∙◌, ap, subst, arith, length-append}
+use Rattle.std.proofs.Common.{◌≡◌, ℕ, zero, suc, ◌+◌, ◌≤◌, ◌<◌, Bool, true, false, List, [], ◌∷◌, length, get_or, ltb, Option, Some, None, refl, sym, ◌∙◌, ap, subst, arith, length-append}
 use Rattle.std.specs.Prelude.{All, Contains, IfSome, is_some}
 use Rattle.std.proofs.lemmas.Bool.{le-ltb, ltb-false}
 use Rattle.ov_base.specs.declared.limits.TheConstants.{MAX_FILES, MAX_FILE_BYTES}
@@ -57,7 +57,7 @@ no_more : (b : Bool) (n m : ℕ) → n ≤ m → counted_if b n ≤ m + 1
 no_more true n m le = omega (arith, le)
 no_more false n m le = omega (arith, le)
 
-few_with : (files : List (Option Filed)) → with_a_byte files ≤ length files
+pub few_with : (files : List (Option Filed)) → with_a_byte files ≤ length files
 few_with [] = omega arith
 few_with (f ∷ files) =
     omega (
@@ -124,7 +124,7 @@ short_held limit c placed held well holds k d lt =
 
 -- ---- one file
 
-placed_passes : (test : Extent → Bool) (sizes : List ℕ) (placed : List (Option ℕ)) (n first : ℕ)
+pub placed_passes : (test : Extent → Bool) (sizes : List ℕ) (placed : List (Option ℕ)) (n first : ℕ)
     → length placed ≤ length sizes → living_at placed n ≡ Some first
     → one_passes test (record { first = first; length = blocks_of (get_or sizes n 0) })
     ≤ passing test (extents_of sizes placed)

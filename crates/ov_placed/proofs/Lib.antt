@@ -6,3 +6,5 @@ pub mod Files
 pub mod Replays
 pub mod Taking
 pub mod Knowing
+pub mod Apart
+pub mod Asking

@@ -60,8 +60,10 @@ mod fault;
 mod first_blocks;
 mod holding;
 mod prepared;
+mod putting;
 mod reading;
 mod replaying;
+mod updating;
 
 pub use catalogue::{CataloguePlaces, PlacedCatalogue};
 pub use fault::ReplayFault;
