@@ -38,7 +38,8 @@ pub record HoldsFiles (c : Catalogue) (placed : List (Option ℕ)) (held : List 
 -- the extent with this first block of the file of this number is held
 abbrev pub HoldsFile : Catalogue → List Extent → ℕ → ℕ → Type 0
 HoldsFile c held file first =
-    Contains held (record { first = first; length = blocks_of (length_left (living_at c.files file)) })
+    Contains held
+    (record { first = first; length = blocks_of (length_left (living_at c.files file)) })
 
 -- what both contain, but for the room of the catalogue, is the same
 pub record HoldsTheSame (old new : PlacedStore) : Type 0 where

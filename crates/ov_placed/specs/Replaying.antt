@@ -34,9 +34,9 @@ pub record IsPlacedAs (master : List ℕ) (blocks : ℕ) (p : PlacedHistory) (s 
     pub replayed : IsReplayedTo master p s.catalogue s.placed
     pub laid_out : IsLaidOut master blocks p
 
--- The record's update is one that the store takes, its new extents take free blocks, and it is made:
--- in the catalogue, and in the first blocks. So each history that was replayed to the old store goes
--- on with it to the new one.
+-- The record's update is one that the store takes, its new extents take free blocks, and it is
+-- made: in the catalogue, and in the first blocks. So each history that was replayed to the old
+-- store goes on with it to the new one.
 pub record TakesRecord (master : List ℕ) (blocks : ℕ) (old : PlacedStore) (body : List ℕ)
     (new : PlacedStore) : Type 0 where
   pub update : PlacedUpdate

@@ -39,8 +39,8 @@ pub(crate) fn read_update(
     }
 }
 
-/// The record with so many first blocks, of which this is all of the body, and whose gate is at this
-/// place.
+/// The record with so many first blocks, of which this is all of the body, and whose gate is at
+/// this place.
 pub(crate) fn read_record(
     alloc: Global,
     body: &[u8],

@@ -40,8 +40,8 @@ impl<B: Graph<Base, W>, S: Graph<Surface, W>, const W: usize> PlacedCatalogue<B,
             ≡ placed_after self.old.catalogue (placed_update stored.now) self.old.placed) }
         ensures free { OnOk result (UpdateTakesFree blocks self.old.catalogue self.old.placed
             (placed_update stored.now)) }
-        ensures fault { IfErr result (NamesSpot
-            (UpdateIsTakenAt blocks self.old.catalogue self.old.placed (placed_update stored.now))) }
+        ensures fault { IfErr result (NamesSpot (UpdateIsTakenAt blocks
+            self.old.catalogue self.old.placed (placed_update stored.now))) }
         ensures same { OnErr result (HoldsTheSame self.old self.new) }
     {
         let rewritten = change.rewrites();
@@ -57,8 +57,8 @@ impl<B: Graph<Base, W>, S: Graph<Surface, W>, const W: usize> PlacedCatalogue<B,
 }
 
 impl CataloguePlaces {
-    /// Replays the record with this body, whose gate is at this place of Book, over a Blobs of so many
-    /// whole blocks.
+    /// Replays the record with this body, whose gate is at this place of Book, over a Blobs of so
+    /// many whole blocks.
     pub fn replay(
         &mut self,
         alloc: Global,

@@ -29,8 +29,8 @@ use ov_updating::update as write_update;
 use std::alloc::Global;
 
 impl<B: Graph<Base, W>, S: Graph<Surface, W>, const W: usize> PlacedCatalogue<B, S, W> {
-    /// Takes all the memory of an update in the catalogue, and answers the change that it makes under
-    /// the surface master ([`ov_state::State::prepare`]). Nothing is changed.
+    /// Takes all the memory of an update in the catalogue, and answers the change that it makes
+    /// under the surface master ([`ov_state::State::prepare`]). Nothing is changed.
     pub fn prepare(
         &mut self,
         alloc: Global,
@@ -49,9 +49,10 @@ impl<B: Graph<Base, W>, S: Graph<Surface, W>, const W: usize> PlacedCatalogue<B,
         self.catalogue.prepare(alloc, surface, update)
     }
 
-    /// Makes a change that [`PlacedCatalogue::prepare`] gave, while the catalogue is as it was then:
-    /// on the disk, by [`ov_updating::update`], and then in the catalogue and the first blocks. `front`
-    /// is the update's spelling, and `text` the bytes of a new file, where it creates one.
+    /// Makes a change that [`PlacedCatalogue::prepare`] gave, while the catalogue is as it was
+    /// then: on the disk, by [`ov_updating::update`], and then in the catalogue and the first
+    /// blocks. `front` is the update's spelling, and `text` the bytes of a new file, where it
+    /// creates one.
     ///
     /// All memory is taken before the first call of the disk.
     pub fn update<D: Disk>(
@@ -65,14 +66,15 @@ impl<B: Graph<Base, W>, S: Graph<Surface, W>, const W: usize> PlacedCatalogue<B,
         text: &[u8],
         creates: bool,
     ) -> Result<(), CheckFault>
-        requires change { (u : SealedUpdate) × IsChangeFor (64 * W) surface.now.bytes self.old u change
-            front.now text.now creates }
+        requires change { (u : SealedUpdate) × IsChangeFor (64 * W) surface.now.bytes self.old u
+            change front.now text.now creates }
         requires room { HasRoomFor self.old.room change }
         requires whole { journal.old.bad ≡ false }
         requires count { length journal.old.offsets < 2 ^ 40 }
         requires stands { Stands D.tells journal.old disk.old }
         requires lies { Told (D.tells.reads disk.old) (LiesIn self.old.held) }
-        requires settled { Told (D.tells.reads disk.old) (λ i. Only i (D.tells.may_leave disk.old)) }
+        requires settled { Told (D.tells.reads disk.old) (λ i.
+            Only i (D.tells.may_leave disk.old)) }
 
         // A crash at any moment leaves an image that keeps the history from before, or it with the
         // update.

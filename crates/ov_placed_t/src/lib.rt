@@ -1,5 +1,5 @@
-//! Tests of `ov_placed`: where the extents of a file are while records are replayed, which place of a
-//! bad record is named, and a caller that replays one record after another.
+//! Tests of `ov_placed`: where the extents of a file are while records are replayed, which place of
+//! a bad record is named, and a caller that replays one record after another.
 #![tactic(auto)]
 
 #[cfg(test)]
