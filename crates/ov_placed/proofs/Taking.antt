@@ -118,7 +118,9 @@ module _ (W limit : ℕ) (master : List ℕ) (s : PlacedStore) (u : PlacedUpdate
           → d ≡ applied s.catalogue change → HoldsFiles d places after
       holds_then new next after places d is_new with without are made =
           subst (λ (e : Catalogue). HoldsFiles e places after) (sym (made ∙ is.made.made))
-          (subst (λ (ps : List (Option ℕ)). HoldsFiles (catalogue_after master s.catalogue u.update) ps after) (sym (placed_is places are))
+          (subst (λ (ps : List (Option ℕ)).
+          HoldsFiles (catalogue_after master s.catalogue u.update) ps after)
+          (sym (placed_is places are))
           (holds_after s.catalogue u s.placed s.held holds master next after is.firsts
           (with_new new next is_new with)
           (subst (λ (l : List Extent). IsWithAll l after next) given_is without)))
