@@ -6,7 +6,7 @@
 //! | a changed book | nothing, over a book with one user of which a byte was changed | `books` |
 //! | a team's day | the scripts `team.script` and `small_team.script` of `data/`, in each mode | `days` |
 //! | a load | 2,000 commands twice on one disk, and the disk opened again | `loads` |
-//! | a stopped grant | a grant that coats 300 of 301 files, stopped behind each write and sync | `stops` |
+//! | a stopped grant | a grant that coats 300 of 301 files, stopped behind each call of the disk | `stops` |
 //! | all sets | a file for each set of twelve users but those of one | `main` |
 //! | 64 files | of 1 MiB each, and one more | `main` |
 //! | 300 creations | of 1 MiB each: the script is too long | `main` |

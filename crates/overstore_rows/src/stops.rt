@@ -1,4 +1,4 @@
-//! A grant that coats 300 of 301 files, stopped behind each call by which it changes the disk.
+//! A grant that coats 300 of 301 files, stopped behind each of its calls of the disk.
 use crate::given::Given;
 use crate::running::ran;
 use crate::scripts::{bare_files, questions};
@@ -8,18 +8,12 @@ use ov_disk::{MemDisk, Tear};
 use std::alloc::Global;
 use std::test::Fail;
 
-// How many times the grant is stopped: before its first call, after it wrote the new bytes of each of
-// 300 files, and after each call for its record.
-const STOPS: u64 = 304;
+// The calls of the grant: it reads each of 300 files and writes its new bytes, and then come those for
+// its record.
+const CALLS: u64 = 604;
 
 // The calls for its record.
 const RECORD: u64 = 4;
-
-// How many calls come behind the stop that so many stops follow. Each file is read before its new bytes
-// are written, and a read leaves what the call before it left.
-fn calls_behind(stops: u64) -> u64 {
-    stops.saturating_add(stops.saturating_sub(RECORD))
-}
 
 // What a stop makes of the writes that no sync followed, with its name.
 static TEARS: [(Tear, &str); 5] = [
@@ -47,9 +41,9 @@ fn is_same(one: &MemDisk, other: &MemDisk) -> bool {
     one.book() == other.book() && one.blobs() == other.blobs()
 }
 
-// Stops the grant at its last stops, so many, and behind its end, and prints what a run over what is
-// left puts wherever that isn't what it put one stop earlier. What is left has no run of its own where
-// it is the same as one stop earlier.
+// Stops the grant before each of its last calls, so many, and behind its end, and prints what a run
+// over what is left puts wherever that isn't what it put one call earlier. What is left has no run of
+// its own where it is the same as one call earlier.
 fn tell_stops(
     rt: &HostRuntime,
     disk: &MemDisk,
@@ -62,7 +56,7 @@ fn tell_stops(
     let mut last = String::new(alloc);
     let mut before = MemDisk::new(alloc);
     for made in 0..=most {
-        let behind = calls_behind(most.saturating_sub(made));
+        let behind = most.saturating_sub(made);
         let mut left = disk.image(disk.calls().saturating_sub(behind), tear)?;
         if is_same(&left, &before) {
             continue;
@@ -83,7 +77,7 @@ fn tell_stops(
 fn tell_all(rt: &HostRuntime, disk: &MemDisk) -> Result<(), Fail> {
     println!(rt; "the grant stopped, and an empty script:")?;
     for (tear, name) in tears() {
-        tell_stops(rt, disk, STOPS, *tear, name, b"")?;
+        tell_stops(rt, disk, CALLS, *tear, name, b"")?;
     }
     println!(rt; "the grant stopped, and all files are asked for:")?;
     let script = questions(rt.alloc())?;
