@@ -135,3 +135,55 @@ fn bytes_of_the_old_block_and_of_the_new_one(rt: HostRuntime) -> Result<(), Fail
     drop(disk);
     shut
 }
+
+// Two files with and without bytes: an opening has something to read of the first two alone.
+static TWO_FILES: Row<'static> = Row {
+    script: b"enrol a\ncreate f a 1\nx\ncreate g a 2\nyz\n",
+    status: 0,
+    lines: b"ok 1\nok 2\nok 3\nend epoch 3\n",
+};
+
+static TWO_EMPTY_FILES: Row<'static> = Row {
+    script: b"enrol a\ncreate f a 0\n\ncreate g a 0\n\n",
+    status: 0,
+    lines: b"ok 1\nok 2\nok 3\nend epoch 3\n",
+};
+
+static OPENED: Row<'static> = Row {
+    script: b"",
+    status: 0,
+    lines: b"end epoch 3\n",
+};
+
+fn two_files() -> &'static Row<'static> {
+    &TWO_FILES
+}
+
+fn two_empty_files() -> &'static Row<'static> {
+    &TWO_EMPTY_FILES
+}
+
+fn opened() -> &'static Row<'static> {
+    &OPENED
+}
+
+// How many calls of the disk a run without commands makes over what this row left.
+fn opening_calls(rt: &impl Abort, alloc: Global, words: &[String], made: &Row<'_>) -> u64 {
+    let mut disk = left_by(rt, alloc, words, made);
+    let before = disk.calls();
+    assert_row(rt, alloc, words, 4096, opened(), &mut disk);
+    let calls = disk.calls().saturating_sub(before);
+    drop(disk);
+    calls
+}
+
+/// An opening reads the bytes of each file once, for its tag, and a file without bytes has none to read.
+#[test]
+fn an_opening_reads_each_file_once(rt: HostRuntime) -> Result<(), Fail> {
+    let alloc = rt.alloc();
+    let words = words(alloc, &["run", "delta"])?;
+    let full = opening_calls(&rt, alloc, &words, two_files());
+    let empty = opening_calls(&rt, alloc, &words, two_empty_files());
+    assert_eq!(rt; full.saturating_sub(empty), 2);
+    Ok(())
+}
