@@ -90,7 +90,21 @@ impl Extents {
         // Each gap before the run is too short for it.
         ensures bound { result ≤ blocks_held self.now + length self.now * (blocks - 1) }
     {
-        lowest_run(&self.held, blocks)
+        self.place_from(blocks, 0)
+    }
+
+    /// The same, taken up where an earlier search ended: no free run of so many blocks begins before
+    /// block `from`. It walks over no extent that begins before it.
+    pub fn place_from(&self, blocks: u32, from: u32) -> u32
+        requires place { HasPlace blocks self.now }
+        requires none { (first : ℕ) → first < from → IsFree first blocks self.now → ⊥ }
+        ensures free { IsFree result blocks self.now }
+        ensures lowest { (first : ℕ) → first < result → IsFree first blocks self.now → ⊥ }
+        ensures end { result + blocks ≤ MAX_BLOCKS }
+        ensures near { result ≤ end_from 0 self.now }
+        ensures bound { result ≤ blocks_held self.now + length self.now * (blocks - 1) }
+    {
+        lowest_run(&self.held, blocks, from)
     }
 
     /// Holds a range, unless one of its blocks is in use.

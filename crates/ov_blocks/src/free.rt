@@ -1,23 +1,38 @@
 //! Which blocks are free, by the extents that are held.
-ghost use Rattle.std.specs.Prelude.{◌≤◌, ◌<◌, ◌+◌, ◌-◌, ◌*◌, ℕ, length};
+ghost use Rattle.std.specs.Prelude.{◌≡◌, ◌≤◌, ◌<◌, ◌+◌, ◌-◌, ◌*◌, ℕ, length, take};
 ghost use Rattle.ov_blocks.specs.Extents.{AreApart, HasPlace, IsFree, blocks_held, end_from};
 ghost use Rattle.ov_blocks.specs.Places.{IsCountBefore, TellsFree};
 ghost use Rattle.ov_blocks.specs.declared.extents.TheConstants.{MAX_BLOCKS};
 
 use crate::extents::Extent;
 
-// The lowest first block of a free run: behind the last extent, unless an earlier gap is long
-// enough.
-pub(crate) fn lowest_run(held: &[Extent], blocks: u32) -> u32
+// The lowest first block of a free run, where none begins before `from`. One that begins there or
+// behind it has no block of the last extent that begins before, and so begins behind that one's end:
+// there the walk begins.
+pub(crate) fn lowest_run(held: &[Extent], blocks: u32, from: u32) -> u32
     requires apart { AreApart 0 held.now }
     requires short { HasPlace blocks held.now }
+    requires none { (first : ℕ) → first < from → IsFree first blocks held.now → ⊥ }
     ensures free { IsFree result blocks held.now }
     ensures lowest { (first : ℕ) → first < result → IsFree first blocks held.now → ⊥ }
     ensures end { result + blocks ≤ MAX_BLOCKS }
     ensures near { result ≤ end_from 0 held.now }
     ensures bound { result ≤ blocks_held held.now + length held.now * (blocks - 1) }
 {
-    let mut first = 0;
+    let start = count_before(held, from);
+    lowest_behind(&held[start..], end_before(held, start), blocks)
+}
+
+// The lowest first block, from `from` on, of a run that is free of these extents: behind the last
+// one, unless an earlier gap is long enough.
+fn lowest_behind(held: &[Extent], from: u32, blocks: u32) -> u32
+    requires { AreApart from held.now }
+    ensures behind { from ≤ result }
+    ensures free { IsFree result blocks held.now }
+    ensures lowest { (first : ℕ) → from ≤ first → first < result
+        → IsFree first blocks held.now → ⊥ }
+{
+    let mut first = from;
     for extent in held {
         if extent.first - first >= blocks {
             return first;
@@ -25,6 +40,19 @@ pub(crate) fn lowest_run(held: &[Extent], blocks: u32) -> u32
         first = extent.first + extent.length;
     }
     first
+}
+
+// Where the extent before this place ends, or block 0 where there is none.
+fn end_before(held: &[Extent], place: usize) -> u32
+    requires apart { AreApart 0 held.now }
+    requires inside { place ≤ length held.now }
+    ensures { result ≡ end_from 0 (take place held.now) }
+{
+    if place == 0 {
+        return 0;
+    }
+    let before = held[place - 1];
+    before.first + before.length
 }
 
 // How many of the extents begin before this block.
@@ -43,11 +71,8 @@ pub(crate) fn is_free(held: &[Extent], place: usize, first: u32, length: u32) ->
     requires within { first + length ≤ MAX_BLOCKS }
     ensures { TellsFree place first length held.now result }
 {
-    if place > 0 {
-        let before = held[place - 1];
-        if before.first + before.length > first {
-            return false;
-        }
+    if end_before(held, place) > first {
+        return false;
     }
     if place < held.len() {
         let behind = held[place];

@@ -17,6 +17,10 @@
 //!   for it. So no more blocks lie before the run than all held extents have and, for each of these,
 //!   one block less than the run has, which bounds how far Blobs grows. `place` takes no memory and
 //!   walks over the held extents at most once: at 16,384 of them that is 16,384 steps.
+//! * [`Extents::place_from`] takes up where an earlier search ended: where a caller knows a block
+//!   before which no run of so many free blocks begins, it walks over the extents behind that block
+//!   alone. Until an extent is given up no such run comes to be there, nor a longer one. So to hold
+//!   many runs, none shorter than the one before it, takes one walk in all.
 //! * [`Extents::hold`] answers `false` exactly where a block of the range is in use, and else holds
 //!   the range; [`Extents::release`] gives one up, and takes no memory. Both find the place by
 //!   halves and move what stands behind it.
@@ -44,8 +48,8 @@
 //! | changes within one range, one after the other, are a change of that range | [`changes_go_on`] |
 //!
 //! **Limits** ([`BLOCK_BYTES`], [`MAX_BLOCKS`], [`MAX_EXTENT_BLOCKS`], [`MAX_HELD`]): Blobs has
-//! 2,147,483,648 blocks, and no extent ends behind the last. `place` wants at most 65,535 extents
-//! to be held, none of them with more than 4,096 blocks, nor the new one; then what it answers ends
+//! 2,147,483,648 blocks, and no extent ends behind the last. Both searches want at most 65,535
+//! extents to be held, none of them with more than 4,096 blocks, nor the new one; then the run ends
 //! within Blobs. Whether an extent has bytes in a given Blobs is for the caller to know: `put`
 //! wants to begin at the end of Blobs or before it, and `read` to end there, where the disk tells
 //! its bytes.

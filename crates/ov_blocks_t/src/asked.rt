@@ -29,6 +29,14 @@ pub fn place(rt: &impl Abort, extents: &Extents, length: u32) -> u32 {
     extents.place(length)
 }
 
+/// The same, by a search from a block on before which no run of so many free blocks begins.
+pub fn place_from(rt: &impl Abort, extents: &Extents, length: u32, from: u32) -> u32 {
+    assert!(rt; has_place(extents, length));
+    let first = extents.place(length);
+    assert!(rt; from <= first);
+    extents.place_from(length, from)
+}
+
 /// Gives up an extent.
 pub fn release(rt: &impl Abort, extents: &mut Extents, first: u32, length: u32) {
     assert!(rt; is_held(extents, Extent { first, length }));

@@ -1,5 +1,5 @@
 //! Which blocks are taken: rows by hand.
-use crate::asked::{place, release};
+use crate::asked::{place, place_from, release};
 use ov_base::Memory;
 use ov_blocks::{BLOCK_BYTES, Extent, Extents, MAX_BLOCKS};
 use std::alloc::{AllocError, Global};
@@ -52,6 +52,9 @@ fn lowest_runs(rt: HostRuntime) -> Result<(), Fail> {
             *first,
             "{length} beside {held:?}"
         );
+        // A search that takes up on the way there, or there, ends there, too.
+        assert_eq!(rt; place_from(&rt, &extents, *length, *first / 2), *first);
+        assert_eq!(rt; place_from(&rt, &extents, *length, *first), *first);
     }
     Ok(())
 }

@@ -6,4 +6,5 @@ pub mod Pieces
 pub mod Held
 pub mod Recording
 pub mod Runs
+pub mod Searching
 pub mod Standing

@@ -90,14 +90,12 @@ MovesAll turned text moves i k = MovesFirst turned text (length moves) moves i k
 
 -- ---- one file, piece by piece
 
--- A piece of a file begins at a multiple of its bytes, and the buffer has room for it.
-pub record IsPiece (start : ℕ) (text : List ℕ) (m : Move) (held : List Extent) (buffer : ℕ) : Type 0
-  where
-    pub may : MayMove held m
-    pub has_text : HasText text m
-    pub start_inside : start < m.length
-    pub whole : start ≡ PIECE_BYTES * (start / PIECE_BYTES)
-    pub room : buffer ≡ PIECE_BYTES
+-- A piece of a file begins at a multiple of its bytes, and before the file ends.
+pub record IsPiece (start : ℕ) (text : List ℕ) (m : Move) (held : List Extent) : Type 0 where
+  pub may : MayMove held m
+  pub has_text : HasText text m
+  pub start_inside : start < m.length
+  pub whole : start ≡ PIECE_BYTES * (start / PIECE_BYTES)
 
 -- the old extent's bytes are in Blobs
 abbrev pub IsThere : Move → Image → Type 0

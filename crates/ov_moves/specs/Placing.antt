@@ -109,3 +109,7 @@ pub record HoldsLowest (count first : ℕ) (old new : List Extent) : Type 0 wher
   pub lowest : (lower : ℕ) → lower < first → IsFree lower count old → ⊥
   pub near : first ≤ end_from 0 old
   pub held : IsWith (record { first = first; length = count }) old new
+
+-- No free run of so many blocks begins before this one.
+abbrev pub NoneBefore : ℕ → ℕ → List Extent → Type 0
+NoneBefore from count held = (first : ℕ) → first < from → IsFree first count held → ⊥

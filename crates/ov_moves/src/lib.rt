@@ -10,7 +10,9 @@
 //!   wants, moves the files, appends the record, and gives up the old extents. Unless it answers
 //!   `Ok`, it gives back what it held.
 //! * [`place_all`] finds and holds a new extent for each file, each in the lowest free run that is
-//!   long enough. Where memory ends, what is held is the very same as before.
+//!   long enough. Where memory ends, what is held is the very same as before. The search for a file
+//!   that takes as many blocks as the one before it, or more, goes on where that one's ended; for a
+//!   shorter one it begins at the first block. So files of one length take one walk over all extents.
 //! * [`move_all`] moves files, one after the other, through one buffer of [`PIECE_BYTES`]: a piece is
 //!   read from the old extent, turned, and put into the new one, with zeros to the end of its last
 //!   block, so that no byte of another file stays behind it. A file that has no old extent gets the

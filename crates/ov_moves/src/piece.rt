@@ -1,5 +1,5 @@
 //! A piece of a file.
-ghost use Rattle.std.specs.Prelude.{◌≡◌, ◌≤◌, ◌<◌, ◌+◌, ℕ, IsErr, OnOk, length, slice_index};
+ghost use Rattle.std.specs.Prelude.{◌≡◌, ◌≤◌, ◌<◌, ◌+◌, ◌-◌, ℕ, IsErr, OnOk, length, min, slice_index};
 ghost use Rattle.ov_base.specs.declared.limits.TheConstants.{MAX_FILE_BYTES};
 ghost use Rattle.ov_disk.specs.Calls.{IsDiskCall};
 ghost use Rattle.ov_disk.specs.Disk.{Told};
@@ -55,8 +55,8 @@ fn read_piece<D: Disk>(
     }
 }
 
-// Fills the buffer with a piece of a file as it is to stand in its new extent, and with zeros behind
-// the file's last byte.
+// Fills the blocks of a piece of a file with its bytes as they are to stand in the new extent, and
+// with zeros behind the file's last byte.
 fn fill_piece<D: Disk, T: Turn>(
     extents: &Extents,
     disk: &mut D,
@@ -64,19 +64,20 @@ fn fill_piece<D: Disk, T: Turn>(
     text: &[u8],
     one: &Move,
     start: u32,
-    buf: &mut [u8],
+    bytes: &mut [u8],
 ) -> Result<(), DiskFault>
-    requires piece { IsPiece start text.now one.now extents.now (length buf.old) }
+    requires piece { IsPiece start text.now one.now extents.now }
+    requires room { length bytes.old ≡ rounded (min (one.now.length - start) PIECE_BYTES) }
     requires there { Told (D.tells.reads disk.old) (CanMovePiece start one.now) }
     ensures bytes { OnOk result (Told (D.tells.reads disk.old) (λ i.
-        (q : ℕ) → q < length buf.old → IsNewByte (T.turned turn.now) text.now one.now i.blobs
-        (start + q) (slice_index buf.new q))) }
+        (q : ℕ) → q < length bytes.old → IsNewByte (T.turned turn.now) text.now one.now i.blobs
+        (start + q) (slice_index bytes.new q))) }
     ensures untouched { IsUntouched D.tells disk.old disk.new }
     ensures call { IsDiskCall D.tells (IsErr result) disk.old disk.new }
 {
-    buf.fill(0);
     let count = (one.length - start).min(PIECE_BYTES);
-    let (piece, _) = buf.split_at_mut(count as usize);
+    let (piece, behind) = bytes.split_at_mut(count as usize);
+    behind.fill(0);
     read_piece(extents, disk, one, text, start, piece)?;
     turn.turn(one.file, start, piece);
     Ok(())
@@ -92,7 +93,8 @@ pub(crate) fn move_piece<D: Disk, T: Turn>(
     start: u32,
     buf: &mut [u8],
 ) -> Result<(), DiskFault>
-    requires piece { IsPiece start text.now one.now extents.now (length buf.old) }
+    requires piece { IsPiece start text.now one.now extents.now }
+    requires room { length buf.old ≡ PIECE_BYTES }
     requires there { Told (D.tells.reads disk.old) (CanMovePiece start one.now) }
     ensures moved { OnOk result (TellsBoth (D.tells.reads disk.old) (D.tells.reads disk.new)
         (PutsPiece (T.turned turn.now) text.now start one.now)) }
@@ -101,7 +103,7 @@ pub(crate) fn move_piece<D: Disk, T: Turn>(
     ensures call { IsDiskCall D.tells (IsErr result) disk.old disk.new }
 {
     let whole = rounded((one.length - start).min(PIECE_BYTES));
-    fill_piece(extents, disk, turn, text, one, start, buf)?;
-    let (bytes, _) = buf.split_at(whole as usize);
+    let (bytes, _) = buf.split_at_mut(whole as usize);
+    fill_piece(extents, disk, turn, text, one, start, bytes)?;
     extents.put(disk, one.to, start, bytes)
 }

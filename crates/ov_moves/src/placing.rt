@@ -1,9 +1,10 @@
 //! New extents for files.
-ghost use Rattle.std.specs.Prelude.{◌≡◌, ◌≤◌, ◌<◌, ◌++◌, ◌∷◌, [], ℕ, All, IfOk, OnErr, OnOk, length, vec_len, vec_capacity};
+ghost use Rattle.std.specs.Prelude.{◌≡◌, ◌≤◌, ◌<◌, ◌++◌, ◌∷◌, [], ℕ, All, List, IfOk, OnErr, OnOk, length, vec_len, vec_capacity};
 ghost use Rattle.ov_disk.specs.Disk.{Image};
 ghost use Rattle.ov_blocks.specs.Extents.{HasPlace};
+ghost use Rattle.ov_blocks.specs.declared.extents.Extent.{Extent};
 ghost use Rattle.ov_moves.specs.Moves.{CanMoveAll, MayMoveAll};
-ghost use Rattle.ov_moves.specs.Placing.{AreMovesOf, ArePlaced, HasPlaces, HoldsLowest, IsFiled, LiesIn};
+ghost use Rattle.ov_moves.specs.Placing.{AreMovesOf, ArePlaced, HasPlaces, HoldsLowest, IsFiled, LiesIn, NoneBefore};
 
 use crate::moves::Move;
 use crate::releasing::release_new;
@@ -22,14 +23,38 @@ pub struct Placed {
     pub first: Option<u32>,
 }
 
+// Where the last search for free blocks ended: before `from` no free run of so many blocks begins.
+#[derive(Drop)]
+struct Searched {
+    blocks: u32,
+    from: u32,
+}
+
+impl Searched {
+    // Where the next search begins. A longer run begins no sooner.
+    fn start(&self, blocks: u32) -> u32
+        ensures { (held : List Extent) → NoneBefore self.now.from self.now.blocks held
+            → NoneBefore result blocks held }
+    {
+        if blocks >= self.blocks { self.from } else { 0 }
+    }
+}
+
 // Holds the lowest free run of so many blocks.
-fn hold_lowest(extents: &mut Extents, blocks: u32) -> Result<u32, Memory>
-    requires { HasPlace blocks extents.old }
+fn hold_lowest(extents: &mut Extents, blocks: u32, searched: &mut Searched) -> Result<u32, Memory>
+    requires place { HasPlace blocks extents.old }
+    requires none { NoneBefore searched.old.from searched.old.blocks extents.old }
     ensures ok { IfOk result (λ first. HoldsLowest blocks first extents.old extents.new) }
+    ensures none { OnOk result
+        (NoneBefore searched.new.from searched.new.blocks extents.new) }
     ensures err { OnErr result (extents.new ≡ extents.old) }
 {
-    let first = extents.place(blocks);
+    let first = extents.place_from(blocks, searched.start(blocks));
     let _is_free = extents.hold(first, blocks)?;
+    *searched = Searched {
+        blocks,
+        from: first + blocks,
+    };
     Ok(first)
 }
 
@@ -51,9 +76,10 @@ fn place_each(extents: &mut Extents, files: &[Placed], moves: &mut Vec<Move>) ->
     ensures few { length moves.new.items ≤ length files.now }
     ensures all { OnOk result (length moves.new.items ≡ length files.now) }
 {
+    let mut searched = Searched { blocks: 0, from: 0 };
     for one in files {
         moves.reserve(1)?;
-        let to = hold_lowest(extents, blocks_of(one.length))?;
+        let to = hold_lowest(extents, blocks_of(one.length), &mut searched)?;
         push_reserved(
             moves,
             Move {
