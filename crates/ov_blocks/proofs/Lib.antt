@@ -1,4 +1,5 @@
 pub mod Changes
+pub mod GivenUp
 pub mod Lowest
 pub mod Others
 pub mod Places
