@@ -72,6 +72,17 @@ abbrev pub Holds : Extent → List Extent → List Extent → Bool → Type 0
 Holds e old new true = IsFree e.first e.length old × IsWith e old new
 Holds e old new false = (IsFree e.first e.length old → ⊥) × (new ≡ old)
 
+-- one of these extents begins at this block
+abbrev pub BeginsOne : List Extent → ℕ → Type 0
+BeginsOne held first = (e : Extent) × Contains held e × (e.first ≡ first)
+
+-- Of the extents that were held, just those are given up that begin at these blocks, one at each.
+pub record AreGivenUp (gone : List ℕ) (old new : List Extent) : Type 0 where
+  pub kept : (e : Extent) → Contains old e → (Contains gone e.first → ⊥) → Contains new e
+  pub less : (e : Extent) → Contains new e → Contains old e
+  pub none : (e : Extent) → Contains new e → Contains gone e.first → ⊥
+  pub many : length new + length gone ≡ length old
+
 -- this many bytes, from `start` on, lie in the held extent with this first block
 pub record IsInside (first start count : ℕ) (held : List Extent) : Type 0 where
   pub extent : Extent

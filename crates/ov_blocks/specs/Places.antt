@@ -1,6 +1,6 @@
 -- Inner: no public contract needs this. Where a run stands among extents in the order of their
 -- places.
-use Rattle.std.specs.Prelude.{◌≡◌, ℕ, ◌+◌, ◌≤◌, ◌<◌, List, length, Bool, true, false, slice_index_or}
+use Rattle.std.specs.Prelude.{◌≡◌, ℕ, ◌+◌, ◌≤◌, ◌<◌, List, length, Bool, true, false, Contains, slice_index_or}
 use Rattle.ov_blocks.specs.declared.extents.Extent.{Extent}
 use Rattle.ov_blocks.specs.Extents.{IsFree}
 
@@ -24,3 +24,8 @@ pub record IsBetween (place first count : ℕ) (held : List Extent) : Type 0 whe
 abbrev pub TellsFree : ℕ → ℕ → ℕ → List Extent → Bool → Type 0
 TellsFree place first count held true = IsBetween place first count held
 TellsFree place first count held false = IsFree first count held → ⊥
+
+-- the block is none of these, or it is one
+abbrev pub TellsNone : ℕ → List ℕ → Bool → Type 0
+TellsNone block blocks true = Contains blocks block → ⊥
+TellsNone block blocks false = Contains blocks block

@@ -1,6 +1,8 @@
 //! The extents that are held.
-ghost use Rattle.std.specs.Prelude.{◌≡◌, ◌≤◌, ◌<◌, ◌+◌, ◌-◌, ◌*◌, ℕ, [], IfOk, OnErr, Contains, length};
-ghost use Rattle.ov_blocks.specs.Extents.{AreApart, HasPlace, Holds, IsFree, IsWith, ShareNoBlock, blocks_held, blocks_of, end_from};
+ghost use Rattle.std.specs.Prelude.{◌≡◌, ◌≤◌, ◌<◌, ◌+◌, ◌-◌, ◌*◌, ℕ, [], All, IfOk, OnErr, Contains, length};
+ghost use Rattle.std.specs.List.Sorted.{IsStrictlyIncreasing};
+ghost use Rattle.ov_blocks.specs.Extents.{AreApart, AreGivenUp, BeginsOne, HasPlace, Holds, IsFree, IsWith, ShareNoBlock, blocks_held, blocks_of, end_from};
+ghost use Rattle.ov_blocks.specs.Places.{TellsNone};
 
 use crate::free::{count_before, is_free, lowest_run};
 use ov_base::Memory;
@@ -51,6 +53,14 @@ impl Model for Extents {
     ghost view = { λ e. e.held.items };
 
     ghost invariant = { λ e. AreApart 0 e.held.items };
+}
+
+// Whether the block is none of these, which rise.
+fn is_none_of(block: u32, blocks: &[u32]) -> bool
+    requires { IsStrictlyIncreasing blocks.now }
+    ensures { TellsNone block blocks.now result }
+{
+    blocks.binary_search(&block).is_err()
 }
 
 impl Extents {
@@ -130,5 +140,15 @@ impl Extents {
     {
         let place = count_before(&self.held, first);
         let _extent = self.held.remove(place);
+    }
+
+    /// Gives up the held extents that begin at these blocks, which rise. It takes no memory, and
+    /// goes over the held extents once.
+    pub fn release_all(&mut self, gone: &[u32])
+        requires rise { IsStrictlyIncreasing gone.now }
+        requires held { All (BeginsOne self.old) gone.now }
+        ensures { AreGivenUp gone.now self.old self.new }
+    {
+        self.held.retain(|extent| is_none_of(extent.first, gone));
     }
 }

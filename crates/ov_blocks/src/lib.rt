@@ -24,6 +24,9 @@
 //! * [`Extents::hold`] answers `false` exactly where a block of the range is in use, and else holds
 //!   the range; [`Extents::release`] gives one up, and takes no memory. Both find the place by
 //!   halves and move what stands behind it.
+//! * [`Extents::release_all`] gives up the extents that begin at these blocks, which rise. It takes
+//!   no memory, goes over what is held once, and looks each extent up among the blocks by halves. A
+//!   `release` for each would move what is held as often as there are blocks.
 //! * [`Extents::held`] gives the list. [`Extents::known`] does nothing; its contract is what holds
 //!   of every such list: a block is in the extent at one place of it at most, so that no two
 //!   extents share one and none stands there twice.

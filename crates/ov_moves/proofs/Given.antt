@@ -1,19 +1,21 @@
 -- Extents that are given up, and what is held then.
-use Rattle.std.proofs.Common.{◌≡◌, ◌⊎◌, inl, inr, ℕ, ◌+◌, ◌≤◌, ◌<◌, List, [], ◌∷◌, ◌++◌, length, take, get_or, Option, Some, None, refl, sym, ◌∙◌, ap, subst, arith, length-append}
+use Rattle.std.proofs.Common.{◌≡◌, ◌⊎◌, inl, inr, ℕ, ◌+◌, ◌≤◌, ◌<◌, List, length, get_or, Some, refl, sym, ap, subst, arith}
 use Rattle.std.specs.Prelude.{All, Contains}
-use Rattle.std.proofs.lemmas.List.{take_all, take_more}
 use Rattle.std.proofs.lemmas.Bool.{cases_lt}
 use Rattle.ov_disk.specs.Disk.{Image}
 use Rattle.ov_blocks.specs.Extents.{AreApart, IsWith, blocks_of, end_from}
 use Rattle.ov_blocks.specs.declared.extents.Extent.{Extent}
 use Rattle.ov_moves.specs.Bytes.{extent_of, new_extent}
 use Rattle.ov_moves.specs.Placing.{ArePlaced, IsFiled, LiesIn, no_move}
-use Rattle.ov_moves.specs.Releasing.{AreDistinct, BeginsNew, BeginsOld, GivesUp, GoApart, HasExtent, IsWithout, MayGoOn, no_file, one_if, with_extent}
+use Rattle.ov_moves.specs.Releasing.{BeginsNew, BeginsOld, GivesUp, GoApart, MayGoOn, no_file, with_extent}
 use Rattle.ov_moves.specs.Updating.{AreMoved}
 use Rattle.ov_moves.specs.declared.moves.Move.{Move}
 use Rattle.ov_moves.specs.declared.placing.Placed.{Placed}
 use Rattle.ov_moves.proofs.Held.{at_place, begins, each_of, end_above, gone, last_end, same_held, still_held, was_held}
 use Rattle.ov_moves.proofs.NewExtents.{blocks_some}
+
+pub same_some : {A : Type 0} (a b : A) → Some a ≡ Some b → a ≡ b
+same_some a b is = cc is
 
 -- ---- one more
 
@@ -63,60 +65,6 @@ pub new_rest : (count : ℕ) (moves : List Move) (old mid : List Extent) → cou
 new_rest count moves old mid lt apart held was =
     was.kept (new_extent (get_or moves count no_move)) (held count no_move lt) (λ g. apart g.0 count no_move g.1 lt g.2)
 
--- ---- old extents
-
-pub no_old : (files : List Placed) (n : ℕ) → BeginsOld 0 files n → ⊥
-no_old files n (a, lt, is) = omega (arith, lt)
-
-old_up : (count : ℕ) (files : List Placed) (n : ℕ) → BeginsOld count files n → BeginsOld (count + 1) files n
-old_up count files n (a, lt, is) = (a, omega (arith, lt), is)
-
-old_down : (count : ℕ) (files : List Placed) (n : ℕ) → BeginsOld (count + 1) files n → BeginsOld count files n ⊎ ((get_or files count no_file).first ≡ Some n)
-old_down count files n (a, lt, is) = elim (cases_lt a count) [
-  | inl low ↦ inl (a, low, is)
-  | inr high ↦ let same : a ≡ count = omega (arith, high, lt) in inr (subst (λ (k : ℕ). (get_or files k no_file).first ≡ Some n) same is)
-]
-
-pub same_some : {A : Type 0} (a b : A) → Some a ≡ Some b → a ≡ b
-same_some a b is = cc is
-
-pub old_given : (o : Option ℕ) (long count : ℕ) (files : List Placed) (old mid new : List Extent) → AreApart 0 mid → (get_or files count no_file).first ≡ o
-    → GivesUp (BeginsOld count files) old mid → IsWithout o long mid new → GivesUp (BeginsOld (count + 1) files) old new
-old_given (Some first) long count files old mid new apart is was with =
-    one_given (BeginsOld count files) (BeginsOld (count + 1) files) (extent_of first long) old mid new apart (old_up count files) (count, omega arith, is)
-    (λ n more. elim (old_down count files n more) [ inl g ↦ inl g | inr same ↦ inr (same_some first n (sym is ∙ same)) ]) was with
-old_given None long count files old mid new apart is was with =
-    given_same (BeginsOld count files) (BeginsOld (count + 1) files) old new (old_up count files)
-    (λ n more. elim (old_down count files n more) [ inl g ↦ g | inr same ↦ absurd (cc (is, same)) ])
-    (subst (GivesUp (BeginsOld count files) old) (sym with) was)
-
--- the next one is still held, where there is one
-pub old_rest : (count : ℕ) (files : List Placed) (old mid : List Extent) → count < length files → AreDistinct files → All (HasExtent old) files
-    → GivesUp (BeginsOld count files) old mid → HasExtent mid (get_or files count no_file)
-old_rest count files old mid lt distinct held was first is =
-    was.kept (extent_of first (get_or files count no_file).length) (held count no_file lt first is) (λ g. distinct g.0 count no_file first g.1 lt g.2 is)
-
--- how many they are
-
-with_push : (files : List Placed) (f : Placed) → with_extent (files ++ f ∷ []) ≡ with_extent files + one_if f.first
-with_push [] f = omega arith
-with_push (g ∷ files) f = omega (arith, with_push files f)
-
-with_more : (files : List Placed) (n : ℕ) (d : Placed) → n < length files → with_extent (take (n + 1) files) ≡ with_extent (take n files) + one_if (get_or files n d).first
-with_more files n d lt = ap with_extent (take_more files n d lt) ∙ with_push (take n files) (get_or files n d)
-
-one_less : (o : Option ℕ) (long : ℕ) (old new : List Extent) → IsWithout o long old new → length new + one_if o ≡ length old
-one_less (Some first) long old new with =
-    omega (arith, ap (length {A = Extent}) with.before, ap (length {A = Extent}) with.after, length-append with.front with.back, length-append with.front (extent_of first long ∷ with.back))
-one_less None long old new same = omega (arith, ap (length {A = Extent}) same)
-
-pub fewer : (files : List Placed) (n long : ℕ) (old mid new : List Extent) → n < length files → length mid + with_extent (take n files) ≡ length old
-    → IsWithout (get_or files n no_file).first long mid new → length new + with_extent (take (n + 1) files) ≡ length old
-fewer files n long old mid new lt so_far without = omega (arith, so_far, one_less (get_or files n no_file).first long mid new without, with_more files n no_file lt)
-
-pub fewer_all : (files : List Placed) (n : ℕ) (old new : List Extent) → length files ≤ n → length new + with_extent (take n files) ≡ length old → length new + with_extent files ≡ length old
-fewer_all files n old new most is = omega (arith, is, ap with_extent (take_all n files most))
-
 -- ---- given back
 
 module _ (count : ℕ) (files : List Placed) (old mid : List Extent) (moves : List Move) (some : All (IsFiled old) files) (few : count ≤ length files) (placed : ArePlaced count files old mid moves) where
@@ -154,9 +102,6 @@ module _ (count : ℕ) (files : List Placed) (old mid : List Extent) (moves : Li
 
 module _ (files : List Placed) (old mid new : List Extent) (moves : List Move) (filed : All (IsFiled old) files) (placed : ArePlaced (length files) files old mid moves)
     (given : GivesUp (BeginsOld (length files) files) mid new) (many : length new + with_extent files ≡ length mid) (apart : AreApart 0 mid) where
-  pub have : All (HasExtent mid) files
-  have a f lt first is = placed.kept (extent_of first (get_or files a f).length) ((filed a f lt).is_held first is)
-
   new_differ : (a : ℕ) (d : Move) → a < length files → BeginsOld (length files) files (get_or moves a d).to → ⊥
   new_differ a d lt (b, below, is) =
       let f = get_or files b no_file in

@@ -2,6 +2,7 @@ pub mod Ends
 pub mod Given
 pub mod Moving
 pub mod NewExtents
+pub mod OldExtents
 pub mod Pieces
 pub mod Held
 pub mod Recording

@@ -6,9 +6,9 @@
 //! the records from before, with every file's bytes where they were, or these with the new record and
 //! every file in its new extent. `ov_updating` says this of the histories that images keep.
 //!
-//! * [`rewrite`] is the whole of it. It finds and holds the new extents, takes all memory that it
-//!   wants, moves the files, appends the record, and gives up the old extents. Unless it answers
-//!   `Ok`, it gives back what it held.
+//! * [`rewrite`] is the whole of it. It lists the old extents, finds and holds the new ones, takes all
+//!   other memory that it wants, moves the files, appends the record, and gives up the old extents,
+//!   all of them in one walk over what is held. Unless it answers `Ok`, it gives back what it held.
 //! * [`place_all`] finds and holds a new extent for each file, each in the lowest free run that is
 //!   long enough. Where memory ends, what is held is the very same as before. The search for a file
 //!   that takes as many blocks as the one before it, or more, goes on where that one's ended; for a
@@ -19,7 +19,7 @@
 //!   bytes of a text, turned in the same way.
 //! * [`update`] moves files, and then appends the record. No sync comes between: the first one of the
 //!   append makes Blobs last, and only then is the record's gate opened. It takes no memory.
-//! * [`release_all`] gives up the old extents of files, [`release_new`] the new ones of moves.
+//! * [`release_new`] gives up the new extents of moves.
 //! * [`Turn`] is what becomes of a byte, by its file and its place, as by a pad. [`Spell`] spells the
 //!   record, which has the new extents in it and so is spelled once these are known.
 //!
@@ -80,7 +80,7 @@ pub use laws::{blobs_ends_with_an_extent, standing_is_kept};
 pub use moves::{Move, move_all};
 pub use piece::PIECE_BYTES;
 pub use placing::{Placed, place_all};
-pub use releasing::{release_all, release_new};
+pub use releasing::release_new;
 pub use rewriting::rewrite;
 pub use spelling::Spell;
 pub use turning::Turn;

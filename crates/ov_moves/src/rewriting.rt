@@ -17,7 +17,7 @@ ghost use Rattle.ov_moves.specs.declared.piece.TheConstants.{PIECE_BYTES};
 use crate::moves::Move;
 use crate::piece::PIECE_BYTES;
 use crate::placing::{Placed, place_all};
-use crate::releasing::{release_all, release_new};
+use crate::releasing::{old_firsts, release_new};
 use crate::spelling::Spell;
 use crate::turning::Turn;
 use crate::updating::update;
@@ -146,12 +146,13 @@ pub fn rewrite<D: Disk, T: Turn, S: Spell>(
     ensures call { IsDiskCall D.tells (IsErrOf result DiskFailed) disk.old disk.new }
 {
     extents.known();
+    let gone = old_firsts(alloc, files)?;
     let moves = place_all(alloc, extents, files)?;
     extents.known();
     match spell_and_update(alloc, extents, journal, disk, turn, text, &moves, spell) {
         Ok(()) => {
             // Only now, with the record on the disk.
-            release_all(extents, files);
+            extents.release_all(&gone);
             Ok(moves)
         }
         Err(fault) => {

@@ -1,6 +1,7 @@
 use Rattle.std.proofs.Common.{length, sym, ◌∙◌, subst, arith}
 use Rattle.std.specs.Prelude.{All, Contains}
 use Rattle.ov_disk.specs.Disk.{Only}
+use Rattle.ov_blocks.specs.Extents.{AreGivenUp, BeginsOne}
 use Rattle.ov_moves.specs.Bytes.{new_extent}
 use Rattle.ov_moves.specs.Moves.{HasText}
 use Rattle.ov_moves.specs.Placing.{AreMovesOf, ArePlaced, LiesIn}
@@ -10,9 +11,15 @@ use Rattle.ov_moves.specs.Updating.{AreMoved, IsBeforeOrAfterAll, IsMadeLast}
 use Rattle.ov_moves.specs.declared.moves.Move.{Move}
 use Rattle.ov_moves.proofs.Given.{are_held, given_back, go_apart, goes_on, lies_on, same_some}
 use Rattle.ov_moves.proofs.NewExtents.{texts_of}
+use Rattle.ov_moves.proofs.OldExtents.{begin_held, old_fewer, old_given}
 use Rattle.ov_moves.proofs.Runs.{leaves_none, leaves_weaker, told_before}
 use Rattle.ov_moves.proofs.Standing.{either_of, go_to_free, last_of, stands_same}
 use Rattle.ov_moves.proofs.rewriting.rewrite.Goals as goal
+
+pub returns-in_err-gone-clause-any_moment : goal.returns-in_err-gone-clause-any_moment
+returns-in_err-gone-clause-any_moment g c =
+    leaves_none g.D.Disk.tells (StandsForEither (g.T.Turn.turned c.args.turn.now) c.args.text.now (g.S.Spell.spelled c.args.spell.now) c.args.extents.now c.args.files.now) c.args.disk.now
+    c.requires.settled (stands_same (g.T.Turn.turned c.args.turn.now) c.args.text.now (g.S.Spell.spelled c.args.spell.now) c.args.extents.now c.args.files.now)
 
 pub returns-in_err-moves-clause-any_moment : goal.returns-in_err-moves-clause-any_moment
 returns-in_err-moves-clause-any_moment g c =
@@ -34,6 +41,11 @@ release_new-requires-clause-distinct g c =
     subst GoApart (sym c.deref-in-Err.ensures.value)
     (go_apart (length c.args.files.now) c.args.files.now c.args.extents.now c.place_all.new.extents c.in_ok-moves.moves.items c.requires.files (omega arith) c.in_ok-moves.ensures.placed)
 
+pub release_all-requires-clause-held : goal.release_all-requires-clause-held
+release_all-requires-clause-held g c =
+    subst (All (BeginsOne c.place_all.new.extents)) (sym c.deref-in-Ok.ensures.value)
+    (begin_held c.args.files.now c.args.extents.now c.place_all.new.extents c.in_ok-moves.moves.items c.requires.files c.in_ok-moves.ensures.placed c.in_ok-gone.gone.items c.in_ok-gone.ensures)
+
 pub returns-in-Ok-clause-any_moment : goal.returns-in-Ok-clause-any_moment
 returns-in-Ok-clause-any_moment g c =
     let are = subst (AreMovesOf c.args.files.now) (sym c.deref.ensures.value) c.in_ok-moves.ensures.moves in
@@ -43,8 +55,8 @@ returns-in-Ok-clause-any_moment g c =
     (λ i x. either_of (g.T.Turn.turned c.args.turn.now) c.args.text.now (g.S.Spell.spelled c.args.spell.now) c.args.extents.now c.place_all.new.extents c.args.files.now c.deref.result.now are placed c.known-2.ensures.order i x)
     c.spell_and_update.ensures.any_moment
 
-pub returns-in-Err-clause-any_moment : goal.returns-in-Err-clause-any_moment
-returns-in-Err-clause-any_moment g c =
+pub returns-clause-any_moment : goal.returns-clause-any_moment
+returns-clause-any_moment g c =
     let are = subst (AreMovesOf c.args.files.now) (sym c.deref.ensures.value) c.in_ok-moves.ensures.moves in
     let placed = subst (ArePlaced (length c.args.files.now) c.args.files.now c.args.extents.now c.place_all.new.extents) (sym c.deref.ensures.value) c.in_ok-moves.ensures.placed in
     leaves_weaker g.D.Disk.tells (IsBeforeOrAfterAll (g.T.Turn.turned c.args.turn.now) c.args.text.now c.deref.result.now (g.S.Spell.spelled c.args.spell.now c.deref.result.now))
@@ -64,16 +76,22 @@ returns-in-Ok-clause-lasts g c i is =
 
 pub returns-in-Ok-clause-held : goal.returns-in-Ok-clause-held
 returns-in-Ok-clause-held g c =
-    goes_on c.args.files.now c.args.extents.now c.place_all.new.extents c.release_all.new.extents c.in_ok-moves.moves.items c.requires.files c.in_ok-moves.ensures.placed
-    c.release_all.ensures.given c.release_all.ensures.many c.known-2.ensures.order
+    let up = subst (λ l. AreGivenUp l c.place_all.new.extents c.release_all.new.self) c.deref-in-Ok.ensures.value c.release_all.ensures in
+    goes_on c.args.files.now c.args.extents.now c.place_all.new.extents c.release_all.new.self c.in_ok-moves.moves.items c.requires.files c.in_ok-moves.ensures.placed
+    (old_given c.args.files.now c.args.extents.now c.place_all.new.extents c.in_ok-moves.moves.items c.requires.files c.in_ok-moves.ensures.placed c.in_ok-gone.gone.items c.in_ok-gone.ensures c.release_all.new.self up)
+    (old_fewer c.args.files.now c.args.extents.now c.place_all.new.extents c.in_ok-moves.moves.items c.requires.files c.in_ok-moves.ensures.placed c.in_ok-gone.gone.items c.in_ok-gone.ensures c.release_all.new.self up)
+    c.known-2.ensures.order
 
 pub returns-in-Ok-clause-lies : goal.returns-in-Ok-clause-lies
 returns-in-Ok-clause-lies g c k is_k =
+    let up = subst (λ l. AreGivenUp l c.place_all.new.extents c.release_all.new.self) c.deref-in-Ok.ensures.value c.release_all.ensures in
     let from = told_before (g.D.Disk.tells.reads c.args.disk.now) (g.D.Disk.tells.reads c.spell_and_update.new.disk) c.spell_and_update.ensures.any_moment.untold k is_k in
     let made = c.in-Ok.ensures.lasts from.0 from.1 in
-    subst (LiesIn c.release_all.new.extents) (same_some made.now k (sym made.is_read ∙ is_k))
-    (lies_on c.args.files.now c.args.extents.now c.place_all.new.extents c.release_all.new.extents c.in_ok-moves.moves.items c.requires.files c.in_ok-moves.ensures.placed
-    c.release_all.ensures.given c.release_all.ensures.many c.known-2.ensures.order (g.T.Turn.turned c.args.turn.now) c.args.text.now from.0 made.now (c.requires.lies from.0 from.1)
+    subst (LiesIn c.release_all.new.self) (same_some made.now k (sym made.is_read ∙ is_k))
+    (lies_on c.args.files.now c.args.extents.now c.place_all.new.extents c.release_all.new.self c.in_ok-moves.moves.items c.requires.files c.in_ok-moves.ensures.placed
+    (old_given c.args.files.now c.args.extents.now c.place_all.new.extents c.in_ok-moves.moves.items c.requires.files c.in_ok-moves.ensures.placed c.in_ok-gone.gone.items c.in_ok-gone.ensures c.release_all.new.self up)
+    (old_fewer c.args.files.now c.args.extents.now c.place_all.new.extents c.in_ok-moves.moves.items c.requires.files c.in_ok-moves.ensures.placed c.in_ok-gone.gone.items c.in_ok-gone.ensures c.release_all.new.self up)
+    c.known-2.ensures.order (g.T.Turn.turned c.args.turn.now) c.args.text.now from.0 made.now (c.requires.lies from.0 from.1)
     (subst (λ m. AreMoved (g.T.Turn.turned c.args.turn.now) c.args.text.now m (from.0).blobs (made.now).blobs) c.deref.ensures.value made.blobs))
 
 pub returns-in-Ok-clause-settled : goal.returns-in-Ok-clause-settled
@@ -82,8 +100,8 @@ returns-in-Ok-clause-settled g c k is_k =
     let made = c.in-Ok.ensures.lasts from.0 from.1 in
     subst (λ i. Only i (g.D.Disk.tells.may_leave c.spell_and_update.new.disk)) (same_some made.now k (sym made.is_read ∙ is_k)) made.only
 
-pub returns-in-Err-clause-given_back : goal.returns-in-Err-clause-given_back
-returns-in-Err-clause-given_back g c =
+pub returns-clause-given_back : goal.returns-clause-given_back
+returns-clause-given_back g c =
     given_back (length c.args.files.now) c.args.files.now c.args.extents.now c.place_all.new.extents c.in_ok-moves.moves.items c.requires.files (omega arith) c.in_ok-moves.ensures.placed
     c.release_new.new.extents c.known.ensures.order c.known-in-Err.ensures.order
     (subst (λ n. GivesUp (BeginsNew n c.in_ok-moves.moves.items) c.place_all.new.extents c.release_new.new.extents) c.in_ok-moves.ensures.moves.many
