@@ -128,10 +128,7 @@ impl CataloguePlaces {
         self.known();
         self.extents.known();
         make_room(&mut self.placed)?;
-        let recoat = Recoat {
-            master: surface,
-            rewrites: prepared.change.rewrites(),
-        };
+        let recoat = Recoat::new(surface, prepared.change.rewrites());
         let front = prepared.front.as_slice();
         let text = bytes_of(&prepared.text);
         let moves = update(

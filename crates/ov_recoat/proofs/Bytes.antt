@@ -1,5 +1,5 @@
 -- The bytes of files under other surfaces.
-use Rattle.std.proofs.Common.{◌≡◌, inl, inr, ℕ, zero, suc, ◌+◌, ◌<◌, ◌≤◌, List, [], ◌∷◌, length, get_or, refl, ◌∙◌, ap, arith}
+use Rattle.std.proofs.Common.{◌≡◌, inl, inr, ℕ, zero, suc, ◌+◌, ◌<◌, ◌≤◌, List, [], ◌∷◌, length, get_or, refl, sym, ◌∙◌, ap, arith}
 use Rattle.std.proofs.lemmas.Bool.{eq-eqb}
 use Rattle.std.proofs.lemmas.Bool.Decides.{eqb_tells}
 use Rattle.std.specs.Prelude.{Bool, true, false, ◌==◌, cond, Option, Some, None, Contains}
@@ -7,8 +7,10 @@ use Rattle.ov_ctr.proofs.Pad.{get_or-xor_pad}
 use Rattle.ov_surface.specs.Coats.{coated}
 use Rattle.ov_surface.proofs.CoatLaws.{length-coated}
 use Rattle.ov_history.specs.Rewrites.{Rewrite, surface_key}
+use Rattle.ov_recoat.specs.Finding.{first_of}
 use Rattle.ov_recoat.specs.Laws.{Ascend, EachHasItsRewrite, FilesKeepLength, FilesRecoatByBytes}
 use Rattle.ov_recoat.specs.Recoats.{coat_byte, recoat_byte, recoated}
+use Rattle.ov_recoat.proofs.Finding.{first_here, first_later}
 
 -- a byte of a piece with a coat laid
 pub get_or-coated : (key : Option (List ℕ)) (file start : ℕ) (bytes : List ℕ) (k : ℕ) → k < length bytes
@@ -73,27 +75,36 @@ each_has master number (x ∷ rewrites) r place byte all (suc k, lt, is) =
           ∙ each_has master (x.file + 1) rewrites r place byte all.1 (k, omega (arith, lt), is)
     ]
 
--- ---- a walk over the rewrites
+-- ---- the first rewrite of a file
 
--- what becomes of the bytes of the file is what these last rewrites make of them
-pub record IsLeft (master : List ℕ) (file : ℕ) (all rest : List Rewrite) : Type 0 where
-  pub same : (place byte : ℕ) → recoated master all file place byte ≡ recoated master rest file place byte
+-- what this rewrite makes of a byte, which stays where there is none
+abbrev by_one : List ℕ → Option Rewrite → ℕ → ℕ → ℕ
+by_one master None place byte = byte
+by_one master (Some r) place byte = recoat_byte master r place byte
 
-pub left_all : (master : List ℕ) (file : ℕ) (all : List Rewrite) → IsLeft master file all all
-left_all master file all = record { same = λ place byte. refl }
+-- what becomes of the bytes of a file is what its first rewrite makes of them
+by_first : (master : List ℕ) (rewrites : List Rewrite) (file place byte : ℕ)
+    → recoated master rewrites file place byte ≡ by_one master (first_of rewrites file) place byte
+by_first master [] file place byte = refl
+by_first master (r ∷ rewrites) file place byte = elim (eqb_tells r.file file) [
+  | inl same ↦
+      here master r rewrites file place byte same.0
+      ∙ sym (ap (λ (o : Option Rewrite). by_one master o place byte) (first_here r rewrites file same.0))
+  | inr other ↦
+      later master r rewrites file place byte other.0
+      ∙ by_first master rewrites file place byte
+      ∙ sym (ap (λ (o : Option Rewrite). by_one master o place byte) (first_later r rewrites file other.0))
+]
 
--- the first of them is of another file
-pub left_later : (master : List ℕ) (file : ℕ) (all rest : List Rewrite) (r : Rewrite) → IsLeft master file all (r ∷ rest)
-    → (r.file == file) ≡ false → IsLeft master file all rest
-left_later master file all rest r left other =
-    record { same = λ place byte. left.same place byte ∙ later master r rest file place byte other }
+pub recoated_some : (master : List ℕ) (rewrites : List Rewrite) (file : ℕ) (r : Rewrite) (place byte : ℕ)
+    → first_of rewrites file ≡ Some r → recoated master rewrites file place byte ≡ recoat_byte master r place byte
+recoated_some master rewrites file r place byte is =
+    by_first master rewrites file place byte ∙ ap (λ (o : Option Rewrite). by_one master o place byte) is
 
--- the first of them is of the file
-pub left_here : (master : List ℕ) (file : ℕ) (all rest : List Rewrite) (r : Rewrite) (place byte : ℕ)
-    → IsLeft master file all (r ∷ rest) → (r.file == file) ≡ true
-    → recoated master all file place byte ≡ recoat_byte master r place byte
-left_here master file all rest r place byte left same =
-    left.same place byte ∙ here master r rest file place byte same
+pub recoated_none : (master : List ℕ) (rewrites : List Rewrite) (file place byte : ℕ)
+    → first_of rewrites file ≡ None → recoated master rewrites file place byte ≡ byte
+recoated_none master rewrites file place byte is =
+    by_first master rewrites file place byte ∙ ap (λ (o : Option Rewrite). by_one master o place byte) is
 
 -- ---- a piece
 

@@ -3,6 +3,11 @@ use Rattle.std.specs.Prelude.{ℕ, ◌==◌, cond, List, [], ◌∷◌, bit_xor,
 use Rattle.ov_ctr.specs.Ctr.{pad_byte}
 use Rattle.ov_history.specs.Rewrites.{Rewrite, surface_key}
 
+-- what becomes of files is by the rewrites of an update, under the surface master
+pub record Recoating : Type 0 where
+  pub master : List ℕ
+  pub rewrites : List Rewrite
+
 -- a byte at this place of a file with a surface coat laid, or taken off, where there is a key
 abbrev pub coat_byte : Option (List ℕ) → ℕ → ℕ → ℕ → ℕ
 coat_byte None file place byte = byte

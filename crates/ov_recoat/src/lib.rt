@@ -7,7 +7,7 @@
 //!
 //! **What a contract sees** is a function of a byte. `recoat_byte` is what one rewrite makes of a
 //! byte of its file; `recoated` is what all of them make of a byte of any file, by the first of them
-//! that is of that file.
+//! that is of that file. A [`Recoat`] is seen as a `Recoating`: its rewrites and the surface master.
 //!
 //! | law | function |
 //! |---|---|
@@ -16,9 +16,9 @@
 //!
 //! A law is a public function with an empty body, whose contract is the law.
 //!
-//! A piece asks for the rewrite of its file, which is found by a walk over the rewrites: of 16,384
-//! files that move at once, one walk for each piece. It takes no memory and derives both keys of the
-//! file for each piece.
+//! The files of a [`Recoat`]'s rewrites ascend, which its maker owes ([`Recoat::new`]). A piece asks
+//! for the rewrite of its file, which is found by halves: of 16,384 files that move at once, by some
+//! 15 comparisons for each piece. It takes no memory and derives both keys of the file for each piece.
 //!
 //! Nothing is claimed of secrecy.
 #![tactic(auto)]

@@ -1,9 +1,11 @@
 //! Bytes under another surface.
-ghost use Rattle.std.specs.Prelude.{◌≡◌, ◌≤◌, ◌<◌, ◌+◌, ℕ, length, slice_index};
+ghost use Rattle.std.specs.Prelude.{◌≡◌, ◌≤◌, ◌<◌, ◌+◌, ℕ, length, option_map, slice_index};
 ghost use Rattle.ov_base.specs.declared.limits.TheConstants.{MAX_FILE_BYTES};
 ghost use Rattle.ov_history.specs.Rewrites.{surface_key};
-ghost use Rattle.ov_state.specs.Entries.{plain_rewrite};
+ghost use Rattle.ov_state.specs.Entries.{plain_rewrite, plain_rewrites};
 ghost use Rattle.ov_surface.specs.Coats.{key_bytes};
+ghost use Rattle.ov_recoat.specs.Finding.{IsCountBefore, first_of};
+ghost use Rattle.ov_recoat.specs.Laws.{Ascend};
 ghost use Rattle.ov_recoat.specs.Recoats.{recoat_byte};
 
 use ov_base::Key;
@@ -11,14 +13,52 @@ use ov_moves::Turn;
 use ov_state::Rewrite;
 use ov_surface::reencrypt;
 use ov_tokens::{Layer, Master, Surface};
+use std::marker::Model;
 
-/// What the rewrites of an update make of the bytes of files, under the surface master.
+/// What the rewrites of an update make of the bytes of files, under the surface master. The files of
+/// its rewrites ascend.
 #[derive(Drop)]
 pub struct Recoat<'a> {
-    /// The surface master.
-    pub master: &'a Master,
-    /// The rewrites of the update, by file number.
-    pub rewrites: &'a [Rewrite],
+    // The surface master.
+    master: &'a Master,
+    // By file number, so that the rewrite of a file is found by halves.
+    rewrites: &'a [Rewrite],
+}
+
+impl<'a> Model for Recoat<'a> {
+    ghost use Rattle.ov_state.specs.Entries.{plain_rewrites};
+    ghost use Rattle.ov_recoat.specs.Laws.{Ascend};
+    ghost use Rattle.ov_recoat.specs.Recoats.{Recoating};
+
+    ghost Value = { Recoating };
+
+    ghost view = { λ r. record {
+      master = r.master.now.bytes;
+      rewrites = plain_rewrites r.rewrites.now;
+    } };
+
+    ghost invariant = { λ r. Ascend 0 (plain_rewrites r.rewrites.now) };
+}
+
+impl<'a> Recoat<'a> {
+    /// What these rewrites make of bytes, under this surface master. Their files ascend, as those of
+    /// an update's rewrites do.
+    pub fn new(master: &'a Master, rewrites: &'a [Rewrite]) -> Self
+        requires { Ascend 0 (plain_rewrites rewrites.now) }
+        ensures { result ≡ record {
+          master = master.now.bytes;
+          rewrites = plain_rewrites rewrites.now;
+        } }
+    {
+        Recoat { master, rewrites }
+    }
+
+    /// The rewrites.
+    pub fn rewrites(&self) -> &'a [Rewrite]
+        ensures { plain_rewrites result.now ≡ self.now.rewrites }
+    {
+        self.rewrites
+    }
 }
 
 // The key of a surface, where there is one, under the surface master.
@@ -49,18 +89,36 @@ fn recoat_piece(master: &Master, rewrite: &Rewrite, start: u32, bytes: &mut [u8]
     );
 }
 
+// How many of the rewrites, whose files ascend, are of files before this one.
+fn count_before(rewrites: &[Rewrite], file: u32) -> usize
+    requires { Ascend 0 (plain_rewrites rewrites.now) }
+    ensures { IsCountBefore file result rewrites.now }
+{
+    rewrites.partition_point(|rewrite| rewrite.file < file)
+}
+
+// The rewrite of a file, where it has one.
+fn rewrite_of(rewrites: &[Rewrite], file: u32) -> Option<&Rewrite>
+    requires { Ascend 0 (plain_rewrites rewrites.now) }
+    ensures { option_map (λ r. plain_rewrite r.now) result
+        ≡ first_of (plain_rewrites rewrites.now) file }
+{
+    let rewrite = rewrites.get(count_before(rewrites, file))?;
+    if rewrite.file == file {
+        Some(rewrite)
+    } else {
+        None
+    }
+}
+
 impl<'a> Turn for Recoat<'a> {
     ghost use Rattle.ov_recoat.specs.Recoats.{recoated};
-    ghost use Rattle.ov_state.specs.Entries.{plain_rewrites};
 
-    ghost turned = { λ r. recoated r.master.now.bytes (plain_rewrites r.rewrites.now) };
+    ghost turned = { λ r. recoated r.master r.rewrites };
 
     fn turn(&self, file: u32, start: u32, bytes: &mut [u8]) {
-        for rewrite in self.rewrites {
-            if rewrite.file == file {
-                recoat_piece(self.master, rewrite, start, bytes);
-                return;
-            }
+        if let Some(rewrite) = rewrite_of(self.rewrites, file) {
+            recoat_piece(self.master, rewrite, start, bytes);
         }
     }
 }

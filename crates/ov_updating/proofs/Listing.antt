@@ -1,5 +1,5 @@
 -- Files and rewrites: which of them are listed, and how many have no extent.
-use Rattle.std.proofs.Common.{◌≡◌, inl, inr, ℕ, suc, ◌+◌, ◌<◌, ◌≤◌, List, [], ◌∷◌, length, get_or, refl, ap, subst, arith}
+use Rattle.std.proofs.Common.{◌≡◌, inl, inr, ℕ, suc, ◌+◌, ◌<◌, ◌≤◌, List, [], ◌∷◌, length, get_or, refl, ◌∙◌, ap, subst, arith}
 use Rattle.std.specs.Prelude.{All, Bool, true, false, Contains, Option, Some, None, slice_index_or}
 use Rattle.std.proofs.lemmas.Bool.{false≢true, lt-ltb, ltb-true}
 use Rattle.ov_graph.proofs.ListLaws.{Contains-cases, Contains-first, Contains-later, Contains-none}
@@ -55,6 +55,11 @@ few_new placed limit number low (r ∷ rewrites) all below none le =
     (λ x there some is. none x (Contains-later r rewrites x there) some is) le)
     (few_new placed limit (r.file + 1) (r.file + 1) rewrites all.1 rest
     (λ x there some is. above (r.file + 1) rewrites x all.1 there) (omega (arith, here)))
+
+-- the files that were listed, of rewrites that were answered, are those of all rewrites
+pub listed_all : (placed : List (Option ℕ)) (answered rewrites : List Rewrite) (files : List Placed) {listed : List Placed}
+    → listed ≡ files → files ≡ files_of placed answered → answered ≡ rewrites → listed ≡ files_of placed rewrites
+listed_all placed answered rewrites files same are all = same ∙ are ∙ ap (λ (rs : List Rewrite). files_of placed rs) all
 
 -- ---- the rewrite of a file, and of a move
 

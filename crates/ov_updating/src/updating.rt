@@ -6,7 +6,6 @@ ghost use Rattle.ov_journal.specs.Log.{HasSameRecords, Stands, appended};
 ghost use Rattle.ov_journal.specs.declared.fault.CheckFault.TheVariants.{Disk as DiskFailed, Memory as NoMemory};
 ghost use Rattle.ov_moves.specs.Placing.{AreMovesOf, LiesIn};
 ghost use Rattle.ov_moves.specs.Runs.{LeavesAtMost};
-ghost use Rattle.ov_state.specs.Entries.{plain_rewrites};
 ghost use Rattle.ov_updating.specs.Files.{files_of, firsts_of};
 ghost use Rattle.ov_updating.specs.Recording.{body_with};
 ghost use Rattle.ov_updating.specs.Updating.{AreHeldAfter, IsAsked, KeepsItOrMore, UpdateLasts, asked};
@@ -36,7 +35,7 @@ pub fn update<D: Disk>(
     front: &[u8],
     text: &[u8],
 ) -> Result<Vec<Move>, CheckFault>
-    requires asked { IsAsked (asked (plain_rewrites recoat.now.rewrites.now) placed.now extents.old
+    requires asked { IsAsked (asked recoat.now.rewrites placed.now extents.old
         front.now text.now) }
     requires whole { journal.old.bad ≡ false }
     requires count { length journal.old.offsets < 2 ^ 40 }
@@ -46,21 +45,21 @@ pub fn update<D: Disk>(
 
     // Where the disk tells its bytes, a crash at any moment leaves an image that keeps the history
     // from before, or it with the update.
-    ensures any_moment { LeavesAtMost D.tells (KeepsItOrMore recoat.now.master.now.bytes
-        (asked (plain_rewrites recoat.now.rewrites.now) placed.now extents.old front.now text.now))
+    ensures any_moment { LeavesAtMost D.tells (KeepsItOrMore recoat.now.master
+        (asked recoat.now.rewrites placed.now extents.old front.now text.now))
         disk.old disk.new }
 
     // At `Ok` the history with the update lasts, and the files of its rewrites have gone there.
     ensures moves { IfOk result (λ moves.
-        AreMovesOf (files_of placed.now (plain_rewrites recoat.now.rewrites.now)) moves.items) }
+        AreMovesOf (files_of placed.now recoat.now.rewrites) moves.items) }
     ensures lasts { IfOk result (λ moves. Told (D.tells.reads disk.old)
-        (UpdateLasts D.tells recoat.now.master.now.bytes
-        (asked (plain_rewrites recoat.now.rewrites.now) placed.now extents.old front.now text.now)
+        (UpdateLasts D.tells recoat.now.master
+        (asked recoat.now.rewrites placed.now extents.old front.now text.now)
         (firsts_of moves.items) disk.new)) }
 
     // The next one may be made in the same way.
     ensures held { IfOk result (λ moves. AreHeldAfter
-        (asked (plain_rewrites recoat.now.rewrites.now) placed.now extents.old front.now text.now)
+        (asked recoat.now.rewrites placed.now extents.old front.now text.now)
         (firsts_of moves.items) extents.new) }
     ensures lies { OnOk result (Told (D.tells.reads disk.new) (LiesIn extents.new)) }
     ensures stands { OnOk result (Stands D.tells journal.new disk.new) }
@@ -78,7 +77,7 @@ pub fn update<D: Disk>(
 
     ensures call { IsDiskCall D.tells (IsErrOf result DiskFailed) disk.old disk.new }
 {
-    let files = list_files(alloc, placed, recoat.rewrites)?;
+    let files = list_files(alloc, placed, recoat.rewrites())?;
     let recording = Recording { front };
     rewrite(
         alloc, extents, journal, disk, recoat, text, &files, &recording,

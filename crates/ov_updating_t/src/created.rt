@@ -62,10 +62,7 @@ fn create<D: Disk>(
     };
     let (_, front) = spell_update(alloc, brief)?;
     let master = master();
-    let recoat = Recoat {
-        master: &master,
-        rewrites: &REWRITES,
-    };
+    let recoat = Recoat::new(&master, &REWRITES);
     update(alloc, extents, journal, disk, &recoat, &[], &front, &TEXT)
 }
 

@@ -37,10 +37,7 @@ fn turned_in_two(file: u32, first: usize, bytes: &mut [u8; 40])
     requires { first ≤ 40 }
 {
     let master = master();
-    let recoat = Recoat {
-        master: &master,
-        rewrites: &REWRITES,
-    };
+    let recoat = Recoat::new(&master, &REWRITES);
     let (front, back) = bytes.split_at_mut(first);
     recoat.turn(file, 0, front);
     recoat.turn(file, first as u32, back);
