@@ -133,7 +133,7 @@ module _ {W : ℕ} (s : Catalogue) (r : Relisting W) (file : ℕ) (f : FileEntry
   -- another file of the base node may move where it has no surface
   pub moves-by : (limit : ℕ) → IsWell limit s → IsRelisting s r → f.node ≡ r.node → file ≢ r.file
       → (lacks : Bool) → is_some f.surface ≡ not lacks → MayMove lacks s r file f
-  moves-by limit well relisting same other true is = same
+  moves-by limit well relisting same other true is = tt
   moves-by limit well relisting same other false is = surface-stays limit well relisting same other is
 
   pub is_next : (layer : Nodes) → s.surface ≡ layer → IsNext s (take file wants) layer file f

@@ -21,12 +21,14 @@ pub mod AnswerLaws
 pub mod Readers
 pub mod AccessCounts
 pub mod FilesByNumber
+pub mod FilesByNode
 pub mod StayingNodes
 pub mod PlannedNodes
 pub mod WantedSets
 pub mod SettledMore
 pub mod SettledFiles
 pub mod ChangedWants
+pub mod SkippedFiles
 pub mod RoomTests
 pub mod NewSets
 pub mod Relistings

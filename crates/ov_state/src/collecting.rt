@@ -1,5 +1,5 @@
-//! One pass over the files that may move after a relisting: the question for it and its plan
-//! collect the same wanted sets, each in its own way.
+//! One pass over the files that may move after a relisting, which are those of its base node: the
+//! question for it and its plan collect the same wanted sets, each in its own way.
 ghost use Rattle.std.specs.Prelude.{◌≡◌, ◌<◌, ◌≤◌, ◌+◌, ◌*◌, ◌++◌, ◌∷◌, [], ℕ, List, Option, Some};
 ghost use Rattle.std.specs.Prelude.{IfErr, IfSome, OnOk, is_some, length, take, true};
 ghost use Rattle.ov_base.specs.declared.limits.TheConstants.{MAX_LAYER_NODES};
@@ -10,7 +10,7 @@ ghost use Rattle.ov_history.specs.Places.{living_at};
 ghost use Rattle.ov_history.specs.Sound.{IsPlaced};
 ghost use Rattle.ov_state.specs.Asking.{Passes};
 ghost use Rattle.ov_state.specs.Contents.{nodes_of};
-ghost use Rattle.ov_state.specs.Entries.{plain_file};
+ghost use Rattle.ov_state.specs.Entries.{node_of, plain_file};
 ghost use Rattle.ov_state.specs.Relistings.{room_refusal, want_if, wants_after};
 ghost use Rattle.ov_state.specs.Relistings.{IsFull, IsNext, IsRelisting, MayMove};
 
@@ -68,18 +68,16 @@ pub trait Collector<S: Graph<Surface, W>, const W: usize> {
 }
 
 impl<B: Graph<Base, W>, S: Graph<Surface, W>, const W: usize> State<B, S, W> {
-    /// Whether a file may need another surface after the relisting. No set is looked up for that.
-    /// A file of another base node keeps its surface, and so does another file with one: the set of
-    /// its surface is its list, and the holders are no fewer than before.
+    /// Whether a file of the node may need another surface after the relisting. No set is looked up
+    /// for that. Another file with a surface keeps it: the set of its surface is its list, and the
+    /// holders are no fewer than before.
     fn may_move(&self, relisting: &Relisting<W>, file: u32, entry: &FileEntry) -> bool
         requires relisting { IsRelisting self.now.catalogue relisting.now }
         requires kept { living_at self.now.catalogue.files file ≡ Some (plain_file entry.now) }
+        requires node { entry.now.node ≡ relisting.now.node }
         ensures { MayMove result self.now.catalogue relisting.now file entry.now }
     {
         self.known();
-        if entry.node != relisting.node {
-            return false;
-        }
         file == relisting.file || entry.surface.is_none()
     }
 
@@ -103,7 +101,7 @@ impl<B: Graph<Base, W>, S: Graph<Surface, W>, const W: usize> State<B, S, W> {
         )
     }
 
-    /// Collects the wanted set of one file more, by number, where the file may move.
+    /// Collects the wanted set of one file more of the node, by number, where the file may move.
     fn collect_file<C: Collector<S, W>>(
         &self,
         relisting: &Relisting<W>,
@@ -111,7 +109,7 @@ impl<B: Graph<Base, W>, S: Graph<Surface, W>, const W: usize> State<B, S, W> {
         collector: &mut C,
     ) -> Result<(), GraphRefusal>
         requires relisting { IsRelisting self.now.catalogue relisting.now }
-        requires file { is_some (living_at self.now.catalogue.files file) ≡ true }
+        requires file { node_of self.now.catalogue.files file ≡ Some relisting.now.node }
         requires has { let c = self.now.catalogue in
             (start : C) × C.has start c
             (take file (wants_after (outline c) relisting.now 0 (outline c).files))
@@ -140,7 +138,8 @@ impl<B: Graph<Base, W>, S: Graph<Surface, W>, const W: usize> State<B, S, W> {
     }
 
     /// Collects the wanted sets of all files after a relisting, where there is room for their nodes
-    /// and an epoch comes after this one.
+    /// and an epoch comes after this one. Only the files of the node are looked at: each other keeps
+    /// the surface that it has.
     pub(crate) fn over_wants<C: Collector<S, W>>(
         &self,
         relisting: &Relisting<W>,
@@ -157,8 +156,10 @@ impl<B: Graph<Base, W>, S: Graph<Surface, W>, const W: usize> State<B, S, W> {
     {
         self.known();
         self.files_known();
-        for file in 0..self.files.count() {
-            self.collect_file(relisting, file, collector)?;
+        let numbers = self.files_of_node(relisting.node);
+        for file in numbers {
+            collector.known();
+            self.collect_file(relisting, *file, collector)?;
         }
         collector.known();
         if self.is_spent() {

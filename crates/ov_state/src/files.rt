@@ -1,12 +1,13 @@
-//! Files by number, and by name.
+//! Files by number, by name, and by base node.
 ghost use Rattle.std.specs.Prelude.{◌≡◌, ◌<◌, ◌≤◌, ◌++◌, ◌∷◌, [], false, length, option_map};
 ghost use Rattle.std.specs.Prelude.{is_some, true, OnOk, Some, ℕ};
 ghost use Rattle.ov_base.specs.NameLists.{is_among};
 ghost use Rattle.ov_base.specs.declared.limits.TheConstants.{MAX_FILES};
 ghost use Rattle.ov_history.specs.Places.{change_at, living_at, IsNumber};
-ghost use Rattle.ov_state.specs.Entries.{filed_names, plain_file};
+ghost use Rattle.ov_state.specs.Entries.{filed_names, plain_file, AreOfNode};
 ghost use Rattle.ov_state.specs.Changes.{rewritten};
 
+use crate::by_node::{count_below, files_of_node};
 use crate::change::Rewrite;
 use indexmap::IndexMap;
 use ov_base::{Memory, Name};
@@ -25,26 +26,30 @@ pub struct FileEntry {
     pub length: u32,
 }
 
-/// The files: a file's number is its place in the list, and the names lead to numbers.
+/// The files: a file's number is its place in the list, and the names lead to numbers. So do the
+/// base nodes: the numbers of the files of a node stand side by side.
 #[derive(Drop)]
 pub(crate) struct Files {
     list: Vec<FileEntry>,
     numbers: IndexMap<Name, u32>,
+    by_node: Vec<u32>,
 }
 
 impl Model for Files {
-    ghost use Rattle.std.specs.Prelude.{◌-◌, min, vec_capacity, vec_len};
+    ghost use Rattle.std.specs.Prelude.{◌*◌, ◌-◌, min, vec_capacity, vec_len};
     ghost use Rattle.indexmap.specs.IndexMap.{spare as spare_entries};
-    ghost use Rattle.ov_state.specs.Entries.{plain_files, AreNumbered, FileList};
+    ghost use Rattle.ov_state.specs.Entries.{plain_files, AreByNode, AreNumbered, FileList};
 
     ghost Value = { FileList };
 
     ghost view = { λ f. record {
       files = plain_files f.list.items;
-      spare = min (vec_capacity f.list - vec_len f.list) (spare_entries f.numbers);
+      spare = min (vec_capacity f.list - vec_len f.list)
+          (min (spare_entries f.numbers) (vec_capacity f.by_node - vec_len f.by_node));
     } };
 
-    ghost invariant = { λ f. AreNumbered (plain_files f.list.items) f.numbers.entries };
+    ghost invariant = { λ f. AreNumbered (plain_files f.list.items) f.numbers.entries
+        × AreByNode (plain_files f.list.items) f.by_node.items };
 }
 
 impl Files {
@@ -55,6 +60,7 @@ impl Files {
         Files {
             list: Vec::new(alloc),
             numbers: IndexMap::new(alloc),
+            by_node: Vec::new(alloc),
         }
     }
 
@@ -89,6 +95,14 @@ impl Files {
         self.numbers.get(name).copied()
     }
 
+    /// The numbers of the files with this base node, ascending. No other file is looked at, but for
+    /// a few on the way to the first and to the last.
+    pub fn of_node(&self, node: u32) -> &[u32]
+        ensures { AreOfNode self.now.files node result.now }
+    {
+        files_of_node(&self.list, &self.by_node, node)
+    }
+
     /// Makes room for one more file.
     pub fn reserve(&mut self) -> Result<(), Memory>
         ensures files { self.new.files ≡ self.old.files }
@@ -96,6 +110,7 @@ impl Files {
     {
         self.list.reserve(1)?;
         self.numbers.reserve(1)?;
+        self.by_node.reserve(1)?;
         Ok(())
     }
 
@@ -107,6 +122,9 @@ impl Files {
         ensures { self.new.files ≡ self.old.files ++ Some (plain_file file) ∷ [] }
     {
         let number = self.list.len() as u32;
+        // The number is the greatest, so it goes behind all others of its base node.
+        let place = count_below(&self.list, &self.by_node, u64::from(file.node) + 1);
+        let _ = self.by_node.insert(place, number);
         let _ = self.numbers.insert(file.name.copy(), number);
         let _ = self.list.push(file);
     }

@@ -12,7 +12,7 @@ ghost use Rattle.ov_history.specs.Lists.{byte_sum, everyone};
 ghost use Rattle.ov_history.specs.Refusals.{is_last};
 ghost use Rattle.ov_history.specs.Catalogue.{matrix_shown, outline, place_of_file};
 ghost use Rattle.ov_history.specs.Sound.{IsPlaced};
-ghost use Rattle.ov_state.specs.Entries.{filed_names, plain_file};
+ghost use Rattle.ov_state.specs.Entries.{filed_names, plain_file, AreOfNode};
 
 use crate::files::FileEntry;
 use crate::state::State;
@@ -48,6 +48,13 @@ impl<B: Graph<Base, W>, S: Graph<Surface, W>, const W: usize> State<B, S, W> {
             → is_some (living_at self.now.catalogue.files file) ≡ true }
     {
         self.files.known();
+    }
+
+    /// The numbers of the files with this base node, ascending.
+    pub(crate) fn files_of_node(&self, node: u32) -> &[u32]
+        ensures { AreOfNode self.now.catalogue.files node result.now }
+    {
+        self.files.of_node(node)
     }
 
     /// Whether there is a file of this number.

@@ -4,7 +4,7 @@ use Rattle.ov_state.proofs.FilesByNumber.{length-plain}
 use Rattle.ov_state.proofs.files.Files.count.Goals as goal
 
 pub overflow_cast-result : goal.overflow_cast-result
-overflow_cast-result c = record { fits = omega (arith, c.self.invariant.1, length-plain c.self.inside.list.items) }
+overflow_cast-result c = record { fits = omega (arith, c.self.invariant.0.1, length-plain c.self.inside.list.items) }
 
 pub returns : goal.returns
 returns c =

@@ -8,4 +8,4 @@ pub returns : goal.returns
 returns c =
     subst (λ (l : FileList). IsNumber (filed_names l.files) c.args.name.now c.copied.result) c.self.view_is
     (number-found (plain_files c.self.inside.list.items) c.args.name.now c.self.inside.numbers.entries c.copied.result
-    (not_empty c.args.name.now c.as_bytes-bytes.ensures.form) c.self.invariant.0 (c.copied.ensures ∙ c.get.ensures.value))
+    (not_empty c.args.name.now c.as_bytes-bytes.ensures.form) c.self.invariant.0.0 (c.copied.ensures ∙ c.get.ensures.value))

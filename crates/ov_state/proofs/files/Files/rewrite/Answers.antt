@@ -1,10 +1,12 @@
-use Rattle.std.proofs.Common.{◌≡◌, ◌∙◌, length, ap, refl, sym, arith}
-use Rattle.std.specs.Prelude.{slice_set, option_map}
+use Rattle.std.proofs.Common.{List, ◌≡◌, ◌∙◌, length, ap, refl, sym, arith}
+use Rattle.std.specs.Prelude.{slice_set, option_map, Option}
+use Rattle.ov_history.specs.Catalogue.{Filed}
 use Rattle.ov_history.specs.Places.{change_at}
 use Rattle.ov_history.proofs.ChangeLaws.{length-change_at}
 use Rattle.ov_state.specs.Changes.{rewritten}
-use Rattle.ov_state.specs.Entries.{numbered, plain_files, FileList}
+use Rattle.ov_state.specs.Entries.{node_of, numbered, plain_files, FileList}
 use Rattle.ov_state.specs.declared.files.FileEntry.{FileEntry}
+use Rattle.ov_state.proofs.FilesByNode.{by_node-alike, node-alike}
 use Rattle.ov_state.proofs.FilesByNumber.{length-plain, numbered-alike, plain-set}
 use Rattle.ov_state.proofs.files.Files.rewrite.Goals as goal
 
@@ -25,14 +27,20 @@ set_is c =
 
 pub invariant_of-self : goal.invariant_of-self
 invariant_of-self c =
-    let change = rewritten c.args.epoch c.args.rewrite in (
-      c.self.invariant.0 ∙ sym (ap (numbered 0) (set_is c) ∙ numbered-alike 0 (plain_files c.self.inside.list.items) change c.args.rewrite.file (λ f. refl)),
-      omega (
-        arith,
-        ap length (set_is c),
-        length-change_at (option_map change) c.args.rewrite.file (plain_files c.self.inside.list.items),
-        c.self.invariant.1,
+    let change = rewritten c.args.epoch c.args.rewrite in
+    let files = plain_files c.self.inside.list.items in (
+      (
+        c.self.invariant.0.0 ∙ sym (ap (numbered 0) (set_is c) ∙ numbered-alike 0 files change c.args.rewrite.file (λ f. refl)),
+        omega (
+          arith,
+          ap length (set_is c),
+          length-change_at (option_map change) c.args.rewrite.file files,
+          c.self.invariant.0.1,
+        ),
       ),
+      by_node-alike files (plain_files (slice_set c.self.inside.list.items c.args.rewrite.file (now c))) c.self.inside.by_node.items
+          (λ file. ap (λ (fs : List (Option Filed)). node_of fs file) (set_is c) ∙ node-alike files change c.args.rewrite.file file (λ f. refl))
+          c.self.invariant.1,
     )
 
 pub returns : goal.returns

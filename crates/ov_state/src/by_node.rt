@@ -1,0 +1,35 @@
+//! The numbers of files, ordered by base node and then by number.
+ghost use Rattle.std.specs.Prelude.{◌≡◌};
+ghost use Rattle.ov_state.specs.Entries.{node_at, plain_files};
+ghost use Rattle.ov_state.specs.Entries.{AreByNode, AreOfNode, IsCountBelow};
+
+use crate::files::FileEntry;
+
+/// The base node of the file of this number, and 0 where it isn't there.
+fn node_at(list: &[FileEntry], number: u32) -> u32
+    ensures { result ≡ node_at (plain_files list.now) number }
+{
+    match list.get(number as usize) {
+        Some(file) => file.node,
+        None => 0,
+    }
+}
+
+/// How many of the numbers are of files of base nodes below this one. It is found by halves.
+pub(crate) fn count_below(list: &[FileEntry], numbers: &[u32], node: u64) -> usize
+    requires { AreByNode (plain_files list.now) numbers.now }
+    ensures { IsCountBelow (plain_files list.now) node numbers.now result }
+{
+    numbers.partition_point(|number| u64::from(node_at(list, *number)) < node)
+}
+
+/// The numbers of the files with this base node, which stand side by side.
+pub(crate) fn files_of_node<'a>(list: &[FileEntry], numbers: &'a [u32], node: u32) -> &'a [u32]
+    requires { AreByNode (plain_files list.now) numbers.now }
+    ensures { AreOfNode (plain_files list.now) node result.now }
+{
+    let node = u64::from(node);
+    let from = count_below(list, numbers, node);
+    let to = count_below(list, numbers, node + 1);
+    &numbers[from..to]
+}
