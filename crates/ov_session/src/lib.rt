@@ -41,6 +41,7 @@ mod laws;
 mod memory;
 mod one;
 mod peer;
+mod piece;
 mod putting;
 mod tcp_door;
 mod tcp_stream;
