@@ -1,4 +1,4 @@
-use Rattle.std.proofs.Common.{◌≡◌, ◌+◌, length, arith}
+use Rattle.std.proofs.Common.{arith}
 use Rattle.ov_session.specs.Links.{link}
 use Rattle.ov_session.proofs.Replying.{body_stops}
 use Rattle.ov_session.proofs.peer.take_body.Goals as goal
