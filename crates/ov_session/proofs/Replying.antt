@@ -1,20 +1,33 @@
 -- How a reply is read.
-use Rattle.std.proofs.Common.{◌≡◌, ◌∙◌, ℕ, ◌+◌, ◌<◌, ◌≤◌, ◌^◌, List, [], ◌++◌, Ok, Err, inl, inr, refl, sym, ap, subst, length, take, append-nil, arith}
+use Rattle.std.proofs.Common.{◌≡◌, ◌∙◌, ℕ, ◌+◌, ◌<◌, ◌≤◌, ◌^◌, List, [], ◌++◌, Ok, Err, inl, inr, refl, sym, subst, length, take, append-nil, arith}
 use Rattle.std.specs.Prelude.{◌⊎◌, Option, Result}
-use Rattle.std.specs.Io.KnownBytes.{Appends, Consumes, Keeps}
+use Rattle.std.specs.Io.KnownBytes.{Appends, Consumes, IsAtEnd, Keeps}
 use Rattle.std.proofs.KnownBytes.{Consumes-kept, Consumes-nil, Consumes-trans}
-use Rattle.std.proofs.lemmas.List.{length-take-le, take_all}
+use Rattle.std.proofs.lemmas.List.{length-append, length-take-le, take_all}
 use Rattle.ov_base.specs.declared.limits.TheConstants.{MAX_FRAME_BYTES}
 use Rattle.ov_base.specs.Causes.{Rose}
 use Rattle.ov_fields.specs.Spelling.{u32}
 use Rattle.ov_io.specs.declared.traits.Fault.{Fault}
+use Rattle.ov_peer.specs.Causes.{HasLinkCause}
 use Rattle.ov_peer.specs.declared.fault.PeerFault.{PeerFault}
 use Rattle.ov_peer.specs.declared.fault.PeerFault.TheVariants as faults
 use Rattle.ov_wire.specs.Frames.{IsBadLength, IsFrameLength, in_frame, framed}
 use Rattle.ov_session.specs.Links.{Link}
-use Rattle.ov_session.specs.Reading.{ExchangesOrFails, FailsReading, Fills, IsReason, Reads, TakesBody, TakesFrame}
-use Rattle.ov_session.specs.Replies.{Breaks, LinkFails}
+use Rattle.ov_session.specs.Reading.{AppendsPiece, ExchangesOrFails, FailsHolding, Fills, IsReason, LacksPiece, Reads, TakesBody, TakesFrame, TakesPiece, faults_after}
+use Rattle.ov_session.specs.Replies.{Breaks, HoldsWhatCame, LinkFails}
 use Rattle.ov_session.specs.Steps.{PutsFrame}
+
+-- what is no longer than a list is no longer than one that ends with it
+behind : (front xs : List ℕ) (n : ℕ) → n ≤ length xs → n ≤ length (front ++ xs)
+behind front xs n le =
+    let long : length (front ++ xs) ≡ length front + length xs = length-append front xs in
+    omega (arith, long, le)
+
+-- a list is no longer than one that begins with it
+before_it : (xs more : List ℕ) → length xs ≤ length (xs ++ more)
+before_it xs more =
+    let long : length (xs ++ more) ≡ length xs + length more = length-append xs more in
+    omega (arith, long)
 
 reads_on : (a b c : Link) (xs ys : List ℕ) → Reads a b xs → Reads b c ys → Reads a c (xs ++ ys)
 reads_on a b c xs ys one two = record {
@@ -49,21 +62,6 @@ pub bad_length : (n : ℕ) → n < 2 ^ 32 → (n ≡ 0) ⊎ (MAX_FRAME_BYTES < n
 bad_length n field outside =
     record { n = n; more = []; field = field; outside = outside; begins = sym (append-nil (u32 n)) }
 
--- the input ended inside the frame behind a length field
-pub cut_short : (old new : Link) (wanted count : ℕ) (buf : List ℕ) → IsFrameLength wanted
-    → length buf ≡ wanted → count < wanted → Fills old new buf count
-    → FailsReading old new (u32 wanted)
-cut_short old new wanted count buf fits whole short f =
-    let len : length (take count buf) ≡ count = length-take-le count buf f.within in
-    record {
-      taken = take count buf;
-      reads = f.reads;
-      reason = inr (inl (
-        in_frame wanted (take count buf) fits refl (omega (arith, len, short)),
-        f.ends (omega (arith, whole, short)),
-      ));
-    }
-
 -- what was read before counts too
 reason_before : (old mid new : Link) (taken : List ℕ) → old.read_faults ≤ mid.read_faults
     → IsReason mid new taken → IsReason old new taken
@@ -71,13 +69,69 @@ reason_before old mid new taken le (inl rose) =
     inl (omega (arith, le, rose))
 reason_before old mid new taken le (inr other) = inr other
 
-fails_after : (old mid new : Link) (front : List ℕ) → Reads old mid front
-    → FailsReading mid new front → FailsReading old new []
-fails_after old mid new front first f = record {
-  taken = front ++ f.taken;
-  reads = reads_on old mid new front f.taken first f.reads;
-  reason = reason_before old mid new (front ++ f.taken) first.later f.reason;
+fails_after : (old mid new : Link) (front reply : List ℕ) → Reads old mid front
+    → FailsHolding mid new front reply → FailsHolding old new [] reply
+fails_after old mid new front reply first f = record {
+  fails = record {
+    taken = front ++ f.fails.taken;
+    reads = reads_on old mid new front f.fails.taken first f.fails.reads;
+    reason = reason_before old mid new (front ++ f.fails.taken) first.later f.fails.reason;
+  };
+  few = behind front f.fails.taken (length reply) f.few;
 }
+
+-- ---- the pieces of a body
+
+-- the input ended inside a piece
+pub lacks_some : (old new : Link) (left count : ℕ) (buf : List ℕ) → length buf ≤ left
+    → count < length buf → Fills old new buf count → LacksPiece old new left
+lacks_some old new left count buf fits short f =
+    let len : length (take count buf) ≡ count = length-take-le count buf f.within in
+    record {
+      taken = take count buf;
+      reads = f.reads;
+      reason = inr (omega (arith, len, fits, short), f.ends short);
+    }
+
+-- a piece behind what was taken
+pub piece_read : (old mid new : Link) (left : ℕ) (front after : List ℕ) → Reads old mid front
+    → AppendsPiece mid new left front after → Reads old new after
+piece_read old mid new left front after first a =
+    subst (Reads old new) (sym a.appended) (reads_on old mid new front a.piece first a.reads)
+
+-- no more of a body came than is before its end
+cut_short : (old mid new : Link) (wanted left : ℕ) (front more : List ℕ) → IsFrameLength wanted
+    → length front + left ≡ wanted → old.read_faults ≤ mid.read_faults
+    → Rose mid.read_faults new.read_faults ⊎ ((length more < left) × IsAtEnd new.left)
+    → IsReason old new (u32 wanted ++ (front ++ more))
+cut_short old mid new wanted left front more fits whole le (inl rose) =
+    inl (omega (arith, le, rose))
+cut_short old mid new wanted left front more fits whole le (inr (short, at_end)) =
+    let long : length (front ++ more) ≡ length front + length more = length-append front more in
+    inr (inl (in_frame wanted (front ++ more) fits refl (omega (arith, long, short, whole)), at_end))
+
+-- a body's next piece didn't come, or memory for it was refused, and what is kept came before
+pub body_stops : (old mid new : Link) (wanted left : ℕ) (front reply : List ℕ) (fault : PeerFault)
+    → IsFrameLength wanted → length front + left ≡ wanted → Reads old mid front
+    → TakesPiece mid new left front reply (Err fault) → TakesBody old new wanted reply (Err fault)
+body_stops old mid new wanted left front reply faults.Link fits whole first (lacks, kept) = record {
+  fails = record {
+    taken = front ++ lacks.taken;
+    reads = reads_on old mid new front lacks.taken first lacks.reads;
+    reason = cut_short old mid new wanted left front lacks.taken fits whole first.later lacks.reason;
+  };
+  few = subst (λ (r : List ℕ). length r ≤ length (front ++ lacks.taken)) (sym kept)
+      (before_it front lacks.taken);
+}
+body_stops old mid new wanted left front reply faults.Memory fits whole first (taken, more, kept) =
+    record {
+      taken = front ++ taken;
+      reads = reads_on old mid new front taken first more;
+      few = subst (λ (r : List ℕ). length r ≤ length (front ++ taken)) (sym kept)
+          (before_it front taken);
+    }
+
+-- ---- a frame
 
 -- a frame is its length field and what is behind it
 pub frame_behind : (old mid new : Link) (wanted : ℕ) (reply : List ℕ)
@@ -90,9 +144,12 @@ frame_behind old mid new wanted reply (Ok done) fits first (whole, body) = (
       (reads_on old mid new (u32 wanted) reply first body),
 )
 frame_behind old mid new wanted reply (Err faults.Link) fits first fails =
-    fails_after old mid new (u32 wanted) first fails
-frame_behind old mid new wanted reply (Err faults.Memory) fits first same =
-    (u32 wanted, subst (λ (l : Link). Reads old l (u32 wanted)) (sym same) first)
+    fails_after old mid new (u32 wanted) reply first fails
+frame_behind old mid new wanted reply (Err faults.Memory) fits first held = record {
+  taken = u32 wanted ++ held.taken;
+  reads = reads_on old mid new (u32 wanted) held.taken first held.reads;
+  few = behind (u32 wanted) held.taken (length reply) held.few;
+}
 
 -- ---- a request and its reply
 
@@ -128,6 +185,10 @@ module _ (old mid new : Link) (request : List ℕ)
   why taken reads (inr (inr bad)) =
       inr (inr (record { field = taken; read = took taken reads; bad = bad }))
 
+  holds : (reply taken : List ℕ) → Reads mid new taken → length reply ≤ length taken
+      → HoldsWhatCame old new reply
+  holds reply taken reads few = record { taken = taken; read = took taken reads; few = few }
+
   pub exchanged : (reply : List ℕ) (result : Result (Unit {0}) PeerFault)
       → TakesFrame mid new reply result → ExchangesOrFails old new request reply result
   exchanged reply (Ok done) (is, reads) = (
@@ -137,5 +198,18 @@ module _ (old mid new : Link) (request : List ℕ)
       read = took (framed reply) reads;
     },
   )
-  exchanged reply (Err faults.Link) f = (breaks f.taken f.reads, why f.taken f.reads f.reason)
-  exchanged reply (Err faults.Memory) (taken, reads) = breaks taken reads
+  exchanged reply (Err faults.Link) f = (
+    breaks f.fails.taken f.fails.reads,
+    why f.fails.taken f.fails.reads f.fails.reason,
+    holds reply f.fails.taken f.fails.reads f.few,
+  )
+  exchanged reply (Err faults.Memory) held =
+      (breaks held.taken held.reads, holds reply held.taken held.reads held.few)
+
+-- ---- a peer that is lost
+
+-- the count of a peer that is lost rises for a fault of the link
+pub counts_loss : (before now : ℕ) (fault : PeerFault) → now ≡ faults_after before fault
+    → before ≤ now → HasLinkCause {T = Unit {0}} before now (Err fault)
+counts_loss before now faults.Link counted le = record { later = le; failed = omega (arith, counted) }
+counts_loss before now faults.Memory counted le = record { later = le; failed = tt }

@@ -8,8 +8,12 @@
 //!
 //! No memory is taken between an answer and its writing, so an answer that was given is sent or
 //! the session ends. Where memory is refused as a session reads on, it ends, and what was taken and
-//! not asked is at most an unfinished frame and one piece behind it. A [`NetPeer`] takes no byte
-//! past the reply that it waits for, so nothing that comes early is lost.
+//! not asked is at most an unfinished frame and one piece behind it.
+//!
+//! A [`NetPeer`] takes no byte past the reply that it waits for, so nothing that comes early is
+//! lost. After the first ask without a reply it answers each further one with the same fault and
+//! leaves its stream alone, so that no reply which comes late is taken for another's. A length that
+//! was only announced takes no memory: the buffer of a reply grows by what came.
 //!
 //! * [`MemDoor`] is a door in memory: it gives the streams that it was made with, keeps what
 //!   comes back, and fails at the calls that it is told to.
@@ -26,7 +30,7 @@
 //! | `Alone` | what one answer of an answerer does |
 //! | `Doors` | what a door shows, and what each call does to it |
 //! | `Serving` | sessions one after the other |
-//! | `Replies` | what a peer behind a stream tells, and why it fails |
+//! | `Replies` | what a peer behind a stream tells, why it fails, and how it is lost |
 //! | `Memory` | a door in memory |
 //! | `Laws` | the same bytes end a session in the same way ([`inputs_end_one_way`]) |
 #![tactic(auto)]
@@ -41,6 +45,7 @@ mod laws;
 mod memory;
 mod one;
 mod peer;
+mod piece;
 mod putting;
 mod tcp_door;
 mod tcp_stream;

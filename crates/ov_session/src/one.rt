@@ -6,6 +6,7 @@ ghost use Rattle.ov_session.specs.Ends.{Serves};
 ghost use Rattle.ov_session.specs.Links.{IsLater, IsSameLoan, Link, link};
 ghost use Rattle.ov_session.specs.Steps.{AnswersFrame, AnswersFrames, Going, SessionGoesOn, IsEndOf, IsWriting, end_of, go_on};
 
+use crate::piece::PIECE;
 use crate::putting::put_frame;
 use crate::{Asker, Gate, SessionEnd};
 use ov_base::{Memory, Octets};
@@ -14,9 +15,6 @@ use ov_peer::AskFault;
 use ov_wire::{Decoder, FeedFault, kinds};
 use std::alloc::Global;
 use std::sync::Wait;
-
-/// How many bytes are taken at once, at most.
-const PIECE: usize = 8_192;
 
 /// The frame that says that there was no memory for an answer.
 const NO_MEMORY: [u8; 1] = [kinds::NO_MEMORY];

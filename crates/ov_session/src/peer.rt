@@ -1,12 +1,13 @@
 //! A peer behind a stream.
-ghost use Rattle.std.specs.Prelude.{◌≡◌, ◌<◌, ◌^◌, length, false, IfOk, OnErr, OnOk};
+ghost use Rattle.std.specs.Prelude.{◌≡◌, ◌≢◌, ◌<◌, ◌≤◌, ◌^◌, [], length, false, Some, None, IfOk, OnErr, OnOk};
 ghost use Rattle.ov_fields.specs.Spelling.{u32};
 ghost use Rattle.ov_wire.specs.Frames.{IsFrame, IsFrameLength};
 ghost use Rattle.ov_peer.specs.Causes.{HasLinkCause};
 ghost use Rattle.ov_session.specs.Links.{IsSameLoan, link};
-ghost use Rattle.ov_session.specs.Reading.{ExchangesOrFails, FillsUp, TakesBody, TakesFrame, TakesLength};
-ghost use Rattle.ov_session.specs.Replies.{Breaks, CountsFault, Exchanges};
+ghost use Rattle.ov_session.specs.Reading.{ExchangesOrFails, FillsUp, TakesBody, TakesFrame, TakesLength, TakesPiece, faults_after};
+ghost use Rattle.ov_session.specs.Replies.{Breaks, CountsFault, Exchanges, HoldsWhatCame, Loses};
 
+use crate::piece::PIECE;
 use crate::putting::put_frame;
 use ov_base::Memory;
 use ov_base::limits::MAX_FRAME_BYTES;
@@ -14,12 +15,14 @@ use ov_io::{Fault, Stream, fill};
 use ov_peer::{Peer, PeerFault};
 
 /// A server behind a stream: each request is written to it, and the next frame that comes is the
-/// reply. It tells no history.
+/// reply. After the first ask without a reply it is lost: it answers each further ask with that
+/// fault, and neither writes nor reads. It tells no history.
 #[derive(Drop)]
 pub struct NetPeer<L> {
     link: L,
-    // A reply that memory was refused for may still come, and must not be taken for another's.
-    stale: bool,
+    // The fault of the first ask that had no reply. That reply may still come, and must not be
+    // taken for another's.
+    lost: Option<PeerFault>,
     faults: u64,
 }
 
@@ -27,11 +30,11 @@ impl<L: Stream + Drop> NetPeer<L> {
     /// A peer behind this stream, which has asked nothing yet.
     pub fn new(link: L) -> Result<NetPeer<L>, Memory>
         ensures { IfOk result (λ peer.
-            peer ≡ record { link = link; stale = false; faults = 0 }) }
+            peer ≡ record { link = link; lost = None; faults = 0 }) }
     {
         Ok(NetPeer {
             link,
-            stale: false,
+            lost: None,
             faults: 0,
         })
     }
@@ -48,6 +51,20 @@ impl<L: Stream + Drop> NetPeer<L> {
         ensures { result ≡ self.link }
     {
         self.link
+    }
+
+    // Loses the peer by this fault, which counts where it's the link's.
+    fn lose(&mut self, fault: PeerFault)
+        ensures link { self.new.link ≡ self.old.link }
+        ensures lost { self.new.lost ≡ Some fault }
+        ensures counted { self.new.faults ≡ faults_after self.old.faults fault }
+        ensures later { self.old.faults ≤ self.new.faults }
+    {
+        self.lost = Some(fault);
+        match fault {
+            PeerFault::Link => self.faults = self.faults.saturating_add(1),
+            PeerFault::Memory => {}
+        }
     }
 }
 
@@ -96,32 +113,52 @@ fn take_length<L: Stream>(stream: &mut L) -> Result<usize, Fault>
     Ok(wanted)
 }
 
-/// Reads the frame behind a length field into `reply`, which loses what it had.
+/// Reads the next piece of a body of which so many bytes are still to come, and appends it to
+/// `reply`.
+fn take_piece<L: Stream>(stream: &mut L, left: usize, reply: &mut Vec<u8>) -> Result<(), PeerFault>
+    requires { 0 < left }
+    ensures takes { TakesPiece
+        (link L.Source.tells L.Sink.tells stream.old) (link L.Source.tells L.Sink.tells stream.new)
+        left reply.old.items reply.new.items result }
+    ensures same { IsSameLoan L.Source.tells L.Sink.tells stream.old stream.new }
+{
+    let mut room = [0; PIECE];
+    let (piece, _) = room.split_at_mut(left.min(PIECE));
+    match take_into(stream, piece) {
+        Ok(count) => {
+            if count < piece.len() {
+                return Err(PeerFault::Link);
+            }
+        }
+        Err(Fault) => return Err(PeerFault::Link),
+    }
+    match reply.extend_from_slice(piece) {
+        Ok(()) => Ok(()),
+        Err(_) => Err(PeerFault::Memory),
+    }
+}
+
+/// Reads the frame behind a length field into `reply`, which grows only by what has come.
 fn take_body<L: Stream>(stream: &mut L, wanted: usize, reply: &mut Vec<u8>) -> Result<(), PeerFault>
-    requires { IsFrameLength wanted }
+    requires length { IsFrameLength wanted }
+    requires empty { reply.old.items ≡ [] }
     ensures takes { TakesBody
         (link L.Source.tells L.Sink.tells stream.old) (link L.Source.tells L.Sink.tells stream.new)
         wanted reply.new.items result }
     ensures same { IsSameLoan L.Source.tells L.Sink.tells stream.old stream.new }
 {
-    reply.clear();
-    match reply.resize(wanted, 0) {
-        Ok(()) => {}
-        Err(_) => return Err(PeerFault::Memory),
-    }
-    match take_into(stream, reply.as_mut_slice()) {
-        Ok(count) => {
-            if count < wanted {
-                return Err(PeerFault::Link);
-            }
-            Ok(())
+    'pieces: while reply.len() < wanted {
+        match take_piece(stream, wanted - reply.len(), reply) {
+            Ok(()) => {}
+            Err(fault) => return Err(fault),
         }
-        Err(Fault) => Err(PeerFault::Link),
     }
+    Ok(())
 }
 
-/// Reads the next frame into `reply`, which loses what it had.
+/// Reads the next frame into `reply`.
 fn take_frame<L: Stream>(stream: &mut L, reply: &mut Vec<u8>) -> Result<(), PeerFault>
+    requires empty { reply.old.items ≡ [] }
     ensures takes { TakesFrame
         (link L.Source.tells L.Sink.tells stream.old) (link L.Source.tells L.Sink.tells stream.new)
         reply.new.items result }
@@ -133,9 +170,10 @@ fn take_frame<L: Stream>(stream: &mut L, reply: &mut Vec<u8>) -> Result<(), Peer
     }
 }
 
-/// Writes a request, and reads the next frame.
+/// Writes a request, and reads the next frame into `reply`.
 fn exchange<L: Stream>(stream: &mut L, request: &[u8], reply: &mut Vec<u8>) -> Result<(), PeerFault>
-    requires { IsFrame request.now }
+    requires request { IsFrame request.now }
+    requires empty { reply.old.items ≡ [] }
     ensures exchanges { ExchangesOrFails
         (link L.Source.tells L.Sink.tells stream.old) (link L.Source.tells L.Sink.tells stream.new)
         request.now reply.new.items result }
@@ -149,9 +187,11 @@ fn exchange<L: Stream>(stream: &mut L, request: &[u8], reply: &mut Vec<u8>) -> R
 
 impl<L: Stream + Drop> Peer for NetPeer<L> {
     ghost tells = { record {
-      asked = λ p request reply q. Exchanges (link L.Source.tells L.Sink.tells p.link)
+      asked = λ p request reply q. (p.lost ≡ None)
+          × Exchanges (link L.Source.tells L.Sink.tells p.link)
           (link L.Source.tells L.Sink.tells q.link) request reply;
-      failed = λ p request q. Breaks (link L.Source.tells L.Sink.tells p.link)
+      failed = λ p request q. (q.lost ≢ None)
+          × Breaks (link L.Source.tells L.Sink.tells p.link)
           (link L.Source.tells L.Sink.tells q.link) request;
       serves = λ p v. ⊥;
       faults = λ p. p.faults;
@@ -162,33 +202,34 @@ impl<L: Stream + Drop> Peer for NetPeer<L> {
 
     fn ask(&mut self, request: &[u8], reply: &mut Vec<u8>) -> Result<(), PeerFault>
         requires { IsFrame request.now }
-        ensures asked { OnOk result (Exchanges
-            (link L.Source.tells L.Sink.tells self.old.link)
-            (link L.Source.tells L.Sink.tells self.new.link)
-            request.now reply.new.items) }
-        ensures failed { OnErr result (Breaks
-            (link L.Source.tells L.Sink.tells self.old.link)
-            (link L.Source.tells L.Sink.tells self.new.link)
-            request.now) }
+        ensures asked { OnOk result ((self.old.lost ≡ None)
+            × Exchanges (link L.Source.tells L.Sink.tells self.old.link)
+            (link L.Source.tells L.Sink.tells self.new.link) request.now reply.new.items) }
+        ensures failed { OnErr result ((self.new.lost ≢ None)
+            × Breaks (link L.Source.tells L.Sink.tells self.old.link)
+            (link L.Source.tells L.Sink.tells self.new.link) request.now) }
         ensures frame { OnOk result (IsFrame reply.new.items) }
         ensures same { L.Source.tells.borrow self.new.link ≡ L.Source.tells.borrow self.old.link }
         ensures cause { HasLinkCause self.old.faults self.new.faults result }
-        ensures counts { CountsFault self.old.faults self.new.faults
+        ensures counts { CountsFault self.old.lost self.old.faults self.new.faults
             (link L.Source.tells L.Sink.tells self.old.link)
             (link L.Source.tells L.Sink.tells self.new.link) }
+        ensures loses { Loses self.old.lost self.new.lost self.old.link self.new.link result }
+        ensures holds { OnErr result (HoldsWhatCame
+            (link L.Source.tells L.Sink.tells self.old.link)
+            (link L.Source.tells L.Sink.tells self.new.link)
+            reply.new.items) }
     {
-        if self.stale {
-            return Err(PeerFault::Memory);
+        reply.clear();
+        if let Some(fault) = self.lost {
+            self.lose(fault);
+            return Err(fault);
         }
         match exchange(&mut self.link, request, reply) {
             Ok(()) => Ok(()),
-            Err(PeerFault::Link) => {
-                self.faults = self.faults.saturating_add(1);
-                Err(PeerFault::Link)
-            }
-            Err(PeerFault::Memory) => {
-                self.stale = true;
-                Err(PeerFault::Memory)
+            Err(fault) => {
+                self.lose(fault);
+                Err(fault)
             }
         }
     }
