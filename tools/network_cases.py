@@ -1,11 +1,11 @@
 """Runs the server over real sockets: sessions that are right and others that break in every way, every exit
 status with its line on standard error, what it says of files, folders, addresses and modes that can't be meant,
 and a kill between two sessions. With the client program besides it has that enrol a user, create a file and
-read it.
+read it. With `--slow` it also waits for five minutes, until a client that says nothing is cut off.
 
 Run, after `rt run` has built the programs, at the top of the repository:
 
-    python3 tools/network_cases.py crates/overstored/out/overstored [crates/overctl/out/overctl]
+    python3 tools/network_cases.py crates/overstored/out/overstored [crates/overctl/out/overctl] [--slow]
 """
 import os
 import pathlib
@@ -22,8 +22,10 @@ import time
 
 from common import KEYS, framed, keyed, new_folder
 
-SERVER = str(pathlib.Path(sys.argv[1]).resolve())
-CLIENT = str(pathlib.Path(sys.argv[2]).resolve()) if len(sys.argv) > 2 else None
+WORDS = [word for word in sys.argv[1:] if word != "--slow"]
+SLOW = "--slow" in sys.argv
+SERVER = str(pathlib.Path(WORDS[0]).resolve())
+CLIENT = str(pathlib.Path(WORDS[1]).resolve()) if len(WORDS) > 1 else None
 BASE_MASTER, SURFACE = (bytes.fromhex(line) for line in KEYS.read_text().split())
 SECONDS = 60
 
@@ -418,6 +420,33 @@ def memory_that_is_refused():
     assert (process.returncode, out) == (0, b"served 2\n"), (process.returncode, out)
 
 
+def no_descriptor_is_free():
+    """A connection for which the server has no descriptor waits, and is answered once there is one."""
+    server = Server(new_folder(), 1)
+    pid = server.process.pid
+    most = 1 + max(int(entry) for entry in os.listdir(f"/proc/{pid}/fd"))
+    _, hard = resource.prlimit(pid, resource.RLIMIT_NOFILE)
+    resource.prlimit(pid, resource.RLIMIT_NOFILE, (most, hard))
+    with server.connect() as stream:
+        stream.sendall(framed(HELLO))
+        time.sleep(1.5)
+        resource.prlimit(pid, resource.RLIMIT_NOFILE, (hard, hard))
+        assert reply(stream) == welcome(0)
+    told = server.end(1)
+    assert told and all(line.startswith("overstored: warning: can't accept, trying again") for line in told), told
+
+
+def a_silent_client():
+    """A client that says nothing for five minutes is cut off, and then the next one is answered."""
+    server = Server(new_folder(), 2)
+    began = time.monotonic()
+    with server.connect(), socket.create_connection(("127.0.0.1", server.port), timeout=400) as stream:
+        assert ask(stream, HELLO) == welcome(0)
+        assert 299 < time.monotonic() - began < 310
+    told = server.end(2)
+    assert len(told) == 1 and "session 0 with" in told[0], told
+
+
 # ---- with the client program
 
 
@@ -493,10 +522,12 @@ CASES = [
     stores_of_others,
     keys_that_are_passed_over,
     memory_that_is_refused,
+    no_descriptor_is_free,
 ]
 
 if __name__ == "__main__":
-    for case in CASES + ([a_file_over_the_network, a_write_that_fails, a_base_master_that_is_shown] if CLIENT else []):
+    with_client = [a_file_over_the_network, a_write_that_fails, a_base_master_that_is_shown]
+    for case in CASES + (with_client if CLIENT else []) + ([a_silent_client] if SLOW else []):
         began = time.monotonic()
         case()
         print("%-28s %5.1f s" % (case.__name__, time.monotonic() - began), flush=True)

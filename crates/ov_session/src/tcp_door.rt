@@ -10,6 +10,12 @@ use ov_io::{Fault, StdStream};
 use std::io;
 use std::io::ErrorKind;
 use std::net::{Net, OpenListener, OpenStream, SocketAddr, TcpListener};
+use std::time::Duration;
+
+/// After how many seconds a stream fails whose client sends nothing that is waited for, or takes
+/// nothing that is sent. A session holds the server, so a client that stays silent would hold up all
+/// others. Five minutes are longer than any pause that a client makes between two requests.
+pub const SILENCE_SECONDS: u64 = 300;
 
 /// How many connections that broke before they were accepted are passed over in one call.
 const MOST_BROKEN: u32 = 100;
@@ -36,7 +42,34 @@ pub struct TcpDoor<R: Net + AllocGlobal + Drop> {
 
 // Whether a connection broke while it waited, which says nothing of the next one.
 fn is_broken(kind: ErrorKind) -> bool {
-    kind == ErrorKind::ConnectionAborted || kind == ErrorKind::Interrupted
+    matches!(
+        kind,
+        ErrorKind::ConnectionAborted | ErrorKind::ConnectionReset | ErrorKind::Interrupted
+    )
+}
+
+// Each small frame is sent at once, and a client that stays silent is a fault of the stream.
+fn set_up<S: OpenStream>(stream: &S) -> io::Result<()> {
+    let silence = Some(Duration::from_secs(SILENCE_SECONDS));
+    stream.set_nodelay(true)?;
+    stream.set_read_timeout(silence)?;
+    stream.set_write_timeout(silence)
+}
+
+// The listener's next connection, and whose it is; none where it broke.
+fn accepted<R: Net>(listener: &R::Listener) -> io::Result<Option<(R::Stream, SocketAddr)>> {
+    match listener.accept() {
+        Ok((stream, client)) => match set_up(&stream) {
+            Ok(()) => Ok(Some((stream, client))),
+            Err(_) => Ok(None),
+        },
+        Err(error) => {
+            if is_broken(error.kind()) {
+                return Ok(None);
+            }
+            Err(error)
+        }
+    }
 }
 
 impl<R: Net + AllocGlobal + Drop> TcpDoor<R> {
@@ -82,22 +115,14 @@ impl<R: Net + AllocGlobal + Drop> TcpDoor<R> {
         Ok(())
     }
 
-    // The next connection, and whose it is. Each small frame is sent at once.
+    // The next connection, and whose it is. One that broke is passed over.
     fn next(&self) -> io::Result<(R::Stream, SocketAddr)> {
         let Some(Listening { listener, .. }) = &self.listening else {
             return Err(io::Error::from(ErrorKind::NotConnected));
         };
         for _ in 0..MOST_BROKEN {
-            match listener.accept() {
-                Ok((stream, client)) => {
-                    stream.set_nodelay(true)?;
-                    return Ok((stream, client));
-                }
-                Err(error) => {
-                    if !is_broken(error.kind()) {
-                        return Err(error);
-                    }
-                }
+            if let Some(next) = accepted::<R>(listener)? {
+                return Ok(next);
             }
         }
         Err(io::Error::from(ErrorKind::ConnectionAborted))

@@ -15,12 +15,20 @@ use std::cell::Cell;
 use std::fmt;
 use std::fmt::{Display, Formatter, Write};
 use std::net::{Net, SocketAddr};
-use std::time::Clock;
+use std::thread;
+use std::time::{Clock, Duration};
+
+// How often in a row a connection is asked for where none can be had, as where no descriptor is free.
+const MOST_TRIES: u32 = 60;
+
+// The pause between two of these tries, in seconds.
+const PAUSE_SECONDS: u64 = 1;
 
 /// A door over another, which gives the streams of that one, and takes them back itself. It says
-/// how each session ended that didn't end between two frames, and lets its stream go. Where it keeps
-/// a log, that has each update that was accepted and the end of each session. It counts for itself,
-/// tells where the door in it listens, and nothing of the streams.
+/// how each session ended that didn't end between two frames, and lets its stream go. Where that door
+/// fails to give one it says so, and asks again after a pause. Where it keeps a log, that has each
+/// update that was accepted and the end of each session. It counts for itself, tells where the door in
+/// it listens, and nothing of the streams.
 #[derive(Drop)]
 pub struct SpokenDoor<'a, N: Net + AllocGlobal + Drop, R> {
     pub door: TcpDoor<N>,
@@ -76,6 +84,26 @@ impl<'a, N: Net + AllocGlobal + Drop, R> SpokenDoor<'a, N, R> {
     {
         self.faults = self.faults.saturating_add(1);
         Fault
+    }
+}
+
+impl<N: Net + AllocGlobal + Drop, R: Eprint + Clock> SpokenDoor<'_, N, R> {
+    // The next stream of the door in this one. Where none can be had it is asked again after a pause.
+    fn next(&mut self) -> Result<Option<StdStream<N::Stream>>, Fault>
+        ensures given { self.new.given ≡ self.old.given }
+        ensures closed { self.new.closed ≡ self.old.closed }
+        ensures faults { self.new.faults ≡ self.old.faults }
+        ensures listens { option_map (λ l. socket_text l.bound) self.new.door.listening
+            ≡ option_map (λ l. socket_text l.bound) self.old.door.listening }
+    {
+        for _ in 1..MOST_TRIES {
+            if let Ok(next) = self.door.accept() {
+                return Ok(next);
+            }
+            told::no_connection(&self.rt, self.door.reason());
+            thread::sleep(&self.rt, Duration::from_secs(PAUSE_SECONDS));
+        }
+        self.door.accept()
     }
 }
 
@@ -140,7 +168,7 @@ impl<N: Net + AllocGlobal + Drop, R: Eprint + Clock + AllocGlobal + Copy + Drop>
         if self.given == u64::MAX {
             return Err(self.fail());
         }
-        match self.door.accept() {
+        match self.next() {
             Ok(Some(stream)) => {
                 self.given += 1;
                 let log = self.logs.then(|| Log::new(self.rt, self.door.client()));

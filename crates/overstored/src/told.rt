@@ -50,6 +50,18 @@ pub fn no_memory(rt: &HostRuntime) {
     advise(rt, NO_ROOM.1);
 }
 
+/// Says that no connection could be accepted, and that another try comes.
+pub fn no_connection<R: Eprint>(rt: &R, why: Option<ErrorKind>) {
+    match why {
+        Some(why) => {
+            let _ = eprintln!(rt; "overstored: warning: can't accept, trying again: {why}");
+        }
+        None => {
+            let _ = eprintln!(rt; "overstored: warning: can't accept, trying again");
+        }
+    }
+}
+
 /// Says that standard output can't be written.
 pub fn no_line(rt: &HostRuntime) {
     say(rt, NO_LINE.0);
