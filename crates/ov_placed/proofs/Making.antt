@@ -174,10 +174,10 @@ module _ {W : ℕ} (limit : ℕ) (master : List ℕ) (store : PlacedStore) (p : 
     pub keeps_still : (i : Image) → KeepsOrGoesOn limit master store p i i
     keeps_still i k h g u surface may = (inl may.keeps, refl)
 
-    pub lasts_more : {D : Type 0} (tells : DiskTells D) (firsts : List ℕ) (disk : D) (i : Image)
-        → UpdateLasts tells master (asked_of store p) firsts disk i
-        → LastsMore tells limit master store p firsts disk i
-    lasts_more tells firsts disk i made = record {
+    pub lasts_more : {D : Type 0} (tells : DiskTells D) (moves : List Move) (disk : D) (i : Image)
+        → UpdateLasts tells master (asked_of store p) moves disk i
+        → LastsMore tells limit master store p moves disk i
+    lasts_more tells moves disk i made = record {
       now = made.now;
       is_read = made.is_read;
       only = made.only;
@@ -185,4 +185,5 @@ module _ {W : ℕ} (limit : ℕ) (master : List ℕ) (store : PlacedStore) (p : 
           made.keeps k h g u
           (can_go limit master store u p (under k u surface may.prepared_is) holds apart k h g i
           surface may.replayed may.keeps);
+      grows = made.grows;
     }

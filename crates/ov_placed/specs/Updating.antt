@@ -13,9 +13,13 @@ use Rattle.ov_history.specs.Sealed.{SealedHistory, with_sealed}
 use Rattle.ov_images.specs.Extents.{stored_in}
 use Rattle.ov_images.specs.Images.{KeepsAt, Keys}
 use Rattle.ov_images.specs.Laws.{placed_as}
+use Rattle.ov_moves.specs.Moves.{GrowsIntoMoves}
+use Rattle.ov_moves.specs.Placing.{GoToFree}
+use Rattle.ov_moves.specs.declared.moves.Move.{Move}
 use Rattle.ov_state.specs.Changes.{applied}
 use Rattle.ov_state.specs.Entries.{plain_rewrites}
 use Rattle.ov_state.specs.Plans.{IsChange, IsWithinLimits}
+use Rattle.ov_updating.specs.Files.{files_of, firsts_of}
 use Rattle.ov_updating.specs.Updating.{Asked, KeepsAtOrMore, asked}
 use Rattle.ov_placed.specs.Contents.{PlacedStore}
 use Rattle.ov_placed.specs.declared.preparing.Prepared.{Prepared}
@@ -61,29 +65,36 @@ KeepsOrGoesOn limit master store prepared i c =
     → KeepsAtOrMore k p g u c × (stored_in k.surface p c.blobs ≡ stored_in k.surface p i.blobs)
 
 -- A crash leaves one image alone, which the disk reads. Whatever history the older image kept, it
--- keeps that with the update, which has these first blocks.
+-- keeps that with the update, whose files have gone there, and its Blobs has grown into their new
+-- extents alone.
 pub record LastsMore {W : ℕ} {D : Type 0} (tells : DiskTells D) (limit : ℕ) (master : List ℕ)
-    (store : PlacedStore) (prepared : Prepared W) (firsts : List ℕ) (disk : D) (i : Image)
+    (store : PlacedStore) (prepared : Prepared W) (moves : List Move) (disk : D) (i : Image)
     : Type 0 where
   pub now : Image
   pub is_read : tells.reads disk ≡ Some now
   pub only : Only now (tells.may_leave disk)
   pub keeps : (k : Keys) (p : PlacedHistory) (g : SealedHistory) (u : SealedUpdate)
       → k.surface ≡ master → MayGoOn limit store prepared k p g u i
-      → KeepsAt k (with_placed p (placed_as u firsts)) (with_sealed g u) now
+      → KeepsAt k (with_placed p (placed_as u (firsts_of moves))) (with_sealed g u) now
+  pub grows : GrowsIntoMoves moves i.blobs now.blobs
 
--- The update is made, with some first blocks: here, and on the disk, where it lasts.
+-- The update is made, with some first blocks: here, and on the disk, where it lasts. Each of its
+-- files has gone into the lowest run of free blocks.
 pub record MakesUpdate {W : ℕ} {D : Type 0} (tells : DiskTells D) (limit : ℕ) (master : List ℕ)
     (old : PlacedStore) (prepared : Prepared W) (before after : D) (new : PlacedStore) : Type 0
   where
+    pub moves : List Move
+    pub go : GoToFree (files_of old.placed (plain_rewrites prepared.change.rewrites.items))
+        old.held moves
     pub firsts : List ℕ
+    pub firsts_are : firsts ≡ firsts_of moves
     pub many : (u : SealedUpdate) → IsPrepared limit master old.catalogue u prepared
         → HasFirsts old.catalogue (placed_as u firsts)
     pub catalogue : new.catalogue ≡ applied old.catalogue prepared.change
     pub placed : (u : SealedUpdate) → IsPrepared limit master old.catalogue u prepared
         → new.placed ≡ placed_after old.catalogue (placed_as u firsts) old.placed
     pub lasts : Told (tells.reads before)
-        (LastsMore tells limit master old prepared firsts after)
+        (LastsMore tells limit master old prepared moves after)
 
 -- the journal has one record more, or the same, where the update isn't made
 abbrev pub HasLogAfter : {T E : Type 0} → Result T E → Log → Log → Type 0

@@ -170,12 +170,13 @@ keeps_yet master a i k p g u can = (inl can.keeps, refl)
 pub lasts : {D : Type 0} (tells : DiskTells D) (master : List ℕ) (a : Asked) (disk : D) (i : Image) (moves : List Move)
     → GoToFree (files_of a.placed a.rewrites) a.held moves
     → LastsWith tells (recoated master a.rewrites) a.text (body_with a.front moves) a.held moves disk i
-    → UpdateLasts tells master a (firsts_of moves) disk i
+    → UpdateLasts tells master a moves disk i
 lasts tells master a disk i moves go made = record {
   now = made.now;
   is_read = made.is_read;
   only = made.only;
   keeps = keeps_with master a i made.now moves go made.stands;
+  grows = made.stands.blobs.grows;
 }
 
 -- ---- answers

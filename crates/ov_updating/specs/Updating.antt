@@ -17,8 +17,10 @@ use Rattle.ov_images.specs.Images.{Keys}
 use Rattle.ov_images.specs.Extents.{catalogue_at, stored_in}
 use Rattle.ov_images.specs.Images.{KeepsAt}
 use Rattle.ov_images.specs.Laws.{placed_as}
+use Rattle.ov_moves.specs.Moves.{GrowsIntoMoves}
+use Rattle.ov_moves.specs.declared.moves.Move.{Move}
 use Rattle.ov_state.specs.Plans.{IsTaken}
-use Rattle.ov_updating.specs.Files.{AreHeldFor}
+use Rattle.ov_updating.specs.Files.{AreHeldFor, firsts_of}
 
 -- ---- what an update is made from
 
@@ -87,13 +89,14 @@ KeepsMore master a firsts i c =
     → KeepsAt k (with_placed p (placed_as u firsts)) (with_sealed g u) c
 
 -- A crash leaves one image alone, which the disk reads. Whatever history an older image kept, it
--- keeps that with the update.
+-- keeps that with the update, and its Blobs has grown into the new extents alone.
 pub record UpdateLasts {D : Type 0} (tells : DiskTells D) (master : List ℕ) (a : Asked)
-    (firsts : List ℕ) (disk : D) (i : Image) : Type 0 where
+    (moves : List Move) (disk : D) (i : Image) : Type 0 where
   pub now : Image
   pub is_read : tells.reads disk ≡ Some now
   pub only : Only now (tells.may_leave disk)
-  pub keeps : KeepsMore master a firsts i now
+  pub keeps : KeepsMore master a (firsts_of moves) i now
+  pub grows : GrowsIntoMoves moves i.blobs now.blobs
 
 -- just the extents of the files after the update are held
 abbrev pub AreHeldAfter : Asked → List ℕ → List Extent → Type 0

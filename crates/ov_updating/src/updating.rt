@@ -4,7 +4,7 @@ ghost use Rattle.ov_disk.specs.Calls.{IsDiskCall};
 ghost use Rattle.ov_disk.specs.Disk.{Only, Told};
 ghost use Rattle.ov_journal.specs.Log.{HasSameRecords, Stands, appended};
 ghost use Rattle.ov_journal.specs.declared.fault.CheckFault.TheVariants.{Disk as DiskFailed, Memory as NoMemory};
-ghost use Rattle.ov_moves.specs.Placing.{AreMovesOf, LiesIn};
+ghost use Rattle.ov_moves.specs.Placing.{GoToFree, LiesIn};
 ghost use Rattle.ov_moves.specs.Runs.{LeavesAtMost};
 ghost use Rattle.ov_updating.specs.Files.{files_of, firsts_of};
 ghost use Rattle.ov_updating.specs.Recording.{body_with};
@@ -49,13 +49,14 @@ pub fn update<D: Disk>(
         (asked recoat.now.rewrites placed.now extents.old front.now text.now))
         disk.old disk.new }
 
-    // At `Ok` the history with the update lasts, and the files of its rewrites have gone there.
+    // At `Ok` the history with the update lasts, and the files of its rewrites have gone there, each
+    // into the lowest run of free blocks.
     ensures moves { IfOk result (λ moves.
-        AreMovesOf (files_of placed.now recoat.now.rewrites) moves.items) }
+        GoToFree (files_of placed.now recoat.now.rewrites) extents.old moves.items) }
     ensures lasts { IfOk result (λ moves. Told (D.tells.reads disk.old)
         (UpdateLasts D.tells recoat.now.master
         (asked recoat.now.rewrites placed.now extents.old front.now text.now)
-        (firsts_of moves.items) disk.new)) }
+        moves.items disk.new)) }
 
     // The next one may be made in the same way.
     ensures held { IfOk result (λ moves. AreHeldAfter

@@ -72,3 +72,8 @@ returns-clause-held g c =
     held_after a moves.items c.rewrite.new.extents
     (subst (λ (all : List Placed). GoToFree all a.held moves.items) (listed_all _ _ _ _ c.deref.ensures.value c.in_ok-files.ensures c.rewrites.ensures) go)
     (subst (λ (all : List Placed). MayGoOn all a.held c.rewrite.new.extents moves.items) (listed_all _ _ _ _ c.deref.ensures.value c.in_ok-files.ensures c.rewrites.ensures) on))
+
+pub returns-clause-moves : goal.returns-clause-moves
+returns-clause-moves g c =
+    both_ok c.rewrite.result _ _ _ c.rewrite.ensures.moves c.rewrite.ensures.moves (λ moves go same.
+    subst (λ (all : List Placed). GoToFree all c.args.extents.now moves.items) (listed_all _ _ _ _ c.deref.ensures.value c.in_ok-files.ensures c.rewrites.ensures) go)

@@ -1,10 +1,11 @@
-use Rattle.std.proofs.Common.{◌≡◌, ℕ, List, [], length, Option, sym, ◌∙◌, ap, subst}
+use Rattle.std.proofs.Common.{◌≡◌, ℕ, List, [], length, Option, refl, sym, ◌∙◌, ap, subst}
 use Rattle.ov_history.specs.Briefs.{brief}
 use Rattle.ov_history.specs.Placed.{replaced, with_unplaced}
 use Rattle.ov_history.specs.Rewrites.{rewrites_of}
 use Rattle.ov_images.specs.Laws.{placed_as}
 use Rattle.ov_moves.proofs.Runs.{leaves_none, leaves_weaker}
-use Rattle.ov_moves.specs.Placing.{AreMovesOf}
+use Rattle.ov_moves.specs.Placing.{GoToFree}
+use Rattle.ov_moves.specs.declared.placing.Placed.{Placed}
 use Rattle.ov_moves.specs.Runs.{LeavesAtMost}
 use Rattle.ov_state.specs.Changes.{AreOfFiles}
 use Rattle.ov_state.specs.Entries.{plain_rewrites}
@@ -186,7 +187,7 @@ returns-clause-made g c =
     ≡ files_of s.placed (plain_rewrites c.args.prepared.change.rewrites.items) =
     λ j. files_of ((c.deref.ensures.value ∙ c.make_room.ensures.same) j)
     (plain_rewrites (c.rewrites.ensures j)) in
-    let are_moves = subst (λ fs. AreMovesOf fs moves) files c.in_ok-moves.ensures.moves in
+    let go = subst (λ (fs : List Placed). GoToFree fs s.held moves) files c.in_ok-moves.ensures.moves in
     let new : PlacedStore = record {
       catalogue = c.commit.new.self.catalogue;
       room = c.commit.new.self.room;
@@ -196,8 +197,11 @@ returns-clause-made g c =
     let order = c.known-2.ensures.order in
     subst (λ (old : PlacedStore). MakesUpdate g.D.Disk.tells 256 master old c.args.prepared
     c.args.disk.now c.update.new.disk new) c.self.view_is (record {
+      moves = moves;
+      go = go;
       firsts = firsts;
-      many = λ u is. many_made 256 master s u c.args.prepared is c.self.invariant order moves are_moves;
+      firsts_are = refl;
+      many = λ u is. many_made 256 master s u c.args.prepared is c.self.invariant order moves go.moves_are;
       catalogue = c.commit.ensures.applied;
       placed = λ u is.
           placed_made 256 master s u c.args.prepared is c.self.invariant order firsts grown places
@@ -205,8 +209,8 @@ returns-clause-made g c =
           ∙ ap (λ (ps : List (Option ℕ)). with_unplaced ps (brief u)) c.make_room.ensures.same)
           places_are;
       lasts = λ i read.
-          lasts_more 256 master s c.args.prepared c.self.invariant order g.D.Disk.tells firsts
+          lasts_more 256 master s c.args.prepared c.self.invariant order g.D.Disk.tells moves
           c.update.new.disk i
-          (subst (λ (a : Asked). UpdateLasts g.D.Disk.tells master a firsts c.update.new.disk i) same
+          (subst (λ (a : Asked). UpdateLasts g.D.Disk.tells master a moves c.update.new.disk i) same
           (c.in_ok-moves.ensures.lasts i read));
     })
