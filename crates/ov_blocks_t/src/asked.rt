@@ -44,16 +44,16 @@ fn rise(blocks: &[u32]) -> bool
 }
 
 // Whether an extent that is held begins at this block.
-fn begins_one(extents: &Extents, block: u32) -> bool
-    ensures { IsTrue result → BeginsOne extents.now block }
+fn begins_one(extents: &Extents, block: &u32) -> bool
+    ensures { IsTrue result → BeginsOne extents.now block.now }
 {
-    extents.held().iter().any(|extent| extent.first == block)
+    extents.held().iter().any(|extent| extent.first == *block)
 }
 
 /// Gives up the extents that begin at these blocks.
 pub fn release_all(rt: &impl Abort, extents: &mut Extents, gone: &[u32]) {
     assert!(rt; rise(gone));
-    assert!(rt; gone.iter().all(|block| begins_one(extents, *block)));
+    assert!(rt; gone.iter().all(|block| begins_one(extents, block)));
     extents.release_all(gone);
 }
 
