@@ -1,5 +1,5 @@
 //! Which blocks are taken: rows by hand.
-use crate::asked::{place, release, release_all};
+use crate::asked::{place, release};
 use ov_base::Memory;
 use ov_blocks::{BLOCK_BYTES, Extent, Extents, MAX_BLOCKS};
 use std::alloc::{AllocError, Global};
@@ -99,28 +99,6 @@ fn ranges_that_are_held_or_free(rt: HostRuntime) -> Result<(), Fail> {
             "{first} beside {held:?}"
         );
         assert_eq!(rt; extents.held().len(), before + usize::from(*free));
-    }
-    Ok(())
-}
-
-// The blocks at which extents are given up, of four that are held, and what is left.
-const GIVEN_UP: [(&[u32], &[(u32, u32)]); 5] = [
-    (&[], &[(0, 2), (2, 1), (5, 4), (9, 1)]),
-    (&[0], &[(2, 1), (5, 4), (9, 1)]),
-    (&[9], &[(0, 2), (2, 1), (5, 4)]),
-    (&[2, 9], &[(0, 2), (5, 4)]),
-    (&[0, 2, 5, 9], &[]),
-];
-
-#[test]
-fn extents_given_up_at_once(rt: HostRuntime) -> Result<(), Fail> {
-    for (gone, left) in &GIVEN_UP {
-        let mut extents = holding(&rt, rt.alloc(), &[(0, 2), (2, 1), (5, 4), (9, 1)])?;
-        release_all(&rt, &mut extents, *gone);
-        assert_eq!(rt; extents.held().len(), left.len(), "{gone:?}");
-        for (extent, one) in extents.held().iter().zip(*left) {
-            assert_eq!(rt; (extent.first, extent.length), *one, "{gone:?}");
-        }
     }
     Ok(())
 }
