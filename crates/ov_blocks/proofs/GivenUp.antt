@@ -15,10 +15,10 @@ use Rattle.ov_blocks.proofs.Places.{from_less, one}
 
 -- ---- members of a list with one more in front
 
-behind : {X : Type 0} (x y : X) (xs : List X) → Contains xs y → Contains (x ∷ xs) y
+pub behind : {X : Type 0} (x y : X) (xs : List X) → Contains xs y → Contains (x ∷ xs) y
 behind x y xs (k, lt, is) = (suc k, omega (arith, lt), is)
 
-in_rest : {X : Type 0} (x y : X) (xs : List X) → Contains (x ∷ xs) y → (x ≡ y → ⊥) → Contains xs y
+pub in_rest : {X : Type 0} (x y : X) (xs : List X) → Contains (x ∷ xs) y → (x ≡ y → ⊥) → Contains xs y
 in_rest x y xs (zero, lt, is) differ = absurd (differ is)
 in_rest x y xs (suc k, lt, is) differ = (k, omega (arith, lt), is)
 

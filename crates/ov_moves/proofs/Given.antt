@@ -22,13 +22,6 @@ same_some a b is = cc is
 pub none_given : (lost : ℕ → Type 0) (old : List Extent) → ((n : ℕ) → lost n → ⊥) → GivesUp lost old old
 none_given lost old never = record { kept = λ e is not. is; less = λ e is. is; none = λ e is g. never e.first g }
 
-given_same : (lost more : ℕ → Type 0) (old new : List Extent) → ((n : ℕ) → lost n → more n) → ((n : ℕ) → more n → lost n) → GivesUp lost old new → GivesUp more old new
-given_same lost more old new up down was = record {
-  kept = λ e is not. was.kept e is (λ g. not (up e.first g));
-  less = was.less;
-  none = λ e is m. was.none e is (down e.first m);
-}
-
 one_given : (lost more : ℕ → Type 0) (e : Extent) (old mid new : List Extent) → AreApart 0 mid → ((n : ℕ) → lost n → more n) → more e.first → ((n : ℕ) → more n → lost n ⊎ (e.first ≡ n))
     → GivesUp lost old mid → IsWith e new mid → GivesUp more old new
 one_given lost more e old mid new apart up here down was with = record {
