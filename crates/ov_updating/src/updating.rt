@@ -35,8 +35,7 @@ pub fn update<D: Disk>(
     front: &[u8],
     text: &[u8],
 ) -> Result<Vec<Move>, CheckFault>
-    requires asked { IsAsked (asked recoat.now.rewrites placed.now extents.old
-        front.now text.now) }
+    requires asked { IsAsked (asked recoat.now.rewrites placed.now extents.old front.now text.now) }
     requires whole { journal.old.bad ≡ false }
     requires count { length journal.old.offsets < 2 ^ 40 }
     requires stands { Stands D.tells journal.old disk.old }
@@ -46,8 +45,7 @@ pub fn update<D: Disk>(
     // Where the disk tells its bytes, a crash at any moment leaves an image that keeps the history
     // from before, or it with the update.
     ensures any_moment { LeavesAtMost D.tells (KeepsItOrMore recoat.now.master
-        (asked recoat.now.rewrites placed.now extents.old front.now text.now))
-        disk.old disk.new }
+        (asked recoat.now.rewrites placed.now extents.old front.now text.now)) disk.old disk.new }
 
     // At `Ok` the history with the update lasts, and the files of its rewrites have gone there, each
     // into the lowest run of free blocks.

@@ -55,16 +55,17 @@ module _ (name tag : List ℕ) where
     held = none_held;
   }
 
-  pub first_asked : (front : List ℕ) (list : ℕ) (tokens : List Token) (held : List Extent)
-      → list ≡ 1 → tokens ≡ [] → held ≡ []
+  pub first_asked : (all : List Rewrite) (front : List ℕ) (list : ℕ) (tokens : List Token) (held : List Extent)
+      → all ≡ rewrites → list ≡ 1 → tokens ≡ [] → held ≡ []
       → HasBriefForm first_form (BriefCreate name list tokens tag 3)
       → front ≡ brief_spelling first_form (BriefCreate name list tokens tag 3)
-      → IsAsked (asked rewrites [] held front text)
-  first_asked front list tokens held one none empty form is =
+      → IsAsked (asked all [] held front text)
+  first_asked all front list tokens held are one none empty form is =
       let same : BriefCreate name list tokens tag 3 ≡ creation =
       ap (λ (l : ℕ). BriefCreate name l tokens tag 3) one ∙ ap (λ (t : List Token). BriefCreate name 1 t tag 3) none in
-      subst (λ (h : List Extent). IsAsked (asked rewrites [] h front text)) (sym empty) (
+      subst (λ (rs : List Rewrite). IsAsked (asked rs [] held front text)) (sym are)
+      (subst (λ (h : List Extent). IsAsked (asked rewrites [] h front text)) (sym empty) (
         one_user,
         SealedCreate name 1 [] tag text,
         created front (subst (HasBriefForm first_form) same form) (is ∙ ap (brief_spelling first_form) same),
-      )
+      ))

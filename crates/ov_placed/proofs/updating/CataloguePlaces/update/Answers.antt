@@ -9,9 +9,12 @@ use Rattle.ov_moves.specs.declared.placing.Placed.{Placed}
 use Rattle.ov_moves.specs.Runs.{LeavesAtMost}
 use Rattle.ov_state.specs.Changes.{AreOfFiles}
 use Rattle.ov_state.specs.Entries.{plain_rewrites}
+use Rattle.ov_recoat.specs.Laws.{Ascend}
+use Rattle.ov_recoat.specs.Recoats.{Recoating}
 use Rattle.ov_updating.specs.Files.{files_of, firsts_of}
 use Rattle.ov_updating.specs.Updating.{AreHeldAfter, Asked, IsAskedFor, KeepsItOrMore, UpdateLasts}
 use Rattle.ov_updating.specs.Updating.{asked}
+use Rattle.ov_updating.proofs.Ordering.{ascending}
 use Rattle.ov_placed.specs.Contents.{PlacedStore}
 use Rattle.ov_placed.specs.Updating.{IsPrepared, KeepsOrGoesOn, MakesUpdate, asked_of}
 use Rattle.ov_placed.proofs.Files.{rewrites_of_files}
@@ -34,6 +37,12 @@ returns-in_err-make_room-clause-any_moment g c =
     c.requires.settled
     (keeps_still 256 master s c.args.prepared c.self.invariant c.known-2.ensures.order))
 
+pub new-recoat-requires : goal.new-recoat-requires
+new-recoat-requires g c =
+    let u = c.requires.prepared.0 in
+    let plain = ap (λ rs. plain_rewrites rs) c.rewrites.ensures ∙ c.requires.prepared.1.change.rewrites in
+    subst (Ascend 0) (sym plain) (ascending _ (brief u))
+
 pub update-requires-clause-asked : goal.update-requires-clause-asked
 update-requires-clause-asked g c =
     let master = c.args.surface.now.bytes in
@@ -43,9 +52,11 @@ update-requires-clause-asked g c =
       placed = c.self.inside.placed.items;
       held = c.self.inside.extents;
     } in
-    let same : asked (plain_rewrites c.rewrites.result.now) c.deref.result.now s.held
+    let rewrites : c.new-recoat.result.rewrites ≡ plain_rewrites c.args.prepared.change.rewrites.items =
+    ap (λ (r : Recoating). r.rewrites) c.new-recoat.ensures ∙ ap (λ rs. plain_rewrites rs) c.rewrites.ensures in
+    let same : asked c.new-recoat.result.rewrites c.deref.result.now s.held
     c.as_slice-front.result.now c.bytes_of-text.result.now ≡ asked_of s c.args.prepared =
-    λ j. asked (plain_rewrites (c.rewrites.ensures j))
+    λ j. asked (rewrites j)
     ((c.deref.ensures.value ∙ c.make_room.ensures.same) j) s.held (c.as_slice-front.ensures j)
     (c.bytes_of-text.ensures j) in
     let u = c.requires.prepared.0 in
@@ -66,9 +77,11 @@ returns-in_err-moves-clause-any_moment g c =
       placed = c.self.inside.placed.items;
       held = c.self.inside.extents;
     } in
-    let same : asked (plain_rewrites c.rewrites.result.now) c.deref.result.now s.held
+    let rewrites : c.new-recoat.result.rewrites ≡ plain_rewrites c.args.prepared.change.rewrites.items =
+    ap (λ (r : Recoating). r.rewrites) c.new-recoat.ensures ∙ ap (λ rs. plain_rewrites rs) c.rewrites.ensures in
+    let same : asked c.new-recoat.result.rewrites c.deref.result.now s.held
     c.as_slice-front.result.now c.bytes_of-text.result.now ≡ asked_of s c.args.prepared =
-    λ j. asked (plain_rewrites (c.rewrites.ensures j))
+    λ j. asked (rewrites j)
     ((c.deref.ensures.value ∙ c.make_room.ensures.same) j) s.held (c.as_slice-front.ensures j)
     (c.bytes_of-text.ensures j) in
     subst (λ (old : PlacedStore). LeavesAtMost g.D.Disk.tells
@@ -76,8 +89,11 @@ returns-in_err-moves-clause-any_moment g c =
     (leaves_weaker g.D.Disk.tells (KeepsItOrMore master (asked_of s c.args.prepared))
     (KeepsOrGoesOn 256 master s c.args.prepared) c.args.disk.now c.update.new.disk
     (goes_or_keeps 256 master s c.args.prepared c.self.invariant c.known-2.ensures.order)
-    (subst (λ (a : Asked). LeavesAtMost g.D.Disk.tells (KeepsItOrMore master a) c.args.disk.now
-    c.update.new.disk) same c.update.ensures.any_moment))
+    (subst (λ (m : List ℕ). LeavesAtMost g.D.Disk.tells
+    (KeepsItOrMore m (asked_of s c.args.prepared)) c.args.disk.now c.update.new.disk)
+    (ap (λ (r : Recoating). r.master) c.new-recoat.ensures)
+    (subst (λ (a : Asked). LeavesAtMost g.D.Disk.tells (KeepsItOrMore c.new-recoat.result.master a)
+    c.args.disk.now c.update.new.disk) same c.update.ensures.any_moment)))
 
 pub put_firsts-requires : goal.put_firsts-requires
 put_firsts-requires g c =
@@ -109,9 +125,11 @@ invariant_of-self-2 g c =
       placed = c.self.inside.placed.items;
       held = c.self.inside.extents;
     } in
-    let same : asked (plain_rewrites c.rewrites.result.now) c.deref.result.now s.held
+    let rewrites : c.new-recoat.result.rewrites ≡ plain_rewrites c.args.prepared.change.rewrites.items =
+    ap (λ (r : Recoating). r.rewrites) c.new-recoat.ensures ∙ ap (λ rs. plain_rewrites rs) c.rewrites.ensures in
+    let same : asked c.new-recoat.result.rewrites c.deref.result.now s.held
     c.as_slice-front.result.now c.bytes_of-text.result.now ≡ asked_of s c.args.prepared =
-    λ j. asked (plain_rewrites (c.rewrites.ensures j))
+    λ j. asked (rewrites j)
     ((c.deref.ensures.value ∙ c.make_room.ensures.same) j) s.held (c.as_slice-front.ensures j)
     (c.bytes_of-text.ensures j) in
     let u = c.requires.prepared.0 in
@@ -147,9 +165,11 @@ returns-clause-any_moment g c =
       placed = c.self.inside.placed.items;
       held = c.self.inside.extents;
     } in
-    let same : asked (plain_rewrites c.rewrites.result.now) c.deref.result.now s.held
+    let rewrites : c.new-recoat.result.rewrites ≡ plain_rewrites c.args.prepared.change.rewrites.items =
+    ap (λ (r : Recoating). r.rewrites) c.new-recoat.ensures ∙ ap (λ rs. plain_rewrites rs) c.rewrites.ensures in
+    let same : asked c.new-recoat.result.rewrites c.deref.result.now s.held
     c.as_slice-front.result.now c.bytes_of-text.result.now ≡ asked_of s c.args.prepared =
-    λ j. asked (plain_rewrites (c.rewrites.ensures j))
+    λ j. asked (rewrites j)
     ((c.deref.ensures.value ∙ c.make_room.ensures.same) j) s.held (c.as_slice-front.ensures j)
     (c.bytes_of-text.ensures j) in
     subst (λ (old : PlacedStore). LeavesAtMost g.D.Disk.tells
@@ -157,8 +177,11 @@ returns-clause-any_moment g c =
     (leaves_weaker g.D.Disk.tells (KeepsItOrMore master (asked_of s c.args.prepared))
     (KeepsOrGoesOn 256 master s c.args.prepared) c.args.disk.now c.update.new.disk
     (goes_or_keeps 256 master s c.args.prepared c.self.invariant c.known-2.ensures.order)
-    (subst (λ (a : Asked). LeavesAtMost g.D.Disk.tells (KeepsItOrMore master a) c.args.disk.now
-    c.update.new.disk) same c.update.ensures.any_moment))
+    (subst (λ (m : List ℕ). LeavesAtMost g.D.Disk.tells
+    (KeepsItOrMore m (asked_of s c.args.prepared)) c.args.disk.now c.update.new.disk)
+    (ap (λ (r : Recoating). r.master) c.new-recoat.ensures)
+    (subst (λ (a : Asked). LeavesAtMost g.D.Disk.tells (KeepsItOrMore c.new-recoat.result.master a)
+    c.args.disk.now c.update.new.disk) same c.update.ensures.any_moment)))
 
 pub returns-clause-made : goal.returns-clause-made
 returns-clause-made g c =
@@ -169,9 +192,11 @@ returns-clause-made g c =
       placed = c.self.inside.placed.items;
       held = c.self.inside.extents;
     } in
-    let same : asked (plain_rewrites c.rewrites.result.now) c.deref.result.now s.held
+    let rewrites : c.new-recoat.result.rewrites ≡ plain_rewrites c.args.prepared.change.rewrites.items =
+    ap (λ (r : Recoating). r.rewrites) c.new-recoat.ensures ∙ ap (λ rs. plain_rewrites rs) c.rewrites.ensures in
+    let same : asked c.new-recoat.result.rewrites c.deref.result.now s.held
     c.as_slice-front.result.now c.bytes_of-text.result.now ≡ asked_of s c.args.prepared =
-    λ j. asked (plain_rewrites (c.rewrites.ensures j))
+    λ j. asked (rewrites j)
     ((c.deref.ensures.value ∙ c.make_room.ensures.same) j) s.held (c.as_slice-front.ensures j)
     (c.bytes_of-text.ensures j) in
     let text = c.args.prepared.text in
@@ -183,10 +208,9 @@ returns-clause-made g c =
     c.put_firsts.ensures ∙ (λ j. replaced (plain_rewrites (c.rewrites-2.ensures j))
     (firsts_of (c.deref-2.ensures.value j)) grown) in
     let moves = c.in_ok-moves.moves.items in
-    let files : files_of c.deref.result.now (plain_rewrites c.rewrites.result.now)
+    let files : files_of c.deref.result.now c.new-recoat.result.rewrites
     ≡ files_of s.placed (plain_rewrites c.args.prepared.change.rewrites.items) =
-    λ j. files_of ((c.deref.ensures.value ∙ c.make_room.ensures.same) j)
-    (plain_rewrites (c.rewrites.ensures j)) in
+    λ j. files_of ((c.deref.ensures.value ∙ c.make_room.ensures.same) j) (rewrites j) in
     let go = subst (λ (fs : List Placed). GoToFree fs s.held moves) files c.in_ok-moves.ensures.moves in
     let new : PlacedStore = record {
       catalogue = c.commit.new.self.catalogue;
@@ -211,6 +235,8 @@ returns-clause-made g c =
       lasts = λ i read.
           lasts_more 256 master s c.args.prepared c.self.invariant order g.D.Disk.tells moves
           c.update.new.disk i
-          (subst (λ (a : Asked). UpdateLasts g.D.Disk.tells master a moves c.update.new.disk i) same
-          (c.in_ok-moves.ensures.lasts i read));
+          (subst (λ (m : List ℕ). UpdateLasts g.D.Disk.tells m (asked_of s c.args.prepared) moves
+          c.update.new.disk i) (ap (λ (r : Recoating). r.master) c.new-recoat.ensures)
+          (subst (λ (a : Asked). UpdateLasts g.D.Disk.tells c.new-recoat.result.master a moves
+          c.update.new.disk i) same (c.in_ok-moves.ensures.lasts i read)));
     })
