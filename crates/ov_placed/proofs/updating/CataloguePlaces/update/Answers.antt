@@ -39,9 +39,18 @@ returns-in_err-make_room-clause-any_moment g c =
 
 pub new-recoat-requires : goal.new-recoat-requires
 new-recoat-requires g c =
+    let master = c.args.surface.now.bytes in
+    let s : PlacedStore = record {
+      catalogue = c.self.inside.catalogue.catalogue;
+      room = c.self.inside.catalogue.room;
+      placed = c.self.inside.placed.items;
+      held = c.self.inside.extents;
+    } in
     let u = c.requires.prepared.0 in
-    let plain = ap (λ rs. plain_rewrites rs) c.rewrites.ensures ∙ c.requires.prepared.1.change.rewrites in
-    subst (Ascend 0) (sym plain) (ascending _ (brief u))
+    let is = subst (λ (o : PlacedStore). IsPrepared 256 master o.catalogue u c.args.prepared)
+    (sym c.self.view_is) c.requires.prepared.1 in
+    let plain = ap (λ rs. plain_rewrites rs) c.rewrites.ensures ∙ is.change.rewrites in
+    subst (Ascend 0) (sym plain) (ascending s.catalogue (brief u))
 
 pub update-requires-clause-asked : goal.update-requires-clause-asked
 update-requires-clause-asked g c =
