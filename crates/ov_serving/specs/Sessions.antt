@@ -17,13 +17,13 @@ module _ {V : Type 0} where
   IsOfSame p q = (q.table ≡ p.table) × (q.start ≡ p.start)
 
   module _ {S : Type 0} (answerer : AnswererTells V) (source : SourceTells S) (sink : SinkTells S)
-      where
-    -- what one session by a pass does: the pass before it and after it, the stream before and
-    -- after, and the end; the pass is still of the same value
-    abbrev pub serves_by_pass : OneSession (PassState V) S
-    serves_by_pass p q given left ending =
-        Serves (in_turns answerer) p q (link source sink given) (link source sink left) ending
-        × IsOfSame p q
+    where
+      -- what one session by a pass does: the pass before it and after it, the stream before and
+      -- after, and the end; the pass is still of the same value
+      abbrev pub serves_by_pass : OneSession (PassState V) S
+      serves_by_pass p q given left ending =
+          Serves (in_turns answerer) p q (link source sink given) (link source sink left) ending
+          × IsOfSame p q
 
 module _ {L V G : Type 0} where
   -- the pass of a session is of its shared value

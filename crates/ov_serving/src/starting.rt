@@ -37,11 +37,7 @@ fn begin<
     L: Stream + Drop + Send + 'static,
     V: Answerer + Drop + Send + 'static,
     G: Gate + Drop + Send + Sync + 'static,
->(
-    rt: &R,
-    alloc: Global,
-    session: Session<L, V, G>,
-) -> Result<Slot<L, V, G>, Session<L, V, G>>
+>(rt: &R, alloc: Global, session: Session<L, V, G>) -> Result<Slot<L, V, G>, Session<L, V, G>>
     requires { HasOwnPass session }
     ensures { MatchResult result (λ slot. session_in slot ≡ session) (λ back. back ≡ session) }
 {
@@ -54,10 +50,14 @@ fn begin<
     let there = *rt;
     let of = Snapshot::of(&session);
     let promise = Of(Snapshot::of(&session));
-    match thread::spawn_with(rt, promise, move || -> Outcome<L, V, G>
-        requires { HasOwnPass session }
-        ensures { IsOutcomeOf (serves_by_pass V.tells L.Source.tells L.Sink.tells) session result }
-    { go(there, alloc, session, told) }) {
+    match thread::spawn_with(
+        rt,
+        promise,
+        move || -> Outcome<L, V, G>
+            requires { HasOwnPass session }
+            ensures { IsOutcomeOf (serves_by_pass V.tells L.Source.tells L.Sink.tells) session result }
+        { go(there, alloc, session, told) },
+    ) {
         Ok(handle) => Ok(Slot::Running(handle)),
         Err(refused) => {
             // No thread runs the closure, so it is told to give the session back, and called here.
@@ -71,12 +71,7 @@ fn begin<
 }
 
 /// Waits for the end of a slot's session.
-fn end_of<
-    R: Threads + Wait,
-    L: Stream + Drop,
-    V: Answerer + Drop,
-    G: Gate + Drop,
->(
+fn end_of<R: Threads + Wait, L: Stream + Drop, V: Answerer + Drop, G: Gate + Drop>(
     rt: &R,
     alloc: Global,
     slot: Slot<L, V, G>,
@@ -99,11 +94,7 @@ pub fn start<
     L: Stream + Drop + Send + 'static,
     V: Answerer + Drop + Send + 'static,
     G: Gate + Drop + Send + Sync + 'static,
->(
-    rt: &R,
-    spawner: &mut Spawner<L, V, G>,
-    session: Session<L, V, G>,
-) -> Result<(), Session<L, V, G>>
+>(rt: &R, spawner: &mut Spawner<L, V, G>, session: Session<L, V, G>) -> Result<(), Session<L, V, G>>
     requires own { HasOwnPass session }
     ensures starts { Starts spawner.old session result spawner.new }
     ensures refuses { spawner.old.refuses ≡ true → IsErr result }
@@ -127,12 +118,7 @@ pub fn start<
 
 /// Waits for the first of the started sessions, and gives what is left of it; None exactly where
 /// there is none.
-pub fn finish<
-    R: Threads + Wait,
-    L: Stream + Drop,
-    V: Answerer + Drop,
-    G: Gate + Drop,
->(
+pub fn finish<R: Threads + Wait, L: Stream + Drop, V: Answerer + Drop, G: Gate + Drop>(
     rt: &R,
     spawner: &mut Spawner<L, V, G>,
 ) -> Option<Ended<L, V>>

@@ -8,11 +8,10 @@ returns g c =
     let left = sessions_in c.pop_front.new.self.items in
     let first : c.spawner.inside.started.items ≡ c.in_ok-slot.slot ∷ c.pop_front.new.self.items =
     search rules in
-    let listed = ap (map session_in) first in
-    (
+    let listed = ap (map session_in) first in (
       session_in c.in_ok-slot.slot,
       search rules,
       c.end_of.ensures,
       ap (λ (s : SpawnerState g.row.L.Denot g.row.V.Denot g.row.G.Denot).
-      record s { started = left }) c.spawner.view_is,
+          record s { started = left }) c.spawner.view_is,
     )
