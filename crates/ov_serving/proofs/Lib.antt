@@ -1,0 +1,4 @@
+mod Calls
+mod Placing
+mod Standing
+mod Going

@@ -1,0 +1,57 @@
+//! Many sessions at once over one shared value, each by a pass of its own.
+//!
+//! A session of ov_session has an asker. Here that is a [`SessionPass`]: it asks a `Shared` of
+//! ov_turn by one pass, in its turns, so that what all sessions are told is one history. A
+//! [`Session`] is a stream with a pass, and a [`Spawner`] runs sessions in threads of their own.
+//!
+//! ```text
+//! serve   a pass is free, or the first session is finished ─► accept ─► start, or run it here
+//!     start   hands the session to a thread of its own, which runs serve_one over its stream
+//!     finish  waits for the first session that was started
+//! the door takes each stream back, and the session's pass is free again
+//! ```
+//!
+//! **What a contract sees** of a spawner is the list of the sessions that were started and aren't
+//! finished, in order, the most that there ever were of these, and a count of refused starts
+//! (`SpawnerState`).
+//!
+//! * [`start`] puts a session behind the others. Where memory is refused or no thread can be made
+//!   the same session comes back, and that is counted. A spawner by `Spawner::refusing` hands every
+//!   session back, as a machine without threads does.
+//! * [`finish`] gives what is left of the first session, with the stream and the pass as `serve_one`
+//!   left them, and the end that it answered. It is None exactly where no session is left.
+//! * [`serve`] gives each stream of a door to one session, which one of the passes serves, and hands
+//!   it back to the door as it was left, under its number. The sessions in the order of their
+//!   numbers lead from the passes that it was given to those that it gives back (`LeadsPasses`).
+//! * A session that can't be started is run by the caller of `serve`, and counted in `alone`. Where
+//!   that is 0 there were once as many sessions at once as passes, or as were served; there are
+//!   never more of them than passes.
+//!
+//! `start`, `finish` and `serve` are functions and no methods of a trait: the kit proves a function
+//! that starts threads where its caller knows the types that the thread works with. Nothing is
+//! claimed of time: that two sessions really run at once is shown by a test (`ov_serving_t`), in
+//! which the first waits for the second. A session whose stream stands still keeps its pass.
+//!
+//! | file in `specs/` | says |
+//! |---|---|
+//! | `Calls` | what a session asks by a pass |
+//! | `Sessions` | what one session does, and what is left of it |
+//! | `Spawning` | what a spawner shows, and what `start` and `finish` do to it |
+//! | `AtOnce` | sessions by number, the passes that serve them, and how many ran at once |
+//! | `Slots` | inner: what a spawner keeps of a session |
+//! | `Places` | inner: how far the sessions of a door are |
+#![tactic(auto)]
+
+mod asker;
+mod serving;
+mod session;
+mod slot;
+mod spawner;
+mod starting;
+
+pub use asker::SessionPass;
+pub use serving::{ServeEnd, serve};
+pub use session::{Ended, Session};
+pub use slot::{Done, Of, Outcome, Slot};
+pub use spawner::Spawner;
+pub use starting::{finish, start};

@@ -1,0 +1,354 @@
+//! Sessions, as many at once as there are passes.
+ghost use Rattle.std.specs.Prelude.{◌≡◌, ◌<◌, ◌≤◌, ◌+◌, [], All, length, vec_capacity, IfErr, IfOk};
+ghost use Rattle.std.specs.Arc.{arc_value};
+ghost use Rattle.ov_session.specs.Doors.{IsOut, IsUnused, taken_back};
+ghost use Rattle.ov_session.specs.Turns.{IsAt};
+ghost use Rattle.ov_turn.specs.Passes.{IsPassOf};
+ghost use Rattle.ov_serving.specs.AtOnce.{ServesAll, WentAtOnce};
+ghost use Rattle.ov_serving.specs.Places.{Begins, ComesBack, EndsFirst, FirstIsOut, FreesOne};
+ghost use Rattle.ov_serving.specs.Places.{HasServed, Settles, TakesNext, parts};
+ghost use Rattle.ov_serving.specs.Sessions.{serves_by_pass};
+
+use crate::session::{Ended, Session, run, serve_by_pass};
+use crate::spawner::Spawner;
+use crate::starting::{finish, start};
+use ov_io::{Fault, Stream};
+use ov_peer::Answerer;
+use ov_session::{Door, Gate};
+use ov_turn::{Pass, Shared};
+use std::alloc::Global;
+use std::sync::{Arc, Wait};
+use std::thread::Threads;
+
+/// What came of serving a door.
+#[derive(Drop)]
+pub struct ServeEnd<V: Answerer> {
+    /// All passes, as the sessions left them.
+    pub passes: Vec<Pass<V>>,
+    /// How many streams the door gave.
+    pub served: u32,
+    /// Whether the door failed.
+    pub door_failed: bool,
+    /// How many sessions the caller ran itself, since they couldn't be started.
+    pub alone: u32,
+}
+
+/// What every session is given.
+#[derive(Drop)]
+struct Hall<'a, V: Answerer, G> {
+    alloc: Global,
+    shared: &'a Arc<Shared<V>, Global>,
+    gate: &'a Arc<G, Global>,
+}
+
+/// The passes that no session has which goes on, and how many sessions the caller ran itself.
+#[derive(Drop)]
+struct Desk<V: Answerer> {
+    free: Vec<Pass<V>>,
+    alone: u32,
+}
+
+/// What came of a door's next stream.
+enum Next {
+    /// Its session was started, or was served here.
+    Served,
+    /// There are no more streams.
+    Closed,
+    /// The door failed.
+    Failed,
+}
+
+/// The session of a stream. Where memory is refused its parts come back.
+fn make<L, V: Answerer + Drop, G: Drop>(
+    hall: &Hall<'_, V, G>,
+    number: u32,
+    stream: L,
+    pass: Pass<V>,
+) -> Result<Session<L, V, G>, (L, Pass<V>)>
+    ensures made { IfOk result (λ s. (parts s ≡ (number, stream, pass))
+        × (arc_value s.shared ≡ arc_value hall.now.shared.now)) }
+    ensures kept { IfErr result (λ r. r ≡ (stream, pass)) }
+{
+    let Ok(shared) = Arc::try_clone(hall.shared) else {
+        return Err((stream, pass));
+    };
+    let Ok(gate) = Arc::try_clone(hall.gate) else {
+        return Err((stream, pass));
+    };
+    Ok(Session {
+        number,
+        stream,
+        shared,
+        pass,
+        gate,
+    })
+}
+
+/// Starts the session of a stream. Where it can't be started it is served here, and what is left of
+/// it is given.
+fn begin<
+    R: Threads + Wait + Copy + Send + 'static,
+    L: Stream + Drop + Send + 'static,
+    V: Answerer + Drop + Send + 'static,
+    G: Gate + Drop + Send + Sync + 'static,
+>(
+    rt: &R,
+    hall: &Hall<'_, V, G>,
+    spawner: &mut Spawner<L, V, G>,
+    number: u32,
+    stream: L,
+    pass: Pass<V>,
+) -> Option<Ended<L, V>>
+    requires own { IsPassOf (arc_value hall.now.shared.now) pass }
+    ensures { Begins (serves_by_pass V.tells L.Source.tells L.Sink.tells) number stream pass
+        spawner.old spawner.new result }
+{
+    match make(hall, number, stream, pass) {
+        Ok(session) => match start(rt, spawner, session) {
+            Ok(()) => None,
+            Err(session) => Some(run(rt, hall.alloc, session)),
+        },
+        Err((mut stream, mut pass)) => {
+            let (shared, gate) = (&**hall.shared, &**hall.gate);
+            let ending = serve_by_pass(
+                rt,
+                hall.alloc,
+                number,
+                &mut stream,
+                shared,
+                &mut pass,
+                gate,
+            );
+            Some(Ended {
+                number,
+                stream,
+                pass,
+                ending,
+            })
+        }
+    }
+}
+
+/// Gives the door what is left of a session, and keeps its pass for others.
+fn take_back<D: Door, V: Answerer>(
+    door: &mut D,
+    free: &mut Vec<Pass<V>>,
+    ended: Ended<D::Stream, V>,
+)
+    requires out { IsOut (D.shows door.old) ended.number }
+    requires room { length free.old.items < vec_capacity free.old }
+    ensures back { ComesBack ended (D.shows door.old) (D.shows door.new) free.old.items
+        free.new.items }
+    ensures room { vec_capacity free.new ≡ vec_capacity free.old }
+{
+    let Ended {
+        number,
+        stream,
+        pass,
+        ending,
+    } = ended;
+    door.ended(number, stream, ending);
+    free.push_reserved(pass);
+}
+
+/// Finishes the first of the started sessions. Whether there was one.
+fn finish_first<R: Threads + Wait, D: Door, V: Answerer + Drop, G: Gate + Drop>(
+    rt: &R,
+    door: &mut D,
+    spawner: &mut Spawner<D::Stream, V, G>,
+    free: &mut Vec<Pass<V>>,
+) -> bool
+    requires out { FirstIsOut (D.shows door.old) spawner.old.started }
+    requires room { length spawner.old.started + length free.old.items ≤ vec_capacity free.old }
+    ensures ends { EndsFirst (serves_by_pass V.tells D.Stream.Source.tells D.Stream.Sink.tells)
+        spawner.old spawner.new (D.shows door.old) (D.shows door.new) free.old.items
+        free.new.items result }
+    ensures room { vec_capacity free.new ≡ vec_capacity free.old }
+{
+    match finish(rt, spawner) {
+        Some(ended) => {
+            take_back(door, free, ended);
+            true
+        }
+        None => false,
+    }
+}
+
+/// Finishes the first of the started sessions where no pass is free.
+fn free_one<R: Threads + Wait, D: Door, V: Answerer + Drop, G: Gate + Drop>(
+    rt: &R,
+    door: &mut D,
+    spawner: &mut Spawner<D::Stream, V, G>,
+    free: &mut Vec<Pass<V>>,
+)
+    requires out { FirstIsOut (D.shows door.old) spawner.old.started }
+    requires room { length spawner.old.started + length free.old.items ≤ vec_capacity free.old }
+    ensures frees { FreesOne (serves_by_pass V.tells D.Stream.Source.tells D.Stream.Sink.tells)
+        spawner.old spawner.new (D.shows door.old) (D.shows door.new) free.old.items
+        free.new.items }
+    ensures room { vec_capacity free.new ≡ vec_capacity free.old }
+{
+    if free.is_empty() {
+        finish_first(rt, door, spawner, free);
+    }
+}
+
+/// Starts the session of a stream, or serves it here and takes back what is left of it.
+fn settle<
+    R: Threads + Wait + Copy + Send + 'static,
+    D: Door,
+    V: Answerer + Drop + Send + 'static,
+    G: Gate + Drop + Send + Sync + 'static,
+>(
+    rt: &R,
+    hall: &Hall<'_, V, G>,
+    door: &mut D,
+    spawner: &mut Spawner<D::Stream, V, G>,
+    desk: &mut Desk<V>,
+    number: u32,
+    stream: D::Stream,
+    pass: Pass<V>,
+)
+where
+    D::Stream: Send + 'static,
+    requires own { IsPassOf (arc_value hall.now.shared.now) pass }
+    requires out { IsOut (D.shows door.old) number }
+    requires room { length desk.old.free.items < vec_capacity desk.old.free }
+    requires few { desk.old.alone < 4294967295 }
+    ensures settles { Settles (serves_by_pass V.tells D.Stream.Source.tells D.Stream.Sink.tells)
+        number stream pass spawner.old spawner.new (D.shows door.old) (D.shows door.new)
+        desk.old.free.items desk.new.free.items desk.old.alone desk.new.alone }
+    ensures room { vec_capacity desk.new.free ≡ vec_capacity desk.old.free }
+{
+    match begin(rt, hall, spawner, number, stream, pass) {
+        Some(ended) => {
+            desk.alone += 1;
+            take_back(door, &mut desk.free, ended);
+        }
+        None => {}
+    }
+}
+
+/// Serves the door's next stream, by a pass that is free.
+fn serve_next<
+    R: Threads + Wait + Copy + Send + 'static,
+    D: Door,
+    V: Answerer + Drop + Send + 'static,
+    G: Gate + Drop + Send + Sync + 'static,
+>(
+    rt: &R,
+    hall: &Hall<'_, V, G>,
+    door: &mut D,
+    spawner: &mut Spawner<D::Stream, V, G>,
+    desk: &mut Desk<V>,
+    number: u32,
+) -> Next
+where
+    D::Stream: Send + 'static,
+    requires at { IsAt (D.shows door.old) number }
+    requires own { All (IsPassOf (arc_value hall.now.shared.now)) desk.old.free.items }
+    requires some { 0 < length desk.old.free.items }
+    requires few { desk.old.alone < 4294967295 }
+    ensures takes { TakesNext (serves_by_pass V.tells D.Stream.Source.tells D.Stream.Sink.tells)
+        number spawner.old spawner.new (D.shows door.old) (D.shows door.new) desk.old.free.items
+        desk.new.free.items desk.old.alone desk.new.alone result }
+    ensures room { vec_capacity desk.new.free ≡ vec_capacity desk.old.free }
+{
+    match door.accept() {
+        Ok(Some(stream)) => {
+            let Some(pass) = desk.free.pop() else {
+                unreachable!()
+            };
+            settle(rt, hall, door, spawner, desk, number, stream, pass);
+            Next::Served
+        }
+        Ok(None) => Next::Closed,
+        Err(Fault) => Next::Failed,
+    }
+}
+
+/// Serves the streams of a door, at most so many: how many there were, and whether the door failed.
+fn serve_streams<
+    R: Threads + Wait + Copy + Send + 'static,
+    D: Door,
+    V: Answerer + Drop + Send + 'static,
+    G: Gate + Drop + Send + Sync + 'static,
+>(
+    rt: &R,
+    hall: &Hall<'_, V, G>,
+    door: &mut D,
+    spawner: &mut Spawner<D::Stream, V, G>,
+    desk: &mut Desk<V>,
+    sessions: u32,
+) -> (u32, bool)
+where
+    D::Stream: Send + 'static,
+    requires unused { IsUnused (D.shows door.old) }
+    requires passes { 0 < length desk.old.free.items }
+    requires own { All (IsPassOf (arc_value hall.now.shared.now)) desk.old.free.items }
+    requires none { (spawner.old.started ≡ []) × (desk.old.alone ≡ 0) }
+    ensures served { HasServed (serves_by_pass V.tells D.Stream.Source.tells D.Stream.Sink.tells)
+        (arc_value hall.now.shared.now) desk.old.free.items desk.new.free.items (D.shows door.old)
+        (D.shows door.new) spawner.old spawner.new sessions result.0 desk.new.alone result.1 }
+    ensures room { vec_capacity desk.new.free ≡ vec_capacity desk.old.free }
+{
+    'streams: for number in 0..sessions {
+        free_one(rt, door, spawner, &mut desk.free);
+        match serve_next(rt, hall, door, spawner, desk, number) {
+            Next::Served => {}
+            Next::Closed => return (number, false),
+            Next::Failed => return (number, true),
+        }
+    }
+    (sessions, false)
+}
+
+/// Serves the streams of a door, at most so many, each in a session of its own by one of the
+/// passes, and as many at once as there are passes. A session that can't be started is run here.
+pub fn serve<
+    R: Threads + Wait + Copy + Send + 'static,
+    D: Door,
+    V: Answerer + Drop + Send + 'static,
+    G: Gate + Drop + Send + Sync + 'static,
+>(
+    rt: &R,
+    alloc: Global,
+    door: &mut D,
+    shared: &Arc<Shared<V>, Global>,
+    passes: Vec<Pass<V>>,
+    spawner: &mut Spawner<D::Stream, V, G>,
+    gate: &Arc<G, Global>,
+    sessions: u32,
+) -> ServeEnd<V>
+where
+    D::Stream: Send + 'static,
+    requires unused { IsUnused (D.shows door.old) }
+    requires passes { 0 < length passes.items }
+    requires own { All (IsPassOf (arc_value shared.now)) passes.items }
+    requires spawner { spawner.old.started ≡ [] }
+    ensures serves { ServesAll (serves_by_pass V.tells D.Stream.Source.tells D.Stream.Sink.tells)
+        passes.items result.passes.items (D.shows door.old) (D.shows door.new) sessions
+        result.served result.door_failed }
+    ensures at_once { WentAtOnce spawner.old spawner.new (length passes.items) result.served
+        result.alone }
+    ensures own { All (IsPassOf (arc_value shared.now)) result.passes.items }
+    ensures all { length result.passes.items ≡ length passes.items }
+{
+    let hall = Hall {
+        alloc,
+        shared,
+        gate,
+    };
+    let mut desk = Desk {
+        free: passes,
+        alone: 0,
+    };
+    let (served, door_failed) = serve_streams(rt, &hall, door, spawner, &mut desk, sessions);
+    'ending: while finish_first(rt, door, spawner, &mut desk.free) {}
+    ServeEnd {
+        passes: desk.free,
+        served,
+        door_failed,
+        alone: desk.alone,
+    }
+}

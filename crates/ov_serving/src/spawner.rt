@@ -1,0 +1,76 @@
+//! What starts sessions and finishes them.
+ghost use Rattle.std.specs.Prelude.{◌≡◌, [], false, true};
+
+use crate::slot::Slot;
+use ov_io::Stream;
+use ov_peer::Answerer;
+use std::alloc::Global;
+use std::collections::VecDeque;
+use std::marker::Model;
+
+/// Starts sessions in threads of their own, and finishes them in the order in which they were
+/// started.
+#[derive(Drop)]
+pub struct Spawner<L: Stream, V: Answerer, G> {
+    pub(crate) alloc: Global,
+    pub(crate) started: VecDeque<Slot<L, V, G>>,
+    pub(crate) most: usize,
+    pub(crate) refused: u64,
+    pub(crate) refuses: bool,
+}
+
+impl<L: Stream, V: Answerer, G> Model for Spawner<L, V, G> {
+    ghost use Rattle.ov_serving.specs.Spawning.{SpawnerState};
+    ghost use Rattle.ov_serving.specs.Slots.{sessions_in};
+
+    ghost Value = { SpawnerState L V G };
+
+    ghost view = { λ s. record {
+      started = sessions_in s.started.items;
+      most = s.most;
+      refused = s.refused;
+      refuses = s.refuses;
+    } };
+}
+
+impl<L: Stream, V: Answerer, G> Spawner<L, V, G> {
+    /// A spawner that has started nothing.
+    pub fn new(alloc: Global) -> Spawner<L, V, G>
+        ensures { result ≡ record { started = []; most = 0; refused = 0; refuses = false } }
+    {
+        Spawner {
+            alloc,
+            started: VecDeque::new(alloc),
+            most: 0,
+            refused: 0,
+            refuses: false,
+        }
+    }
+
+    /// A spawner that hands every session back, as a machine that makes no thread.
+    pub fn refusing(alloc: Global) -> Spawner<L, V, G>
+        ensures { result ≡ record { started = []; most = 0; refused = 0; refuses = true } }
+    {
+        Spawner {
+            alloc,
+            started: VecDeque::new(alloc),
+            most: 0,
+            refused: 0,
+            refuses: true,
+        }
+    }
+
+    /// The most sessions that were ever started and not finished at once.
+    pub fn most(&self) -> usize
+        ensures { result ≡ self.now.most }
+    {
+        self.most
+    }
+
+    /// How many starts were refused.
+    pub fn refused(&self) -> u64
+        ensures { result ≡ self.now.refused }
+    {
+        self.refused
+    }
+}
