@@ -33,17 +33,17 @@ pub struct ServeEnd<V: Answerer> {
     pub alone: u32,
 }
 
-/// What every session is given.
+/// What all sessions have in common.
 #[derive(Drop)]
-struct Hall<'a, V: Answerer, G> {
+struct Common<'a, V: Answerer, G> {
     alloc: Global,
     shared: &'a Arc<Shared<V>, Global>,
     gate: &'a Arc<G, Global>,
 }
 
-/// The passes that no session has which goes on, and how many sessions the caller ran itself.
+/// What the caller has: the passes that are free, and how many sessions it ran itself.
 #[derive(Drop)]
-struct Desk<V: Answerer> {
+struct Caller<V: Answerer> {
     free: Vec<Pass<V>>,
     alone: u32,
 }
@@ -60,19 +60,19 @@ enum Next {
 
 /// The session of a stream. Where memory is refused its parts come back.
 fn make<L, V: Answerer + Drop, G: Drop>(
-    hall: &Hall<'_, V, G>,
+    common: &Common<'_, V, G>,
     number: u32,
     stream: L,
     pass: Pass<V>,
 ) -> Result<Session<L, V, G>, (L, Pass<V>)>
     ensures made { IfOk result (λ s. (parts s ≡ (number, stream, pass))
-        × (arc_value s.shared ≡ arc_value hall.now.shared.now)) }
+        × (arc_value s.shared ≡ arc_value common.now.shared.now)) }
     ensures kept { IfErr result (λ r. r ≡ (stream, pass)) }
 {
-    let Ok(shared) = Arc::try_clone(hall.shared) else {
+    let Ok(shared) = Arc::try_clone(common.shared) else {
         return Err((stream, pass));
     };
-    let Ok(gate) = Arc::try_clone(hall.gate) else {
+    let Ok(gate) = Arc::try_clone(common.gate) else {
         return Err((stream, pass));
     };
     Ok(Session {
@@ -93,26 +93,26 @@ fn begin<
     G: Gate + Drop + Send + Sync + 'static,
 >(
     rt: &R,
-    hall: &Hall<'_, V, G>,
+    common: &Common<'_, V, G>,
     spawner: &mut Spawner<L, V, G>,
     number: u32,
     stream: L,
     pass: Pass<V>,
 ) -> Option<Ended<L, V>>
-    requires own { IsPassOf (arc_value hall.now.shared.now) pass }
+    requires own { IsPassOf (arc_value common.now.shared.now) pass }
     ensures { Begins (serves_by_pass V.tells L.Source.tells L.Sink.tells) number stream pass
         spawner.old spawner.new result }
 {
-    match make(hall, number, stream, pass) {
+    match make(common, number, stream, pass) {
         Ok(session) => match start(rt, spawner, session) {
             Ok(()) => None,
-            Err(session) => Some(run(rt, hall.alloc, session)),
+            Err(session) => Some(run(rt, common.alloc, session)),
         },
         Err((mut stream, mut pass)) => {
-            let (shared, gate) = (&**hall.shared, &**hall.gate);
+            let (shared, gate) = (&**common.shared, &**common.gate);
             let ending = serve_by_pass(
                 rt,
-                hall.alloc,
+                common.alloc,
                 number,
                 &mut stream,
                 shared,
@@ -201,29 +201,29 @@ fn settle<
     G: Gate + Drop + Send + Sync + 'static,
 >(
     rt: &R,
-    hall: &Hall<'_, V, G>,
+    common: &Common<'_, V, G>,
     door: &mut D,
     spawner: &mut Spawner<D::Stream, V, G>,
-    desk: &mut Desk<V>,
+    caller: &mut Caller<V>,
     number: u32,
     stream: D::Stream,
     pass: Pass<V>,
 )
 where
     D::Stream: Send + 'static,
-    requires own { IsPassOf (arc_value hall.now.shared.now) pass }
+    requires own { IsPassOf (arc_value common.now.shared.now) pass }
     requires out { IsOut (D.shows door.old) number }
-    requires room { length desk.old.free.items < vec_capacity desk.old.free }
-    requires few { desk.old.alone < 4294967295 }
+    requires room { length caller.old.free.items < vec_capacity caller.old.free }
+    requires few { caller.old.alone < 4294967295 }
     ensures settles { Settles (serves_by_pass V.tells D.Stream.Source.tells D.Stream.Sink.tells)
         number stream pass spawner.old spawner.new (D.shows door.old) (D.shows door.new)
-        desk.old.free.items desk.new.free.items desk.old.alone desk.new.alone }
-    ensures room { vec_capacity desk.new.free ≡ vec_capacity desk.old.free }
+        caller.old.free.items caller.new.free.items caller.old.alone caller.new.alone }
+    ensures room { vec_capacity caller.new.free ≡ vec_capacity caller.old.free }
 {
-    match begin(rt, hall, spawner, number, stream, pass) {
+    match begin(rt, common, spawner, number, stream, pass) {
         Some(ended) => {
-            desk.alone += 1;
-            take_back(door, &mut desk.free, ended);
+            caller.alone += 1;
+            take_back(door, &mut caller.free, ended);
         }
         None => {}
     }
@@ -237,29 +237,29 @@ fn serve_next<
     G: Gate + Drop + Send + Sync + 'static,
 >(
     rt: &R,
-    hall: &Hall<'_, V, G>,
+    common: &Common<'_, V, G>,
     door: &mut D,
     spawner: &mut Spawner<D::Stream, V, G>,
-    desk: &mut Desk<V>,
+    caller: &mut Caller<V>,
     number: u32,
 ) -> Next
 where
     D::Stream: Send + 'static,
     requires at { IsAt (D.shows door.old) number }
-    requires own { All (IsPassOf (arc_value hall.now.shared.now)) desk.old.free.items }
-    requires some { 0 < length desk.old.free.items }
-    requires few { desk.old.alone < 4294967295 }
+    requires own { All (IsPassOf (arc_value common.now.shared.now)) caller.old.free.items }
+    requires some { 0 < length caller.old.free.items }
+    requires few { caller.old.alone < 4294967295 }
     ensures takes { TakesNext (serves_by_pass V.tells D.Stream.Source.tells D.Stream.Sink.tells)
-        number spawner.old spawner.new (D.shows door.old) (D.shows door.new) desk.old.free.items
-        desk.new.free.items desk.old.alone desk.new.alone result }
-    ensures room { vec_capacity desk.new.free ≡ vec_capacity desk.old.free }
+        number spawner.old spawner.new (D.shows door.old) (D.shows door.new) caller.old.free.items
+        caller.new.free.items caller.old.alone caller.new.alone result }
+    ensures room { vec_capacity caller.new.free ≡ vec_capacity caller.old.free }
 {
     match door.accept() {
         Ok(Some(stream)) => {
-            let Some(pass) = desk.free.pop() else {
+            let Some(pass) = caller.free.pop() else {
                 unreachable!()
             };
-            settle(rt, hall, door, spawner, desk, number, stream, pass);
+            settle(rt, common, door, spawner, caller, number, stream, pass);
             Next::Served
         }
         Ok(None) => Next::Closed,
@@ -275,26 +275,26 @@ fn serve_streams<
     G: Gate + Drop + Send + Sync + 'static,
 >(
     rt: &R,
-    hall: &Hall<'_, V, G>,
+    common: &Common<'_, V, G>,
     door: &mut D,
     spawner: &mut Spawner<D::Stream, V, G>,
-    desk: &mut Desk<V>,
+    caller: &mut Caller<V>,
     sessions: u32,
 ) -> (u32, bool)
 where
     D::Stream: Send + 'static,
     requires unused { IsUnused (D.shows door.old) }
-    requires passes { 0 < length desk.old.free.items }
-    requires own { All (IsPassOf (arc_value hall.now.shared.now)) desk.old.free.items }
-    requires none { (spawner.old.started ≡ []) × (desk.old.alone ≡ 0) }
+    requires passes { 0 < length caller.old.free.items }
+    requires own { All (IsPassOf (arc_value common.now.shared.now)) caller.old.free.items }
+    requires none { (spawner.old.started ≡ []) × (caller.old.alone ≡ 0) }
     ensures served { HasServed (serves_by_pass V.tells D.Stream.Source.tells D.Stream.Sink.tells)
-        (arc_value hall.now.shared.now) desk.old.free.items desk.new.free.items (D.shows door.old)
-        (D.shows door.new) spawner.old spawner.new sessions result.0 desk.new.alone result.1 }
-    ensures room { vec_capacity desk.new.free ≡ vec_capacity desk.old.free }
+        (arc_value common.now.shared.now) caller.old.free.items caller.new.free.items (D.shows door.old)
+        (D.shows door.new) spawner.old spawner.new sessions result.0 caller.new.alone result.1 }
+    ensures room { vec_capacity caller.new.free ≡ vec_capacity caller.old.free }
 {
     'streams: for number in 0..sessions {
-        free_one(rt, door, spawner, &mut desk.free);
-        match serve_next(rt, hall, door, spawner, desk, number) {
+        free_one(rt, door, spawner, &mut caller.free);
+        match serve_next(rt, common, door, spawner, caller, number) {
             Next::Served => {}
             Next::Closed => return (number, false),
             Next::Failed => return (number, true),
@@ -334,21 +334,21 @@ where
     ensures own { All (IsPassOf (arc_value shared.now)) result.passes.items }
     ensures all { length result.passes.items ≡ length passes.items }
 {
-    let hall = Hall {
+    let common = Common {
         alloc,
         shared,
         gate,
     };
-    let mut desk = Desk {
+    let mut caller = Caller {
         free: passes,
         alone: 0,
     };
-    let (served, door_failed) = serve_streams(rt, &hall, door, spawner, &mut desk, sessions);
-    'ending: while finish_first(rt, door, spawner, &mut desk.free) {}
+    let (served, door_failed) = serve_streams(rt, &common, door, spawner, &mut caller, sessions);
+    'ending: while finish_first(rt, door, spawner, &mut caller.free) {}
     ServeEnd {
-        passes: desk.free,
+        passes: caller.free,
         served,
         door_failed,
-        alone: desk.alone,
+        alone: caller.alone,
     }
 }

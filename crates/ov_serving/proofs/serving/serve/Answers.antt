@@ -10,7 +10,7 @@ finish_first-requires-clause-out g c =
     first_out
     (serves_by_pass g.V.Answerer.tells g.D.Stream.Source.tells g.D.Stream.Sink.tells)
     (arc_value c.args.shared.now) c.args.passes.items (g.D.Door.shows c.args.door.now)
-    c.requires.unused c.ending.desk.free.items (g.D.Door.shows c.ending.door) c.ending.spawner
+    c.requires.unused c.ending.caller.free.items (g.D.Door.shows c.ending.door) c.ending.spawner
     c.serve_streams-served.result.0 c.ending.invariant.served.stands
 
 pub ending-preserved : goal.ending-preserved
@@ -23,9 +23,9 @@ ending-preserved g c =
       served = one_finished (serves_by_pass answerer source sink)
           (keeps_same answerer source sink) (arc_value c.args.shared.now) c.args.passes.items
           c.requires.passes (shows c.args.door.now) c.requires.unused c.args.spawner.now
-          c.ending.desk.free.items c.finish_first.new.free.items (shows c.ending.door)
+          c.ending.caller.free.items c.finish_first.new.free.items (shows c.ending.door)
           (shows c.finish_first.new.door) c.ending.spawner c.finish_first.new.spawner
-          c.args.sessions c.serve_streams-served.result.0 c.ending.desk.alone
+          c.args.sessions c.serve_streams-served.result.0 c.ending.caller.alone
           c.serve_streams-served.result.1 c.ending.invariant.served c.ending-test.ensures.ends;
       room = c.finish_first.ensures.room ∙ c.ending.invariant.room;
     }
@@ -38,8 +38,8 @@ returns-clause-serves g c =
     let shows = g.D.Door.shows in
     ended_all (serves_by_pass answerer source sink) (keeps_same answerer source sink)
     (arc_value c.args.shared.now) c.args.passes.items c.requires.passes
-    (shows c.args.door.now) c.requires.unused c.args.spawner.now c.ending.desk.free.items
+    (shows c.args.door.now) c.requires.unused c.args.spawner.now c.ending.caller.free.items
     c.finish_first.new.free.items (shows c.ending.door) (shows c.finish_first.new.door)
     c.ending.spawner c.finish_first.new.spawner c.args.sessions
-    c.serve_streams-served.result.0 c.ending.desk.alone c.serve_streams-served.result.1
+    c.serve_streams-served.result.0 c.ending.caller.alone c.serve_streams-served.result.1
     c.ending.invariant.served c.ending-test.ensures.ends

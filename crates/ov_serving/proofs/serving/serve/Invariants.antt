@@ -9,10 +9,10 @@ abbrev pub invariant-ending : goal.invariant-ending
 invariant-ending g l = record {
   served : HasServed
       (serves_by_pass g.V.Answerer.tells g.D.Stream.Source.tells g.D.Stream.Sink.tells)
-      (arc_value l.fn.shared) l.fn.passes.items l.desk.free.items
+      (arc_value l.fn.shared) l.fn.passes.items l.caller.free.items
       (g.D.Door.shows l.fn.door) (g.D.Door.shows l.door) l.fn.spawner l.spawner l.fn.sessions
-      l.served l.desk.alone l.door_failed;
-  room : vec_capacity l.desk.free ≡ vec_capacity l.fn.passes;
+      l.served l.caller.alone l.door_failed;
+  room : vec_capacity l.caller.free ≡ vec_capacity l.fn.passes;
 }
 
 abbrev pub decreases-ending : goal.decreases-ending

@@ -11,7 +11,7 @@ returns-in-Some-clause-takes g c =
     let pass = c.in-Some.pass in
     let others = c.pop.new.self.items in
     let given : shows c.accept.new.self ≡ gave (shows c.args.door.now) stream = search rules in
-    let popped : c.args.desk.now.free.items ≡ others ++ pass ∷ [] = search rules in
+    let popped : c.args.caller.now.free.items ≡ others ++ pass ∷ [] = search rules in
     let settled = c.settle.ensures.settles in (
       stream,
       pass,
@@ -20,6 +20,6 @@ returns-in-Some-clause-takes g c =
       subst (λ (d : Doorway g.row.D-Stream.Denot).
           Settles (serves_by_pass g.V.Answerer.tells g.D.Stream.Source.tells g.D.Stream.Sink.tells)
           c.args.number stream pass c.args.spawner.now c.settle.new.spawner d
-          (shows c.settle.new.door) others c.settle.new.desk.free.items c.args.desk.now.alone
-          c.settle.new.desk.alone) given settled,
+          (shows c.settle.new.door) others c.settle.new.caller.free.items c.args.caller.now.alone
+          c.settle.new.caller.alone) given settled,
     )

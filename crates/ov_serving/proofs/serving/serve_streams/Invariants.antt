@@ -9,8 +9,8 @@ abbrev pub invariant-streams : goal.invariant-streams
 invariant-streams g l = record {
   goes : GoesOn
       (serves_by_pass g.V.Answerer.tells g.D.Stream.Source.tells g.D.Stream.Sink.tells)
-      (arc_value l.fn.hall.shared.now) l.fn.desk.free.items l.desk.free.items
+      (arc_value l.fn.common.shared.now) l.fn.caller.free.items l.caller.free.items
       (g.D.Door.shows l.fn.door) (g.D.Door.shows l.door) l.fn.spawner l.spawner l.number
-      l.desk.alone;
-  room : vec_capacity l.desk.free ≡ vec_capacity l.fn.desk.free;
+      l.caller.alone;
+  room : vec_capacity l.caller.free ≡ vec_capacity l.fn.caller.free;
 }
