@@ -207,7 +207,9 @@ module _ {D : Type 0} (tells : DiskTells D) (k : Keys) (d0 d1 : D) (store : Plac
         let one = made.lasts before.0 before.1 in
         let same : one.now ≡ i = cc (sym one.is_read ∙ read) in
         subst (λ (x : Image). KeepsAt k q (with_sealed g u) x) same
-        (one.keeps k p g u refl (may g serves before.0 before.1))
+        (subst (λ (firsts : List ℕ). KeepsAt k (with_placed p (placed_as u firsts)) (with_sealed g u)
+        one.now) (sym made.firsts_are)
+        (one.keeps k p g u refl (may g serves before.0 before.1)))
 
     settled : Told (tells.reads d1) (λ i. Only i (tells.may_leave d1))
     settled i read x left =
