@@ -61,6 +61,8 @@
 //! `read` answer [`ov_disk::DiskFault`] only where the disk's count of faults rose; what a failed
 //! put has changed is in its range.
 //!
+//! How many steps a search takes is read off the code, and no contract says it.
+//!
 //! Nothing is promised of a block that was given up: its old bytes stay until it is used again.
 #![tactic(auto)]
 

@@ -42,8 +42,9 @@
 //!   Blobs for an extent. All is as it was then, but for the room of the catalogue.
 //! * `prepare` answers `Ok` with the change of an update that the store takes, its spelling and its
 //!   text (`IsPrepared`), or says why not.
-//! * `update`, at `Ok`, has made the update here, and on the disk it lasts (`MakesUpdate`). Where the
-//!   disk tells its bytes, a crash at any moment leaves an image that keeps the history from before, or
+//! * `update`, at `Ok`, has made the update here, and on the disk it lasts (`MakesUpdate`). Each file
+//!   has gone into the lowest free run (`GoToFree`), and Blobs has grown into the new extents alone.
+//!   Where the disk tells its bytes, a crash at any moment leaves an image that keeps the history from before, or
 //!   it with the update (`KeepsOrGoesOn`).
 //!
 //! | file in `specs/` | says |

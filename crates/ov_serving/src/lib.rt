@@ -30,7 +30,11 @@
 //! `start`, `finish` and `serve` are functions and no methods of a trait: the kit proves a function
 //! that starts threads where its caller knows the types that the thread works with. Nothing is
 //! claimed of time: that two sessions really run at once is shown by a test (`ov_serving_t`), in
-//! which the first waits for the second. A session whose stream stands still keeps its pass.
+//! which the first waits for the second, and so is that a gate is told a session's own number. A
+//! session whose stream stands still keeps its pass; and where no pass is free, `serve` waits for the
+//! session that was started first, though others have ended, and takes no stream until that one ends.
+//! What the door took back, and with which end, is said where it tells its streams. A spawner that was
+//! used before shows its earlier most.
 //!
 //! | file in `specs/` | says |
 //! |---|---|

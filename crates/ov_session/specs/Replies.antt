@@ -40,8 +40,7 @@ abbrev pub CountsFault : Option PeerFault → ℕ → ℕ → Link → Link → 
 CountsFault lost before now old new =
     (now ≡ before) ⊎ LinkFails old new ⊎ (lost ≡ Some faults.Link)
 
--- The buffer of a reply that didn't come has no more bytes than were read: none is there for a
--- length that was only announced.
+-- The buffer of a reply that didn't come has no more bytes than were read.
 pub record HoldsWhatCame (old new : Link) (reply : List ℕ) : Type 0 where
   pub taken : List ℕ
   pub read : Consumes old.left new.left taken

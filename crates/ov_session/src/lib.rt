@@ -12,8 +12,8 @@
 //!
 //! A [`NetPeer`] takes no byte past the reply that it waits for, so nothing that comes early is
 //! lost. After the first ask without a reply it answers each further one with the same fault and
-//! leaves its stream alone, so that no reply which comes late is taken for another's. A length that
-//! was only announced takes no memory: the buffer of a reply grows by what came.
+//! leaves its stream alone, so that no reply which comes late is taken for another's. The buffer of a
+//! reply grows by what came; that a length which was only announced takes no memory is shown by a test.
 //!
 //! * [`MemDoor`] is a door in memory: it gives the streams that it was made with, keeps what
 //!   comes back, and fails at the calls that it is told to.

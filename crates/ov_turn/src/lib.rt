@@ -44,9 +44,9 @@
 //! | `Steps` | inner: what each step tells its seat |
 //!
 //! Nothing is claimed of the order of turns, nor that a turn ever comes: a call that waits keeps its
-//! contract if it returns. By a test alone: that [`Shared::epoch`] reads the shared word, since its
-//! clauses bound the number from below, and those of later calls from above (`ov_turn_t`). No crate
-//! names this one yet.
+//! contract if it returns. No clause says that [`Shared::epoch`] reads the shared word: its clauses
+//! bound the number from below, and those of later calls from above. `ov_serving` asks by it for many
+//! sessions; no program does yet.
 #![tactic(auto)]
 
 mod asking;
