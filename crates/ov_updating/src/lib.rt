@@ -22,7 +22,8 @@
 //!   it with the update (`KeepsItOrMore`); and the extents that files had hold what they held, so that
 //!   a store whose disk failed can go on reading them.
 //! * Where the disk told its bytes, one image alone can be left at `Ok`, and it keeps the history with
-//!   the update and with the first blocks that are answered (`UpdateLasts`).
+//!   the update and with the first blocks that are answered (`UpdateLasts`). Each file has gone into
+//!   the lowest free run (`GoToFree`), and Blobs has grown into the new extents alone.
 //! * At `Ok` just the extents of the files after the update are held (`AreHeldAfter`), so that the
 //!   next one may be made in the same way.
 //!
