@@ -68,12 +68,12 @@ still_apart test from (x ∷ held) apart =
 
 -- ---- blocks that rise
 
-rest_rises : (n : ℕ) (gone : List ℕ) → IsStrictlyIncreasing (n ∷ gone) → IsStrictlyIncreasing gone
+pub rest_rises : (n : ℕ) (gone : List ℕ) → IsStrictlyIncreasing (n ∷ gone) → IsStrictlyIncreasing gone
 rest_rises n gone rises k lt =
     let next : suc k + 1 ≡ suc (k + 1) = omega arith in
     subst (λ (j : ℕ). get_or gone k 0 < get_or (n ∷ gone) j 0) next (rises (suc k) (omega (arith, lt)))
 
-above_at : (n : ℕ) (gone : List ℕ) (k : ℕ) → IsStrictlyIncreasing (n ∷ gone) → k < length gone → n < get_or gone k 0
+pub above_at : (n : ℕ) (gone : List ℕ) (k : ℕ) → IsStrictlyIncreasing (n ∷ gone) → k < length gone → n < get_or gone k 0
 above_at n [] k rises lt = absurd (omega (arith, lt))
 above_at n (m ∷ gone) zero rises lt = rises 0 (omega (arith, lt))
 above_at n (m ∷ gone) (suc k) rises lt =
@@ -85,7 +85,7 @@ above n m gone rises (k, lt, is) = omega (arith, above_at n gone k rises lt, get
 -- ---- how many they are
 
 -- the others begin behind the first one
-others_behind : (from : ℕ) (x e : Extent) (held : List Extent) → AreApart from (x ∷ held) → Contains held e → x.first < e.first
+pub others_behind : (from : ℕ) (x e : Extent) (held : List Extent) → AreApart from (x ∷ held) → Contains held e → x.first < e.first
 others_behind from x e held apart (k, lt, is) =
     let here = one (x.first + x.length) held k e apart.2 lt in
     omega (arith, here.begins, apart.1, ap (λ (y : Extent). y.first) is)

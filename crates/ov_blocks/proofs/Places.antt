@@ -101,19 +101,19 @@ pub is_with : (e : Extent) (old new : List Extent) (place : ℕ) → new ≡ ins
 is_with e old new place is = record { front = take place old; back = drop place old; before = sym (take-append-drop place old); after = is }
 
 -- the place of an extent that is held is its own
-pub own_place : (held : List Extent) (place : ℕ) (e : Extent) → AreApart 0 held → IsCountBefore e.first place held → Contains held e
+pub own_place : (held : List Extent) (place first : ℕ) (e : Extent) → AreApart 0 held → IsCountBefore first place held → Contains held e → e.first ≡ first
     → (place < length held) × (get_or held place e ≡ e)
-own_place held place e apart is held_is = elim (cases_lt held_is.0 place) [
+own_place held place first e apart is held_is begins = elim (cases_lt held_is.0 place) [
   | inl lt ↦ absurd (
       let lower = is.before held_is.0 e lt in
-      omega (arith, lower, ap (λ (x : Extent). x.first) held_is.2))
+      omega (arith, lower, ap (λ (x : Extent). x.first) held_is.2, begins))
   | inr ge ↦ elim (cases_eq held_is.0 place) [
     | inl same ↦ (omega (arith, same, held_is.1), ap (λ (k : ℕ). get_or held k e) (sym same) ∙ held_is.2)
     | inr other ↦ absurd (
         let later = in_order 0 held place held_is.0 e apart (omega (arith, ge, other)) held_is.1 in
         let here = one 0 held place e apart (omega (arith, ge, other, held_is.1)) in
         let behind = is.behind place e (omega arith) (omega (arith, ge, other, held_is.1)) in
-        omega (arith, later, here.some, behind, ap (λ (x : Extent). x.first) held_is.2))
+        omega (arith, later, here.some, behind, ap (λ (x : Extent). x.first) held_is.2, begins))
   ]
 ]
 

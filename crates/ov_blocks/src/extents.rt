@@ -1,8 +1,9 @@
 //! The extents that are held.
-ghost use Rattle.std.specs.Prelude.{◌≡◌, ◌≤◌, ◌<◌, ◌+◌, ◌-◌, ◌*◌, ℕ, [], All, IfOk, OnErr, Contains, length};
+ghost use Rattle.std.specs.Prelude.{◌≡◌, ◌≤◌, ◌<◌, ◌+◌, ◌-◌, ◌*◌, ◌∷◌, ℕ, [], All, IfOk, OnErr, Contains, length};
 ghost use Rattle.std.specs.List.Sorted.{IsStrictlyIncreasing};
 ghost use Rattle.ov_blocks.specs.Extents.{AreApart, AreGivenUp, BeginsOne, HasPlace, Holds, IsFree, IsWith, ShareNoBlock, blocks_held, blocks_of, end_from};
 ghost use Rattle.ov_blocks.specs.Places.{TellsNone};
+ghost use Rattle.ov_blocks.specs.declared.extents.Extent.{Extent};
 
 use crate::free::{count_before, is_free, lowest_run};
 use ov_base::Memory;
@@ -27,6 +28,10 @@ pub fn blocks_of(count: u32) -> u32
 {
     count / BLOCK_BYTES + u32::from(count % BLOCK_BYTES > 0)
 }
+
+// Up to so many extents are given up one by one: so many removals, each of which moves what stands
+// behind, take less time than a walk over 10,000 held extents with a search among the blocks for each.
+const FEW: usize = 8;
 
 /// Blocks that follow one another: the number of the first, and how many they are.
 #[derive(Clone, Copy, Debug, PartialEq, Eq)]
@@ -138,13 +143,47 @@ impl Extents {
         requires { Contains self.old (record { first = first; length = length }) }
         ensures { IsWith (record { first = first; length = length }) self.new self.old }
     {
+        self.release_at(first);
+    }
+
+    // Gives up the held extent that begins at this block.
+    fn release_at(&mut self, first: u32)
+        requires { BeginsOne self.old first }
+        ensures one { (e : Extent) → Contains self.old e → e.first ≡ first
+            → IsWith e self.new self.old }
+        ensures only { AreGivenUp (first ∷ []) self.old self.new }
+    {
         let place = count_before(&self.held, first);
         let _extent = self.held.remove(place);
     }
 
-    /// Gives up the held extents that begin at these blocks, which rise. It takes no memory, and
-    /// goes over the held extents once.
+    /// Gives up the held extents that begin at these blocks, which rise. It takes no memory. A few are
+    /// given up one by one, and for more of them it goes over the held extents once.
     pub fn release_all(&mut self, gone: &[u32])
+        requires rise { IsStrictlyIncreasing gone.now }
+        requires held { All (BeginsOne self.old) gone.now }
+        ensures { AreGivenUp gone.now self.old self.new }
+    {
+        if gone.len() <= FEW {
+            self.release_each(gone);
+        } else {
+            self.keep_others(gone);
+        }
+    }
+
+    // Gives them up one by one.
+    fn release_each(&mut self, gone: &[u32])
+        requires rise { IsStrictlyIncreasing gone.now }
+        requires held { All (BeginsOne self.old) gone.now }
+        ensures { AreGivenUp gone.now self.old self.new }
+    {
+        for first in gone {
+            self.release_at(*first);
+        }
+    }
+
+    // Gives them up in one walk over all that is held.
+    fn keep_others(&mut self, gone: &[u32])
         requires rise { IsStrictlyIncreasing gone.now }
         requires held { All (BeginsOne self.old) gone.now }
         ensures { AreGivenUp gone.now self.old self.new }

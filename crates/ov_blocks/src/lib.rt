@@ -23,10 +23,12 @@
 //!   many runs, none shorter than the one before it, takes one walk in all.
 //! * [`Extents::hold`] answers `false` exactly where a block of the range is in use, and else holds
 //!   the range; [`Extents::release`] gives one up, and takes no memory. Both find the place by
-//!   halves and move what stands behind it.
-//! * [`Extents::release_all`] gives up the extents that begin at these blocks, which rise. It takes
-//!   no memory, goes over what is held once, and looks each extent up among the blocks by halves. A
-//!   `release` for each would move what is held as often as there are blocks.
+//!   halves and move what stands behind it: at 10,000 held extents that is 14 steps and at most
+//!   80,000 bytes.
+//! * [`Extents::release_all`] gives up the extents that begin at these blocks, which rise, and takes
+//!   no memory. Up to eight cost as much as so many calls of `release`. More of them take one walk
+//!   over all that is held, however many they are, and each extent is looked up among the blocks by
+//!   halves: at 10,000 held extents that costs as much as ten calls of `release` or more.
 //! * [`Extents::held`] gives the list. [`Extents::known`] does nothing; its contract is what holds
 //!   of every such list: a block is in the extent at one place of it at most, so that no two
 //!   extents share one and none stands there twice.

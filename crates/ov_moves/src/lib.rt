@@ -7,12 +7,13 @@
 //! every file in its new extent. `ov_updating` says this of the histories that images keep.
 //!
 //! * [`rewrite`] is the whole of it. It lists the old extents, finds and holds the new ones, takes all
-//!   other memory that it wants, moves the files, appends the record, and gives up the old extents,
-//!   all of them in one walk over what is held. Unless it answers `Ok`, it gives back what it held.
+//!   other memory that it wants, moves the files, appends the record, and gives up the old extents:
+//!   a few one by one, and more of them in one walk over what is held. Unless it answers `Ok`, it
+//!   gives back what it held.
 //! * [`place_all`] finds and holds a new extent for each file, each in the lowest free run that is
 //!   long enough. Where memory ends, what is held is the very same as before. The search for a file
-//!   that takes as many blocks as the one before it, or more, goes on where that one's ended; for a
-//!   shorter one it begins at the first block. So files of one length take one walk over all extents.
+//!   goes on where the last one for as many blocks ended. So one walk over the held extents places all
+//!   files that take the same number of blocks, and there are at most 256 such numbers.
 //! * [`move_all`] moves files, one after the other, through one buffer of [`PIECE_BYTES`]: a piece is
 //!   read from the old extent, turned, and put into the new one, with zeros to the end of its last
 //!   block, so that no byte of another file stays behind it. A file that has no old extent gets the

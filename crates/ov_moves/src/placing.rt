@@ -1,15 +1,16 @@
 //! New extents for files.
-ghost use Rattle.std.specs.Prelude.{◌≡◌, ◌≤◌, ◌<◌, ◌++◌, ◌∷◌, [], ℕ, All, List, IfOk, OnErr, OnOk, length, vec_len, vec_capacity};
+ghost use Rattle.std.specs.Prelude.{◌≡◌, ◌≤◌, ◌<◌, ◌++◌, ◌∷◌, [], ℕ, All, IfOk, OnErr, OnOk, length, vec_len, vec_capacity};
 ghost use Rattle.ov_disk.specs.Disk.{Image};
 ghost use Rattle.ov_blocks.specs.Extents.{HasPlace};
-ghost use Rattle.ov_blocks.specs.declared.extents.Extent.{Extent};
 ghost use Rattle.ov_moves.specs.Moves.{CanMoveAll, MayMoveAll};
-ghost use Rattle.ov_moves.specs.Placing.{AreMovesOf, ArePlaced, HasPlaces, HoldsLowest, IsFiled, LiesIn, NoneBefore};
+ghost use Rattle.ov_moves.specs.declared.placing.TheConstants.{COUNTS};
+ghost use Rattle.ov_moves.specs.Placing.{AreMovesOf, ArePlaced, HasPlaces, HoldsLowest, IsFiled, LiesIn, NoneBeforeStarts};
 
 use crate::moves::Move;
 use crate::releasing::release_new;
 use ov_base::Memory;
-use ov_blocks::{Extents, blocks_of};
+use ov_base::limits::MAX_FILE_BYTES;
+use ov_blocks::{BLOCK_BYTES, Extents, blocks_of};
 use std::alloc::Global;
 
 /// A file of so many bytes, and the first block of its extent, where it has one.
@@ -23,38 +24,26 @@ pub struct Placed {
     pub first: Option<u32>,
 }
 
-// Where the last search for free blocks ended: before `from` no free run of so many blocks begins.
-#[derive(Drop)]
-struct Searched {
+// A file takes fewer blocks than this.
+const COUNTS: usize = (MAX_FILE_BYTES / BLOCK_BYTES) as usize + 1;
+
+// Holds the lowest free run of so many blocks. The search begins at the entry of `starts` for this
+// number of blocks, where the last search for as many ended: no free run of so many begins before it.
+fn hold_lowest(
+    extents: &mut Extents,
     blocks: u32,
-    from: u32,
-}
-
-impl Searched {
-    // Where the next search begins. A longer run begins no sooner.
-    fn start(&self, blocks: u32) -> u32
-        ensures { (held : List Extent) → NoneBefore self.now.from self.now.blocks held
-            → NoneBefore result blocks held }
-    {
-        if blocks >= self.blocks { self.from } else { 0 }
-    }
-}
-
-// Holds the lowest free run of so many blocks.
-fn hold_lowest(extents: &mut Extents, blocks: u32, searched: &mut Searched) -> Result<u32, Memory>
+    starts: &mut [u32; COUNTS],
+) -> Result<u32, Memory>
     requires place { HasPlace blocks extents.old }
-    requires none { NoneBefore searched.old.from searched.old.blocks extents.old }
+    requires known { blocks < COUNTS }
+    requires none { NoneBeforeStarts starts.old extents.old }
     ensures ok { IfOk result (λ first. HoldsLowest blocks first extents.old extents.new) }
-    ensures none { OnOk result
-        (NoneBefore searched.new.from searched.new.blocks extents.new) }
+    ensures none { OnOk result (NoneBeforeStarts starts.new extents.new) }
     ensures err { OnErr result (extents.new ≡ extents.old) }
 {
-    let first = extents.place_from(blocks, searched.start(blocks));
+    let first = extents.place_from(blocks, starts[blocks as usize]);
     let _is_free = extents.hold(first, blocks)?;
-    *searched = Searched {
-        blocks,
-        from: first + blocks,
-    };
+    starts[blocks as usize] = first + blocks;
     Ok(first)
 }
 
@@ -76,10 +65,10 @@ fn place_each(extents: &mut Extents, files: &[Placed], moves: &mut Vec<Move>) ->
     ensures few { length moves.new.items ≤ length files.now }
     ensures all { OnOk result (length moves.new.items ≡ length files.now) }
 {
-    let mut searched = Searched { blocks: 0, from: 0 };
+    let mut starts = [0; COUNTS];
     for one in files {
         moves.reserve(1)?;
-        let to = hold_lowest(extents, blocks_of(one.length), &mut searched)?;
+        let to = hold_lowest(extents, blocks_of(one.length), &mut starts)?;
         push_reserved(
             moves,
             Move {

@@ -5,7 +5,7 @@ use Rattle.std.proofs.lemmas.Fn.{filter_same}
 use Rattle.ov_blocks.specs.declared.extents.Extent.{Extent}
 use Rattle.ov_blocks.specs.Extents.{AreApart, AreGivenUp, BeginsOne}
 use Rattle.ov_blocks.proofs.GivenUp.{given_up, none_of, one_answer, still_apart, tells}
-use Rattle.ov_blocks.proofs.extents.Extents.release_all.Goals as goal
+use Rattle.ov_blocks.proofs.extents.Extents.keep_others.Goals as goal
 
 left : (c : goal.After-retain) → c.retain.new.self.items ≡ filter (λ (e : Extent). none_of c.args.gone.now e.first) c.self.inside.held.items
 left c = filter_same _ (λ (e : Extent). none_of c.args.gone.now e.first) _ (λ e b f k. (search (rules, one_answer), search rules))
