@@ -151,8 +151,8 @@ impl<B: Graph<Base, W>, S: Graph<Surface, W>, const W: usize> State<B, S, W> {
         }
     }
 
-    /// The numbers of the files that may need another surface after the relisting, ascending. No
-    /// file beside that of the relisting is among them where the others stay.
+    /// The numbers of the files to look at after the relisting, ascending: each other file keeps the
+    /// surface that it has. Where all others stay, the file of the relisting is the only one.
     fn moving(&self, relisting: &Relisting<W>) -> &[u32]
         requires { IsRelisting self.now.catalogue relisting.now }
         ensures { AreMoving self.now.catalogue relisting.now result.now }
@@ -167,8 +167,8 @@ impl<B: Graph<Base, W>, S: Graph<Surface, W>, const W: usize> State<B, S, W> {
     }
 
     /// Collects the wanted sets of all files after a relisting, where there is room for their nodes
-    /// and an epoch comes after this one. Only files that may move are looked at: each other keeps
-    /// the surface that it has.
+    /// and an epoch comes after this one. Each file that isn't looked at keeps the surface that it
+    /// has.
     pub(crate) fn over_wants<C: Collector<S, W>>(
         &self,
         relisting: &Relisting<W>,
